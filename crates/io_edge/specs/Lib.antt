@@ -1,0 +1,3 @@
+pub mod FaultPlan
+pub mod Memory
+pub mod Streams

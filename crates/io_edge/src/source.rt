@@ -1,0 +1,89 @@
+ghost use Rattle.std.specs.Prelude.{◌≡◌, ℕ, ◌≤◌, ◌<◌, ◌↔◌, List, length, drop, min, Option, Some, IfOk, IsErr, Contains};
+ghost use Rattle.base_terms.specs.Causes.{HasCause};
+ghost use Rattle.io_edge.specs.FaultPlan.{fresh_plan, next_plan};
+ghost use Rattle.io_edge.specs.Memory.{Input};
+ghost use Rattle.io_edge.specs.Streams.{Takes};
+
+use crate::FaultPlan;
+use base_terms::Failed;
+use std::alloc::{AllocError, Global};
+use std::marker::Model;
+
+/// Where bytes come from.
+pub trait Source: Drop {
+    /// What is left of the input, where it is told.
+    ghost left: { Self → Option (List ℕ) };
+
+    /// How many calls failed.
+    ghost faults: { Self → ℕ };
+
+    /// Takes some bytes to the front of the buffer and says how many; 0 for a buffer that isn't
+    /// empty only at the end of the input. A take that fails takes nothing.
+    fn take(&mut self, buf: &mut [u8]) -> Result<usize, Failed>
+        ensures within { IfOk result (λ n. n ≤ length buf.old) }
+        ensures told { Takes (left self.old) (left self.new) buf.old buf.new result }
+        ensures cause { HasCause (faults self.old) (faults self.new) result };
+}
+
+/// A text in memory, given in pieces.
+#[derive(Debug, Drop)]
+pub struct ListSource {
+    bytes: Vec<u8>,
+    at: usize,
+    piece: usize,
+    plan: FaultPlan,
+}
+
+impl Model for ListSource {
+    ghost Value = { Input };
+
+    ghost view = { λ s. record { left = drop s.at s.bytes.items; piece = s.piece; plan = s.plan } };
+
+    ghost invariant = { λ s. (s.at ≤ length s.bytes.items) × (0 < s.piece) };
+}
+
+impl ListSource {
+    /// A source of these bytes that gives at most `piece` of them a call. The calls of the numbers
+    /// in `fails`, counted from 0, fail.
+    pub fn new(
+        alloc: Global,
+        bytes: &[u8],
+        piece: usize,
+        fails: &[u64],
+    ) -> Result<ListSource, AllocError>
+        requires { 0 < piece }
+        ensures left { IfOk result (λ s. s.left ≡ bytes.now) }
+        ensures piece { IfOk result (λ s. s.piece ≡ piece) }
+        ensures plan { IfOk result (λ s. s.plan ≡ fresh_plan fails.now) }
+    {
+        Ok(ListSource {
+            bytes: Vec::from_slice(alloc, bytes)?,
+            at: 0,
+            piece,
+            plan: FaultPlan::new(Vec::from_slice(alloc, fails)?),
+        })
+    }
+}
+
+impl Source for ListSource {
+    ghost left = { λ s. Some s.left };
+
+    ghost faults = { λ s. s.plan.faults };
+
+    fn take(&mut self, buf: &mut [u8]) -> Result<usize, Failed>
+        ensures within { IfOk result (λ n. n ≤ length buf.old) }
+        ensures told { Takes (Some self.old.left) (Some self.new.left) buf.old buf.new result }
+        ensures cause { HasCause self.old.plan.faults self.new.plan.faults result }
+        ensures exact { IsErr result ↔ Contains self.old.plan.fails self.old.plan.calls }
+        ensures most { IfOk result (λ n. n ≡ min self.old.piece (min (length self.old.left) (length buf.old))) }
+        ensures piece { self.new.piece ≡ self.old.piece }
+    {
+        if self.plan.is_failing(false) {
+            return Err(Failed);
+        }
+        let n = self.piece.min((self.bytes.len() - self.at).min(buf.len()));
+        buf[..n].copy_from_slice(&self.bytes[self.at..self.at + n]);
+        self.at += n;
+        Ok(n)
+    }
+}
