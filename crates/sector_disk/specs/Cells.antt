@@ -32,8 +32,13 @@ unfoldable pub content : List Cell → List ℕ
 content cells = joined (currents cells)
 
 -- each current value is a candidate
-abbrev pub AreHeld : List Cell → Type 0
-AreHeld cells = All (λ cell. Contains cell.candidates cell.current) cells
+unfoldable pub AreHeld : List Cell → Type 0
+AreHeld [] = Unit {0}
+AreHeld (cell ∷ cells) = Contains cell.candidates cell.current × AreHeld cells
+
+-- atoms that hold the values of a text for certain
+unfoldable pub sures : List (List ℕ) → List Cell
+sures values = map sure values
 
 -- what a failed write may leave of one atom
 abbrev pub IsTriedAt : Cell → List ℕ → Cell → Type 0

@@ -1,5 +1,11 @@
+pub mod Calls
 pub mod Cells
+pub mod Faults
 pub mod Geometry
+pub mod Held
+pub mod Mem
+pub mod MemLaws
+pub mod Notes
 pub mod Ram
 pub mod Steps
 pub mod Values

@@ -7,9 +7,12 @@
 //! tells nothing.
 #![tactic(auto)]
 
+mod buffers;
+mod call_record;
 mod device;
-mod pasting;
+mod mem_disk;
 mod ram_disk;
 
 pub use device::Disk;
+pub use mem_disk::MemDisk;
 pub use ram_disk::RamDisk;

@@ -3,7 +3,7 @@ ghost use Rattle.base_terms.specs.Blocks.{pasted};
 ghost use Rattle.sector_disk.specs.Geometry.{is_atom, IsDisk, IsInDisk};
 
 use crate::Disk;
-use crate::pasting::paste;
+use crate::buffers::{paste, zeros};
 use base_terms::Failed;
 use std::alloc::{AllocError, Global};
 
@@ -27,7 +27,7 @@ impl RamDisk {
         ensures zeros { IfOk result (λ disk. ⟦<RamDisk as Disk>⟧.values disk ≡ Some (replicate (atoms * atom) 0)) }
     {
         let len = atoms as usize * atom as usize;
-        let bytes = vec![in alloc; 0u8; len]?;
+        let bytes = zeros(alloc, len)?;
         Ok(RamDisk { atom, atoms, bytes })
     }
 }

@@ -1,0 +1,5 @@
+pub mod BlockLemmas
+pub mod CellLemmas
+pub mod CallLemmas
+pub mod TableLemmas
+pub mod StepLemmas
