@@ -2,8 +2,9 @@
 use Rattle.std.specs.Prelude.{ℕ, ◌+◌, ◌%◌, List, length, slice_index, Option, Some}
 use Rattle.io_edge.specs.FaultPlan.{Plan}
 
--- of a source: what is left, the most that one call gives, and the plan of its faults
+-- of a source: what it gave, what is left, the most that one call gives, and the plan of its faults
 pub record Input : Type 0 where
+  pub given : List ℕ
   pub left : List ℕ
   pub piece : ℕ
   pub plan : Plan

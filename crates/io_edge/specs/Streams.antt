@@ -14,6 +14,11 @@ abbrev pub Takes : Option (List ℕ) → Option (List ℕ) → List ℕ → List
 Takes old new before after result =
     (left : List ℕ) → old ≡ Some left → MatchResult result (Gives left new before after) (λ _. new ≡ Some left)
 
+-- what a source gave grows by the bytes of a take
+abbrev pub GaveMore : Option (List ℕ) → Option (List ℕ) → List ℕ → Result ℕ Failed → Type 0
+GaveMore old new after result =
+    (given : List ℕ) → old ≡ Some given → MatchResult result (λ n. new ≡ Some (given ++ take n after)) (λ _. new ≡ Some given)
+
 -- a put puts all or fails, and then a front of the piece may have gone out
 abbrev pub Puts : {T : Type 0} → Option (List ℕ) → Option (List ℕ) → List ℕ → Result T Failed → Type 0
 Puts old new bytes result =

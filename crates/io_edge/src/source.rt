@@ -1,8 +1,8 @@
-ghost use Rattle.std.specs.Prelude.{◌≡◌, ℕ, ◌≤◌, ◌<◌, ◌↔◌, List, length, drop, min, Option, Some, IfOk, IsErr, Contains};
+ghost use Rattle.std.specs.Prelude.{◌≡◌, ℕ, ◌≤◌, ◌<◌, ◌↔◌, List, [], length, take, drop, min, Option, Some, IfOk, IsErr, Contains};
 ghost use Rattle.base_terms.specs.Causes.{HasCause};
 ghost use Rattle.io_edge.specs.FaultPlan.{fresh_plan, next_plan};
 ghost use Rattle.io_edge.specs.Memory.{Input};
-ghost use Rattle.io_edge.specs.Streams.{Takes};
+ghost use Rattle.io_edge.specs.Streams.{Takes, GaveMore};
 
 use crate::FaultPlan;
 use base_terms::Failed;
@@ -11,6 +11,9 @@ use std::marker::Model;
 
 /// Where bytes come from.
 pub trait Source: Drop {
+    /// All bytes that it gave, where they are told.
+    ghost given: { Self → Option (List ℕ) };
+
     /// What is left of the input, where it is told.
     ghost left: { Self → Option (List ℕ) };
 
@@ -22,6 +25,7 @@ pub trait Source: Drop {
     fn take(&mut self, buf: &mut [u8]) -> Result<usize, Failed>
         ensures within { IfOk result (λ n. n ≤ length buf.old) }
         ensures told { Takes (left self.old) (left self.new) buf.old buf.new result }
+        ensures given { GaveMore (given self.old) (given self.new) buf.new result }
         ensures cause { HasCause (faults self.old) (faults self.new) result };
 }
 
@@ -37,7 +41,7 @@ pub struct ListSource {
 impl Model for ListSource {
     ghost Value = { Input };
 
-    ghost view = { λ s. record { left = drop s.at s.bytes.items; piece = s.piece; plan = s.plan } };
+    ghost view = { λ s. record { given = take s.at s.bytes.items; left = drop s.at s.bytes.items; piece = s.piece; plan = s.plan } };
 
     ghost invariant = { λ s. (s.at ≤ length s.bytes.items) × (0 < s.piece) };
 }
@@ -52,6 +56,7 @@ impl ListSource {
         fails: &[u64],
     ) -> Result<ListSource, AllocError>
         requires { 0 < piece }
+        ensures given { IfOk result (λ s. s.given ≡ []) }
         ensures left { IfOk result (λ s. s.left ≡ bytes.now) }
         ensures piece { IfOk result (λ s. s.piece ≡ piece) }
         ensures plan { IfOk result (λ s. s.plan ≡ fresh_plan fails.now) }
@@ -66,6 +71,8 @@ impl ListSource {
 }
 
 impl Source for ListSource {
+    ghost given = { λ s. Some s.given };
+
     ghost left = { λ s. Some s.left };
 
     ghost faults = { λ s. s.plan.faults };
@@ -73,6 +80,7 @@ impl Source for ListSource {
     fn take(&mut self, buf: &mut [u8]) -> Result<usize, Failed>
         ensures within { IfOk result (λ n. n ≤ length buf.old) }
         ensures told { Takes (Some self.old.left) (Some self.new.left) buf.old buf.new result }
+        ensures given { GaveMore (Some self.old.given) (Some self.new.given) buf.new result }
         ensures cause { HasCause self.old.plan.faults self.new.plan.faults result }
         ensures exact { IsErr result ↔ Contains self.old.plan.fails self.old.plan.calls }
         ensures most { IfOk result (λ n. n ≡ min self.old.piece (min (length self.old.left) (length buf.old))) }

@@ -20,6 +20,8 @@ impl<R: Read + Drop> StdSource<R> {
 }
 
 impl<R: Read + Drop> Source for StdSource<R> {
+    ghost given = { λ _. None };
+
     ghost left = { λ _. None };
 
     ghost faults = { λ s. s.faults };

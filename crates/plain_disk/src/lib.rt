@@ -1,0 +1,10 @@
+//! One plain disk: what a volume is to its clients, whatever lies below it. An operation reads,
+//! writes or flushes whole blocks, and has a reply; an operation that is wrong is refused with its
+//! number and does nothing. In `specs/` stand the definitions that every promise of the server
+//! cites: the content of a disk, which lists of operations and replies are those of one plain disk
+//! that is asked one operation after the other, and what may be found after a stop.
+#![tactic(auto)]
+
+mod operation;
+
+pub use operation::{MAX_READ, Op, Reply, wrong};
