@@ -17,6 +17,12 @@ pub pasted-nil : (text : List ℕ) (at : ℕ) → pasted text at [] ≡ text
 unfolding pasted
 pasted-nil text at = rw (append-nil (take at text), add-zero at) (take-append-drop at text)
 
+-- as many bytes put in place of a whole text are the text
+pub pasted_whole : (old text : List ℕ) → length text ≡ length old → pasted old 0 text ≡ text
+unfolding pasted
+pasted_whole old text is =
+    ap (λ end. text ++ end) (drop_all (0 + length text) old (omega arith)) ∙ append-nil text
+
 -- a text put in place behind a block
 pub pasted_behind : (block rest : List ℕ) (size at : ℕ) (text : List ℕ) → length block ≡ size → pasted (block ++ rest) (size + at) text ≡ block ++ pasted rest at text
 unfolding pasted

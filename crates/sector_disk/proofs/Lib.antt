@@ -3,3 +3,5 @@ pub mod CellLemmas
 pub mod CallLemmas
 pub mod TableLemmas
 pub mod StepLemmas
+pub mod ImageLemmas
+pub mod ReplayLemmas

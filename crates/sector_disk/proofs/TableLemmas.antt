@@ -97,3 +97,10 @@ pub told-zeros : (atom atoms : ℕ) (start : List ℕ) → start ≡ replicate (
 unfolding table tables last_table tables_after
 told-zeros atom atoms start is =
     ap fresh (ap (λ text. sures (blocks_of atom atoms text)) is ∙ sures-zeros atom atoms)
+
+-- what a disk tells that has made no call
+pub told_start : (atom atoms : ℕ) (start : List ℕ) →
+    let told : Told = record { now = table atom atoms start []; past = tables atom atoms start []; mark = Some 0 } in
+    told ≡ fresh (sures (blocks_of atom atoms start))
+unfolding table tables last_table tables_after
+told_start atom atoms start = refl

@@ -1,5 +1,6 @@
 -- What each atom of a disk holds: its current value, and the values that a stop may leave there.
 use Rattle.std.specs.Prelude.{ℕ, zero, suc, ◌≡◌, ◌⊎◌, List, [], ◌∷◌, ◌++◌, map, All, Contains}
+use Rattle.std.specs.List.{AllByRecursion}
 use Rattle.base_terms.specs.Blocks.{joined}
 
 -- an atom: the value that a read gives, and its candidates, the oldest first
@@ -31,10 +32,13 @@ currents cells = map (λ cell. cell.current) cells
 unfoldable pub content : List Cell → List ℕ
 content cells = joined (currents cells)
 
+-- the current value is a candidate
+abbrev pub IsHeld : Cell → Type 0
+IsHeld cell = Contains cell.candidates cell.current
+
 -- each current value is a candidate
-unfoldable pub AreHeld : List Cell → Type 0
-AreHeld [] = Unit {0}
-AreHeld (cell ∷ cells) = Contains cell.candidates cell.current × AreHeld cells
+abbrev pub AreHeld : List Cell → Type 0
+AreHeld cells = AllByRecursion IsHeld cells
 
 -- atoms that hold the values of a text for certain
 unfoldable pub sures : List (List ℕ) → List Cell

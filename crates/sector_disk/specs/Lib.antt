@@ -1,8 +1,9 @@
 pub mod Calls
 pub mod Cells
+pub mod EachCell
 pub mod Faults
 pub mod Geometry
-pub mod Held
+pub mod Images
 pub mod Mem
 pub mod MemLaws
 pub mod Notes

@@ -4,7 +4,7 @@ use Rattle.std.proofs.Common.{sym, ◌∙◌, ap, subst}
 use Rattle.base_terms.specs.Blocks.{lengths}
 use Rattle.sector_disk.specs.Cells.{content, currents, AreHeld}
 use Rattle.sector_disk.specs.Geometry.{IsDisk}
-use Rattle.sector_disk.specs.Held.{held_table}
+use Rattle.sector_disk.specs.EachCell.{held_table}
 use Rattle.sector_disk.specs.Mem.{told_of}
 use Rattle.sector_disk.specs.Ram.{is_atom-true}
 use Rattle.sector_disk.specs.Steps.{Told}

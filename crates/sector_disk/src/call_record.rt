@@ -1,5 +1,8 @@
-ghost use Rattle.std.specs.Prelude.{◌≡◌, ℕ, ◌+◌, ◌*◌, ◌/◌, ◌%◌, ◌<◌, ◌≤◌, ◌↔◌, List, [], ◌∷◌, ◌++◌, length, IfOk, IsTrue, vec_capacity};
+ghost use Rattle.std.specs.Prelude.{◌≡◌, ℕ, ◌+◌, ◌*◌, ◌/◌, ◌%◌, ◌<◌, ◌≤◌, ◌↔◌, List, [], ◌∷◌, ◌++◌, length, IfOk, OnOk, IsTrue, vec_capacity};
+ghost use Rattle.sector_disk.specs.Calls.{last_table};
 
+use crate::atom_values::AtomValues;
+use crate::replay::apply;
 use std::alloc::{AllocError, Global};
 use std::marker::Model;
 
@@ -96,6 +99,27 @@ impl CallRecord {
             unreachable!()
         };
         self.used += 1 + atoms as u64;
+    }
+
+    /// Makes the calls anew on atoms in memory.
+    pub(crate) fn replay(&self, alloc: Global, cells: &mut [AtomValues]) -> Result<(), AllocError>
+        requires { 0 < self.now.atom }
+        ensures { OnOk result (cells.new ≡ last_table self.now.atom cells.old self.now.calls) }
+    {
+        let mut rest = self.log.as_slice();
+        for note in &self.notes {
+            let (body, behind) = rest.split_at(note.len);
+            apply(
+                alloc,
+                cells,
+                self.atom as usize,
+                note.kind,
+                note.at as usize,
+                body,
+            )?;
+            rest = behind;
+        }
+        Ok(())
     }
 
     /// Forgets the calls.

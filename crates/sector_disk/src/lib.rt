@@ -7,12 +7,16 @@
 //! tells nothing.
 #![tactic(auto)]
 
+mod atom_values;
 mod buffers;
 mod call_record;
 mod device;
+mod images;
 mod mem_disk;
 mod ram_disk;
+mod replay;
 
 pub use device::Disk;
+pub use images::Choice;
 pub use mem_disk::MemDisk;
 pub use ram_disk::RamDisk;

@@ -1,20 +1,22 @@
-ghost use Rattle.std.specs.Prelude.{◌≡◌, ◌≢◌, ℕ, ◌+◌, ◌*◌, ◌/◌, ◌%◌, ◌^◌, ◌<◌, ◌↔◌, List, [], length, replicate, Option, Some, None, IfOk, OnErr, IsErr, IsTrue, is_ok, is_err, not, nat_lt};
-ghost use Rattle.base_terms.specs.Blocks.{blocks_of, changed, lengths, pasted};
+ghost use Rattle.std.specs.Prelude.{◌≡◌, ◌≢◌, ℕ, ◌+◌, ◌*◌, ◌/◌, ◌%◌, ◌^◌, ◌<◌, ◌↔◌, List, [], length, replicate, Option, Some, None, IfOk, IfErr, OnErr, IsErr, IsTrue, is_ok, is_err, not, nat_lt};
+ghost use Rattle.base_terms.specs.Blocks.{blocks_of, changed, joined, lengths, pasted};
 ghost use Rattle.base_terms.specs.Causes.{HasCause};
 ghost use Rattle.io_edge.specs.FaultPlan.{fresh_plan};
 ghost use Rattle.sector_disk.specs.Calls.{table, changed_by};
-ghost use Rattle.sector_disk.specs.Cells.{content, currents, sure, wrote, tried};
+ghost use Rattle.sector_disk.specs.Cells.{content, currents, sure, sures, wrote, tried, IsImage};
 ghost use Rattle.sector_disk.specs.Faults.{Limits, Fails, IsFull, IsStopped, is_free, next_limits};
 ghost use Rattle.sector_disk.specs.Geometry.{is_atom, IsDisk, IsInDisk};
+ghost use Rattle.sector_disk.specs.Images.{IsChoice, image_of};
 ghost use Rattle.sector_disk.specs.Steps.{fresh, then_table, Marks, TellsRead, TellsSync, TellsWrite};
 ghost use Rattle.sector_disk.specs.Values.{Reads, Writes};
 
-use crate::Disk;
 use crate::buffers::{paste, zeros};
 use crate::call_record::{CallRecord, Kind};
+use crate::replay::{atoms_of_content, image_bytes};
+use crate::{Choice, Disk};
 use base_terms::Failed;
 use io_edge::FaultPlan;
-use std::alloc::{AllocError, Global};
+use std::alloc::{AllocError, AllocFailed, Global};
 
 /// A disk in memory that tells its tables. It fails as it was told to: at the calls of certain
 /// numbers, after a stop, and where the record of its calls is full.
@@ -79,6 +81,57 @@ impl MemDisk {
         ensures limits { limits_of self.new ≡ record (limits_of self.old) { stop = Some k } }
     {
         self.stop = Some(k);
+    }
+
+    /// The disk of one image, as it may be found after a stop: each atom holds the candidate that the
+    /// choice takes, and that one alone. The room of its record is the same, unused; no call is to
+    /// fail, and nothing is marked. Where there is no memory the disk is handed back.
+    pub fn restart(self, alloc: Global, choice: Choice) -> Result<MemDisk, AllocFailed<MemDisk>>
+        requires { IsChoice choice }
+        ensures atom { IfOk result (λ disk. atom_of disk ≡ atom_of self) }
+        ensures atoms { IfOk result (λ disk. atoms_of disk ≡ atoms_of self) }
+        ensures told { IfOk result (λ disk. told_of disk ≡ fresh (sures (image_of choice (told_of self).now))) }
+        ensures image { IfOk result (λ disk. IsImage (told_of self).now (currents (told_of disk).now)) }
+        ensures limits { IfOk result (λ disk. limits_of disk ≡ record { plan = fresh_plan []; stop = None; room = (limits_of self).room; used = 0 }) }
+        ensures refused { IfErr result (λ refused. refused.value ≡ self) }
+    {
+        match self.image(alloc, &choice) {
+            Ok(image) => Ok(self.begun_with(alloc, image)),
+            Err(_) => Err(AllocFailed { value: self }),
+        }
+    }
+
+    /// The bytes of the image that a choice takes.
+    fn image(&self, alloc: Global, choice: &Choice) -> Result<Vec<u8>, AllocError>
+        requires { IsChoice choice.now }
+        ensures { IfOk result (λ bytes. bytes.items ≡ joined (image_of choice.now (told_of self.now).now)) }
+    {
+        let mut cells = atoms_of_content(
+            alloc,
+            self.atom as usize,
+            self.atoms as usize,
+            self.start.as_slice(),
+        )?;
+        self.calls.replay(alloc, &mut cells)?;
+        image_bytes(alloc, choice, &cells)
+    }
+
+    /// The disk as it is with this content and no call made.
+    fn begun_with(self, alloc: Global, content: Vec<u8>) -> MemDisk
+        requires { length content.items ≡ atoms_of self * atom_of self }
+        ensures atom { atom_of result ≡ atom_of self }
+        ensures atoms { atoms_of result ≡ atoms_of self }
+        ensures told { told_of result ≡ fresh (sures (blocks_of (atom_of self) (atoms_of self) content.items)) }
+        ensures limits { limits_of result ≡ record { plan = fresh_plan []; stop = None; room = (limits_of self).room; used = 0 } }
+    {
+        let mut disk = self;
+        paste(&mut disk.start, 0, content.as_slice());
+        disk.bytes = content;
+        disk.calls.clear();
+        disk.mark = 0;
+        disk.stop = None;
+        disk.plan = FaultPlan::new(Vec::new(alloc));
+        disk
     }
 
     /// Whether the next call comes after the stop.
