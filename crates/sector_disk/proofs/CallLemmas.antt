@@ -1,7 +1,7 @@
 -- Lemmas on the record of device calls, and the tables that they leave.
-use Rattle.std.proofs.Common.{◌≡◌, ℕ, zero, suc, ◌+◌, ◌-◌, ◌*◌, ◌/◌, ◌%◌, ◌<◌, ◌≤◌, List, [], ◌∷◌, ◌++◌, length, take, drop, Option, Some, refl, sym, ◌∙◌, ap, ap₂, arith, length-append}
+use Rattle.std.proofs.Common.{◌≡◌, ℕ, ◌+◌, ◌*◌, ◌/◌, ◌%◌, ◌<◌, ◌≤◌, List, [], ◌∷◌, ◌++◌, length, take, drop, Some, refl, sym, ◌∙◌, ap, ap₂, arith, length-append}
 use Rattle.std.proofs.Math.Nat.{mul-le-mul_right}
-use Rattle.std.proofs.lemmas.List.{append-nil, nil_from_length, length-drop, length_push, take-append-le, drop-append-le, take_all}
+use Rattle.std.proofs.lemmas.List.{nil_from_length, length-drop, length_push, take-append-le, drop-append-le, take_all}
 use Rattle.sector_disk.specs.Calls.{Call, table_after, last_table, tables_after}
 use Rattle.sector_disk.specs.Cells.{Cell}
 use Rattle.sector_disk.specs.Notes.{calls_of, noted_bytes, HasRoom}

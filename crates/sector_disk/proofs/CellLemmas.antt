@@ -1,7 +1,7 @@
 -- Lemmas on cells: how writes and syncs move the content, and what they keep.
 use Rattle.std.proofs.Common.{◌≡◌, ℕ, zero, suc, ◌+◌, ◌-◌, ◌*◌, ◌≤◌, List, [], ◌∷◌, length, map, replicate, refl, ap, arith}
 use Rattle.std.proofs.lemmas.List.{take-replicate, drop-replicate}
-use Rattle.base_terms.specs.Blocks.{pasted, blocks_of, joined, lengths, changed}
+use Rattle.base_terms.specs.Blocks.{pasted, blocks_of, lengths, changed}
 use Rattle.sector_disk.specs.Cells.{Cell, sure, sures, wrote, tried, synced, currents, content}
 use Rattle.sector_disk.proofs.BlockLemmas.{even_changed, joined_changed}
 

@@ -1,12 +1,12 @@
 -- Lemmas on images: each takes a candidate of each atom, and candidates have an atom's bytes.
-use Rattle.std.proofs.Common.{◌≡◌, ℕ, zero, suc, ◌+◌, ◌-◌, ◌*◌, ◌/◌, ◌%◌, ◌<◌, ◌≤◌, ◌⊎◌, List, [], ◌∷◌, ◌++◌, length, take, drop, map, replicate, get_or, refl, sym, ◌∙◌, ap, ap₂, subst, inl, inr, arith, length-append, length-drop, length-take-le}
+use Rattle.std.proofs.Common.{◌≡◌, ℕ, zero, suc, ◌+◌, ◌*◌, ◌/◌, ◌<◌, ◌≤◌, List, [], ◌∷◌, ◌++◌, length, drop, replicate, refl, sym, ◌∙◌, ap, ap₂, inl, inr, arith, length-append, length-drop, length-take-le}
 use Rattle.std.specs.Prelude.{Contains}
 use Rattle.std.specs.List.{AllByRecursion}
 use Rattle.std.proofs.lemmas.List.{get_or_default, take_at, drop_at}
 use Rattle.std.proofs.lemmas.List.Elements.{Contains-push_cases}
 use Rattle.base_terms.specs.Blocks.{blocks_of, joined, lengths}
 use Rattle.sector_disk.specs.Calls.{Call, table}
-use Rattle.sector_disk.specs.Cells.{Cell, sure, sures, wrote, tried, synced, currents, IsHeld, AreHeld, IsImage}
+use Rattle.sector_disk.specs.Cells.{Cell, sures, currents, IsHeld, AreHeld, IsImage}
 use Rattle.sector_disk.specs.EachCell.{IsLasting, each_sures, each_last, held_table}
 use Rattle.sector_disk.specs.Images.{IsChoice, place_of, chosen, image_from}
 use Rattle.sector_disk.specs.declared.images.Choice.{Choice}

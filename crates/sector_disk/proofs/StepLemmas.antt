@@ -1,5 +1,5 @@
 -- Lemmas on how a device call moves the tables.
-use Rattle.std.proofs.Common.{◌≡◌, ℕ, zero, suc, ◌⊎◌, List, [], ◌∷◌, Option, Some, refl, subst, inl, inr}
+use Rattle.std.proofs.Common.{◌≡◌, ℕ, zero, suc, List, [], ◌∷◌, Some, refl, subst, inl, inr}
 use Rattle.base_terms.specs.Blocks.{changed}
 use Rattle.sector_disk.specs.Cells.{Cell, tried, IsTried}
 use Rattle.sector_disk.specs.Steps.{Told, then_table, IsMoved, Moves}

@@ -1,9 +1,9 @@
 -- Lemmas on the tables of a disk in memory as its record of calls grows.
-use Rattle.std.proofs.Common.{◌≡◌, ◌≢◌, ℕ, ◌+◌, ◌*◌, ◌/◌, ◌%◌, ◌<◌, ◌≤◌, ◌⊎◌, List, [], ◌∷◌, ◌++◌, length, map, replicate, Some, IsTrue, refl, sym, ◌∙◌, ap, ap₂, inl, inr, arith}
+use Rattle.std.proofs.Common.{◌≡◌, ◌≢◌, ℕ, ◌+◌, ◌*◌, ◌/◌, ◌%◌, ◌<◌, ◌≤◌, List, [], ◌∷◌, ◌++◌, length, replicate, Some, IsTrue, refl, sym, ◌∙◌, ap, ap₂, inl, inr, arith}
 use Rattle.std.proofs.Math.Nat.{le_of_mul-le-mul_right}
-use Rattle.base_terms.specs.Blocks.{pasted, blocks_of, joined, lengths, changed}
+use Rattle.base_terms.specs.Blocks.{pasted, blocks_of, lengths}
 use Rattle.sector_disk.specs.Calls.{Call, changed_by, table_after, last_table, tables_after, table, tables}
-use Rattle.sector_disk.specs.Cells.{Cell, sure, sures, wrote, currents, content}
+use Rattle.sector_disk.specs.Cells.{Cell, sure, sures, currents, content}
 use Rattle.sector_disk.specs.Geometry.{IsInDisk, is_atom}
 use Rattle.sector_disk.specs.Ram.{is_atom-true}
 use Rattle.sector_disk.specs.Steps.{Told, fresh, then_table}

@@ -1,5 +1,5 @@
 -- When the device calls of a disk in memory fail.
-use Rattle.std.specs.Prelude.{ℕ, ◌+◌, ◌<◌, ◌≤◌, ◌⊎◌, Bool, true, false, Option, Contains, IsSomeAnd, nat_le, if◌then◌else◌}
+use Rattle.std.specs.Prelude.{ℕ, ◌+◌, ◌<◌, ◌≤◌, ◌⊎◌, Bool, Option, Contains, IsSomeAnd, nat_le, if◌then◌else◌}
 use Rattle.io_edge.specs.FaultPlan.{Plan, next_plan}
 
 -- what decides it: the numbers of the calls that are to fail and how many calls there were; after how

@@ -1,6 +1,6 @@
 -- Why the disk in memory that tells its tables is a disk.
 use Rattle.std.specs.Prelude.{ℕ, ◌≡◌, ◌*◌, List, length, replicate, Some}
-use Rattle.std.proofs.Common.{sym, ◌∙◌, ap, subst}
+use Rattle.std.proofs.Common.{sym, ap}
 use Rattle.base_terms.specs.Blocks.{lengths}
 use Rattle.sector_disk.specs.Cells.{content, currents, AreHeld}
 use Rattle.sector_disk.specs.Geometry.{IsDisk}

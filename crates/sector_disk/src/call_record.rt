@@ -8,7 +8,7 @@ use std::marker::Model;
 
 /// What a device call did.
 #[derive(Clone, Copy, Debug, PartialEq, Eq)]
-pub enum Kind {
+pub(crate) enum Kind {
     Read,
     Write,
     FailedWrite,

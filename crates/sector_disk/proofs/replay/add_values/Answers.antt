@@ -1,4 +1,4 @@
-use Rattle.std.proofs.Common.{◌≡◌, ◌-◌, ◌*◌, ◌+◌, ◌≤◌, ◌<◌, length, inl, inr, arith}
+use Rattle.std.proofs.Common.{inl, inr, arith}
 use Rattle.sector_disk.specs.Images.{added}
 use Rattle.sector_disk.proofs.ReplayLemmas.{changed_step, changed_end, one_less}
 use Rattle.sector_disk.proofs.replay.add_values.Goals as goal

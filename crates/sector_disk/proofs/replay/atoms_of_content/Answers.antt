@@ -1,4 +1,4 @@
-use Rattle.std.proofs.Common.{◌≡◌, ◌-◌, ◌*◌, ◌+◌, arith}
+use Rattle.std.proofs.Common.{arith}
 use Rattle.sector_disk.proofs.ReplayLemmas.{sures_step, sures_end, one_less}
 use Rattle.sector_disk.proofs.replay.atoms_of_content.Goals as goal
 

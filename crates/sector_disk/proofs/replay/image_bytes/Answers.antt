@@ -1,4 +1,4 @@
-use Rattle.std.proofs.Common.{◌<◌, ◌≤◌, ◌∙◌, ap, sym, length, arith}
+use Rattle.std.proofs.Common.{arith}
 use Rattle.sector_disk.proofs.ReplayLemmas.{image_step, image_end}
 use Rattle.sector_disk.proofs.replay.image_bytes.Goals as goal
 

@@ -1,4 +1,4 @@
-use Rattle.std.proofs.Common.{◌≡◌, ◌+◌, ◌*◌, ◌/◌, ◌%◌, ◌<◌, ◌≤◌, length, refl, arith}
+use Rattle.std.proofs.Common.{refl, arith}
 use Rattle.sector_disk.proofs.CallLemmas.{calls_of-push, HasRoom-note, room_for_log}
 use Rattle.sector_disk.proofs.call_record.CallRecord.note.Goals as goal
 

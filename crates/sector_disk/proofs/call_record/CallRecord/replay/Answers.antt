@@ -1,4 +1,4 @@
-use Rattle.std.proofs.Common.{◌<◌, ◌≤◌, length, ap, ◌∙◌, sym, arith}
+use Rattle.std.proofs.Common.{◌<◌, ◌≤◌, length}
 use Rattle.sector_disk.specs.Calls.{table_after}
 use Rattle.sector_disk.proofs.ReplayLemmas.{replay_step, replay_end, noted_step}
 use Rattle.sector_disk.proofs.call_record.CallRecord.replay.Goals as goal

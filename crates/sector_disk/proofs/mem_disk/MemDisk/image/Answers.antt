@@ -1,8 +1,8 @@
-use Rattle.std.proofs.Common.{◌≡◌, ℕ, List, length, ◌∙◌, ap, ap₂, arith}
+use Rattle.std.proofs.Common.{◌≡◌, length, ◌∙◌, ap, ap₂, arith}
 use Rattle.std.proofs.lemmas.List.{take_at}
 use Rattle.base_terms.specs.Blocks.{blocks_of}
-use Rattle.sector_disk.specs.Calls.{Call, table, last_table}
-use Rattle.sector_disk.specs.Cells.{Cell, sures}
+use Rattle.sector_disk.specs.Calls.{table, last_table}
+use Rattle.sector_disk.specs.Cells.{sures}
 use Rattle.sector_disk.proofs.mem_disk.MemDisk.image.Goals as goal
 
 pub returns : goal.returns

@@ -1,10 +1,5 @@
-use Rattle.std.proofs.Common.{◌≡◌, ◌∙◌, length, ap, refl, replicate}
-use Rattle.base_terms.specs.Blocks.{lengths}
-use Rattle.sector_disk.specs.Calls.{table}
-use Rattle.sector_disk.specs.Cells.{sures, currents}
+use Rattle.std.proofs.Common.{◌∙◌, length, ap, refl}
 use Rattle.sector_disk.specs.EachCell.{held_table}
-use Rattle.sector_disk.specs.Images.{image_of}
-use Rattle.sector_disk.specs.Steps.{fresh}
 use Rattle.sector_disk.proofs.CellLemmas.{currents_sures}
 use Rattle.sector_disk.proofs.ImageLemmas.{even_image, image_is, length-joined, blocks_of-joined}
 use Rattle.sector_disk.proofs.mem_disk.MemDisk.restart.Goals as goal
