@@ -5,14 +5,16 @@ use Rattle.sector_disk.specs.Cells.{Cell, tried, IsTried}
 use Rattle.sector_disk.specs.Steps.{Told, then_table, IsMoved, Moves}
 
 -- tables that are told move by the step to the next table
-pub moves : (Step : List Cell → List Cell → Type 0) (old new : Told) (next : List Cell) → new ≡ then_table old next → Step old.now next → Moves Step (Some old) (Some new)
+pub moves : (Step : List Cell → List Cell → Type 0) (old new : Told) (next : List Cell)
+    → new ≡ then_table old next → Step old.now next → Moves Step (Some old) (Some new)
 moves Step old new next is step now told_is =
     let same : then_table old next ≡ now = cc in
     let Goal : Told → Type 0 = λ told. (before : Told) × (Some old ≡ Some before) × IsMoved Step before told in
     subst Goal same (old, refl, record { step = step; one = refl })
 
 -- a failed write may add all candidates
-pub IsTried-tried : (cells : List Cell) (at : ℕ) (values : List (List ℕ)) → IsTried cells at values (changed tried cells at values)
+pub IsTried-tried : (cells : List Cell) (at : ℕ) (values : List (List ℕ))
+    → IsTried cells at values (changed tried cells at values)
 unfolding IsTried changed
 IsTried-tried [] at values = refl
 IsTried-tried (cell ∷ cells) at [] = refl

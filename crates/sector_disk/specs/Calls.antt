@@ -30,7 +30,8 @@ changed_by Sync cells at values = map synced cells
 
 -- a table after a call
 unfoldable pub table_after : ℕ → List Cell → Call → List Cell
-table_after atom cells call = changed_by call.kind cells call.at (blocks_of atom (length call.body / atom) call.body)
+table_after atom cells call = changed_by call.kind cells call.at
+    (blocks_of atom (length call.body / atom) call.body)
 
 -- a table after calls
 unfoldable pub last_table : ℕ → List Cell → List Call → List Cell

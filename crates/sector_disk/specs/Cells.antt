@@ -53,9 +53,11 @@ unfoldable pub IsTried : List Cell → ℕ → List (List ℕ) → List Cell →
 IsTried [] at values new = new ≡ []
 IsTried (cell ∷ cells) at [] new = new ≡ cell ∷ cells
 IsTried (cell ∷ cells) zero (value ∷ values) [] = ⊥
-IsTried (cell ∷ cells) zero (value ∷ values) (next ∷ new) = IsTriedAt cell value next × IsTried cells zero values new
+IsTried (cell ∷ cells) zero (value ∷ values) (next ∷ new) =
+    IsTriedAt cell value next × IsTried cells zero values new
 IsTried (cell ∷ cells) (suc at) (value ∷ values) [] = ⊥
-IsTried (cell ∷ cells) (suc at) (value ∷ values) (next ∷ new) = (next ≡ cell) × IsTried cells at (value ∷ values) new
+IsTried (cell ∷ cells) (suc at) (value ∷ values) (next ∷ new) =
+    (next ≡ cell) × IsTried cells at (value ∷ values) new
 
 -- what a failed sync may leave of one atom
 pub record IsThinnedAt (old new : Cell) : Type 0 where

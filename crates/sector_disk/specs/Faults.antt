@@ -1,6 +1,6 @@
 -- When the device calls of a disk in memory fail.
-use Rattle.std.specs.Prelude.{ℕ, ◌+◌, ◌<◌, ◌≤◌, ◌⊎◌, Bool, Option, Contains, IsSomeAnd, nat_le, if◌then◌else◌}
-use Rattle.io_edge.specs.FaultPlan.{Plan, next_plan}
+use Rattle.std.specs.Prelude.{ℕ, ◌+◌, ◌<◌, ◌≤◌, ◌⊎◌, Bool, List, Option, None, Contains, IsSomeAnd, nat_le, if◌then◌else◌}
+use Rattle.io_edge.specs.FaultPlan.{Plan, fresh_plan, next_plan}
 
 -- what decides it: the numbers of the calls that are to fail and how many calls there were; after how
 -- many calls the disk stops, if it does; for how many calls and written atoms its record has room,
@@ -10,6 +10,14 @@ pub record Limits : Type 0 where
   pub stop : Option ℕ
   pub room : ℕ
   pub used : ℕ
+
+-- of a disk that was just made
+abbrev pub fresh_limits : ℕ → List ℕ → Limits
+fresh_limits room fails = record { plan = fresh_plan fails; stop = None; room = room; used = 0 }
+
+-- after one more call of so many written atoms was recorded
+abbrev pub recorded : Limits → ℕ → Limits
+recorded limits atoms = record limits { used = limits.used + 1 + atoms }
 
 -- a call of so many written atoms would pass the room
 abbrev pub IsFull : Limits → ℕ → Type 0

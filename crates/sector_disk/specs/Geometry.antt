@@ -1,5 +1,7 @@
 -- Atoms, the units that a disk reads and writes whole, and where they lie.
-use Rattle.std.specs.Prelude.{ℕ, ◌≡◌, ◌+◌, ◌*◌, ◌%◌, ◌^◌, ◌<◌, ◌≤◌, ◌⊎◌, Bool, ◌==◌, ◌||◌}
+use Rattle.std.specs.Prelude.{ℕ, ◌≡◌, ◌+◌, ◌*◌, ◌%◌, ◌^◌, ◌<◌, ◌≤◌, ◌⊎◌, Bool, ◌==◌, ◌||◌, IsTrue}
+use Rattle.std.proofs.Common.{arith}
+use Rattle.std.proofs.lemmas.Grind.{common_steps}
 
 -- an atom has 512 or 4096 bytes
 abbrev pub IsAtom : ℕ → Type 0
@@ -8,6 +10,10 @@ IsAtom atom = (atom ≡ 512) ⊎ (atom ≡ 4096)
 -- the test for it
 abbrev pub is_atom : ℕ → Bool
 is_atom atom = (atom == 512) || (atom == 4096)
+
+-- the test for an atom's size tells it
+pub is_atom-true : (atom : ℕ) → IsTrue (is_atom atom) → IsAtom atom
+is_atom-true atom is = grind (arith, common_steps)
 
 -- a disk of so many atoms of so many bytes
 pub record IsDisk (atom atoms : ℕ) : Type 0 where

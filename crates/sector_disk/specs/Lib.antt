@@ -7,6 +7,6 @@ pub mod Images
 pub mod Mem
 pub mod MemLaws
 pub mod Notes
-pub mod Ram
+pub mod RamLaws
 pub mod Steps
 pub mod Values

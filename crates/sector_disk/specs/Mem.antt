@@ -1,5 +1,5 @@
 -- What callers see of the disk in memory that tells its tables.
-use Rattle.std.specs.Prelude.{ℕ, List, Some}
+use Rattle.std.specs.Prelude.{ℕ, ◌/◌, List, length, Some}
 use Rattle.sector_disk.specs.Calls.{table, tables}
 use Rattle.sector_disk.specs.Faults.{Limits}
 use Rattle.sector_disk.specs.Steps.{Told}
@@ -12,6 +12,10 @@ atom_of disk = disk.atom
 -- how many atoms there are
 abbrev pub atoms_of : MemDisk → ℕ
 atoms_of disk = disk.atoms
+
+-- how many atoms some bytes fill
+abbrev pub atoms_in : MemDisk → List ℕ → ℕ
+atoms_in disk bytes = length bytes / disk.atom
 
 -- the current bytes
 abbrev pub bytes_of : MemDisk → List ℕ

@@ -12,10 +12,16 @@ noted_bytes (note ∷ notes) = note.len + noted_bytes notes
 unfoldable pub calls_of : List Note → List ℕ → List Call
 calls_of [] log = []
 calls_of (note ∷ notes) log =
-    record { kind = note.kind; at = note.at; body = take note.len log; mark = note.mark } ∷ calls_of notes (drop note.len log)
+    record {
+      kind = note.kind;
+      at = note.at;
+      body = take note.len log;
+      mark = note.mark;
+    } ∷ calls_of notes (drop note.len log)
 
 -- the log has the bytes of the notes, and what is used of the room leaves memory for the rest of it
-pub record HasRoom (atom room used : ℕ) (notes : List Note) (log : List ℕ) (notes_room log_room : ℕ) : Type 0 where
+pub record HasRoom (atom room used : ℕ) (notes : List Note) (log : List ℕ)
+    (notes_room log_room : ℕ) : Type 0 where
   pub logged : length log ≡ noted_bytes notes
   pub within : used ≤ room
   pub noted : length notes ≤ used

@@ -2,7 +2,7 @@
 use Rattle.std.specs.Prelude.{ℕ, ◌≡◌, ◌/◌, ◌⊎◌, List, [], ◌∷◌, ◌++◌, length, map, Option, Some, None, Result, MatchResult}
 use Rattle.base_terms.specs.declared.failed.Failed.{Failed}
 use Rattle.base_terms.specs.Blocks.{changed, blocks_of}
-use Rattle.sector_disk.specs.Cells.{Cell, wrote, synced, IsTried, IsThinned}
+use Rattle.sector_disk.specs.Cells.{Cell, wrote, tried, synced, IsTried, IsThinned}
 
 -- the table now; the table after each device call so far, the last one behind, with the number that
 -- was marked last before the call; and the number marked last, None of a disk that keeps no marks
@@ -14,6 +14,15 @@ pub record Told : Type 0 where
 -- after one more device call
 abbrev pub then_table : Told → List Cell → Told
 then_table told next = record { now = next; past = told.past ++ (told.mark, next) ∷ []; mark = told.mark }
+
+-- after a write, and after one that failed and left each of its values as a candidate
+abbrev pub then_written : ℕ → Told → ℕ → List ℕ → Told
+then_written atom told at body =
+    then_table told (changed wrote told.now at (blocks_of atom (length body / atom) body))
+
+abbrev pub then_tried : ℕ → Told → ℕ → List ℕ → Told
+then_tried atom told at body =
+    then_table told (changed tried told.now at (blocks_of atom (length body / atom) body))
 
 -- a disk that has made no call and was marked by none
 abbrev pub fresh : List Cell → Told
@@ -31,7 +40,8 @@ pub record IsMoved (Step : List Cell → List Cell → Type 0) (old new : Told) 
 
 -- where the disk tells its tables after the call, it told them before, and the call moved them
 abbrev pub Moves : (List Cell → List Cell → Type 0) → Option Told → Option Told → Type 0
-Moves Step old new = (now : Told) → new ≡ Some now → (before : Told) × (old ≡ Some before) × IsMoved Step before now
+Moves Step old new = (now : Told) → new ≡ Some now
+    → (before : Told) × (old ≡ Some before) × IsMoved Step before now
 
 -- a failed call moved the tables by this step, or made no device call
 abbrev pub MovesOrNot : (List Cell → List Cell → Type 0) → Option Told → Option Told → Type 0
@@ -56,7 +66,8 @@ TellsWrite atom at body old new result =
 -- and some of the candidates
 abbrev pub TellsSync : {T : Type 0} → Option Told → Option Told → Result T Failed → Type 0
 TellsSync old new result =
-    MatchResult result (λ _. Moves (λ cells next. next ≡ map synced cells) old new) (λ _. MovesOrNot IsThinned old new)
+    MatchResult result (λ _. Moves (λ cells next. next ≡ map synced cells) old new)
+    (λ _. MovesOrNot IsThinned old new)
 
 -- a mark changes no table
 abbrev pub Marks : Option Told → Option Told → ℕ → Type 0

@@ -1,5 +1,4 @@
-ghost use Rattle.std.specs.Prelude.{◌≡◌, ◌+◌, ◌*◌, ◌/◌, ◌%◌, ◌<◌, ◌≤◌, List, [], ◌∷◌, length, map, OnOk, IfOk, slice_index_or};
-ghost use Rattle.base_terms.specs.Blocks.{blocks_of, changed};
+ghost use Rattle.std.specs.Prelude.{◌≡◌, ◌/◌, ◌<◌, [], length, OnOk, IfOk, slice_index_or};
 ghost use Rattle.sector_disk.specs.Cells.{Cell, sure, synced};
 ghost use Rattle.sector_disk.specs.Images.{added};
 

@@ -1,4 +1,4 @@
-ghost use Rattle.std.specs.Prelude.{◌≡◌, ℕ, ◌+◌, ◌*◌, ◌/◌, ◌%◌, ◌<◌, ◌≤◌, ◌↔◌, List, [], ◌∷◌, ◌++◌, length, IfOk, OnOk, IsTrue, vec_capacity};
+ghost use Rattle.std.specs.Prelude.{◌≡◌, ◌+◌, ◌/◌, ◌%◌, ◌<◌, ◌≤◌, ◌↔◌, [], ◌∷◌, ◌++◌, length, IfOk, OnOk, IsTrue, vec_capacity};
 ghost use Rattle.sector_disk.specs.Calls.{last_table};
 
 use crate::atom_values::AtomValues;
@@ -42,9 +42,15 @@ impl Model for CallRecord {
 
     ghost use Rattle.sector_disk.specs.Notes.{calls_of, HasRoom};
 
-    ghost view = { λ r. record { atom = r.atom; room = r.room; used = r.used; calls = calls_of r.notes.items r.log.items } };
+    ghost view = { λ r. record {
+      atom = r.atom;
+      room = r.room;
+      used = r.used;
+      calls = calls_of r.notes.items r.log.items;
+    } };
 
-    ghost invariant = { λ r. HasRoom r.atom r.room r.used r.notes.items r.log.items (vec_capacity r.notes) (vec_capacity r.log) };
+    ghost invariant = { λ r. HasRoom r.atom r.room r.used r.notes.items r.log.items
+        (vec_capacity r.notes) (vec_capacity r.log) };
 }
 
 impl CallRecord {
@@ -83,7 +89,8 @@ impl CallRecord {
         ensures atom { self.new.atom ≡ self.old.atom }
         ensures room_same { self.new.room ≡ self.old.room }
         ensures used { self.new.used ≡ self.old.used + 1 + length body.now / self.old.atom }
-        ensures calls { self.new.calls ≡ self.old.calls ++ record { kind = kind; at = at; body = body.now; mark = mark } ∷ [] }
+        ensures calls { self.new.calls ≡ self.old.calls
+            ++ record { kind = kind; at = at; body = body.now; mark = mark } ∷ [] }
     {
         let atoms = body.len() / self.atom as usize;
         let note = Note {

@@ -8,7 +8,8 @@ ghost use Rattle.sector_disk.specs.Values.{Reads, Writes};
 
 use base_terms::Failed;
 
-/// A disk of atoms that are read and written whole. `read`, `write` and `sync` are its device calls.
+/// A disk of atoms, which are read and written whole. Its device calls are `read`, `write` and
+/// `sync`. What it holds is told where it can be: a disk of a real file tells nothing.
 pub trait Disk {
     /// How many bytes an atom has.
     ghost size: { Self → ℕ };
@@ -51,8 +52,10 @@ pub trait Disk {
         requires { IsInDisk (size self.old) (count self.old) at (length bytes.now) }
         ensures size { size self.new ≡ size self.old }
         ensures count { count self.new ≡ count self.old }
-        ensures values { Writes (size self.old) at bytes.now (values self.old) (values self.new) result }
-        ensures told { TellsWrite (size self.old) at bytes.now (told self.old) (told self.new) result }
+        ensures values { Writes (size self.old) at bytes.now
+            (values self.old) (values self.new) result }
+        ensures told { TellsWrite (size self.old) at bytes.now
+            (told self.old) (told self.new) result }
         ensures cause { HasCause (faults self.old) (faults self.new) result };
 
     /// Waits until every write so far is certain to be kept.
@@ -78,13 +81,15 @@ pub trait Disk {
     ghost geometry: { (d : Self) → IsDisk (size d) (count d) };
 
     /// It holds so many bytes.
-    ghost whole: { (d : Self) (bytes : List ℕ) → values d ≡ Some bytes → length bytes ≡ count d * size d };
+    ghost whole: { (d : Self) (bytes : List ℕ) → values d ≡ Some bytes →
+        length bytes ≡ count d * size d };
 
     /// The current bytes are those of the current table.
     ghost agrees: { (d : Self) (t : Told) → told d ≡ Some t → values d ≡ Some (content t.now) };
 
     /// Each atom of the current table has an atom's bytes.
-    ghost even: { (d : Self) (t : Told) → told d ≡ Some t → lengths (currents t.now) ≡ replicate (count d) (size d) };
+    ghost even: { (d : Self) (t : Told) → told d ≡ Some t →
+        lengths (currents t.now) ≡ replicate (count d) (size d) };
 
     /// Each current value is one of its atom's candidates.
     ghost held: { (d : Self) (t : Told) → told d ≡ Some t → AreHeld t.now };

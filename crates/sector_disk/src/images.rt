@@ -1,8 +1,9 @@
 ghost use Rattle.std.specs.Prelude.{◌≡◌, ◌<◌};
 ghost use Rattle.sector_disk.specs.Images.{IsChoice, place_of};
 
-/// Which image of a disk a restart takes: of each atom the newest candidate, the oldest, or for atom
-/// `i` the candidate of number `numbers[i mod len] mod count`, the oldest having number 0.
+/// Which image of a disk a restart takes: of each atom the newest candidate, the oldest, or of atom
+/// `i` the one of number `numbers[i mod len] mod count`, where `count` is how many it has and the
+/// oldest has number 0.
 #[derive(Debug, Drop)]
 pub enum Choice {
     Newest,

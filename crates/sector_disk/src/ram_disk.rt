@@ -1,6 +1,5 @@
-ghost use Rattle.std.specs.Prelude.{◌≡◌, ℕ, ◌*◌, ◌^◌, ◌<◌, List, length, replicate, Option, Some, None, IfOk, IsOk, IsTrue};
-ghost use Rattle.base_terms.specs.Blocks.{pasted};
-ghost use Rattle.sector_disk.specs.Geometry.{is_atom, IsDisk, IsInDisk};
+ghost use Rattle.std.specs.Prelude.{◌≡◌, ◌*◌, ◌^◌, ◌<◌, length, replicate, Some, None, IfOk, IsTrue};
+ghost use Rattle.sector_disk.specs.Geometry.{is_atom, IsDisk};
 
 use crate::Disk;
 use crate::buffers::{paste, zeros};
@@ -24,7 +23,8 @@ impl RamDisk {
         requires { IsDisk atom atoms }
         ensures atom { IfOk result (λ disk. ⟦<RamDisk as Disk>⟧.size disk ≡ atom) }
         ensures atoms { IfOk result (λ disk. ⟦<RamDisk as Disk>⟧.count disk ≡ atoms) }
-        ensures zeros { IfOk result (λ disk. ⟦<RamDisk as Disk>⟧.values disk ≡ Some (replicate (atoms * atom) 0)) }
+        ensures zeros { IfOk result (λ disk. ⟦<RamDisk as Disk>⟧.values disk
+            ≡ Some (replicate (atoms * atom) 0)) }
     {
         let len = atoms as usize * atom as usize;
         let bytes = zeros(alloc, len)?;
@@ -33,10 +33,8 @@ impl RamDisk {
 }
 
 impl Disk for RamDisk {
-    ghost use Rattle.std.specs.Prelude.{◌≡◌, ℕ, ◌*◌, ◌^◌, ◌<◌, List, length, replicate, Option, Some, None};
-    ghost use Rattle.std.proofs.Common.{rules};
-    ghost use Rattle.base_terms.specs.Blocks.{pasted};
-    ghost use Rattle.sector_disk.specs.Ram.{ram_geometry, ram_whole};
+    ghost use Rattle.std.specs.Prelude.{Some, None};
+    ghost use Rattle.sector_disk.specs.RamLaws.{ram_geometry, ram_whole};
 
     ghost size = { λ d. d.atom };
 

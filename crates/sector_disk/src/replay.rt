@@ -1,4 +1,4 @@
-ghost use Rattle.std.specs.Prelude.{◌≡◌, ◌+◌, ◌*◌, ◌/◌, ◌<◌, ◌≤◌, length, map, OnOk, IfOk};
+ghost use Rattle.std.specs.Prelude.{◌≡◌, ◌+◌, ◌*◌, ◌/◌, ◌<◌, length, map, OnOk, IfOk};
 ghost use Rattle.base_terms.specs.Blocks.{blocks_of, changed, joined};
 ghost use Rattle.sector_disk.specs.Calls.{changed_by};
 ghost use Rattle.sector_disk.specs.Cells.{sures, synced};
@@ -42,7 +42,8 @@ pub(crate) fn apply(
     body: &[u8],
 ) -> Result<(), AllocError>
     requires { 0 < atom }
-    ensures { OnOk result (cells.new ≡ changed_by kind cells.old at (blocks_of atom (length body.now / atom) body.now)) }
+    ensures { OnOk result (cells.new
+        ≡ changed_by kind cells.old at (blocks_of atom (length body.now / atom) body.now)) }
 {
     match kind {
         Kind::Read => Ok(()),
@@ -62,7 +63,8 @@ fn add_values(
     is_current: bool,
 ) -> Result<(), AllocError>
     requires { 0 < atom }
-    ensures { OnOk result (cells.new ≡ changed (added is_current) cells.old at (blocks_of atom (length body.now / atom) body.now)) }
+    ensures { OnOk result (cells.new ≡ changed (added is_current) cells.old at
+        (blocks_of atom (length body.now / atom) body.now)) }
 {
     let mut left = body.len() / atom;
     let mut rest = body;

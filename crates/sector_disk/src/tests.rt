@@ -1,4 +1,4 @@
-ghost use Rattle.std.specs.Prelude.{◌≡◌, ◌<◌, length, IfOk, IsTrue};
+ghost use Rattle.std.specs.Prelude.{◌≡◌, ◌<◌, IfOk};
 ghost use Rattle.sector_disk.specs.Images.{IsChoice};
 ghost use Rattle.sector_disk.specs.Mem.{atom_of, atoms_of};
 

@@ -7,7 +7,8 @@ pub loop-left-preserved : goal.loop-left-preserved
 loop-left-preserved c = record {
   changes =
       rw (c.in_ok-add.ensures, c.split_at.ensures.front, c.split_at.ensures.back)
-      (changed_step (added c.args.is_current) c.loop-left.cells c.loop-left.place c.args.atom c.loop-left.left c.loop-left.rest.now _ c.index-cells-place.result
+      (changed_step (added c.args.is_current) c.loop-left.cells c.loop-left.place c.args.atom c.loop-left.left
+      c.loop-left.rest.now _ c.index-cells-place.result
       c.if-place-cells.true c.loop-left-test.true c.loop-left.invariant.changes);
   enough =
       let less = one_less c.loop-left.left c.args.atom c.loop-left-test.true in

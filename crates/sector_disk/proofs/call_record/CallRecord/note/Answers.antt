@@ -16,7 +16,8 @@ invariant_of-self c =
     let whole = rw (← c.self.view_is) at c.requires.whole in
     let room = rw (← c.self.view_is) at c.requires.room in
     rw (c.in-Ok.ensures.items, c.in-Ok-extend_from_slice.ensures.items)
-    (HasRoom-note _ _ _ _ _ _ _ _ _ _ c.args.body.now c.self.invariant some whole room refl c.in-Ok.ensures.capacity c.in-Ok-extend_from_slice.ensures.capacity)
+    (HasRoom-note _ _ _ _ _ _ _ _ _ _ c.args.body.now c.self.invariant some whole room refl
+    c.in-Ok.ensures.capacity c.in-Ok-extend_from_slice.ensures.capacity)
 
 pub returns-clause-calls : goal.returns-clause-calls
 returns-clause-calls c =

@@ -2,7 +2,8 @@ use Rattle.sector_disk.proofs.TableLemmas.{even_other, content_other, told-push}
 use Rattle.sector_disk.proofs.mem_disk.MemDisk.keep.Goals as goal
 
 pub invariant_of-self-clause-even : goal.invariant_of-self-clause-even
-invariant_of-self-clause-even c = rw c.note.ensures.calls (even_other _ _ _ _ _ c.requires.other c.args.self.now.even)
+invariant_of-self-clause-even c = rw c.note.ensures.calls
+    (even_other _ _ _ _ _ c.requires.other c.args.self.now.even)
 
 pub invariant_of-self-clause-agrees : goal.invariant_of-self-clause-agrees
 invariant_of-self-clause-agrees c =

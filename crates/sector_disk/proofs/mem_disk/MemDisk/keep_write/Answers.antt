@@ -10,7 +10,8 @@ invariant_of-self-clause-even c =
 pub invariant_of-self-clause-agrees : goal.invariant_of-self-clause-agrees
 invariant_of-self-clause-agrees c =
     rw c.note.ensures.calls
-    (content_write _ _ _ _ _ _ _ refl (some_atom _ c.args.self.now.known) c.requires.place c.args.self.now.even c.args.self.now.agrees c.paste.ensures.items)
+    (content_write _ _ _ _ _ _ _ refl (some_atom _ c.args.self.now.known) c.requires.place c.args.self.now.even
+    c.args.self.now.agrees c.paste.ensures.items)
 
 pub returns-clause-told : goal.returns-clause-told
 returns-clause-told c = rw c.note.ensures.calls (told-push _ _ _ _ _)

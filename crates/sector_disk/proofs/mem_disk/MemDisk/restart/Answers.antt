@@ -6,7 +6,8 @@ use Rattle.sector_disk.proofs.mem_disk.MemDisk.restart.Goals as goal
 
 pub begun_with-requires : goal.begun_with-requires
 begun_with-requires c =
-    ap length c.in-Ok.ensures ∙ length-joined _ _ _ (even_image _ _ _ _ _ c.requires c.args.self.began c.args.self.even)
+    ap length c.in-Ok.ensures ∙ length-joined _ _ _
+    (even_image _ _ _ _ _ c.requires c.args.self.began c.args.self.even)
 
 pub returns-in-Ok-clause-told : goal.returns-in-Ok-clause-told
 returns-in-Ok-clause-told c =

@@ -1,0 +1,11 @@
+-- Why the disk that tells its current bytes alone is a disk.
+use Rattle.std.specs.Prelude.{ℕ, ◌≡◌, ◌*◌, List, length, Some}
+use Rattle.sector_disk.specs.Geometry.{is_atom-true, IsDisk}
+use Rattle.sector_disk.specs.declared.ram_disk.RamDisk.{RamDisk}
+
+pub ram_geometry : (d : RamDisk) → IsDisk d.atom d.atoms
+ram_geometry d = record { known = is_atom-true d.atom d.known; fits = d.fits }
+
+pub ram_whole : (d : RamDisk) (bytes : List ℕ) → Some d.bytes.items ≡ Some bytes
+    → length bytes ≡ d.atoms * d.atom
+ram_whole d bytes is = let e : d.bytes.items ≡ bytes = cc in rw (← e) d.whole
