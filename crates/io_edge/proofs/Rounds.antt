@@ -1,4 +1,4 @@
-use Rattle.std.proofs.Common.{◌≡◌, ℕ, ◌+◌, ◌<◌, ◌%◌, List, length, slice_index, slice_set, slice_index_or, ap, ◌∙◌, add_assoc, refl, arith, Ok, Some}
+use Rattle.std.proofs.Common.{◌≡◌, ℕ, ◌+◌, ◌<◌, ◌%◌, List, length, slice_index, slice_set, ap, ◌∙◌, add_assoc, arith, Ok, Some}
 use Rattle.std.proofs.lemmas.Grind.{common_steps}
 use Rattle.std.proofs.Math.Nat.{mod-add-mod}
 use Rattle.io_edge.specs.FaultPlan.{Plan}
