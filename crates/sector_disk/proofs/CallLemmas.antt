@@ -49,7 +49,7 @@ last_table-push atom cells (first ∷ calls) call = last_table-push atom (table_
 pub tables_after-push : (atom : ℕ) (cells : List Cell) (calls : List Call) (call : Call)
     → tables_after atom cells (calls ++ call ∷ [])
     ≡ tables_after atom cells calls ++ (Some call.mark, table_after atom (last_table atom cells calls) call)
-        ∷ []
+    ∷ []
 unfolding last_table tables_after
 tables_after-push atom cells [] call = refl
 tables_after-push atom cells (first ∷ calls) call =
