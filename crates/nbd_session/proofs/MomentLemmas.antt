@@ -1,11 +1,11 @@
 -- What went between two moments, joined.
-use Rattle.std.proofs.Common.{◌≡◌, ℕ, ◌+◌, ◌≤◌, List, [], ◌++◌, Option, Result, Ok, Err, length, ap, ◌∙◌, refl, sym, subst, arith, append_assoc, append-nil, length-append}
+use Rattle.std.proofs.Common.{◌≡◌, ℕ, ◌+◌, ◌≤◌, List, [], ◌++◌, Option, Result, length, ap, sym, subst, arith, append_assoc, append-nil, length-append}
 use Rattle.base_terms.specs.declared.failed.Failed.{Failed}
 use Rattle.nbd_session.specs.Counts.{capped}
 use Rattle.nbd_session.specs.Moments.{Moment, Traffic, moment}
 use Rattle.nbd_session.specs.Putting.{Puts}
-use Rattle.nbd_session.specs.Traffic.{Took, Sent, HasEnded}
-use Rattle.nbd_session.proofs.TrafficLemmas.{took_none, took_more, sent_none, sent_more, ended_later}
+use Rattle.nbd_session.specs.Traffic.{Took, Sent}
+use Rattle.nbd_session.proofs.TrafficLemmas.{took_none, took_more, sent_none, sent_more}
 
 -- nothing went
 pub traffic_none : (m : Moment) → Traffic m m [] [] []

@@ -1,11 +1,10 @@
 -- A text that is put in pieces.
-use Rattle.std.proofs.Common.{◌≡◌, ℕ, ◌+◌, ◌-◌, ◌^◌, ◌≤◌, ◌<◌, List, [], ◌++◌, Option, Some, None, Result, Ok, Err, length, take, drop, ap, ◌∙◌, refl, sym, subst, arith, append_assoc, append-nil, length-append}
+use Rattle.std.proofs.Common.{◌≡◌, ℕ, ◌^◌, ◌≤◌, ◌<◌, List, [], ◌++◌, Option, Some, None, Result, Ok, Err, length, take, drop, ap, ◌∙◌, refl, sym, subst, arith, append_assoc, append-nil, length-append}
 use Rattle.std.proofs.lemmas.List.{take-append-drop}
 use Rattle.std.specs.Prelude.{MatchResult}
 use Rattle.base_terms.specs.declared.failed.Failed.{Failed}
 use Rattle.base_terms.specs.Causes.{Rose}
 use Rattle.io_edge.specs.Streams as Streams
-use Rattle.nbd_session.specs.Counts.{capped}
 use Rattle.nbd_session.specs.Putting.{Puts}
 use Rattle.nbd_session.specs.Traffic.{Sent}
 use Rattle.nbd_session.proofs.TrafficLemmas.{sent_more, rose_earlier}
@@ -35,13 +34,13 @@ puts-failed h h' f f' p bytes e told later rose fits =
       },
     )
 
-cases-more : (f f' f'' : ℕ) (first second : List ℕ) (result : Result (Unit {0}) Failed) (whole front : List ℕ) → f ≤ f' →
-    MatchResult result (λ _. (whole ≡ second) × (front ≡ [])) (λ _. Rose f' f'' × ((rest : List ℕ) × (second ≡ whole ++ (front ++ rest)))) →
-    MatchResult result (λ _. (first ++ whole ≡ first ++ second) × (front ≡ []))
+cases-more : (f f' f'' : ℕ) (first second : List ℕ) (result : Result (Unit {0}) Failed) (whole front : List ℕ) →
+    f' ≡ f → MatchResult result (λ _. (whole ≡ second) × (front ≡ []) × (f'' ≡ f')) (λ _. Rose f' f'' × ((rest : List ℕ) × (second ≡ whole ++ (front ++ rest)))) →
+    MatchResult result (λ _. (first ++ whole ≡ first ++ second) × (front ≡ []) × (f'' ≡ f))
     (λ _. Rose f f'' × ((rest : List ℕ) × (first ++ second ≡ (first ++ whole) ++ (front ++ rest))))
-cases-more f f' f'' first second (Ok u) whole front early c = (ap (λ t. first ++ t) c.0, c.1)
-cases-more f f' f'' first second (Err e) whole front early c =
-    (rose_earlier f f' f'' early c.0, (c.1.0, ap (λ t. first ++ t) c.1.1 ∙ sym (append_assoc first whole (front ++ c.1.0))))
+cases-more f f' f'' first second (Ok u) whole front held c = (ap (λ t. first ++ t) c.0, c.1, omega (arith, c.2))
+cases-more f f' f'' first second (Err e) whole front held c =
+    (rose_earlier f f' f'' (omega arith) c.0, (c.1.0, ap (λ t. first ++ t) c.1.1 ∙ sym (append_assoc first whole (front ++ c.1.0))))
 
 -- the first part of a text went out whole, and then this of the second part
 pub puts-more : (h h' h'' : Option (List ℕ)) (f f' f'' p p' p'' : ℕ) (first second : List ℕ) (result : Result (Unit {0}) Failed) →
@@ -60,7 +59,7 @@ puts-more h h' h'' f f' f'' p p' p'' first second result a b =
         sent = both;
         later = omega (arith, a.2.later, b.2.later);
         put = omega (arith, a.2.put, b.2.put, length-append first b.0);
-        by_case = cases-more f f' f'' first second result b.0 b.1 a.2.later b.2.by_case;
+        by_case = cases-more f f' f'' first second result b.0 b.1 a.2.by_case.2 b.2.by_case;
       },
     )
 

@@ -1,7 +1,6 @@
 -- A request of which head and body were taken one after the other.
-use Rattle.std.proofs.Common.{◌≡◌, ℕ, ◌+◌, ◌≤◌, ◌<◌, Bool, true, false, List, ◌++◌, Option, Some, None, length, take, ap, ◌∙◌, refl, sym, subst, arith, inl, inr, take_all, length-append}
+use Rattle.std.proofs.Common.{◌≡◌, ℕ, ◌+◌, ◌<◌, Bool, true, false, List, ◌++◌, Option, Some, length, take, ap, refl, sym, subst, arith, inr, take_all, length-append}
 use Rattle.std.specs.Prelude.{MatchOption}
-use Rattle.plain_disk.specs.declared.operation.Op.{Op}
 use Rattle.plain_disk.specs.declared.operation.Op.TheVariants as Ops
 use Rattle.nbd_session.specs.declared.ending.Ending.TheVariants.{Unbuilt, ReadFault}
 use Rattle.nbd_session.specs.declared.export.Export.{Export}
@@ -62,9 +61,11 @@ pub next-whole : (export : Export) (g g' g'' l l' l'' : Option (List ℕ)) (f f'
     (x : List ℕ) × (e : Bool) × NextIs export g g'' l l'' f f'' t t'' (Ask cookie (Ops.Write offset body false)) x e
 next-whole export g g' g'' l l' l'' f f' f'' t t' t'' buf cookie offset len body head rest =
     next-joined export g g' g'' l l' l'' f f' f'' t t' t'' buf cookie offset len (Bodies.Whole body) rest.0 _ false head rest.1
-    (λ e. absurd (cc))
-    (subst (λ b. IsMessage export (buf ++ rest.0) cookie (Ops.Write offset b false)) (sym rest.1.by_case.0)
-    (write-message export buf rest.0 cookie offset len head.size head.asks rest.1.by_case.1))
+    (λ e. absurd (cc)) (
+      subst (λ b. IsMessage export (buf ++ rest.0) cookie (Ops.Write offset b false)) (sym rest.1.by_case.0)
+          (write-message export buf rest.0 cookie offset len head.size head.asks rest.1.by_case.1),
+      omega (arith, head.fills.fewer, rest.1.by_case.2),
+    )
 
 pub next-short : (export : Export) (g g' g'' l l' l'' : Option (List ℕ)) (f f' f'' t t' t'' : ℕ) (buf : List ℕ) (cookie offset len : ℕ) →
     HeadTaken export g g' l l' f f' t t' buf cookie offset len →
@@ -72,8 +73,11 @@ pub next-short : (export : Export) (g g' g'' l l' l'' : Option (List ℕ)) (f f'
     (x : List ℕ) × (e : Bool) × NextIs export g g'' l l'' f f'' t t'' (Short cookie) x e
 next-short export g g' g'' l l' l'' f f' f'' t t' t'' buf cookie offset len head rest =
     next-joined export g g' g'' l l' l'' f f' f'' t t' t'' buf cookie offset len Bodies.Short rest.0 _ false head rest.1
-    (λ e. absurd (cc))
-    (Ops.Write offset rest.0 false, write-message export buf rest.0 cookie offset len head.size head.asks rest.1.by_case)
+    (λ e. absurd (cc)) (
+      Ops.Write offset rest.0 false,
+      write-message export buf rest.0 cookie offset len head.size head.asks rest.1.by_case.0,
+      omega (arith, head.fills.fewer, rest.1.by_case.1),
+    )
 
 cut-write : (export : Export) (buf more : List ℕ) (cookie offset len : ℕ) → length buf ≡ 28 →
     request_of export buf ≡ Some (Write cookie offset len) → length more < len → IsCut export (buf ++ more)
@@ -87,8 +91,8 @@ pub next-ended : (export : Export) (g g' g'' l l' l'' : Option (List ℕ)) (f f'
 next-ended export g g' g'' l l' l'' f f' f'' t t' t'' buf cookie offset len head rest =
     next-joined export g g' g'' l l' l'' f f' f'' t t' t'' buf cookie offset len Bodies.Ended rest.0 _ true head rest.1
     (λ e. rest.1.by_case.1) (
-      tt,
-      λ n. inr (
+      omega (arith, head.fills.fewer, rest.1.by_case.2),
+      inr (
         (λ empty. let e : length (buf ++ rest.0) ≡ 0 = ap length empty in omega (arith, length-append buf rest.0, head.size)),
         refl,
         cut-write export buf rest.0 cookie offset len head.size head.asks rest.1.by_case.0,
@@ -103,5 +107,5 @@ next-fault export g g' g'' l l' l'' f f' f'' t t' t'' buf cookie offset len head
     next-joined export g g' g'' l l' l'' f f' f'' t t' t'' buf cookie offset len Bodies.Fault rest.0 _ false head rest.1
     (λ e. absurd (cc)) (
       rose_earlier f f' f'' head.fills.later rest.1.by_case.1,
-      λ n. cut-write export buf rest.0 cookie offset len head.size head.asks rest.1.by_case.0,
+      cut-write export buf rest.0 cookie offset len head.size head.asks rest.1.by_case.0,
     )

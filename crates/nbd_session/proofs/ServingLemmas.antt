@@ -1,23 +1,21 @@
 -- Requests that were served, joined.
-use Rattle.std.proofs.Common.{◌≡◌, ℕ, ◌+◌, ◌^◌, ◌≤◌, Bool, true, false, if◌then◌else◌, List, [], ◌∷◌, ◌++◌, Option, Some, None, Ok, Err, length, ap, ◌∙◌, refl, sym, subst, arith, append_assoc, append-nil, length-append}
+use Rattle.std.proofs.Common.{◌≡◌, ℕ, ◌+◌, ◌^◌, ◌<◌, ◌≤◌, Bool, true, false, if◌then◌else◌, List, [], ◌∷◌, ◌++◌, Option, Some, None, Ok, Err, length, ap, ◌∙◌, refl, sym, subst, arith, append_assoc, append-nil, length-append}
 use Rattle.std.specs.Prelude.{MatchOption}
-use Rattle.base_terms.specs.declared.failed.Failed.{Failed}
 use Rattle.plain_disk.specs.Plain.{Exchange}
 use Rattle.nbd_session.specs.declared.ending.Ending.{Ending}
 use Rattle.nbd_session.specs.declared.ending.Ending.TheVariants.{Disconnected, Closed, Unbuilt, TooMany, ReadFault, WriteFault, Memory}
 use Rattle.nbd_session.specs.declared.export.Export.{Export}
 use Rattle.nbd_session.specs.declared.requests.Next.TheVariants.{Stop}
 use Rattle.nbd_session.specs.Counts.{capped}
-use Rattle.nbd_session.specs.Moments.{Moment, Traffic, HasCauses, moment}
-use Rattle.nbd_session.specs.Putting.{Puts}
+use Rattle.nbd_session.specs.Moments.{Moment, Traffic, NoneRose, HasCauses, moment}
 use Rattle.nbd_session.specs.Replies.{reply_text}
 use Rattle.nbd_session.specs.Serving.{Ends, Serves, Replies}
-use Rattle.nbd_session.specs.Session.{Turn, Spells, IsMessage, IsAnswered, EndsRequests, GoesOut, replies_text, exchanges_of}
-use Rattle.nbd_session.specs.Taking.{NextIs}
-use Rattle.nbd_session.specs.Traffic.{Took, HasEnded}
-use Rattle.nbd_session.proofs.TrafficLemmas.{rose_within, ended_later}
+use Rattle.nbd_session.specs.Session.{Turn, Spells, IsMessage, IsAnswered, EndsRequests, IsCount, GoesOut, replies_text, last_reply, exchanges_of}
+use Rattle.nbd_session.specs.Taking.{NextIs, IsStop}
+use Rattle.nbd_session.specs.Traffic.{Took}
+use Rattle.nbd_session.proofs.TrafficLemmas.{rose_earlier, ended_later}
 use Rattle.nbd_session.proofs.MomentLemmas.{traffic_none, traffic_took, traffic_puts, traffic_more, traffic_answered}
-use Rattle.nbd_session.proofs.NegotiationLemmas.{stop-causes, stop-goes_out, puts-whole}
+use Rattle.nbd_session.proofs.NegotiationLemmas.{stop-causes, stop-goes_out, puts-whole, rear-within}
 
 pub Spells-append : (export : Export) (xs ys : List Turn) (a b : List ℕ) → Spells export xs a → Spells export ys b → Spells export (xs ++ ys) (a ++ b)
 unfolding Spells
@@ -49,12 +47,30 @@ exchanges_of-append (x ∷ xs) ys =
     ap (λ t. if x.submitted then record { op = x.op; reply = x.reply; tried = x.tried } ∷ t else t) (exchanges_of-append xs ys)
     ∙ cons-if x.submitted (record { op = x.op; reply = x.reply; tried = x.tried }) (exchanges_of xs) (exchanges_of ys)
 
+-- the last reply of some requests is that of all where these come last
+pub last_reply-append : (xs ys : List Turn) → length (last_reply ys) ≤ length (last_reply (xs ++ ys))
+unfolding last_reply
+last_reply-append [] ys = omega arith
+last_reply-append (x ∷ []) [] = omega arith
+last_reply-append (x ∷ []) (y ∷ ys) = omega arith
+last_reply-append (x ∷ (next ∷ xs)) ys = last_reply-append (next ∷ xs) ys
+
+-- what ends the input may come after each request but the last that a session may have
+stop-count : (f f' : ℕ) (ending : Ending) (n : ℕ) → IsStop f f' ending → n < 2 ^ 32 → IsCount ending n
+stop-count f f' Disconnected n stop fewer = fewer
+stop-count f f' Closed n stop fewer = fewer
+stop-count f f' Unbuilt n stop fewer = fewer
+stop-count f f' (TooMany m) n stop fewer = absurd stop
+stop-count f f' ReadFault n stop fewer = fewer
+stop-count f f' WriteFault n stop fewer = absurd stop
+stop-count f f' Memory n stop fewer = absurd stop
+
 -- the session ended where a request was to come
 pub serves-stop : (export : Export) (g g' l l' h : Option (List ℕ)) (f f' k t t' p : ℕ) (ending : Ending) (bytes : List ℕ) (ended : Bool) (n : ℕ) →
-    NextIs export g g' l l' f f' t t' (Stop ending) bytes ended →
+    NextIs export g g' l l' f f' t t' (Stop ending) bytes ended → n < 2 ^ 32 →
     Serves export n (moment g l h f k t p) (moment g' l' h f' k t' p) (Some ending) [] bytes [] [] ended
 unfolding Spells replies_text
-serves-stop export g g' l l' h f f' k t t' p ending bytes ended n next = record {
+serves-stop export g g' l l' h f f' k t t' p ending bytes ended n next fewer = record {
   traffic = traffic_took g g' l l' h f f' k t t' p bytes next.took next.later next.taken;
   at_end = next.at_end;
   by_case = record {
@@ -62,9 +78,10 @@ serves-stop export g g' l l' h f f' k t t' p ending bytes ended n next = record 
     bytes = bytes;
     parts = refl;
     spells = refl;
-    ends = next.by_case.1 (n + 0);
-    goes_out = stop-goes_out f f' ending [] [] next.by_case.0 refl;
-    causes = stop-causes (moment g l h f k t p) (moment g' l' h f' k t' p) f f' ending (omega arith) (omega arith) next.by_case.0;
+    ends = next.by_case.1;
+    count = stop-count f f' ending (n + 0) next.by_case.0 (omega arith);
+    goes_out = stop-goes_out f f' ending (last_reply []) [] [] next.by_case.0 refl;
+    causes = stop-causes (moment g l h f k t p) (moment g' l' h f' k t' p) f f' ending refl refl refl next.by_case.0;
   };
 }
 
@@ -79,32 +96,33 @@ replies-one turn = append-nil (reply_text turn.cookie turn.reply)
 
 -- a request was taken, and its reply put or not
 pub serves-turn : (export : Export) (g g' l l' h h' : Option (List ℕ)) (f f' k k' t t' p p' : ℕ) (turn : Turn) (bytes : List ℕ)
-    (result : Option Ending) → Took g g' l l' bytes → f ≤ f' → t' ≡ capped (t + length bytes) →
+    (result : Option Ending) → Took g g' l l' bytes → f' ≡ f → t' ≡ capped (t + length bytes) →
     IsMessage export bytes turn.cookie turn.op → IsAnswered turn →
     ((whole : List ℕ) × (front : List ℕ) × Replies h h' k k' p p' (reply_text turn.cookie turn.reply) result whole front) →
-    (whole : List ℕ) × (front : List ℕ) × ((n : ℕ) → Serves export n (moment g l h f k t p) (moment g' l' h' f' k' t' p') result (turn ∷ []) bytes whole front false)
-serves-turn export g g' l l' h h' f f' k k' t t' p p' turn bytes None took later counted message answered replies =
+    (whole : List ℕ) × (front : List ℕ) × ((n : ℕ) → n < 2 ^ 32 → Serves export n (moment g l h f k t p) (moment g' l' h' f' k' t' p') result (turn ∷ []) bytes whole front false)
+unfolding last_reply
+serves-turn export g g' l l' h h' f f' k k' t t' p p' turn bytes None took held counted message answered replies =
     let text = reply_text turn.cookie turn.reply in
     let puts = puts-whole h h' k k' p p' text replies in (
       text,
       [],
-      λ n. record {
+      λ n fewer. record {
         traffic = traffic_answered (moment g l h f k t p) (moment g' l' h f' k t' p) (moment g' l' h' f' k' t' p') bytes text []
-            (traffic_took g g' l l' h f f' k t t' p bytes took later counted) (traffic_puts g' l' h h' f' k k' t' p p' text text [] (Ok tt) puts);
+            (traffic_took g g' l l' h f f' k t t' p bytes took (omega arith) counted) (traffic_puts g' l' h h' f' k k' t' p p' text text [] (Ok tt) puts);
         at_end = λ e. absurd (cc);
-        by_case = (spells-one export turn bytes message answered, sym (replies-one turn), refl);
+        by_case = (spells-one export turn bytes message answered, sym (replies-one turn), refl, (held, puts.by_case.2));
       },
     )
-serves-turn export g g' l l' h h' f f' k k' t t' p p' turn bytes (Some ending) took later counted message answered replies =
+serves-turn export g g' l l' h h' f f' k k' t t' p p' turn bytes (Some ending) took held counted message answered replies =
     let text = reply_text turn.cookie turn.reply in
     let fault = replies.2 in
     let puts = fault.1.1 in
     let rest = puts.by_case.1 in (
       replies.0,
       replies.1,
-      λ n. record {
+      λ n fewer. record {
         traffic = traffic_answered (moment g l h f k t p) (moment g' l' h f' k t' p) (moment g' l' h' f' k' t' p') bytes replies.0 replies.1
-            (traffic_took g g' l l' h f f' k t t' p bytes took later counted)
+            (traffic_took g g' l l' h f f' k t t' p bytes took (omega arith) counted)
             (traffic_puts g' l' h h' f' k k' t' p p' text replies.0 replies.1 (Err fault.1.0) puts);
         at_end = λ e. absurd (cc);
         by_case = record {
@@ -112,9 +130,11 @@ serves-turn export g g' l l' h h' f f' k k' t t' p p' turn bytes (Some ending) t
           bytes = [];
           parts = sym (append-nil bytes);
           spells = spells-one export turn bytes message answered;
-          ends = subst (λ e. EndsRequests export e false (n + 1) []) (sym fault.0) refl;
-          goes_out = subst (λ e. GoesOut e (replies_text (turn ∷ [])) replies.0 replies.1) (sym fault.0) (rest.0, replies-one turn ∙ rest.1);
-          causes = subst (λ e. HasCauses (moment g l h f k t p) (moment g' l' h' f' k' t' p') e) (sym fault.0) puts.by_case.0;
+          ends = subst (λ e. EndsRequests export e false []) (sym fault.0) refl;
+          count = subst (λ e. IsCount e (n + 1)) (sym fault.0) (omega arith);
+          goes_out = subst (λ e. GoesOut e (last_reply (turn ∷ [])) (replies_text (turn ∷ [])) replies.0 replies.1) (sym fault.0)
+              (rest.0, replies-one turn ∙ rest.1, rear-within replies.0 (replies.1 ++ rest.0) text rest.1);
+          causes = subst (λ e. HasCauses (moment g l h f k t p) (moment g' l' h' f' k' t' p') e) (sym fault.0) (held, puts.by_case.0);
         };
       },
     )
@@ -122,34 +142,42 @@ serves-turn export g g' l l' h h' f f' k k' t t' p p' turn bytes (Some ending) t
 -- nothing was served yet
 pub serves-none : (export : Export) (m : Moment) → Serves export 0 m m None [] [] [] [] false
 unfolding Spells replies_text
-serves-none export m = record { traffic = traffic_none m; at_end = λ e. absurd (cc); by_case = (refl, refl, refl) }
+serves-none export m = record { traffic = traffic_none m; at_end = λ e. absurd (cc); by_case = (refl, refl, refl, (refl, refl)) }
 
-pub goes_out-more : (ending : Ending) (first text whole front : List ℕ) → GoesOut ending text whole front → GoesOut ending (first ++ text) (first ++ whole) front
-goes_out-more Disconnected first text whole front out = (ap (λ x. first ++ x) out.0, out.1)
-goes_out-more Closed first text whole front out = (ap (λ x. first ++ x) out.0, out.1)
-goes_out-more Unbuilt first text whole front out = (ap (λ x. first ++ x) out.0, out.1)
-goes_out-more (TooMany n) first text whole front out = (ap (λ x. first ++ x) out.0, out.1)
-goes_out-more ReadFault first text whole front out = (ap (λ x. first ++ x) out.0, out.1)
-goes_out-more WriteFault first text whole front out = (out.0, ap (λ x. first ++ x) out.1 ∙ sym (append_assoc first whole (front ++ out.0)))
-goes_out-more Memory first text whole front out = (ap (λ x. first ++ x) out.0, out.1)
+pub goes_out-more : (ending : Ending) (last last' first text whole front : List ℕ) → length last ≤ length last' →
+    GoesOut ending last text whole front → GoesOut ending last' (first ++ text) (first ++ whole) front
+goes_out-more Disconnected last last' first text whole front longer out = (ap (λ x. first ++ x) out.0, out.1)
+goes_out-more Closed last last' first text whole front longer out = (ap (λ x. first ++ x) out.0, out.1)
+goes_out-more Unbuilt last last' first text whole front longer out = (ap (λ x. first ++ x) out.0, out.1)
+goes_out-more (TooMany n) last last' first text whole front longer out = (ap (λ x. first ++ x) out.0, out.1)
+goes_out-more ReadFault last last' first text whole front longer out = (ap (λ x. first ++ x) out.0, out.1)
+goes_out-more WriteFault last last' first text whole front longer out =
+    (out.0, ap (λ x. first ++ x) out.1 ∙ sym (append_assoc first whole (front ++ out.0)), omega (arith, out.2))
+goes_out-more Memory last last' first text whole front longer out = absurd out
 
-pub causes-earlier : (a b c : Moment) (ending : Ending) → a.in_faults ≤ b.in_faults → a.out_faults ≤ b.out_faults → HasCauses b c ending → HasCauses a c ending
-causes-earlier a b c Disconnected in_later out_later causes = tt
-causes-earlier a b c Closed in_later out_later causes = tt
-causes-earlier a b c Unbuilt in_later out_later causes = tt
-causes-earlier a b c (TooMany n) in_later out_later causes = tt
-causes-earlier a b c ReadFault in_later out_later causes = rose_within a.in_faults b.in_faults c.in_faults c.in_faults in_later (omega arith) causes
-causes-earlier a b c WriteFault in_later out_later causes = rose_within a.out_faults b.out_faults c.out_faults c.out_faults out_later (omega arith) causes
-causes-earlier a b c Memory in_later out_later causes = tt
+rose-none : (a b c : Moment) → NoneRose a b → NoneRose b c → NoneRose a c
+rose-none a b c first second = (omega (arith, first.0, second.0), omega (arith, first.1, second.1))
+
+pub causes-earlier : (a b c : Moment) (ending : Ending) → NoneRose a b → HasCauses b c ending → HasCauses a c ending
+causes-earlier a b c Disconnected none causes = rose-none a b c none causes
+causes-earlier a b c Closed none causes = rose-none a b c none causes
+causes-earlier a b c Unbuilt none causes = rose-none a b c none causes
+causes-earlier a b c (TooMany n) none causes = rose-none a b c none causes
+causes-earlier a b c ReadFault none causes =
+    (rose_earlier a.in_faults b.in_faults c.in_faults (omega (arith, none.0)) causes.0, omega (arith, none.1, causes.1))
+causes-earlier a b c WriteFault none causes =
+    (omega (arith, none.0, causes.0), rose_earlier a.out_faults b.out_faults c.out_faults (omega (arith, none.1)) causes.1)
+causes-earlier a b c Memory none causes = rose-none a b c none causes
 
 served-case : (export : Export) (a b c : Moment) (result : Option Ending) (n k : ℕ) (xs ys : List Turn) (ts us vs ws front : List ℕ) (ended : Bool) →
     Serves export n a b None xs ts vs [] false → k ≡ n + length xs → Serves export k b c result ys us ws front ended →
-    MatchOption result (Spells export (xs ++ ys) (ts ++ us) × (vs ++ ws ≡ replies_text (xs ++ ys)) × (front ≡ []))
+    MatchOption result (Spells export (xs ++ ys) (ts ++ us) × (vs ++ ws ≡ replies_text (xs ++ ys)) × (front ≡ []) × NoneRose a c)
     (λ ending. Ends export a c ending (xs ++ ys) (n + length (xs ++ ys)) (ts ++ us) (vs ++ ws) front ended)
 served-case export a b c None n k xs ys ts us vs ws front ended first is second = (
   Spells-append export xs ys ts us first.by_case.0 second.by_case.0,
   ap (λ v. v ++ ws) first.by_case.1 ∙ ap (λ w. replies_text xs ++ w) second.by_case.1 ∙ sym (replies_text-append xs ys),
   second.by_case.2,
+  rose-none a b c first.by_case.3 second.by_case.3,
 )
 served-case export a b c (Some ending) n k xs ys ts us vs ws front ended first is second =
     let e = second.by_case in
@@ -159,11 +187,12 @@ served-case export a b c (Some ending) n k xs ys ts us vs ws front ended first i
       bytes = e.bytes;
       parts = ap (λ x. ts ++ x) e.parts ∙ sym (append_assoc ts e.text e.bytes);
       spells = Spells-append export xs ys ts e.text first.by_case.0 e.spells;
-      ends = subst (λ (m : ℕ). EndsRequests export ending ended m e.bytes) count e.ends;
-      goes_out = subst (λ (text : List ℕ). GoesOut ending text (vs ++ ws) front) (sym (replies_text-append xs ys))
-          (subst (λ (v : List ℕ). GoesOut ending (replies_text xs ++ replies_text ys) (v ++ ws) front) (sym first.by_case.1)
-          (goes_out-more ending (replies_text xs) (replies_text ys) ws front e.goes_out));
-      causes = causes-earlier a b c ending first.traffic.later_in first.traffic.later_out e.causes;
+      ends = e.ends;
+      count = subst (λ (m : ℕ). IsCount ending m) count e.count;
+      goes_out = subst (λ (text : List ℕ). GoesOut ending (last_reply (xs ++ ys)) text (vs ++ ws) front) (sym (replies_text-append xs ys))
+          (subst (λ (v : List ℕ). GoesOut ending (last_reply (xs ++ ys)) (replies_text xs ++ replies_text ys) (v ++ ws) front) (sym first.by_case.1)
+          (goes_out-more ending (last_reply ys) (last_reply (xs ++ ys)) (replies_text xs) (replies_text ys) ws front (last_reply-append xs ys) e.goes_out));
+      causes = causes-earlier a b c ending first.by_case.3 e.causes;
     }
 
 -- requests were served, and then others
@@ -187,9 +216,10 @@ serves-too_many export a b xs ts vs served count = record {
     bytes = [];
     parts = sym (append-nil ts);
     spells = served.by_case.0;
-    ends = (refl, omega arith, omega arith);
+    ends = refl;
+    count = (omega arith, omega arith);
     goes_out = (served.by_case.1, refl);
-    causes = tt;
+    causes = served.by_case.3;
   };
 }
 
@@ -201,4 +231,4 @@ serves-goes_on export a b c k xs ys ts us vs ws front ended first is second =
     let all = serves-more export a b c None 0 k xs ys ts us vs ws front ended first is second in
     let traffic : Traffic a c (ts ++ us) (vs ++ ws) [] =
     subst (λ (f : List ℕ). Traffic a c (ts ++ us) (vs ++ ws) f) second.by_case.2 all.traffic in
-    record { traffic = traffic; at_end = λ e. absurd (cc); by_case = (all.by_case.0, all.by_case.1, refl) }
+    record { traffic = traffic; at_end = λ e. absurd (cc); by_case = (all.by_case.0, all.by_case.1, refl, all.by_case.3) }

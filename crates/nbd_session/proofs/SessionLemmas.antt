@@ -1,16 +1,14 @@
 -- A whole session of its parts.
-use Rattle.std.proofs.Common.{◌≡◌, ℕ, ◌+◌, ◌^◌, ◌<◌, ◌≤◌, Bool, true, false, List, [], ◌++◌, Option, Some, Ok, Err, length, ap, ◌∙◌, refl, sym, subst, arith, append_assoc, zero-add}
+use Rattle.std.proofs.Common.{◌≡◌, ℕ, ◌^◌, ◌<◌, ◌≤◌, Bool, List, [], ◌∷◌, ◌++◌, Option, Some, Ok, Err, length, ap, ◌∙◌, refl, sym, subst, arith, append_assoc, zero-add}
 use Rattle.nbd_session.specs.declared.ending.Ending.{Ending}
 use Rattle.nbd_session.specs.declared.ending.SessionEnd.{SessionEnd}
 use Rattle.nbd_session.specs.declared.export.Export.{Export}
 use Rattle.nbd_session.specs.declared.messages.TheConstants.{GREETING, HELLO, GO}
-use Rattle.nbd_session.specs.Counts.{capped}
-use Rattle.nbd_session.specs.Moments.{Moment, Traffic, HasCauses, moment}
+use Rattle.nbd_session.specs.Moments.{Moment, Traffic, moment}
 use Rattle.nbd_session.specs.Negotiation.{Negotiates}
 use Rattle.nbd_session.specs.Replies.{go_text}
 use Rattle.nbd_session.specs.Serving.{Serves}
-use Rattle.nbd_session.specs.Session.{Stage, served, Turn, Log, IsInput, GoesOut, EndsRequests, IsSession, replies_text}
-use Rattle.nbd_session.specs.Traffic.{HasEnded}
+use Rattle.nbd_session.specs.Session.{Stage, served, Turn, Log, GoesOut, IsCount, IsSession, replies_text, last_reply, last_answer}
 use Rattle.nbd_session.proofs.TrafficLemmas.{ended_later}
 use Rattle.nbd_session.proofs.MomentLemmas.{traffic_more}
 use Rattle.nbd_session.proofs.ServingLemmas.{goes_out-more, causes-earlier}
@@ -52,6 +50,11 @@ served-log turns taken whole front ended export = record {
   ended = ended;
 }
 
+last_reply-last : (export : Export) (turns : List Turn) → length (last_reply turns) ≤ length (last_answer export served turns)
+unfolding last_reply
+last_reply-last export [] = omega arith
+last_reply-last export (turn ∷ turns) = omega arith
+
 -- a session that came to its requests
 pub session-served : (export : Export) (a b c : Moment) (ending : Ending) (turns : List Turn) (taken whole front : List ℕ) (ended : Bool) →
     a.taken ≡ 0 → a.put ≡ 0 → c.taken < 2 ^ 64 → c.put < 2 ^ 64 →
@@ -69,16 +72,18 @@ session-served export a b c ending turns taken whole front ended none_taken none
         e.bytes,
         ap (λ x. (HELLO ++ GO) ++ x) e.parts ∙ append_assoc HELLO GO (e.text ++ e.bytes),
         e.spells,
-        subst (λ (n : ℕ). EndsRequests export ending ended n e.bytes) (zero-add (length turns)) e.ends,
+        e.ends,
+        subst (λ (n : ℕ). IsCount ending n) (zero-add (length turns)) e.count,
       );
-      output = subst (λ (text : List ℕ). GoesOut ending text ((GREETING ++ go_text export) ++ whole) front)
+      output = subst (λ (text : List ℕ). GoesOut ending (last_answer export served turns) text ((GREETING ++ go_text export) ++ whole) front)
           (append_assoc GREETING (go_text export) (replies_text turns))
-          (goes_out-more ending (GREETING ++ go_text export) (replies_text turns) whole front e.goes_out);
+          (goes_out-more ending (last_reply turns) (last_answer export served turns) (GREETING ++ go_text export) (replies_text turns) whole front
+          (last_reply-last export turns) e.goes_out);
       taken = omega (arith, all.counted_in);
       put = omega (arith, all.counted_out);
       traffic = all;
       at_end = λ is. ended_later _ _ _ _ _ (HELLO ++ GO) before.took (serves.at_end is);
-      causes = causes-earlier a b c ending before.later_in before.later_out e.causes;
+      causes = causes-earlier a b c ending begun.5.by_case.3 e.causes;
     }
 
 -- a session told of the end that was made

@@ -1,11 +1,11 @@
 -- A buffer that is filled in pieces.
-use Rattle.std.proofs.Common.{◌≡◌, ℕ, ◌+◌, ◌-◌, ◌≤◌, ◌<◌, List, [], ◌++◌, Option, Some, Ok, length, take, drop, ap, ◌∙◌, refl, sym, arith, length-take-le, take_at, subst, ⊎_elim, add-zero}
+use Rattle.std.proofs.Common.{◌≡◌, ℕ, ◌+◌, ◌-◌, ◌≤◌, ◌<◌, List, ◌++◌, Option, Some, Ok, length, take, drop, ap, ◌∙◌, refl, sym, arith, length-take-le, take_at, subst, ⊎_elim, add-zero}
 use Rattle.std.proofs.lemmas.List.{take-append-le, take-append-drop}
 use Rattle.std.proofs.Math.Seq.{take-append-add}
 use borrow.Rule.Slice.PartMut.{put_mid, post_of, same_len_mid}
 use Rattle.std.proofs.lemmas.List.{length-take, length-drop, length-append}
-use Rattle.io_edge.specs.Streams.{Takes, GaveMore, Gives}
-use Rattle.nbd_session.specs.Traffic.{Took, HasEnded, Fills}
+use Rattle.io_edge.specs.Streams.{Takes, GaveMore}
+use Rattle.nbd_session.specs.Traffic.{Took, Fills}
 use Rattle.nbd_session.specs.declared.filling.Filled.TheVariants.{Whole, Ended, Fault}
 use Rattle.nbd_session.proofs.TrafficLemmas.{took_more, ended_later, rose_earlier}
 
@@ -39,7 +39,7 @@ took-piece g g' g'' l l' l'' buf before after count n k inside within took told 
 
 -- a take of nothing into the part behind the front, which isn't empty, found the end
 pub fills-ended : (g g' g'' l l' l'' : Option (List ℕ)) (f f' f'' : ℕ) (buf after : List ℕ) (count n : ℕ) →
-    count < length buf → Took g g' l l' (take count buf) → f ≤ f' → f' ≤ f'' → n ≡ 0 →
+    count < length buf → Took g g' l l' (take count buf) → f' ≡ f → f'' ≡ f' → n ≡ 0 →
     length after ≡ length (take (length buf - count) (drop count buf)) →
     Takes l' l'' (take (length buf - count) (drop count buf)) after (Ok n) → GaveMore g' g'' after (Ok n) →
     Fills g g'' l l'' f f'' (length (put_mid count (length buf - count) buf after)) (Ended count)
@@ -64,6 +64,7 @@ fills-ended g g' g'' l l' l'' f f' f'' buf after count n some took early late no
             (λ empty. absurd (let e : length part ≡ 0 = ap length empty in
             omega (arith, length-take (length buf - count) (drop count buf), length-drop count buf)))
             (λ empty. ap (λ rest. Some (drop 0 rest)) empty) (t.end_only refl),
+        omega arith,
       );
       later = omega arith;
     }
@@ -83,27 +84,27 @@ fills-whole g g' g'' l l' l'' f' f'' bytes more count len part is took same fill
     (bytes ++ more, length-append bytes more ∙ omega (arith, fills.count), took_more g g' g'' l l' l'' bytes more took fills.took)
 
 pub fills-to_end : (g g' g'' l l' l'' : Option (List ℕ)) (f f' f'' : ℕ) (bytes more : List ℕ) (count len part whole n : ℕ) →
-    length bytes ≡ count → Took g g' l l' bytes → f ≤ f' → len ≡ part → count + part ≤ whole →
+    length bytes ≡ count → Took g g' l l' bytes → f' ≡ f → len ≡ part → count + part ≤ whole →
     Fills g' g'' l' l'' f' f'' len (Ended n) more → (x : List ℕ) × Fills g g'' l l'' f f'' whole (Ended (count + n)) x
 fills-to_end g g' g'' l l' l'' f f' f'' bytes more count len part whole n is took early same within fills = (
   bytes ++ more,
   record {
     took = took_more g g' g'' l l' l'' bytes more took fills.took;
     count = length-append bytes more ∙ omega (arith, fills.count);
-    fewer = (omega (arith, fills.fewer.0), ended_later g g' l l' l'' bytes took fills.fewer.1);
+    fewer = (omega (arith, fills.fewer.0), ended_later g g' l l' l'' bytes took fills.fewer.1, omega (arith, fills.fewer.2));
     later = omega (arith, fills.later);
   },
 )
 
 pub fills-to_fault : (g g' g'' l l' l'' : Option (List ℕ)) (f f' f'' : ℕ) (bytes more : List ℕ) (count len part whole n : ℕ) →
-    length bytes ≡ count → Took g g' l l' bytes → f ≤ f' → len ≡ part → count + part ≤ whole →
+    length bytes ≡ count → Took g g' l l' bytes → f' ≡ f → len ≡ part → count + part ≤ whole →
     Fills g' g'' l' l'' f' f'' len (Fault n) more → (x : List ℕ) × Fills g g'' l l'' f f'' whole (Fault (count + n)) x
 fills-to_fault g g' g'' l l' l'' f f' f'' bytes more count len part whole n is took early same within fills = (
   bytes ++ more,
   record {
     took = took_more g g' g'' l l' l'' bytes more took fills.took;
     count = length-append bytes more ∙ omega (arith, fills.count);
-    fewer = (omega (arith, fills.fewer.0), rose_earlier f f' f'' early fills.fewer.1);
+    fewer = (omega (arith, fills.fewer.0), rose_earlier f f' f'' (omega arith) fills.fewer.1);
     later = omega (arith, fills.later);
   },
 )

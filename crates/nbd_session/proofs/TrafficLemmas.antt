@@ -1,5 +1,5 @@
 -- What went between two moments and then between two later ones went between the outer ones.
-use Rattle.std.proofs.Common.{◌≡◌, ℕ, ◌≤◌, List, [], ◌++◌, Option, Some, ap, ◌∙◌, refl, append_assoc, append-nil, sym, ⊎_elim, inl, inr, arith}
+use Rattle.std.proofs.Common.{ℕ, ◌≤◌, List, [], ◌++◌, Option, Some, ap, ◌∙◌, refl, append_assoc, append-nil, sym, ⊎_elim, inl, inr, arith}
 use Rattle.base_terms.specs.Causes.{Rose}
 use Rattle.nbd_session.specs.Traffic.{Took, Sent, HasEnded}
 

@@ -2,6 +2,7 @@ pub mod Counts
 pub mod Moments
 pub mod Negotiation
 pub mod Putting
+pub mod Reading
 pub mod Replies
 pub mod Requests
 pub mod Serving

@@ -1,5 +1,5 @@
 -- The state of a session's source and sink at a moment, and what went between two moments.
-use Rattle.std.specs.Prelude.{ℕ, ◌≡◌, ◌+◌, ◌≤◌, List, [], ◌++◌, length, Option}
+use Rattle.std.specs.Prelude.{ℕ, ◌≡◌, ◌+◌, ◌≤◌, List, ◌++◌, length, Option}
 use Rattle.base_terms.specs.Causes.{Rose}
 use Rattle.nbd_session.specs.declared.ending.Ending.{Ending}
 use Rattle.nbd_session.specs.declared.ending.Ending.TheVariants.{Disconnected, Closed, Unbuilt, TooMany, ReadFault, WriteFault, Memory}
@@ -36,12 +36,16 @@ pub record Traffic (old new : Moment) (taken whole front : List ℕ) : Type 0 wh
   pub counted_in : capped new.taken ≡ capped (old.taken + length taken)
   pub counted_out : capped new.put ≡ capped (old.put + length whole)
 
--- a fault of the source or the sink is told only where its count rose
+-- no count of faults rose between two moments
+abbrev pub NoneRose : Moment → Moment → Type 0
+NoneRose old new = (new.in_faults ≡ old.in_faults) × (new.out_faults ≡ old.out_faults)
+
+-- a session ends by a fault of the source or the sink exactly where its count rose
 abbrev pub HasCauses : Moment → Moment → Ending → Type 0
-HasCauses old new Disconnected = Unit {0}
-HasCauses old new Closed = Unit {0}
-HasCauses old new Unbuilt = Unit {0}
-HasCauses old new (TooMany n) = Unit {0}
-HasCauses old new ReadFault = Rose old.in_faults new.in_faults
-HasCauses old new WriteFault = Rose old.out_faults new.out_faults
-HasCauses old new Memory = Unit {0}
+HasCauses old new Disconnected = NoneRose old new
+HasCauses old new Closed = NoneRose old new
+HasCauses old new Unbuilt = NoneRose old new
+HasCauses old new (TooMany n) = NoneRose old new
+HasCauses old new ReadFault = Rose old.in_faults new.in_faults × (new.out_faults ≡ old.out_faults)
+HasCauses old new WriteFault = (new.in_faults ≡ old.in_faults) × Rose old.out_faults new.out_faults
+HasCauses old new Memory = NoneRose old new

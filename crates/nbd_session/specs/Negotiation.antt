@@ -4,7 +4,7 @@ use Rattle.nbd_session.specs.declared.ending.Ending.{Ending}
 use Rattle.nbd_session.specs.declared.export.Export.{Export}
 use Rattle.nbd_session.specs.declared.messages.TheConstants.{GREETING, HELLO, GO}
 use Rattle.nbd_session.specs.Counts.{capped}
-use Rattle.nbd_session.specs.Moments.{Moment, Traffic, HasCauses}
+use Rattle.nbd_session.specs.Moments.{Moment, Traffic, NoneRose, HasCauses}
 use Rattle.nbd_session.specs.Replies.{go_text}
 use Rattle.nbd_session.specs.Session.{Stage, EndsBefore, IsInput, AnswersOf}
 use Rattle.nbd_session.specs.Taking.{IsStop}
@@ -17,7 +17,7 @@ pub record ExpectIs (old_given new_given old_left new_left : Option (List ℕ)) 
   pub at_end : ended ≡ true → HasEnded old_left new_left
   pub later : old_faults ≤ new_faults
   pub taken : new_taken ≡ capped (old_taken + length bytes)
-  pub by_case : MatchResult result (λ _. bytes ≡ message) (λ ending. IsStop old_faults new_faults ending × EndsBefore message ending ended bytes)
+  pub by_case : MatchResult result (λ _. (bytes ≡ message) × (new_faults ≡ old_faults)) (λ ending. IsStop old_faults new_faults ending × EndsBefore message ending ended bytes)
 
 -- the client agreed on the export, or the session ended before
 pub record Negotiates (export : Export) (old new : Moment) (result : Result (Unit {0}) Ending) (stage : Stage)
@@ -25,5 +25,5 @@ pub record Negotiates (export : Export) (old new : Moment) (result : Result (Uni
   pub traffic : Traffic old new taken whole front
   pub at_end : ended ≡ true → HasEnded old.left new.left
   pub by_case : MatchResult result
-      (λ _. (taken ≡ HELLO ++ GO) × (whole ≡ GREETING ++ go_text export) × (front ≡ []))
+      (λ _. (taken ≡ HELLO ++ GO) × (whole ≡ GREETING ++ go_text export) × (front ≡ []) × NoneRose old new)
       (λ ending. IsInput export stage [] ending ended taken × AnswersOf export ending stage [] whole front × HasCauses old new ending)

@@ -12,5 +12,5 @@ pub record Puts {T : Type 0} (old_had new_had : Option (List ℕ)) (old_faults n
   pub sent : Sent old_had new_had (whole ++ front)
   pub later : old_faults ≤ new_faults
   pub put : new_put ≡ capped (old_put + length whole)
-  pub by_case : MatchResult result (λ _. (whole ≡ text) × (front ≡ []))
+  pub by_case : MatchResult result (λ _. (whole ≡ text) × (front ≡ []) × (new_faults ≡ old_faults))
       (λ _. Rose old_faults new_faults × ((rest : List ℕ) × (text ≡ whole ++ (front ++ rest))))

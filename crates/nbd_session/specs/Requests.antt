@@ -1,10 +1,7 @@
 -- The messages of a session, on whole strings of bytes.
-use Rattle.std.specs.Prelude.{ℕ, ◌≡◌, ◌+◌, ◌-◌, ◌<◌, ◌==◌, Bool, true, false, not, ◌&&◌, ◌||◌, nat_lt, if◌then◌else◌, List, [], ◌∷◌, ◌++◌, length, slice_index, Option, Some, None, is_some, MatchOption, ◌⊎◌}
-use Rattle.std.specs.Int.{w16, w32, w64, from_be_bytes, to_be_bytes}
-use Rattle.plain_disk.specs.declared.operation.Op.{Op}
+use Rattle.std.specs.Prelude.{ℕ, ◌+◌, ◌==◌, not, ◌||◌, nat_lt, if◌then◌else◌, List, [], ◌∷◌, slice_index, Option, Some, None, is_some}
+use Rattle.std.specs.Int.{w16, w32, w64, from_be_bytes}
 use Rattle.plain_disk.specs.declared.operation.Op.TheVariants as Ops
-use Rattle.plain_disk.specs.declared.operation.Reply.{Reply}
-use Rattle.plain_disk.specs.declared.operation.Reply.TheVariants.{Content, Done, Errno}
 use Rattle.plain_disk.specs.Operations.{wrong_of, wrong_range_of}
 use Rattle.nbd_session.specs.declared.export.Export.{Export}
 use Rattle.nbd_session.specs.declared.messages.Request.{Request}

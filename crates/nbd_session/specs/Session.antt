@@ -1,5 +1,5 @@
 -- A whole session, on whole strings of bytes.
-use Rattle.std.specs.Prelude.{ℕ, ◌≡◌, ◌≢◌, ◌+◌, ◌^◌, ◌<◌, ◌≤◌, ◌⊎◌, Bool, true, false, List, [], ◌∷◌, ◌++◌, length, Option, Some, None, MatchOption, if◌then◌else◌}
+use Rattle.std.specs.Prelude.{ℕ, ◌≡◌, ◌≢◌, ◌^◌, ◌<◌, ◌≤◌, ◌⊎◌, Bool, true, false, List, [], ◌∷◌, ◌++◌, length, Some, None, MatchOption, if◌then◌else◌}
 use Rattle.plain_disk.specs.declared.operation.Op.{Op}
 use Rattle.plain_disk.specs.declared.operation.Op.TheVariants as Ops
 use Rattle.plain_disk.specs.declared.operation.Reply.{Reply}
@@ -42,9 +42,9 @@ pub record IsMessage (export : Export) (bytes : List ℕ) (cookie : ℕ) (op : O
   pub size : length head ≡ 28
   pub asks : MatchOption (request_of export head) ⊥ (λ request. AsksFor request body cookie op)
 
--- a request that wasn't submitted is answered that memory was wanted
+-- a request that wasn't submitted is answered that memory was wanted, and nothing of it was tried
 abbrev pub IsAnswered : Turn → Type 0
-IsAnswered turn = turn.submitted ≡ false → turn.reply ≡ Errno 12
+IsAnswered turn = turn.submitted ≡ false → (turn.reply ≡ Errno 12) × (turn.tried ≡ 0)
 
 -- the bytes are these requests, one message after the other
 unfoldable pub Spells : Export → List Turn → List ℕ → Type 0
@@ -65,6 +65,12 @@ unfoldable pub replies_text : List Turn → List ℕ
 replies_text [] = []
 replies_text (turn ∷ turns) = reply_text turn.cookie turn.reply ++ replies_text turns
 
+-- the last reply
+unfoldable pub last_reply : List Turn → List ℕ
+last_reply [] = []
+last_reply (turn ∷ []) = reply_text turn.cookie turn.reply
+last_reply (turn ∷ (next ∷ turns)) = last_reply (next ∷ turns)
+
 -- a front of a message and no more: of its head, or of the bytes behind a write's head
 abbrev pub IsCut : Export → List ℕ → Type 0
 IsCut export bytes =
@@ -73,15 +79,26 @@ IsCut export bytes =
 
 -- The bytes that a session took behind its last request, by its ending. `ended` says that the
 -- source had no more.
-abbrev pub EndsRequests : Export → Ending → Bool → ℕ → List ℕ → Type 0
-EndsRequests export Disconnected ended n bytes = (length bytes ≡ 28) × (request_of export bytes ≡ Some Disconnect)
-EndsRequests export Closed ended n bytes = (bytes ≡ []) × (ended ≡ true)
-EndsRequests export Unbuilt ended n bytes =
+abbrev pub EndsRequests : Export → Ending → Bool → List ℕ → Type 0
+EndsRequests export Disconnected ended bytes = (length bytes ≡ 28) × (request_of export bytes ≡ Some Disconnect)
+EndsRequests export Closed ended bytes = (bytes ≡ []) × (ended ≡ true)
+EndsRequests export Unbuilt ended bytes =
     ((length bytes ≡ 28) × (request_of export bytes ≡ None)) ⊎ ((bytes ≢ []) × (ended ≡ true) × IsCut export bytes)
-EndsRequests export (TooMany m) ended n bytes = (bytes ≡ []) × (m ≡ n) × (n ≡ 2 ^ 32)
-EndsRequests export ReadFault ended n bytes = IsCut export bytes
-EndsRequests export WriteFault ended n bytes = bytes ≡ []
-EndsRequests export Memory ended n bytes = ⊥
+EndsRequests export (TooMany m) ended bytes = bytes ≡ []
+EndsRequests export ReadFault ended bytes = IsCut export bytes
+EndsRequests export WriteFault ended bytes = bytes ≡ []
+EndsRequests export Memory ended bytes = ⊥
+
+-- How many requests a session had, by its ending: the most that one may have only where that ended
+-- it, or where the last reply of so many didn't go out.
+abbrev pub IsCount : Ending → ℕ → Type 0
+IsCount Disconnected n = n < 2 ^ 32
+IsCount Closed n = n < 2 ^ 32
+IsCount Unbuilt n = n < 2 ^ 32
+IsCount (TooMany m) n = (m ≡ n) × (n ≡ 2 ^ 32)
+IsCount ReadFault n = n < 2 ^ 32
+IsCount WriteFault n = n ≤ 2 ^ 32
+IsCount Memory n = ⊥
 
 -- the bytes that a session took where the one message that it waited for didn't come
 abbrev pub EndsBefore : List ℕ → Ending → Bool → List ℕ → Type 0
@@ -91,7 +108,7 @@ EndsBefore message Unbuilt ended bytes =
     ((length bytes ≡ length message) × (bytes ≢ message)) ⊎ ((bytes ≢ []) × (ended ≡ true) × (length bytes < length message))
 EndsBefore message (TooMany n) ended bytes = ⊥
 EndsBefore message ReadFault ended bytes = length bytes < length message
-EndsBefore message WriteFault ended bytes = bytes ≡ []
+EndsBefore message WriteFault ended bytes = ⊥
 EndsBefore message Memory ended bytes = ⊥
 
 -- how far a session came: to the client's flags, to the option, or to the requests
@@ -100,14 +117,16 @@ pub data Stage : Type 0 where
   agreed : Stage
   served : Stage
 
--- all that a session took, by its stage, its requests and its ending
+-- all that a session took, by its stage, its requests and its ending; nothing where the greeting
+-- didn't go out
 abbrev pub IsInput : Export → Stage → List Turn → Ending → Bool → List ℕ → Type 0
-IsInput export greeted turns ending ended taken = (turns ≡ []) × EndsBefore HELLO ending ended taken
+IsInput export greeted turns ending ended taken =
+    (turns ≡ []) × (((ending ≡ WriteFault) × (taken ≡ [])) ⊎ EndsBefore HELLO ending ended taken)
 IsInput export agreed turns ending ended taken =
     (turns ≡ []) × ((bytes : List ℕ) × (taken ≡ HELLO ++ bytes) × EndsBefore GO ending ended bytes)
 IsInput export served turns ending ended taken =
     (text : List ℕ) × (bytes : List ℕ) × (taken ≡ HELLO ++ (GO ++ (text ++ bytes)))
-    × Spells export turns text × EndsRequests export ending ended (length turns) bytes
+    × Spells export turns text × EndsRequests export ending ended bytes × IsCount ending (length turns)
 
 -- all that a session answers, by its stage and its requests
 abbrev pub answers : Export → Stage → List Turn → List ℕ
@@ -115,18 +134,28 @@ answers export greeted turns = GREETING
 answers export agreed turns = GREETING
 answers export served turns = GREETING ++ (go_text export ++ replies_text turns)
 
--- all of a text went out; where the sink failed, a front of it
-abbrev pub GoesOut : Ending → List ℕ → List ℕ → List ℕ → Type 0
-GoesOut Disconnected text whole front = (whole ≡ text) × (front ≡ [])
-GoesOut Closed text whole front = (whole ≡ text) × (front ≡ [])
-GoesOut Unbuilt text whole front = (whole ≡ text) × (front ≡ [])
-GoesOut (TooMany n) text whole front = (whole ≡ text) × (front ≡ [])
-GoesOut ReadFault text whole front = (whole ≡ text) × (front ≡ [])
-GoesOut WriteFault text whole front = (rest : List ℕ) × (text ≡ whole ++ (front ++ rest))
-GoesOut Memory text whole front = (whole ≡ text) × (front ≡ [])
+-- the last message that a session answers
+abbrev pub last_answer : Export → Stage → List Turn → List ℕ
+last_answer export greeted turns = GREETING
+last_answer export agreed turns = GREETING
+last_answer export served [] = go_text export
+last_answer export served (turn ∷ turns) = last_reply (turn ∷ turns)
+
+-- All of a text went out; where the sink failed, a front of it, which lacks no more than the last
+-- message.
+abbrev pub GoesOut : Ending → List ℕ → List ℕ → List ℕ → List ℕ → Type 0
+GoesOut Disconnected last text whole front = (whole ≡ text) × (front ≡ [])
+GoesOut Closed last text whole front = (whole ≡ text) × (front ≡ [])
+GoesOut Unbuilt last text whole front = (whole ≡ text) × (front ≡ [])
+GoesOut (TooMany n) last text whole front = (whole ≡ text) × (front ≡ [])
+GoesOut ReadFault last text whole front = (whole ≡ text) × (front ≡ [])
+GoesOut WriteFault last text whole front =
+    (rest : List ℕ) × (text ≡ whole ++ (front ++ rest)) × (length (front ++ rest) ≤ length last)
+GoesOut Memory last text whole front = ⊥
 
 abbrev pub AnswersOf : Export → Ending → Stage → List Turn → List ℕ → List ℕ → Type 0
-AnswersOf export ending stage turns whole front = GoesOut ending (answers export stage turns) whole front
+AnswersOf export ending stage turns whole front =
+    GoesOut ending (last_answer export stage turns) (answers export stage turns) whole front
 
 -- what a session took and put, and the requests that it answered
 pub record Log : Type 0 where

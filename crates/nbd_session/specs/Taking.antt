@@ -15,9 +15,9 @@ use Rattle.nbd_session.specs.Traffic.{Took, HasEnded}
 
 -- the bytes behind the head of a write, of which `len` were wanted
 abbrev pub BodyCase : Option (List ℕ) → Option (List ℕ) → ℕ → ℕ → ℕ → Body → List ℕ → Type 0
-BodyCase old_left new_left before now len (Bodies.Whole body) bytes = (body ≡ bytes) × (length bytes ≡ len)
-BodyCase old_left new_left before now len Bodies.Short bytes = length bytes ≡ len
-BodyCase old_left new_left before now len Bodies.Ended bytes = (length bytes < len) × HasEnded old_left new_left
+BodyCase old_left new_left before now len (Bodies.Whole body) bytes = (body ≡ bytes) × (length bytes ≡ len) × (now ≡ before)
+BodyCase old_left new_left before now len Bodies.Short bytes = (length bytes ≡ len) × (now ≡ before)
+BodyCase old_left new_left before now len Bodies.Ended bytes = (length bytes < len) × HasEnded old_left new_left × (now ≡ before)
 BodyCase old_left new_left before now len Bodies.Fault bytes = (length bytes < len) × Rose before now
 
 pub record BodyIs (old_given new_given old_left new_left : Option (List ℕ)) (old_faults new_faults : ℕ)
@@ -27,20 +27,20 @@ pub record BodyIs (old_given new_given old_left new_left : Option (List ℕ)) (o
   pub taken : new_taken ≡ capped (old_taken + length bytes)
   pub by_case : BodyCase old_left new_left old_faults new_faults len result bytes
 
--- endings that the input alone brings; a fault of the source has its cause
+-- endings that the source alone brings; a fault of it is told exactly where its count rose
 abbrev pub IsStop : ℕ → ℕ → Ending → Type 0
-IsStop before now Disconnected = Unit {0}
-IsStop before now Closed = Unit {0}
-IsStop before now Unbuilt = Unit {0}
+IsStop before now Disconnected = now ≡ before
+IsStop before now Closed = now ≡ before
+IsStop before now Unbuilt = now ≡ before
 IsStop before now (TooMany n) = ⊥
 IsStop before now ReadFault = Rose before now
 IsStop before now WriteFault = ⊥
 IsStop before now Memory = ⊥
 
 abbrev pub NextCase : Export → ℕ → ℕ → Next → List ℕ → Bool → Type 0
-NextCase export before now (Ask cookie op) bytes ended = IsMessage export bytes cookie op
-NextCase export before now (Short cookie) bytes ended = (op : Op) × IsMessage export bytes cookie op
-NextCase export before now (Stop ending) bytes ended = IsStop before now ending × ((n : ℕ) → EndsRequests export ending ended n bytes)
+NextCase export before now (Ask cookie op) bytes ended = IsMessage export bytes cookie op × (now ≡ before)
+NextCase export before now (Short cookie) bytes ended = (op : Op) × IsMessage export bytes cookie op × (now ≡ before)
+NextCase export before now (Stop ending) bytes ended = IsStop before now ending × EndsRequests export ending ended bytes
 
 -- these bytes were taken, and this is what came
 pub record NextIs (export : Export) (old_given new_given old_left new_left : Option (List ℕ)) (old_faults new_faults : ℕ)

@@ -1,5 +1,5 @@
 -- What went from a source and to a sink between two moments, where they tell it.
-use Rattle.std.specs.Prelude.{ℕ, ◌≡◌, ◌<◌, ◌≤◌, List, [], ◌++◌, length, take, Option, Some}
+use Rattle.std.specs.Prelude.{ℕ, ◌≡◌, ◌<◌, ◌≤◌, List, [], ◌++◌, length, Option, Some}
 use Rattle.base_terms.specs.Causes.{Rose}
 use Rattle.nbd_session.specs.declared.filling.Filled.{Filled}
 use Rattle.nbd_session.specs.declared.filling.Filled.TheVariants.{Whole, Ended, Fault}
@@ -25,8 +25,8 @@ filled_of len (Fault n) = n
 
 -- fewer came than were wanted only at the end of the input, or where the source failed
 abbrev pub FillsOr : ℕ → Option (List ℕ) → Option (List ℕ) → ℕ → ℕ → Filled → Type 0
-FillsOr len old_left new_left before now Whole = Unit {0}
-FillsOr len old_left new_left before now (Ended n) = (n < len) × HasEnded old_left new_left
+FillsOr len old_left new_left before now Whole = now ≡ before
+FillsOr len old_left new_left before now (Ended n) = (n < len) × HasEnded old_left new_left × (now ≡ before)
 FillsOr len old_left new_left before now (Fault n) = (n < len) × Rose before now
 
 -- `len` bytes were wanted, and these were taken

@@ -3,7 +3,8 @@
 //! writes and flushes, each of which is submitted to a port and answered by a simple reply. The
 //! layer above may rely on one clause of `serve_session`: the bytes that were put are the answers
 //! to the bytes that were taken and the port's replies, however the bytes came in pieces, and the
-//! operations that the port was asked are those of the bytes, in order.
+//! operations that the port was asked are those of the bytes, in order. By `reading_is_unique` the
+//! bytes leave no choice in what was asked and how the session ended.
 #![tactic(auto)]
 
 mod ending;
@@ -12,12 +13,16 @@ mod filling;
 mod messages;
 mod negotiation;
 mod port;
+mod reading;
 mod replies;
 mod requests;
 mod session;
 mod tally;
+#[cfg(test)]
+mod tests;
 
 pub use ending::{Ending, SessionEnd};
 pub use export::Export;
 pub use port::Port;
+pub use reading::reading_is_unique;
 pub use session::serve_session;

@@ -20,8 +20,11 @@ const NO_MEMORY: u32 = 12;
 
 /// Serves one client to its end. What was put is the greeting, the reply to GO and a simple reply
 /// for each request, in order; what the port was asked are the operations of the requests, but for
-/// those that were answered 12 for want of memory, in order. `ReadFault` and `WriteFault` come only
-/// where the source's, or the sink's, count of faults rose.
+/// those that were answered 12 for want of memory, in order. Of the source it takes the bytes up to
+/// the message that ends the session, and no more. It ends with `ReadFault` exactly where the
+/// source's count of faults rose, and with `WriteFault` exactly where the sink's did; then at most
+/// the last message, or a rear of it, is missing. With `TooMany` it ends exactly after the `2^32`nd
+/// reply.
 pub fn serve_session<S: Source, K: Sink, P: Port>(
     alloc: Global,
     source: &mut S,
@@ -96,7 +99,7 @@ fn serve_request<S: Source, K: Sink, P: Port>(
     ensures { (turns : List Turn) × (taken : List ℕ) × (whole : List ℕ) × (front : List ℕ) × (ended : Bool)
         × (result ≡ None → length turns ≡ 1)
         × P.did port.old port.new (exchanges_of turns)
-        × ((n : ℕ) → Serves export.now n
+        × ((n : ℕ) → n < 2 ^ 32 → Serves export.now n
         (moment (S.given source.old) (S.left source.old) (K.had sink.old) (S.faults source.old) (K.faults sink.old) tally.old.taken tally.old.put)
         (moment (S.given source.new) (S.left source.new) (K.had sink.new) (S.faults source.new) (K.faults sink.new) tally.new.taken tally.new.put)
         result turns taken whole front ended) }

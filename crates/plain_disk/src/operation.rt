@@ -66,3 +66,47 @@ pub fn wrong_range(atom: u32, size: u64, offset: u64, length: u64, past: u32) ->
     }
     None
 }
+
+#[cfg(test)]
+mod tests {
+    use super::*;
+    use std::test::Fail;
+
+    const ATOM: u32 = 512;
+
+    const SIZE: u64 = 8192;
+
+    #[test]
+    fn a_range_is_refused_with_its_number(rt: HostRuntime) -> Result<(), Fail> {
+        for (offset, length, read, write) in [
+            (0, 512, None, None),
+            (7680, 512, None, None),
+            (8192, 0, None, None),
+            (8192, 512, Some(22), Some(28)),
+            (u64::MAX - 511, 512, Some(22), Some(28)),
+            (1, 512, Some(22), Some(22)),
+            (8193, 512, Some(22), Some(22)),
+            (0, 513, Some(22), Some(22)),
+        ] {
+            let op = Op::Read { offset, length };
+            assert_eq!(rt; wrong(&op, ATOM, SIZE), read, "read at {offset}");
+            let body = Bytes::new(vec![in rt.alloc(); 0u8; length as usize]?);
+            let op = Op::Write {
+                offset,
+                body,
+                fua: true,
+            };
+            assert_eq!(rt; wrong(&op, ATOM, SIZE), write, "write at {offset}");
+        }
+        assert_eq!(rt; wrong(&Op::Flush, ATOM, 0), None);
+        Ok(())
+    }
+
+    #[test]
+    fn a_read_has_its_most(rt: HostRuntime) {
+        for (length, number) in [(MAX_READ, None), (33_554_944, Some(22))] {
+            let op = Op::Read { offset: 0, length };
+            assert_eq!(rt; wrong(&op, ATOM, 1 << 30), number, "read of {length}");
+        }
+    }
+}

@@ -1,4 +1,4 @@
-use Rattle.std.proofs.Common.{◌≤◌, ◌-◌, length, take}
+use Rattle.std.proofs.Common.{◌≡◌, ◌≤◌, ◌-◌, length, take}
 use Rattle.nbd_session.specs.Traffic.{Took}
 use Rattle.nbd_session.proofs.filling.fill.Given as goal
 
@@ -7,7 +7,7 @@ invariant-loop-count g l = record {
   inside : l.count ≤ length l.buf;
   took : Took (g.S.Source.given l.initial.source) (g.S.Source.given l.source) (g.S.Source.left l.initial.source)
       (g.S.Source.left l.source) (take l.count l.buf);
-  later : g.S.Source.faults l.initial.source ≤ g.S.Source.faults l.source;
+  held : g.S.Source.faults l.source ≡ g.S.Source.faults l.initial.source;
 }
 
 abbrev pub decreases-loop-count : goal.decreases-loop-count

@@ -15,17 +15,17 @@ loop-count-preserved g c = record {
   );
   took = fills-whole _ _ _ _ _ _ _ _ _ _ c.loop-count.count _ c.min-part.result c.loop-count.invariant.took.1 c.loop-count.invariant.took.2
       (c.fill.auto.buf ∙ length-take-le c.min-part.result c.loop-count.buf (omega (arith, c.min-part.ensures, c.loop-count.invariant.buffer))) c.in-Whole.ensures;
-  later = omega (arith, c.fill.ensures.later);
+  held = omega (arith, c.in-Whole.ensures.fewer);
 }
 
 pub returns-in-Ended : goal.returns-in-Ended
 returns-in-Ended g c =
     fills-to_end _ _ _ _ _ _ _ (g.S.Source.faults c.loop-count.source) _ _ _ c.loop-count.count _ c.min-part.result c.args.length c.in-Ended.n c.loop-count.invariant.took.1 c.loop-count.invariant.took.2
-    c.loop-count.invariant.later
+    c.loop-count.invariant.held
     (c.fill.auto.buf ∙ length-take-le c.min-part.result c.loop-count.buf (omega (arith, c.min-part.ensures, c.loop-count.invariant.buffer))) (omega arith) c.in-Ended.ensures
 
 pub returns-in-Fault : goal.returns-in-Fault
 returns-in-Fault g c =
     fills-to_fault _ _ _ _ _ _ _ (g.S.Source.faults c.loop-count.source) _ _ _ c.loop-count.count _ c.min-part.result c.args.length c.in-Fault.n c.loop-count.invariant.took.1 c.loop-count.invariant.took.2
-    c.loop-count.invariant.later
+    c.loop-count.invariant.held
     (c.fill.auto.buf ∙ length-take-le c.min-part.result c.loop-count.buf (omega (arith, c.min-part.ensures, c.loop-count.invariant.buffer))) (omega arith) c.in-Fault.ensures

@@ -8,7 +8,7 @@ invariant-loop-count g l = record {
   buffer : length l.buf ≡ 4096;
   took : (bytes : List ℕ) × (length bytes ≡ l.count)
       × Took (g.S.Source.given l.initial.source) (g.S.Source.given l.source) (g.S.Source.left l.initial.source) (g.S.Source.left l.source) bytes;
-  later : g.S.Source.faults l.initial.source ≤ g.S.Source.faults l.source;
+  held : g.S.Source.faults l.source ≡ g.S.Source.faults l.initial.source;
 }
 
 abbrev pub decreases-loop-count : goal.decreases-loop-count

@@ -1,6 +1,8 @@
-use Rattle.nbd_session.proofs.NegotiationLemmas.{stops-greeted, stops-agreed, goes-on, stops-served}
-use Rattle.nbd_session.specs.Replies.{go_text}
+use Rattle.nbd_session.proofs.NegotiationLemmas.{stops-silent, stops-greeted, stops-agreed, goes-on, stops-served}
 use Rattle.nbd_session.proofs.negotiation.negotiate.Goals as goal
+
+pub returns-in-Err : goal.returns-in-Err
+returns-in-Err g c = stops-silent c.args.export.now _ _ _ _ _ _ _ _ _ _ c.in-Err.field-0 c.in-Err.ensures
 
 pub returns-in-Err-expect : goal.returns-in-Err-expect
 returns-in-Err-expect g c = stops-greeted c.args.export.now _ _ _ _ _ _ _ _ _ _ _ _ _ _ c.in-Err-expect.ending c.in-Ok.ensures c.in-Err-expect.ensures

@@ -1,7 +1,7 @@
-use Rattle.std.proofs.Common.{◌≡◌, ◌+◌, ◌∙◌, sym, ap, Some}
+use Rattle.std.proofs.Common.{◌+◌, ◌∙◌, sym, ap, Some}
 use Rattle.nbd_session.specs.Counts.{capped}
 use Rattle.nbd_session.specs.Traffic.{filled_of}
-use Rattle.nbd_session.proofs.RequestLemmas.{HeadTaken, next-whole, next-short, next-ended, next-fault}
+use Rattle.nbd_session.proofs.RequestLemmas.{next-whole, next-short, next-ended, next-fault}
 use Rattle.nbd_session.proofs.requests.next_request.Goals as goal
 
 pub returns-in-Whole-take_body : goal.returns-in-Whole-take_body

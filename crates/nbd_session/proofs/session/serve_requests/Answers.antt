@@ -19,7 +19,7 @@ returns-in-Some g c =
       new.4,
       subst (λ (done : List Exchange). g.P.Port.did c.args.port.now c.serve_request.new.port done) (sym (exchanges_of-append old.0 new.0))
           (g.met.P.Port.did_more c.args.port.now c.loop-number.port c.serve_request.new.port (exchanges_of old.0) (exchanges_of new.0) old.4 new.6),
-      serves-more c.args.export.now _ _ _ (Some c.in-Some.ending) 0 (length old.0) old.0 new.0 old.1 new.1 old.2 new.2 new.3 new.4 old.5 (omega arith) (new.7 (length old.0)),
+      serves-more c.args.export.now _ _ _ (Some c.in-Some.ending) 0 (length old.0) old.0 new.0 old.1 new.1 old.2 new.2 new.3 new.4 old.5 (omega arith) (new.7 (length old.0) (omega (arith, old.3))),
     )
 
 pub loop-number-preserved : goal.loop-number-preserved
@@ -34,7 +34,7 @@ loop-number-preserved g c =
         omega (arith, length-append old.0 new.0, old.3, new.5 refl),
         subst (λ (done : List Exchange). g.P.Port.did c.args.port.now c.serve_request.new.port done) (sym (exchanges_of-append old.0 new.0))
             (g.met.P.Port.did_more c.args.port.now c.loop-number.port c.serve_request.new.port (exchanges_of old.0) (exchanges_of new.0) old.4 new.6),
-        serves-goes_on c.args.export.now _ _ _ (length old.0) old.0 new.0 old.1 new.1 old.2 new.2 new.3 new.4 old.5 (omega arith) (new.7 (length old.0)),
+        serves-goes_on c.args.export.now _ _ _ (length old.0) old.0 new.0 old.1 new.1 old.2 new.2 new.3 new.4 old.5 (omega arith) (new.7 (length old.0) (omega (arith, old.3))),
       );
     }
 

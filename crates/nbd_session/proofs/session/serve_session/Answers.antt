@@ -1,5 +1,5 @@
-use Rattle.std.proofs.Common.{List, [], refl, arith}
-use Rattle.nbd_session.specs.Session.{Log, exchanges_of}
+use Rattle.std.proofs.Common.{[], refl}
+use Rattle.nbd_session.specs.Session.{exchanges_of}
 use Rattle.nbd_session.proofs.SessionLemmas.{session-early, session-served, session-told, served-log}
 use Rattle.nbd_session.proofs.session.serve_session.Goals as goal
 
