@@ -1,0 +1,4 @@
+pub mod DealLemmas
+pub mod NameLemmas
+pub mod ShareLemmas
+pub mod TellLemmas

@@ -1,0 +1,4 @@
+pub mod Bays
+pub mod Memory
+pub mod Names
+pub mod Stories

@@ -1,0 +1,19 @@
+//! Where a command gets its disks, keys and clients from. A bay gives disks and key files by name,
+//! and links by an address; a link gives connections, each a source and a sink, and takes them back
+//! when their sessions have ended. Each counts its faults, and answers `Failed` only where that count
+//! rose. A bay and its links in memory tell what they hold: the inputs to come, and of each
+//! connection that was handed back the bytes that were taken and put.
+#![tactic(auto)]
+
+mod bay;
+mod link;
+mod mem_bay;
+mod mem_link;
+mod names;
+#[cfg(test)]
+mod tests;
+
+pub use bay::{Bay, BayFault};
+pub use link::Link;
+pub use mem_bay::MemBay;
+pub use mem_link::MemLink;
