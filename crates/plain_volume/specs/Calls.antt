@@ -22,11 +22,12 @@ pub record Made : Type 0 where
   pub call : Call
   pub succeeded : Bool
 
+-- the result of a call
 abbrev pub outcome : Bool → Result (Unit {0}) Failed
 outcome true = Ok tt
 outcome false = Err (record {})
 
--- the most bytes of one piece
+-- how many bytes the next piece has, where so many are left: at most 1 MiB
 abbrev pub piece_of : ℕ → ℕ
 piece_of len = min len 1048576
 
@@ -40,7 +41,9 @@ unfoldable pub ReadsPieces : ℕ → ℕ → ℕ → List Made → Type 0
 ReadsPieces atom at len [] = len ≡ 0
 ReadsPieces atom at len (made ∷ calls) =
     (0 < len) × (made.call ≡ reads at (piece_of len))
-    × MatchBool made.succeeded (ReadsPieces atom (at + piece_of len / atom) (len - piece_of len) calls) (calls ≡ [])
+    × MatchBool made.succeeded
+    (ReadsPieces atom (at + piece_of len / atom) (len - piece_of len) calls)
+    (calls ≡ [])
 
 -- the calls write a body from atom `at` on in pieces, up to the first call that fails, and then sync
 -- where the write is to be kept for certain
@@ -50,7 +53,9 @@ WritesPieces atom at body syncing (made ∷ calls) =
     MatchBool (length body == 0)
     ((syncing ≡ true) × (made.call ≡ syncs) × (calls ≡ []))
     ((made.call ≡ writes at (take 1048576 body))
-    × MatchBool made.succeeded (WritesPieces atom (at + piece_of (length body) / atom) (drop 1048576 body) syncing calls) (calls ≡ []))
+    × MatchBool made.succeeded
+    (WritesPieces atom (at + piece_of (length body) / atom) (drop 1048576 body) syncing calls)
+    (calls ≡ []))
 
 -- how many bytes a call tried to write
 abbrev pub tried_in : Call → ℕ
@@ -69,17 +74,20 @@ IsContent len (Content bytes) = length bytes ≡ len
 IsContent len Done = ⊥
 IsContent len (Errno number) = ⊥
 
--- an operation of an unbroken volume makes these calls; it is answered 5 exactly where one failed
+-- an operation of an unbroken volume makes these calls, and is answered 5 exactly where one failed; of
+-- a write `n` bytes were tried; and a failed write or sync breaks the volume
 unfoldable pub MakesOp : ℕ → Op → Reply → ℕ → List Made → Bool → Type 0
 MakesOp atom (Read offset len) reply n calls broken =
-    ReadsPieces atom (offset / atom) len calls × MatchBool (all_succeeded calls) (IsContent len reply) (reply ≡ Errno 5)
+    ReadsPieces atom (offset / atom) len calls
+    × MatchBool (all_succeeded calls) (IsContent len reply) (reply ≡ Errno 5)
     × (n ≡ 0) × (broken ≡ false)
 MakesOp atom (Write offset body fua) reply n calls broken =
     WritesPieces atom (offset / atom) body (fua && not (length body == 0)) calls
     × MatchBool (all_succeeded calls) (reply ≡ Done) (reply ≡ Errno 5)
     × (n ≡ tried_of calls) × (broken ≡ not (all_succeeded calls))
 MakesOp atom Flush reply n calls broken =
-    (made : Made) × (calls ≡ made ∷ []) × (made.call ≡ syncs) × (reply ≡ (if made.succeeded then Done else Errno 5))
+    (made : Made) × (calls ≡ made ∷ []) × (made.call ≡ syncs)
+    × (reply ≡ (if made.succeeded then Done else Errno 5))
     × (n ≡ 0) × (broken ≡ not made.succeeded)
 
 -- an operation that is wrong, or finds the volume broken, makes no call
@@ -101,14 +109,16 @@ MakesAll atom atoms old (exchange ∷ exchanges) calls new =
 -- what one call does to the tables
 unfoldable pub TellsCall : ℕ → Option Told → Option Told → Call → Bool → Type 0
 TellsCall atom old new (reads at len) succeeded = TellsRead old new (outcome succeeded)
-TellsCall atom old new (writes at body) succeeded = TellsWrite atom at body old new (outcome succeeded)
+TellsCall atom old new (writes at body) succeeded =
+    TellsWrite atom at body old new (outcome succeeded)
 TellsCall atom old new syncs succeeded = TellsSync old new (outcome succeeded)
 
 -- what calls do to the tables, one after the other
 unfoldable pub TellsCalls : ℕ → Option Told → Option Told → List Made → Type 0
 TellsCalls atom old new [] = new ≡ old
 TellsCalls atom old new (made ∷ calls) =
-    (middle : Option Told) × TellsCall atom old middle made.call made.succeeded × TellsCalls atom middle new calls
+    (middle : Option Told) × TellsCall atom old middle made.call made.succeeded
+    × TellsCalls atom middle new calls
 
 -- what calls do to the count of faults, one after the other
 unfoldable pub CountsCalls : ℕ → ℕ → List Made → Type 0

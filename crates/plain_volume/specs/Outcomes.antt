@@ -9,7 +9,7 @@ use Rattle.plain_disk.specs.Plain.{Exchange}
 use Rattle.sector_disk.specs.Cells.{Cell}
 use Rattle.sector_disk.specs.Steps.{Told}
 use Rattle.plain_volume.specs.Calls.{Made, MakesAll, TellsCalls}
-use Rattle.plain_volume.specs.Volume.{Volume}
+use Rattle.plain_volume.specs.Volume.{VolumeState}
 
 -- some operation was answered by an error of the device
 unfoldable pub HasDeviceError : List Exchange → Type 0
@@ -35,11 +35,22 @@ IsServed (Read offset len) (Errno number) = ⊥
 IsServed (Write offset body fua) reply = reply ≡ Done
 IsServed Flush reply = reply ≡ Done
 
+-- a content answers a read and has its length; a write or a flush is done
+abbrev pub IsReplyTo : Reply → Op → Type 0
+IsReplyTo (Errno number) op = Unit {0}
+IsReplyTo (Content bytes) (Read offset len) = length bytes ≡ len
+IsReplyTo (Content bytes) (Write offset body fua) = ⊥
+IsReplyTo (Content bytes) Flush = ⊥
+IsReplyTo Done (Read offset len) = ⊥
+IsReplyTo Done (Write offset body fua) = Unit {0}
+IsReplyTo Done Flush = Unit {0}
+
 -- each operation on a disk of `size` bytes was served, or refused with its number where it is wrong
 unfoldable pub AreServed : ℕ → ℕ → List Exchange → Type 0
 AreServed atom size [] = Unit {0}
 AreServed atom size (exchange ∷ exchanges) =
-    MatchOption (wrong_of atom size exchange.op) (IsServed exchange.op exchange.reply) (λ number. exchange.reply ≡ Errno number)
+    MatchOption (wrong_of atom size exchange.op) (IsServed exchange.op exchange.reply)
+    (λ number. exchange.reply ≡ Errno number)
     × AreServed atom size exchanges
 
 -- a write or a flush
@@ -61,7 +72,7 @@ AreSettled (cell ∷ cells) = (cell.candidates ≡ cell.current ∷ []) × AreSe
 
 -- at a moment after the calls of the earlier operations, and before those of the later ones, each
 -- atom held its current value for certain
-pub record SettledBetween (old new : Volume) (earlier later : List Exchange) : Type 0 where
+pub record SettledBetween (old new : VolumeState) (earlier later : List Exchange) : Type 0 where
   pub moment : Told
   pub settled : AreSettled moment.now
   pub first : List Made

@@ -6,11 +6,18 @@
 #![tactic(auto)]
 
 mod laws;
-mod pieces;
 mod plain_volume;
+mod reading;
+mod writing;
 
 pub use laws::{
     errors_have_causes, failures_break, histories_join, serves_without_faults, starts_settled,
     stays_broken, syncs_settle,
 };
 pub use plain_volume::PlainVolume;
+
+/// The most bytes of one device call.
+pub const PIECE: usize = 1_048_576;
+
+#[cfg(test)]
+mod tests;

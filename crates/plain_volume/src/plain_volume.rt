@@ -1,8 +1,11 @@
-ghost use Rattle.std.specs.Prelude.{◌≡◌, false, ℕ, IfOk, OnErr, List, [], ◌∷◌};
-ghost use Rattle.plain_volume.specs.Carried.{IsReadyFor, CarriedOut};
-ghost use Rattle.plain_volume.specs.Volume.{Volume, Did};
+ghost use Rattle.std.specs.Prelude.{◌≡◌, ◌*◌, ◌^◌, ◌<◌, false, ℕ, IfOk, OnErr, List, [], ◌∷◌};
+ghost use Rattle.sector_disk.specs.Geometry.{IsAtom};
+ghost use Rattle.plain_volume.specs.Carried.{IsReadyFor, TakesMemory, CarriedOut};
+ghost use Rattle.plain_volume.specs.Outcomes.{IsReplyTo};
+ghost use Rattle.plain_volume.specs.Volume.{VolumeState, Did};
 
-use crate::pieces::{read_pieces, write_pieces};
+use crate::reading::read_pieces;
+use crate::writing::write_pieces;
 use base_terms::{Bytes, Failed};
 use plain_disk::{Op, Reply, wrong};
 use sector_disk::Disk;
@@ -20,7 +23,7 @@ pub struct PlainVolume<D: Disk> {
 }
 
 impl<D: Disk> Model for PlainVolume<D> {
-    ghost Value = { Volume };
+    ghost Value = { VolumeState };
 
     ghost view = { λ v. record {
       atom = D.size v.disk;
@@ -52,9 +55,18 @@ impl<D: Disk> PlainVolume<D> {
 
     /// How many bytes an atom has, 512 or 4096.
     pub fn atom(&self) -> u32
-        ensures { result ≡ self.now.atom }
+        ensures is { result ≡ self.now.atom }
+        ensures known { IsAtom result }
     {
         self.disk.atom()
+    }
+
+    /// How many bytes there are.
+    pub fn size(&self) -> u64
+        ensures is { result ≡ self.now.atoms * self.now.atom }
+        ensures fits { result < 2 ^ 63 }
+    {
+        self.disk.atoms() * u64::from(self.disk.atom())
     }
 
     /// Whether a write or a sync has failed. Such a volume answers every operation with an error.
@@ -76,15 +88,23 @@ impl<D: Disk> PlainVolume<D> {
         disk
     }
 
-    /// Executes one operation in pieces.
+    /// Executes one operation, in pieces of at most `PIECE` bytes, and answers it.
+    ///
+    /// An operation that is wrong is refused with its number. Else a broken volume answers error 5
+    /// and makes no device call. Else the pieces are read or written in order, up to the first that
+    /// fails; a write with `fua`, and a flush, end in a sync. The reply is error 5 exactly where one
+    /// of these calls failed, and a failed write or sync breaks the volume.
+    ///
+    /// Only a read takes memory, for its content and before it makes a call. Where there is none,
+    /// nothing was done.
     pub fn perform(&mut self, alloc: Global, op: &Op) -> Result<Reply, AllocError>
-        ensures did { IfOk result
-            (λ reply. (n : ℕ) × Did self.old self.new (record { op = op.now; reply = reply; tried = n } ∷ [])) }
+        ensures did { IfOk result (λ reply. (n : ℕ)
+            × Did self.old self.new (record { op = op.now; reply = reply; tried = n } ∷ [])) }
+        ensures reply { IfOk result (λ reply. IsReplyTo reply op.now) }
         ensures err { OnErr result (self.new ≡ self.old) }
+        ensures memory { OnErr result (IsReadyFor self.old op.now × TakesMemory op.now) }
     {
-        let atom = self.disk.atom();
-        let size = self.disk.atoms() * u64::from(atom);
-        if let Some(number) = wrong(op, atom, size) {
+        if let Some(number) = wrong(op, self.atom(), self.size()) {
             return Ok(Reply::Errno(number));
         }
         if self.broken {
@@ -99,7 +119,8 @@ impl<D: Disk> PlainVolume<D> {
 
     fn read(&mut self, alloc: Global, offset: u64, length: u32) -> Result<Reply, AllocError>
         requires { IsReadyFor self.old (Op.Read offset length) }
-        ensures carried_out { IfOk result (λ reply. CarriedOut self.old self.new (Op.Read offset length) reply) }
+        ensures carried_out { IfOk result
+            (λ reply. CarriedOut self.old self.new (Op.Read offset length) reply) }
         ensures err { OnErr result (self.new ≡ self.old) }
     {
         let mut bytes = vec![in alloc; 0u8; length as usize]?;
