@@ -1,4 +1,4 @@
-ghost use Rattle.std.specs.Prelude.{◌≡◌, ℕ, List, length};
+ghost use Rattle.std.specs.Prelude.{◌≡◌, ◌==◌, ℕ, List, length};
 
 use std::marker::Model;
 
@@ -33,7 +33,14 @@ impl Bytes {
     pub fn len(&self) -> usize
         ensures { result ≡ length self.now }
     {
-        self.vec.as_slice().len()
+        self.vec.len()
+    }
+
+    /// Whether there is no byte.
+    pub fn is_empty(&self) -> bool
+        ensures { result ≡ (length self.now == 0) }
+    {
+        self.vec.is_empty()
     }
 
     /// The vector of the bytes.
@@ -42,5 +49,23 @@ impl Bytes {
     {
         let Bytes { vec } = self;
         vec
+    }
+}
+
+#[cfg(test)]
+mod tests {
+    use super::*;
+    use std::test::Fail;
+
+    #[test]
+    fn bytes_are_those_of_the_vector(rt: HostRuntime) -> Result<(), Fail> {
+        for (text, is_empty) in [(b"".as_slice(), true), (b"abc".as_slice(), false)] {
+            let bytes = Bytes::new(text.to_vec(rt.alloc())?);
+            assert_eq!(rt; bytes.len(), text.len());
+            assert_eq!(rt; bytes.is_empty(), is_empty);
+            assert_eq!(rt; bytes.as_slice(), text);
+            assert_eq!(rt; bytes.into_vec().as_slice(), text);
+        }
+        Ok(())
     }
 }

@@ -1,6 +1,7 @@
 -- What a source gives, a sink takes and seeds draw, where they tell it.
 use Rattle.std.specs.Prelude.{ℕ, ◌≡◌, ◌+◌, ◌≤◌, ◌<◌, ◌⊎◌, List, [], ◌++◌, length, take, drop, Option, Some, Result, MatchResult, OnOk, slice_index}
 use Rattle.base_terms.specs.declared.failed.Failed.{Failed}
+use Rattle.io_edge.specs.FaultPlan.{counted}
 
 -- of what was left, the first n bytes went to the front of the buffer, the rest of which stands
 pub record Gives (left : List ℕ) (now : Option (List ℕ)) (before after : List ℕ) (n : ℕ) : Type 0 where
@@ -29,3 +30,7 @@ Puts old new bytes result =
 pub record Draws {T : Type 0} (old new : ℕ → Option ℕ) (after : List ℕ) (result : Result T Failed) : Type 0 where
   pub drawn : OnOk result ((k byte : ℕ) → k < length after → old k ≡ Some byte → slice_index after k ≡ byte)
   pub goes_on : MatchResult result (λ _. (k : ℕ) → new k ≡ old (length after + k)) (λ _. (k : ℕ) → new k ≡ old k)
+
+-- the count of faults rises by one at a failure, up to its last value, and stands otherwise
+abbrev pub Counts : {T : Type 0} → ℕ → ℕ → Result T Failed → Type 0
+Counts before now result = MatchResult result (λ _. now ≡ before) (λ _. now ≡ counted before)

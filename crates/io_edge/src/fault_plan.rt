@@ -46,6 +46,13 @@ impl FaultPlan {
         failing
     }
 
+    /// How many calls were made.
+    pub fn calls(&self) -> u64
+        ensures { result ≡ self.now.calls }
+    {
+        self.calls
+    }
+
     /// How many calls failed.
     pub fn faults(&self) -> u64
         ensures { result ≡ self.now.faults }

@@ -1,6 +1,6 @@
-ghost use Rattle.std.specs.Prelude.{◌≡◌, ℕ, ◌+◌, ◌%◌, ◌<◌, ◌↔◌, List, length, slice_index, Option, Some, IfOk, OnErr, OnOk, IsErr, Contains};
+ghost use Rattle.std.specs.Prelude.{◌≡◌, ℕ, ◌+◌, ◌%◌, ◌<◌, ◌↔◌, List, length, slice_index, Option, Some, true, false, IfOk, OnErr, OnOk, IsErr, Contains};
 ghost use Rattle.base_terms.specs.Causes.{HasCause};
-ghost use Rattle.io_edge.specs.FaultPlan.{fresh_plan};
+ghost use Rattle.io_edge.specs.FaultPlan.{fresh_plan, next_plan};
 ghost use Rattle.io_edge.specs.Memory.{Seedlings, round_from, round_ahead};
 ghost use Rattle.io_edge.specs.Streams.{Draws};
 
@@ -66,6 +66,12 @@ impl Seeds for FixedSeeds {
         ensures told { Draws (round_ahead self.old) (round_ahead self.new) buf.new result }
         ensures cause { HasCause self.old.plan.faults self.new.plan.faults result }
         ensures exact { IsErr result ↔ Contains self.old.plan.fails self.old.plan.calls }
+        ensures fills { OnOk result (self.new ≡ record self.old {
+          at = (self.old.at + length buf.new) % length self.old.bytes;
+          plan = next_plan self.old.plan false;
+        }) }
+        ensures fails { OnErr result (self.new ≡ record self.old { plan = next_plan self.old.plan true }) }
+        ensures buffer { OnErr result (buf.new ≡ buf.old) }
     {
         if self.plan.is_failing(false) {
             return Err(Failed);

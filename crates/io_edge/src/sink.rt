@@ -1,4 +1,4 @@
-ghost use Rattle.std.specs.Prelude.{◌≡◌, ℕ, ◌+◌, ◌≤◌, ◌<◌, ◌⊎◌, ◌↔◌, List, [], length, Option, Some, None, IfOk, IsErr, IsOk, Contains, vec_capacity};
+ghost use Rattle.std.specs.Prelude.{◌≡◌, ℕ, ◌+◌, ◌≤◌, ◌<◌, ◌⊎◌, ◌↔◌, List, [], ◌++◌, length, Option, Some, None, true, false, IfOk, OnOk, OnErr, is_err, IsErr, IsOk, Contains, vec_capacity};
 ghost use Rattle.base_terms.specs.Causes.{HasCause};
 ghost use Rattle.io_edge.specs.FaultPlan.{fresh_plan, next_plan};
 ghost use Rattle.io_edge.specs.Memory.{Output};
@@ -78,6 +78,11 @@ impl Sink for ListSink {
         ensures exact { IsErr result ↔ ((self.old.room < length self.old.had + length bytes.now)
             ⊎ Contains self.old.plan.fails self.old.plan.calls) }
         ensures room { self.new.room ≡ self.old.room }
+        ensures puts { OnOk result (self.new ≡ record self.old {
+          had = self.old.had ++ bytes.now;
+          plan = next_plan self.old.plan false;
+        }) }
+        ensures fails { OnErr result (self.new ≡ record self.old { plan = next_plan self.old.plan true }) }
     {
         let is_full = self.room - self.bytes.len() < bytes.len();
         if self.plan.is_failing(is_full) {
@@ -94,6 +99,7 @@ impl Sink for ListSink {
         ensures cause { HasCause self.old.plan.faults self.new.plan.faults result }
         ensures exact { IsErr result ↔ Contains self.old.plan.fails self.old.plan.calls }
         ensures room { self.new.room ≡ self.old.room }
+        ensures counts { self.new ≡ record self.old { plan = next_plan self.old.plan (is_err result) } }
     {
         if self.plan.is_failing(false) {
             return Err(Failed);

@@ -1,4 +1,4 @@
-ghost use Rattle.std.specs.Prelude.{◌≡◌, ℕ, ◌≤◌, ◌<◌, ◌↔◌, List, [], length, take, drop, min, Option, Some, IfOk, IsErr, Contains};
+ghost use Rattle.std.specs.Prelude.{◌≡◌, ℕ, ◌≤◌, ◌<◌, ◌↔◌, List, [], length, take, drop, min, Option, Some, true, false, IfOk, OnOk, OnErr, IsErr, Contains};
 ghost use Rattle.base_terms.specs.Causes.{HasCause};
 ghost use Rattle.io_edge.specs.FaultPlan.{fresh_plan, next_plan};
 ghost use Rattle.io_edge.specs.Memory.{Input};
@@ -85,6 +85,10 @@ impl Source for ListSource {
         ensures exact { IsErr result ↔ Contains self.old.plan.fails self.old.plan.calls }
         ensures most { IfOk result (λ n. n ≡ min self.old.piece (min (length self.old.left) (length buf.old))) }
         ensures piece { self.new.piece ≡ self.old.piece }
+        ensures gives { IfOk result (λ n. self.new.left ≡ drop n self.old.left) }
+        ensures counts { OnOk result (self.new.plan ≡ next_plan self.old.plan false) }
+        ensures fails { OnErr result (self.new ≡ record self.old { plan = next_plan self.old.plan true }) }
+        ensures buffer { OnErr result (buf.new ≡ buf.old) }
     {
         if self.plan.is_failing(false) {
             return Err(Failed);

@@ -1,5 +1,5 @@
 -- Operations that are refused, each with its number.
-use Rattle.std.specs.Prelude.{ℕ, ◌+◌, ◌%◌, Bool, not, ◌==◌, ◌||◌, nat_lt, if◌then◌else◌, List, length, Option, Some, None}
+use Rattle.std.specs.Prelude.{ℕ, ◌+◌, ◌%◌, not, ◌==◌, ◌||◌, nat_lt, if◌then◌else◌, length, Option, Some, None}
 use Rattle.plain_disk.specs.declared.operation.Op.{Op}
 use Rattle.plain_disk.specs.declared.operation.Op.TheVariants.{Read, Write, Flush}
 

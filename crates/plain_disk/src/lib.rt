@@ -7,4 +7,4 @@
 
 mod operation;
 
-pub use operation::{MAX_READ, Op, Reply, wrong};
+pub use operation::{MAX_READ, Op, Reply, wrong, wrong_range};

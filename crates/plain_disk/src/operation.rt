@@ -51,7 +51,9 @@ pub fn wrong(op: &Op, atom: u32, size: u64) -> Option<u32>
     }
 }
 
-fn wrong_range(atom: u32, size: u64, offset: u64, length: u64, past: u32) -> Option<u32>
+/// The number with which a range is refused: 22 where its offset or length isn't a multiple of the
+/// block, then `past` where it passes the end of `size` bytes.
+pub fn wrong_range(atom: u32, size: u64, offset: u64, length: u64, past: u32) -> Option<u32>
     requires { 0 < atom }
     ensures { result ≡ wrong_range_of atom size offset length past }
 {

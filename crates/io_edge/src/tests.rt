@@ -1,0 +1,176 @@
+use crate::{
+    FaultPlan, FixedSeeds, Gate, ListSink, ListSource, OpenGate, OsSeeds, Place, Seeds, Sink,
+    Source, StdSink, StdSource, VoidSink,
+};
+use base_terms::Failed;
+use std::io::{self, ErrorKind, Read, Write};
+use std::random::RandomSource;
+use std::test::Fail;
+
+#[test]
+fn a_plan_fails_by_number_or_by_another_cause(rt: HostRuntime) -> Result<(), Fail> {
+    let mut plan = FaultPlan::new([2].to_vec(rt.alloc())?);
+    for (other_cause, failing, faults) in [
+        (false, false, 0),
+        (true, true, 1),
+        (false, true, 2),
+        (false, false, 2),
+    ] {
+        assert_eq!(rt; plan.is_failing(other_cause), failing);
+        assert_eq!(rt; plan.faults(), faults);
+    }
+    Ok(())
+}
+
+#[test]
+fn a_list_source_gives_pieces_and_fails_in_mid_stream(rt: HostRuntime) -> Result<(), Fail> {
+    let mut source = ListSource::new(rt.alloc(), b"abcdefg", 4, &[1])?;
+    for (answer, front) in [
+        (Ok(4), *b"abcd.."),
+        (Err(Failed), *b"......"),
+        (Ok(3), *b"efg..."),
+        (Ok(0), *b"......"),
+    ] {
+        let mut buf = *b"......";
+        assert_eq!(rt; source.take(&mut buf), answer);
+        assert_eq!(rt; buf, front);
+    }
+    Ok(())
+}
+
+#[test]
+fn a_list_sink_fails_by_number_and_past_its_room(rt: HostRuntime) -> Result<(), Fail> {
+    let mut sink = ListSink::new(rt.alloc(), 5, &[1, 3])?;
+    assert_eq!(rt; sink.put(b"abc"), Ok(()));
+    assert_eq!(rt; sink.put(b"d"), Err(Failed), "by its number");
+    assert_eq!(rt; sink.put(b"def"), Err(Failed), "past the room");
+    assert_eq!(rt; sink.push_out(), Err(Failed), "by its number");
+    assert_eq!(rt; sink.push_out(), Ok(()));
+    assert_eq!(rt; sink.put(b"de"), Ok(()));
+    assert_eq!(rt; sink.as_slice(), b"abcde".as_slice());
+    Ok(())
+}
+
+#[test]
+fn fixed_seeds_go_round_and_on_after_a_failure(rt: HostRuntime) -> Result<(), Fail> {
+    let mut seeds = FixedSeeds::new(rt.alloc(), &[1, 2, 3], &[1])?;
+    for (answer, drawn) in [
+        (Ok(()), [1, 2, 3, 1]),
+        (Err(Failed), [0, 0, 0, 0]),
+        (Ok(()), [2, 3, 1, 2]),
+    ] {
+        let mut buf = [0; 4];
+        assert_eq!(rt; seeds.fill(&mut buf), answer);
+        assert_eq!(rt; buf, drawn);
+    }
+    Ok(())
+}
+
+#[test]
+fn what_never_fails_answers_ok(rt: HostRuntime) {
+    assert_eq!(rt; VoidSink.put(b"abc"), Ok(()));
+    assert_eq!(rt; VoidSink.push_out(), Ok(()));
+    OpenGate.pause(Place::Work);
+}
+
+#[test]
+fn a_pipe_carries_what_a_sink_puts_to_a_source(rt: HostRuntime) -> Result<(), Fail> {
+    let (reader, writer) = io::pipe(&rt)?;
+    let mut source = StdSource::new(reader);
+    let mut sink = StdSink::new(writer);
+    assert_eq!(rt; sink.put(b"abc"), Ok(()));
+    assert_eq!(rt; sink.push_out(), Ok(()));
+    drop(sink);
+    let mut buf = *b"....";
+    assert_eq!(rt; source.take(&mut buf), Ok(3));
+    assert_eq!(rt; buf, *b"abc.");
+    assert_eq!(rt; source.take(&mut buf), Ok(0), "the end");
+    Ok(())
+}
+
+/// A reader whose first call a signal interrupts, and whose third one fails.
+#[derive(Drop)]
+struct Troubled {
+    calls: u32,
+}
+
+impl Read for Troubled {
+    fn read(&mut self, buf: &mut [u8]) -> io::Result<usize> {
+        self.calls = self.calls.saturating_add(1);
+        match self.calls {
+            1 => Err(io::Error::from(ErrorKind::Interrupted)),
+            3 => Err(io::Error::from(ErrorKind::ConnectionReset)),
+            _ => {
+                buf.fill(b'x');
+                Ok(buf.len())
+            }
+        }
+    }
+}
+
+#[test]
+fn a_source_reads_again_after_a_signal_and_fails_as_its_reader(rt: HostRuntime) {
+    let mut source = StdSource::new(Troubled { calls: 0 });
+    let mut buf = *b"..";
+    assert_eq!(rt; source.take(&mut buf), Ok(2));
+    assert_eq!(rt; buf, *b"xx");
+    assert_eq!(rt; source.take(&mut buf), Err(Failed));
+    assert_eq!(rt; source.take(&mut buf), Ok(2), "the reader goes on");
+}
+
+/// A writer that takes two bytes a call as long as it has room, then nothing, and whose flush
+/// fails once it is full.
+#[derive(Drop)]
+struct Narrow {
+    room: usize,
+}
+
+impl Write for Narrow {
+    fn write(&mut self, buf: &[u8]) -> io::Result<usize> {
+        let n = buf.len().min(self.room).min(2);
+        self.room -= n;
+        Ok(n)
+    }
+
+    fn flush(&mut self) -> io::Result<()> {
+        if self.room == 0 {
+            return Err(io::Error::from(ErrorKind::BrokenPipe));
+        }
+        Ok(())
+    }
+}
+
+#[test]
+fn a_sink_fails_where_its_writer_takes_nothing_or_cannot_flush(rt: HostRuntime) {
+    let mut sink = StdSink::new(Narrow { room: 6 });
+    assert_eq!(rt; sink.put(b"abcde"), Ok(()), "in three pieces");
+    assert_eq!(rt; sink.push_out(), Ok(()));
+    assert_eq!(rt;
+        sink.put(b"fg"),
+        Err(Failed),
+        "nothing is taken of the second byte"
+    );
+    assert_eq!(rt; sink.push_out(), Err(Failed));
+    assert_eq!(rt; sink.put(b""), Ok(()), "a piece that is empty");
+}
+
+/// A system without randomness.
+#[derive(Drop)]
+struct NoEntropy;
+
+impl RandomSource for NoEntropy {
+    fn fill_bytes(&self, _buf: &mut [u8]) -> io::Result<()> {
+        Err(io::Error::from(ErrorKind::Unsupported))
+    }
+}
+
+#[test]
+fn the_system_draws_seeds_or_fails(rt: HostRuntime) {
+    let mut seeds = OsSeeds::new(&rt);
+    let (mut first, mut second) = ([0; 300], [0; 300]);
+    assert_eq!(rt; seeds.fill(&mut first), Ok(()));
+    assert_eq!(rt; seeds.fill(&mut second), Ok(()));
+    assert_ne!(rt; first, second);
+    assert_ne!(rt; &first[268..], [0; 32].as_slice(), "also past 256 bytes");
+    assert_eq!(rt; OsSeeds::new(NoEntropy).fill(&mut first), Err(Failed));
+}

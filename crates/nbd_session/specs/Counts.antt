@@ -1,0 +1,5 @@
+-- Counts of bytes, which stand still at the last value of 64 bits.
+use Rattle.std.specs.Prelude.{ℕ, ◌-◌, ◌^◌, min}
+
+abbrev pub capped : ℕ → ℕ
+capped n = min n (2 ^ 64 - 1)

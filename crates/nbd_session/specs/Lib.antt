@@ -1,0 +1,10 @@
+pub mod Counts
+pub mod Moments
+pub mod Negotiation
+pub mod Putting
+pub mod Replies
+pub mod Requests
+pub mod Serving
+pub mod Session
+pub mod Taking
+pub mod Traffic

@@ -1,0 +1,16 @@
+-- What is put of one text.
+use Rattle.std.specs.Prelude.{ℕ, ◌≡◌, ◌+◌, ◌≤◌, List, [], ◌++◌, length, Option, Result, MatchResult}
+use Rattle.base_terms.specs.declared.failed.Failed.{Failed}
+use Rattle.base_terms.specs.Causes.{Rose}
+use Rattle.nbd_session.specs.Counts.{capped}
+use Rattle.nbd_session.specs.Traffic.{Sent}
+
+-- Of this text these pieces were put whole, and this front of the piece that failed may have gone
+-- out: all of the text, or a front of it where the sink failed.
+pub record Puts {T : Type 0} (old_had new_had : Option (List ℕ)) (old_faults new_faults : ℕ) (old_put new_put : ℕ)
+    (text : List ℕ) (result : Result T Failed) (whole front : List ℕ) : Type 0 where
+  pub sent : Sent old_had new_had (whole ++ front)
+  pub later : old_faults ≤ new_faults
+  pub put : new_put ≡ capped (old_put + length whole)
+  pub by_case : MatchResult result (λ _. (whole ≡ text) × (front ≡ []))
+      (λ _. Rose old_faults new_faults × ((rest : List ℕ) × (text ≡ whole ++ (front ++ rest))))

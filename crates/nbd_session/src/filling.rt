@@ -1,0 +1,60 @@
+ghost use Rattle.std.specs.Prelude.{◌≡◌, ◌≤◌, ◌+◌, ℕ, List, length, take};
+ghost use Rattle.nbd_session.specs.Counts.{capped};
+ghost use Rattle.nbd_session.specs.Traffic.{Fills, filled_of};
+
+use io_edge::Source;
+
+/// How a buffer was filled: whole, with so many bytes to the end of the input, or with so many
+/// bytes before the source failed.
+#[derive(Clone, Copy, Debug)]
+pub enum Filled {
+    Whole,
+    Ended(usize),
+    Fault(usize),
+}
+
+/// Fills a buffer from a source that gives its bytes in pieces.
+pub fn fill<S: Source>(source: &mut S, buf: &mut [u8]) -> Filled
+    ensures { Fills (S.given source.old) (S.given source.new) (S.left source.old) (S.left source.new)
+        (S.faults source.old) (S.faults source.new) (length buf.new) result
+        (take (filled_of (length buf.new) result) buf.new) }
+{
+    let mut count = 0;
+    while count < buf.len() {
+        match source.take(&mut buf[count..]) {
+            Ok(0) => return Filled::Ended(count),
+            Ok(n) => count += n,
+            Err(_) => return Filled::Fault(count),
+        }
+    }
+    Filled::Whole
+}
+
+/// Takes so many bytes from a source and drops them.
+pub fn skip<S: Source>(source: &mut S, length: usize) -> Filled
+    ensures { (bytes : List ℕ) × Fills (S.given source.old) (S.given source.new) (S.left source.old) (S.left source.new)
+        (S.faults source.old) (S.faults source.new) length result bytes }
+{
+    let mut buf = [0u8; 4096];
+    let mut count = 0;
+    while count < length {
+        let part = (length - count).min(4096);
+        match fill(source, &mut buf[..part]) {
+            Filled::Whole => count += part,
+            Filled::Ended(n) => return Filled::Ended(count + n),
+            Filled::Fault(n) => return Filled::Fault(count + n),
+        }
+    }
+    Filled::Whole
+}
+
+/// A count of bytes taken, with those that came of `wanted`. It stands still at its last value.
+pub fn counted(count: u64, filled: Filled, wanted: usize) -> u64
+    ensures { result ≡ capped (count + filled_of wanted filled) }
+{
+    let came = match filled {
+        Filled::Whole => wanted,
+        Filled::Ended(n) | Filled::Fault(n) => n,
+    };
+    count.saturating_add(came as u64)
+}

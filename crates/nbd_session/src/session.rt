@@ -1,0 +1,123 @@
+ghost use Rattle.std.specs.Prelude.{◌≡◌, ◌<◌, ◌^◌, ◌+◌, ℕ, Bool, List, length, Some, None};
+ghost use Rattle.nbd_session.specs.Moments.{moment};
+ghost use Rattle.nbd_session.specs.Replies.{reply_text};
+ghost use Rattle.nbd_session.specs.Serving.{Replies, Serves};
+ghost use Rattle.nbd_session.specs.Session.{IsSession, Log, Turn, exchanges_of};
+
+use crate::negotiation::negotiate;
+use crate::replies::put_reply;
+use crate::requests::{Next, next_request};
+use crate::tally::Tally;
+use crate::{Ending, Export, Port, SessionEnd};
+use io_edge::{Sink, Source};
+use plain_disk::Reply;
+use std::alloc::Global;
+
+/// The most requests that one session may have.
+const MAX_REQUESTS: u64 = 1 << 32;
+
+const NO_MEMORY: u32 = 12;
+
+/// Serves one client to its end. What was put is the greeting, the reply to GO and a simple reply
+/// for each request, in order; what the port was asked are the operations of the requests, but for
+/// those that were answered 12 for want of memory, in order. `ReadFault` and `WriteFault` come only
+/// where the source's, or the sink's, count of faults rose.
+pub fn serve_session<S: Source, K: Sink, P: Port>(
+    alloc: Global,
+    source: &mut S,
+    sink: &mut K,
+    port: &mut P,
+    export: &Export,
+) -> SessionEnd
+    requires { 0 < export.now.atom }
+    ensures { (log : Log) × P.did port.old port.new (exchanges_of log.turns) × IsSession export.now result
+        (moment (S.given source.old) (S.left source.old) (K.had sink.old) (S.faults source.old) (K.faults sink.old) 0 0)
+        (moment (S.given source.new) (S.left source.new) (K.had sink.new) (S.faults source.new) (K.faults sink.new) result.taken result.put)
+        log }
+{
+    let mut tally = Tally { taken: 0, put: 0 };
+    match negotiate(source, sink, export, &mut tally) {
+        Ok(()) => {}
+        Err(ending) => return end_of(export, ending, tally),
+    }
+    let ending = serve_requests(alloc, source, sink, port, export, &mut tally);
+    end_of(export, ending, tally)
+}
+
+fn end_of(export: &Export, ending: Ending, tally: Tally) -> SessionEnd
+    ensures is { result ≡ record { number = export.now.number; ending = ending; taken = tally.taken; put = tally.put } }
+    ensures taken_fits { tally.taken < 2 ^ 64 }
+    ensures put_fits { tally.put < 2 ^ 64 }
+{
+    SessionEnd {
+        number: export.number,
+        ending,
+        taken: tally.taken,
+        put: tally.put,
+    }
+}
+
+/// Serves requests to the session's end.
+fn serve_requests<S: Source, K: Sink, P: Port>(
+    alloc: Global,
+    source: &mut S,
+    sink: &mut K,
+    port: &mut P,
+    export: &Export,
+    tally: &mut Tally,
+) -> Ending
+    requires { 0 < export.now.atom }
+    ensures { (turns : List Turn) × (taken : List ℕ) × (whole : List ℕ) × (front : List ℕ) × (ended : Bool)
+        × P.did port.old port.new (exchanges_of turns)
+        × Serves export.now 0
+        (moment (S.given source.old) (S.left source.old) (K.had sink.old) (S.faults source.old) (K.faults sink.old) tally.old.taken tally.old.put)
+        (moment (S.given source.new) (S.left source.new) (K.had sink.new) (S.faults source.new) (K.faults sink.new) tally.new.taken tally.new.put)
+        (Some result) turns taken whole front ended }
+{
+    for number in 0..MAX_REQUESTS {
+        match serve_request(alloc, source, sink, port, export, tally) {
+            None => {}
+            Some(ending) => return ending,
+        }
+    }
+    Ending::TooMany(MAX_REQUESTS)
+}
+
+/// Serves the next request, and says how the session ended where it did.
+fn serve_request<S: Source, K: Sink, P: Port>(
+    alloc: Global,
+    source: &mut S,
+    sink: &mut K,
+    port: &mut P,
+    export: &Export,
+    tally: &mut Tally,
+) -> Option<Ending>
+    requires { 0 < export.now.atom }
+    ensures { (turns : List Turn) × (taken : List ℕ) × (whole : List ℕ) × (front : List ℕ) × (ended : Bool)
+        × (result ≡ None → length turns ≡ 1)
+        × P.did port.old port.new (exchanges_of turns)
+        × ((n : ℕ) → Serves export.now n
+        (moment (S.given source.old) (S.left source.old) (K.had sink.old) (S.faults source.old) (K.faults sink.old) tally.old.taken tally.old.put)
+        (moment (S.given source.new) (S.left source.new) (K.had sink.new) (S.faults source.new) (K.faults sink.new) tally.new.taken tally.new.put)
+        result turns taken whole front ended) }
+{
+    match next_request(alloc, source, export, &mut tally.taken) {
+        Next::Stop(ending) => Some(ending),
+        Next::Short { cookie } => { answer(sink, cookie, &Reply::Errno(NO_MEMORY), &mut tally.put) }
+        Next::Ask { cookie, op } => match port.submit(alloc, &op) {
+            Ok(reply) => answer(sink, cookie, &reply, &mut tally.put),
+            Err(_) => answer(sink, cookie, &Reply::Errno(NO_MEMORY), &mut tally.put),
+        },
+    }
+}
+
+/// Puts a reply, and says that the session ended where the sink failed.
+fn answer<K: Sink>(sink: &mut K, cookie: u64, reply: &Reply, put: &mut u64) -> Option<Ending>
+    ensures { (whole : List ℕ) × (front : List ℕ) × Replies (K.had sink.old) (K.had sink.new) (K.faults sink.old)
+        (K.faults sink.new) put.old put.new (reply_text cookie reply.now) result whole front }
+{
+    match put_reply(sink, cookie, reply, put) {
+        Ok(()) => None,
+        Err(_) => Some(Ending::WriteFault),
+    }
+}

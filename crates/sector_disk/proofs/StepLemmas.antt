@@ -1,0 +1,20 @@
+-- Lemmas on how a device call moves the tables.
+use Rattle.std.proofs.Common.{◌≡◌, ℕ, zero, suc, List, [], ◌∷◌, Some, refl, subst, inl, inr}
+use Rattle.base_terms.specs.Blocks.{changed}
+use Rattle.sector_disk.specs.Cells.{Cell, tried, IsTried}
+use Rattle.sector_disk.specs.Steps.{Told, then_table, IsMoved, Moves}
+
+-- tables that are told move by the step to the next table
+pub moves : (Step : List Cell → List Cell → Type 0) (old new : Told) (next : List Cell) → new ≡ then_table old next → Step old.now next → Moves Step (Some old) (Some new)
+moves Step old new next is step now told_is =
+    let same : then_table old next ≡ now = cc in
+    let Goal : Told → Type 0 = λ told. (before : Told) × (Some old ≡ Some before) × IsMoved Step before told in
+    subst Goal same (old, refl, record { step = step; one = refl })
+
+-- a failed write may add all candidates
+pub IsTried-tried : (cells : List Cell) (at : ℕ) (values : List (List ℕ)) → IsTried cells at values (changed tried cells at values)
+unfolding IsTried changed
+IsTried-tried [] at values = refl
+IsTried-tried (cell ∷ cells) at [] = refl
+IsTried-tried (cell ∷ cells) zero (value ∷ values) = (inr (inl refl), IsTried-tried cells 0 values)
+IsTried-tried (cell ∷ cells) (suc at) (value ∷ values) = (refl, IsTried-tried cells at (value ∷ values))

@@ -1,0 +1,12 @@
+pub mod Calls
+pub mod Cells
+pub mod EachCell
+pub mod Faults
+pub mod Geometry
+pub mod Images
+pub mod Mem
+pub mod MemLaws
+pub mod Notes
+pub mod Ram
+pub mod Steps
+pub mod Values

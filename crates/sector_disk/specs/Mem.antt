@@ -1,0 +1,30 @@
+-- What callers see of the disk in memory that tells its tables.
+use Rattle.std.specs.Prelude.{ℕ, List, Some}
+use Rattle.sector_disk.specs.Calls.{table, tables}
+use Rattle.sector_disk.specs.Faults.{Limits}
+use Rattle.sector_disk.specs.Steps.{Told}
+use Rattle.sector_disk.specs.declared.mem_disk.MemDisk.{MemDisk}
+
+-- an atom's bytes
+abbrev pub atom_of : MemDisk → ℕ
+atom_of disk = disk.atom
+
+-- how many atoms there are
+abbrev pub atoms_of : MemDisk → ℕ
+atoms_of disk = disk.atoms
+
+-- the current bytes
+abbrev pub bytes_of : MemDisk → List ℕ
+bytes_of disk = disk.bytes.items
+
+-- the tables after its device calls
+abbrev pub told_of : MemDisk → Told
+told_of disk = record {
+  now = table disk.atom disk.atoms disk.start.items disk.calls.calls;
+  past = tables disk.atom disk.atoms disk.start.items disk.calls.calls;
+  mark = Some disk.mark;
+}
+
+-- what decides whether its device calls fail
+abbrev pub limits_of : MemDisk → Limits
+limits_of disk = record { plan = disk.plan; stop = disk.stop; room = disk.calls.room; used = disk.calls.used }

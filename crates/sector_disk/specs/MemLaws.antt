@@ -1,0 +1,26 @@
+-- Why the disk in memory that tells its tables is a disk.
+use Rattle.std.specs.Prelude.{ℕ, ◌≡◌, ◌*◌, List, length, replicate, Some}
+use Rattle.std.proofs.Common.{sym, ap}
+use Rattle.base_terms.specs.Blocks.{lengths}
+use Rattle.sector_disk.specs.Cells.{content, currents, AreHeld}
+use Rattle.sector_disk.specs.Geometry.{IsDisk}
+use Rattle.sector_disk.specs.EachCell.{held_table}
+use Rattle.sector_disk.specs.Mem.{told_of}
+use Rattle.sector_disk.specs.Ram.{is_atom-true}
+use Rattle.sector_disk.specs.Steps.{Told}
+use Rattle.sector_disk.specs.declared.mem_disk.MemDisk.{MemDisk}
+
+pub mem_geometry : (d : MemDisk) → IsDisk d.atom d.atoms
+mem_geometry d = record { known = is_atom-true d.atom d.known; fits = d.fits }
+
+pub mem_whole : (d : MemDisk) (bytes : List ℕ) → Some d.bytes.items ≡ Some bytes → length bytes ≡ d.atoms * d.atom
+mem_whole d bytes is = let e : d.bytes.items ≡ bytes = cc in rw (← e) d.whole
+
+pub mem_agrees : (d : MemDisk) (t : Told) → Some (told_of d) ≡ Some t → Some d.bytes.items ≡ Some (content t.now)
+mem_agrees d t is = let e : told_of d ≡ t = cc in rw (← e) (ap (λ text. Some text) (sym d.agrees))
+
+pub mem_even : (d : MemDisk) (t : Told) → Some (told_of d) ≡ Some t → lengths (currents t.now) ≡ replicate d.atoms d.atom
+mem_even d t is = let e : told_of d ≡ t = cc in rw (← e) d.even
+
+pub mem_held : (d : MemDisk) (t : Told) → Some (told_of d) ≡ Some t → AreHeld t.now
+mem_held d t is = let e : told_of d ≡ t = cc in rw (← e) (held_table d.atom d.atoms d.start.items d.calls.calls)

@@ -1,0 +1,86 @@
+ghost use Rattle.std.specs.Prelude.{◌≡◌, ℕ, ◌*◌, ◌^◌, ◌<◌, List, length, replicate, Option, Some, None, IfOk, IsOk, IsTrue};
+ghost use Rattle.base_terms.specs.Blocks.{pasted};
+ghost use Rattle.sector_disk.specs.Geometry.{is_atom, IsDisk, IsInDisk};
+
+use crate::Disk;
+use crate::buffers::{paste, zeros};
+use base_terms::Failed;
+use std::alloc::{AllocError, Global};
+
+/// A disk in memory that never fails. It tells its current bytes alone.
+#[derive(Debug, Drop)]
+pub struct RamDisk {
+    atom: u32,
+    atoms: u64,
+    bytes: Vec<u8>,
+    ghost known: { IsTrue (is_atom atom) },
+    ghost fits: { atoms * atom < 2 ^ 63 },
+    ghost whole: { length bytes.items ≡ atoms * atom },
+}
+
+impl RamDisk {
+    /// A disk of so many atoms of so many bytes, all zero.
+    pub fn new(alloc: Global, atom: u32, atoms: u64) -> Result<RamDisk, AllocError>
+        requires { IsDisk atom atoms }
+        ensures atom { IfOk result (λ disk. ⟦<RamDisk as Disk>⟧.size disk ≡ atom) }
+        ensures atoms { IfOk result (λ disk. ⟦<RamDisk as Disk>⟧.count disk ≡ atoms) }
+        ensures zeros { IfOk result (λ disk. ⟦<RamDisk as Disk>⟧.values disk ≡ Some (replicate (atoms * atom) 0)) }
+    {
+        let len = atoms as usize * atom as usize;
+        let bytes = zeros(alloc, len)?;
+        Ok(RamDisk { atom, atoms, bytes })
+    }
+}
+
+impl Disk for RamDisk {
+    ghost use Rattle.std.specs.Prelude.{◌≡◌, ℕ, ◌*◌, ◌^◌, ◌<◌, List, length, replicate, Option, Some, None};
+    ghost use Rattle.std.proofs.Common.{rules};
+    ghost use Rattle.base_terms.specs.Blocks.{pasted};
+    ghost use Rattle.sector_disk.specs.Ram.{ram_geometry, ram_whole};
+
+    ghost size = { λ d. d.atom };
+
+    ghost count = { λ d. d.atoms };
+
+    ghost values = { λ d. Some d.bytes.items };
+
+    ghost told = { λ _. None };
+
+    ghost faults = { λ _. 0 };
+
+    ghost geometry = { ram_geometry };
+
+    ghost whole = { ram_whole };
+
+    ghost agrees = { λ d t is. Prim.cc };
+
+    ghost even = { λ d t is. Prim.cc };
+
+    ghost held = { λ d t is. Prim.cc };
+
+    fn atom(&self) -> u32 {
+        self.atom
+    }
+
+    fn atoms(&self) -> u64 {
+        self.atoms
+    }
+
+    fn read(&mut self, at: u64, buf: &mut [u8]) -> Result<(), Failed> {
+        let from = at as usize * self.atom as usize;
+        buf.copy_from_slice(&self.bytes[from..from + buf.len()]);
+        Ok(())
+    }
+
+    fn write(&mut self, at: u64, bytes: &[u8]) -> Result<(), Failed> {
+        let from = at as usize * self.atom as usize;
+        paste(&mut self.bytes, from, bytes);
+        Ok(())
+    }
+
+    fn sync(&mut self) -> Result<(), Failed> {
+        Ok(())
+    }
+
+    fn mark(&mut self, _number: u64) {}
+}
