@@ -15,7 +15,7 @@ use Rattle.sector_disk.proofs.BlockLemmas.{even_changed, joined_changed}
 use Rattle.plain_volume.specs.Calls.{Made, syncs, outcome, tried_of, ReadsPieces, WritesPieces, MakesOp, TellsCall, TellsCalls, CountsCalls}
 use Rattle.plain_volume.specs.Carried.{IsReadyFor, CarriedOut}
 use Rattle.plain_volume.specs.Pieces.{Ran}
-use Rattle.plain_volume.specs.Volume.{VolumeState}
+use Rattle.plain_volume.specs.Volume.{Volume}
 use Rattle.plain_volume.proofs.Places.{atoms_of_whole, atoms_within}
 use Rattle.plain_volume.proofs.Standing.{sure-take, sure-drop, sure-changed, newest-flushed, sure-flushed, blocks_of-take, stands-same}
 use Rattle.plain_volume.proofs.Tried.{tried_within, tried_all}
@@ -42,7 +42,7 @@ range_of_read atom size offset len proper = range_of_proper atom size offset len
     (grind (arith, common_steps))
 
 -- the geometry of the disk stays
-pub record IsSameDisk (old new : VolumeState) : Type 0 where
+pub record IsSameDisk (old new : Volume) : Type 0 where
   pub atom : new.atom ≡ old.atom
   pub atoms : new.atoms ≡ old.atoms
 
@@ -53,7 +53,7 @@ reads_at atom at total place len calls at_is total_is reads =
     subst (λ n. ReadsPieces atom place n calls) total_is
     (subst (λ n. ReadsPieces atom n total calls) at_is reads)
 
-pub carried-read : (old new : VolumeState) (offset len at total : ℕ) (buf bytes : List ℕ)
+pub carried-read : (old new : Volume) (offset len at total : ℕ) (buf bytes : List ℕ)
     → IsAtom old.atom → IsReadyFor old (Read offset len)
     → IsSameDisk old new → new.values ≡ old.values → new.broken ≡ old.broken
     → at ≡ offset / old.atom → total ≡ len → length buf ≡ total → bytes ≡ buf
@@ -97,7 +97,7 @@ carried-read old new offset len at total buf bytes known ready same values broke
       counts = ran.counts;
     }
 
-pub carried-read-failed : (old new : VolumeState) (offset len at total : ℕ)
+pub carried-read-failed : (old new : Volume) (offset len at total : ℕ)
     → IsReadyFor old (Read offset len)
     → IsSameDisk old new → new.values ≡ old.values → new.broken ≡ old.broken
     → at ≡ offset / old.atom → total ≡ len
@@ -155,7 +155,7 @@ writes_at atom offset body fua at text syncing calls is writes =
     (subst (λ xs. WritesPieces atom (offset / atom) xs syncing calls) is.whole
     (subst (λ n. WritesPieces atom n text syncing calls) is.place writes))
 
-pub carried-write : (old new : VolumeState) (offset : ℕ) (body : List ℕ) (fua : Bool) (at : ℕ)
+pub carried-write : (old new : Volume) (offset : ℕ) (body : List ℕ) (fua : Bool) (at : ℕ)
     (text : List ℕ) (syncing : Bool)
     → IsAtom old.atom → IsReadyFor old (Write offset body fua) → IsSameDisk old new
     → new.broken ≡ false
@@ -216,7 +216,7 @@ carried-write old new offset body fua at text syncing known ready same broken is
       counts = ran.counts;
     }
 
-pub carried-write-failed : (old new : VolumeState) (offset : ℕ) (body : List ℕ) (fua : Bool)
+pub carried-write-failed : (old new : Volume) (offset : ℕ) (body : List ℕ) (fua : Bool)
     (at : ℕ)
     (text : List ℕ) (syncing : Bool)
     → IsAtom old.atom → IsReadyFor old (Write offset body fua) → IsSameDisk old new
@@ -261,7 +261,7 @@ carried-write-failed old new offset body fua at text syncing known ready same br
       counts = ran.counts;
     }
 
-pub carried-flush : (old new : VolumeState) → IsReadyFor old Flush → IsSameDisk old new
+pub carried-flush : (old new : Volume) → IsReadyFor old Flush → IsSameDisk old new
     → new.values ≡ old.values → new.broken ≡ false
     → TellsSync old.told new.told (outcome true) → HasCause old.faults new.faults (outcome true)
     → CarriedOut old new Flush Done
@@ -291,7 +291,7 @@ carried-flush old new ready same values broken tells cause =
       counts = (new.faults, cause, refl);
     }
 
-pub carried-flush-failed : (old new : VolumeState) → IsReadyFor old Flush → IsSameDisk old new
+pub carried-flush-failed : (old new : Volume) → IsReadyFor old Flush → IsSameDisk old new
     → new.values ≡ old.values → new.broken ≡ true
     → TellsSync old.told new.told (outcome false) → HasCause old.faults new.faults (outcome false)
     → CarriedOut old new Flush (Errno 5)
@@ -314,7 +314,7 @@ carried-flush-failed old new ready same values broken tells cause =
     }
 
 -- what a volume's own fields show, it did
-pub seen : (view old new : VolumeState) (op : Op) (reply : Reply) → view ≡ old → IsReadyFor old op
+pub seen : (view old new : Volume) (op : Op) (reply : Reply) → view ≡ old → IsReadyFor old op
     → (IsReadyFor view op → CarriedOut view new op reply) → CarriedOut old new op reply
 seen view old new op reply is ready carried =
     subst (λ volume. CarriedOut volume new op reply) is

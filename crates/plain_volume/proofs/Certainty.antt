@@ -10,7 +10,7 @@ use Rattle.sector_disk.specs.Steps.{Told, MovesOrNot}
 use Rattle.plain_volume.specs.Calls.{Call, reads, writes, syncs, Made, piece_of, all_succeeded, WritesPieces, MakesOp, Makes, MakesAll, TellsCall, TellsCalls}
 use Rattle.plain_volume.specs.Histories.{makes-joined, tells-joined}
 use Rattle.plain_volume.specs.Outcomes.{IsError, AreErrors, IsWriting, IsSyncing, AreSettled, SettledBetween}
-use Rattle.plain_volume.specs.Volume.{VolumeState, Did}
+use Rattle.plain_volume.specs.Volume.{Volume, Did}
 use Rattle.plain_volume.proofs.Faults.{refused, failing, carried, how_gone, wrong_is_no_fault, reply_is_number, failed_by}
 use Rattle.plain_volume.proofs.Tried.{match_cases, both_true}
 
@@ -53,7 +53,7 @@ all_errors atom atoms old new (exchange ∷ exchanges) calls makes broken =
     ]
 
 -- once a volume is broken, each operation is answered by an error
-pub broken_stays : (old new : VolumeState) (exchanges : List Exchange) → Did old new exchanges
+pub broken_stays : (old new : Volume) (exchanges : List Exchange) → Did old new exchanges
     → old.broken ≡ true → AreErrors exchanges × (new.broken ≡ true)
 broken_stays old new exchanges did broken =
     all_errors old.atom old.atoms old.broken new.broken exchanges did.calls did.makes broken
@@ -90,7 +90,7 @@ step_breaks atom atoms old exchange calls new makes writing is =
     ]
 
 -- after a write or a flush that failed, each operation is answered by an error
-pub failure_breaks : (old new : VolumeState) (earlier later : List Exchange) (exchange : Exchange)
+pub failure_breaks : (old new : Volume) (earlier later : List Exchange) (exchange : Exchange)
     → Did old new (earlier ++ exchange ∷ later)
     → IsWriting exchange.op → exchange.reply ≡ Errno 5 → AreErrors later × (new.broken ≡ true)
 unfolding MakesAll
@@ -239,7 +239,7 @@ step_ends atom atoms old exchange calls new makes syncing is =
     ]
 
 -- after a flush that is done, or a write that asked to be kept, each atom held its current value for certain
-pub sync_settles : (old new : VolumeState) (earlier later : List Exchange) (exchange : Exchange)
+pub sync_settles : (old new : Volume) (earlier later : List Exchange) (exchange : Exchange)
     → Did old new (earlier ++ exchange ∷ later)
     → IsSyncing exchange.op → exchange.reply ≡ Done → (now : Told) → new.told ≡ Some now
     → SettledBetween old new (earlier ++ exchange ∷ []) later

@@ -14,20 +14,20 @@ use Rattle.sector_disk.proofs.BlockLemmas.{changed-nil}
 use Rattle.plain_volume.specs.Calls.{Made, Makes, MakesAll, TellsCalls, CountsCalls}
 use Rattle.plain_volume.specs.Carried.{IsReadyFor, CarriedOut}
 use Rattle.plain_volume.specs.Outcomes.{IsReplyTo}
-use Rattle.plain_volume.specs.Volume.{VolumeState, StandsFor, Did}
+use Rattle.plain_volume.specs.Volume.{Volume, StandsFor, Did}
 use Rattle.plain_volume.proofs.Faults.{reply_fits}
 use Rattle.plain_volume.proofs.Places.{zero_whole, no_atoms}
 use Rattle.plain_volume.proofs.Standing.{count_of_blocks}
 
 -- the plain disk finds an operation wrong where the volume does
-same_wrong : (volume : VolumeState) (blocks : List Block) (op : Op) → StandsFor volume blocks
+same_wrong : (volume : Volume) (blocks : List Block) (op : Op) → StandsFor volume blocks
     → wrong_of volume.atom (length blocks * volume.atom) op ≡ wrong_of volume.atom
     (volume.atoms * volume.atom) op
 same_wrong volume blocks op stands = ap (λ n. wrong_of volume.atom (n * volume.atom) op)
     (count_of_blocks volume.atoms volume.atom blocks stands.even)
 
 -- one operation makes all calls
-one_makes : (old new : VolumeState) (exchange : Exchange) (calls : List Made)
+one_makes : (old new : Volume) (exchange : Exchange) (calls : List Made)
     → Makes old.atom old.atoms old.broken exchange calls new.broken
     → MakesAll old.atom old.atoms old.broken (exchange ∷ []) calls new.broken
 unfolding MakesAll
@@ -40,7 +40,7 @@ one_makes old new exchange calls makes = (
   (refl, refl),
 )
 
-pub did-carried : (old new : VolumeState) (asked op : Op) (reply : Reply) → asked ≡ op
+pub did-carried : (old new : Volume) (asked op : Op) (reply : Reply) → asked ≡ op
     → IsReadyFor old op → CarriedOut old new op reply
     → (n : ℕ) × Did old new (record { op = asked; reply = reply; tried = n } ∷ [])
 unfolding Step Legal Makes
@@ -65,7 +65,7 @@ did-carried old new asked op reply is ready carried = (
 )
 
 -- the same, where memory may have been wanted
-pub did-read : (old new : VolumeState) (asked op : Op) (result : Result Reply AllocError)
+pub did-read : (old new : Volume) (asked op : Op) (result : Result Reply AllocError)
     → asked ≡ op
     → IsReadyFor old op
     → IfOk result (λ reply. CarriedOut old new op reply)
@@ -75,7 +75,7 @@ did-read old new asked op (Ok reply) is ready carried =
     did-carried old new asked op reply is ready carried
 did-read old new asked op (Err error) is ready carried = tt
 
-pub did-wrong : (volume : VolumeState) (op : Op) (number : ℕ)
+pub did-wrong : (volume : Volume) (op : Op) (number : ℕ)
     → wrong_of volume.atom (volume.atoms * volume.atom) op ≡ Some number
     → (n : ℕ) × Did volume volume (record { op = op; reply = Errno number; tried = n } ∷ [])
 unfolding Step Legal Makes TellsCalls CountsCalls
@@ -119,7 +119,7 @@ nothing_done atom blocks (Write offset body fua) known =
     (refl, omega arith, zero_whole atom known, none_tried atom blocks (offset / atom) body known)
 nothing_done atom blocks Flush known = (refl, refl)
 
-pub did-broken : (volume : VolumeState) (op : Op) → IsAtom volume.atom
+pub did-broken : (volume : Volume) (op : Op) → IsAtom volume.atom
     → wrong_of volume.atom (volume.atoms * volume.atom) op ≡ None → volume.broken ≡ true
     → (n : ℕ) × Did volume volume (record { op = op; reply = Errno 5; tried = n } ∷ [])
 unfolding Step Legal Makes TellsCalls CountsCalls
@@ -147,12 +147,12 @@ did-broken volume op known proper broken = (
 )
 
 -- a reply is of the kind that was asked for
-pub reply-carried : (old new : VolumeState) (asked op : Op) (reply : Reply) → asked ≡ op
+pub reply-carried : (old new : Volume) (asked op : Op) (reply : Reply) → asked ≡ op
     → CarriedOut old new op reply → IsReplyTo reply asked
 reply-carried old new asked op reply is carried =
     rw is (reply_fits old.atom op reply carried.tried carried.calls new.broken carried.makes)
 
-pub reply-read : (old new : VolumeState) (asked op : Op) (result : Result Reply AllocError)
+pub reply-read : (old new : Volume) (asked op : Op) (result : Result Reply AllocError)
     → asked ≡ op
     → IfOk result (λ reply. CarriedOut old new op reply)
     → IfOk result (λ reply. IsReplyTo reply asked)

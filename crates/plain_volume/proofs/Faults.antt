@@ -10,7 +10,7 @@ use Rattle.plain_disk.specs.Operations.{wrong_of}
 use Rattle.plain_disk.specs.Plain.{Exchange}
 use Rattle.plain_volume.specs.Calls.{Made, outcome, all_succeeded, IsContent, MakesOp, Makes, MakesAll, CountsCalls}
 use Rattle.plain_volume.specs.Outcomes.{HasDeviceError, IsServed, AreServed, IsReplyTo}
-use Rattle.plain_volume.specs.Volume.{VolumeState, Did}
+use Rattle.plain_volume.specs.Volume.{Volume, Did}
 use Rattle.plain_volume.proofs.Tried.{match_cases, both_true}
 
 -- how an operation may go: it is wrong, finds a broken volume, or is carried out
@@ -244,7 +244,7 @@ all_error atom atoms old (exchange ∷ exchanges) calls new faults faults' makes
 
 -- an operation is answered by an error of the device only where the volume was broken from the start,
 -- or a count of faults rose
-pub error_has_cause : (old new : VolumeState) (exchanges : List Exchange) → Did old new exchanges
+pub error_has_cause : (old new : Volume) (exchanges : List Exchange) → Did old new exchanges
     → HasDeviceError exchanges → (old.broken ≡ true) ⊎ Rose old.faults new.faults
 error_has_cause old new exchanges did error =
     all_error old.atom old.atoms old.broken exchanges did.calls new.broken old.faults new.faults
@@ -310,7 +310,7 @@ all_served atom atoms old (exchange ∷ exchanges) calls new faults faults' make
     ((this.0, later.0), later.1)
 
 -- where no count rose, and the volume wasn't broken, each operation is served or refused as wrong
-pub served_without_faults : (old new : VolumeState) (exchanges : List Exchange)
+pub served_without_faults : (old new : Volume) (exchanges : List Exchange)
     → Did old new exchanges
     → old.broken ≡ false → new.faults ≡ old.faults → old.faults < 2 ^ 64 - 1
     → AreServed old.atom (old.atoms * old.atom) exchanges × (new.broken ≡ false)

@@ -24,14 +24,7 @@ place_behind atom at len (inl is) whole = rw is (let whole_512 : len % 512 ≡ 0
 place_behind atom at len (inr is) whole = rw is (let whole_4096 : len % 4096 ≡ 0 =
     subst (λ a. len % a ≡ 0) is whole in omega arith)
 
-pub piece_in_disk : (atom atoms at len : ℕ) → IsAtom atom → IsInDisk atom atoms at len
-    → IsInDisk atom atoms at (piece_of len)
-piece_in_disk atom atoms at len is in_disk = record {
-  whole =
-      piece_whole atom len is in_disk.whole;
-  within = omega (arith, in_disk.within);
-}
-
+-- what is left of a range within a disk
 pub rest_in_disk : (atom atoms at left len next rest : ℕ) → IsAtom atom
     → IsInDisk atom atoms at left
     → len ≡ piece_of left → next ≡ at + len / atom → rest ≡ left - len

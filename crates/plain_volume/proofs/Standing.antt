@@ -3,7 +3,7 @@ use Rattle.std.proofs.Common.{◌≡◌, ℕ, zero, suc, ◌+◌, ◌-◌, ◌*�
 use Rattle.std.proofs.lemmas.List.{length-map, length-replicate, take-take, drop-take}
 use Rattle.base_terms.specs.Blocks.{blocks_of, lengths, changed}
 use Rattle.plain_disk.specs.Plain.{Block, AreSure, flushed}
-use Rattle.plain_volume.specs.Volume.{VolumeState, StandsFor}
+use Rattle.plain_volume.specs.Volume.{Volume, StandsFor}
 
 -- as many blocks as atoms
 pub count_of_blocks : (count size : ℕ) (blocks : List Block)
@@ -64,7 +64,7 @@ blocks_of-take size (suc n) text enough =
     (let e : n * size ≤ length text - size = grind arith in e))))
 
 -- the same blocks stand for a volume of the same content
-pub stands-same : (old new : VolumeState) (blocks : List Block) → new.atom ≡ old.atom
+pub stands-same : (old new : Volume) (blocks : List Block) → new.atom ≡ old.atom
     → new.atoms ≡ old.atoms → new.values ≡ old.values
     → (new.broken ≡ false → old.broken ≡ false) → StandsFor old blocks → StandsFor new blocks
 stands-same old new blocks atom atoms values unbroken stands = record {

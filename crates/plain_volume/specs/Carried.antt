@@ -6,10 +6,10 @@ use Rattle.plain_disk.specs.declared.operation.Reply.{Reply}
 use Rattle.plain_disk.specs.Operations.{wrong_of}
 use Rattle.plain_disk.specs.Plain.{Block, ProperStep}
 use Rattle.plain_volume.specs.Calls.{Made, MakesOp, TellsCalls, CountsCalls}
-use Rattle.plain_volume.specs.Volume.{VolumeState, StandsFor}
+use Rattle.plain_volume.specs.Volume.{Volume, StandsFor}
 
 -- the operation isn't wrong, and the volume isn't broken
-pub record IsReadyFor (volume : VolumeState) (op : Op) : Type 0 where
+pub record IsReadyFor (volume : Volume) (op : Op) : Type 0 where
   pub proper : wrong_of volume.atom (volume.atoms * volume.atom) op ≡ None
   pub unbroken : volume.broken ≡ false
 
@@ -20,7 +20,7 @@ TakesMemory (Write offset body fua) = ⊥
 TakesMemory Flush = ⊥
 
 -- the operation was carried out, and answered
-pub record CarriedOut (old new : VolumeState) (op : Op) (reply : Reply) : Type 0 where
+pub record CarriedOut (old new : Volume) (op : Op) (reply : Reply) : Type 0 where
   pub tried : ℕ
   pub atom : new.atom ≡ old.atom
   pub atoms : new.atoms ≡ old.atoms

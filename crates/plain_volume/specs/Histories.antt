@@ -6,10 +6,10 @@ use Rattle.plain_disk.specs.Plain.{Block, Exchange, AreSure, Legal, newest_bytes
 use Rattle.sector_disk.proofs.BlockLemmas.{lengths-blocks_of, joined-blocks_of}
 use Rattle.sector_disk.specs.Steps.{Told}
 use Rattle.plain_volume.specs.Calls.{Made, MakesAll, TellsCalls, CountsCalls}
-use Rattle.plain_volume.specs.Volume.{VolumeState, StandsFor, Did}
+use Rattle.plain_volume.specs.Volume.{Volume, StandsFor, Did}
 
 -- where nothing was asked, nothing was done
-pub did_none : (volume : VolumeState) → Did volume volume []
+pub did_none : (volume : Volume) → Did volume volume []
 unfolding Legal MakesAll TellsCalls CountsCalls
 did_none volume = record {
   atom = refl;
@@ -61,7 +61,7 @@ makes-joined atom atoms old middle new (exchange ∷ xs) ys calls more
     )
 
 -- what was done first, and what was done then, was done
-pub did_joined : (old middle new : VolumeState) (xs ys : List Exchange) → Did old middle xs
+pub did_joined : (old middle new : Volume) (xs ys : List Exchange) → Did old middle xs
     → Did middle new ys → Did old new (xs ++ ys)
 did_joined old middle new xs ys first rest = record {
   atom = rest.atom ∙ first.atom;
@@ -98,7 +98,7 @@ sure_of_settled [] = tt
 sure_of_settled (value ∷ values) = (refl, sure_of_settled values)
 
 -- a volume that tells its bytes starts as the plain disk that holds them for certain
-pub stands_at_start : (volume : VolumeState) (bytes : List ℕ) → volume.values ≡ Some bytes
+pub stands_at_start : (volume : Volume) (bytes : List ℕ) → volume.values ≡ Some bytes
     → length bytes ≡ volume.atoms * volume.atom
     → StandsFor volume (settled_blocks (blocks_of volume.atom volume.atoms bytes))
 unfolding newest_bytes

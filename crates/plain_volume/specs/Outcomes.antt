@@ -9,7 +9,7 @@ use Rattle.plain_disk.specs.Plain.{Exchange}
 use Rattle.sector_disk.specs.Cells.{Cell}
 use Rattle.sector_disk.specs.Steps.{Told}
 use Rattle.plain_volume.specs.Calls.{Made, MakesAll, TellsCalls}
-use Rattle.plain_volume.specs.Volume.{VolumeState}
+use Rattle.plain_volume.specs.Volume.{Volume}
 
 -- some operation was answered by an error of the device
 unfoldable pub HasDeviceError : List Exchange → Type 0
@@ -72,7 +72,7 @@ AreSettled (cell ∷ cells) = (cell.candidates ≡ cell.current ∷ []) × AreSe
 
 -- at a moment after the calls of the earlier operations, and before those of the later ones, each
 -- atom held its current value for certain
-pub record SettledBetween (old new : VolumeState) (earlier later : List Exchange) : Type 0 where
+pub record SettledBetween (old new : Volume) (earlier later : List Exchange) : Type 0 where
   pub moment : Told
   pub settled : AreSettled moment.now
   pub first : List Made

@@ -7,7 +7,7 @@ use Rattle.plain_volume.specs.Calls.{Made, MakesAll, TellsCalls, CountsCalls}
 
 -- a volume at a moment: the atoms of its disk and their number; the current bytes and the tables,
 -- where they are told; the count of faults; and whether a write or a sync has failed
-pub record VolumeState : Type 0 where
+pub record Volume : Type 0 where
   pub atom : ℕ
   pub atoms : ℕ
   pub values : Option (List ℕ)
@@ -16,14 +16,14 @@ pub record VolumeState : Type 0 where
   pub broken : Bool
 
 -- these blocks are the volume's; while it isn't broken, its current bytes are their newest values
-pub record StandsFor (volume : VolumeState) (blocks : List Block) : Type 0 where
+pub record StandsFor (volume : Volume) (blocks : List Block) : Type 0 where
   pub even : lengths (map (λ block. block.newest) blocks) ≡ replicate volume.atoms volume.atom
   pub current : volume.broken ≡ false → (volume.values ≡ Some (newest_bytes blocks))
       × AreSure blocks
 
 -- From an old moment to a new one these operations were asked and answered: they are legal on the
 -- plain disk, and they made these device calls and no others, which moved tables and counts.
-pub record Did (old new : VolumeState) (exchanges : List Exchange) : Type 0 where
+pub record Did (old new : Volume) (exchanges : List Exchange) : Type 0 where
   pub atom : new.atom ≡ old.atom
   pub atoms : new.atoms ≡ old.atoms
   pub legal : (blocks : List Block) → StandsFor old blocks →

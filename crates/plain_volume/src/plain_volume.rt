@@ -2,7 +2,7 @@ ghost use Rattle.std.specs.Prelude.{◌≡◌, ◌*◌, ◌^◌, ◌<◌, false,
 ghost use Rattle.sector_disk.specs.Geometry.{IsAtom};
 ghost use Rattle.plain_volume.specs.Carried.{IsReadyFor, TakesMemory, CarriedOut};
 ghost use Rattle.plain_volume.specs.Outcomes.{IsReplyTo};
-ghost use Rattle.plain_volume.specs.Volume.{VolumeState, Did};
+ghost use Rattle.plain_volume.specs.Volume.{Volume, Did};
 
 use crate::reading::read_pieces;
 use crate::writing::write_pieces;
@@ -23,7 +23,7 @@ pub struct PlainVolume<D: Disk> {
 }
 
 impl<D: Disk> Model for PlainVolume<D> {
-    ghost Value = { VolumeState };
+    ghost Value = { Volume };
 
     ghost view = { λ v. record {
       atom = D.size v.disk;
@@ -136,7 +136,7 @@ impl<D: Disk> PlainVolume<D> {
         ensures { CarriedOut self.old self.new (Op.Write offset body.now fua) result }
     {
         let at = offset / u64::from(self.disk.atom());
-        let syncing = fua && body.len() != 0;
+        let syncing = fua && !body.is_empty();
         if let Err(Failed) = write_pieces(&mut self.disk, at, body.as_slice(), syncing) {
             self.broken = true;
             return Reply::Errno(DEVICE_ERROR);
