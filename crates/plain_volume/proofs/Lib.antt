@@ -1,0 +1,10 @@
+pub mod Carrying
+pub mod Certainty
+pub mod Doing
+pub mod Faults
+pub mod PieceCalls
+pub mod Places
+pub mod Runs
+pub mod Standing
+pub mod Texts
+pub mod Tried

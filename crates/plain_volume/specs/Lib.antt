@@ -1,0 +1,7 @@
+pub mod Calls
+pub mod Carried
+pub mod Histories
+pub mod Outcomes
+pub mod Pieces
+pub mod Values
+pub mod Volume
