@@ -1,6 +1,6 @@
 // HMAC under one key, whose padded blocks are hashed once.
 
-ghost use Rattle.std.specs.Prelude.{◌≡◌, ℕ, ◌≤◌, List, ◌++◌, length};
+ghost use Rattle.std.specs.Prelude.{◌≡◌, ℕ, List, ◌++◌, length};
 ghost use Rattle.pbkdf2_hmac.specs.Hashes.{block_len, digest_len};
 ghost use Rattle.pbkdf2_hmac.specs.Hmac.{key_block, padded, padded_key, hmac_of};
 ghost use Rattle.pbkdf2_hmac.specs.Keyed.{IsKeyed};
