@@ -1,0 +1,5 @@
+pub mod Overwrites
+pub mod Padding
+pub mod Lengths
+pub mod Rounds
+pub mod Cuts
