@@ -1,0 +1,4 @@
+pub mod Tables
+pub mod Blocks
+pub mod Words
+pub mod Rounds

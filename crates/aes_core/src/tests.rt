@@ -1,0 +1,124 @@
+use crate::{Aes, KeyLength};
+use cipher_laws::BlockCipher;
+use std::test::Fail;
+
+// A key of 16 bytes, or of 32 whose second half stands in `more`, a block and what it is sealed to.
+struct Vector {
+    key: u128,
+    more: Option<u128>,
+    plain: u128,
+    sealed: u128,
+}
+
+// FIPS 197, appendices B, C.1 and C.3, and NIST SP 800-38A, sections F.1.1 and F.1.5.
+const PUBLISHED: [Vector; 11] = [
+    Vector {
+        key: 0x00010203_04050607_08090a0b_0c0d0e0f,
+        more: None,
+        plain: 0x00112233_44556677_8899aabb_ccddeeff,
+        sealed: 0x69c4e0d8_6a7b0430_d8cdb780_70b4c55a,
+    },
+    Vector {
+        key: 0x2b7e1516_28aed2a6_abf71588_09cf4f3c,
+        more: None,
+        plain: 0x3243f6a8_885a308d_313198a2_e0370734,
+        sealed: 0x3925841d_02dc09fb_dc118597_196a0b32,
+    },
+    Vector {
+        key: 0x2b7e1516_28aed2a6_abf71588_09cf4f3c,
+        more: None,
+        plain: 0x6bc1bee2_2e409f96_e93d7e11_7393172a,
+        sealed: 0x3ad77bb4_0d7a3660_a89ecaf3_2466ef97,
+    },
+    Vector {
+        key: 0x2b7e1516_28aed2a6_abf71588_09cf4f3c,
+        more: None,
+        plain: 0xae2d8a57_1e03ac9c_9eb76fac_45af8e51,
+        sealed: 0xf5d3d585_03b9699d_e785895a_96fdbaaf,
+    },
+    Vector {
+        key: 0x2b7e1516_28aed2a6_abf71588_09cf4f3c,
+        more: None,
+        plain: 0x30c81c46_a35ce411_e5fbc119_1a0a52ef,
+        sealed: 0x43b1cd7f_598ece23_881b00e3_ed030688,
+    },
+    Vector {
+        key: 0x2b7e1516_28aed2a6_abf71588_09cf4f3c,
+        more: None,
+        plain: 0xf69f2445_df4f9b17_ad2b417b_e66c3710,
+        sealed: 0x7b0c785e_27e8ad3f_82232071_04725dd4,
+    },
+    Vector {
+        key: 0x00010203_04050607_08090a0b_0c0d0e0f,
+        more: Some(0x10111213_14151617_18191a1b_1c1d1e1f),
+        plain: 0x00112233_44556677_8899aabb_ccddeeff,
+        sealed: 0x8ea2b7ca_516745bf_eafc4990_4b496089,
+    },
+    Vector {
+        key: 0x603deb10_15ca71be_2b73aef0_857d7781,
+        more: Some(0x1f352c07_3b6108d7_2d9810a3_0914dff4),
+        plain: 0x6bc1bee2_2e409f96_e93d7e11_7393172a,
+        sealed: 0xf3eed1bd_b5d2a03c_064b5a7e_3db181f8,
+    },
+    Vector {
+        key: 0x603deb10_15ca71be_2b73aef0_857d7781,
+        more: Some(0x1f352c07_3b6108d7_2d9810a3_0914dff4),
+        plain: 0xae2d8a57_1e03ac9c_9eb76fac_45af8e51,
+        sealed: 0x591ccb10_d410ed26_dc5ba74a_31362870,
+    },
+    Vector {
+        key: 0x603deb10_15ca71be_2b73aef0_857d7781,
+        more: Some(0x1f352c07_3b6108d7_2d9810a3_0914dff4),
+        plain: 0x30c81c46_a35ce411_e5fbc119_1a0a52ef,
+        sealed: 0xb6ed21b9_9ca6f4f9_f153e7b1_beafed1d,
+    },
+    Vector {
+        key: 0x603deb10_15ca71be_2b73aef0_857d7781,
+        more: Some(0x1f352c07_3b6108d7_2d9810a3_0914dff4),
+        plain: 0xf69f2445_df4f9b17_ad2b417b_e66c3710,
+        sealed: 0x23304b7a_39f9f3ff_067d8d8f_9e24ecc7,
+    },
+];
+
+#[test]
+fn published_vectors(rt: HostRuntime) -> Result<(), Fail> {
+    for vector in &PUBLISHED {
+        let mut key = [0; 32];
+        key[..16].copy_from_slice(&vector.key.to_be_bytes());
+        key[16..].copy_from_slice(&vector.more.unwrap_or(0).to_be_bytes());
+        let length = if vector.more.is_some() { 32 } else { 16 };
+        let cipher = Aes::new(&key[..length])?;
+        let mut block = vector.plain.to_be_bytes();
+        cipher.seal(&mut block);
+        assert_eq!(rt; u128::from_be_bytes(block), vector.sealed, "sealed");
+        cipher.unseal(&mut block);
+        assert_eq!(rt; u128::from_be_bytes(block), vector.plain, "unsealed");
+    }
+    Ok(())
+}
+
+#[test]
+fn other_key_lengths_are_refused(rt: HostRuntime) {
+    let bytes = [0x5a; 64];
+    for length in [0, 1, 15, 17, 24, 31, 33, 48, 64] {
+        let refused = Aes::new(&bytes[..length]).err();
+        assert_eq!(rt; refused, Some(KeyLength(length)), "at {length}");
+    }
+    assert!(rt; Aes::new(&bytes[..16]).is_ok());
+    assert!(rt; Aes::new(&bytes[..32]).is_ok());
+}
+
+fn is_shared<T: Send + Sync>(_value: &T) {}
+
+#[test]
+fn a_key_is_shared_between_threads(rt: HostRuntime) -> Result<(), Fail> {
+    let cipher = Aes::new(&[0; 16])?;
+    is_shared(&cipher);
+    let mut block = [0; 16];
+    cipher.seal(&mut block);
+    assert_eq!(rt;
+        u128::from_be_bytes(block),
+        0x66e94bd4_ef8a2c3b_884cfa59_ca342b2e
+    );
+    Ok(())
+}

@@ -1,0 +1,58 @@
+// A cipher turned round.
+
+ghost use Rattle.std.specs.Prelude.{◌≡◌, ℕ, ◌%◌, length};
+
+use crate::{BlockCipher, SectorMode};
+
+/// The inverse of a cipher: what seals for the one unseals for the other. A mode or a loop that
+/// works alike in both directions is written once, and called with the cipher or its inverse.
+#[derive_where(Clone, Copy)]
+pub struct Inverse<'a, C>(pub &'a C);
+
+impl<C: BlockCipher> BlockCipher for Inverse<'_, C> {
+    ghost sealed = { λ it. C.opened it.0.now };
+
+    ghost opened = { λ it. C.sealed it.0.now };
+
+    fn seal(&self, block: &mut [u8; 16]) {
+        self.0.unseal(block);
+    }
+
+    fn unseal(&self, block: &mut [u8; 16]) {
+        self.0.seal(block);
+    }
+
+    ghost sealed_block = { λ it. C.opened_block it.0.now };
+
+    ghost opened_block = { λ it. C.sealed_block it.0.now };
+
+    ghost unseal_undoes_seal = { λ it. C.seal_undoes_unseal it.0.now };
+
+    ghost seal_undoes_unseal = { λ it. C.unseal_undoes_seal it.0.now };
+}
+
+impl<C: SectorMode> SectorMode for Inverse<'_, C> {
+    ghost sealed = { λ it. C.opened it.0.now };
+
+    ghost opened = { λ it. C.sealed it.0.now };
+
+    fn seal_sector(&self, number: u64, sector: &mut [u8]) {
+        self.0.unseal_sector(number, sector);
+    }
+
+    fn unseal_sector(&self, number: u64, sector: &mut [u8]) {
+        self.0.seal_sector(number, sector);
+    }
+
+    ghost sealed_length = { λ it. C.opened_length it.0.now };
+
+    ghost opened_length = { λ it. C.sealed_length it.0.now };
+
+    ghost sealed_bytes = { λ it. C.opened_bytes it.0.now };
+
+    ghost opened_bytes = { λ it. C.sealed_bytes it.0.now };
+
+    ghost unseal_undoes_seal = { λ it. C.seal_undoes_unseal it.0.now };
+
+    ghost seal_undoes_unseal = { λ it. C.unseal_undoes_seal it.0.now };
+}

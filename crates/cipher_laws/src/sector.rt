@@ -1,0 +1,51 @@
+// A cipher of runs of sectors, as a disk holds them.
+
+ghost use Rattle.std.specs.Prelude.{◌≡◌, ℕ, ◌+◌, ◌/◌, ◌%◌, ◌^◌, ◌<◌, List, length, ◌++◌};
+ghost use Rattle.cipher_laws.specs.Bytes.{AreBytes, AreSectors};
+
+/// A cipher of sectors with its keys: it works on whole sectors in a row, whose first 512 bytes
+/// have the IV number `first`. Each further 512 bytes raise the number by one, whatever the size
+/// of a sector.
+pub trait SectorCipher {
+    // bytes of a sector
+    ghost sector: { Self → ℕ };
+
+    // what bytes become when they are sealed, and unsealed, under the IV number of their first 512
+    ghost sealed: { Self → ℕ → List ℕ → List ℕ };
+
+    ghost opened: { Self → ℕ → List ℕ → List ℕ };
+
+    /// Encrypts whole sectors where they lie. `first` and the bytes' units of 512 together don't
+    /// pass the largest `u64`.
+    fn seal_atom(&self, first: u64, bytes: &mut [u8])
+        requires whole { length bytes.old % sector self.now ≡ 0 }
+        requires in_range { first + length bytes.old / 512 < 2 ^ 64 }
+        ensures { bytes.new ≡ sealed self.now first bytes.old };
+
+    /// Decrypts whole sectors where they lie, under the same conditions.
+    fn unseal_atom(&self, first: u64, bytes: &mut [u8])
+        requires whole { length bytes.old % sector self.now ≡ 0 }
+        requires in_range { first + length bytes.old / 512 < 2 ^ 64 }
+        ensures { bytes.new ≡ opened self.now first bytes.old };
+
+    ghost some_sector: { (c : Self) → 0 < sector c };
+
+    ghost sealed_length: { (c : Self) (first : ℕ) (bytes : List ℕ) → AreSectors (sector c) bytes → length (sealed c first bytes) ≡ length bytes };
+
+    ghost opened_length: { (c : Self) (first : ℕ) (bytes : List ℕ) → AreSectors (sector c) bytes → length (opened c first bytes) ≡ length bytes };
+
+    ghost sealed_bytes: { (c : Self) (first : ℕ) (bytes : List ℕ) → AreSectors (sector c) bytes → AreBytes (sealed c first bytes) };
+
+    ghost opened_bytes: { (c : Self) (first : ℕ) (bytes : List ℕ) → AreSectors (sector c) bytes → AreBytes (opened c first bytes) };
+
+    ghost unseal_undoes_seal: { (c : Self) (first : ℕ) (bytes : List ℕ) → AreSectors (sector c) bytes → opened c first (sealed c first bytes) ≡ bytes };
+
+    ghost seal_undoes_unseal: { (c : Self) (first : ℕ) (bytes : List ℕ) → AreSectors (sector c) bytes → sealed c first (opened c first bytes) ≡ bytes };
+
+    // sectors that follow others are sealed under the number that follows theirs
+    ghost sealed_joined: { (c : Self) (first : ℕ) (front back : List ℕ) → AreSectors (sector c) front → AreSectors (sector c) back →
+        sealed c first (front ++ back) ≡ sealed c first front ++ sealed c (first + length front / 512) back };
+
+    ghost opened_joined: { (c : Self) (first : ℕ) (front back : List ℕ) → AreSectors (sector c) front → AreSectors (sector c) back →
+        opened c first (front ++ back) ≡ opened c first front ++ opened c (first + length front / 512) back };
+}
