@@ -1,0 +1,24 @@
+-- CBC (NIST SP 800-38A, 6.2) on sectors of whole blocks, with the IV of ESSIV: `seal` and `unseal` are what the data cipher makes of
+-- a block, and `seal_iv` what the IV's cipher does.
+use Rattle.std.specs.Prelude.{ℕ, ◌/◌, List, length}
+use Rattle.cipher_blocks.specs.Blocks.{xored, number_block}
+use Rattle.cipher_blocks.specs.Pieces.{worked}
+
+-- one block, sealed after the sealed block before it: the two are xored first
+unfoldable pub seal_after : (List ℕ → List ℕ) → List ℕ → List ℕ → List ℕ
+seal_after seal before block = seal (xored block before)
+
+-- one sealed block, opened after the sealed block before it
+unfoldable pub unseal_after : (List ℕ → List ℕ) → List ℕ → List ℕ → List ℕ
+unseal_after unseal before block = xored (unseal block) before
+
+-- the blocks of a sector in turn, each after the sealed one before it, and the first after the IV
+unfoldable pub cbc_sealed : (List ℕ → List ℕ) → List ℕ → List ℕ → List ℕ
+cbc_sealed seal iv sector = worked (seal_after seal) (λ _ _ sealed. sealed) 16 iv (length sector / 16) sector
+
+unfoldable pub cbc_opened : (List ℕ → List ℕ) → List ℕ → List ℕ → List ℕ
+cbc_opened unseal iv sector = worked (unseal_after unseal) (λ _ sealed _. sealed) 16 iv (length sector / 16) sector
+
+-- the IV of the sector with this number
+unfoldable pub essiv : (List ℕ → List ℕ) → ℕ → List ℕ
+essiv seal_iv number = seal_iv (number_block number)

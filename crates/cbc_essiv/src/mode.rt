@@ -1,0 +1,94 @@
+// CBC over a block cipher.
+
+ghost use Rattle.std.specs.Prelude.{◌≡◌, ℕ, ◌%◌, ◌/◌, length};
+ghost use Rattle.cipher_blocks.specs.Blocks.{xored, number_block};
+ghost use Rattle.cbc_essiv.specs.Cbc.{cbc_sealed, cbc_opened, essiv};
+
+use cipher_blocks::{block_at, number_block, put_block, xor};
+use cipher_laws::{BlockCipher, SectorMode};
+
+/// CBC with its two keys, each in a block cipher of its own.
+#[derive(Drop)]
+pub struct CbcEssiv<B> {
+    body: B,
+    iv: B,
+}
+
+impl<B> CbcEssiv<B> {
+    /// CBC that seals blocks by `body`, and the sector's number by `iv`.
+    pub fn new(body: B, iv: B) -> Self
+        ensures body { result.body ≡ body }
+        ensures iv { result.iv ≡ iv }
+    {
+        CbcEssiv { body, iv }
+    }
+}
+
+impl<B: BlockCipher> CbcEssiv<B> {
+    // The IV of the sector with this number.
+    #[tactic(auto, unfolding(crate::specs::Cbc::essiv))]
+    fn first_chain(&self, number: u64) -> [u8; 16]
+        ensures { result ≡ essiv (B.sealed self.now.iv) number }
+    {
+        let mut block = number_block(u128::from(number));
+        self.iv.seal(&mut block);
+        block
+    }
+}
+
+// Seals a sector's blocks, the first of them after the block `iv`.
+fn seal_chain<C: BlockCipher>(cipher: &C, iv: &[u8; 16], sector: &mut [u8])
+    requires { length sector.old % 16 ≡ 0 }
+    ensures { sector.new ≡ cbc_sealed (C.sealed cipher.now) iv.now sector.old }
+{
+    let mut chain = *iv;
+    for i in 0..sector.len() / 16 {
+        let mut block = xor(&block_at(sector, 16 * i), &chain);
+        cipher.seal(&mut block);
+        put_block(sector, 16 * i, &block);
+        chain = block;
+    }
+}
+
+// Unseals a sector's blocks, the first of them after the block `iv`.
+fn unseal_chain<C: BlockCipher>(cipher: &C, iv: &[u8; 16], sector: &mut [u8])
+    requires { length sector.old % 16 ≡ 0 }
+    ensures { sector.new ≡ cbc_opened (C.opened cipher.now) iv.now sector.old }
+{
+    let mut chain = *iv;
+    for i in 0..sector.len() / 16 {
+        let sealed = block_at(sector, 16 * i);
+        let mut block = sealed;
+        cipher.unseal(&mut block);
+        put_block(sector, 16 * i, &xor(&block, &chain));
+        chain = sealed;
+    }
+}
+
+impl<B: BlockCipher> SectorMode for CbcEssiv<B> {
+    ghost use Rattle.cbc_essiv.specs.Laws.{essiv_is_block, length-cbc_sealed, length-cbc_opened, bytes-cbc_sealed, bytes-cbc_opened, cbc_unsealed, cbc_sealed_again};
+
+    ghost sealed = { λ c number. cbc_sealed (B.sealed c.body) (essiv (B.sealed c.iv) number) };
+
+    ghost opened = { λ c number. cbc_opened (B.opened c.body) (essiv (B.sealed c.iv) number) };
+
+    fn seal_sector(&self, number: u64, sector: &mut [u8]) {
+        seal_chain(&self.body, &self.first_chain(number), sector);
+    }
+
+    fn unseal_sector(&self, number: u64, sector: &mut [u8]) {
+        unseal_chain(&self.body, &self.first_chain(number), sector);
+    }
+
+    ghost sealed_length = { λ c number sector. length-cbc_sealed (B.sealed c.body) (B.sealed_block c.body) (essiv (B.sealed c.iv) number) sector (essiv_is_block (B.sealed c.iv) (B.sealed_block c.iv) number) };
+
+    ghost opened_length = { λ c number sector. length-cbc_opened (B.opened c.body) (B.opened_block c.body) (essiv (B.sealed c.iv) number) sector (essiv_is_block (B.sealed c.iv) (B.sealed_block c.iv) number) };
+
+    ghost sealed_bytes = { λ c number sector. bytes-cbc_sealed (B.sealed c.body) (B.sealed_block c.body) (essiv (B.sealed c.iv) number) sector (essiv_is_block (B.sealed c.iv) (B.sealed_block c.iv) number) };
+
+    ghost opened_bytes = { λ c number sector. bytes-cbc_opened (B.opened c.body) (B.opened_block c.body) (essiv (B.sealed c.iv) number) sector (essiv_is_block (B.sealed c.iv) (B.sealed_block c.iv) number) };
+
+    ghost unseal_undoes_seal = { λ c number sector. cbc_unsealed (B.sealed c.body) (B.opened c.body) (B.sealed_block c.body) (B.unseal_undoes_seal c.body) (essiv (B.sealed c.iv) number) sector (essiv_is_block (B.sealed c.iv) (B.sealed_block c.iv) number) };
+
+    ghost seal_undoes_unseal = { λ c number sector. cbc_sealed_again (B.sealed c.body) (B.opened c.body) (B.opened_block c.body) (B.seal_undoes_unseal c.body) (essiv (B.sealed c.iv) number) sector (essiv_is_block (B.sealed c.iv) (B.sealed_block c.iv) number) };
+}

@@ -1,0 +1,3 @@
+pub mod BytesLemmas
+pub mod BlockLemmas
+pub mod PieceLemmas

@@ -1,0 +1,7 @@
+pub mod Context
+pub mod Disk
+pub mod DiskLaws
+pub mod Keys
+pub mod Names
+pub mod SectorLaws
+pub mod Sectors

@@ -1,0 +1,113 @@
+// XTS over a block cipher.
+
+ghost use Rattle.std.specs.Prelude.{◌≡◌, ℕ, ◌%◌, ◌/◌, length};
+ghost use Rattle.std.specs.Int.{from_le_bytes, w128};
+ghost use Rattle.cipher_blocks.specs.Blocks.{number_block};
+ghost use Rattle.xts_mode.specs.Xts.{doubled, whitened, xts_from, xts};
+
+use cipher_blocks::{block_at, number_block, put_block, xor};
+use cipher_laws::{BlockCipher, Inverse, SectorMode};
+
+/// XTS with its two keys, each in a block cipher of its own.
+#[derive(Drop)]
+pub struct Xts<B> {
+    body: B,
+    tweak: B,
+}
+
+impl<B> Xts<B> {
+    /// XTS that seals blocks by `body`, and the sector's number by `tweak`. In a key of XTS the
+    /// first half is the body's (IEEE 1619, 5.1).
+    pub fn new(body: B, tweak: B) -> Self
+        ensures body { result.body ≡ body }
+        ensures tweak { result.tweak ≡ tweak }
+    {
+        Xts { body, tweak }
+    }
+}
+
+impl<B: BlockCipher> Xts<B> {
+    // The tweak of a sector's first block.
+    fn first_tweak(&self, number: u64) -> u128
+        ensures { result ≡ from_le_bytes w128 (B.sealed self.now.tweak (number_block number)) }
+    {
+        let mut block = number_block(u128::from(number));
+        self.tweak.seal(&mut block);
+        u128::from_le_bytes(block)
+    }
+}
+
+// The tweak times alpha.
+#[inline(always)]
+fn double(tweak: u128) -> u128
+    ensures { result ≡ doubled tweak }
+{
+    (tweak << 1) ^ ((tweak >> 127) * 0x87)
+}
+
+// One block under its tweak.
+#[inline(always)]
+#[tactic(auto, unfolding(crate::specs::Xts::whitened))]
+fn whiten<C: BlockCipher>(cipher: &C, tweak: u128, block: &[u8; 16]) -> [u8; 16]
+    ensures { result ≡ whitened (C.sealed cipher.now) tweak block.now }
+{
+    let mask = number_block(tweak);
+    let mut masked = xor(block, &mask);
+    cipher.seal(&mut masked);
+    xor(&masked, &mask)
+}
+
+// The blocks of a sector, the first of them under the tweak `first`.
+fn whiten_blocks<C: BlockCipher>(cipher: &C, first: u128, sector: &mut [u8])
+    requires { length sector.old % 16 ≡ 0 }
+    ensures { sector.new ≡ xts_from (C.sealed cipher.now) first sector.old }
+{
+    let mut tweak = first;
+    for i in 0..sector.len() / 16 {
+        let block = block_at(sector, 16 * i);
+        put_block(sector, 16 * i, &whiten(cipher, tweak, &block));
+        tweak = double(tweak);
+    }
+}
+
+#[tactic(auto, unfolding(crate::specs::Xts::xts))]
+impl<B: BlockCipher> SectorMode for Xts<B> {
+    ghost use Rattle.xts_mode.specs.Laws.{length-xts, bytes-xts, xts_undone};
+
+    ghost sealed = { λ x. xts (B.sealed x.body) (B.sealed x.tweak) };
+
+    ghost opened = { λ x. xts (B.opened x.body) (B.sealed x.tweak) };
+
+    fn seal_sector(&self, number: u64, sector: &mut [u8]) {
+        whiten_blocks(&self.body, self.first_tweak(number), sector);
+    }
+
+    fn unseal_sector(&self, number: u64, sector: &mut [u8]) {
+        whiten_blocks(&Inverse(&self.body), self.first_tweak(number), sector);
+    }
+
+    ghost sealed_length = { λ x. length-xts (B.sealed x.body) (B.sealed x.tweak) (B.sealed_block x.body) };
+
+    ghost opened_length = { λ x. length-xts (B.opened x.body) (B.sealed x.tweak) (B.opened_block x.body) };
+
+    ghost sealed_bytes = { λ x. bytes-xts (B.sealed x.body) (B.sealed x.tweak) (B.sealed_block x.body) };
+
+    ghost opened_bytes = { λ x. bytes-xts (B.opened x.body) (B.sealed x.tweak) (B.opened_block x.body) };
+
+    ghost unseal_undoes_seal = { λ x. xts_undone (B.opened x.body) (B.sealed x.body) (B.sealed x.tweak) (B.sealed_block x.body) (B.unseal_undoes_seal x.body) };
+
+    ghost seal_undoes_unseal = { λ x. xts_undone (B.sealed x.body) (B.opened x.body) (B.sealed x.tweak) (B.opened_block x.body) (B.seal_undoes_unseal x.body) };
+}
+
+#[cfg(test)]
+mod tests {
+    use super::*;
+
+    #[test]
+    fn the_top_bit_comes_back_as_87(rt: HostRuntime) {
+        assert_eq!(rt; double(1), 2);
+        assert_eq!(rt; double(1 << 126), 1 << 127);
+        assert_eq!(rt; double(1 << 127), 0x87);
+        assert_eq!(rt; double(u128::MAX), (u128::MAX - 1) ^ 0x87);
+    }
+}
