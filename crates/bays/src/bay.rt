@@ -1,4 +1,4 @@
-ghost use Rattle.std.specs.Prelude.{◌≡◌, ◌<◌, ℕ, List, Option, Some, IfOk, length};
+ghost use Rattle.std.specs.Prelude.{◌≡◌, ◌<◌, ◌≤◌, ℕ, List, Option, Some, IfOk, length, slice_index_or};
 ghost use Rattle.sector_disk.specs.Geometry.{IsAtom};
 ghost use Rattle.bays.specs.Bays.{HasBayCause, AreFresh};
 ghost use Rattle.bays.specs.Stories.{Script};
@@ -55,5 +55,6 @@ pub trait Bay {
         requires { 0 < workers }
         ensures count { IfOk result (λ links. length links.items ≡ workers) }
         ensures fresh { IfOk result (λ links. AreFresh Self.Link.told (inputs self.old) workers sessions links.items) }
+        ensures bound { IfOk result (λ links. (k : ℕ) (d : Self.Link) → k < workers → Self.Link.bound (slice_index_or links.items k d) ≤ sessions) }
         ensures cause { HasBayCause (faults self.old) (faults self.new) result };
 }

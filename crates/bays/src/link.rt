@@ -1,4 +1,4 @@
-ghost use Rattle.std.specs.Prelude.{◌≡◌, ◌+◌, ℕ, ◌<◌, List, Option, Result, IfOk, IfSome};
+ghost use Rattle.std.specs.Prelude.{◌≡◌, ◌+◌, ℕ, ◌<◌, List, [], Option, Some, Result, IfOk, IfSome, IfNone, MatchResult, MatchOption};
 ghost use Rattle.base_terms.specs.Causes.{HasCause};
 ghost use Rattle.bays.specs.Stories.{Story, Gives, TakesBack};
 
@@ -14,6 +14,9 @@ pub trait Link {
     /// What it has ahead and was handed back, where it is told.
     ghost told: { Self → Option Story };
 
+    /// At most how many connections are still to come.
+    ghost bound: { Self → ℕ };
+
     /// How many connections it gave that weren't handed back yet.
     ghost lent: { Self → ℕ };
 
@@ -23,6 +26,9 @@ pub trait Link {
     /// The next connection; None where there is no more.
     fn next(&mut self) -> Result<Option<(Self::In, Self::Out)>, Failed>
         ensures told { Gives Self.In.given Self.In.left Self.In.faults Self.Out.had Self.Out.faults (told self.old) (told self.new) result }
+        ensures at_end { IfOk result (λ given. IfNone given ((story : Story) → told self.old ≡ Some story → story.ahead ≡ [])) }
+        ensures bound { MatchResult result (λ given. MatchOption given (bound self.new ≡ bound self.old) (λ _. bound self.new + 1 ≡ bound self.old))
+            (λ _. bound self.new ≡ bound self.old) }
         ensures lent { IfOk result (λ given. IfSome given (λ _. lent self.new ≡ lent self.old + 1)) }
         ensures cause { HasCause (faults self.old) (faults self.new) result };
 
@@ -31,5 +37,6 @@ pub trait Link {
         requires { 0 < lent self.old }
         ensures told { TakesBack (Self.In.given source) (Self.In.left source) (Self.In.faults source) (Self.Out.had sink) (Self.Out.faults sink)
             (told self.old) (told self.new) }
+        ensures bound { bound self.new ≡ bound self.old }
         ensures faults { faults self.new ≡ faults self.old };
 }

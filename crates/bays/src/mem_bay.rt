@@ -1,4 +1,4 @@
-ghost use Rattle.std.specs.Prelude.{◌≡◌, ℕ, ◌<◌, ◌⊎◌, ◌↔◌, [], length, map, take, drop, slice_index_or, Some, true, false, not, is_some, IsTrue, IfOk, IfErr, IfSome, OnOk, OnErr, IsErr, IsErrOf, Contains, MatchOption};
+ghost use Rattle.std.specs.Prelude.{◌≡◌, ℕ, ◌<◌, ◌≤◌, ◌⊎◌, ◌↔◌, [], length, map, take, drop, slice_index_or, Some, true, false, not, is_some, IsTrue, IfOk, IfErr, IfSome, OnOk, OnErr, IsErr, IsErrOf, Contains, MatchOption};
 ghost use Rattle.std.specs.String.{string_bytes};
 ghost use Rattle.std.specs.Str.{bytes_eq};
 ghost use Rattle.io_edge.specs.FaultPlan.{fresh_plan, next_plan};
@@ -207,6 +207,7 @@ impl Bay for MemBay {
         requires { 0 < workers }
         ensures count { IfOk result (λ links. length links.items ≡ workers) }
         ensures fresh { IfOk result (λ links. AreFresh story_of (inputs_of self.old) workers sessions links.items) }
+        ensures bound { IfOk result (λ links. (k : ℕ) (link : _) → k < workers → length (slice_index_or links.items k link).ahead ≤ sessions) }
         ensures cause { HasBayCause self.old.plan.faults self.new.plan.faults result }
         ensures exact { IsErrOf result BayFault.Failed ↔ (IsTrue (not (bytes_eq address.now self.old.address)) ⊎ Contains self.old.plan.fails self.old.plan.calls) }
         ensures dealt { IfOk result (λ links. AreDealt self.old.connections self.old.link_fails workers sessions links.items) }

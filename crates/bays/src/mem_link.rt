@@ -1,8 +1,8 @@
-ghost use Rattle.std.specs.Prelude.{◌≡◌, ℕ, ◌+◌, ◌-◌, ◌<◌, ◌↔◌, [], ◌∷◌, ◌++◌, length, option_to_list, Some, false, true, IfNone, IfOk, IfSome, OnErr, IsErr, Contains};
+ghost use Rattle.std.specs.Prelude.{◌≡◌, ℕ, ◌+◌, ◌-◌, ◌<◌, ◌↔◌, [], ◌∷◌, ◌++◌, length, option_to_list, Some, false, true, IfNone, IfOk, IfSome, MatchResult, MatchOption, OnErr, IsErr, Contains};
 ghost use Rattle.base_terms.specs.Causes.{HasCause};
 ghost use Rattle.io_edge.specs.FaultPlan.{fresh_plan, next_plan};
 ghost use Rattle.bays.specs.Memory.{story_of};
-ghost use Rattle.bays.specs.Stories.{Gives, TakesBack};
+ghost use Rattle.bays.specs.Stories.{Gives, Story, TakesBack};
 
 use crate::Link;
 use base_terms::Failed;
@@ -72,6 +72,8 @@ impl Link for MemLink {
 
     ghost told = { story_of };
 
+    ghost bound = { λ l. length l.ahead };
+
     ghost lent = { λ l. l.lent };
 
     ghost faults = { λ l. l.plan.faults };
@@ -80,6 +82,9 @@ impl Link for MemLink {
     /// but the counts. There is no connection exactly where none is ahead.
     fn next(&mut self) -> Result<Option<(ListSource, ListSink)>, Failed>
         ensures told { Gives (λ i. Some i.given) (λ i. Some i.left) (λ i. i.plan.faults) (λ o. Some o.had) (λ o. o.plan.faults) (story_of self.old) (story_of self.new) result }
+        ensures at_end { IfOk result (λ given. IfNone given ((story : Story) → story_of self.old ≡ Some story → story.ahead ≡ [])) }
+        ensures bound { MatchResult result (λ given. MatchOption given (length self.new.ahead ≡ length self.old.ahead) (λ _. length self.new.ahead + 1 ≡ length self.old.ahead))
+            (λ _. length self.new.ahead ≡ length self.old.ahead) }
         ensures lent { IfOk result (λ given. IfSome given (λ _. self.new.lent ≡ self.old.lent + 1)) }
         ensures cause { HasCause self.old.plan.faults self.new.plan.faults result }
         ensures exact { IsErr result ↔ Contains self.old.plan.fails self.old.plan.calls }
@@ -106,6 +111,7 @@ impl Link for MemLink {
     fn done(&mut self, source: ListSource, sink: ListSink)
         requires { 0 < self.old.lent }
         ensures told { TakesBack (Some source.given) (Some source.left) source.plan.faults (Some sink.had) sink.plan.faults (story_of self.old) (story_of self.new) }
+        ensures bound { length self.new.ahead ≡ length self.old.ahead }
         ensures faults { self.new.plan.faults ≡ self.old.plan.faults }
         ensures takes { self.new ≡ record self.old { lent = self.old.lent - 1; handed = self.old.handed ++ (source, sink) ∷ [] } }
     {

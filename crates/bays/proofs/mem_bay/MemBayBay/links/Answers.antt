@@ -1,8 +1,9 @@
-use Rattle.std.proofs.Common.{◌≡◌, length, take, drop, ◌++◌, not, refl, arith}
+use Rattle.std.proofs.Common.{◌≡◌, length, take, drop, ◌++◌, not, refl, ap, arith, length-take}
 use Rattle.std.proofs.lemmas.List.{take_at}
 use Rattle.std.specs.Str.{bytes_eq}
 use Rattle.std.specs.String.{string_bytes}
 use Rattle.bays.proofs.DealLemmas.{dealt_from_shares}
+use Rattle.bays.proofs.ShareLemmas.{length-share}
 use Rattle.bays.proofs.TellLemmas.{fresh_from_dealt}
 use Rattle.bays.proofs.mem_bay.MemBayBay.links.Goals as goal
 
@@ -22,3 +23,13 @@ returns-in-Ok-clause-dealt c =
 
 pub returns-in-Ok-clause-fresh : goal.returns-in-Ok-clause-fresh
 returns-in-Ok-clause-fresh c = fresh_from_dealt c.args.self.now _ _ _ (returns-in-Ok-clause-dealt c)
+
+pub returns-in-Ok-clause-bound : goal.returns-in-Ok-clause-bound
+returns-in-Ok-clause-bound c = λ k link inside.
+    let dealt = ap (λ line. length line.ahead) (returns-in-Ok-clause-dealt c k link inside) in
+    omega (
+      arith,
+      dealt,
+      length-share c.args.workers k 0 (take c.args.sessions c.args.self.now.connections),
+      length-take c.args.sessions c.args.self.now.connections,
+    )

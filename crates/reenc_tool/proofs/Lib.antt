@@ -1,0 +1,7 @@
+mod AskingLemmas
+mod LaneLemmas
+mod RoundLemmas
+mod RunLemmas
+mod TextLemmas
+mod TurnLemmas
+mod WordLemmas

@@ -1,0 +1,44 @@
+use Rattle.std.proofs.Common.{ap, sym, subst, inl, inr, Err}
+use Rattle.reenc_tool.specs.declared.ended.Cause.{Cause}
+use Rattle.reenc_tool.specs.Running.{IsStopped}
+use Rattle.reenc_tool.proofs.RunLemmas.{ended_earlier}
+use Rattle.reenc_tool.proofs.commands.execute.Goals as goal
+
+pub returns-in-Ok-clause-came : goal.returns-in-Ok-clause-came
+returns-in-Ok-clause-came g c =
+    inr (
+      record { disk = c.in-Some.command.disk.now; atom = c.in-Some.command.atom; address = c.in-Some.command.address.now; sessions = c.in-Some.command.sessions },
+      c.in-Some.ensures,
+      inl (record {
+        disk = c.in-Ok.disk;
+        kept = c.in-Ok.ensures.told;
+        atom = c.in-Ok.ensures.atom;
+        ended = ended_earlier _ g.B.Link.Link.told g.B.Link.Link.faults _ _ _ _ c.in-Ok.disk _ _ (g.B.Bay.faults c.disk.new.self) _ _ _ _ _
+            c.in-Ok.ensures.inputs c.in-Ok.ensures.cause.later c.serve_plain.ensures.ended;
+      }),
+    )
+
+pub returns-in-Err-Failed-clause-came : goal.returns-in-Err-Failed-clause-came
+returns-in-Err-Failed-clause-came g c =
+    inr (
+      record { disk = c.in-Some.command.disk.now; atom = c.in-Some.command.atom; address = c.in-Some.command.address.now; sessions = c.in-Some.command.sessions },
+      c.in-Some.ensures,
+      inr (
+        c.refused-in-Err-Failed.ensures.disk,
+        c.refused-in-Err-Failed.ensures.sessions,
+        subst (λ (cause : Cause). IsStopped 1 (g.B.Bay.faults c.args.bay.now) (g.B.Bay.faults c.disk.new.self) cause) (sym c.refused-in-Err-Failed.ensures.cause)
+            (c.in-Err-Failed.ensures.cause.failed (ap Err c.in-Err-Failed.field-0-is)),
+      ),
+    )
+
+pub returns-in-Err-Memory-clause-came : goal.returns-in-Err-Memory-clause-came
+returns-in-Err-Memory-clause-came g c =
+    inr (
+      record { disk = c.in-Some.command.disk.now; atom = c.in-Some.command.atom; address = c.in-Some.command.address.now; sessions = c.in-Some.command.sessions },
+      c.in-Some.ensures,
+      inr (
+        c.refused-in-Err-Memory.ensures.disk,
+        c.refused-in-Err-Memory.ensures.sessions,
+        subst (λ (cause : Cause). IsStopped 1 (g.B.Bay.faults c.args.bay.now) (g.B.Bay.faults c.disk.new.self) cause) (sym c.refused-in-Err-Memory.ensures.cause) tt,
+      ),
+    )

@@ -1,0 +1,9 @@
+-- How the line that is printed bears on a command's cause.
+use Rattle.std.specs.Prelude.{ℕ, ◌≡◌, ◌⊎◌}
+use Rattle.base_terms.specs.Causes.{Rose}
+use Rattle.reenc_tool.specs.declared.ended.Cause.{Cause}
+use Rattle.reenc_tool.specs.declared.ended.Cause.TheVariants.{Fine, Output, Memory}
+
+-- The cause stays, but where all was fine and the line could not be put, or memory was wanted for it.
+abbrev pub EndsAs : Cause → ℕ → ℕ → Cause → Type 0
+EndsAs cause before now result = (result ≡ cause) ⊎ ((cause ≡ Fine) × ((result ≡ Memory) ⊎ ((result ≡ Output) × Rose before now)))

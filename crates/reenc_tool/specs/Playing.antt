@@ -1,0 +1,62 @@
+-- Sessions that were served, and how links tell of them.
+use Rattle.std.specs.Prelude.{ℕ, ◌≡◌, ◌≤◌, suc, ◌==◌, if◌then◌else◌, List, [], ◌∷◌, ◌++◌, Option, Some}
+use Rattle.bays.specs.Stories.{Script, Handed, Story}
+use Rattle.nbd_session.specs.declared.ending.SessionEnd.{SessionEnd}
+use Rattle.nbd_session.specs.declared.export.Export.{Export}
+use Rattle.nbd_session.specs.Moments.{Moment, moment}
+use Rattle.nbd_session.specs.Session.{Log, IsSession, exchanges_of}
+use Rattle.plain_disk.specs.Plain.{Exchange}
+
+-- a session that was served: the link that its connection came from, how it ended, its log, and the
+-- moments of its source and sink before and after
+pub record Played : Type 0 where
+  pub link : ℕ
+  pub end : SessionEnd
+  pub log : Log
+  pub before : Moment
+  pub after : Moment
+
+-- the export that a session was served
+abbrev pub numbered : Export → ℕ → Export
+numbered export number = record { number = number; size = export.size; atom = export.atom }
+
+-- each of them is a session
+unfoldable pub AreSessions : Export → List Played → Type 0
+AreSessions export [] = Unit {0}
+AreSessions export (played ∷ rest) =
+    IsSession (numbered export played.end.number) played.end played.before played.after played.log × AreSessions export rest
+
+-- the operations that were submitted, session after session
+unfoldable pub operations_of : List Played → List Exchange
+operations_of [] = []
+operations_of (played ∷ rest) = exchanges_of played.log.turns ++ operations_of rest
+
+-- the sessions of one link
+unfoldable pub of_link : ℕ → List Played → List Played
+of_link k [] = []
+of_link k (played ∷ rest) = if played.link == k then played ∷ of_link k rest else of_link k rest
+
+-- a connection as it begins, and as it was handed back
+abbrev pub beginning : Script → Moment
+beginning script = moment (Some []) (Some script.input) (Some []) script.in_faults script.out_faults 0 0
+
+abbrev pub handing_back : Handed → SessionEnd → Moment
+handing_back handed end = moment (Some handed.given) (Some handed.left) (Some handed.had) handed.in_faults handed.out_faults end.taken end.put
+
+-- A link that told a story tells the next one: each session took the first connection ahead, and it
+-- was handed back as the session left it.
+unfoldable pub Plays : Story → Story → List Played → Type 0
+Plays old new [] = new ≡ old
+Plays old new (played ∷ rest) =
+    (script : Script) × (others : List Script) × (handed : Handed) × (old.ahead ≡ script ∷ others)
+    × (played.before ≡ beginning script) × (played.after ≡ handing_back handed played.end)
+    × Plays (record { ahead = others; handed = old.handed ++ handed ∷ [] }) new rest
+
+-- where a link tells its story, it goes on by these sessions
+abbrev pub Goes : Option Story → Option Story → List Played → Type 0
+Goes old new played = (story : Story) → old ≡ Some story → (next : Story) × (new ≡ Some next) × Plays story next played
+
+-- the numbers of the sessions rise, from at least `least`
+unfoldable pub NumbersRise : ℕ → List Played → Type 0
+NumbersRise least [] = Unit {0}
+NumbersRise least (played ∷ rest) = (least ≤ played.end.number) × NumbersRise (suc played.end.number) rest

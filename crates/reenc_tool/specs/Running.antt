@@ -1,0 +1,94 @@
+-- What a command did.
+use Rattle.std.specs.Prelude.{ℕ, ◌≡◌, ◌*◌, ◌-◌, ◌^◌, ◌<◌, ◌⊎◌, Bool, true, false, if◌then◌else◌, List, [], length, slice_index_or, Option, Some, None}
+use Rattle.base_terms.specs.Blocks.{blocks_of}
+use Rattle.base_terms.specs.Causes.{Rose}
+use Rattle.bays.specs.Bays.{AreFresh}
+use Rattle.bays.specs.Stories.{Script, Story}
+use Rattle.nbd_session.specs.declared.ending.SessionEnd.{SessionEnd}
+use Rattle.plain_disk.specs.Plain.{Block, Legal, settled_blocks}
+use Rattle.plain_volume.specs.Outcomes.{AreServed}
+use Rattle.plain_volume.specs.Volume.{Volume, Did}
+use Rattle.reenc_tool.specs.declared.ended.Cause.{Cause}
+use Rattle.reenc_tool.specs.declared.ended.Cause.TheVariants.{Fine, Usage, Device, NoFit, Link, Output, Memory}
+use Rattle.reenc_tool.specs.declared.ended.Fit.TheVariants.{Blocks}
+use Rattle.reenc_tool.specs.Lanes.{Served}
+use Rattle.reenc_tool.specs.Playing.{Played, AreSessions, NumbersRise, operations_of}
+use Rattle.reenc_tool.specs.Words.{Serve, IsServe, NotServe}
+
+-- the cause of the end of sessions
+abbrev pub cause_of : Bool → Bool → Bool → Cause
+cause_of broken failed memory = if broken then Device else (if failed then Link else (if memory then Memory else Fine))
+
+-- no link's count of faults moved, nor stands at its last value
+abbrev pub StoodStill : {L : Type 0} → (L → ℕ) → List L → List L → Type 0
+StoodStill {L} faults olds news = (k : ℕ) (link : L) → k < length olds →
+    (faults (slice_index_or news k link) ≡ faults (slice_index_or olds k link)) × (faults (slice_index_or news k link) < 2 ^ 64 - 1)
+
+-- Sessions were served on a disk that was handed in, over these links. What the clients were put are
+-- the answers of one plain disk that was asked their operations, session after session.
+pub record Ran {D L E : Type 0} (volume_of : D → Volume) (told : L → Option Story) (faults : L → ℕ) (items : E → List SessionEnd)
+    (disk : D) (begun : List L) (cause : Cause) (back : Option D) (links : List L) (ends : List E) : Type 0 where
+  pub final : Volume
+  pub failed : Bool
+  pub memory : Bool
+  pub played : List Played
+  -- the sessions, and the links that tell of them
+  pub sessions : AreSessions (record { number = 0; size = final.atoms * final.atom; atom = final.atom }) played
+  pub rise : NumbersRise 0 played
+  pub served : Served told faults items begun links ends failed memory played
+  -- what their operations did to the disk, which is handed back
+  pub did : Did (volume_of disk) final (operations_of played)
+  pub back_is : (d : D) × (back ≡ Some d) × (volume_of d ≡ record final { broken = false })
+  -- one history: legal from what the disk told when it was handed in
+  pub history : (bytes : List ℕ) → (volume_of disk).values ≡ Some bytes →
+      (left : List Block) × Legal final.atom (settled_blocks (blocks_of final.atom final.atoms bytes)) (operations_of played) left
+  -- the cause, and when it may come
+  pub cause_is : cause ≡ cause_of final.broken failed memory
+  pub broke : final.broken ≡ true → Rose (volume_of disk).faults final.faults
+  -- where no count moved, each operation was served, and only want of memory ends it otherwise
+  pub complete : final.faults ≡ (volume_of disk).faults → final.faults < 2 ^ 64 - 1 → StoodStill faults begun links →
+      AreServed final.atom (final.atoms * final.atom) (operations_of played) × (cause ≡ (if memory then Memory else Fine))
+
+-- Sessions were served on a disk that has a block, over the four links that a bay gave.
+pub record WasServed {D L E : Type 0} (volume_of : D → Volume) (told : L → Option Story) (faults : L → ℕ) (items : E → List SessionEnd)
+    (inputs : Option (List Script)) (sessions : ℕ) (disk : D) (cause : Cause) (back : Option D) (links : List L) (ends : List E) : Type 0 where
+  pub begun : List L
+  pub blocks : 0 < (volume_of disk).atoms
+  pub workers : length begun ≡ 4
+  pub fresh : AreFresh told inputs 4 sessions begun
+  pub ran : Ran volume_of told faults items disk begun cause back links ends
+
+-- why no session was served on a disk of so many atoms
+abbrev pub IsStopped : ℕ → ℕ → ℕ → Cause → Type 0
+IsStopped atoms before now Fine = ⊥
+IsStopped atoms before now Usage = ⊥
+IsStopped atoms before now Device = Rose before now
+IsStopped atoms before now (NoFit what number limit) = (atoms ≡ 0) × (what ≡ Blocks) × (number ≡ atoms) × (limit ≡ 1)
+IsStopped atoms before now Link = ⊥
+IsStopped atoms before now Output = ⊥
+IsStopped atoms before now Memory = Unit {0}
+
+-- No session was served on the disk, which is handed back as it was.
+pub record WasStopped {D E : Type 0} (disk : D) (atoms before now : ℕ) (cause : Cause) (back : Option D) (ends : List E) : Type 0 where
+  pub back_is : back ≡ Some disk
+  pub none : ends ≡ []
+  pub why : IsStopped atoms before now cause
+
+-- The disk that a bay gave was served or not.
+pub record OnDisk {D L E : Type 0} (volume_of : D → Volume) (told : L → Option Story) (faults : L → ℕ) (items : E → List SessionEnd)
+    (shelf : List ℕ → Option D) (inputs : Option (List Script)) (serve : Serve) (before now : ℕ)
+    (cause : Cause) (back : Option D) (links : List L) (ends : List E) : Type 0 where
+  pub disk : D
+  pub kept : (kept : D) → shelf serve.disk ≡ Some kept → disk ≡ kept
+  pub atom : (volume_of disk).atom ≡ serve.atom
+  pub ended : WasServed volume_of told faults items inputs serve.sessions disk cause back links ends
+      ⊎ WasStopped disk (volume_of disk).atoms before now cause back ends
+
+-- A command did what its words ask for, or stopped before it had a disk.
+abbrev pub Came : {D L E : Type 0} → (D → Volume) → (L → Option Story) → (L → ℕ) → (E → List SessionEnd) → (List ℕ → Option D) →
+    Option (List Script) → List (List ℕ) → ℕ → ℕ → Cause → Option D → List L → List E → Type 0
+Came volume_of told faults items shelf inputs words before now cause back links ends =
+    (NotServe words × (cause ≡ Usage) × (back ≡ None) × (ends ≡ []) × (now ≡ before))
+    ⊎ ((serve : Serve) × IsServe words serve
+    × (OnDisk volume_of told faults items shelf inputs serve before now cause back links ends
+    ⊎ ((back ≡ None) × (ends ≡ []) × IsStopped 1 before now cause)))

@@ -1,0 +1,193 @@
+ghost use Rattle.std.specs.Prelude.{◌≡◌, ◌<◌, ◌≤◌, ◌⊎◌, ℕ, List, [], length, map, slice_index_or, string_bytes, vec_len, Some, None, false, IfOk};
+ghost use Rattle.reenc_tool.specs.Running.{Came, Ran, WasServed, WasStopped, cause_of};
+ghost use Rattle.reenc_tool.specs.Ending.{EndsAs};
+ghost use Rattle.reenc_tool.specs.Status.{status_of};
+ghost use Rattle.reenc_tool.specs.Texts.{Prints, line_of, sessions_in};
+ghost use Rattle.reenc_tool.specs.declared.ended.Cause.{Cause};
+
+use crate::ended::{Cause, Ended, Fit};
+use crate::port::VolumePort;
+use crate::serving::{Trouble, serve_links};
+use crate::text::{count_sessions, print};
+use crate::words::{Command, read_words};
+use bays::{Bay, BayFault, Link};
+use io_edge::{Gate, Seeds, Sink};
+use nbd_session::SessionEnd;
+use plain_volume::{PlainVolume, serves_without_faults, starts_settled};
+use sector_disk::Disk;
+use std::alloc::{AllocError, Global};
+use std::sync::Wait;
+use std::thread::Threads;
+
+/// How many links serve a command.
+const WORKERS: u32 = 4;
+
+/// Serves sessions over links on a disk that has a block, and hands both back.
+fn serve_disk<D: Disk, L: Link>(alloc: Global, disk: D, links: Vec<L>) -> Ended<D, L>
+    requires count { length links.items ≡ 4 }
+    requires bound { (k : ℕ) (link : L) → k < length links.items → L.bound (slice_index_or links.items k link) ≤ 65535 }
+    ensures status { result.status ≡ status_of result.cause }
+    ensures ended { (Ran (λ d. record { atom = D.size d; atoms = D.count d; values = D.values d; told = D.told d; faults = D.faults d; broken = false })
+        L.told L.faults (λ list. list.items) disk links.items result.cause result.disk result.links.items result.sessions.items)
+        ⊎ ((result.cause ≡ Cause.Memory) × (result.disk ≡ Some disk) × (result.links.items ≡ links.items) × (result.sessions.items ≡ [])) }
+{
+    let mut links = links;
+    let Ok(mut sessions) = empty_lists(alloc, links.len()) else {
+        return Ended {
+            status: Cause::Memory.status(),
+            cause: Cause::Memory,
+            disk: Some(disk),
+            header: None,
+            pass: None,
+            demo: None,
+            sessions: Vec::new(alloc),
+            links,
+        };
+    };
+    serves_without_faults();
+    starts_settled();
+    let volume = PlainVolume::new(disk);
+    let size = volume.size();
+    let atom = volume.atom();
+    let mut port = VolumePort { volume };
+    let trouble = serve_links(alloc, &mut links, &mut sessions, &mut port, size, atom);
+    let VolumePort { volume } = port;
+    let cause = cause(volume.is_broken(), trouble);
+    Ended {
+        status: cause.status(),
+        cause,
+        disk: Some(volume.into_disk()),
+        header: None,
+        pass: None,
+        demo: None,
+        sessions,
+        links,
+    }
+}
+
+fn cause(broken: bool, trouble: Trouble) -> Cause
+    ensures { result ≡ cause_of broken trouble.failed trouble.memory }
+{
+    if broken {
+        Cause::Device
+    } else if trouble.failed {
+        Cause::Link
+    } else if trouble.memory {
+        Cause::Memory
+    } else {
+        Cause::Fine
+    }
+}
+
+/// An empty list for each link.
+fn empty_lists(alloc: Global, count: usize) -> Result<Vec<Vec<SessionEnd>>, AllocError>
+    ensures length { IfOk result (λ lists. length lists.items ≡ count) }
+    ensures empty { IfOk result (λ lists. (k : ℕ) (list : _) → k < count → (slice_index_or lists.items k list).items ≡ []) }
+{
+    let mut lists = Vec::with_capacity(alloc, count)?;
+    for made in 0..count {
+        lists.push(Vec::new(alloc))?;
+    }
+    Ok(lists)
+}
+
+/// Ends without a session.
+fn refused<D, L>(alloc: Global, cause: Cause, disk: Option<D>) -> Ended<D, L>
+    ensures status { result.status ≡ status_of cause }
+    ensures cause { result.cause ≡ cause }
+    ensures disk { result.disk ≡ disk }
+    ensures links { result.links.items ≡ [] }
+    ensures sessions { result.sessions.items ≡ [] }
+{
+    Ended {
+        status: cause.status(),
+        cause,
+        disk,
+        header: None,
+        pass: None,
+        demo: None,
+        sessions: Vec::new(alloc),
+        links: Vec::new(alloc),
+    }
+}
+
+/// Asks the bay for its links and serves sessions on a disk that it gave.
+fn serve_plain<B: Bay>(
+    alloc: Global,
+    bay: &mut B,
+    disk: B::Disk,
+    command: &Command<'_>,
+) -> Ended<B::Disk, B::Link>
+    requires { command.now.sessions ≤ 65535 }
+    ensures status { result.status ≡ status_of result.cause }
+    ensures later { B.faults bay.old ≤ B.faults bay.new }
+    ensures ended { WasServed (λ d. record { atom = B.Disk.size d; atoms = B.Disk.count d; values = B.Disk.values d; told = B.Disk.told d; faults = B.Disk.faults d; broken = false })
+        B.Link.told B.Link.faults (λ list. list.items) (B.inputs bay.old) command.now.sessions disk result.cause result.disk result.links.items result.sessions.items
+        ⊎ WasStopped disk (B.Disk.count disk) (B.faults bay.old) (B.faults bay.new) result.cause result.disk result.sessions.items }
+{
+    if disk.atoms() == 0 {
+        let cause = Cause::NoFit {
+            what: Fit::Blocks,
+            number: 0,
+            limit: 1,
+        };
+        return refused(alloc, cause, Some(disk));
+    }
+    match bay.links(alloc, command.address, WORKERS, command.sessions) {
+        Ok(links) => serve_disk(alloc, disk, links),
+        Err(BayFault::Failed) => refused(alloc, Cause::Device, Some(disk)),
+        Err(BayFault::Memory) => refused(alloc, Cause::Memory, Some(disk)),
+    }
+}
+
+/// Executes the command that the words ask for.
+fn execute<B: Bay>(alloc: Global, words: &[String], bay: &mut B) -> Ended<B::Disk, B::Link>
+    ensures status { result.status ≡ status_of result.cause }
+    ensures later { B.faults bay.old ≤ B.faults bay.new }
+    ensures came { Came (λ d. record { atom = B.Disk.size d; atoms = B.Disk.count d; values = B.Disk.values d; told = B.Disk.told d; faults = B.Disk.faults d; broken = false })
+        B.Link.told B.Link.faults (λ list. list.items) (B.shelf bay.old) (B.inputs bay.old) (map string_bytes words.now) (B.faults bay.old) (B.faults bay.new)
+        result.cause result.disk result.links.items result.sessions.items }
+{
+    let Some(command) = read_words(words) else {
+        return refused(alloc, Cause::Usage, None);
+    };
+    match bay.disk(alloc, command.disk, command.atom) {
+        Ok(disk) => serve_plain(alloc, bay, disk, &command),
+        Err(BayFault::Failed) => refused(alloc, Cause::Device, None),
+        Err(BayFault::Memory) => refused(alloc, Cause::Memory, None),
+    }
+}
+
+/// Runs the command that the words behind the program's name ask for, and prints one line.
+///
+/// What holds at the end is `Came` of `specs/`, before the line is printed: where sessions were served
+/// they are sessions of the protocol over the bytes that the links' connections gave, their operations
+/// are one legal history of the plain disk that was handed in, and the disk's tables are those of the
+/// operations' device calls; each cause has its reason. The line changes the cause only where all was
+/// fine: to `Output` where it can't be put and pushed out, to `Memory` where memory is wanted for it.
+pub fn run<W: Threads + Wait + Sync, B: Bay, R: Seeds, O: Sink, G: Gate>(
+    _rt: &W,
+    alloc: Global,
+    words: &[String],
+    bay: &mut B,
+    _seeds: &mut R,
+    out: &mut O,
+    _gate: &G,
+) -> Ended<B::Disk, B::Link>
+    ensures status { result.status ≡ status_of result.cause }
+    ensures run { (cause : Cause) × EndsAs cause (O.faults out.old) (O.faults out.new) result.cause
+        × Came (λ d. record { atom = B.Disk.size d; atoms = B.Disk.count d; values = B.Disk.values d; told = B.Disk.told d; faults = B.Disk.faults d; broken = false })
+        B.Link.told B.Link.faults (λ list. list.items) (B.shelf bay.old) (B.inputs bay.old) (map string_bytes words.now) (B.faults bay.old) (B.faults bay.new)
+        cause result.disk result.links.items result.sessions.items
+        × Prints (O.had out.old) (O.had out.new) (O.faults out.old) (O.faults out.new)
+        (line_of cause result.cause (sessions_in (λ list. vec_len list) result.sessions.items)) }
+{
+    let ended = execute(alloc, words, bay);
+    let cause = print(
+        alloc,
+        out,
+        ended.cause,
+        count_sessions(ended.sessions.as_slice()),
+    );
+    ended.ending_by(cause)
+}

@@ -1,0 +1,51 @@
+ghost use Rattle.std.specs.Prelude.{◌≡◌, ◌<◌, ◌≤◌, ◌+◌, ℕ, List, [], ◌∷◌, ◌++◌, map};
+ghost use Rattle.base_terms.specs.Causes.{Rose};
+ghost use Rattle.reenc_tool.specs.Playing.{Played, AreSessions, Goes, operations_of};
+ghost use Rattle.reenc_tool.specs.Asking.{AskedIs};
+
+use bays::Link;
+use nbd_session::{Export, Port, SessionEnd, serve_session};
+use std::alloc::Global;
+
+/// What came of asking a link for its next connection: it was served, there is none, the link
+/// failed, or memory was wanted before the link was asked.
+#[derive(Clone, Copy, Debug)]
+pub enum Asked {
+    Served,
+    Ended,
+    Failed,
+    Memory,
+}
+
+/// Asks a link for its next connection and serves it. The room for the session's end is taken before
+/// the link is asked.
+pub fn serve_next<L: Link, P: Port>(
+    alloc: Global,
+    link: &mut L,
+    ends: &mut Vec<SessionEnd>,
+    port: &mut P,
+    export: &Export,
+) -> Asked
+    requires { 0 < export.now.atom }
+    ensures { (k : ℕ) → (played : List Played) × AskedIs export.now k (L.told link.old) (L.told link.new) (L.bound link.old)
+        (L.bound link.new) (L.faults link.old) (L.faults link.new) ends.old.items ends.new.items result played
+        × P.did port.old port.new (operations_of played) }
+{
+    if ends.reserve(1).is_err() {
+        return Asked::Memory;
+    }
+    match link.next() {
+        Ok(Some((source, sink))) => {
+            let mut source = source;
+            let mut sink = sink;
+            let end = serve_session(alloc, &mut source, &mut sink, port, export);
+            link.done(source, sink);
+            let Ok(()) = ends.push(end) else {
+                unreachable!()
+            };
+            Asked::Served
+        }
+        Ok(None) => Asked::Ended,
+        Err(_) => Asked::Failed,
+    }
+}

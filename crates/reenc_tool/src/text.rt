@@ -1,0 +1,69 @@
+ghost use Rattle.std.specs.Prelude.{◌≡◌, ◌++◌, ℕ, vec_len, IfOk, string_bytes};
+ghost use Rattle.io_edge.specs.Streams.{Puts};
+ghost use Rattle.base_terms.specs.Causes.{HasCause};
+ghost use Rattle.reenc_tool.specs.Ending.{EndsAs};
+ghost use Rattle.reenc_tool.specs.Texts.{Prints, fault_line, line_of, served_line, sessions_in};
+
+use crate::ended::Cause;
+use base_terms::Failed;
+use io_edge::Sink;
+use nbd_session::SessionEnd;
+use std::alloc::{AllocError, Global};
+
+/// How many sessions there were.
+pub fn count_sessions(lists: &[Vec<SessionEnd>]) -> usize
+    ensures { result ≡ sessions_in (λ list. vec_len list) lists.now }
+{
+    lists
+        .iter()
+        .fold(0usize, |count, list| count.saturating_add(list.len()))
+}
+
+/// Prints the line of a command that ended so, and says how it ends: where all was fine and the line
+/// can't be put and pushed out, by `Output`; where memory is wanted for it, by `Memory`.
+pub fn print<O: Sink>(alloc: Global, out: &mut O, cause: Cause, sessions: usize) -> Cause
+    ensures cause { EndsAs cause (O.faults out.old) (O.faults out.new) result }
+    ensures line { Prints (O.had out.old) (O.had out.new) (O.faults out.old) (O.faults out.new) (line_of cause result sessions) }
+{
+    if !cause.is_fine() {
+        let _ = put_line(out, fault_text(cause).as_bytes());
+        return cause;
+    }
+    let Ok(line) = served_text(alloc, sessions) else {
+        let _ = put_line(out, fault_text(Cause::Memory).as_bytes());
+        return Cause::Memory;
+    };
+    match put_line(out, line.as_bytes()) {
+        Ok(()) => Cause::Fine,
+        Err(_) => Cause::Output,
+    }
+}
+
+fn put_line<O: Sink>(out: &mut O, line: &[u8]) -> Result<(), Failed>
+    ensures line { Prints (O.had out.old) (O.had out.new) (O.faults out.old) (O.faults out.new) line.now }
+    ensures cause { HasCause (O.faults out.old) (O.faults out.new) result }
+{
+    match out.put(line) {
+        Ok(()) => out.push_out(),
+        Err(failed) => Err(failed),
+    }
+}
+
+fn served_text(alloc: Global, sessions: usize) -> Result<String, AllocError>
+    ensures { IfOk result (λ line. string_bytes line ≡ served_line sessions) }
+{
+    format!(in alloc; "served {sessions} sessions\n")
+}
+
+fn fault_text(cause: Cause) -> &'static str
+    ensures { result.now ≡ fault_line cause }
+{
+    match cause {
+        Cause::Fine | Cause::Output => "",
+        Cause::Usage => "fault 1 Usage\n",
+        Cause::Device => "fault 2 Device\n",
+        Cause::NoFit { .. } => "fault 8 NoFit\n",
+        Cause::Link => "fault 10 Link\n",
+        Cause::Memory => "fault 13 Memory\n",
+    }
+}
