@@ -1,5 +1,6 @@
 ghost use Rattle.std.specs.Prelude.{◌≡◌, ◌≢◌, true, false};
 ghost use Rattle.reenc_tool.specs.Status.{status_of};
+ghost use Rattle.reenc_tool.specs.Texts.{fault_line};
 
 use nbd_session::SessionEnd;
 
@@ -50,6 +51,22 @@ impl Cause {
             Cause::Link => 10,
             Cause::Output => 11,
             Cause::Memory => 13,
+        }
+    }
+}
+
+impl Cause {
+    /// The line of a refusal, with its line feed; empty where there is none.
+    pub fn line(self) -> &'static str
+        ensures { result.now ≡ fault_line self }
+    {
+        match self {
+            Cause::Fine | Cause::Output => "",
+            Cause::Usage => "fault 1 Usage\n",
+            Cause::Device => "fault 2 Device\n",
+            Cause::NoFit { .. } => "fault 8 NoFit\n",
+            Cause::Link => "fault 10 Link\n",
+            Cause::Memory => "fault 13 Memory\n",
         }
     }
 }

@@ -2,7 +2,7 @@ ghost use Rattle.std.specs.Prelude.{◌≡◌, ◌++◌, ℕ, vec_len, IfOk, str
 ghost use Rattle.io_edge.specs.Streams.{Puts};
 ghost use Rattle.base_terms.specs.Causes.{HasCause};
 ghost use Rattle.reenc_tool.specs.Ending.{EndsAs};
-ghost use Rattle.reenc_tool.specs.Texts.{Prints, fault_line, line_of, served_line, sessions_in};
+ghost use Rattle.reenc_tool.specs.Texts.{Prints, line_of, served_line, sessions_in};
 
 use crate::ended::Cause;
 use base_terms::Failed;
@@ -26,11 +26,11 @@ pub fn print<O: Sink>(alloc: Global, out: &mut O, cause: Cause, sessions: usize)
     ensures line { Prints (O.had out.old) (O.had out.new) (O.faults out.old) (O.faults out.new) (line_of cause result sessions) }
 {
     if !cause.is_fine() {
-        let _ = put_line(out, fault_text(cause).as_bytes());
+        let _ = put_line(out, cause.line().as_bytes());
         return cause;
     }
     let Ok(line) = served_text(alloc, sessions) else {
-        let _ = put_line(out, fault_text(Cause::Memory).as_bytes());
+        let _ = put_line(out, Cause::Memory.line().as_bytes());
         return Cause::Memory;
     };
     match put_line(out, line.as_bytes()) {
@@ -53,17 +53,4 @@ fn served_text(alloc: Global, sessions: usize) -> Result<String, AllocError>
     ensures { IfOk result (λ line. string_bytes line ≡ served_line sessions) }
 {
     format!(in alloc; "served {sessions} sessions\n")
-}
-
-fn fault_text(cause: Cause) -> &'static str
-    ensures { result.now ≡ fault_line cause }
-{
-    match cause {
-        Cause::Fine | Cause::Output => "",
-        Cause::Usage => "fault 1 Usage\n",
-        Cause::Device => "fault 2 Device\n",
-        Cause::NoFit { .. } => "fault 8 NoFit\n",
-        Cause::Link => "fault 10 Link\n",
-        Cause::Memory => "fault 13 Memory\n",
-    }
 }

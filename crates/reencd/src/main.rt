@@ -1,0 +1,48 @@
+//! The program: it gives the words of its command line, the machine's bay and standard output to
+//! `reenc_tool::run`, and ends with the status. Everything that matters is in the library; what
+//! stands here is the trusted edge to the machine.
+#![tactic(auto)]
+
+mod host;
+
+use host::HostBay;
+use io_edge::{OpenGate, OsSeeds, StdSink};
+use reenc_tool::{Cause, Ended, run};
+use sector_disk::RamDisk;
+use std::env;
+use std::io::ErrorKind;
+use std::process::ExitCode;
+
+fn main(rt: HostRuntime) -> ExitCode {
+    let mut out = StdSink::new(rt.stdout());
+    let words = match env::args(&rt) {
+        Ok(words) => words,
+        Err(error) => return ended_early(&rt, error.kind()),
+    };
+    let Ok(words) = words.skip(1).collect::<Vec<String>>(rt.alloc()) else {
+        return ended_early(&rt, ErrorKind::OutOfMemory);
+    };
+    let mut bay = HostBay::new(rt.stdin(), rt.stdout());
+    let mut seeds = OsSeeds::new(rt);
+    let ended: Ended<RamDisk, host::HostLink> = run(
+        &rt,
+        rt.alloc(),
+        words.as_slice(),
+        &mut bay,
+        &mut seeds,
+        &mut out,
+        &OpenGate,
+    );
+    ExitCode::from(ended.status)
+}
+
+/// Ends before any word was seen: a word that isn't text is a faulty command line.
+fn ended_early(rt: &impl Print, kind: ErrorKind) -> ExitCode {
+    let cause = if kind == ErrorKind::OutOfMemory {
+        Cause::Memory
+    } else {
+        Cause::Usage
+    };
+    let _ = rt.print(cause.line());
+    ExitCode::from(cause.status())
+}
