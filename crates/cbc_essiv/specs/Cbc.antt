@@ -22,3 +22,10 @@ cbc_opened unseal iv sector = worked (unseal_after unseal) (λ _ sealed _. seale
 -- the IV of the sector with this number
 unfoldable pub essiv : (List ℕ → List ℕ) → ℕ → List ℕ
 essiv seal_iv number = seal_iv (number_block number)
+
+-- a sector under its number
+unfoldable pub cbc_essiv_sealed : (List ℕ → List ℕ) → (List ℕ → List ℕ) → ℕ → List ℕ → List ℕ
+cbc_essiv_sealed seal seal_iv number = cbc_sealed seal (essiv seal_iv number)
+
+unfoldable pub cbc_essiv_opened : (List ℕ → List ℕ) → (List ℕ → List ℕ) → ℕ → List ℕ → List ℕ
+cbc_essiv_opened unseal seal_iv number = cbc_opened unseal (essiv seal_iv number)

@@ -2,7 +2,7 @@
 
 ghost use Rattle.std.specs.Prelude.{◌≡◌, ℕ, ◌%◌, ◌/◌, length};
 ghost use Rattle.cipher_blocks.specs.Blocks.{xored, number_block};
-ghost use Rattle.cbc_essiv.specs.Cbc.{cbc_sealed, cbc_opened, essiv};
+ghost use Rattle.cbc_essiv.specs.Cbc.{cbc_sealed, cbc_opened, essiv, cbc_essiv_sealed, cbc_essiv_opened};
 
 use cipher_blocks::{block_at, number_block, put_block, xor};
 use cipher_laws::{BlockCipher, SectorMode};
@@ -65,12 +65,13 @@ fn unseal_chain<C: BlockCipher>(cipher: &C, iv: &[u8; 16], sector: &mut [u8])
     }
 }
 
+#[tactic(auto, unfolding(crate::specs::Cbc::cbc_essiv_sealed, crate::specs::Cbc::cbc_essiv_opened))]
 impl<B: BlockCipher> SectorMode for CbcEssiv<B> {
-    ghost use Rattle.cbc_essiv.specs.Laws.{essiv_is_block, length-cbc_sealed, length-cbc_opened, bytes-cbc_sealed, bytes-cbc_opened, cbc_unsealed, cbc_sealed_again};
+    ghost use Rattle.cbc_essiv.specs.Laws.{sealed_keeps_lengths, opened_keeps_lengths, sealed_gives_bytes, opened_gives_bytes, sealed_undone, opened_undone};
 
-    ghost sealed = { λ c number. cbc_sealed (B.sealed c.body) (essiv (B.sealed c.iv) number) };
+    ghost sealed = { λ c. cbc_essiv_sealed (B.sealed c.body) (B.sealed c.iv) };
 
-    ghost opened = { λ c number. cbc_opened (B.opened c.body) (essiv (B.sealed c.iv) number) };
+    ghost opened = { λ c. cbc_essiv_opened (B.opened c.body) (B.sealed c.iv) };
 
     fn seal_sector(&self, number: u64, sector: &mut [u8]) {
         seal_chain(&self.body, &self.first_chain(number), sector);
@@ -80,15 +81,21 @@ impl<B: BlockCipher> SectorMode for CbcEssiv<B> {
         unseal_chain(&self.body, &self.first_chain(number), sector);
     }
 
-    ghost sealed_length = { λ c number sector. length-cbc_sealed (B.sealed c.body) (B.sealed_block c.body) (essiv (B.sealed c.iv) number) sector (essiv_is_block (B.sealed c.iv) (B.sealed_block c.iv) number) };
+    ghost sealed_length = { λ c. sealed_keeps_lengths (B.sealed c.body) (B.sealed c.iv)
+        (B.sealed_block c.body) (B.sealed_block c.iv) };
 
-    ghost opened_length = { λ c number sector. length-cbc_opened (B.opened c.body) (B.opened_block c.body) (essiv (B.sealed c.iv) number) sector (essiv_is_block (B.sealed c.iv) (B.sealed_block c.iv) number) };
+    ghost opened_length = { λ c. opened_keeps_lengths (B.opened c.body) (B.sealed c.iv)
+        (B.opened_block c.body) (B.sealed_block c.iv) };
 
-    ghost sealed_bytes = { λ c number sector. bytes-cbc_sealed (B.sealed c.body) (B.sealed_block c.body) (essiv (B.sealed c.iv) number) sector (essiv_is_block (B.sealed c.iv) (B.sealed_block c.iv) number) };
+    ghost sealed_bytes = { λ c. sealed_gives_bytes (B.sealed c.body) (B.sealed c.iv)
+        (B.sealed_block c.body) (B.sealed_block c.iv) };
 
-    ghost opened_bytes = { λ c number sector. bytes-cbc_opened (B.opened c.body) (B.opened_block c.body) (essiv (B.sealed c.iv) number) sector (essiv_is_block (B.sealed c.iv) (B.sealed_block c.iv) number) };
+    ghost opened_bytes = { λ c. opened_gives_bytes (B.opened c.body) (B.sealed c.iv)
+        (B.opened_block c.body) (B.sealed_block c.iv) };
 
-    ghost unseal_undoes_seal = { λ c number sector. cbc_unsealed (B.sealed c.body) (B.opened c.body) (B.sealed_block c.body) (B.unseal_undoes_seal c.body) (essiv (B.sealed c.iv) number) sector (essiv_is_block (B.sealed c.iv) (B.sealed_block c.iv) number) };
+    ghost unseal_undoes_seal = { λ c. sealed_undone (B.sealed c.body) (B.opened c.body) (B.sealed c.iv)
+        (B.sealed_block c.body) (B.sealed_block c.iv) (B.unseal_undoes_seal c.body) };
 
-    ghost seal_undoes_unseal = { λ c number sector. cbc_sealed_again (B.sealed c.body) (B.opened c.body) (B.opened_block c.body) (B.seal_undoes_unseal c.body) (essiv (B.sealed c.iv) number) sector (essiv_is_block (B.sealed c.iv) (B.sealed_block c.iv) number) };
+    ghost seal_undoes_unseal = { λ c. opened_undone (B.sealed c.body) (B.opened c.body) (B.sealed c.iv)
+        (B.opened_block c.body) (B.sealed_block c.iv) (B.seal_undoes_unseal c.body) };
 }

@@ -40,11 +40,3 @@ xored_is_block a b in_a in_b =
 pub number_block_is_block : (n : ℕ) → IsBlock (number_block n)
 unfolding number_block
 number_block_is_block n = number_is_block n
-
--- `change` makes of a block a block
-abbrev pub KeepsBlocks : (List ℕ → List ℕ) → Type 0
-KeepsBlocks change = (block : List ℕ) → IsBlock block → IsBlock (change block)
-
--- `back` gives each block back from what `change` makes of it
-abbrev pub UndoesBlocks : (List ℕ → List ℕ) → (List ℕ → List ℕ) → Type 0
-UndoesBlocks back change = (block : List ℕ) → IsBlock block → back (change block) ≡ block

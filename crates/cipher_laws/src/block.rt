@@ -1,7 +1,7 @@
 // A cipher of blocks of 16 bytes, with its key.
 
 ghost use Rattle.std.specs.Prelude.{◌≡◌, ℕ, List};
-ghost use Rattle.cipher_laws.specs.Bytes.{IsBlock};
+ghost use Rattle.cipher_laws.specs.Laws.{KeepsBlocks, UndoesBlocks};
 
 /// A block cipher with its key: a permutation of the blocks of 16 bytes, and its inverse.
 pub trait BlockCipher {
@@ -18,11 +18,11 @@ pub trait BlockCipher {
     fn unseal(&self, block: &mut [u8; 16])
         ensures { block.new ≡ opened self.now block.old };
 
-    ghost sealed_block: { (c : Self) (block : List ℕ) → IsBlock block → IsBlock (sealed c block) };
+    ghost sealed_block: { (c : Self) → KeepsBlocks (sealed c) };
 
-    ghost opened_block: { (c : Self) (block : List ℕ) → IsBlock block → IsBlock (opened c block) };
+    ghost opened_block: { (c : Self) → KeepsBlocks (opened c) };
 
-    ghost unseal_undoes_seal: { (c : Self) (block : List ℕ) → IsBlock block → opened c (sealed c block) ≡ block };
+    ghost unseal_undoes_seal: { (c : Self) → UndoesBlocks (opened c) (sealed c) };
 
-    ghost seal_undoes_unseal: { (c : Self) (block : List ℕ) → IsBlock block → sealed c (opened c block) ≡ block };
+    ghost seal_undoes_unseal: { (c : Self) → UndoesBlocks (sealed c) (opened c) };
 }

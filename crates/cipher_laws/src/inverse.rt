@@ -1,7 +1,5 @@
 // A cipher turned round.
 
-ghost use Rattle.std.specs.Prelude.{◌≡◌, ℕ, ◌%◌, length};
-
 use crate::{BlockCipher, SectorMode};
 
 /// The inverse of a cipher: what seals for the one unseals for the other. A mode or a loop that

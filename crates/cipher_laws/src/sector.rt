@@ -1,7 +1,7 @@
 // A cipher of runs of sectors, as a disk holds them.
 
-ghost use Rattle.std.specs.Prelude.{◌≡◌, ℕ, ◌+◌, ◌/◌, ◌%◌, ◌^◌, ◌<◌, List, length, ◌++◌};
-ghost use Rattle.cipher_laws.specs.Bytes.{AreBytes, AreSectors};
+ghost use Rattle.std.specs.Prelude.{◌≡◌, ℕ, ◌+◌, ◌/◌, ◌%◌, ◌^◌, ◌<◌, List, length};
+ghost use Rattle.cipher_laws.specs.Laws.{KeepsLengths, GivesBytes, UndoesSectors, JoinsSectors};
 
 /// A cipher of sectors with its keys: it works on whole sectors in a row, whose first 512 bytes
 /// have the IV number `first`. Each further 512 bytes raise the number by one, whatever the size
@@ -30,22 +30,19 @@ pub trait SectorCipher {
 
     ghost some_sector: { (c : Self) → 0 < sector c };
 
-    ghost sealed_length: { (c : Self) (first : ℕ) (bytes : List ℕ) → AreSectors (sector c) bytes → length (sealed c first bytes) ≡ length bytes };
+    ghost sealed_length: { (c : Self) → KeepsLengths (sector c) (sealed c) };
 
-    ghost opened_length: { (c : Self) (first : ℕ) (bytes : List ℕ) → AreSectors (sector c) bytes → length (opened c first bytes) ≡ length bytes };
+    ghost opened_length: { (c : Self) → KeepsLengths (sector c) (opened c) };
 
-    ghost sealed_bytes: { (c : Self) (first : ℕ) (bytes : List ℕ) → AreSectors (sector c) bytes → AreBytes (sealed c first bytes) };
+    ghost sealed_bytes: { (c : Self) → GivesBytes (sector c) (sealed c) };
 
-    ghost opened_bytes: { (c : Self) (first : ℕ) (bytes : List ℕ) → AreSectors (sector c) bytes → AreBytes (opened c first bytes) };
+    ghost opened_bytes: { (c : Self) → GivesBytes (sector c) (opened c) };
 
-    ghost unseal_undoes_seal: { (c : Self) (first : ℕ) (bytes : List ℕ) → AreSectors (sector c) bytes → opened c first (sealed c first bytes) ≡ bytes };
+    ghost unseal_undoes_seal: { (c : Self) → UndoesSectors (sector c) (opened c) (sealed c) };
 
-    ghost seal_undoes_unseal: { (c : Self) (first : ℕ) (bytes : List ℕ) → AreSectors (sector c) bytes → sealed c first (opened c first bytes) ≡ bytes };
+    ghost seal_undoes_unseal: { (c : Self) → UndoesSectors (sector c) (sealed c) (opened c) };
 
-    // sectors that follow others are sealed under the number that follows theirs
-    ghost sealed_joined: { (c : Self) (first : ℕ) (front back : List ℕ) → AreSectors (sector c) front → AreSectors (sector c) back →
-        sealed c first (front ++ back) ≡ sealed c first front ++ sealed c (first + length front / 512) back };
+    ghost sealed_joined: { (c : Self) → JoinsSectors (sector c) (sealed c) };
 
-    ghost opened_joined: { (c : Self) (first : ℕ) (front back : List ℕ) → AreSectors (sector c) front → AreSectors (sector c) back →
-        opened c first (front ++ back) ≡ opened c first front ++ opened c (first + length front / 512) back };
+    ghost opened_joined: { (c : Self) → JoinsSectors (sector c) (opened c) };
 }

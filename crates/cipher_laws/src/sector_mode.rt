@@ -1,7 +1,7 @@
 // A mode of a block cipher: one sector under its number.
 
 ghost use Rattle.std.specs.Prelude.{◌≡◌, ℕ, ◌%◌, List, length};
-ghost use Rattle.cipher_laws.specs.Bytes.{AreBytes, AreSectors};
+ghost use Rattle.cipher_laws.specs.Laws.{KeepsLengths, GivesBytes, UndoesSectors};
 
 /// A mode of a block cipher, with its keys: it works on one sector of whole blocks, under the
 /// sector's number.
@@ -21,15 +21,15 @@ pub trait SectorMode {
         requires { length sector.old % 16 ≡ 0 }
         ensures { sector.new ≡ opened self.now number sector.old };
 
-    ghost sealed_length: { (m : Self) (number : ℕ) (sector : List ℕ) → AreSectors 16 sector → length (sealed m number sector) ≡ length sector };
+    ghost sealed_length: { (m : Self) → KeepsLengths 16 (sealed m) };
 
-    ghost opened_length: { (m : Self) (number : ℕ) (sector : List ℕ) → AreSectors 16 sector → length (opened m number sector) ≡ length sector };
+    ghost opened_length: { (m : Self) → KeepsLengths 16 (opened m) };
 
-    ghost sealed_bytes: { (m : Self) (number : ℕ) (sector : List ℕ) → AreSectors 16 sector → AreBytes (sealed m number sector) };
+    ghost sealed_bytes: { (m : Self) → GivesBytes 16 (sealed m) };
 
-    ghost opened_bytes: { (m : Self) (number : ℕ) (sector : List ℕ) → AreSectors 16 sector → AreBytes (opened m number sector) };
+    ghost opened_bytes: { (m : Self) → GivesBytes 16 (opened m) };
 
-    ghost unseal_undoes_seal: { (m : Self) (number : ℕ) (sector : List ℕ) → AreSectors 16 sector → opened m number (sealed m number sector) ≡ sector };
+    ghost unseal_undoes_seal: { (m : Self) → UndoesSectors 16 (opened m) (sealed m) };
 
-    ghost seal_undoes_unseal: { (m : Self) (number : ℕ) (sector : List ℕ) → AreSectors 16 sector → sealed m number (opened m number sector) ≡ sector };
+    ghost seal_undoes_unseal: { (m : Self) → UndoesSectors 16 (sealed m) (opened m) };
 }

@@ -1,15 +1,12 @@
 -- A disk's cipher keeps the laws of a cipher of sectors, where its block cipher keeps its own.
 use Rattle.std.proofs.Common.{ℕ, List}
-use Rattle.cipher_laws.specs.Bytes.{IsBlock}
-use Rattle.cipher_blocks.proofs.BlockLemmas.{KeepsBlocks, UndoesBlocks}
-use Rattle.xts_mode.specs.declared.mode.Xts.{Xts as XtsMode}
+use Rattle.cipher_laws.specs.Laws.{KeepsBlocks, UndoesBlocks}
 use Rattle.xts_mode.specs.Xts.{xts}
-use Rattle.xts_mode.specs.Laws.{length-xts, bytes-xts, xts_undone}
-use Rattle.cbc_essiv.specs.Cbc.{essiv}
-use Rattle.cbc_essiv.specs.declared.mode.CbcEssiv.{CbcEssiv as CbcMode}
-use Rattle.cbc_essiv.specs.Laws.{essiv_is_block, length-cbc_sealed, bytes-cbc_sealed, length-cbc_opened, bytes-cbc_opened, cbc_unsealed, cbc_sealed_again}
+use Rattle.xts_mode.specs.Laws.{xts_keeps_lengths, xts_gives_bytes, xts_undone}
+use Rattle.cbc_essiv.specs.Cbc.{cbc_essiv_sealed, cbc_essiv_opened}
+use Rattle.cbc_essiv.specs.Laws.{sealed_keeps_lengths, opened_keeps_lengths, sealed_gives_bytes, opened_gives_bytes, sealed_undone, opened_undone}
 use Rattle.sector_cipher.specs.SectorLaws.{IsSectorSize, KeepsSectors, AreLawful, lawful_rows, lawful_rest}
-use Rattle.sector_cipher.specs.Disk.{xts_sealed, xts_opened, cbc_essiv_sealed, cbc_essiv_opened, sealed_by, opened_by, sealed_in, opened_in}
+use Rattle.sector_cipher.specs.Disk.{sealed_by, opened_by, sealed_in, opened_in}
 use Rattle.sector_cipher.specs.declared.disk.Mode.{Mode}
 use Rattle.sector_cipher.specs.declared.disk.Mode.TheVariants.{Linear, Xts, CbcEssiv}
 use Rattle.sector_cipher.specs.declared.disk.DiskCipher.{DiskCipher}
@@ -21,44 +18,53 @@ KeepEachBlock {B} change = (cipher : B) → KeepsBlocks (change cipher)
 abbrev pub UndoEachBlock : {B : Type 0} → (B → List ℕ → List ℕ) → (B → List ℕ → List ℕ) → Type 0
 UndoEachBlock {B} back change = (cipher : B) → UndoesBlocks (back cipher) (change cipher)
 
-xts_keeps : {B : Type 0} (seals change : B → List ℕ → List ℕ) → KeepEachBlock change → (mode : XtsMode B) → KeepsSectors (xts (change mode.body) (seals mode.tweak))
-xts_keeps seals change keep mode = record {
-  length_is = length-xts (change mode.body) (seals mode.tweak) (keep mode.body);
-  are_bytes = bytes-xts (change mode.body) (seals mode.tweak) (keep mode.body);
+xts_keeps : (change seal_tweak : List ℕ → List ℕ) → KeepsBlocks change → KeepsSectors (xts change seal_tweak)
+xts_keeps change seal_tweak keeps = record {
+  lengths = xts_keeps_lengths change seal_tweak keeps;
+  bytes = xts_gives_bytes change seal_tweak keeps;
 }
 
-iv_is_block : {B : Type 0} (seals : B → List ℕ → List ℕ) → KeepEachBlock seals → (mode : CbcMode B) (number : ℕ) → IsBlock (essiv (seals mode.iv) number)
-iv_is_block seals keep mode number = essiv_is_block (seals mode.iv) (keep mode.iv) number
-
-sealed_cbc_keeps : {B : Type 0} (seals : B → List ℕ → List ℕ) → KeepEachBlock seals → (mode : CbcMode B) → KeepsSectors (cbc_essiv_sealed seals mode)
-sealed_cbc_keeps seals keep mode = record {
-  length_is = λ number sector. length-cbc_sealed (seals mode.body) (keep mode.body) (essiv (seals mode.iv) number) sector (iv_is_block seals keep mode number);
-  are_bytes = λ number sector. bytes-cbc_sealed (seals mode.body) (keep mode.body) (essiv (seals mode.iv) number) sector (iv_is_block seals keep mode number);
+cbc_seal_keeps : (seal seal_iv : List ℕ → List ℕ) → KeepsBlocks seal → KeepsBlocks seal_iv → KeepsSectors (cbc_essiv_sealed seal seal_iv)
+cbc_seal_keeps seal seal_iv keeps keeps_iv = record {
+  lengths = sealed_keeps_lengths seal seal_iv keeps keeps_iv;
+  bytes = sealed_gives_bytes seal seal_iv keeps keeps_iv;
 }
 
-opened_cbc_keeps : {B : Type 0} (seals unseals : B → List ℕ → List ℕ) → KeepEachBlock seals → KeepEachBlock unseals → (mode : CbcMode B) → KeepsSectors (cbc_essiv_opened seals unseals mode)
-opened_cbc_keeps seals unseals keep keep_open mode = record {
-  length_is = λ number sector. length-cbc_opened (unseals mode.body) (keep_open mode.body) (essiv (seals mode.iv) number) sector (iv_is_block seals keep mode number);
-  are_bytes = λ number sector. bytes-cbc_opened (unseals mode.body) (keep_open mode.body) (essiv (seals mode.iv) number) sector (iv_is_block seals keep mode number);
+cbc_open_keeps : (unseal seal_iv : List ℕ → List ℕ) → KeepsBlocks unseal → KeepsBlocks seal_iv → KeepsSectors (cbc_essiv_opened unseal seal_iv)
+cbc_open_keeps unseal seal_iv keeps keeps_iv = record {
+  lengths = opened_keeps_lengths unseal seal_iv keeps keeps_iv;
+  bytes = opened_gives_bytes unseal seal_iv keeps keeps_iv;
 }
 
 mode_seals : {B : Type 0} (seals unseals : B → List ℕ → List ℕ) → KeepEachBlock seals → UndoEachBlock unseals seals →
     (mode : Mode B) (size : ℕ) → IsSectorSize size → AreLawful size (sealed_by seals mode size) (opened_by seals unseals mode size)
 unfolding sealed_by opened_by
 mode_seals seals unseals keep undo Linear size sized = lawful_rest size
-mode_seals seals unseals keep undo (Xts mode) size sized = lawful_rows size (xts_sealed seals mode) (xts_opened seals unseals mode) sized (xts_keeps seals seals keep mode)
-    (xts_undone (unseals mode.body) (seals mode.body) (seals mode.tweak) (keep mode.body) (undo mode.body))
-mode_seals seals unseals keep undo (CbcEssiv mode) size sized = lawful_rows size (cbc_essiv_sealed seals mode) (cbc_essiv_opened seals unseals mode) sized (sealed_cbc_keeps seals keep mode)
-    (λ number sector. cbc_unsealed (seals mode.body) (unseals mode.body) (keep mode.body) (undo mode.body) (essiv (seals mode.iv) number) sector (iv_is_block seals keep mode number))
+mode_seals seals unseals keep undo (Xts mode) size sized =
+    let body = seals mode.body in
+    let tweak = seals mode.tweak in
+    lawful_rows size (xts body tweak) (xts (unseals mode.body) tweak) sized (xts_keeps body tweak (keep mode.body))
+    (xts_undone (unseals mode.body) body tweak (keep mode.body) (undo mode.body))
+mode_seals seals unseals keep undo (CbcEssiv mode) size sized =
+    let body = seals mode.body in
+    let iv = seals mode.iv in
+    lawful_rows size (cbc_essiv_sealed body iv) (cbc_essiv_opened (unseals mode.body) iv) sized (cbc_seal_keeps body iv (keep mode.body) (keep mode.iv))
+    (sealed_undone body (unseals mode.body) iv (keep mode.body) (keep mode.iv) (undo mode.body))
 
 mode_opens : {B : Type 0} (seals unseals : B → List ℕ → List ℕ) → KeepEachBlock seals → KeepEachBlock unseals → UndoEachBlock seals unseals →
     (mode : Mode B) (size : ℕ) → IsSectorSize size → AreLawful size (opened_by seals unseals mode size) (sealed_by seals mode size)
 unfolding sealed_by opened_by
 mode_opens seals unseals keep keep_open undo Linear size sized = lawful_rest size
-mode_opens seals unseals keep keep_open undo (Xts mode) size sized = lawful_rows size (xts_opened seals unseals mode) (xts_sealed seals mode) sized (xts_keeps seals unseals keep_open mode)
-    (xts_undone (seals mode.body) (unseals mode.body) (seals mode.tweak) (keep_open mode.body) (undo mode.body))
-mode_opens seals unseals keep keep_open undo (CbcEssiv mode) size sized = lawful_rows size (cbc_essiv_opened seals unseals mode) (cbc_essiv_sealed seals mode) sized (opened_cbc_keeps seals unseals keep keep_open mode)
-    (λ number sector. cbc_sealed_again (seals mode.body) (unseals mode.body) (keep_open mode.body) (undo mode.body) (essiv (seals mode.iv) number) sector (iv_is_block seals keep mode number))
+mode_opens seals unseals keep keep_open undo (Xts mode) size sized =
+    let body = unseals mode.body in
+    let tweak = seals mode.tweak in
+    lawful_rows size (xts body tweak) (xts (seals mode.body) tweak) sized (xts_keeps body tweak (keep_open mode.body))
+    (xts_undone (seals mode.body) body tweak (keep_open mode.body) (undo mode.body))
+mode_opens seals unseals keep keep_open undo (CbcEssiv mode) size sized =
+    let body = unseals mode.body in
+    let iv = seals mode.iv in
+    lawful_rows size (cbc_essiv_opened body iv) (cbc_essiv_sealed (seals mode.body) iv) sized (cbc_open_keeps body iv (keep_open mode.body) (keep mode.iv))
+    (opened_undone (seals mode.body) body iv (keep_open mode.body) (keep mode.iv) (undo mode.body))
 
 pub disk_seals : {B : Type 0} (seals unseals : B → List ℕ → List ℕ) → KeepEachBlock seals → UndoEachBlock unseals seals →
     (disk : DiskCipher B) → AreLawful disk.sector (sealed_in seals disk) (opened_in seals unseals disk)

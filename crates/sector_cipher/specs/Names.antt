@@ -3,7 +3,7 @@ use Rattle.std.specs.Prelude.{◌≡◌, ℕ, List, codes, ◌⊎◌}
 use Rattle.sector_cipher.specs.declared.spec.Spec.{Spec}
 use Rattle.sector_cipher.specs.declared.spec.Spec.TheVariants.{AesXtsPlain64, AesCbcEssivSha256}
 
--- the name in a segment's `encryption` (LUKS2 On-Disk Format, 3.3)
+-- the name in the `encryption` of a segment (LUKS2 On-Disk Format, the segments object)
 abbrev pub name : Spec → List ℕ
 name AesXtsPlain64 = codes "aes-xts-plain64"
 name AesCbcEssivSha256 = codes "aes-cbc-essiv:sha256"

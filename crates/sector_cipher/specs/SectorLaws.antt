@@ -3,6 +3,7 @@ use Rattle.std.proofs.Common.{◌≤◌, ◌≡◌, ℕ, zero, suc, ◌+◌, ◌
 use Rattle.std.proofs.lemmas.List.{nil_from_length, take-append-le, drop-append-le}
 use Rattle.std.proofs.Math.Nat.{mod-add-div', mul-div_cancel, mul_assoc}
 use Rattle.cipher_laws.specs.Bytes.{AreBytes, AreSectors}
+use Rattle.cipher_laws.specs.Laws.{KeepsLengths, GivesBytes, UndoesSectors, JoinsSectors}
 use Rattle.cipher_blocks.specs.Pieces.{worked}
 use Rattle.cipher_blocks.proofs.PieceLemmas.{KeepsPieces, UndoesPieces, other_pieces, length-worked, bytes-worked, worked_undone}
 use Rattle.sector_cipher.specs.Sectors.{by_sectors}
@@ -14,11 +15,8 @@ pub record IsSectorSize (size : ℕ) : Type 0 where
 
 -- `change` makes of a sector as many bytes, whatever its number is
 pub record KeepsSectors (change : ℕ → List ℕ → List ℕ) : Type 0 where
-  pub length_is : (number : ℕ) (sector : List ℕ) → AreSectors 16 sector → length (change number sector) ≡ length sector
-  pub are_bytes : (number : ℕ) (sector : List ℕ) → AreSectors 16 sector → AreBytes (change number sector)
-
-abbrev pub UndoesSectors : (ℕ → List ℕ → List ℕ) → (ℕ → List ℕ → List ℕ) → Type 0
-UndoesSectors back change = (number : ℕ) (sector : List ℕ) → AreSectors 16 sector → back number (change number sector) ≡ sector
+  pub lengths : KeepsLengths 16 change
+  pub bytes : GivesBytes 16 change
 
 abbrev Any : ℕ → Type 0
 Any _ = Unit {0}
@@ -31,8 +29,8 @@ sector_of_piece size piece sized long bytes = record { whole = omega (arith, siz
 
 sectors_keep : (change : ℕ → List ℕ → List ℕ) (size : ℕ) → IsSectorSize size → KeepsSectors change → KeepsPieces Any size change (number_after size)
 sectors_keep change size sized keeps = record {
-  length_is = λ number piece _ long bytes. keeps.length_is number piece (sector_of_piece size piece sized long bytes) ∙ long;
-  are_bytes = λ number piece _ long bytes. keeps.are_bytes number piece (sector_of_piece size piece sized long bytes);
+  length_is = λ number piece _ long bytes. keeps.lengths number piece (sector_of_piece size piece sized long bytes) ∙ long;
+  are_bytes = λ number piece _ long bytes. keeps.bytes number piece (sector_of_piece size piece sized long bytes);
   good = λ _ _ _ _ _. tt;
 }
 
@@ -46,19 +44,17 @@ whole_units m size long units is =
     let long_is : long ≡ m * (size / 512) * 512 = is ∙ ap (λ (k : ℕ). m * k) size_is ∙ sym (mul_assoc m (size / 512) 512) in
     omega arith
 
-length-by_sectors : (change : ℕ → List ℕ → List ℕ) (size : ℕ) → IsSectorSize size → KeepsSectors change → (first : ℕ) (bytes : List ℕ) → AreSectors size bytes →
-    length (by_sectors change size first bytes) ≡ length bytes
+length-by_sectors : (change : ℕ → List ℕ → List ℕ) (size : ℕ) → IsSectorSize size → KeepsSectors change → KeepsLengths size (by_sectors change size)
 unfolding by_sectors
 length-by_sectors change size sized keeps first bytes are =
     length-worked (sectors_keep change size sized keeps) first (length bytes / size) bytes tt (whole_sectors size bytes sized.some are.whole) are.are_bytes
 
-bytes-by_sectors : (change : ℕ → List ℕ → List ℕ) (size : ℕ) → IsSectorSize size → KeepsSectors change → (first : ℕ) (bytes : List ℕ) → AreSectors size bytes →
-    AreBytes (by_sectors change size first bytes)
+bytes-by_sectors : (change : ℕ → List ℕ → List ℕ) (size : ℕ) → IsSectorSize size → KeepsSectors change → GivesBytes size (by_sectors change size)
 unfolding by_sectors
 bytes-by_sectors change size sized keeps first bytes are =
     bytes-worked (sectors_keep change size sized keeps) first (length bytes / size) bytes tt (whole_sectors size bytes sized.some are.whole) are.are_bytes
 
-by_sectors_undone : (back change : ℕ → List ℕ → List ℕ) (size : ℕ) → IsSectorSize size → KeepsSectors change → UndoesSectors back change → (first : ℕ) (bytes : List ℕ) → AreSectors size bytes →
+by_sectors_undone : (back change : ℕ → List ℕ → List ℕ) (size : ℕ) → IsSectorSize size → KeepsSectors change → UndoesSectors 16 back change → (first : ℕ) (bytes : List ℕ) → AreSectors size bytes →
     by_sectors back size first (by_sectors change size first bytes) ≡ bytes
 unfolding by_sectors
 by_sectors_undone back change size sized keeps undoes first bytes are =
@@ -102,23 +98,23 @@ by_sectors_joined change size sized first front back in_front in_back =
 
 -- work on sectors of `size` bytes that keeps the laws of a cipher, with what undoes it
 pub record AreLawful (size : ℕ) (change back : ℕ → List ℕ → List ℕ) : Type 0 where
-  pub length_is : (first : ℕ) (bytes : List ℕ) → AreSectors size bytes → length (change first bytes) ≡ length bytes
-  pub are_bytes : (first : ℕ) (bytes : List ℕ) → AreSectors size bytes → AreBytes (change first bytes)
-  pub undone : (first : ℕ) (bytes : List ℕ) → AreSectors size bytes → back first (change first bytes) ≡ bytes
-  pub joined : (first : ℕ) (xs ys : List ℕ) → AreSectors size xs → AreSectors size ys → change first (xs ++ ys) ≡ change first xs ++ change (first + length xs / 512) ys
+  pub lengths : KeepsLengths size change
+  pub bytes : GivesBytes size change
+  pub undone : UndoesSectors size back change
+  pub joined : JoinsSectors size change
 
-pub lawful_rows : (size : ℕ) (change back : ℕ → List ℕ → List ℕ) → IsSectorSize size → KeepsSectors change → UndoesSectors back change → AreLawful size (by_sectors change size) (by_sectors back size)
+pub lawful_rows : (size : ℕ) (change back : ℕ → List ℕ → List ℕ) → IsSectorSize size → KeepsSectors change → UndoesSectors 16 back change → AreLawful size (by_sectors change size) (by_sectors back size)
 lawful_rows size change back sized keeps undoes = record {
-  length_is = length-by_sectors change size sized keeps;
-  are_bytes = bytes-by_sectors change size sized keeps;
+  lengths = length-by_sectors change size sized keeps;
+  bytes = bytes-by_sectors change size sized keeps;
   undone = by_sectors_undone back change size sized keeps undoes;
   joined = by_sectors_joined change size sized;
 }
 
 pub lawful_rest : (size : ℕ) → AreLawful size (λ _ bytes. bytes) (λ _ bytes. bytes)
 lawful_rest size = record {
-  length_is = λ _ _ _. refl;
-  are_bytes = λ _ _ are. are.are_bytes;
+  lengths = λ _ _ _. refl;
+  bytes = λ _ _ are. are.are_bytes;
   undone = λ _ _ _. refl;
   joined = λ _ _ _ _ _. refl;
 }

@@ -26,9 +26,11 @@ impl DiskCipher<Aes> {
         ensures refused { IfErr result (λ e. e.0 ≡ length key.now) }
         ensures sector { IfOk result (λ c. ⟦<Context as SectorCipher>⟧.sector c ≡ sector_size) }
         ensures seals { IfOk result (λ c. (first : ℕ) (bytes : List ℕ) →
-            ⟦<Context as SectorCipher>⟧.sealed c first bytes ≡ sealed_under spec key.now sector_size first bytes) }
+            ⟦<Context as SectorCipher>⟧.sealed c first bytes
+            ≡ sealed_under spec key.now sector_size first bytes) }
         ensures opens { IfOk result (λ c. (first : ℕ) (bytes : List ℕ) →
-            ⟦<Context as SectorCipher>⟧.opened c first bytes ≡ opened_under spec key.now sector_size first bytes) }
+            ⟦<Context as SectorCipher>⟧.opened c first bytes
+            ≡ opened_under spec key.now sector_size first bytes) }
     {
         let sector = sector_size as usize;
         match spec {
@@ -47,8 +49,10 @@ impl DiskCipher<Aes> {
     #[tactic(auto, unfolding(crate::specs::Disk::sealed_in, crate::specs::Disk::opened_in, crate::specs::Disk::sealed_by, crate::specs::Disk::opened_by))]
     pub fn linear() -> Context
         ensures sector { ⟦<Context as SectorCipher>⟧.sector result ≡ 512 }
-        ensures seals { (first : ℕ) (bytes : List ℕ) → ⟦<Context as SectorCipher>⟧.sealed result first bytes ≡ bytes }
-        ensures opens { (first : ℕ) (bytes : List ℕ) → ⟦<Context as SectorCipher>⟧.opened result first bytes ≡ bytes }
+        ensures seals { (first : ℕ) (bytes : List ℕ) →
+            ⟦<Context as SectorCipher>⟧.sealed result first bytes ≡ bytes }
+        ensures opens { (first : ℕ) (bytes : List ℕ) →
+            ⟦<Context as SectorCipher>⟧.opened result first bytes ≡ bytes }
     {
         DiskCipher {
             mode: Mode::Linear,

@@ -15,7 +15,8 @@ use xts_mode::Xts;
 pub(crate) fn xts_under(key: &[u8]) -> Result<Xts<Aes>, KeyLength>
     ensures accepted { IsOk result ↔ IsKeyLength Spec.AesXtsPlain64 (length key.now) }
     ensures refused { IfErr result (λ e. e.0 ≡ length key.now) }
-    ensures ok { IfOk result (IsXtsUnder ⟦<Aes as BlockCipher>⟧.sealed ⟦<Aes as BlockCipher>⟧.opened key.now) }
+    ensures ok { IfOk result (IsXtsUnder
+        ⟦<Aes as BlockCipher>⟧.sealed ⟦<Aes as BlockCipher>⟧.opened key.now) }
 {
     if key.len() != 32 && key.len() != 64 {
         return Err(KeyLength(key.len()));
@@ -31,7 +32,8 @@ pub(crate) fn xts_under(key: &[u8]) -> Result<Xts<Aes>, KeyLength>
 pub(crate) fn cbc_essiv_under(key: &[u8]) -> Result<CbcEssiv<Aes>, KeyLength>
     ensures accepted { IsOk result ↔ IsKeyLength Spec.AesCbcEssivSha256 (length key.now) }
     ensures refused { IfErr result (λ e. e.0 ≡ length key.now) }
-    ensures ok { IfOk result (IsCbcEssivUnder ⟦<Aes as BlockCipher>⟧.sealed ⟦<Aes as BlockCipher>⟧.opened key.now) }
+    ensures ok { IfOk result (IsCbcEssivUnder
+        ⟦<Aes as BlockCipher>⟧.sealed ⟦<Aes as BlockCipher>⟧.opened key.now) }
 {
     let body = Aes::new(key)?;
     let Ok(iv) = Aes::new(&Sha256::digest(key)) else {

@@ -1,8 +1,9 @@
 -- XTS keeps lengths, gives bytes, and is undone by XTS with the data cipher's inverse.
 use Rattle.std.proofs.Common.{◌≡◌, ℕ, ◌/◌, List, length, refl, ap, sym, ◌∙◌}
-use Rattle.cipher_laws.specs.Bytes.{AreBytes, IsBlock, AreSectors}
+use Rattle.cipher_laws.specs.Bytes.{IsBlock}
+use Rattle.cipher_laws.specs.Laws.{KeepsBlocks, UndoesBlocks, KeepsLengths, GivesBytes, UndoesSectors}
 use Rattle.cipher_blocks.specs.Blocks.{xored, number_block}
-use Rattle.cipher_blocks.proofs.BlockLemmas.{KeepsBlocks, UndoesBlocks, xored_twice, xored_is_block, number_block_is_block}
+use Rattle.cipher_blocks.proofs.BlockLemmas.{xored_twice, xored_is_block, number_block_is_block}
 use Rattle.cipher_blocks.proofs.PieceLemmas.{block_pieces, block_pieces_undone, whole_blocks, KeepsPieces, UndoesPieces, length-worked, bytes-worked, worked_undone}
 use Rattle.xts_mode.specs.Xts.{doubled, whitened, xts_from, xts}
 
@@ -35,17 +36,19 @@ whitened_twice back change keeps undoes tweak block in_block =
 whitened_undone : (back change : List ℕ → List ℕ) → KeepsBlocks change → UndoesBlocks back change → UndoesPieces Any 16 (whitened change) double_on (whitened back) double_on
 whitened_undone back change keeps undoes = block_pieces_undone Any (whitened change) double_on (whitened back) double_on (λ tweak block _ in_block. whitened_twice back change keeps undoes tweak block in_block) (λ _ _. refl)
 
-pub length-xts : (change seal_tweak : List ℕ → List ℕ) → KeepsBlocks change → (number : ℕ) (sector : List ℕ) → AreSectors 16 sector → length (xts change seal_tweak number sector) ≡ length sector
+pub xts_keeps_lengths : (change seal_tweak : List ℕ → List ℕ) → KeepsBlocks change → KeepsLengths 16 (xts change seal_tweak)
 unfolding xts xts_from
-length-xts change seal_tweak keeps number sector are = length-worked (whitened_keeps change keeps) _ (length sector / 16) sector tt (whole_blocks sector are.whole) are.are_bytes
+xts_keeps_lengths change seal_tweak keeps number sector are =
+    length-worked (whitened_keeps change keeps) _ (length sector / 16) sector tt (whole_blocks sector are.whole) are.are_bytes
 
-pub bytes-xts : (change seal_tweak : List ℕ → List ℕ) → KeepsBlocks change → (number : ℕ) (sector : List ℕ) → AreSectors 16 sector → AreBytes (xts change seal_tweak number sector)
+pub xts_gives_bytes : (change seal_tweak : List ℕ → List ℕ) → KeepsBlocks change → GivesBytes 16 (xts change seal_tweak)
 unfolding xts xts_from
-bytes-xts change seal_tweak keeps number sector are = bytes-worked (whitened_keeps change keeps) _ (length sector / 16) sector tt (whole_blocks sector are.whole) are.are_bytes
+xts_gives_bytes change seal_tweak keeps number sector are =
+    bytes-worked (whitened_keeps change keeps) _ (length sector / 16) sector tt (whole_blocks sector are.whole) are.are_bytes
 
-pub xts_undone : (back change seal_tweak : List ℕ → List ℕ) → KeepsBlocks change → UndoesBlocks back change → (number : ℕ) (sector : List ℕ) → AreSectors 16 sector →
-    xts back seal_tweak number (xts change seal_tweak number sector) ≡ sector
+pub xts_undone : (back change seal_tweak : List ℕ → List ℕ) → KeepsBlocks change → UndoesBlocks back change →
+    UndoesSectors 16 (xts back seal_tweak) (xts change seal_tweak)
 unfolding xts xts_from
 xts_undone back change seal_tweak keeps undoes number sector are =
-    rw (length-xts change seal_tweak keeps number sector are)
+    rw (xts_keeps_lengths change seal_tweak keeps number sector are)
     (worked_undone (whitened_keeps change keeps) (whitened_undone back change keeps undoes) _ (length sector / 16) sector tt (whole_blocks sector are.whole) are.are_bytes)

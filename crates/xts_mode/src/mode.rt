@@ -17,7 +17,7 @@ pub struct Xts<B> {
 
 impl<B> Xts<B> {
     /// XTS that seals blocks by `body`, and the sector's number by `tweak`. In a key of XTS the
-    /// first half is the body's (IEEE 1619, 5.1).
+    /// first half is the body's (IEEE 1619, 5.3.1).
     pub fn new(body: B, tweak: B) -> Self
         ensures body { result.body ≡ body }
         ensures tweak { result.tweak ≡ tweak }
@@ -72,7 +72,7 @@ fn whiten_blocks<C: BlockCipher>(cipher: &C, first: u128, sector: &mut [u8])
 
 #[tactic(auto, unfolding(crate::specs::Xts::xts))]
 impl<B: BlockCipher> SectorMode for Xts<B> {
-    ghost use Rattle.xts_mode.specs.Laws.{length-xts, bytes-xts, xts_undone};
+    ghost use Rattle.xts_mode.specs.Laws.{xts_keeps_lengths, xts_gives_bytes, xts_undone};
 
     ghost sealed = { λ x. xts (B.sealed x.body) (B.sealed x.tweak) };
 
@@ -86,17 +86,19 @@ impl<B: BlockCipher> SectorMode for Xts<B> {
         whiten_blocks(&Inverse(&self.body), self.first_tweak(number), sector);
     }
 
-    ghost sealed_length = { λ x. length-xts (B.sealed x.body) (B.sealed x.tweak) (B.sealed_block x.body) };
+    ghost sealed_length = { λ x. xts_keeps_lengths (B.sealed x.body) (B.sealed x.tweak) (B.sealed_block x.body) };
 
-    ghost opened_length = { λ x. length-xts (B.opened x.body) (B.sealed x.tweak) (B.opened_block x.body) };
+    ghost opened_length = { λ x. xts_keeps_lengths (B.opened x.body) (B.sealed x.tweak) (B.opened_block x.body) };
 
-    ghost sealed_bytes = { λ x. bytes-xts (B.sealed x.body) (B.sealed x.tweak) (B.sealed_block x.body) };
+    ghost sealed_bytes = { λ x. xts_gives_bytes (B.sealed x.body) (B.sealed x.tweak) (B.sealed_block x.body) };
 
-    ghost opened_bytes = { λ x. bytes-xts (B.opened x.body) (B.sealed x.tweak) (B.opened_block x.body) };
+    ghost opened_bytes = { λ x. xts_gives_bytes (B.opened x.body) (B.sealed x.tweak) (B.opened_block x.body) };
 
-    ghost unseal_undoes_seal = { λ x. xts_undone (B.opened x.body) (B.sealed x.body) (B.sealed x.tweak) (B.sealed_block x.body) (B.unseal_undoes_seal x.body) };
+    ghost unseal_undoes_seal = { λ x. xts_undone (B.opened x.body) (B.sealed x.body) (B.sealed x.tweak)
+        (B.sealed_block x.body) (B.unseal_undoes_seal x.body) };
 
-    ghost seal_undoes_unseal = { λ x. xts_undone (B.sealed x.body) (B.opened x.body) (B.sealed x.tweak) (B.opened_block x.body) (B.seal_undoes_unseal x.body) };
+    ghost seal_undoes_unseal = { λ x. xts_undone (B.sealed x.body) (B.opened x.body) (B.sealed x.tweak)
+        (B.opened_block x.body) (B.seal_undoes_unseal x.body) };
 }
 
 #[cfg(test)]
