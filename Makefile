@@ -1,0 +1,21 @@
+# Short names; each is a plain `rt` command.
+.PHONY: help run test build bench
+
+help:
+	@echo "make run    the main job, unproved, within a minute"
+	@echo "make test   every proof, must-fail edit, test and program"
+	@echo "make build  prove the program and leave it at crates/reencd/out/reencd"
+	@echo "make bench  rates of the ciphers and of key derivation"
+
+run:
+	cd crates/reencd && rt try -- serve disk --plain --atom 512 --listen stdio --sessions 1 </dev/null
+
+test:
+	rt ci
+
+build:
+	cd crates/reencd && rt run -- serve disk --plain --atom 512 --listen stdio --sessions 1 </dev/null
+
+bench:
+	cd crates/cipher_bench && rt run -- 64
+	cd crates/kdf_bench && rt run -- 300000
