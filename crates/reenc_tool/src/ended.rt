@@ -72,12 +72,12 @@ impl Cause {
 }
 
 /// What a thread may do to a volume that several share. No command makes one yet.
-#[derive(Clone, Copy, Debug)]
+#[derive(Clone, Copy)]
 pub enum Pass {}
 
 /// A command that ended: its status and cause; the disks and links that the bay gave, handed back;
 /// and the ends of the sessions, a list for each link.
-#[derive(Debug, Drop)]
+#[derive(Drop)]
 pub struct Ended<D, L> {
     pub status: u8,
     pub cause: Cause,
