@@ -97,6 +97,9 @@ impl<D, L> Ended<D, L> {
         ensures disk { result.disk ≡ self.disk }
         ensures sessions { result.sessions ≡ self.sessions }
         ensures links { result.links ≡ self.links }
+        ensures header { result.header ≡ self.header }
+        ensures pass { result.pass ≡ self.pass }
+        ensures demo { result.demo ≡ self.demo }
     {
         let Ended {
             disk,
