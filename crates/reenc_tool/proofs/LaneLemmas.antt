@@ -1,7 +1,8 @@
 -- Links that are served in turn.
-use Rattle.std.proofs.Common.{nat_lt, set, ◌≡◌, ◌≢◌, ℕ, ◌+◌, ◌<◌, ◌≤◌, inl, inr, ⊎_elim, Bool, true, false, ◌==◌, if◌then◌else◌, List, [], ◌∷◌, ◌++◌, length, map, slice_index_or, Option, ap, ◌∙◌, refl, sym, subst, append-nil, append_assoc, arith}
+use Rattle.std.proofs.Common.{nat_lt, set, ◌≡◌, ◌≢◌, ℕ, ◌+◌, ◌*◌, ◌<◌, ◌≤◌, ◌⊎◌, inl, inr, ⊎_elim, Bool, true, false, ◌==◌, if◌then◌else◌, List, [], ◌∷◌, ◌++◌, length, map, slice_index_or, Option, ap, ◌∙◌, refl, sym, subst, append-nil, append_assoc, length-append, arith}
 use Rattle.std.proofs.lemmas.List.{map-append, get_or-set_same, get_or-set_other, get_or_read, length-set}
-use Rattle.std.proofs.lemmas.Bool.{eq-eqb}
+use Rattle.std.proofs.Math.Nat.{mul-suc}
+use Rattle.std.proofs.lemmas.Bool.{cases_Bool, eq-eqb, true≢false}
 use Rattle.std.proofs.lemmas.Bool.Decides.{eqb_tells}
 use Rattle.base_terms.specs.Causes.{Rose}
 use Rattle.bays.specs.Stories.{Story}
@@ -10,7 +11,7 @@ use Rattle.nbd_session.specs.declared.export.Export.{Export}
 use Rattle.nbd_session.specs.Session.{exchanges_of}
 use Rattle.reenc_tool.specs.Asking.{HasNoneAhead}
 use Rattle.reenc_tool.specs.Lanes.{Lane, Lanes, TurnIs, IsOneOf}
-use Rattle.reenc_tool.specs.Playing.{Played, AreSessions, Goes, Plays, of_link, operations_of}
+use Rattle.reenc_tool.specs.Playing.{Played, AreNumbered, AreSessions, Goes, Plays, of_link, operations_of}
 
 pub Plays-append : (a b c : Story) (xs ys : List Played) → Plays a b xs → Plays b c ys → Plays a c (xs ++ ys)
 unfolding Plays
@@ -52,7 +53,7 @@ of_link-same k number played (inl none) = ap (of_link k) none ∙ sym none
 of_link-same k number played (inr one) =
     ap (of_link k) one.1 ∙ ap (λ b. if b then one.0 ∷ [] else []) (eq-eqb one.0.link k one.2) ∙ sym one.1
 
-eqb-differ : (a b : ℕ) → a ≢ b → (a == b) ≡ false
+pub eqb-differ : (a b : ℕ) → a ≢ b → (a == b) ≡ false
 eqb-differ a b differ = ⊎_elim (λ same. absurd (differ same.1)) (λ other. other.0) (eqb_tells a b)
 
 of_link-other : (j k number : ℕ) (played : List Played) → j ≢ k → IsOneOf k number played → of_link j played ≡ []
@@ -68,6 +69,20 @@ of_link-not_more : (j k number : ℕ) (all played : List Played) → j ≢ k →
 of_link-not_more j k number all played differ one =
     of_link-append j all played ∙ ap (λ t. of_link j all ++ t) (of_link-other j k number played differ one) ∙ append-nil (of_link j all)
 
+-- a session more takes the next number
+AreNumbered-append : (step number n k : ℕ) (xs ys : List Played) → AreNumbered step number xs → IsOneOf k n ys →
+    (ys ≡ []) ⊎ (n ≡ step * length xs + number) → AreNumbered step number (xs ++ ys)
+unfolding AreNumbered
+AreNumbered-append step number n k [] ys numbered (inl none) at = subst (λ (zs : List Played). AreNumbered step number zs) (sym none) tt
+AreNumbered-append step number n k [] ys numbered (inr one) (inl none) = subst (λ (zs : List Played). AreNumbered step number zs) (sym none) tt
+AreNumbered-append step number n k [] ys numbered (inr one) (inr at) =
+    subst (λ (zs : List Played). AreNumbered step number zs) (sym one.1) (omega (arith, one.3, at), tt)
+AreNumbered-append step number n k (x ∷ xs) ys numbered one at = (
+  numbered.0,
+  AreNumbered-append step (number + step) n k xs ys numbered.1 one
+      (⊎_elim (λ none. inl none) (λ is. inr (omega (arith, is, mul-suc step (length xs)))) at),
+)
+
 none_ahead-later : (a b c : Option Story) (xs : List Played) → Goes a b xs → HasNoneAhead b c → HasNoneAhead a c
 none_ahead-later a b c xs goes none = λ story is. let f = goes story is in none f.0 f.1
 
@@ -79,13 +94,15 @@ none_ahead-same a b c none goes = λ story is.
     (f.0, f.1, ap (λ s. s.ahead) f.2 ∙ n.2)
 
 -- a lane whose link had its turn
-pub lane_turn : (export : Export) {L : Type 0} (told : L → Option Story) (bound faults : L → ℕ) (turns k : ℕ) (old mid new : L)
+pub lane_turn : (export : Export) {L : Type 0} (told : L → Option Story) (bound faults : L → ℕ) (links turns k : ℕ) (old mid new : L)
     (ends ends' : List SessionEnd) (live live' failed failed' memory : Bool) (all played : List Played) →
-    Lane told bound faults turns k old mid ends live failed all →
+    export.number ≡ links * turns + k →
+    Lane told bound faults links turns k old mid ends live failed all →
     TurnIs export k (told mid) (told new) (bound mid) (bound new) (faults mid) (faults new) ends ends' live live' failed failed' memory played →
-    (turns' : ℕ) → (live' ≡ true → bound new + turns' ≤ bound mid + turns) →
-    Lane told bound faults turns' k old new ends' live' failed' (all ++ played)
-lane_turn export told bound faults turns k old mid new ends ends' live live' failed failed' memory all played lane turn turns' fit =
+    (turns' : ℕ) → (live' ≡ true → turns' ≡ turns + length played) →
+    Lane told bound faults links turns' k old new ends' live' failed' (all ++ played)
+lane_turn export told bound faults links turns k old mid new ends ends' live live' failed failed' memory all played at lane turn turns' counted =
+    let longer = length-append (of_link k all) played in
     let more = of_link-more k export.number all played turn.one in
     let goes : Goes (told old) (told new) (of_link k (all ++ played)) =
     subst (λ (xs : List Played). Goes (told old) (told new) xs) (sym more) (goes_more (told old) (told mid) (told new) (of_link k all) played lane.goes turn.goes) in
@@ -93,8 +110,14 @@ lane_turn export told bound faults turns k old mid new ends ends' live live' fai
       goes = goes;
       ends_are = turn.ends ∙ ap (λ e. e ++ map (λ one. one.end) played) lane.ends_are
           ∙ sym (ap (map (λ one. one.end)) more ∙ map-append (λ one. one.end) (of_link k all) played);
+      numbers = subst (λ (xs : List Played). AreNumbered links k xs) (sym more)
+          (AreNumbered-append links k export.number k (of_link k all) played lane.numbers turn.one
+          (⊎_elim (λ is. inr (omega (arith, at, ap (λ n. links * n) (lane.took is)))) (λ is. inl (turn.asked is)) (cases_Bool live)));
+      few = omega (arith, ap length more, longer, turn.few, lane.few);
       later = omega (arith, lane.later, turn.later);
-      within = λ is. let w = turn.within is in let b = fit is in let l = lane.within w.0 in omega arith;
+      held = λ calm. turn.held calm
+          ∙ lane.held (⊎_elim (λ was. absurd (true≢false (sym (turn.kept was) ∙ calm))) (λ was. was) (cases_Bool failed));
+      took = λ is. omega (arith, ap length more, longer, lane.took (turn.took is).0, counted is);
       closed = λ is. ⊎_elim (λ fail. inl fail)
           (⊎_elim (λ none. inr (none_ahead-later (told old) (told mid) (told new) (of_link k all) lane.goes none))
           (λ was. ⊎_elim (λ fail. inl (turn.kept fail))
@@ -104,17 +127,20 @@ lane_turn export told bound faults turns k old mid new ends ends' live live' fai
     }
 
 -- another lane meanwhile
-pub lane_other : (number : ℕ) {L : Type 0} (told : L → Option Story) (bound faults : L → ℕ) (turns j k : ℕ) (old new : L)
+pub lane_other : (number : ℕ) {L : Type 0} (told : L → Option Story) (bound faults : L → ℕ) (links turns j k : ℕ) (old new : L)
     (ends : List SessionEnd) (live failed failed' : Bool) (all played : List Played) → j ≢ k → IsOneOf k number played →
-    (failed ≡ true → failed' ≡ true) → Lane told bound faults turns j old new ends live failed all →
-    Lane told bound faults turns j old new ends live failed' (all ++ played)
-lane_other number told bound faults turns j k old new ends live failed failed' all played differ one kept lane =
+    (failed ≡ true → failed' ≡ true) → Lane told bound faults links turns j old new ends live failed all →
+    Lane told bound faults links turns j old new ends live failed' (all ++ played)
+lane_other number told bound faults links turns j k old new ends live failed failed' all played differ one kept lane =
     let same = of_link-not_more j k number all played differ one in
     record {
       goes = subst (λ (xs : List Played). Goes (told old) (told new) xs) (sym same) lane.goes;
       ends_are = lane.ends_are ∙ ap (map (λ one. one.end)) (sym same);
+      numbers = subst (λ (xs : List Played). AreNumbered links j xs) (sym same) lane.numbers;
+      few = omega (arith, ap length same, lane.few);
       later = lane.later;
-      within = lane.within;
+      held = λ calm. lane.held (⊎_elim (λ was. absurd (true≢false (sym (kept was) ∙ calm))) (λ was. was) (cases_Bool failed));
+      took = λ is. ap length same ∙ lane.took is;
       closed = λ is. ⊎_elim (λ fail. inl (kept fail)) (λ none. inr none) (lane.closed is);
     }
 
@@ -122,14 +148,14 @@ lane_other number told bound faults turns j k old new ends live failed failed' a
 abbrev pub turns_at : ℕ → ℕ → ℕ → ℕ
 turns_at k turns j = if nat_lt j k then turns + 1 else turns
 
-lane_same : {L : Type 0} (told : L → Option Story) (bound faults : L → ℕ) (turns turns' k : ℕ) (old new new' : L) (ends ends' : List SessionEnd)
+lane_same : {L : Type 0} (told : L → Option Story) (bound faults : L → ℕ) (links turns turns' k : ℕ) (old new new' : L) (ends ends' : List SessionEnd)
     (live live' failed : Bool) (all : List Played) → turns ≡ turns' → new ≡ new' → ends ≡ ends' → live ≡ live' →
-    Lane told bound faults turns k old new ends live failed all → Lane told bound faults turns' k old new' ends' live' failed all
-lane_same told bound faults turns turns' k old new new' ends ends' live live' failed all a b c d lane =
-    subst (λ (n : ℕ). Lane told bound faults n k old new' ends' live' failed all) a
-    (subst (λ n. Lane told bound faults turns k old n ends' live' failed all) b
-    (subst (λ (e : List SessionEnd). Lane told bound faults turns k old new e live' failed all) c
-    (subst (λ (l : Bool). Lane told bound faults turns k old new ends l failed all) d lane)))
+    Lane told bound faults links turns k old new ends live failed all → Lane told bound faults links turns' k old new' ends' live' failed all
+lane_same told bound faults links turns turns' k old new new' ends ends' live live' failed all a b c d lane =
+    subst (λ (n : ℕ). Lane told bound faults links n k old new' ends' live' failed all) a
+    (subst (λ n. Lane told bound faults links turns k old n ends' live' failed all) b
+    (subst (λ (e : List SessionEnd). Lane told bound faults links turns k old new e live' failed all) c
+    (subst (λ (l : Bool). Lane told bound faults links turns k old new ends l failed all) d lane)))
 
 rose_within : (f f' f'' f''' : ℕ) → f ≤ f' → f'' ≤ f''' → Rose f' f'' → Rose f f'''
 rose_within f f' f'' f''' early late rose = ⊎_elim (λ risen. inl (omega arith)) (λ last. inr (omega arith)) rose
@@ -141,9 +167,10 @@ pub lanes_turn : (export : Export) {L E : Type 0} (told : L → Option Story) (b
     Lanes told bound faults items turns olds mids ends live failed all → i < length olds →
     mid ≡ slice_index_or mids i mid → e ≡ slice_index_or ends i e → l ≡ slice_index_or live i false →
     TurnIs export i (told mid) (told new) (bound mid) (bound new) (faults mid) (faults new) (items e) (items e') l l' failed failed' memory played →
-    ((j : ℕ) → j ≢ i → turned j ≡ turns j) → (l' ≡ true → bound new + turned i ≤ bound mid + turns i) →
+    export.number ≡ length olds * turns i + i →
+    ((j : ℕ) → j ≢ i → turned j ≡ turns j) → (l' ≡ true → turned i ≡ turns i + length played) →
     Lanes told bound faults items turned olds (set mids i new) (set ends i e') (set live i l') failed' (all ++ played)
-lanes_turn export told bound faults items turns turned olds mids ends live failed failed' memory all played i mid new e e' l l' lanes inside mid_is e_is l_is turn others fit =
+lanes_turn export told bound faults items turns turned olds mids ends live failed failed' memory all played i mid new e e' l l' lanes inside mid_is e_is l_is turn at others counted =
     let in_mids : i < length mids = omega (arith, lanes.links) in
     let in_ends : i < length ends = omega (arith, lanes.lists) in
     let in_live : i < length live = omega (arith, lanes.flags) in
@@ -153,23 +180,23 @@ lanes_turn export told bound faults items turns turned olds mids ends live faile
       flags = omega (arith, length-set live i l', lanes.flags);
       each = λ j link list within. ⊎_elim
           (λ same.
-          let before = lane_same told bound faults (turns i) (turns i) i (slice_index_or olds i link) (slice_index_or mids i link) mid
+          let before = lane_same told bound faults (length olds) (turns i) (turns i) i (slice_index_or olds i link) (slice_index_or mids i link) mid
           (items (slice_index_or ends i list)) (items e) (slice_index_or live i false) l failed all refl
           (sym (get_or_read mids i mid in_mids mid_is link)) (ap items (sym (get_or_read ends i e in_ends e_is list))) (sym l_is)
           (lanes.each i link list inside) in
-          let after = lane_turn export told bound faults (turns i) i (slice_index_or olds i link) mid new (items e) (items e') l l' failed failed' memory all played
-          before turn (turned i) fit in
-          let here = lane_same told bound faults (turned i) (turned i) i (slice_index_or olds i link) new (slice_index_or (set mids i new) i link)
+          let after = lane_turn export told bound faults (length olds) (turns i) i (slice_index_or olds i link) mid new (items e) (items e') l l' failed failed' memory all played
+          at before turn (turned i) counted in
+          let here = lane_same told bound faults (length olds) (turned i) (turned i) i (slice_index_or olds i link) new (slice_index_or (set mids i new) i link)
           (items e') (items (slice_index_or (set ends i e') i list)) l' (slice_index_or (set live i l') i false) failed' (all ++ played) refl
           (sym (get_or-set_same mids i new link in_mids)) (ap items (sym (get_or-set_same ends i e' list in_ends)))
           (sym (get_or-set_same live i l' false in_live)) after in
-          subst (λ (m : ℕ). Lane told bound faults (turned m) m (slice_index_or olds m link) (slice_index_or (set mids i new) m link)
+          subst (λ (m : ℕ). Lane told bound faults (length olds) (turned m) m (slice_index_or olds m link) (slice_index_or (set mids i new) m link)
           (items (slice_index_or (set ends i e') m list)) (slice_index_or (set live i l') m false) failed' (all ++ played)) (sym same.1) here)
-          (λ other. lane_same told bound faults (turns j) (turned j) j (slice_index_or olds j link) (slice_index_or mids j link) (slice_index_or (set mids i new) j link)
+          (λ other. lane_same told bound faults (length olds) (turns j) (turned j) j (slice_index_or olds j link) (slice_index_or mids j link) (slice_index_or (set mids i new) j link)
           (items (slice_index_or ends j list)) (items (slice_index_or (set ends i e') j list)) (slice_index_or live j false) (slice_index_or (set live i l') j false)
           failed' (all ++ played) (sym (others j other.1)) (sym (get_or-set_other mids i j new link other.1))
           (ap items (sym (get_or-set_other ends i j e' list other.1))) (sym (get_or-set_other live i j l' false other.1))
-          (lane_other export.number told bound faults (turns j) j i (slice_index_or olds j link) (slice_index_or mids j link)
+          (lane_other export.number told bound faults (length olds) (turns j) j i (slice_index_or olds j link) (slice_index_or mids j link)
           (items (slice_index_or ends j list)) (slice_index_or live j false) failed failed' all played other.1 turn.one turn.kept (lanes.each j link list within)))
           (eqb_tells j i);
       rose = λ is link. ⊎_elim

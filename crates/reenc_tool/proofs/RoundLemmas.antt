@@ -1,15 +1,15 @@
 -- Rounds of turns.
-use Rattle.std.proofs.Common.{◌≡◌, ◌≢◌, ℕ, ◌+◌, ◌<◌, ◌≤◌, suc, ◌⊎◌, inl, inr, ⊎_elim, Bool, true, false, List, [], ◌∷◌, ◌++◌, length, slice_index_or, Option, ◌∙◌, refl, sym, subst, arith}
-use Rattle.std.proofs.lemmas.Bool.{true≢false}
+use Rattle.std.proofs.Common.{◌≡◌, ◌≢◌, ℕ, ◌+◌, ◌<◌, ◌≤◌, suc, ◌==◌, if◌then◌else◌, ap, inl, inr, ⊎_elim, Bool, true, false, List, [], ◌∷◌, ◌++◌, length, slice_index_or, Option, ◌∙◌, refl, sym, subst, arith}
+use Rattle.std.proofs.lemmas.Bool.{cases_Bool, eq-eqb, true≢false}
 use Rattle.std.proofs.lemmas.Bool.Decides.{nat_tests}
 use Rattle.bays.specs.Stories.{Story}
 use Rattle.nbd_session.specs.declared.ending.SessionEnd.{SessionEnd}
 use Rattle.nbd_session.specs.declared.export.Export.{Export}
 use Rattle.reenc_tool.specs.Asking.{HasNoneAhead}
 use Rattle.reenc_tool.specs.Lanes.{Lane, Lanes, IsOneOf, NumbersBelow, Served}
-use Rattle.reenc_tool.specs.Playing.{Played, AreSessions, NumbersRise, numbered, of_link}
+use Rattle.reenc_tool.specs.Playing.{Played, AreNumbered, AreSessions, NumbersRise, numbered, of_link}
 use Rattle.reenc_tool.proofs.AskingLemmas.{goes_none}
-use Rattle.reenc_tool.proofs.LaneLemmas.{turns_at}
+use Rattle.reenc_tool.proofs.LaneLemmas.{eqb-differ, turns_at}
 
 pub turns_at-none : (t j : ℕ) → turns_at 0 t j ≡ t
 turns_at-none t j = grind (arith, nat_tests)
@@ -23,6 +23,12 @@ turns_at-here k t = grind (arith, nat_tests)
 pub turns_at-other : (k t j : ℕ) → j ≢ k → turns_at (k + 1) t j ≡ turns_at k t j
 turns_at-other k t j differ = grind (arith, nat_tests)
 
+pub turned-here : (k n m : ℕ) → (if k == k then n else m) ≡ n
+turned-here k n m = ap (λ b. if b then n else m) (eq-eqb k k refl)
+
+pub turned-other : (j k n m : ℕ) → j ≢ k → (if j == k then n else m) ≡ m
+turned-other j k n m differ = ap (λ b. if b then n else m) (eqb-differ j k differ)
+
 -- the same links with turns counted otherwise, and the same sessions
 pub lanes_same : {L E : Type 0} (told : L → Option Story) (bound faults : L → ℕ) (items : E → List SessionEnd) (turns turned : ℕ → ℕ)
     (olds news : List L) (ends : List E) (live : List Bool) (failed : Bool) (all all' : List Played) →
@@ -33,8 +39,8 @@ lanes_same told bound faults items turns turned olds news ends live failed all a
   lists = lanes.lists;
   flags = lanes.flags;
   each = λ k link list inside.
-      subst (λ (xs : List Played). Lane told bound faults (turned k) k (slice_index_or olds k link) (slice_index_or news k link) (items (slice_index_or ends k list)) (slice_index_or live k false) failed xs) is
-      (subst (λ (n : ℕ). Lane told bound faults n k (slice_index_or olds k link) (slice_index_or news k link) (items (slice_index_or ends k list)) (slice_index_or live k false) failed all)
+      subst (λ (xs : List Played). Lane told bound faults (length olds) (turned k) k (slice_index_or olds k link) (slice_index_or news k link) (items (slice_index_or ends k list)) (slice_index_or live k false) failed xs) is
+      (subst (λ (n : ℕ). Lane told bound faults (length olds) n k (slice_index_or olds k link) (slice_index_or news k link) (items (slice_index_or ends k list)) (slice_index_or live k false) failed all)
       (sym (same k inside)) (lanes.each k link list inside));
   rose = lanes.rose;
 }
@@ -86,7 +92,7 @@ pub lanes_start : {L E : Type 0} (told : L → Option Story) (bound faults : L �
     length ends ≡ length olds → length olds ≤ length live → ((k : ℕ) (list : E) → k < length olds → items (slice_index_or ends k list) ≡ []) →
     ((k : ℕ) → k < length olds → slice_index_or live k false ≡ true) →
     Lanes told bound faults items (λ _. 0) olds olds ends live false []
-unfolding of_link
+unfolding of_link AreNumbered
 lanes_start told bound faults items olds ends live lists flags empty all_live = record {
   links = refl;
   lists = lists;
@@ -94,8 +100,11 @@ lanes_start told bound faults items olds ends live lists flags empty all_live = 
   each = λ k link list inside. record {
     goes = goes_none (told (slice_index_or olds k link)) (told (slice_index_or olds k link)) (λ story is. is);
     ends_are = empty k list inside;
+    numbers = tt;
+    few = omega arith;
     later = omega arith;
-    within = λ is. omega arith;
+    held = λ calm. refl;
+    took = λ is. refl;
     closed = λ is. absurd (true≢false (sym (all_live k inside) ∙ is));
   };
   rose = λ is. absurd (true≢false (sym is));
@@ -106,20 +115,19 @@ pub served_of : {L E : Type 0} (told : L → Option Story) (bound faults : L →
     (olds news : List L) (ends : List E) (live : List Bool) (failed memory : Bool) (all : List Played) →
     Lanes told bound faults items turned olds news ends live failed all →
     (failed ≡ false → memory ≡ false → (k : ℕ) (link : L) → k < length olds → HasNoneAhead (told (slice_index_or olds k link)) (told (slice_index_or news k link))) →
-    Served told faults items olds news ends failed memory all
+    Served told bound faults items olds news ends failed memory all
 served_of told bound faults items turned olds news ends live failed memory all lanes none = record {
   links = lanes.links;
   lists = lanes.lists;
   goes = λ k link inside. (lanes.each k link (some_element ends k (omega (arith, lanes.lists))) inside).goes;
   ends_are = λ k list inside. (lanes.each k (some_element olds k inside) list inside).ends_are;
+  numbers = λ k inside. (lanes.each k (some_element olds k inside) (some_element ends k (omega (arith, lanes.lists))) inside).numbers;
+  few = λ k link inside. omega (arith, (lanes.each k link (some_element ends k (omega (arith, lanes.lists))) inside).few);
   later = λ k link inside. (lanes.each k link (some_element ends k (omega (arith, lanes.lists))) inside).later;
+  held = λ calm k link inside. (lanes.each k link (some_element ends k (omega (arith, lanes.lists))) inside).held calm;
   rose = lanes.rose;
   none_ahead = none;
 }
-
-live_or_not : (b : Bool) → (b ≡ true) ⊎ (b ≡ false)
-live_or_not true = inl refl
-live_or_not false = inr refl
 
 -- after more turns than a link has connections it has none ahead, where none failed
 pub lanes_done : {L E : Type 0} (told : L → Option Story) (bound faults : L → ℕ) (items : E → List SessionEnd) (turned : ℕ → ℕ)
@@ -130,6 +138,6 @@ pub lanes_done : {L E : Type 0} (told : L → Option Story) (bound faults : L �
 lanes_done told bound faults items turned olds news ends live failed all lanes many bounded calm k link inside =
     let lane = lanes.each k link (some_element ends k (omega (arith, lanes.lists))) inside in
     ⊎_elim
-    (λ is. absurd (omega (arith, lane.within is, many k inside, bounded k link inside)))
+    (λ is. absurd (omega (arith, lane.few, lane.took is, many k inside, bounded k link inside)))
     (λ is. ⊎_elim (λ fail. absurd (true≢false (sym fail ∙ calm))) (λ none. none) (lane.closed is))
-    (live_or_not (slice_index_or live k false))
+    (cases_Bool (slice_index_or live k false))

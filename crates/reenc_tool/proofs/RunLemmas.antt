@@ -1,6 +1,6 @@
 -- A command of its parts.
 use Rattle.std.proofs.Common.{◌≡◌, ℕ, ◌*◌, ◌-◌, ◌^◌, ◌<◌, ◌≤◌, ◌⊎◌, inl, inr, ⊎_elim, Bool, true, false, List, [], ◌∷◌, length, Option, Some, ap, ◌∙◌, refl, sym, subst, arith}
-use Rattle.std.proofs.lemmas.Bool.{cases_lt, true≢false}
+use Rattle.std.proofs.lemmas.Bool.{cases_Bool, cases_lt, true≢false}
 use Rattle.base_terms.specs.Blocks.{blocks_of}
 use Rattle.base_terms.specs.Causes.{Rose}
 use Rattle.bays.specs.Stories.{Script, Story}
@@ -10,10 +10,9 @@ use Rattle.plain_volume.specs.Calls.{Made, CountsCalls}
 use Rattle.plain_volume.specs.Outcomes.{AreServed}
 use Rattle.plain_volume.specs.Volume.{Volume, StandsFor, Did}
 use Rattle.reenc_tool.specs.declared.ended.Cause.{Cause}
-use Rattle.reenc_tool.specs.declared.ended.Cause.TheVariants.{Fine, Usage, Device, NoFit, Link, Output, Memory}
 use Rattle.reenc_tool.specs.Lanes.{Served}
 use Rattle.reenc_tool.specs.Playing.{Played, AreSessions, NumbersRise, operations_of}
-use Rattle.reenc_tool.specs.Running.{Came, Ran, StoodStill, WasServed, WasStopped, IsStopped, cause_of}
+use Rattle.reenc_tool.specs.Running.{Came, Ran, StoodStill, WasServed, WasStopped, cause_of}
 
 counts_later : (old new : ℕ) (calls : List Made) → CountsCalls old new calls → old ≤ new
 unfolding CountsCalls
@@ -38,32 +37,28 @@ broke_by_fault old new exchanges serves did whole broken =
 not_rose : (before now : ℕ) → now ≡ before → now < 2 ^ 64 - 1 → Rose before now → ⊥
 not_rose before now same low rose = ⊎_elim (λ risen. omega arith) (λ last. omega arith) rose
 
-bool_cases : (b : Bool) → (b ≡ true) ⊎ (b ≡ false)
-bool_cases true = inl refl
-bool_cases false = inr refl
-
-no_link_failed : {L E : Type 0} (told : L → Option Story) (faults : L → ℕ) (items : E → List SessionEnd) (olds news : List L) (ends : List E)
-    (failed memory : Bool) (all : List Played) → Served told faults items olds news ends failed memory all → (link : L) →
+no_link_failed : {L E : Type 0} (told : L → Option Story) (bound faults : L → ℕ) (items : E → List SessionEnd) (olds news : List L) (ends : List E)
+    (failed memory : Bool) (all : List Played) → Served told bound faults items olds news ends failed memory all → (link : L) →
     StoodStill faults olds news → failed ≡ false
-no_link_failed told faults items olds news ends failed memory all served link stood =
+no_link_failed told bound faults items olds news ends failed memory all served link stood =
     ⊎_elim
     (λ is. let r = served.rose is link in absurd (not_rose _ _ (stood r.0 link r.1).0 (stood r.0 link r.1).1 r.2))
-    (λ is. is) (bool_cases failed)
+    (λ is. is) (cases_Bool failed)
 
 abbrev pub StartsSettled : Type 0
 StartsSettled = (volume : Volume) (bytes : List ℕ) → volume.values ≡ Some bytes → length bytes ≡ volume.atoms * volume.atom →
     StandsFor volume (settled_blocks (blocks_of volume.atom volume.atoms bytes))
 
-pub ran_of : {D L E : Type 0} (volume_of : D → Volume) (told : L → Option Story) (faults : L → ℕ) (items : E → List SessionEnd)
+pub ran_of : {D L E : Type 0} (volume_of : D → Volume) (told : L → Option Story) (bound faults : L → ℕ) (items : E → List SessionEnd)
     (disk d : D) (begun : List L) (link : L) (links : List L) (ends : List E) (cause : Cause) (final : Volume) (failed memory : Bool)
     (played : List Played) (size atom : ℕ) → ServesWithoutFaults → StartsSettled →
     (volume_of disk).broken ≡ false → ((bytes : List ℕ) → (volume_of disk).values ≡ Some bytes → length bytes ≡ (volume_of disk).atoms * (volume_of disk).atom) →
     Did (volume_of disk) final (operations_of played) → size ≡ (volume_of disk).atoms * (volume_of disk).atom → atom ≡ (volume_of disk).atom →
     AreSessions (record { number = 0; size = size; atom = atom }) played → NumbersRise 0 played →
-    Served told faults items begun links ends failed memory played → volume_of d ≡ record final { broken = false } →
+    Served told bound faults items begun links ends failed memory played → volume_of d ≡ record final { broken = false } →
     cause ≡ cause_of final.broken failed memory →
-    Ran volume_of told faults items disk begun cause (Some d) links ends
-ran_of volume_of told faults items disk d begun link links ends cause final failed memory played size atom serves starts whole sized did size_is atom_is
+    Ran volume_of told bound faults items disk begun cause (Some d) links ends
+ran_of volume_of told bound faults items disk d begun link links ends cause final failed memory played size atom serves starts whole sized did size_is atom_is
     sessions rise served back cause_is = record {
       final = final;
       failed = failed;
@@ -85,7 +80,7 @@ ran_of volume_of told faults items disk d begun link links ends cause final fail
       broke = λ broken. broke_by_fault (volume_of disk) final (operations_of played) serves did whole broken;
       complete = λ stood low links_stood.
           let fine = serves (volume_of disk) final (operations_of played) did whole stood (omega arith) in
-          let calm = no_link_failed told faults items begun links ends failed memory played served link links_stood in (
+          let calm = no_link_failed told bound faults items begun links ends failed memory played served link links_stood in (
             subst (λ (a : ℕ). AreServed a (final.atoms * a) (operations_of played)) (sym did.atom)
                 (subst (λ (n : ℕ). AreServed (volume_of disk).atom (n * (volume_of disk).atom) (operations_of played)) (sym did.atoms) fine.0),
             cause_is ∙ ap (λ b. cause_of b failed memory) fine.1 ∙ ap (λ f. cause_of false f memory) calm,
@@ -99,33 +94,23 @@ pub volume_same : (d v : Volume) → d.atom ≡ v.atom → d.atoms ≡ v.atoms �
     record { atom = d.atom; atoms = d.atoms; values = d.values; told = d.told; faults = d.faults; broken = false } ≡ record v { broken = false }
 volume_same d v a b c e f g = cc
 
-stopped_earlier : (atoms before mid now : ℕ) (cause : Cause) → before ≤ mid → IsStopped atoms mid now cause → IsStopped atoms before now cause
-stopped_earlier atoms before mid now Fine early why = why
-stopped_earlier atoms before mid now Usage early why = why
-stopped_earlier atoms before mid now Device early why = ⊎_elim (λ risen. inl (omega arith)) (λ last. inr last) why
-stopped_earlier atoms before mid now (NoFit what number limit) early why = why
-stopped_earlier atoms before mid now Link early why = why
-stopped_earlier atoms before mid now Output early why = why
-stopped_earlier atoms before mid now Memory early why = why
-
 -- what came after the bay gave the disk came after it was asked
-pub ended_earlier : {D L E : Type 0} (volume_of : D → Volume) (told : L → Option Story) (faults : L → ℕ) (items : E → List SessionEnd)
+pub ended_earlier : {D L E : Type 0} (volume_of : D → Volume) (told : L → Option Story) (bound faults : L → ℕ) (items : E → List SessionEnd)
     (inputs inputs' : Option (List Script)) (sessions : ℕ) (disk : D) (atoms before mid now : ℕ) (cause : Cause) (back : Option D) (links : List L) (ends : List E) →
-    inputs' ≡ inputs → before ≤ mid →
-    WasServed volume_of told faults items inputs' sessions disk cause back links ends ⊎ WasStopped disk atoms mid now cause back ends →
-    WasServed volume_of told faults items inputs sessions disk cause back links ends ⊎ WasStopped disk atoms before now cause back ends
-ended_earlier volume_of told faults items inputs inputs' sessions disk atoms before mid now cause back links ends same early ended =
-    ⊎_elim
-    (λ served. inl (subst (λ (i : Option (List Script)). WasServed volume_of told faults items i sessions disk cause back links ends) same served))
-    (λ stopped. inr (record { back_is = stopped.back_is; none = stopped.none; why = stopped_earlier atoms before mid now cause early stopped.why }))
-    ended
+    inputs' ≡ inputs → mid ≡ before →
+    WasServed volume_of told bound faults items inputs' sessions disk mid now cause back links ends
+    ⊎ WasStopped told bound inputs' sessions disk atoms mid now cause back links ends →
+    WasServed volume_of told bound faults items inputs sessions disk before now cause back links ends
+    ⊎ WasStopped told bound inputs sessions disk atoms before now cause back links ends
+ended_earlier volume_of told bound faults items inputs inputs' sessions disk atoms before mid now cause back links ends same stood ended =
+    rw (← same, ← stood) ended
 
-pub came_same : {D L E : Type 0} (volume_of : D → Volume) (told : L → Option Story) (faults : L → ℕ) (items : E → List SessionEnd) (shelf : List ℕ → Option D)
+pub came_same : {D L E : Type 0} (volume_of : D → Volume) (told : L → Option Story) (bound faults : L → ℕ) (items : E → List SessionEnd) (shelf : List ℕ → Option D)
     (inputs : Option (List Script)) (words : List (List ℕ)) (before now : ℕ) (cause : Cause) (back back' : Option D) (links links' : List L) (ends ends' : List E) →
     back' ≡ back → links' ≡ links → ends' ≡ ends →
-    Came volume_of told faults items shelf inputs words before now cause back links ends →
-    Came volume_of told faults items shelf inputs words before now cause back' links' ends'
-came_same {D} {L} {E} volume_of told faults items shelf inputs words before now cause back back' links links' ends ends' a b c came =
-    subst (λ (d : Option D). Came volume_of told faults items shelf inputs words before now cause d links' ends') (sym a)
-    (subst (λ (l : List L). Came volume_of told faults items shelf inputs words before now cause back l ends') (sym b)
-    (subst (λ (e : List E). Came volume_of told faults items shelf inputs words before now cause back links e) (sym c) came))
+    Came volume_of told bound faults items shelf inputs words before now cause back links ends →
+    Came volume_of told bound faults items shelf inputs words before now cause back' links' ends'
+came_same {D} {L} {E} volume_of told bound faults items shelf inputs words before now cause back back' links links' ends ends' a b c came =
+    subst (λ (d : Option D). Came volume_of told bound faults items shelf inputs words before now cause d links' ends') (sym a)
+    (subst (λ (l : List L). Came volume_of told bound faults items shelf inputs words before now cause back l ends') (sym b)
+    (subst (λ (e : List E). Came volume_of told bound faults items shelf inputs words before now cause back links e) (sym c) came))

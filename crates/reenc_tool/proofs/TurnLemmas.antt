@@ -1,5 +1,5 @@
 -- A link that had its turn.
-use Rattle.std.proofs.Common.{◌≡◌, ℕ, inl, inr, Bool, true, false, List, [], Option, refl, sym, append-nil, arith}
+use Rattle.std.proofs.Common.{◌≡◌, ℕ, inl, inr, Bool, true, false, List, [], length, Option, ap, refl, sym, append-nil, arith}
 use Rattle.bays.specs.Stories.{Story}
 use Rattle.nbd_session.specs.declared.ending.SessionEnd.{SessionEnd}
 use Rattle.nbd_session.specs.declared.export.Export.{Export}
@@ -17,7 +17,10 @@ turn_closed export k t b f ends live failed memory closed = record {
   ends = sym (append-nil ends);
   later = omega arith;
   one = inl refl;
-  within = λ is. absurd (cc);
+  few = omega arith;
+  held = λ calm. refl;
+  asked = λ is. refl;
+  took = λ is. absurd (cc);
   closed = λ is. inr (inr (closed, refl));
   failing = λ is. inl is;
   kept = λ is. is;
@@ -34,7 +37,10 @@ turn_served export k t t' b b' f f' ends ends' live failed memory played is_live
       ends = asked.ends;
       later = asked.later;
       one = inr (one.0, one.1, one.2, one.3);
-      within = λ is. (is, omega (arith, one.4), λ calm. omega (arith, one.4));
+      few = omega (arith, ap length one.1, one.4);
+      held = λ calm. one.5;
+      asked = λ is. absurd (cc);
+      took = λ is. (is, λ calm. ap length one.1);
       closed = λ is. absurd (cc);
       failing = λ is. inl is;
       kept = λ is. is;
@@ -49,7 +55,10 @@ turn_ended export k t t' b b' f f' ends ends' live failed memory played asked = 
   ends = asked.ends;
   later = asked.later;
   one = inl asked.by_case.0;
-  within = λ is. absurd (cc);
+  few = omega (arith, ap length asked.by_case.0, asked.by_case.2);
+  held = λ calm. asked.by_case.3;
+  asked = λ is. asked.by_case.0;
+  took = λ is. absurd (cc);
   closed = λ is. inr (inl asked.by_case.1);
   failing = λ is. inl is;
   kept = λ is. is;
@@ -64,7 +73,10 @@ turn_failed export k t t' b b' f f' ends ends' live failed memory played asked =
   ends = asked.ends;
   later = asked.later;
   one = inl asked.by_case.0;
-  within = λ is. absurd (cc);
+  few = omega (arith, ap length asked.by_case.0, asked.by_case.2);
+  held = λ calm. absurd (cc);
+  asked = λ is. asked.by_case.0;
+  took = λ is. absurd (cc);
   closed = λ is. inl refl;
   failing = λ is. inr asked.by_case.1;
   kept = λ is. refl;
@@ -79,7 +91,10 @@ turn_memory export k t t' b b' f f' ends ends' live failed played is_live asked 
   ends = asked.ends;
   later = asked.later;
   one = inl asked.by_case.0;
-  within = λ is. (is, omega (arith, asked.by_case.1), λ calm. absurd (cc));
+  few = omega (arith, ap length asked.by_case.0, asked.by_case.1);
+  held = λ calm. asked.by_case.2;
+  asked = λ is. asked.by_case.0;
+  took = λ is. (is, λ calm. absurd (cc));
   closed = λ is. absurd (cc);
   failing = λ is. inl is;
   kept = λ is. is;

@@ -15,9 +15,13 @@ HasNoneAhead old new = (story : Story) → old ≡ Some story → (next : Story)
 abbrev pub AskedCase : Export → ℕ → Option Story → Option Story → ℕ → ℕ → ℕ → ℕ → Asked → List Played → Type 0
 AskedCase export k old_told new_told old_bound new_bound old_faults new_faults Served played =
     (one : Played) × (played ≡ one ∷ []) × (one.link ≡ k) × (one.end.number ≡ export.number) × (new_bound + 1 ≡ old_bound)
-AskedCase export k old_told new_told old_bound new_bound old_faults new_faults Ended played = (played ≡ []) × HasNoneAhead old_told new_told × (new_bound ≡ old_bound)
-AskedCase export k old_told new_told old_bound new_bound old_faults new_faults Failed played = (played ≡ []) × Rose old_faults new_faults × (new_bound ≡ old_bound)
-AskedCase export k old_told new_told old_bound new_bound old_faults new_faults Memory played = (played ≡ []) × (new_bound ≡ old_bound)
+    × (new_faults ≡ old_faults)
+AskedCase export k old_told new_told old_bound new_bound old_faults new_faults Ended played =
+    (played ≡ []) × HasNoneAhead old_told new_told × (new_bound ≡ old_bound) × (new_faults ≡ old_faults)
+AskedCase export k old_told new_told old_bound new_bound old_faults new_faults Failed played =
+    (played ≡ []) × Rose old_faults new_faults × (new_bound ≡ old_bound)
+AskedCase export k old_told new_told old_bound new_bound old_faults new_faults Memory played =
+    (played ≡ []) × (new_bound ≡ old_bound) × (new_faults ≡ old_faults)
 
 -- a link of the number `k` was asked
 pub record AskedIs (export : Export) (k : ℕ) (old_told new_told : Option Story) (old_bound new_bound old_faults new_faults : ℕ)

@@ -5,5 +5,8 @@ use Rattle.reenc_tool.specs.declared.ended.Cause.{Cause}
 use Rattle.reenc_tool.specs.declared.ended.Cause.TheVariants.{Fine, Output, Memory}
 
 -- The cause stays, but where all was fine and the line could not be put, or memory was wanted for it.
+-- All stays fine only where putting the line met no fault.
 abbrev pub EndsAs : Cause → ℕ → ℕ → Cause → Type 0
-EndsAs cause before now result = (result ≡ cause) ⊎ ((cause ≡ Fine) × ((result ≡ Memory) ⊎ ((result ≡ Output) × Rose before now)))
+EndsAs cause before now result =
+    ((result ≡ cause) × (cause ≡ Fine → now ≡ before))
+    ⊎ ((cause ≡ Fine) × ((result ≡ Memory) ⊎ ((result ≡ Output) × Rose before now)))

@@ -1,5 +1,5 @@
 -- Sessions that were served, and how links tell of them.
-use Rattle.std.specs.Prelude.{ℕ, ◌≡◌, ◌≤◌, suc, ◌==◌, if◌then◌else◌, List, [], ◌∷◌, ◌++◌, Option, Some}
+use Rattle.std.specs.Prelude.{ℕ, ◌≡◌, ◌+◌, ◌≤◌, suc, ◌==◌, if◌then◌else◌, List, [], ◌∷◌, ◌++◌, Option, Some}
 use Rattle.bays.specs.Stories.{Script, Handed, Story}
 use Rattle.nbd_session.specs.declared.ending.SessionEnd.{SessionEnd}
 use Rattle.nbd_session.specs.declared.export.Export.{Export}
@@ -60,3 +60,8 @@ Goes old new played = (story : Story) → old ≡ Some story → (next : Story) 
 unfoldable pub NumbersRise : ℕ → List Played → Type 0
 NumbersRise least [] = Unit {0}
 NumbersRise least (played ∷ rest) = (least ≤ played.end.number) × NumbersRise (suc played.end.number) rest
+
+-- the numbers of the sessions are `number`, `number + step` and so on
+unfoldable pub AreNumbered : ℕ → ℕ → List Played → Type 0
+AreNumbered step number [] = Unit {0}
+AreNumbered step number (played ∷ rest) = (played.end.number ≡ number) × AreNumbered step (number + step) rest

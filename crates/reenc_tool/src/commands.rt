@@ -1,8 +1,9 @@
 ghost use Rattle.std.specs.Prelude.{◌≡◌, ◌<◌, ◌≤◌, ◌⊎◌, ℕ, List, [], length, map, slice_index_or, string_bytes, vec_len, Some, None, false, IfOk};
-ghost use Rattle.reenc_tool.specs.Running.{Came, Ran, WasServed, WasStopped, cause_of};
+ghost use Rattle.reenc_tool.specs.Running.{Came, HasNoOther, Ran, WasServed, WasStopped, cause_of, unbroken};
 ghost use Rattle.reenc_tool.specs.Ending.{EndsAs};
 ghost use Rattle.reenc_tool.specs.Status.{status_of};
 ghost use Rattle.reenc_tool.specs.Texts.{Prints, line_of, sessions_in};
+ghost use Rattle.reenc_tool.specs.Words.{NotServe};
 ghost use Rattle.reenc_tool.specs.declared.ended.Cause.{Cause};
 
 use crate::ended::{Cause, Ended, Fit};
@@ -27,8 +28,9 @@ fn serve_disk<D: Disk, L: Link>(alloc: Global, disk: D, links: Vec<L>) -> Ended<
     requires count { length links.items ≡ 4 }
     requires bound { (k : ℕ) (link : L) → k < length links.items → L.bound (slice_index_or links.items k link) ≤ 65535 }
     ensures status { result.status ≡ status_of result.cause }
-    ensures ended { (Ran (λ d. record { atom = D.size d; atoms = D.count d; values = D.values d; told = D.told d; faults = D.faults d; broken = false })
-        L.told L.faults (λ list. list.items) disk links.items result.cause result.disk result.links.items result.sessions.items)
+    ensures other { HasNoOther result.header result.pass result.demo }
+    ensures ended { (Ran (unbroken D.size D.count D.values D.told D.faults)
+        L.told L.bound L.faults (λ list. list.items) disk links.items result.cause result.disk result.links.items result.sessions.items)
         ⊎ ((result.cause ≡ Cause.Memory) × (result.disk ≡ Some disk) × (result.links.items ≡ links.items) × (result.sessions.items ≡ [])) }
 {
     let mut links = links;
@@ -94,6 +96,7 @@ fn empty_lists(alloc: Global, count: usize) -> Result<Vec<Vec<SessionEnd>>, Allo
 /// Ends without a session.
 fn refused<D, L>(alloc: Global, cause: Cause, disk: Option<D>) -> Ended<D, L>
     ensures status { result.status ≡ status_of cause }
+    ensures other { HasNoOther result.header result.pass result.demo }
     ensures cause { result.cause ≡ cause }
     ensures disk { result.disk ≡ disk }
     ensures links { result.links.items ≡ [] }
@@ -120,10 +123,12 @@ fn serve_plain<B: Bay>(
 ) -> Ended<B::Disk, B::Link>
     requires { command.now.sessions ≤ 65535 }
     ensures status { result.status ≡ status_of result.cause }
+    ensures other { HasNoOther result.header result.pass result.demo }
     ensures later { B.faults bay.old ≤ B.faults bay.new }
-    ensures ended { WasServed (λ d. record { atom = B.Disk.size d; atoms = B.Disk.count d; values = B.Disk.values d; told = B.Disk.told d; faults = B.Disk.faults d; broken = false })
-        B.Link.told B.Link.faults (λ list. list.items) (B.inputs bay.old) command.now.sessions disk result.cause result.disk result.links.items result.sessions.items
-        ⊎ WasStopped disk (B.Disk.count disk) (B.faults bay.old) (B.faults bay.new) result.cause result.disk result.sessions.items }
+    ensures ended { WasServed (unbroken B.Disk.size B.Disk.count B.Disk.values B.Disk.told B.Disk.faults)
+        B.Link.told B.Link.bound B.Link.faults (λ list. list.items) (B.inputs bay.old) command.now.sessions disk (B.faults bay.old) (B.faults bay.new) result.cause result.disk result.links.items result.sessions.items
+        ⊎ WasStopped B.Link.told B.Link.bound (B.inputs bay.old) command.now.sessions disk (B.Disk.count disk) (B.faults bay.old) (B.faults bay.new)
+        result.cause result.disk result.links.items result.sessions.items }
 {
     if disk.atoms() == 0 {
         let cause = Cause::NoFit {
@@ -143,10 +148,12 @@ fn serve_plain<B: Bay>(
 /// Executes the command that the words ask for.
 fn execute<B: Bay>(alloc: Global, words: &[String], bay: &mut B) -> Ended<B::Disk, B::Link>
     ensures status { result.status ≡ status_of result.cause }
+    ensures other { HasNoOther result.header result.pass result.demo }
     ensures later { B.faults bay.old ≤ B.faults bay.new }
-    ensures came { Came (λ d. record { atom = B.Disk.size d; atoms = B.Disk.count d; values = B.Disk.values d; told = B.Disk.told d; faults = B.Disk.faults d; broken = false })
-        B.Link.told B.Link.faults (λ list. list.items) (B.shelf bay.old) (B.inputs bay.old) (map string_bytes words.now) (B.faults bay.old) (B.faults bay.new)
+    ensures came { Came (unbroken B.Disk.size B.Disk.count B.Disk.values B.Disk.told B.Disk.faults)
+        B.Link.told B.Link.bound B.Link.faults (λ list. list.items) (B.shelf bay.old) (B.inputs bay.old) (map string_bytes words.now) (B.faults bay.old) (B.faults bay.new)
         result.cause result.disk result.links.items result.sessions.items }
+    ensures unasked { NotServe (map string_bytes words.now) → bay.new ≡ bay.old }
 {
     let Some(command) = read_words(words) else {
         return refused(alloc, Cause::Usage, None);
@@ -158,13 +165,16 @@ fn execute<B: Bay>(alloc: Global, words: &[String], bay: &mut B) -> Ended<B::Dis
     }
 }
 
-/// Runs the command that the words behind the program's name ask for, and prints one line.
+/// Runs the command that the words behind the program's name ask for, and prints one line: `served S
+/// sessions`, or `fault N NAME` with the status and the cause. The words are `serve DISK --plain --atom
+/// 512|4096 --listen ADDRESS --sessions n`, in this order, with n from 1 to 65535.
 ///
 /// What holds at the end is `Came` of `specs/`, before the line is printed: where sessions were served
 /// they are sessions of the protocol over the bytes that the links' connections gave, their operations
 /// are one legal history of the plain disk that was handed in, and the disk's tables are those of the
 /// operations' device calls; each cause has its reason. The line changes the cause only where all was
-/// fine: to `Output` where it can't be put and pushed out, to `Memory` where memory is wanted for it.
+/// fine: to `Output` where it can't be put and pushed out, to `Memory` where memory is wanted for it. Words that
+/// ask for nothing leave the bay as it was. The seeds aren't drawn from.
 pub fn run<W: Threads + Wait + Sync, B: Bay, R: Seeds, O: Sink, G: Gate>(
     _rt: &W,
     alloc: Global,
@@ -175,12 +185,15 @@ pub fn run<W: Threads + Wait + Sync, B: Bay, R: Seeds, O: Sink, G: Gate>(
     _gate: &G,
 ) -> Ended<B::Disk, B::Link>
     ensures status { result.status ≡ status_of result.cause }
+    ensures other { HasNoOther result.header result.pass result.demo }
     ensures run { (cause : Cause) × EndsAs cause (O.faults out.old) (O.faults out.new) result.cause
-        × Came (λ d. record { atom = B.Disk.size d; atoms = B.Disk.count d; values = B.Disk.values d; told = B.Disk.told d; faults = B.Disk.faults d; broken = false })
-        B.Link.told B.Link.faults (λ list. list.items) (B.shelf bay.old) (B.inputs bay.old) (map string_bytes words.now) (B.faults bay.old) (B.faults bay.new)
+        × Came (unbroken B.Disk.size B.Disk.count B.Disk.values B.Disk.told B.Disk.faults)
+        B.Link.told B.Link.bound B.Link.faults (λ list. list.items) (B.shelf bay.old) (B.inputs bay.old) (map string_bytes words.now) (B.faults bay.old) (B.faults bay.new)
         cause result.disk result.links.items result.sessions.items
         × Prints (O.had out.old) (O.had out.new) (O.faults out.old) (O.faults out.new)
         (line_of cause result.cause (sessions_in (λ list. vec_len list) result.sessions.items)) }
+    ensures unasked { NotServe (map string_bytes words.now) → bay.new ≡ bay.old }
+    ensures seeds { _seeds.new ≡ _seeds.old }
 {
     let ended = execute(alloc, words, bay);
     let cause = print(

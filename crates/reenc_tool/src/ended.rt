@@ -3,22 +3,24 @@ ghost use Rattle.reenc_tool.specs.Status.{status_of};
 
 use nbd_session::SessionEnd;
 
-/// Why a command ended as it did.
+/// Why a command ended as it did. Where several causes hold, it is the first in the order of the
+/// command's steps; `Output` comes only in place of `Fine`.
 #[derive(Clone, Copy, Debug, PartialEq, Eq)]
 pub enum Cause {
-    /// It did what it was asked.
+    /// It did what it was asked: status 0. A session that failed, or a client's failed read, changes
+    /// nothing in that.
     Fine,
-    /// The words ask for nothing.
+    /// The words ask for nothing: status 1.
     Usage,
-    /// The bay failed, or a write or a sync of the disk.
+    /// The bay failed, or a write or a sync of the disk: status 2.
     Device,
-    /// Something doesn't fit: the counted number passes its limit.
+    /// Something doesn't fit: the counted number is beyond its limit. Status 8.
     NoFit { what: Fit, number: u64, limit: u64 },
-    /// A link failed.
+    /// A link failed: status 10.
     Link,
-    /// The text could not be put and pushed out.
+    /// The line could not be put and pushed out: status 11.
     Output,
-    /// Memory was wanted.
+    /// Memory was wanted: status 13.
     Memory,
 }
 
@@ -58,17 +60,21 @@ impl Cause {
 #[derive(Clone, Copy, Debug)]
 pub enum Pass {}
 
-/// A command that ended: its status and cause; the disks and links that the bay gave, handed back;
-/// and the ends of the sessions, a list for each link.
+/// A command that ended. What the bay gave is handed back.
 #[derive(Debug, Drop)]
 pub struct Ended<D, L> {
+    /// The exit status, which the cause determines.
     pub status: u8,
     pub cause: Cause,
+    /// The disk that the bay gave.
     pub disk: Option<D>,
+    /// The disk of a detached header. No command asks for one yet.
     pub header: Option<D>,
     pub pass: Option<Pass>,
     pub demo: Option<Pass>,
+    /// The ends of the sessions of each link, in their order; no list where none was served.
     pub sessions: Vec<Vec<SessionEnd>>,
+    /// The links that the bay gave.
     pub links: Vec<L>,
 }
 
@@ -80,6 +86,9 @@ impl<D, L> Ended<D, L> {
         ensures disk { result.disk ≡ self.disk }
         ensures sessions { result.sessions ≡ self.sessions }
         ensures links { result.links ≡ self.links }
+        ensures header { result.header ≡ self.header }
+        ensures pass { result.pass ≡ self.pass }
+        ensures demo { result.demo ≡ self.demo }
     {
         let Ended {
             disk,

@@ -9,6 +9,8 @@ mod connection;
 mod ended;
 mod port;
 mod serving;
+#[cfg(test)]
+mod tests;
 mod text;
 mod words;
 

@@ -74,7 +74,7 @@ fn serve_round<L: Link, P: Port>(
     ensures { (played : List Played) × P.did port.old port.new (operations_of played) × AreSessions export.now played
         × (NumbersRise export.now.number played) × (NumbersBelow (export.now.number + length links.old.items) played)
         × ((olds : List L) (turns : ℕ) (all : List Played) →
-        Lanes L.told L.bound L.faults (λ list. list.items) (λ _. turns) olds links.old.items ends.old.items live.old trouble.old.failed all →
+        export.now.number ≡ length olds * turns → Lanes L.told L.bound L.faults (λ list. list.items) (λ _. turns) olds links.old.items ends.old.items live.old trouble.old.failed all →
         (turned : ℕ → ℕ) × Lanes L.told L.bound L.faults (λ list. list.items) turned olds links.new.items ends.new.items live.new trouble.new.failed (all ++ played)
         × (trouble.new.memory ≡ false → (k : ℕ) → k < length olds → turned k ≡ turns + 1)) }
 {
@@ -100,8 +100,9 @@ fn serve_round<L: Link, P: Port>(
 }
 
 /// Serves the sessions of all links, one after the other, until each link has no more. The links
-/// are asked in turn from the first one; one that has no more, or failed, is asked no more. Where
-/// memory is wanted for a session's end, no further connection is asked for.
+/// are asked in turn from the first one; one that has no more, or failed, is asked no more. The link
+/// `k` of `n` serves the sessions of the numbers `k`, `k + n`, `k + 2 * n` and so on. Where memory is
+/// wanted for a session's end, no further connection is asked for.
 pub fn serve_links<L: Link, P: Port>(
     alloc: Global,
     links: &mut Vec<L>,
@@ -117,7 +118,7 @@ pub fn serve_links<L: Link, P: Port>(
     requires bound { (k : ℕ) (link : L) → k < length links.old.items → L.bound (slice_index_or links.old.items k link) ≤ 65535 }
     ensures { (played : List Played) × P.did port.old port.new (operations_of played)
         × AreSessions (record { number = 0; size = size; atom = atom }) played × NumbersRise 0 played
-        × Served L.told L.faults (λ list. list.items) links.old.items links.new.items ends.new.items result.failed result.memory played }
+        × Served L.told L.bound L.faults (λ list. list.items) links.old.items links.new.items ends.new.items result.failed result.memory played }
 {
     let mut live = [true; MAX_LINKS];
     let mut trouble = Trouble {

@@ -1,4 +1,4 @@
-use Rattle.std.proofs.Common.{ap, sym, subst, inl, inr, Err}
+use Rattle.std.proofs.Common.{ap, refl, sym, subst, inl, inr, Err}
 use Rattle.reenc_tool.specs.declared.ended.Cause.{Cause}
 use Rattle.reenc_tool.specs.Running.{IsStopped}
 use Rattle.reenc_tool.proofs.RunLemmas.{ended_earlier}
@@ -13,8 +13,8 @@ returns-in-Ok-clause-came g c =
         disk = c.in-Ok.disk;
         kept = c.in-Ok.ensures.told;
         atom = c.in-Ok.ensures.atom;
-        ended = ended_earlier _ g.B.Link.Link.told g.B.Link.Link.faults _ _ _ _ c.in-Ok.disk _ _ (g.B.Bay.faults c.disk.new.self) _ _ _ _ _
-            c.in-Ok.ensures.inputs c.in-Ok.ensures.cause.later c.serve_plain.ensures.ended;
+        ended = ended_earlier _ g.B.Link.Link.told g.B.Link.Link.bound g.B.Link.Link.faults _ _ _ _ c.in-Ok.disk _ _ (g.B.Bay.faults c.disk.new.self) _ _ _ _ _
+            c.in-Ok.ensures.inputs (c.in-Ok.ensures.cause.held refl) c.serve_plain.ensures.ended;
       }),
     )
 
@@ -25,6 +25,7 @@ returns-in-Err-Failed-clause-came g c =
       c.in-Some.ensures,
       inr (
         c.refused-in-Err-Failed.ensures.disk,
+        c.refused-in-Err-Failed.ensures.links,
         c.refused-in-Err-Failed.ensures.sessions,
         subst (λ (cause : Cause). IsStopped 1 (g.B.Bay.faults c.args.bay.now) (g.B.Bay.faults c.disk.new.self) cause) (sym c.refused-in-Err-Failed.ensures.cause)
             (c.in-Err-Failed.ensures.cause.failed (ap Err c.in-Err-Failed.field-0-is)),
@@ -38,7 +39,17 @@ returns-in-Err-Memory-clause-came g c =
       c.in-Some.ensures,
       inr (
         c.refused-in-Err-Memory.ensures.disk,
+        c.refused-in-Err-Memory.ensures.links,
         c.refused-in-Err-Memory.ensures.sessions,
-        subst (λ (cause : Cause). IsStopped 1 (g.B.Bay.faults c.args.bay.now) (g.B.Bay.faults c.disk.new.self) cause) (sym c.refused-in-Err-Memory.ensures.cause) tt,
+        subst (λ (cause : Cause). IsStopped 1 (g.B.Bay.faults c.args.bay.now) (g.B.Bay.faults c.disk.new.self) cause) (sym c.refused-in-Err-Memory.ensures.cause) c.in-Err-Memory.ensures.cause.later,
       ),
     )
+
+pub returns-in-Ok-clause-unasked : goal.returns-in-Ok-clause-unasked
+returns-in-Ok-clause-unasked g c = λ not_serve. absurd (not_serve _ c.in-Some.ensures)
+
+pub returns-in-Err-Failed-clause-unasked : goal.returns-in-Err-Failed-clause-unasked
+returns-in-Err-Failed-clause-unasked g c = λ not_serve. absurd (not_serve _ c.in-Some.ensures)
+
+pub returns-in-Err-Memory-clause-unasked : goal.returns-in-Err-Memory-clause-unasked
+returns-in-Err-Memory-clause-unasked g c = λ not_serve. absurd (not_serve _ c.in-Some.ensures)

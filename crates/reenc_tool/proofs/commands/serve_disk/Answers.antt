@@ -10,7 +10,7 @@ pub returns-clause-ended : goal.returns-clause-ended
 returns-clause-ended g c =
     let s = c.serve_links-trouble.ensures in
     let final : Volume = c.serve_links-trouble.new.port.volume in
-    inl (ran_of _ g.L.Link.told g.L.Link.faults (λ list. list.items) c.args.disk c.into_disk.result c.args.links.items
+    inl (ran_of _ g.L.Link.told g.L.Link.bound g.L.Link.faults (λ list. list.items) c.args.disk c.into_disk.result c.args.links.items
     (some_element c.args.links.items 0 (omega (arith, c.requires.count))) _ _ c.cause-cause.result final
     c.serve_links-trouble.result.failed c.serve_links-trouble.result.memory s.0 c.size-size.result c.atom-atom.result
     c.serves_without_faults.ensures c.starts_settled.ensures refl (λ bytes is. g.met.D.Disk.whole c.args.disk bytes is)

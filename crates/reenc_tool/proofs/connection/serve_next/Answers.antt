@@ -12,7 +12,7 @@ returns-then-is_err g c = λ k. (
     goes = goes_none _ _ (λ story is. is);
     ends = c.reserve.ensures.items ∙ sym (append-nil c.args.ends.now.items);
     later = omega arith;
-    by_case = (refl, refl);
+    by_case = (refl, refl, refl);
   },
   subst (λ (done : List Exchange). g.P.Port.did c.args.port.now c.args.port.now done) (sym operations_of-none) (g.met.P.Port.did_none c.args.port.now),
 )
@@ -26,7 +26,7 @@ returns-in-Ok-None g c = λ k.
         goes = goes_none _ _ told;
         ends = c.reserve.ensures.items ∙ sym (append-nil c.args.ends.now.items);
         later = c.in-Ok-None.ensures.cause.later;
-        by_case = (refl, (λ story is. (story, told story is, rw c.in-Ok-None.field-0-is at c.in-Ok-None.ensures.at_end story is)), rw c.in-Ok-None.field-0-is at c.in-Ok-None.ensures.bound);
+        by_case = (refl, (λ story is. (story, told story is, rw c.in-Ok-None.field-0-is at c.in-Ok-None.ensures.at_end story is)), rw c.in-Ok-None.field-0-is at c.in-Ok-None.ensures.bound, c.in-Ok-None.ensures.cause.held refl);
       },
       subst (λ (done : List Exchange). g.P.Port.did c.args.port.now c.args.port.now done) (sym operations_of-none) (g.met.P.Port.did_none c.args.port.now),
     )
@@ -61,6 +61,7 @@ returns-in-Ok g c = λ k.
           refl,
           session.2.number,
           omega (arith, c.done.ensures.bound, rw c.in-Ok-Some.field-0-is at c.in-Ok-Some.ensures.bound),
+          c.done.ensures.faults ∙ c.in-Ok-Some.ensures.cause.held refl,
         );
       },
       subst (λ (done : List Exchange). g.P.Port.did c.args.port.now c.serve_session-end.new.port done) (sym (operations_of-one one)) session.1,

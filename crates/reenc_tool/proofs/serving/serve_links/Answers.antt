@@ -1,4 +1,5 @@
 use Rattle.std.proofs.Common.{◌+◌, ◌∙◌, true, List, [], ◌++◌, length, refl, sym, subst, arith}
+use Rattle.std.proofs.Math.Nat.{mul-suc}
 use Rattle.std.proofs.lemmas.Bool.{true≢false}
 use Rattle.std.proofs.lemmas.List.{get_or-replicate}
 use Rattle.plain_disk.specs.Plain.{Exchange}
@@ -16,6 +17,7 @@ loop-round-init g c = record {
   lists = c.requires.lists;
   calm = refl;
   low = omega arith;
+  rounds = omega arith;
   played = (
     [],
     subst (λ (done : List Exchange). g.P.Port.did c.args.port.now c.args.port.now done) (sym operations_of-none) (g.met.P.Port.did_none c.args.port.now),
@@ -31,7 +33,7 @@ pub returns-then-trouble : goal.returns-then-trouble
 returns-then-trouble g c =
     let old = c.loop-round.invariant.played in
     let new = c.serve_round.ensures in
-    let after = new.5 c.args.links.now.items c.loop-round.round old.0 old.5 in (
+    let after = new.5 c.args.links.now.items c.loop-round.round old.0 c.loop-round.invariant.rounds old.5 in (
       old.0 ++ new.0,
       subst (λ (done : List Exchange). g.P.Port.did c.args.port.now c.serve_round.new.port done) (sym (operations_of-append old.0 new.0))
           (g.met.P.Port.did_more c.args.port.now c.loop-round.port c.serve_round.new.port (operations_of old.0) (operations_of new.0) old.1 new.1),
@@ -44,12 +46,13 @@ pub loop-round-preserved : goal.loop-round-preserved
 loop-round-preserved g c =
     let old = c.loop-round.invariant.played in
     let new = c.serve_round.ensures in
-    let after = new.5 c.args.links.now.items c.loop-round.round old.0 old.5 in
+    let after = new.5 c.args.links.now.items c.loop-round.round old.0 c.loop-round.invariant.rounds old.5 in
     record {
       links = after.1.links;
       lists = after.1.lists;
       calm = c.if-trouble.false;
       low = omega (arith, c.len.ensures, after.1.links, c.requires.links, c.loop-round.invariant.low);
+      rounds = omega (arith, c.len.ensures, after.1.links, c.loop-round.invariant.rounds, mul-suc (length c.args.links.now.items) c.loop-round.round);
       played = (
         old.0 ++ new.0,
         subst (λ (done : List Exchange). g.P.Port.did c.args.port.now c.serve_round.new.port done) (sym (operations_of-append old.0 new.0))

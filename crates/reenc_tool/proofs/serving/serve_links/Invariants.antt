@@ -9,6 +9,7 @@ invariant-loop-round g l = record {
   lists : length l.ends.items ≡ length l.initial.links.items;
   calm : l.trouble.memory ≡ false;
   low : l.number ≤ 16 * l.round;
+  rounds : l.number ≡ length l.initial.links.items * l.round;
   played : (played : List Played) × g.P.Port.did l.initial.port l.port (operations_of played)
       × AreSessions (record { number = 0; size = l.size; atom = l.atom }) played
       × NumbersRise 0 played × NumbersBelow l.number played

@@ -1,11 +1,11 @@
-use Rattle.std.proofs.Common.{◌+◌, ◌<◌, length-set, List, [], ◌++◌, ◌∙◌, refl, sym, subst, append-nil, append_assoc, arith, length}
+use Rattle.std.proofs.Common.{◌+◌, ◌*◌, ◌<◌, ◌==◌, if◌then◌else◌, ap, length-set, List, [], ◌++◌, ◌∙◌, refl, sym, subst, append-nil, append_assoc, arith, length}
 use Rattle.std.proofs.lemmas.Bool.{true≢false}
 use Rattle.plain_disk.specs.Plain.{Exchange}
 use Rattle.reenc_tool.specs.Lanes.{NumbersBelow}
 use Rattle.reenc_tool.specs.Playing.{NumbersRise, operations_of}
 use Rattle.reenc_tool.proofs.AskingLemmas.{operations_of-none, sessions_none}
 use Rattle.reenc_tool.proofs.LaneLemmas.{turns_at, lanes_turn, operations_of-append, AreSessions-append}
-use Rattle.reenc_tool.proofs.RoundLemmas.{turns_at-none, turns_at-all, turns_at-here, turns_at-other, lanes_same, NumbersRise-append, NumbersBelow-later, NumbersBelow-append, rise_one, below_one, sessions_numbered}
+use Rattle.reenc_tool.proofs.RoundLemmas.{turns_at-none, turns_at-all, turns_at-here, turns_at-other, turned-here, turned-other, lanes_same, NumbersRise-append, NumbersBelow-later, NumbersBelow-append, rise_one, below_one, sessions_numbered}
 use Rattle.reenc_tool.proofs.serving.serve_round.Goals as goal
 
 pub loop-k-init : goal.loop-k-init
@@ -20,7 +20,7 @@ loop-k-init g c = record {
     sessions_none c.args.export.now,
     tt,
     tt,
-    λ olds turns all lanes. lanes_same _ _ _ _ _ (turns_at 0 turns) olds _ _ _ _ all (all ++ []) (λ k inside. turns_at-none turns k) (sym (append-nil all)) lanes,
+    λ olds turns all at lanes. lanes_same _ _ _ _ _ (turns_at 0 turns) olds _ _ _ _ all (all ++ []) (λ k inside. turns_at-none turns k) (sym (append-nil all)) lanes,
   );
 }
 
@@ -43,15 +43,17 @@ loop-k-preserved g c =
         NumbersBelow-append (c.args.export.now.number + (k + 1)) old.0 turn.0
             (NumbersBelow-later (c.args.export.now.number + k) (c.args.export.now.number + (k + 1)) old.0 (omega (arith, c.len-k-end.ensures, c.loop-k.invariant.links)) old.4)
             (NumbersBelow-later (c.args.export.now.number + k + 1) (c.args.export.now.number + (k + 1)) turn.0 (omega (arith, c.len-k-end.ensures, c.loop-k.invariant.links)) (below_one k _ turn.0 t.one)),
-        λ olds turns all lanes.
-            let before = old.5 olds turns all lanes in
+        λ olds turns all at lanes.
+            let before = old.5 olds turns all at lanes in
             let inside : k < length olds = omega (arith, before.links, c.loop-k.invariant.links, c.len-k-end.ensures) in
             lanes_same _ _ _ _ (turns_at (k + 1) turns) (turns_at (k + 1) turns) olds _ _ _ _ _ _ (λ j _. refl) (append_assoc all old.0 turn.0)
             (lanes_turn _ _ _ _ _ (turns_at k turns) (turns_at (k + 1) turns) olds c.loop-k.links.items c.loop-k.ends.items c.loop-k.live
             c.loop-k.trouble.failed c.serve_turn.new.trouble.failed c.serve_turn.new.trouble.memory (all ++ old.0) turn.0 k
             c.index_mut.result.now c.serve_turn.new.link c.index_mut-in-loop-k.result.now c.serve_turn.new.ends _ c.serve_turn.new.live
             before inside c.index_mut.ensures.value c.index_mut-in-loop-k.ensures.value refl t
-            (λ j differ. turns_at-other k turns j differ) (λ is. let w = (t.within is).2 c.if-trouble.false in let now = turns_at-all (k + 1) turns k (omega arith) in let was = turns_at-here k turns in omega (arith, w, now, was))),
+            (omega (arith, at, ap (λ n. length olds * n) (turns_at-here k turns)))
+            (λ j differ. turns_at-other k turns j differ)
+            (λ is. turns_at-all (k + 1) turns k (omega arith) ∙ sym (omega (arith, turns_at-here k turns, (t.took is).1 c.if-trouble.false)))),
       );
     }
 
@@ -69,16 +71,18 @@ returns-then-trouble g c =
       NumbersBelow-append (c.args.export.now.number + length c.args.links.now.items) old.0 turn.0
           (NumbersBelow-later (c.args.export.now.number + k) (c.args.export.now.number + length c.args.links.now.items) old.0 (omega (arith, c.len-k-end.ensures, c.loop-k.invariant.links)) old.4)
           (NumbersBelow-later (c.args.export.now.number + k + 1) (c.args.export.now.number + length c.args.links.now.items) turn.0 (omega (arith, c.len-k-end.ensures, c.loop-k.invariant.links)) (below_one k _ turn.0 t.one)),
-      λ olds turns all lanes.
-          let before = old.5 olds turns all lanes in
+      λ olds turns all at lanes.
+          let before = old.5 olds turns all at lanes in
           let inside : k < length olds = omega (arith, before.links, c.loop-k.invariant.links, c.len-k-end.ensures) in (
-            turns_at k turns,
-            lanes_same _ _ _ _ (turns_at k turns) (turns_at k turns) olds _ _ _ _ _ _ (λ j _. refl) (append_assoc all old.0 turn.0)
-                (lanes_turn _ _ _ _ _ (turns_at k turns) (turns_at k turns) olds c.loop-k.links.items c.loop-k.ends.items c.loop-k.live
+            (λ j. if j == k then turns + length turn.0 else turns_at k turns j),
+            lanes_same _ _ _ _ _ _ olds _ _ _ _ _ _ (λ j _. refl) (append_assoc all old.0 turn.0)
+                (lanes_turn _ _ _ _ _ (turns_at k turns) (λ j. if j == k then turns + length turn.0 else turns_at k turns j) olds c.loop-k.links.items c.loop-k.ends.items c.loop-k.live
                 c.loop-k.trouble.failed c.serve_turn.new.trouble.failed c.serve_turn.new.trouble.memory (all ++ old.0) turn.0 k
                 c.index_mut.result.now c.serve_turn.new.link c.index_mut-in-loop-k.result.now c.serve_turn.new.ends _ c.serve_turn.new.live
                 before inside c.index_mut.ensures.value c.index_mut-in-loop-k.ensures.value refl t
-                (λ j differ. refl) (λ is. let w = (t.within is).1 in omega (arith, w))),
+                (omega (arith, at, ap (λ n. length olds * n) (turns_at-here k turns)))
+                (λ j differ. turned-other j k _ _ differ)
+                (λ is. turned-here k _ _ ∙ ap (λ n. n + length turn.0) (sym (turns_at-here k turns)))),
             λ calm. absurd (true≢false (sym c.if-trouble.true ∙ calm)),
           ),
     )
@@ -93,7 +97,7 @@ returns g c =
       old.3,
       NumbersBelow-later (c.args.export.now.number + k) (c.args.export.now.number + length c.args.links.now.items) old.0
           (omega (arith, c.len-k-end.ensures, c.loop-k.invariant.links)) old.4,
-      λ olds turns all lanes.
-          let after = old.5 olds turns all lanes in
+      λ olds turns all at lanes.
+          let after = old.5 olds turns all at lanes in
           (turns_at k turns, after, λ calm j inside. turns_at-all k turns j (omega (arith, after.links, c.len-k-end.ensures, c.loop-k.invariant.links))),
     )

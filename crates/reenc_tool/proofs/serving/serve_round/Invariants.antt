@@ -1,4 +1,4 @@
-use Rattle.std.proofs.Common.{◌≡◌, ℕ, ◌+◌, false, List, ◌++◌, length}
+use Rattle.std.proofs.Common.{◌≡◌, ℕ, ◌+◌, ◌*◌, false, List, ◌++◌, length}
 use Rattle.reenc_tool.specs.Lanes.{Lanes, NumbersBelow}
 use Rattle.reenc_tool.specs.Playing.{Played, AreSessions, NumbersRise, operations_of}
 use Rattle.reenc_tool.proofs.LaneLemmas.{turns_at}
@@ -11,7 +11,7 @@ invariant-loop-k g l = record {
   calm : l.trouble.memory ≡ false;
   played : (played : List Played) × g.P.Port.did l.initial.port l.port (operations_of played) × AreSessions l.export played
       × NumbersRise l.export.number played × NumbersBelow (l.export.number + l.k) played
-      × ((olds : List _) (turns : ℕ) (all : List Played) →
+      × ((olds : List _) (turns : ℕ) (all : List Played) → l.export.number ≡ length olds * turns →
       Lanes g.L.Link.told g.L.Link.bound g.L.Link.faults (λ list. list.items) (λ _. turns) olds l.initial.links.items l.initial.ends.items l.initial.live l.initial.trouble.failed all →
       Lanes g.L.Link.told g.L.Link.bound g.L.Link.faults (λ list. list.items) (turns_at l.k turns) olds l.links.items l.ends.items l.live l.trouble.failed (all ++ played));
 }
