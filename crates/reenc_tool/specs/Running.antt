@@ -6,6 +6,7 @@ use Rattle.bays.specs.Bays.{AreFresh}
 use Rattle.bays.specs.Stories.{Script, Story}
 use Rattle.nbd_session.specs.declared.ending.SessionEnd.{SessionEnd}
 use Rattle.plain_disk.specs.Plain.{Block, Legal, settled_blocks}
+use Rattle.sector_disk.specs.Steps.{Told}
 use Rattle.plain_volume.specs.Outcomes.{AreServed}
 use Rattle.plain_volume.specs.Volume.{Volume, Did}
 use Rattle.reenc_tool.specs.declared.ended.Cause.{Cause}
@@ -14,6 +15,17 @@ use Rattle.reenc_tool.specs.declared.ended.Fit.TheVariants.{Blocks}
 use Rattle.reenc_tool.specs.Lanes.{Served}
 use Rattle.reenc_tool.specs.Playing.{Played, AreSessions, NumbersRise, operations_of}
 use Rattle.reenc_tool.specs.Words.{Serve, IsServe, NotServe}
+
+-- the volume of a disk before a write or a sync of it failed
+abbrev pub unbroken : {D : Type 0} → (D → ℕ) → (D → ℕ) → (D → Option (List ℕ)) → (D → Option Told) → (D → ℕ) → D → Volume
+unbroken size count values told faults disk = record {
+  atom = size disk;
+  atoms = count disk;
+  values = values disk;
+  told = told disk;
+  faults = faults disk;
+  broken = false;
+}
 
 -- the cause of the end of sessions
 abbrev pub cause_of : Bool → Bool → Bool → Cause

@@ -1,5 +1,5 @@
 ghost use Rattle.std.specs.Prelude.{◌≡◌, ◌<◌, ◌≤◌, ◌⊎◌, ℕ, List, [], length, map, slice_index_or, string_bytes, vec_len, Some, None, false, IfOk};
-ghost use Rattle.reenc_tool.specs.Running.{Came, HasNoOther, Ran, WasServed, WasStopped, cause_of};
+ghost use Rattle.reenc_tool.specs.Running.{Came, HasNoOther, Ran, WasServed, WasStopped, cause_of, unbroken};
 ghost use Rattle.reenc_tool.specs.Ending.{EndsAs};
 ghost use Rattle.reenc_tool.specs.Status.{status_of};
 ghost use Rattle.reenc_tool.specs.Texts.{Prints, line_of, sessions_in};
@@ -29,7 +29,7 @@ fn serve_disk<D: Disk, L: Link>(alloc: Global, disk: D, links: Vec<L>) -> Ended<
     requires bound { (k : ℕ) (link : L) → k < length links.items → L.bound (slice_index_or links.items k link) ≤ 65535 }
     ensures status { result.status ≡ status_of result.cause }
     ensures other { HasNoOther result.header result.pass result.demo }
-    ensures ended { (Ran (λ d. record { atom = D.size d; atoms = D.count d; values = D.values d; told = D.told d; faults = D.faults d; broken = false })
+    ensures ended { (Ran (unbroken D.size D.count D.values D.told D.faults)
         L.told L.bound L.faults (λ list. list.items) disk links.items result.cause result.disk result.links.items result.sessions.items)
         ⊎ ((result.cause ≡ Cause.Memory) × (result.disk ≡ Some disk) × (result.links.items ≡ links.items) × (result.sessions.items ≡ [])) }
 {
@@ -125,7 +125,7 @@ fn serve_plain<B: Bay>(
     ensures status { result.status ≡ status_of result.cause }
     ensures other { HasNoOther result.header result.pass result.demo }
     ensures later { B.faults bay.old ≤ B.faults bay.new }
-    ensures ended { WasServed (λ d. record { atom = B.Disk.size d; atoms = B.Disk.count d; values = B.Disk.values d; told = B.Disk.told d; faults = B.Disk.faults d; broken = false })
+    ensures ended { WasServed (unbroken B.Disk.size B.Disk.count B.Disk.values B.Disk.told B.Disk.faults)
         B.Link.told B.Link.bound B.Link.faults (λ list. list.items) (B.inputs bay.old) command.now.sessions disk (B.faults bay.old) (B.faults bay.new) result.cause result.disk result.links.items result.sessions.items
         ⊎ WasStopped B.Link.told B.Link.bound (B.inputs bay.old) command.now.sessions disk (B.Disk.count disk) (B.faults bay.old) (B.faults bay.new)
         result.cause result.disk result.links.items result.sessions.items }
@@ -150,7 +150,7 @@ fn execute<B: Bay>(alloc: Global, words: &[String], bay: &mut B) -> Ended<B::Dis
     ensures status { result.status ≡ status_of result.cause }
     ensures other { HasNoOther result.header result.pass result.demo }
     ensures later { B.faults bay.old ≤ B.faults bay.new }
-    ensures came { Came (λ d. record { atom = B.Disk.size d; atoms = B.Disk.count d; values = B.Disk.values d; told = B.Disk.told d; faults = B.Disk.faults d; broken = false })
+    ensures came { Came (unbroken B.Disk.size B.Disk.count B.Disk.values B.Disk.told B.Disk.faults)
         B.Link.told B.Link.bound B.Link.faults (λ list. list.items) (B.shelf bay.old) (B.inputs bay.old) (map string_bytes words.now) (B.faults bay.old) (B.faults bay.new)
         result.cause result.disk result.links.items result.sessions.items }
     ensures unasked { NotServe (map string_bytes words.now) → bay.new ≡ bay.old }
@@ -165,7 +165,9 @@ fn execute<B: Bay>(alloc: Global, words: &[String], bay: &mut B) -> Ended<B::Dis
     }
 }
 
-/// Runs the command that the words behind the program's name ask for, and prints one line.
+/// Runs the command that the words behind the program's name ask for, and prints one line: `served S
+/// sessions`, or `fault N NAME` with the status and the cause. The words are `serve DISK --plain --atom
+/// 512|4096 --listen ADDRESS --sessions n`, in this order, with n from 1 to 65535.
 ///
 /// What holds at the end is `Came` of `specs/`, before the line is printed: where sessions were served
 /// they are sessions of the protocol over the bytes that the links' connections gave, their operations
@@ -185,7 +187,7 @@ pub fn run<W: Threads + Wait + Sync, B: Bay, R: Seeds, O: Sink, G: Gate>(
     ensures status { result.status ≡ status_of result.cause }
     ensures other { HasNoOther result.header result.pass result.demo }
     ensures run { (cause : Cause) × EndsAs cause (O.faults out.old) (O.faults out.new) result.cause
-        × Came (λ d. record { atom = B.Disk.size d; atoms = B.Disk.count d; values = B.Disk.values d; told = B.Disk.told d; faults = B.Disk.faults d; broken = false })
+        × Came (unbroken B.Disk.size B.Disk.count B.Disk.values B.Disk.told B.Disk.faults)
         B.Link.told B.Link.bound B.Link.faults (λ list. list.items) (B.shelf bay.old) (B.inputs bay.old) (map string_bytes words.now) (B.faults bay.old) (B.faults bay.new)
         cause result.disk result.links.items result.sessions.items
         × Prints (O.had out.old) (O.had out.new) (O.faults out.old) (O.faults out.new)

@@ -4,22 +4,24 @@ ghost use Rattle.reenc_tool.specs.Texts.{fault_line};
 
 use nbd_session::SessionEnd;
 
-/// Why a command ended as it did.
+/// Why a command ended as it did. Where several causes hold, it is the first in the order of the
+/// command's steps; `Output` comes only in place of `Fine`.
 #[derive(Clone, Copy, Debug, PartialEq, Eq)]
 pub enum Cause {
-    /// It did what it was asked.
+    /// It did what it was asked: status 0. A session that failed, or a client's failed read, changes
+    /// nothing in that.
     Fine,
-    /// The words ask for nothing.
+    /// The words ask for nothing: status 1.
     Usage,
-    /// The bay failed, or a write or a sync of the disk.
+    /// The bay failed, or a write or a sync of the disk: status 2.
     Device,
-    /// Something doesn't fit: the counted number passes its limit.
+    /// Something doesn't fit: the counted number is beyond its limit. Status 8.
     NoFit { what: Fit, number: u64, limit: u64 },
-    /// A link failed.
+    /// A link failed: status 10.
     Link,
-    /// The text could not be put and pushed out.
+    /// The line could not be put and pushed out: status 11.
     Output,
-    /// Memory was wanted.
+    /// Memory was wanted: status 13.
     Memory,
 }
 
@@ -53,9 +55,7 @@ impl Cause {
             Cause::Memory => 13,
         }
     }
-}
 
-impl Cause {
     /// The line of a refusal, with its line feed; empty where there is none.
     pub fn line(self) -> &'static str
         ensures { result.now ≡ fault_line self }
@@ -75,17 +75,21 @@ impl Cause {
 #[derive(Clone, Copy)]
 pub enum Pass {}
 
-/// A command that ended: its status and cause; the disks and links that the bay gave, handed back;
-/// and the ends of the sessions, a list for each link.
+/// A command that ended. What the bay gave is handed back.
 #[derive(Drop)]
 pub struct Ended<D, L> {
+    /// The exit status, which the cause determines.
     pub status: u8,
     pub cause: Cause,
+    /// The disk that the bay gave.
     pub disk: Option<D>,
+    /// The disk of a detached header. No command asks for one yet.
     pub header: Option<D>,
     pub pass: Option<Pass>,
     pub demo: Option<Pass>,
+    /// The ends of the sessions of each link, in their order; no list where none was served.
     pub sessions: Vec<Vec<SessionEnd>>,
+    /// The links that the bay gave.
     pub links: Vec<L>,
 }
 

@@ -1,3 +1,9 @@
+mod messages;
+
+use self::messages::{
+    AGAIN, AGREED, BLOCK, BLOCK_SIZES, CLIENT, FLUSHED, GREETING, HAS_READ, NOT_FLUSHED, NOT_READ,
+    NOT_WRITTEN, Part, READER, SILENT, SIZE, STRANGER, WRITER, WRITTEN, bytes_of,
+};
 use crate::{Cause, Ended, Ending, Fit, SessionEnd, run};
 use bays::{MemBay, MemLink};
 use io_edge::{FixedSeeds, ListSink, ListSource, OpenGate};
@@ -7,78 +13,6 @@ use std::process::Abort;
 use std::sync::Wait;
 use std::test::Fail;
 use std::thread::Threads;
-
-/// Bytes in hexadecimal, and how often they come.
-type Part = (&'static str, usize);
-
-const HELLO: Part = ("00000003", 1);
-
-const GO: Part = ("49484156454f50540000000700000006000000000000", 1);
-
-const WRITE: Part = (
-    "25609513000000010000000000000001000000000000000000000200",
-    1,
-);
-
-const READ: Part = (
-    "25609513000000000000000000000002000000000000000000000200",
-    1,
-);
-
-const FLUSH: Part = (
-    "25609513000000030000000000000003000000000000000000000000",
-    1,
-);
-
-const DISCONNECT: Part = (
-    "25609513000000020000000000000004000000000000000000000000",
-    1,
-);
-
-const BLOCK: Part = ("a5", 512);
-
-const GREETING: Part = ("4e42444d4147494349484156454f50540003", 1);
-
-const SIZE: Part = (
-    "0003e889045565a900000007000000030000000c00000000000000002000010d",
-    1,
-);
-
-const BLOCK_SIZES: Part = (
-    "0003e889045565a900000007000000030000000e0003000002000000100002000000",
-    1,
-);
-
-const AGREED: Part = ("0003e889045565a9000000070000000100000000", 1);
-
-const WRITTEN: Part = ("67446698000000000000000000000001", 1);
-
-const NOT_WRITTEN: Part = ("67446698000000050000000000000001", 1);
-
-const HAS_READ: Part = ("67446698000000000000000000000002", 1);
-
-const NOT_READ: Part = ("67446698000000050000000000000002", 1);
-
-const FLUSHED: Part = ("67446698000000000000000000000003", 1);
-
-const NOT_FLUSHED: Part = ("67446698000000050000000000000003", 1);
-
-/// What a client sends that writes the first block, reads it, flushes and disconnects.
-const CLIENT: &[Part] = &[HELLO, GO, WRITE, BLOCK, READ, FLUSH, DISCONNECT];
-
-/// One that sends other flags and then the same.
-const STRANGER: &[Part] = &[("00000001", 1), GO, WRITE, BLOCK, READ, FLUSH, DISCONNECT];
-
-const SILENT: &[Part] = &[];
-
-const WRITER: &[Part] = &[HELLO, GO, WRITE, BLOCK, DISCONNECT];
-
-const READER: &[Part] = &[HELLO, GO, READ, DISCONNECT];
-
-/// One that reads and flushes again.
-const AGAIN: &[Part] = &[
-    HELLO, GO, WRITE, BLOCK, READ, FLUSH, READ, FLUSH, DISCONNECT,
-];
 
 const WORDS: &str = "serve x --plain --atom 512 --listen A --sessions 1";
 
@@ -124,17 +58,6 @@ fn with_line_fails(line_fails: &'static [u64]) -> Outside<'static> {
         line_fails,
         ..SMALL
     }
-}
-
-fn bytes_of(alloc: Global, parts: &[Part]) -> Result<Vec<u8>, Fail> {
-    let mut bytes = Vec::new(alloc);
-    for (part, times) in parts {
-        let part = hex::decode(alloc, *part)?;
-        for _ in 0..*times {
-            bytes.extend_from_slice(&part)?;
-        }
-    }
-    Ok(bytes)
 }
 
 fn bay_of(rt: &impl Abort, alloc: Global, outside: &Outside<'_>) -> Result<MemBay, Fail> {
