@@ -26,7 +26,7 @@ pub record IsRange (atom size offset len : ℕ) : Type 0 where
   pub whole : len % atom ≡ 0
   pub within : offset + len ≤ size
 
-range_of_proper : (atom size offset len past : ℕ) → wrong_range_of atom size offset len past ≡ None
+pub range_of_proper : (atom size offset len past : ℕ) → wrong_range_of atom size offset len past ≡ None
     → IsRange atom size offset len
 range_of_proper atom size offset len past proper =
     record {

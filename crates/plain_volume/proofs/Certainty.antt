@@ -131,7 +131,7 @@ told_before_call atom old new (writes at body) false now tells told =
 told_before_call atom old new syncs true now tells told = ((tells now told).0, (tells now told).1)
 told_before_call atom old new syncs false now tells told = moved_from _ old new now tells told
 
-told_before : (atom : ℕ) (old new : Option Told) (calls : List Made) (now : Told)
+pub told_before : (atom : ℕ) (old new : Option Told) (calls : List Made) (now : Told)
     → TellsCalls atom old new calls → new ≡ Some now → (before : Told) × (old ≡ Some before)
 unfolding TellsCalls
 told_before atom old new [] now tells told = (now, sym tells ∙ told)

@@ -6,5 +6,12 @@ pub mod PieceCalls
 pub mod Places
 pub mod Runs
 pub mod Standing
+pub mod StopsAlong
+pub mod StopsCalls
+pub mod StopsCover
+pub mod StopsOperation
+pub mod StopsPlaces
+pub mod StopsTables
+pub mod StopsWrite
 pub mod Texts
 pub mod Tried

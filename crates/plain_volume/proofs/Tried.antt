@@ -21,7 +21,7 @@ tried_in_sync : (made : Made) (calls : List Made) → made.call ≡ syncs → ca
 unfolding tried_of
 tried_in_sync made calls call none = ap₂ (λ n rest. tried_in n + tried_of rest) call none
 
-tried_in_piece : (made : Made) (at : ℕ) (body : List ℕ) → made.call ≡ writes at (take 1048576 body)
+pub tried_in_piece : (made : Made) (at : ℕ) (body : List ℕ) → made.call ≡ writes at (take 1048576 body)
     → tried_in made.call ≡ piece_of (length body)
 tried_in_piece made at body call = ap tried_in call ∙ length-take 1048576 body
     ∙ (let e : min 1048576 (length body) ≡ min (length body) 1048576 = omega arith in e)

@@ -3,5 +3,6 @@ pub mod Carried
 pub mod Histories
 pub mod Outcomes
 pub mod Pieces
+pub mod Stops
 pub mod Values
 pub mod Volume

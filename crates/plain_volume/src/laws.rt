@@ -1,13 +1,16 @@
 //! What follows for every history of operations on a volume. Each law is the contract of a function
 //! that does nothing. A proof above cites it by its call, or by the lemma that proves it.
 
-ghost use Rattle.std.specs.Prelude.{◌≡◌, ◌⊎◌, ◌+◌, ◌-◌, ◌*◌, ◌^◌, ◌<◌, ◌++◌, ◌∷◌, true, false, List, [], length, Some, ℕ};
+ghost use Rattle.std.specs.Prelude.{◌≡◌, ◌⊎◌, ◌+◌, ◌-◌, ◌*◌, ◌^◌, ◌<◌, ◌++◌, ◌∷◌, Bool, true, false, List, [], length, Some, ℕ};
 ghost use Rattle.base_terms.specs.Blocks.{blocks_of};
 ghost use Rattle.base_terms.specs.Causes.{Rose};
-ghost use Rattle.plain_disk.specs.Plain.{Exchange, settled_blocks};
+ghost use Rattle.plain_disk.specs.Plain.{Block, Exchange, settled_blocks};
 ghost use Rattle.plain_disk.specs.declared.operation.Reply.TheVariants.{Done, Errno};
+ghost use Rattle.sector_disk.specs.Cells.{Cell, currents};
+ghost use Rattle.sector_disk.specs.Geometry.{IsAtom};
 ghost use Rattle.sector_disk.specs.Steps.{Told};
-ghost use Rattle.plain_volume.specs.Outcomes.{HasDeviceError, AreErrors, AreServed, IsWriting, IsSyncing, SettledBetween};
+ghost use Rattle.plain_volume.specs.Outcomes.{HasDeviceError, AreErrors, AreServed, IsWriting, IsSyncing, AreSettled, SettledBetween};
+ghost use Rattle.plain_volume.specs.Stops.{Covers, StopsAllowed};
 ghost use Rattle.plain_volume.specs.Volume.{Volume, StandsFor, Did};
 
 /// A volume that tells its bytes starts as the plain disk that holds them for certain.
@@ -60,4 +63,22 @@ pub fn syncs_settle()
         Did old new (earlier ++ exchange ∷ later) →
         IsSyncing exchange.op → exchange.reply ≡ Done → (now : Told) → new.told ≡ Some now →
         SettledBetween old new (earlier ++ exchange ∷ []) later }
+{}
+
+/// Wherever a history of operations stops, the disk holds a content that the plain disk allows there.
+///
+/// It may stop before an operation, at each of its device calls and after its answer. Then each atom
+/// holds a value of its block, or one of the bytes that the write under way has tried so far. A
+/// volume that is broken, or breaks on the way, is no exception.
+///
+/// This asks that at the start each candidate of each atom is a value of its block and, where the
+/// volume isn't broken, each current value the newest. It is so where each atom holds its value for
+/// certain and the blocks are settled by these.
+pub fn stops_are_allowed()
+    ensures settled { (broken : Bool) (cells : List Cell) → AreSettled cells →
+        Covers broken (settled_blocks (currents cells)) cells }
+    ensures allowed { (old new : Volume) (exchanges : List Exchange) (blocks : List Block)
+        (before now : Told) → Did old new exchanges → IsAtom old.atom → StandsFor old blocks →
+        Covers old.broken blocks before.now → old.told ≡ Some before → new.told ≡ Some now →
+        StopsAllowed old new blocks exchanges before now }
 {}

@@ -12,7 +12,7 @@ mod writing;
 
 pub use laws::{
     errors_have_causes, failures_break, histories_join, serves_without_faults, starts_settled,
-    stays_broken, syncs_settle,
+    stays_broken, stops_are_allowed, syncs_settle,
 };
 pub use plain_volume::PlainVolume;
 
