@@ -1,0 +1,180 @@
+ghost use Rattle.std.specs.Prelude.{◌≡◌, ◌*◌, ◌^◌, ◌<◌, ◌≤◌, length, IfOk, is_ok, IsTrue};
+ghost use Rattle.base_terms.specs.Causes.{HasCause};
+ghost use Rattle.file_disk.specs.Sizes.{whole_atoms};
+ghost use Rattle.io_edge.specs.Streams.{Counts};
+ghost use Rattle.sector_disk.specs.Geometry.{is_atom, IsAtom, IsInDisk};
+
+use crate::PositionedFile;
+use base_terms::Failed;
+use sector_disk::Disk;
+use std::fs::{File, Files, TryLockError};
+use std::io::{self, ErrorKind, Seek, SeekFrom};
+
+#[cfg(test)]
+mod tests;
+
+/// A disk on one file or block device, by positioned reads and writes. It tells nothing of content,
+/// and takes no memory after it was opened. Bytes behind its last whole atom are never touched.
+///
+/// A read is a failure where the file, which somebody cut short, ends before its last byte. After a
+/// sync that failed the system may have dropped what it could not write, and the next sync may
+/// succeed all the same: only a sync with no failure since the writes makes them certain.
+#[derive(Drop)]
+pub struct FileDisk<F: PositionedFile = File> {
+    file: F,
+    atom: u32,
+    atoms: u64,
+    faults: u64,
+    ghost known: { IsTrue (is_atom atom) },
+    ghost fits: { atoms * atom < 2 ^ 63 },
+}
+
+impl FileDisk<File> {
+    /// Opens the file of that name for reading and writing, in atoms of 512 or 4096 bytes, as many as
+    /// are whole in it and lie below `2^63` bytes; of a block device its size counts. The disk holds
+    /// the file's exclusive advisory lock until it is dropped.
+    ///
+    /// # Errors
+    ///
+    /// What the system said where it doesn't open, lock or measure the file, as `NotFound`; of the
+    /// kind `WouldBlock` where another open of the file holds a lock. Of the kind `OutOfMemory` where
+    /// the system wants memory; the call itself takes none. Nothing stays open or locked.
+    pub fn open<R: Files<File = File>>(rt: &R, path: &str, atom: u32) -> io::Result<FileDisk<File>>
+        requires { IsAtom atom }
+        ensures atom { IfOk result (λ disk. ⟦<FileDisk<File> as Disk>⟧.size disk ≡ atom) }
+        ensures faults { IfOk result (λ disk. ⟦<FileDisk<File> as Disk>⟧.faults disk ≡ 0) }
+    {
+        let mut file = File::options().read(true).write(true).open(rt, path)?;
+        lock(&file)?;
+        let len = file.seek(SeekFrom::End(0))?;
+        Ok(FileDisk::new(file, len, atom))
+    }
+}
+
+/// Takes the file's exclusive advisory lock, or fails where another open of the file holds one.
+fn lock(file: &File) -> io::Result<()> {
+    match file.try_lock() {
+        Ok(()) => Ok(()),
+        Err(TryLockError::Error(error)) => Err(error),
+        Err(TryLockError::WouldBlock) => {
+            let message = "locked by another process";
+            Err(io::Error::new(ErrorKind::WouldBlock, message))
+        }
+    }
+}
+
+impl<F: PositionedFile> FileDisk<F> {
+    /// A disk on an open file of `len` bytes, as [`FileDisk::open`] makes it once it has the file.
+    /// Nobody else is to write there while it lives.
+    pub fn new(file: F, len: u64, atom: u32) -> FileDisk<F>
+        requires { IsAtom atom }
+        ensures atom { ⟦<FileDisk<F> as Disk>⟧.size result ≡ atom }
+        ensures atoms { ⟦<FileDisk<F> as Disk>⟧.count result ≡ whole_atoms atom len }
+        ensures faults { ⟦<FileDisk<F> as Disk>⟧.faults result ≡ 0 }
+        ensures file { result.file ≡ file }
+    {
+        let used = len.min(i64::MAX as u64);
+        FileDisk {
+            file,
+            atom,
+            atoms: used / u64::from(atom),
+            faults: 0,
+        }
+    }
+
+    /// The byte at which an atom begins.
+    fn start_of(&self, at: u64) -> u64
+        requires { at * self.now.atom ≤ self.now.atoms * self.now.atom }
+        ensures { result ≡ at * self.now.atom }
+    {
+        at * u64::from(self.atom)
+    }
+}
+
+impl<F: PositionedFile> Disk for FileDisk<F> {
+    ghost use Rattle.std.specs.Prelude.{None};
+    ghost use Rattle.file_disk.specs.Sizes.{tested_disk};
+
+    ghost size = { λ d. d.atom };
+
+    ghost count = { λ d. d.atoms };
+
+    ghost values = { λ _. None };
+
+    ghost told = { λ _. None };
+
+    ghost faults = { λ d. d.faults };
+
+    ghost geometry = { λ d. tested_disk d.atom d.atoms d.known d.fits };
+
+    ghost whole = { λ d bytes is. Prim.cc };
+
+    ghost agrees = { λ d t is. Prim.cc };
+
+    ghost even = { λ d t is. Prim.cc };
+
+    ghost held = { λ d t is. Prim.cc };
+
+    fn atom(&self) -> u32 {
+        self.atom
+    }
+
+    fn atoms(&self) -> u64 {
+        self.atoms
+    }
+
+    fn read(&mut self, at: u64, buf: &mut [u8]) -> Result<(), Failed>
+        requires { IsInDisk self.old.atom self.old.atoms at (length buf.old) }
+        ensures atom { self.new.atom ≡ self.old.atom }
+        ensures atoms { self.new.atoms ≡ self.old.atoms }
+        ensures cause { HasCause self.old.faults self.new.faults result }
+        ensures counts { Counts self.old.faults self.new.faults result }
+        ensures reads { F.reads self.old.file (at * self.old.atom) buf.new
+            (is_ok result) self.new.file }
+    {
+        let from = self.start_of(at);
+        answered(self.file.read_exact_at(buf, from), &mut self.faults)
+    }
+
+    fn write(&mut self, at: u64, bytes: &[u8]) -> Result<(), Failed>
+        requires { IsInDisk self.old.atom self.old.atoms at (length bytes.now) }
+        ensures atom { self.new.atom ≡ self.old.atom }
+        ensures atoms { self.new.atoms ≡ self.old.atoms }
+        ensures cause { HasCause self.old.faults self.new.faults result }
+        ensures counts { Counts self.old.faults self.new.faults result }
+        ensures writes { F.writes self.old.file (at * self.old.atom) bytes.now
+            (is_ok result) self.new.file }
+    {
+        let from = self.start_of(at);
+        answered(self.file.write_all_at(bytes, from), &mut self.faults)
+    }
+
+    fn sync(&mut self) -> Result<(), Failed>
+        ensures atom { self.new.atom ≡ self.old.atom }
+        ensures atoms { self.new.atoms ≡ self.old.atoms }
+        ensures cause { HasCause self.old.faults self.new.faults result }
+        ensures counts { Counts self.old.faults self.new.faults result }
+        ensures syncs { F.syncs self.old.file (is_ok result) self.new.file }
+    {
+        answered(self.file.sync_data(), &mut self.faults)
+    }
+
+    fn mark(&mut self, _number: u64)
+        ensures nothing { self.new ≡ self.old }
+    {}
+}
+
+/// What the system answered, of which a failure is counted.
+fn answered(done: io::Result<()>, faults: &mut u64) -> Result<(), Failed>
+    ensures same { is_ok result ≡ is_ok done }
+    ensures cause { HasCause faults.old faults.new result }
+    ensures counts { Counts faults.old faults.new result }
+{
+    match done {
+        Ok(()) => Ok(()),
+        Err(_) => {
+            *faults = faults.saturating_add(1);
+            Err(Failed)
+        }
+    }
+}
