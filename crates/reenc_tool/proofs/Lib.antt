@@ -2,6 +2,7 @@ mod AskingLemmas
 mod LaneLemmas
 mod RoundLemmas
 mod RunLemmas
+mod StopLemmas
 mod TextLemmas
 mod TurnLemmas
 mod WordLemmas

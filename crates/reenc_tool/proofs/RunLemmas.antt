@@ -12,7 +12,7 @@ use Rattle.plain_volume.specs.Volume.{Volume, StandsFor, Did}
 use Rattle.reenc_tool.specs.declared.ended.Cause.{Cause}
 use Rattle.reenc_tool.specs.Lanes.{Served}
 use Rattle.reenc_tool.specs.Playing.{Played, AreSessions, NumbersRise, operations_of}
-use Rattle.reenc_tool.specs.Running.{Came, Ran, StoodStill, WasServed, WasStopped, cause_of}
+use Rattle.reenc_tool.specs.Running.{Came, MayStop, Ran, StoodStill, WasServed, WasStopped, cause_of}
 
 counts_later : (old new : ℕ) (calls : List Made) → CountsCalls old new calls → old ≤ new
 unfolding CountsCalls
@@ -53,12 +53,12 @@ pub ran_of : {D L E : Type 0} (volume_of : D → Volume) (told : L → Option St
     (disk d : D) (begun : List L) (link : L) (links : List L) (ends : List E) (cause : Cause) (final : Volume) (failed memory : Bool)
     (played : List Played) (size atom : ℕ) → ServesWithoutFaults → StartsSettled →
     (volume_of disk).broken ≡ false → ((bytes : List ℕ) → (volume_of disk).values ≡ Some bytes → length bytes ≡ (volume_of disk).atoms * (volume_of disk).atom) →
-    Did (volume_of disk) final (operations_of played) → size ≡ (volume_of disk).atoms * (volume_of disk).atom → atom ≡ (volume_of disk).atom →
+    Did (volume_of disk) final (operations_of played) → MayStop (volume_of disk) final (operations_of played) → size ≡ (volume_of disk).atoms * (volume_of disk).atom → atom ≡ (volume_of disk).atom →
     AreSessions (record { number = 0; size = size; atom = atom }) played → NumbersRise 0 played →
     Served told bound faults items begun links ends failed memory played → volume_of d ≡ record final { broken = false } →
     cause ≡ cause_of final.broken failed memory →
     Ran volume_of told bound faults items disk begun cause (Some d) links ends
-ran_of volume_of told bound faults items disk d begun link links ends cause final failed memory played size atom serves starts whole sized did size_is atom_is
+ran_of volume_of told bound faults items disk d begun link links ends cause final failed memory played size atom serves starts whole sized did stops size_is atom_is
     sessions rise served back cause_is = record {
       final = final;
       failed = failed;
@@ -76,6 +76,7 @@ ran_of volume_of told bound faults items disk d begun link links ends cause fina
             subst (λ (a : ℕ). Legal a (settled_blocks (blocks_of a final.atoms bytes)) (operations_of played) legal.0) (sym did.atom)
                 (subst (λ (n : ℕ). Legal (volume_of disk).atom (settled_blocks (blocks_of (volume_of disk).atom n bytes)) (operations_of played) legal.0) (sym did.atoms) legal.1),
           );
+      stops = stops;
       cause_is = cause_is;
       broke = λ broken. broke_by_fault (volume_of disk) final (operations_of played) serves did whole broken;
       complete = λ stood low links_stood.

@@ -5,9 +5,10 @@ use Rattle.base_terms.specs.Causes.{Rose}
 use Rattle.bays.specs.Bays.{AreFresh}
 use Rattle.bays.specs.Stories.{Script, Story}
 use Rattle.nbd_session.specs.declared.ending.SessionEnd.{SessionEnd}
-use Rattle.plain_disk.specs.Plain.{Block, Legal, settled_blocks}
+use Rattle.plain_disk.specs.Plain.{Block, Exchange, Legal, settled_blocks}
 use Rattle.sector_disk.specs.Steps.{Told}
-use Rattle.plain_volume.specs.Outcomes.{AreServed}
+use Rattle.plain_volume.specs.Outcomes.{AreServed, AreSettled}
+use Rattle.plain_volume.specs.Stops.{StopsAllowed}
 use Rattle.plain_volume.specs.Volume.{Volume, Did}
 use Rattle.reenc_tool.specs.declared.ended.Cause.{Cause}
 use Rattle.reenc_tool.specs.declared.ended.Cause.TheVariants.{Fine, Usage, Device, NoFit, Link, Output, Memory}
@@ -30,6 +31,13 @@ unbroken size count values told faults disk = record {
 -- the cause of the end of sessions
 abbrev pub cause_of : Bool → Bool → Bool → Cause
 cause_of broken failed memory = if broken then Device else (if failed then Link else (if memory then Memory else Fine))
+
+-- Where the disk told its bytes and tables, and each atom held its value for certain, each moment from
+-- then on leaves only contents that the plain disk allows there.
+abbrev pub MayStop : Volume → Volume → List Exchange → Type 0
+MayStop old new exchanges = (bytes : List ℕ) (before now : Told) → old.values ≡ Some bytes → old.told ≡ Some before →
+    AreSettled before.now → new.told ≡ Some now →
+    StopsAllowed old new (settled_blocks (blocks_of old.atom old.atoms bytes)) exchanges before now
 
 -- no link's count of faults moved, nor stands at its last value
 abbrev pub StoodStill : {L : Type 0} → (L → ℕ) → List L → List L → Type 0
@@ -54,6 +62,8 @@ pub record Ran {D L E : Type 0} (volume_of : D → Volume) (told : L → Option 
   -- one history: legal from what the disk told when it was handed in
   pub history : (bytes : List ℕ) → (volume_of disk).values ≡ Some bytes →
       (left : List Block) × Legal final.atom (settled_blocks (blocks_of final.atom final.atoms bytes)) (operations_of played) left
+  -- stops: wherever the run stops, the disk holds what this history allows there
+  pub stops : MayStop (volume_of disk) final (operations_of played)
   -- the cause, and when it may come
   pub cause_is : cause ≡ cause_of final.broken failed memory
   pub broke : final.broken ≡ true → Rose (volume_of disk).faults final.faults

@@ -14,7 +14,7 @@ use crate::words::{Command, read_words};
 use bays::{Bay, BayFault, Link};
 use io_edge::{Gate, Seeds, Sink};
 use nbd_session::SessionEnd;
-use plain_volume::{PlainVolume, serves_without_faults, starts_settled};
+use plain_volume::{PlainVolume, serves_without_faults, starts_settled, stops_are_allowed};
 use sector_disk::Disk;
 use std::alloc::{AllocError, Global};
 use std::sync::Wait;
@@ -48,6 +48,7 @@ fn serve_disk<D: Disk, L: Link>(alloc: Global, disk: D, links: Vec<L>) -> Ended<
     };
     serves_without_faults();
     starts_settled();
+    stops_are_allowed();
     let volume = PlainVolume::new(disk);
     let size = volume.size();
     let atom = volume.atom();
@@ -170,11 +171,12 @@ fn execute<B: Bay>(alloc: Global, words: &[String], bay: &mut B) -> Ended<B::Dis
 /// 512|4096 --listen ADDRESS --sessions n`, in this order, with n from 1 to 65535.
 ///
 /// What holds at the end is `Came` of `specs/`, before the line is printed: where sessions were served
-/// they are sessions of the protocol over the bytes that the links' connections gave, their operations
-/// are one legal history of the plain disk that was handed in, and the disk's tables are those of the
-/// operations' device calls; each cause has its reason. The line changes the cause only where all was
-/// fine: to `Output` where it can't be put and pushed out, to `Memory` where memory is wanted for it. Words that
-/// ask for nothing leave the bay as it was. The seeds aren't drawn from.
+/// they are sessions of the protocol over the bytes that the links' connections gave, and their
+/// operations are one legal history of the plain disk that was handed in. The disk's tables are those
+/// of the operations' device calls, and wherever the run stops the disk holds what that history allows.
+/// Each cause has its reason. The line changes the cause only where all was fine: to `Output` where it
+/// can't be put and pushed out, to `Memory` where memory is wanted for it. Words that ask for nothing
+/// leave the bay as it was. The seeds aren't drawn from.
 pub fn run<W: Threads + Wait + Sync, B: Bay, R: Seeds, O: Sink, G: Gate>(
     _rt: &W,
     alloc: Global,
