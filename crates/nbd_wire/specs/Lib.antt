@@ -1,0 +1,10 @@
+pub mod Exports
+pub mod Fields
+pub mod Handshake
+pub mod InfoReplies
+pub mod Magic
+pub mod OptionReplies
+pub mod Options
+pub mod Replies
+pub mod Requests
+pub mod Spelling

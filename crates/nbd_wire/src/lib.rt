@@ -1,0 +1,34 @@
+//! The messages of the NBD protocol that have a fixed length, each as a type with a reader and a
+//! writer over an array of bytes: the greeting and the client's flags, the heads of an option and
+//! of its reply, the head of a request and that of a simple reply (the NBD protocol document,
+//! "Fixed newstyle negotiation" and "Transmission"). No call takes memory or fails, except that a
+//! reader refuses a message of another magic, and says which number stood there. A command, an
+//! option, a reply type or a flag that has no name here is still a value, with its number: the
+//! layer above answers it. That layer may rely on one definition a message, its text: a writer
+//! gives the text, and a reader takes exactly the texts, each for the one message that it spells.
+#![tactic(auto)]
+
+mod exports;
+mod fields;
+mod handshake;
+mod info_replies;
+mod magic;
+mod option_replies;
+mod options;
+mod replies;
+mod requests;
+mod spelling;
+#[cfg(test)]
+mod tests;
+
+pub use exports::{BlockSizes, ExportData, TransmissionFlags};
+pub use handshake::{ClientFlags, Greeting, HandshakeFlags};
+pub use info_replies::InfoReplies;
+pub use magic::{
+    BadMagic, GREETING_MAGIC, OPTION_MAGIC, OPTION_REPLY_MAGIC, REQUEST_MAGIC, SIMPLE_REPLY_MAGIC,
+};
+pub use option_replies::{OptionReplyHead, ReplyType};
+pub use options::{OptionHead, OptionType};
+pub use replies::SimpleReplyHead;
+pub use requests::{CommandFlags, CommandType, RequestHead};
+pub use spelling::texts_are_unique;
