@@ -1,4 +1,4 @@
-ghost use Rattle.std.specs.Prelude.{◌≡◌, ◌+◌, ◌<◌, ◌≤◌, ℕ, None, IfOk, IfErr, length, slice_index_or};
+ghost use Rattle.std.specs.Prelude.{◌≡◌, ◌+◌, ◌<◌, ◌≤◌, ℕ, None, Ok, IfOk, IfErr, length, slice_index_or};
 ghost use Rattle.base_terms.specs.Causes.{Rose};
 ghost use Rattle.reencd.specs.Connections.{left_of};
 
@@ -90,6 +90,7 @@ fn host_links(
 ) -> Result<Vec<HostLink>, BayFault>
     ensures count { IfOk result (λ links. length links.items ≡ workers) }
     ensures bound { IfOk result (λ links. (k : ℕ) (link : _) → k < workers → left_of (slice_index_or links.items k link).connection ≤ sessions) }
+    ensures first { IfOk result (λ links. (link : _) → 0 < workers → 0 < sessions → left_of (slice_index_or links.items 0 link).connection ≡ 1) }
     ensures err { IfErr result (λ fault. fault ≡ BayFault.Memory) }
 {
     let Ok(mut links) = Vec::with_capacity(alloc, workers as usize) else {
@@ -149,7 +150,11 @@ impl Link for HostLink {
 
     ghost faults = { λ _. 0 };
 
-    fn next(&mut self) -> Result<Option<(StdSource<Stdin>, StdSink<Stdout>)>, Failed> {
+    fn next(&mut self) -> Result<Option<(StdSource<Stdin>, StdSink<Stdout>)>, Failed>
+        ensures gives { result ≡ Ok self.old.connection }
+        ensures rest { self.new.connection ≡ None }
+        ensures lends { self.new.lent ≡ self.old.lent + left_of self.old.connection }
+    {
         match self.connection.take() {
             None => Ok(None),
             Some(connection) => {

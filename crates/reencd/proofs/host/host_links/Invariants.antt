@@ -6,4 +6,5 @@ abbrev pub invariant-loop-k : goal.invariant-loop-k
 invariant-loop-k l = record {
   count : length l.links.items ≡ l.k;
   bound : (j : ℕ) (link : _) → j < l.k → left_of (slice_index_or l.links.items j link).connection ≤ l.sessions;
+  first : (link : _) → 0 < l.k → 0 < l.sessions → left_of (slice_index_or l.links.items 0 link).connection ≡ 1;
 }
