@@ -6,5 +6,7 @@
 #![tactic(auto)]
 
 mod operation;
+mod plain_disk;
 
 pub use operation::{MAX_READ, Op, Reply, wrong, wrong_range};
+pub use plain_disk::PlainDisk;

@@ -7,39 +7,20 @@ use Rattle.plain_disk.specs.declared.operation.Op.{Op}
 use Rattle.plain_disk.specs.declared.operation.Op.TheVariants.{Read, Write, Flush}
 use Rattle.plain_disk.specs.declared.operation.Reply.{Reply}
 use Rattle.plain_disk.specs.declared.operation.Reply.TheVariants.{Content, Done, Errno}
-use Rattle.plain_disk.specs.Operations.{wrong_of, wrong_range_of}
+use Rattle.plain_disk.specs.Operations.{IsRange}
 use Rattle.plain_disk.specs.Plain.{Block, ProperStep, WriteStep, tried, written, written_for_good, flushed, newest_bytes}
+use Rattle.plain_disk.proofs.BlockFacts.{change, change_newest, change_sure, sure-take, sure-drop, sure-changed, newest-flushed, sure-flushed}
+use Rattle.plain_disk.proofs.RangeFacts.{range_of_proper, range_of_read}
 use Rattle.sector_disk.specs.Geometry.{IsAtom}
 use Rattle.sector_disk.specs.Steps.{TellsSync}
-use Rattle.sector_disk.proofs.BlockLemmas.{even_changed, joined_changed}
+use Rattle.base_terms.proofs.BlockLemmas.{even_changed, joined_changed}
 use Rattle.plain_volume.specs.Calls.{Made, syncs, outcome, tried_of, ReadsPieces, WritesPieces, MakesOp, TellsCall, TellsCalls, CountsCalls}
 use Rattle.plain_volume.specs.Carried.{IsReadyFor, CarriedOut}
 use Rattle.plain_volume.specs.Pieces.{Ran}
 use Rattle.plain_volume.specs.Volume.{Volume}
 use Rattle.plain_volume.proofs.Places.{atoms_of_whole, atoms_within}
-use Rattle.plain_volume.proofs.Standing.{sure-take, sure-drop, sure-changed, newest-flushed, sure-flushed, blocks_of-take, stands-same}
+use Rattle.plain_volume.proofs.Standing.{blocks_of-take, stands-same}
 use Rattle.plain_volume.proofs.Tried.{tried_within, tried_all}
-
--- a range of whole atoms within a disk of `size` bytes
-pub record IsRange (atom size offset len : ℕ) : Type 0 where
-  pub start : offset % atom ≡ 0
-  pub whole : len % atom ≡ 0
-  pub within : offset + len ≤ size
-
-pub range_of_proper : (atom size offset len past : ℕ) → wrong_range_of atom size offset len past ≡ None
-    → IsRange atom size offset len
-range_of_proper atom size offset len past proper =
-    record {
-      start = grind (arith, common_steps);
-      whole = grind (arith, common_steps);
-      within =
-          grind (arith, common_steps);
-    }
-
-range_of_read : (atom size offset len : ℕ) → wrong_of atom size (Read offset len) ≡ None
-    → IsRange atom size offset len
-range_of_read atom size offset len proper = range_of_proper atom size offset len 22
-    (grind (arith, common_steps))
 
 -- the geometry of the disk stays
 pub record IsSameDisk (old new : Volume) : Type 0 where
@@ -124,20 +105,6 @@ carried-read-failed old new offset len at total ready same values broken at_is t
       tells = ran.tells;
       counts = ran.counts;
     }
-
--- the change of a block by a write that succeeded
-abbrev change : Bool → Block → List ℕ → Block
-change fua = if fua then written_for_good else written
-
-change_newest : (fua : Bool) (block : Block) (value : List ℕ)
-    → (change fua block value).newest ≡ value
-change_newest true block value = refl
-change_newest false block value = refl
-
-change_sure : (fua : Bool) (block : Block) (value : List ℕ)
-    → (change fua block value).unsure ≡ false
-change_sure true block value = refl
-change_sure false block value = refl
 
 -- the volume writes the body from the block of the offset on, and syncs where it has to
 pub record WritesBody (atom offset : ℕ) (body : List ℕ) (fua : Bool) (at : ℕ) (text : List ℕ)

@@ -8,6 +8,7 @@ use Rattle.plain_disk.specs.declared.operation.Reply.{Reply}
 use Rattle.plain_disk.specs.declared.operation.Reply.TheVariants.{Content, Done, Errno}
 use Rattle.plain_disk.specs.Operations.{wrong_of}
 use Rattle.plain_disk.specs.Plain.{Exchange}
+use Rattle.plain_disk.proofs.RangeFacts.{wrong_is_no_fault}
 use Rattle.plain_volume.specs.Calls.{Made, outcome, all_succeeded, IsContent, MakesOp, Makes, MakesAll, CountsCalls}
 use Rattle.plain_volume.specs.Outcomes.{HasDeviceError, IsServed, AreServed, IsReplyTo}
 use Rattle.plain_volume.specs.Volume.{Volume, Did}
@@ -44,13 +45,6 @@ unfolding Makes
 how_gone atom atoms old exchange calls new makes =
     how_gone_by atom atoms old exchange calls new
     (wrong_of atom (atoms * atom) exchange.op) refl makes
-
--- an operation that is wrong is answered otherwise than by an error of the device
-pub wrong_is_no_fault : (atom size : ℕ) (op : Op) (number : ℕ)
-    → wrong_of atom size op ≡ Some number → number ≢ 5
-wrong_is_no_fault atom size (Read offset len) number wrong = grind (arith, common_steps)
-wrong_is_no_fault atom size (Write offset body fua) number wrong = grind (arith, common_steps)
-wrong_is_no_fault atom size Flush number wrong = absurd (cc)
 
 pub reply_is_number : (reply : Reply) (n m : ℕ) → reply ≡ Errno n → reply ≡ Errno m → n ≡ m
 reply_is_number reply n m is_n is_m = cc

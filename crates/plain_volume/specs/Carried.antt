@@ -13,12 +13,6 @@ pub record IsReadyFor (volume : Volume) (op : Op) : Type 0 where
   pub proper : wrong_of volume.atom (volume.atoms * volume.atom) op ≡ None
   pub unbroken : volume.broken ≡ false
 
--- the operation takes memory: a read, for its content
-abbrev pub TakesMemory : Op → Type 0
-TakesMemory (Read offset len) = Unit {0}
-TakesMemory (Write offset body fua) = ⊥
-TakesMemory Flush = ⊥
-
 -- the operation was carried out, and answered
 pub record CarriedOut (old new : Volume) (op : Op) (reply : Reply) : Type 0 where
   pub tried : ℕ
