@@ -174,6 +174,14 @@ blocks_of-behind block rest size n is =
     ap₂ (λ x xs. x ∷ xs) (take_at block rest size is)
     (ap (λ text. blocks_of size n text) (drop_at block rest size is))
 
+-- a text of blocks, cut behind its first
+cut : (count size : ℕ) (text : List ℕ) → length text ≡ suc count * size
+    → (length (take size text) ≡ size) × (length (drop size text) ≡ count * size)
+cut count size text is = (
+  length-take-le size text (let e : size ≤ length text = grind arith in e),
+  length-drop size text ∙ (let e : length text - size ≡ count * size = grind arith in e),
+)
+
 -- the blocks of a text into which blocks were put
 pub blocks_of-pasted : (count size at n : ℕ) (text body : List ℕ) → length text ≡ count * size
     → at + n ≤ count → length body ≡ n * size
@@ -185,38 +193,28 @@ blocks_of-pasted (suc count) size at zero text body long in_disk is =
     let none : body ≡ [] = nil_from_length body (is ∙ omega arith) in
     rw none (ap (λ all. blocks_of size (suc count) all) (pasted-nil text (at * size)))
 blocks_of-pasted (suc count) size zero (suc n) text body long in_disk is =
-    let front = take size text in
-    let rest = drop size text in
-    let first : length front ≡ size = length-take-le size text (let e : size ≤ length text =
-    grind arith in e) in
-    let left : length rest ≡ count * size = length-drop size text
-    ∙ (let e : length text - size ≡ count * size = grind arith in e) in
+    let (first, left) = cut count size text long in
+    let (next, more) = cut n size body is in
     let enough : size ≤ length body = grind arith in
-    let more : length (drop size body) ≡ n * size = length-drop size body
-    ∙ (let e : length body - size ≡ n * size = grind arith in e) in
     let place : 0 * size ≡ 0 = grind arith in
-    let below = rw place at (blocks_of-pasted count size 0 n rest (drop size body) left (omega arith) more) in
+    let below = rw place at (blocks_of-pasted count size 0 n (drop size text) (drop size body) left
+    (omega arith) more) in
     rw place
     (ap (λ all. blocks_of size (suc count) all)
     (ap (λ all. pasted all 0 body) (sym (take-append-drop size text))
-    ∙ pasted_over front rest size body first enough)
-    ∙ blocks_of-behind (take size body) (pasted rest 0 (drop size body)) size count
-    (length-take-le size body enough)
+    ∙ pasted_over (take size text) (drop size text) size body first enough)
+    ∙ blocks_of-behind (take size body) (pasted (drop size text) 0 (drop size body)) size count next
     ∙ ap (λ xs. take size body ∷ xs) below)
 blocks_of-pasted (suc count) size (suc at) (suc n) text body long in_disk is =
-    let front = take size text in
-    let rest = drop size text in
-    let first : length front ≡ size = length-take-le size text (let e : size ≤ length text =
-    grind arith in e) in
-    let left : length rest ≡ count * size = length-drop size text
-    ∙ (let e : length text - size ≡ count * size = grind arith in e) in
+    let (first, left) = cut count size text long in
     let place : suc at * size ≡ size + at * size = grind arith in
     rw place
     (ap (λ all. blocks_of size (suc count) all)
     (ap (λ all. pasted all (size + at * size) body) (sym (take-append-drop size text))
-    ∙ pasted_behind front rest size (at * size) body first)
-    ∙ blocks_of-behind front (pasted rest (at * size) body) size count first
-    ∙ ap (λ xs. front ∷ xs) (blocks_of-pasted count size at (suc n) rest body left (omega arith) is))
+    ∙ pasted_behind (take size text) (drop size text) size (at * size) body first)
+    ∙ blocks_of-behind (take size text) (pasted (drop size text) (at * size) body) size count first
+    ∙ ap (λ xs. take size text ∷ xs)
+    (blocks_of-pasted count size at (suc n) (drop size text) body left (omega arith) is))
 
 -- a block of a text, by its number
 pub block_at : (size n k : ℕ) (text : List ℕ) → k < n

@@ -29,8 +29,8 @@ mod tests {
 
     #[test]
     fn zeros_are_as_many_as_asked_for(rt: HostRuntime) -> Result<(), Fail> {
-        assert_eq!(rt; zeros(rt.alloc(), 0)?.as_slice(), b"");
-        assert_eq!(rt; zeros(rt.alloc(), 3)?.as_slice(), b"\0\0\0");
+        assert_eq!(rt; zeros(rt.alloc(), 0)?.as_slice(), b"".as_slice());
+        assert_eq!(rt; zeros(rt.alloc(), 3)?.as_slice(), b"\0\0\0".as_slice());
         Ok(())
     }
 

@@ -1,16 +1,14 @@
 -- Why an operation was carried out, from what its device calls did.
-use Rattle.std.proofs.Common.{◌≡◌, ℕ, ◌+◌, ◌*◌, ◌/◌, ◌%◌, ◌≤◌, ◌==◌, Bool, true, false, not, ◌&&◌, if◌then◌else◌, List, [], ◌∷◌, length, take, drop, map, replicate, Some, None, refl, sym, ◌∙◌, ap, ap₂, subst, arith, length-take-le}
-use Rattle.std.proofs.lemmas.Grind.{common_steps}
+use Rattle.std.proofs.Common.{◌≡◌, ℕ, ◌+◌, ◌*◌, ◌/◌, ◌≤◌, ◌==◌, Bool, true, false, not, ◌&&◌, List, [], ◌∷◌, length, take, drop, map, replicate, Some, refl, sym, ◌∙◌, ap, ap₂, subst, length-take-le}
 use Rattle.base_terms.specs.Blocks.{pasted, blocks_of, joined, lengths, changed}
 use Rattle.base_terms.specs.Causes.{HasCause}
 use Rattle.plain_disk.specs.declared.operation.Op.{Op}
 use Rattle.plain_disk.specs.declared.operation.Op.TheVariants.{Read, Write, Flush}
 use Rattle.plain_disk.specs.declared.operation.Reply.{Reply}
 use Rattle.plain_disk.specs.declared.operation.Reply.TheVariants.{Content, Done, Errno}
-use Rattle.plain_disk.specs.Operations.{IsRange}
-use Rattle.plain_disk.specs.Plain.{Block, ProperStep, WriteStep, tried, written, written_for_good, flushed, newest_bytes}
+use Rattle.plain_disk.specs.Plain.{ProperStep, WriteStep, tried, flushed, newest_bytes}
 use Rattle.plain_disk.proofs.BlockFacts.{change, change_newest, change_sure, sure-take, sure-drop, sure-changed, newest-flushed, sure-flushed}
-use Rattle.plain_disk.proofs.RangeFacts.{range_of_proper, range_of_read}
+use Rattle.plain_disk.proofs.RangeFacts.{range_of_proper, range_of_read, whole_blocks, blocks_within}
 use Rattle.sector_disk.specs.Geometry.{IsAtom}
 use Rattle.sector_disk.specs.Steps.{TellsSync}
 use Rattle.base_terms.proofs.BlockLemmas.{even_changed, joined_changed}
@@ -18,7 +16,7 @@ use Rattle.plain_volume.specs.Calls.{Made, syncs, outcome, tried_of, ReadsPieces
 use Rattle.plain_volume.specs.Carried.{IsReadyFor, CarriedOut}
 use Rattle.plain_volume.specs.Pieces.{Ran}
 use Rattle.plain_volume.specs.Volume.{Volume}
-use Rattle.plain_volume.proofs.Places.{atoms_of_whole, atoms_within}
+use Rattle.plain_volume.proofs.Places.{atom_some}
 use Rattle.plain_volume.proofs.Standing.{blocks_of-take, stands-same}
 use Rattle.plain_volume.proofs.Tried.{tried_within, tried_all}
 
@@ -47,7 +45,7 @@ carried-read old new offset len at total buf bytes known ready same values broke
     long bytes_are content ran =
     let range = range_of_read old.atom (old.atoms * old.atom) offset len ready.proper in
     let place : at * old.atom ≡ offset = ap (λ n. n * old.atom) at_is
-    ∙ atoms_of_whole old.atom offset known range.start in
+    ∙ whole_blocks old.atom offset range.start in
     let reads = reads_at old.atom at total (offset / old.atom) len ran.calls at_is total_is ran.are
     in
     record {
@@ -138,10 +136,9 @@ carried-write old new offset body fua at text syncing known ready same broken is
     let range = range_of_proper old.atom (old.atoms * old.atom) offset
     (length body) 28 ready.proper in
     let long : length body ≡ length body / old.atom * old.atom =
-    sym (atoms_of_whole old.atom (length body) known range.whole) in
+    sym (whole_blocks old.atom (length body) range.whole) in
     let inside : offset / old.atom + length body / old.atom ≤ old.atoms =
-    atoms_within old.atom old.atoms offset (length body) known range.start range.whole
-    range.within in
+    blocks_within old.atom old.atoms offset (length body) (atom_some old.atom known) range in
     record {
       tried = length body;
       atom = same.atom;
@@ -200,7 +197,7 @@ carried-write-failed old new offset body fua at text syncing known ready same br
     let n = tried_of ran.calls in
     let within = tried_within old.atom (offset / old.atom) body
     (fua && not (length body == 0)) ran.calls known range.whole writes in
-    let whole : n / old.atom * old.atom ≡ n = atoms_of_whole old.atom n known within.1 in
+    let whole : n / old.atom * old.atom ≡ n = whole_blocks old.atom n within.1 in
     let enough : n / old.atom * old.atom ≤ length body = rw whole within.0 in
     let front = take (n / old.atom * old.atom) body in
     let same_blocks : blocks_of old.atom (n / old.atom) front ≡ blocks_of old.atom

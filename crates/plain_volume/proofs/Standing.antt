@@ -1,8 +1,8 @@
 -- Lemmas on blocks: what writes and flushes keep of them, and when they stand for a volume.
-use Rattle.std.proofs.Common.{◌≡◌, ℕ, zero, suc, ◌+◌, ◌-◌, ◌*◌, ◌≤◌, false, List, [], ◌∷◌, length, take, drop, map, replicate, refl, sym, ◌∙◌, ap, ap₂, arith, length-drop}
+use Rattle.std.proofs.Common.{◌≡◌, ℕ, zero, suc, ◌+◌, ◌-◌, ◌*◌, ◌≤◌, false, List, ◌∷◌, length, take, drop, map, replicate, refl, sym, ◌∙◌, ap, ap₂, arith, length-drop}
 use Rattle.std.proofs.lemmas.List.{length-map, length-replicate, take-take, drop-take}
-use Rattle.base_terms.specs.Blocks.{blocks_of, lengths, changed}
-use Rattle.plain_disk.specs.Plain.{Block, AreSure, flushed}
+use Rattle.base_terms.specs.Blocks.{blocks_of, lengths}
+use Rattle.plain_disk.specs.Plain.{Block}
 use Rattle.plain_volume.specs.Volume.{Volume, StandsFor}
 
 -- as many blocks as atoms

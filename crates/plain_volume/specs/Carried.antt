@@ -1,7 +1,6 @@
 -- What carrying out one operation did, which is not wrong and finds an unbroken volume.
 use Rattle.std.specs.Prelude.{ℕ, ◌≡◌, ◌*◌, false, List, None}
 use Rattle.plain_disk.specs.declared.operation.Op.{Op}
-use Rattle.plain_disk.specs.declared.operation.Op.TheVariants.{Read, Write, Flush}
 use Rattle.plain_disk.specs.declared.operation.Reply.{Reply}
 use Rattle.plain_disk.specs.Operations.{wrong_of}
 use Rattle.plain_disk.specs.Plain.{Block, ProperStep}

@@ -1,9 +1,9 @@
 -- Histories of operations: the empty one, two one after the other, and where one starts.
-use Rattle.std.specs.Prelude.{ℕ, ◌≡◌, ◌*◌, Bool, List, [], ◌∷◌, ◌++◌, length, map, Option, Some}
+use Rattle.std.specs.Prelude.{ℕ, ◌≡◌, ◌*◌, Bool, List, [], ◌∷◌, ◌++◌, length, Option, Some}
 use Rattle.std.proofs.Common.{refl, sym, ◌∙◌, ap, subst, append_assoc}
 use Rattle.base_terms.specs.Blocks.{blocks_of, joined, lengths}
 use Rattle.plain_disk.proofs.BlockFacts.{newest_of_settled, sure_of_settled}
-use Rattle.plain_disk.specs.Plain.{Block, Exchange, AreSure, Legal, newest_bytes, settled_blocks}
+use Rattle.plain_disk.specs.Plain.{Block, Exchange, Legal, newest_bytes, settled_blocks}
 use Rattle.base_terms.proofs.BlockLemmas.{lengths-blocks_of, joined-blocks_of}
 use Rattle.sector_disk.specs.Steps.{Told}
 use Rattle.plain_volume.specs.Calls.{Made, MakesAll, TellsCalls, CountsCalls}
