@@ -1,10 +1,12 @@
+mod HeadLemmas
 mod MomentLemmas
+mod NameLemmas
 mod NegotiationLemmas
-mod ReadingLemmas
+mod OptionLemmas
 mod ReplyLemmas
 mod RequestLemmas
-mod ServingLemmas
 mod SessionLemmas
+mod StreamLemmas
 mod TakeLemmas
-mod VerdictLemmas
+mod TalkLemmas
 pub mod TrafficLemmas
