@@ -1,8 +1,11 @@
+mod DecidedOptions
+mod DecidedRequests
 mod HeadLemmas
 mod MomentLemmas
 mod NameLemmas
 mod NegotiationLemmas
 mod OptionLemmas
+mod ReadingLemmas
 mod ReplyLemmas
 mod RequestLemmas
 mod SessionLemmas

@@ -16,7 +16,7 @@ pub data Decision (M E : Type 0) : Type 0 where
   stops : E → ℕ → Decision M E
 
 -- the bytes are these messages, one after the other
-pub Spelled : {M : Type 0} → (M → List ℕ → Type 0) → List M → List ℕ → Type 0
+unfoldable pub Spelled : {M : Type 0} → (M → List ℕ → Type 0) → List M → List ℕ → Type 0
 Spelled Whole [] bytes = bytes ≡ []
 Spelled Whole (m ∷ ms) bytes =
     (message : List ℕ) × (rest : List ℕ) × (bytes ≡ message ++ rest) × Whole m message × Spelled Whole ms rest
