@@ -22,6 +22,8 @@ mod requests;
 mod session;
 mod taking;
 mod tally;
+#[cfg(test)]
+mod tests;
 
 pub use ending::{Ending, SessionEnd};
 pub use export::Export;

@@ -9,7 +9,8 @@ use Rattle.bays.specs.Stories.{Script, Handed, Story, Begins, TakesBack}
 use Rattle.nbd_session.specs.declared.ending.SessionEnd.{SessionEnd}
 use Rattle.nbd_session.specs.declared.export.Export.{Export}
 use Rattle.nbd_session.specs.Moments.{Traffic, moment}
-use Rattle.nbd_session.specs.Session.{Log, IsSession, exchanges_of}
+use Rattle.nbd_session.specs.Session.{Log, IsSession}
+use Rattle.nbd_session.specs.Turns.{exchanges_of}
 use Rattle.reenc_tool.specs.Playing.{Played, AreSessions, Goes, Plays, numbered, operations_of}
 
 pub goes_none : (old new : Option Story) → ((story : Story) → old ≡ Some story → new ≡ Some story) → Goes old new []
