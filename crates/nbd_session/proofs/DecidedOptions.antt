@@ -99,7 +99,7 @@ head-read head is =
     let size : from_be_bytes w32 (take 4 (drop 12 (option_text head))) ≡ head.length = from_be_bytes-to_be_bytes_4 head.length is.size in
     let named = ap option_of option ∙ is.named in
     let same : ◌≡◌ {A = OptionHead} (record { option = option_of (from_be_bytes w32 (take 4 (drop 8 (option_text head)))); length = from_be_bytes w32 (take 4 (drop 12 (option_text head))) })
-        (record { option = head.option; length = head.length }) = cc in
+    (record { option = head.option; length = head.length }) = cc in
     (from_be_bytes-to_be_bytes_8 option_magic (omega arith), same)
 
 decide-whole_head : (n : ℕ) (head : OptionHead) (tail : List ℕ) → n < 65536 → IsOptionHead head →

@@ -76,7 +76,7 @@ head-same : (f : ℕ) (c : CommandType) (k o l : ℕ) (head : RequestHead) → f
     ◌≡◌ {A = RequestHead} (record { flags = record { bits = f }; command = c; cookie = k; offset = o; length = l }) head
 head-same f c k o l head flags command cookie offset size =
     let same : ◌≡◌ {A = RequestHead} (record { flags = record { bits = f }; command = c; cookie = k; offset = o; length = l })
-        (record { flags = record { bits = head.flags.bits }; command = head.command; cookie = head.cookie; offset = head.offset; length = head.length }) = cc in
+    (record { flags = record { bits = head.flags.bits }; command = head.command; cookie = head.cookie; offset = head.offset; length = head.length }) = cc in
     same
 
 -- what is read of a head is the head

@@ -272,7 +272,7 @@ answers-more export no_zeroes a b c course k xs ys last ts us vs ws front ended 
     let p = second.options_are in
     let text : ts ≡ o.text = o.parts ∙ ap (λ x. o.text ++ x) o.course_is ∙ append-nil o.text in
     let said : (answers_to export no_zeroes xs ++ last_answer export no_zeroes None) ++ (answers_to export no_zeroes ys ++ last_answer export no_zeroes last)
-        ≡ answers_to export no_zeroes (xs ++ ys) ++ last_answer export no_zeroes last =
+    ≡ answers_to export no_zeroes (xs ++ ys) ++ last_answer export no_zeroes last =
     ap (λ x. x ++ (answers_to export no_zeroes ys ++ last_answer export no_zeroes last)) (append-nil (answers_to export no_zeroes xs))
     ∙ sym (append_assoc (answers_to export no_zeroes xs) (answers_to export no_zeroes ys) (last_answer export no_zeroes last))
     ∙ ap (λ x. x ++ last_answer export no_zeroes last) (sym (answers_to-append export no_zeroes xs ys)) in

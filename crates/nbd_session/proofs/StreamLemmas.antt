@@ -60,7 +60,6 @@ module _ {M E : Type 0} (Whole : M → List ℕ → Type 0) (Last : E → ℕ �
     (whole-decides : (n : ℕ) (m : M) (bytes more : List ℕ) → n < most → Whole m bytes → decide n (bytes ++ more) ≡ asks m (length bytes))
     (last-decides : (n : ℕ) (e : E) (ended : Bool) (bytes rest : List ℕ) → Last e n ended bytes → (ended ≡ true → rest ≡ []) →
     decide n (bytes ++ rest) ≡ stops e (length bytes)) where
-
   -- no message is left
   tail-last : (n : ℕ) (e : E) (taken all : List ℕ) → Tail Whole Last n [] e taken all → decide n all ≡ stops e (length taken)
   unfolding Spelled

@@ -116,7 +116,14 @@ fn answer_next<S: Source, K: Sink>(
         Err(ending) => return Course::Ends(ending),
     };
     let verdict = judge(option.option, option.body.as_slice());
-    match put_answer(sink, export, no_zeroes, option.option, verdict, &mut tally.put) {
+    match put_answer(
+        sink,
+        export,
+        no_zeroes,
+        option.option,
+        verdict,
+        &mut tally.put,
+    ) {
         Ok(()) => verdict.course(),
         Err(_) => Course::Ends(Ending::WriteFault),
     }

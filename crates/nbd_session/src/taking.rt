@@ -20,11 +20,7 @@ pub enum Data {
 }
 
 /// Takes the head of a message, of the buffer's length, which decides what comes behind it.
-pub fn take_head<S: Source>(
-    source: &mut S,
-    head: &mut [u8],
-    taken: &mut u64,
-) -> Result<(), Ending>
+pub fn take_head<S: Source>(source: &mut S, head: &mut [u8], taken: &mut u64) -> Result<(), Ending>
     requires { 0 < length head.old }
     ensures { (bytes : List ℕ) × (ended : Bool) × HeadIs
         (intake (S.given source.old) (S.left source.old) (S.faults source.old) taken.old)

@@ -1,8 +1,5 @@
 -- A link that was asked once.
 use Rattle.std.proofs.Common.{◌≡◌, ℕ, List, [], ◌∷◌, ◌++◌, Option, Some, ap, refl, sym, subst, append-nil}
-use Rattle.std.specs.Prelude.{OnErr, Result, Ok, Err}
-use Rattle.std.specs.declared.alloc.AllocError.{AllocError}
-use Rattle.plain_disk.specs.declared.operation.Reply.{Reply}
 use Rattle.plain_volume.specs.Histories.{did_none}
 use Rattle.plain_volume.specs.Volume.{Volume, Did}
 use Rattle.bays.specs.Stories.{Script, Handed, Story, Begins, TakesBack}
@@ -71,6 +68,5 @@ pub operations_of-one : (one : Played) → operations_of (one ∷ []) ≡ exchan
 unfolding operations_of
 operations_of-one one = append-nil (exchanges_of one.log.turns)
 
-pub err_did : (result : Result Reply AllocError) (old new : Volume) → OnErr result (new ≡ old) → OnErr result (Did old new [])
-err_did (Ok reply) old new same = tt
-err_did (Err e) old new same = subst (λ (v : Volume). Did old v []) (sym same) (did_none old)
+pub same_did : (old new : Volume) → new ≡ old → Did old new []
+same_did old new same = subst (λ (v : Volume). Did old v []) (sym same) (did_none old)
