@@ -1,10 +1,15 @@
+mod DecidedOptions
+mod DecidedRequests
+mod HeadLemmas
 mod MomentLemmas
+mod NameLemmas
 mod NegotiationLemmas
+mod OptionLemmas
 mod ReadingLemmas
 mod ReplyLemmas
 mod RequestLemmas
-mod ServingLemmas
 mod SessionLemmas
+mod StreamLemmas
 mod TakeLemmas
-mod VerdictLemmas
+mod TalkLemmas
 pub mod TrafficLemmas

@@ -4,7 +4,7 @@ use Rattle.base_terms.specs.declared.failed.Failed.{Failed}
 use Rattle.nbd_session.specs.Counts.{capped}
 use Rattle.nbd_session.specs.Moments.{Moment, Traffic, moment}
 use Rattle.nbd_session.specs.Putting.{Puts}
-use Rattle.nbd_session.specs.Traffic.{Took, Sent}
+use Rattle.nbd_session.specs.Traffic.{Intake, intake, Takes, Sent}
 use Rattle.nbd_session.proofs.TrafficLemmas.{took_none, took_more, sent_none, sent_more}
 
 -- nothing went
@@ -18,30 +18,33 @@ traffic_none m = record {
   counted_out = ap capped (omega arith);
 }
 
+-- the moment of a source and a sink
+abbrev pub with_sink : Intake → Option (List ℕ) → ℕ → ℕ → Moment
+with_sink a h k p = moment a.given a.left h a.faults k a.taken p
+
 -- bytes were taken
-pub traffic_took : (g g' l l' h : Option (List ℕ)) (f f' k t t' p : ℕ) (bytes : List ℕ) →
-    Took g g' l l' bytes → f ≤ f' → t' ≡ capped (t + length bytes) →
-    Traffic (moment g l h f k t p) (moment g' l' h f' k t' p) bytes [] []
-traffic_took g g' l l' h f f' k t t' p bytes took later counted = record {
-  took = took;
+pub traffic_took : (a b : Intake) (h : Option (List ℕ)) (k p : ℕ) (bytes : List ℕ) → Takes a b bytes →
+    Traffic (with_sink a h k p) (with_sink b h k p) bytes [] []
+traffic_took a b h k p bytes takes = record {
+  took = takes.took;
   sent = sent_none h;
-  later_in = later;
+  later_in = takes.later;
   later_out = omega arith;
-  counted_in = omega arith;
+  counted_in = takes.counted;
   counted_out = ap capped (omega arith);
 }
 
 -- a text was put, or not
-pub traffic_puts : (g l h h' : Option (List ℕ)) (f k k' t p p' : ℕ) (text whole front : List ℕ) (result : Result (Unit {0}) Failed) →
+pub traffic_puts : (a : Intake) (h h' : Option (List ℕ)) (k k' p p' : ℕ) (text whole front : List ℕ) (result : Result (Unit {0}) Failed) →
     Puts h h' k k' p p' text result whole front →
-    Traffic (moment g l h f k t p) (moment g l h' f k' t p') [] whole front
-traffic_puts g l h h' f k k' t p p' text whole front result puts = record {
-  took = took_none g l;
+    Traffic (with_sink a h k p) (with_sink a h' k' p') [] whole front
+traffic_puts a h h' k k' p p' text whole front result puts = record {
+  took = took_none a.given a.left;
   sent = puts.sent;
   later_in = omega arith;
   later_out = puts.later;
   counted_in = ap capped (omega arith);
-  counted_out = omega (arith, puts.put);
+  counted_out = puts.put;
 }
 
 -- what went between two moments and then between two later ones
@@ -57,8 +60,3 @@ traffic_more a b c xs ys vs ws front first second =
       counted_in = omega (arith, first.counted_in, second.counted_in, length-append xs ys);
       counted_out = omega (arith, first.counted_out, second.counted_out, length-append vs ws);
     }
-
--- bytes were taken, and then an answer put
-pub traffic_answered : (a b c : Moment) (xs vs front : List ℕ) → Traffic a b xs [] [] → Traffic b c [] vs front → Traffic a c xs vs front
-traffic_answered a b c xs vs front first second =
-    subst (λ (bytes : List ℕ). Traffic a c bytes vs front) (append-nil xs) (traffic_more a b c xs [] [] vs front first second)

@@ -1,202 +1,181 @@
 -- The exits of a negotiation.
-use Rattle.std.proofs.Common.{◌≡◌, ℕ, ◌≤◌, Bool, false, List, [], ◌++◌, Option, Result, Ok, Err, ap, ◌∙◌, refl, inl, inr, length, length-append, sym, subst, arith, append_assoc, append-nil}
+use Rattle.std.proofs.Common.{◌≡◌, ◌≢◌, ℕ, ◌+◌, ◌<◌, Bool, true, false, not, ◌==◌, IsTrue, ◌↔◌, List, [], ◌∷◌, ◌++◌, Option, Some, None, Result, Ok, Err, length, ap, ◌∙◌, refl, sym, subst, arith, inl, inr, append_assoc, append-nil, ⊎_elim}
+use Rattle.std.proofs.lemmas.Bool.{ne_eqb}
+use Rattle.std.proofs.lemmas.Bool.Decides.{eqb_tells}
 use Rattle.base_terms.specs.declared.failed.Failed.{Failed}
 use Rattle.nbd_session.specs.declared.ending.Ending.{Ending}
-use Rattle.nbd_session.specs.declared.ending.Ending.TheVariants.{Disconnected, Closed, Unbuilt, TooMany, ReadFault, WriteFault, Memory}
+use Rattle.nbd_session.specs.declared.ending.Ending.TheVariants.{WriteFault}
 use Rattle.nbd_session.specs.declared.export.Export.{Export}
-use Rattle.nbd_session.specs.declared.messages.TheConstants.{GREETING, HELLO, GO}
-use Rattle.nbd_session.specs.Moments.{Moment, Traffic, HasCauses, moment}
-use Rattle.nbd_session.specs.Negotiation.{ExpectIs, Negotiates}
-use Rattle.nbd_session.specs.Putting.{Puts}
-use Rattle.nbd_session.specs.Replies.{go_text}
-use Rattle.nbd_session.specs.Session.{Stage, greeted, agreed, served, GoesOut, Spells, replies_text}
-use Rattle.nbd_session.specs.Taking.{IsStop}
-use Rattle.nbd_session.proofs.TrafficLemmas.{rose_within, ended_later}
-use Rattle.nbd_session.proofs.MomentLemmas.{traffic_took, traffic_puts, traffic_more}
+use Rattle.nbd_session.specs.declared.options.ClientOption.{ClientOption}
+use Rattle.nbd_session.specs.declared.options.Course.TheVariants.{Begins, Ends}
+use Rattle.nbd_session.specs.Grammar.{AreOptions, answers_to, last_answer}
+use Rattle.nbd_session.specs.Moments.{Moment, Talks}
+use Rattle.nbd_session.specs.Negotiation.{FlagsAre, Answers, Negotiates, ending_in, course_to}
+use Rattle.nbd_session.specs.Session.{Log, greeted, negotiating, served, greeting, messages_of, no_zeroes, HasFlags, IsBegun, IsUnserved}
+use Rattle.std.specs.Prelude.{MatchResult}
+use Rattle.nbd_session.specs.Traffic.{Intake}
+use Rattle.nbd_session.specs.Turns.{replies_to}
+use Rattle.nbd_session.proofs.MomentLemmas.{with_sink}
+use Rattle.nbd_session.proofs.TalkLemmas.{HasPut, talks-took, talks-stopped, talks-put, talks-unput, talks-more}
+use Rattle.nbd_session.proofs.RequestLemmas.{replies_to-none}
+use Rattle.nbd_wire.specs.declared.handshake.ClientFlags.{ClientFlags}
+use Rattle.nbd_wire.specs.Fields.{u32_text}
+use Rattle.nbd_wire.specs.Handshake.{greeting_text}
 
--- an ending that the source brings has its causes, and leaves no answer in front of a sink
-pub stop-causes : (a b : Moment) (f f' : ℕ) (ending : Ending) → f ≡ a.in_faults → b.in_faults ≡ f' → b.out_faults ≡ a.out_faults →
-    IsStop f f' ending → HasCauses a b ending
-stop-causes a b f f' Disconnected early late out stop = (omega (arith, stop), out)
-stop-causes a b f f' Closed early late out stop = (omega (arith, stop), out)
-stop-causes a b f f' Unbuilt early late out stop = (omega (arith, stop), out)
-stop-causes a b f f' (TooMany n) early late out stop = absurd stop
-stop-causes a b f f' ReadFault early late out stop = (rose_within a.in_faults f f' b.in_faults (omega arith) (omega arith) stop, out)
-stop-causes a b f f' WriteFault early late out stop = absurd stop
-stop-causes a b f f' Memory early late out stop = absurd stop
+-- the greeting is its text
+pub greeting-is : (bits : ℕ) → bits ≡ 3 → greeting_text (record { flags = record { bits = bits } }) ≡ greeting
+unfolding greeting
+greeting-is bits is = ap (λ b. greeting_text (record { flags = record { bits = b } })) is
 
-pub stop-goes_out : (f f' : ℕ) (ending : Ending) (last text whole : List ℕ) → IsStop f f' ending → whole ≡ text → GoesOut ending last text whole []
-stop-goes_out f f' Disconnected last text whole stop is = (is, refl)
-stop-goes_out f f' Closed last text whole stop is = (is, refl)
-stop-goes_out f f' Unbuilt last text whole stop is = (is, refl)
-stop-goes_out f f' (TooMany n) last text whole stop is = (is, refl)
-stop-goes_out f f' ReadFault last text whole stop is = (is, refl)
-stop-goes_out f f' WriteFault last text whole stop is = absurd stop
-stop-goes_out f f' Memory last text whole stop is = absurd stop
+-- a log that has no requests, nor options
+abbrev pub early : List ℕ → List ℕ → List ℕ → Bool → Log
+early taken whole front ended = record {
+  stage = greeted;
+  flags = 0;
+  options = [];
+  last = None;
+  turns = [];
+  taken = taken;
+  whole = whole;
+  front = front;
+  ended = ended;
+}
 
--- what is behind a front of a text is no longer than the text
-pub rear-within : (front rear text : List ℕ) → text ≡ front ++ rear → length rear ≤ length text
-rear-within front rear text is = omega (arith, ap length is, length-append front rear)
+early-messages : (export : Export) (taken whole front : List ℕ) (ended : Bool) → greeting ∷ [] ≡ messages_of export (early taken whole front ended)
+unfolding answers_to replies_to
+early-messages export taken whole front ended = refl
 
--- a text that was put whole
-pub puts-whole : (h h' : Option (List ℕ)) (k k' p p' : ℕ) (text : List ℕ) →
-    ((whole : List ℕ) × (front : List ℕ) × Puts {T = Unit {0}} h h' k k' p p' text (Ok tt) whole front) →
-    Puts {T = Unit {0}} h h' k k' p p' text (Ok tt) text []
-puts-whole h h' k k' p p' text puts =
-    subst (λ (front : List ℕ). Puts {T = Unit {0}} h h' k k' p p' text (Ok tt) text front) puts.2.by_case.1
-    (subst (λ (whole : List ℕ). Puts {T = Unit {0}} h h' k k' p p' text (Ok tt) whole puts.1) puts.2.by_case.0 puts.2)
-
--- a message that came
-expect-whole : (g g' l l' : Option (List ℕ)) (f f' t t' : ℕ) (message : List ℕ) →
-    ((bytes : List ℕ) × (ended : Bool) × ExpectIs g g' l l' f f' t t' message (Ok tt) bytes ended) →
-    (ended : Bool) × ExpectIs g g' l l' f f' t t' message (Ok tt) message ended
-expect-whole g g' l l' f f' t t' message e =
-    (e.1, subst (λ (bytes : List ℕ). ExpectIs g g' l l' f f' t t' message (Ok tt) bytes e.1) e.2.by_case.0 e.2)
-
-abbrev pub Begun : Export → Moment → Moment → Result (Unit {0}) Ending → Type 0
-Begun export old new result =
-    (stage : Stage) × (taken : List ℕ) × (whole : List ℕ) × (front : List ℕ) × (ended : Bool) × Negotiates export old new result stage taken whole front ended
+abbrev pub HasNegotiated : Export → Moment → Moment → Result (Unit {0}) Ending → Type 0
+HasNegotiated export a b result = (log : Log) × Negotiates export a b result log
 
 -- the greeting didn't go out
-pub stops-silent : (export : Export) (g l h h1 : Option (List ℕ)) (f k k1 t p p1 : ℕ) (e : Failed) →
-    ((whole : List ℕ) × (front : List ℕ) × Puts {T = Unit {0}} h h1 k k1 p p1 GREETING (Err e) whole front) →
-    Begun export (moment g l h f k t p) (moment g l h1 f k1 t p1) (Err WriteFault)
-stops-silent export g l h h1 f k k1 t p p1 e puts =
-    let rest = puts.2.by_case.1 in (
-      greeted,
-      [],
-      puts.0,
-      puts.1,
-      false,
-      record {
-        traffic = traffic_puts g l h h1 f k k1 t p p1 GREETING puts.0 puts.1 (Err e) puts.2;
-        at_end = λ e. absurd (cc);
-        by_case = (
-          (refl, inl (refl, refl)),
-          (rest.0, rest.1, rear-within puts.0 (puts.1 ++ rest.0) GREETING rest.1),
-          (refl, puts.2.by_case.0),
-        );
-      },
-    )
-
-pub stops-greeted : (export : Export) (g g2 l l2 h h1 : Option (List ℕ)) (f f2 k k1 t t2 p p1 : ℕ) (ending : Ending) →
-    ((whole : List ℕ) × (front : List ℕ) × Puts {T = Unit {0}} h h1 k k1 p p1 GREETING (Ok tt) whole front) →
-    ((bytes : List ℕ) × (ended : Bool) × ExpectIs g g2 l l2 f f2 t t2 HELLO (Err ending) bytes ended) →
-    Begun export (moment g l h f k t p) (moment g2 l2 h1 f2 k1 t2 p1) (Err ending)
-stops-greeted export g g2 l l2 h h1 f f2 k k1 t t2 p p1 ending puts e = (
-  greeted,
-  e.0,
-  GREETING,
-  [],
-  e.1,
+pub stops-silent : (export : Export) (a : Intake) (h h' : Option (List ℕ)) (k k' p p' : ℕ) (e : Failed) →
+    HasPut h h' k k' p p' greeting (Err e) → HasNegotiated export (with_sink a h k p) (with_sink a h' k' p') (Err WriteFault)
+stops-silent export a h h' k k' p p' e put = (
+  early [] put.0 put.1 false,
   record {
-    traffic = traffic_more (moment g l h f k t p) (moment g l h1 f k1 t p1) (moment g2 l2 h1 f2 k1 t2 p1) [] e.0 GREETING [] []
-        (traffic_puts g l h h1 f k k1 t p p1 GREETING GREETING [] (Ok tt) (puts-whole h h1 k k1 p p1 GREETING puts))
-        (traffic_took g g2 l l2 h1 f f2 k1 t t2 p1 e.0 e.2.took e.2.later e.2.taken);
-    at_end = e.2.at_end;
-    by_case = (
-      (refl, inr e.2.by_case.1),
-      stop-goes_out f f2 ending GREETING GREETING GREETING e.2.by_case.0 refl,
-      stop-causes (moment g l h f k t p) (moment g2 l2 h1 f2 k1 t2 p1) f f2 ending refl refl puts.2.by_case.2 e.2.by_case.0,
-    );
+    talks = subst (λ ms. Talks (with_sink a h k p) (with_sink a h' k' p') (Some WriteFault) [] ms put.0 put.1 false)
+        (early-messages export [] put.0 put.1 false) (talks-unput a h h' k k' p p' greeting e put);
+    none_asked = refl;
+    by_case = (refl, refl, refl, inl (refl, refl));
   },
 )
 
-pub stops-agreed : (export : Export) (g g2 g3 l l2 l3 h h1 : Option (List ℕ)) (f f2 f3 k k1 t t2 t3 p p1 : ℕ) (ending : Ending) →
-    ((whole : List ℕ) × (front : List ℕ) × Puts {T = Unit {0}} h h1 k k1 p p1 GREETING (Ok tt) whole front) →
-    ((bytes : List ℕ) × (ended : Bool) × ExpectIs g g2 l l2 f f2 t t2 HELLO (Ok tt) bytes ended) →
-    ((bytes : List ℕ) × (ended : Bool) × ExpectIs g2 g3 l2 l3 f2 f3 t2 t3 GO (Err ending) bytes ended) →
-    Begun export (moment g l h f k t p) (moment g3 l3 h1 f3 k1 t3 p1) (Err ending)
-stops-agreed export g g2 g3 l l2 l3 h h1 f f2 f3 k k1 t t2 t3 p p1 ending puts hello e =
-    let came = expect-whole g g2 l l2 f f2 t t2 HELLO hello in (
-      agreed,
-      HELLO ++ e.0,
-      GREETING,
-      [],
-      e.1,
+abbrev pub HasFlagsOf : Intake → Intake → Result ClientFlags Ending → Type 0
+HasFlagsOf a b result = (bytes : List ℕ) × (ended : Bool) × FlagsAre a b result bytes ended
+
+-- the client's flags didn't come
+pub stops-greeted : (export : Export) (a b : Intake) (h h' : Option (List ℕ)) (k k' p p' : ℕ) (ending : Ending) →
+    HasPut h h' k k' p p' greeting (Ok tt) → HasFlagsOf a b (Err ending) →
+    HasNegotiated export (with_sink a h k p) (with_sink b h' k' p') (Err ending)
+stops-greeted export a b h h' k k' p p' ending put flags =
+    let bytes = flags.0 in
+    let ended = flags.1 in (
+      early bytes greeting [] ended,
       record {
-        traffic = traffic_more (moment g l h f k t p) (moment g l h1 f k1 t p1) (moment g3 l3 h1 f3 k1 t3 p1) [] (HELLO ++ e.0) GREETING [] []
-            (traffic_puts g l h h1 f k k1 t p p1 GREETING GREETING [] (Ok tt) (puts-whole h h1 k k1 p p1 GREETING puts))
-            (traffic_more (moment g l h1 f k1 t p1) (moment g2 l2 h1 f2 k1 t2 p1) (moment g3 l3 h1 f3 k1 t3 p1) HELLO e.0 [] [] []
-            (traffic_took g g2 l l2 h1 f f2 k1 t t2 p1 HELLO came.1.took came.1.later came.1.taken)
-            (traffic_took g2 g3 l2 l3 h1 f2 f3 k1 t2 t3 p1 e.0 e.2.took e.2.later e.2.taken));
-        at_end = λ is. ended_later g g2 l l2 l3 HELLO came.1.took (e.2.at_end is);
-        by_case = (
-          (refl, (e.0, refl, e.2.by_case.1)),
-          stop-goes_out f2 f3 ending GREETING GREETING GREETING e.2.by_case.0 refl,
-          stop-causes (moment g l h f k t p) (moment g3 l3 h1 f3 k1 t3 p1) f2 f3 ending came.1.by_case.1 refl puts.2.by_case.2 e.2.by_case.0,
-        );
+        talks = subst (λ ms. Talks (with_sink a h k p) (with_sink b h' k' p') (Some ending) bytes ms greeting [] ended)
+            (early-messages export bytes greeting [] ended)
+            (subst (λ (w : List ℕ). Talks (with_sink a h k p) (with_sink b h' k' p') (Some ending) bytes (greeting ∷ []) w [] ended) (append-nil greeting)
+            (talks-more _ _ _ (Some ending) [] bytes (greeting ∷ []) [] greeting [] [] ended (talks-put a h h' k k' p p' greeting put)
+            (talks-stopped a b h' k' p' ending bytes ended flags.2.takes flags.2.at_end flags.2.by_case.0)));
+        none_asked = refl;
+        by_case = (refl, refl, refl, inr flags.2.by_case.1);
       },
     )
 
--- what went up to the reply to GO
-to-served : (g g2 g3 l l2 l3 h h1 : Option (List ℕ)) (f f2 f3 k k1 t t2 t3 p p1 : ℕ) →
-    ((whole : List ℕ) × (front : List ℕ) × Puts {T = Unit {0}} h h1 k k1 p p1 GREETING (Ok tt) whole front) →
-    ((bytes : List ℕ) × (ended : Bool) × ExpectIs g g2 l l2 f f2 t t2 HELLO (Ok tt) bytes ended) →
-    ((bytes : List ℕ) × (ended : Bool) × ExpectIs g2 g3 l2 l3 f2 f3 t2 t3 GO (Ok tt) bytes ended) →
-    Traffic (moment g l h f k t p) (moment g3 l3 h1 f3 k1 t3 p1) (HELLO ++ GO) GREETING []
-to-served g g2 g3 l l2 l3 h h1 f f2 f3 k k1 t t2 t3 p p1 puts hello go =
-    let came = expect-whole g g2 l l2 f f2 t t2 HELLO hello in
-    let chose = expect-whole g2 g3 l2 l3 f2 f3 t2 t3 GO go in
-    traffic_more (moment g l h f k t p) (moment g l h1 f k1 t p1) (moment g3 l3 h1 f3 k1 t3 p1) [] (HELLO ++ GO) GREETING [] []
-    (traffic_puts g l h h1 f k k1 t p p1 GREETING GREETING [] (Ok tt) (puts-whole h h1 k k1 p p1 GREETING puts))
-    (traffic_more (moment g l h1 f k1 t p1) (moment g2 l2 h1 f2 k1 t2 p1) (moment g3 l3 h1 f3 k1 t3 p1) HELLO GO [] [] []
-    (traffic_took g g2 l l2 h1 f f2 k1 t t2 p1 HELLO came.1.took came.1.later came.1.taken)
-    (traffic_took g2 g3 l2 l3 h1 f2 f3 k1 t2 t3 p1 GO chose.1.took chose.1.later chose.1.taken))
+false-true : false ≡ true → ⊥
+false-true is = absurd (cc)
 
-pub goes-on : (export : Export) (g g2 g3 l l2 l3 h h1 h4 : Option (List ℕ)) (f f2 f3 k k1 k4 t t2 t3 p p1 p4 : ℕ) →
-    ((whole : List ℕ) × (front : List ℕ) × Puts {T = Unit {0}} h h1 k k1 p p1 GREETING (Ok tt) whole front) →
-    ((bytes : List ℕ) × (ended : Bool) × ExpectIs g g2 l l2 f f2 t t2 HELLO (Ok tt) bytes ended) →
-    ((bytes : List ℕ) × (ended : Bool) × ExpectIs g2 g3 l2 l3 f2 f3 t2 t3 GO (Ok tt) bytes ended) →
-    ((whole : List ℕ) × (front : List ℕ) × Puts {T = Unit {0}} h1 h4 k1 k4 p1 p4 (go_text export) (Ok tt) whole front) →
-    Begun export (moment g l h f k t p) (moment g3 l3 h4 f3 k4 t3 p4) (Ok tt)
-goes-on export g g2 g3 l l2 l3 h h1 h4 f f2 f3 k k1 k4 t t2 t3 p p1 p4 puts hello go reply = (
-  served,
-  HELLO ++ GO,
-  GREETING ++ go_text export,
-  [],
-  false,
-  record {
-    traffic = traffic_more (moment g l h f k t p) (moment g3 l3 h1 f3 k1 t3 p1) (moment g3 l3 h4 f3 k4 t3 p4) (HELLO ++ GO) [] GREETING (go_text export) []
-        (to-served g g2 g3 l l2 l3 h h1 f f2 f3 k k1 t t2 t3 p p1 puts hello go)
-        (traffic_puts g3 l3 h1 h4 f3 k1 k4 t3 p1 p4 (go_text export) (go_text export) [] (Ok tt) (puts-whole h1 h4 k1 k4 p1 p4 (go_text export) reply));
-    at_end = λ e. absurd (cc);
-    by_case = (
-      refl,
-      refl,
-      refl,
-      (omega (arith, hello.2.by_case.1, go.2.by_case.1), omega (arith, puts.2.by_case.2, reply.2.by_case.2)),
-    );
-  },
+-- whether the zeros are left out
+pub zeroes-left : (b : Bool) (n : ℕ) → (IsTrue b ↔ (n ≢ 0)) → b ≡ not (n == 0)
+zeroes-left true n tells = sym (ap not (ne_eqb n 0 (tells.0 refl)))
+zeroes-left false n tells = ⊎_elim
+    (λ is. sym (ap not is.0))
+    (λ differ. absurd (false-true (tells.1 differ.1)))
+    (eqb_tells n 0)
+
+-- a log up to the option that came last
+abbrev pub agreed : Result (Unit {0}) Ending → ℕ → List ClientOption → Option ClientOption → List ℕ → List ℕ → List ℕ → Bool → Log
+agreed result flags options last taken whole front ended = record {
+  stage = negotiating;
+  flags = flags;
+  options = options;
+  last = last;
+  turns = [];
+  taken = u32_text flags ++ taken;
+  whole = greeting ++ whole;
+  front = front;
+  ended = ended;
+}
+
+agreed-messages : (export : Export) (result : Result (Unit {0}) Ending) (flags : ℕ) (options : List ClientOption) (last : Option ClientOption)
+    (taken whole front : List ℕ) (ended : Bool) →
+    greeting ∷ ([] ++ (answers_to export (no_zeroes flags) options ++ last_answer export (no_zeroes flags) last))
+    ≡ messages_of export (agreed result flags options last taken whole front ended)
+agreed-messages export result flags options last taken whole front ended =
+    let said = answers_to export (no_zeroes flags) options ++ last_answer export (no_zeroes flags) last in
+    ap (λ x. greeting ∷ x) (sym (ap (λ r. said ++ r) replies_to-none ∙ append-nil said))
+
+abbrev pub HasAgreed : Export → Bool → Moment → Moment → Result (Unit {0}) Ending → Type 0
+HasAgreed export no_zeroes a b result =
+    (options : List ClientOption) × (last : Option ClientOption) × (taken : List ℕ) × (whole : List ℕ) × (front : List ℕ) × (ended : Bool)
+    × Answers export no_zeroes 0 a b (course_to result) options last taken whole front ended
+
+still : (options : List ClientOption) → 0 + length options ≡ length options
+still options = omega arith
+
+begins-unended : (options : List ClientOption) (last : Option ClientOption) (n : ℕ) (taken : List ℕ) (ended : Bool) →
+    AreOptions Begins options last n taken ended → AreOptions Begins options last n taken false
+begins-unended options None n taken ended are = absurd are.course_is
+begins-unended options (Some option) n taken ended are =
+    record { text = are.text; bytes = are.bytes; parts = are.parts; spells = are.spells; course_is = are.course_is }
+
+agreed-case : (result : Result (Unit {0}) Ending) (flags : ℕ) (options : List ClientOption) (last : Option ClientOption)
+    (taken whole front : List ℕ) (ended : Bool) → flags < 4 → AreOptions (course_to result) options last (0 + length options) taken ended →
+    MatchResult result (λ _. IsBegun (agreed result flags options last taken whole front ended))
+    (λ ending. IsUnserved negotiating (agreed result flags options last taken whole front ended) ending)
+agreed-case (Ok u) flags options last taken whole front ended fit are = (
+  taken,
+  record { fit = fit; parts = refl },
+  begins-unended options last (length options) taken ended (subst (λ (n : ℕ). AreOptions Begins options last n taken ended) (still options) are),
+)
+agreed-case (Err ending) flags options last taken whole front ended fit are = (
+  taken,
+  record { fit = fit; parts = refl },
+  subst (λ (n : ℕ). AreOptions (Ends ending) options last n taken ended) (still options) are,
 )
 
-pub stops-served : (export : Export) (g g2 g3 l l2 l3 h h1 h4 : Option (List ℕ)) (f f2 f3 k k1 k4 t t2 t3 p p1 p4 : ℕ) (e : Failed) →
-    ((whole : List ℕ) × (front : List ℕ) × Puts {T = Unit {0}} h h1 k k1 p p1 GREETING (Ok tt) whole front) →
-    ((bytes : List ℕ) × (ended : Bool) × ExpectIs g g2 l l2 f f2 t t2 HELLO (Ok tt) bytes ended) →
-    ((bytes : List ℕ) × (ended : Bool) × ExpectIs g2 g3 l2 l3 f2 f3 t2 t3 GO (Ok tt) bytes ended) →
-    ((whole : List ℕ) × (front : List ℕ) × Puts {T = Unit {0}} h1 h4 k1 k4 p1 p4 (go_text export) (Err e) whole front) →
-    Begun export (moment g l h f k t p) (moment g3 l3 h4 f3 k4 t3 p4) (Err WriteFault)
-unfolding replies_text Spells
-stops-served export g g2 g3 l l2 l3 h h1 h4 f f2 f3 k k1 k4 t t2 t3 p p1 p4 e puts hello go reply =
-    let rest = reply.2.by_case.1 in
-    let before = to-served g g2 g3 l l2 l3 h h1 f f2 f3 k k1 t t2 t3 p p1 puts hello go in (
-      served,
-      HELLO ++ GO,
-      GREETING ++ reply.0,
-      reply.1,
-      false,
+-- the options were answered, up to the last one
+pub goes-agreed : (export : Export) (a b : Intake) (m : Moment) (h h' : Option (List ℕ)) (k k' p p' : ℕ) (flags : ClientFlags) (left_out : Bool)
+    (result : Result (Unit {0}) Ending) → HasPut h h' k k' p p' greeting (Ok tt) → HasFlagsOf a b (Ok flags) →
+    left_out ≡ no_zeroes flags.bits → HasAgreed export left_out (with_sink b h' k' p') m result → HasNegotiated export (with_sink a h k p) m result
+goes-agreed export a b m h h' k k' p p' flags left_out result put came is answered =
+    let options = answered.0 in
+    let last = answered.1 in
+    let taken = answered.2 in
+    let whole = answered.3 in
+    let front = answered.4 in
+    let ended = answered.5 in
+    let bits = flags.bits in
+    let answers = subst (λ z. Answers export z 0 (with_sink b h' k' p') m (course_to result) options last taken whole front ended) is answered.6 in
+    let before : Talks (with_sink a h k p) (with_sink b h' k' p') None (u32_text bits) (greeting ∷ []) greeting [] false =
+    subst (λ (w : List ℕ). Talks (with_sink a h k p) (with_sink b h' k' p') None (u32_text bits) (greeting ∷ []) w [] false) (append-nil greeting)
+    (subst (λ (t : List ℕ). Talks (with_sink a h k p) (with_sink b h' k' p') None t (greeting ∷ []) (greeting ++ []) [] false) came.2.by_case.0
+    (talks-more _ _ _ None [] came.0 (greeting ∷ []) [] greeting [] [] false (talks-put a h h' k k' p p' greeting put)
+    (talks-took a b h' k' p' came.0 came.2.takes came.2.by_case.2))) in
+    let talks = subst (λ ms. Talks (with_sink a h k p) m (ending_in (course_to result)) (u32_text bits ++ taken) ms (greeting ++ whole) front ended)
+    (agreed-messages export result bits options last taken whole front ended)
+    (talks-more _ _ _ (ending_in (course_to result)) (u32_text bits) taken (greeting ∷ []) _ greeting whole front ended before answers.talks) in (
+      agreed result bits options last taken whole front ended,
       record {
-        traffic = traffic_more (moment g l h f k t p) (moment g3 l3 h1 f3 k1 t3 p1) (moment g3 l3 h4 f3 k4 t3 p4) (HELLO ++ GO) [] GREETING reply.0 reply.1
-            before (traffic_puts g3 l3 h1 h4 f3 k1 k4 t3 p1 p4 (go_text export) reply.0 reply.1 (Err e) reply.2);
-        at_end = λ e. absurd (cc);
-        by_case = (
-          ([], [], refl, refl, refl, omega arith),
-          (
-            rest.0,
-            ap (λ x. GREETING ++ x) (append-nil (go_text export) ∙ rest.1) ∙ sym (append_assoc GREETING reply.0 (reply.1 ++ rest.0)),
-            rear-within reply.0 (reply.1 ++ rest.0) (go_text export) rest.1,
-          ),
-          (omega (arith, hello.2.by_case.1, go.2.by_case.1), rose_within k k1 k4 k4 before.later_out (omega arith) reply.2.by_case.0),
-        );
+        talks = talks;
+        none_asked = refl;
+        by_case = agreed-case result bits options last taken whole front ended came.2.by_case.1 answers.options_are;
       },
     )
+
+-- the greeting that was put
+pub greeting-put : (h h' : Option (List ℕ)) (k k' p p' : ℕ) (bits : ℕ) (text : List ℕ) (result : Result (Unit {0}) Failed) → bits ≡ 3 →
+    text ≡ greeting_text (record { flags = record { bits = bits } }) → HasPut h h' k k' p p' text result → HasPut h h' k k' p p' greeting result
+greeting-put h h' k k' p p' bits text result is text_is put =
+    subst (λ (t : List ℕ). HasPut h h' k k' p p' t result) (text_is ∙ greeting-is bits is) put

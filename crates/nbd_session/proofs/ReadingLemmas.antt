@@ -1,312 +1,320 @@
 -- An input is read in one way.
-use Rattle.std.proofs.Common.{◌≡◌, ℕ, ◌+◌, ◌^◌, ◌≤◌, ◌<◌, min, Bool, true, List, [], ◌∷◌, ◌++◌, length, take, drop, ap, ◌∙◌, refl, sym, subst, arith, take_at, append_assoc, length-append, ⊎_elim}
-use Rattle.std.proofs.lemmas.List.{drop_at, append_cancel_left}
-use Rattle.plain_disk.specs.declared.operation.Op.{Op}
+use Rattle.std.proofs.Common.{◌≡◌, ℕ, ◌+◌, ◌^◌, ◌≤◌, ◌<◌, ◌==◌, nat_lt, Bool, true, false, List, [], ◌∷◌, ◌++◌, Option, Some, None, length, take, drop, ap, ◌∙◌, refl, sym, subst, arith, take_at, append_assoc, append-nil, length-append, ⊎_elim}
+use Rattle.std.proofs.lemmas.Bool.{lt-ltb, le-ltb}
+use Rattle.std.proofs.lemmas.Nat.{from_be_bytes-to_be_bytes_4}
+use Rattle.std.specs.Int.{w32, from_be_bytes}
 use Rattle.nbd_session.specs.declared.ending.Ending.{Ending}
-use Rattle.nbd_session.specs.declared.ending.Ending.TheVariants.{Disconnected, Closed, Unbuilt, TooMany, ReadFault, WriteFault, Memory}
-use Rattle.nbd_session.specs.declared.export.Export.{Export}
-use Rattle.nbd_session.specs.declared.messages.TheConstants.{HELLO, GO}
-use Rattle.nbd_session.specs.Reading.{Asked, asked_of, IsByInput, Reads, ReadsOnce}
-use Rattle.nbd_session.specs.Session.{Stage, greeted, agreed, served, Turn, Spells, EndsRequests, EndsBefore, IsCount}
-use Rattle.nbd_session.proofs.VerdictLemmas.{stops, asks, verdict, cut_of, cut-none, cut-some, verdict-asks, verdict-stops}
+use Rattle.nbd_session.specs.declared.ending.Ending.TheVariants.{Disconnected, Aborted, Closed, Truncated, BadFlags, BadMagic, TooLong, UnknownExport, TooMany, PortSpent, ReadFault, WriteFault, Memory}
+use Rattle.nbd_session.specs.declared.options.ClientOption.{ClientOption}
+use Rattle.nbd_session.specs.declared.options.Course.{Course}
+use Rattle.nbd_session.specs.declared.options.Course.TheVariants.{GoesOn, Begins, Ends}
+use Rattle.nbd_session.specs.Grammar.{StopsFlags, SpellsOptions, AreOptions, AreRequests}
+use Rattle.nbd_session.specs.Reading.{Asked, asked_of, IsByInput, Reads, AreOneReading, ReadsOnce}
+use Rattle.nbd_session.specs.Session.{Stage, greeted, negotiating, served, Log, HasFlags, IsInput}
+use Rattle.nbd_session.specs.Turns.{Turn, Spells}
+use Rattle.nbd_session.proofs.StreamLemmas.{split, Spelled, Tail, tail-once}
+use Rattle.nbd_session.proofs.DecidedOptions as Options
+use Rattle.nbd_session.proofs.DecidedOptions.{End, cut_of, cut-none, cut-some, ByInput}
+use Rattle.nbd_session.proofs.DecidedRequests as Requests
+use Rattle.nbd_wire.specs.Fields.{u32_text}
+use Rattle.nbd_wire.proofs.FieldLemmas.{u32-first}
 
--- two parts of one text that are equally long are the same
-split : (xs ys a b : List ℕ) → xs ++ a ≡ ys ++ b → length xs ≡ length ys → (xs ≡ ys) × (a ≡ b)
-split xs ys a b is same = (
-  sym (take_at xs a (length xs) refl) ∙ ap (take (length xs)) is ∙ take_at ys b (length xs) (sym same),
-  sym (drop_at xs a (length xs) refl) ∙ ap (drop (length xs)) is ∙ drop_at ys b (length xs) (sym same),
-)
+-- the client's flags: an ending after so many bytes, or flags
+data Flags : Type 0 where
+  stopped : Ending → ℕ → Flags
+  flagged : ℕ → Flags
 
--- what a session took behind `n` requests, of all that was left then
-record Tail (export : Export) (n : ℕ) (turns : List Turn) (ending : Ending) (taken all : List ℕ) : Type 0 where
-  text : List ℕ
-  bytes : List ℕ
-  rest : List ℕ
-  ended : Bool
-  taken_is : taken ≡ text ++ bytes
-  parts : all ≡ taken ++ rest
-  spells : Spells export turns text
-  ends : EndsRequests export ending ended bytes
-  count : IsCount ending (n + length turns)
-  by_input : IsByInput ending
-  at_end : ended ≡ true → rest ≡ []
+flags_by_value : Bool → ℕ → Flags
+flags_by_value true flags = flagged flags
+flags_by_value false flags = stopped (BadFlags flags) 4
 
-count-most : (ending : Ending) (n : ℕ) → IsCount ending n → n ≤ 2 ^ 32
-count-most Disconnected n count = omega arith
-count-most Closed n count = omega arith
-count-most Unbuilt n count = omega arith
-count-most (TooMany m) n count = omega (arith, count.1)
-count-most ReadFault n count = omega arith
-count-most WriteFault n count = count
-count-most Memory n count = absurd count
+flags_by_size : Bool → List ℕ → Flags
+flags_by_size true all = stopped (cut_of all) (length all)
+flags_by_size false all = flags_by_value (nat_lt (from_be_bytes w32 (take 4 all)) 4) (from_be_bytes w32 (take 4 all))
 
--- no request is left
-tail-last : (export : Export) (n : ℕ) (ending : Ending) (taken all : List ℕ) → Tail export n [] ending taken all →
-    verdict export n all ≡ stops ending (length taken)
-unfolding Spells
-tail-last export n ending taken all tail =
-    let same : taken ≡ tail.bytes = tail.taken_is ∙ ap (λ t. t ++ tail.bytes) tail.spells in
-    ap (verdict export n) (tail.parts ∙ ap (λ t. t ++ tail.rest) same)
-    ∙ verdict-stops export n ending tail.ended tail.bytes tail.rest tail.by_input tail.ends
-    (subst (λ (k : ℕ). IsCount ending k) (omega arith) tail.count) tail.at_end
-    ∙ ap (λ t. stops ending (length t)) (sym same)
+flags_of : List ℕ → Flags
+flags_of all = flags_by_size (nat_lt (length all) 4) all
 
--- one request comes next
-record Next (export : Export) (n : ℕ) (turn : Turn) (turns : List Turn) (ending : Ending) (taken all : List ℕ) : Type 0 where
-  message : List ℕ
-  later : List ℕ
-  taken_is : taken ≡ message ++ later
-  asked : verdict export n all ≡ asks turn.cookie turn.op (length message)
-  tail : Tail export (n + 1) turns ending later (drop (length message) all)
+text-size : (flags : ℕ) → length (u32_text flags) ≡ 4
+unfolding u32_text
+text-size flags = refl
 
-tail-next : (export : Export) (n : ℕ) (turn : Turn) (turns : List Turn) (ending : Ending) (taken all : List ℕ) →
-    Tail export n (turn ∷ turns) ending taken all → Next export n turn turns ending taken all
-unfolding Spells
-tail-next export n turn turns ending taken all tail =
-    let message = tail.spells.0 in
-    let text = tail.spells.1 in
-    let later = text ++ tail.bytes in
-    let taken_is : taken ≡ message ++ later = tail.taken_is ∙ ap (λ t. t ++ tail.bytes) tail.spells.2 ∙ append_assoc message text tail.bytes in
-    let parts : all ≡ message ++ (later ++ tail.rest) = tail.parts ∙ ap (λ t. t ++ tail.rest) taken_is ∙ append_assoc message later tail.rest in
+flags-whole : (flags : ℕ) (more : List ℕ) → flags < 2 ^ 32 → flags_of (u32_text flags ++ more) ≡ flags_by_value (nat_lt flags 4) flags
+unfolding flags_of flags_by_size u32_text
+flags-whole flags more fits =
+    let read : from_be_bytes w32 (take 4 (u32_text flags ++ more)) ≡ flags = from_be_bytes-to_be_bytes_4 flags fits in
+    ap (λ b. flags_by_size b (u32_text flags ++ more)) (le-ltb (length (u32_text flags ++ more)) 4 (omega (arith, length-append (u32_text flags) more, text-size flags)))
+    ∙ ap (λ n. flags_by_value (nat_lt n 4) n) read
+
+flags-short : (all : List ℕ) → length all < 4 → flags_of all ≡ stopped (cut_of all) (length all)
+unfolding flags_of flags_by_size
+flags-short all short = ap (λ b. flags_by_size b all) (lt-ltb (length all) 4 short)
+
+flags-agreed : (flags : ℕ) (more : List ℕ) → flags < 4 → flags_of (u32_text flags ++ more) ≡ flagged flags
+unfolding flags_by_value
+flags-agreed flags more fits = flags-whole flags more (omega arith) ∙ ap (λ b. flags_by_value b flags) (lt-ltb flags 4 fits)
+
+flags-ended : (taken rest : List ℕ) → rest ≡ [] → flags_of (taken ++ rest) ≡ flags_of taken
+flags-ended taken rest none = ap (λ r. flags_of (taken ++ r)) none ∙ ap flags_of (append-nil taken)
+
+flags-stopped : (ending : Ending) (ended : Bool) (taken rest : List ℕ) → IsByInput ending → StopsFlags ending ended taken → (ended ≡ true → rest ≡ []) →
+    flags_of (taken ++ rest) ≡ stopped ending (length taken)
+unfolding flags_by_value
+flags-stopped Closed ended taken rest by stops at_end =
+    flags-ended taken rest (at_end stops.1)
+    ∙ subst (λ (t : List ℕ). flags_of t ≡ stopped Closed (length t)) (sym stops.0)
+    (flags-short [] (omega arith) ∙ ap (λ e. stopped e 0) cut-none)
+flags-stopped (Truncated n) ended taken rest by stops at_end =
+    flags-ended taken rest (at_end stops.3) ∙ flags-short taken (omega (arith, stops.0, stops.2))
+    ∙ ap (λ e. stopped e (length taken)) (cut-some taken (omega (arith, stops.0, stops.1)) ∙ ap Truncated stops.0)
+flags-stopped (BadFlags flags) ended taken rest by stops at_end =
+    ap (λ t. flags_of (t ++ rest)) stops.0 ∙ flags-whole flags rest stops.2
+    ∙ ap (λ b. flags_by_value b flags) (le-ltb flags 4 stops.1) ∙ ap (λ k. stopped (BadFlags flags) k) (omega (arith, ap length stops.0, text-size flags))
+flags-stopped ReadFault ended taken rest by stops at_end = absurd by
+flags-stopped _ ended taken rest by stops at_end = absurd stops
+
+stopped-same : (e e' : Ending) (n n' : ℕ) → stopped e n ≡ stopped e' n' → (e ≡ e') × (n ≡ n')
+stopped-same e e' n n' is = (cc, cc)
+
+stopped-flagged : (e : Ending) (n f : ℕ) → stopped e n ≡ flagged f → ⊥
+stopped-flagged e n f is = absurd (cc)
+
+-- options and requests as streams of messages
+options-spelled : (options : List ClientOption) (text : List ℕ) → SpellsOptions options text → Spelled Options.IsWhole options text
+unfolding SpellsOptions Spelled Options.IsWhole
+options-spelled [] text is = is
+options-spelled (option ∷ options) text is = (is.0, is.1, is.2, (is.3, is.4), options-spelled options is.1 is.5)
+
+requests-spelled : (turns : List Turn) (text : List ℕ) → Spells turns text → Spelled Requests.IsWhole (asked_of turns) text
+unfolding Spells Spelled Requests.IsWhole asked_of
+requests-spelled [] text is = is
+requests-spelled (turn ∷ turns) text is = (is.0, is.1, is.2, is.3, requests-spelled turns is.1 is.5)
+
+asked_of-length : (turns : List Turn) → length (asked_of turns) ≡ length turns
+unfolding asked_of
+asked_of-length [] = refl
+asked_of-length (turn ∷ turns) = omega (arith, asked_of-length turns)
+
+abbrev OptionsTail : List ClientOption → Course → Option ClientOption → List ℕ → List ℕ → Type 0
+OptionsTail options course last taken all =
+    Tail {M = ClientOption} {E = End} Options.IsWhole Options.IsEnd 0 options (record { course = course; last = last }) taken all
+
+options-tail : (course : Course) (options : List ClientOption) (last : Option ClientOption) (taken rest : List ℕ) (ended : Bool) →
+    AreOptions course options last (length options) taken ended → ByInput course → (ended ≡ true → rest ≡ []) →
+    OptionsTail options course last taken (taken ++ rest)
+unfolding Options.IsEnd
+options-tail course options last taken rest ended are by at_end =
+    let count : length options ≡ 0 + length options = omega arith in
     record {
-      message = message;
-      later = later;
-      taken_is = taken_is;
-      asked = ap (verdict export n) parts
-          ∙ verdict-asks export n message (later ++ tail.rest) turn.cookie turn.op
-          (omega (arith, count-most ending (n + length (turn ∷ turns)) tail.count)) tail.spells.3;
-      tail = record {
-        text = text;
-        bytes = tail.bytes;
-        rest = tail.rest;
-        ended = tail.ended;
-        taken_is = refl;
-        parts = ap (drop (length message)) parts ∙ drop_at message (later ++ tail.rest) (length message) refl;
-        spells = tail.spells.5;
-        ends = tail.ends;
-        count = subst (λ (k : ℕ). IsCount ending k) (omega arith) tail.count;
-        by_input = tail.by_input;
-        at_end = tail.at_end;
-      };
+      text = are.text;
+      bytes = are.bytes;
+      rest = rest;
+      ended = ended;
+      taken_is = are.parts;
+      parts = refl;
+      spells = options-spelled options are.text are.spells;
+      last = subst (λ (n : ℕ). Options.IsEnd (record { course = course; last = last }) n ended are.bytes) count (are.course_is, by);
+      at_end = at_end;
     }
 
-stops-same : (e e' : Ending) (n n' : ℕ) → stops e n ≡ stops e' n' → (e ≡ e') × (n ≡ n')
-stops-same e e' n n' is = (cc, cc)
+abbrev RequestsTail : List Turn → Ending → List ℕ → List ℕ → Type 0
+RequestsTail turns ending taken all =
+    Tail {M = Asked} {E = Ending} Requests.IsWhole Requests.IsEnd 0 (asked_of turns) ending taken all
 
-asks-same : (c c' : ℕ) (o o' : Op) (n n' : ℕ) → asks c o n ≡ asks c' o' n' → (c ≡ c') × (o ≡ o') × (n ≡ n')
-asks-same c c' o o' n n' is = (cc, cc, cc)
+requests-tail : (ending : Ending) (turns : List Turn) (taken rest : List ℕ) (ended : Bool) →
+    AreRequests (Some ending) turns (length turns) taken ended → IsByInput ending → (ended ≡ true → rest ≡ []) →
+    RequestsTail turns ending taken (taken ++ rest)
+requests-tail ending turns taken rest ended are by at_end =
+    let count : length turns ≡ 0 + length (asked_of turns) = omega (arith, asked_of-length turns) in
+    record {
+      text = are.text;
+      bytes = are.bytes;
+      rest = rest;
+      ended = ended;
+      taken_is = are.parts;
+      parts = refl;
+      spells = requests-spelled turns are.text are.spells;
+      last = subst (λ (n : ℕ). Requests.IsEnd ending n ended are.bytes) count (record { ends = are.ends.0; count = are.ends.1; by_input = by });
+      at_end = at_end;
+    }
 
-stops-asks : (e : Ending) (n c : ℕ) (o : Op) (k : ℕ) → stops e n ≡ asks c o k → ⊥
-stops-asks e n c o k is = absurd (cc)
+end-same : (c c' : Course) (l l' : Option ClientOption) → ◌≡◌ {A = End} (record { course = c; last = l }) (record { course = c'; last = l' }) → (c ≡ c') × (l ≡ l')
+end-same c c' l l' is = (ap (λ (e : End). e.course) is, ap (λ (e : End). e.last) is)
 
-asked-same : (c c' : ℕ) (o o' : Op) (xs ys : List Asked) → c ≡ c' → o ≡ o' → xs ≡ ys →
-    record { cookie = c; op = o } ∷ xs ≡ record { cookie = c'; op = o' } ∷ ys
-asked-same c c' o o' xs ys cookies ops rest = cc
+-- options are read in one way
+options-once : (options options' : List ClientOption) (course course' : Course) (last last' : Option ClientOption) (taken taken' all : List ℕ) →
+    OptionsTail options course last taken all → OptionsTail options' course' last' taken' all →
+    (options ≡ options') × (course ≡ course') × (last ≡ last') × (taken ≡ taken')
+options-once options options' course course' last last' taken taken' all a b =
+    let once = tail-once Options.IsWhole Options.IsEnd 65536 Options.decide Options.few Options.whole-decides Options.last-decides 0 options options' _ _ taken taken' all a b in
+    let ends = end-same course course' last last' once.1 in
+    (once.0, ends.0, ends.1, once.2)
 
--- the requests and the ending of an input, behind `n` requests
-tail-once : (export : Export) (n : ℕ) (turns turns' : List Turn) (ending ending' : Ending) (taken taken' all : List ℕ) →
-    Tail export n turns ending taken all → Tail export n turns' ending' taken' all →
-    (asked_of turns ≡ asked_of turns') × (ending ≡ ending') × (taken ≡ taken')
-unfolding asked_of
-tail-once export n [] [] ending ending' taken taken' all a b =
-    let same = stops-same ending ending' (length taken) (length taken')
-    (sym (tail-last export n ending taken all a) ∙ tail-last export n ending' taken' all b) in
-    (refl, same.0, (split taken taken' a.rest b.rest (sym a.parts ∙ b.parts) same.1).0)
-tail-once export n [] (turn ∷ turns') ending ending' taken taken' all a b =
-    let next = tail-next export n turn turns' ending' taken' all b in
-    absurd (stops-asks ending (length taken) turn.cookie turn.op (length next.message)
-    (sym (tail-last export n ending taken all a) ∙ next.asked))
-tail-once export n (turn ∷ turns) [] ending ending' taken taken' all a b =
-    let next = tail-next export n turn turns ending taken all a in
-    absurd (stops-asks ending' (length taken') turn.cookie turn.op (length next.message)
-    (sym (tail-last export n ending' taken' all b) ∙ next.asked))
-tail-once export n (turn ∷ turns) (turn' ∷ turns') ending ending' taken taken' all a b =
-    let x = tail-next export n turn turns ending taken all a in
-    let y = tail-next export n turn' turns' ending' taken' all b in
-    let same = asks-same turn.cookie turn'.cookie turn.op turn'.op (length x.message) (length y.message) (sym x.asked ∙ y.asked) in
-    let later = tail-once export (n + 1) turns turns' ending ending' x.later y.later (drop (length x.message) all) x.tail
-    (subst (λ (k : ℕ). Tail export (n + 1) turns' ending' y.later (drop k all)) (sym same.2) y.tail) in
-    let front = split x.message y.message (x.later ++ a.rest) (y.later ++ b.rest)
-    (sym (append_assoc x.message x.later a.rest) ∙ ap (λ t. t ++ a.rest) (sym x.taken_is)
-    ∙ sym a.parts ∙ b.parts ∙ ap (λ t. t ++ b.rest) y.taken_is ∙ append_assoc y.message y.later b.rest)
-    same.2 in (
-      asked-same turn.cookie turn'.cookie turn.op turn'.op (asked_of turns) (asked_of turns') same.0 same.1 later.0,
-      later.1,
-      x.taken_is ∙ ap (λ m. m ++ x.later) front.0 ∙ ap (λ l. y.message ++ l) later.2 ∙ sym y.taken_is,
-    )
+requests-once : (turns turns' : List Turn) (ending ending' : Ending) (taken taken' all : List ℕ) →
+    RequestsTail turns ending taken all → RequestsTail turns' ending' taken' all → (asked_of turns ≡ asked_of turns') × (ending ≡ ending') × (taken ≡ taken')
+requests-once turns turns' ending ending' taken taken' all a b =
+    tail-once Requests.IsWhole Requests.IsEnd (2 ^ 32) Requests.decide Requests.few Requests.whole-decides Requests.last-decides 0 (asked_of turns) (asked_of turns') ending ending' taken taken' all a b
 
--- what was taken where one message was to come, of all that was left then
-record Before (message : List ℕ) (ending : Ending) (taken all : List ℕ) : Type 0 where
-  ended : Bool
+-- an input behind the client's flags
+behind-flags : (log : Log) (rest behind input : List ℕ) → HasFlags log rest → input ≡ log.taken ++ behind → input ≡ u32_text log.flags ++ (rest ++ behind)
+behind-flags log rest behind input has parts = parts ∙ ap (λ t. t ++ behind) has.parts ∙ append_assoc (u32_text log.flags) rest behind
+
+-- two sessions that came to their options have the same flags, and the same is behind them
+flags-once : (f f' : ℕ) (a b input : List ℕ) → f < 4 → f' < 4 → input ≡ u32_text f ++ a → input ≡ u32_text f' ++ b → (f ≡ f') × (a ≡ b)
+flags-once f f' a b input fit fit' is is' = u32-first f f' a b (omega arith) (omega arith) (sym is ∙ is')
+
+abbrev pub Once : Log → Log → Ending → Ending → Type 0
+Once log log' ending ending' = AreOneReading log log' × (ending ≡ ending')
+
+-- what is known of a session by its stage
+record Greeted (log : Log) (ending : Ending) (input : List ℕ) : Type 0 where
+  stage : log.stage ≡ greeted
+  none : (log.flags ≡ 0) × (log.options ≡ []) × (log.last ≡ None) × (log.turns ≡ [])
+  decided : flags_of input ≡ stopped ending (length log.taken)
   rest : List ℕ
-  parts : all ≡ taken ++ rest
-  at_end : ended ≡ true → rest ≡ []
-  ends : EndsBefore message ending ended taken
+  parts : input ≡ log.taken ++ rest
 
-all-length : (taken rest all : List ℕ) → all ≡ taken ++ rest → length all ≡ length taken + length rest
-all-length taken rest all parts = ap length parts ∙ length-append taken rest
+record Negotiated (log : Log) (ending : Ending) (input : List ℕ) : Type 0 where
+  stage : log.stage ≡ negotiating
+  none : log.turns ≡ []
+  fit : log.flags < 4
+  taken : List ℕ
+  behind : List ℕ
+  taken_is : log.taken ≡ u32_text log.flags ++ taken
+  input_is : input ≡ u32_text log.flags ++ behind
+  options : OptionsTail log.options (Ends ending) log.last taken behind
 
--- where the message came, the session didn't end before it
-before-never : (message : List ℕ) (ending : Ending) (taken all more : List ℕ) → 0 < length message → IsByInput ending →
-    Before message ending taken all → all ≡ message ++ more → ⊥
-before-never message Disconnected taken all more some by before is = absurd before.ends
-before-never message Closed taken all more some by before is =
-    omega (arith, all-length taken before.rest all before.parts, all-length message more all is, ap length before.ends.0, ap length (before.at_end before.ends.1))
-before-never message Unbuilt taken all more some by before is = ⊎_elim
-    (λ e. e.1 (split taken message before.rest more (sym before.parts ∙ is) e.0).0)
-    (λ e. omega (arith, all-length taken before.rest all before.parts, all-length message more all is, ap length (before.at_end e.1), e.2))
-    before.ends
-before-never message (TooMany n) taken all more some by before is = absurd before.ends
-before-never message ReadFault taken all more some by before is = absurd by
-before-never message WriteFault taken all more some by before is = absurd by
-before-never message Memory taken all more some by before is = absurd by
+record Served (log : Log) (ending : Ending) (input : List ℕ) : Type 0 where
+  stage : log.stage ≡ served
+  fit : log.flags < 4
+  chosen : List ℕ
+  asked : List ℕ
+  behind : List ℕ
+  taken_is : log.taken ≡ u32_text log.flags ++ (chosen ++ asked)
+  input_is : input ≡ u32_text log.flags ++ (chosen ++ behind)
+  options : OptionsTail log.options Begins log.last chosen (chosen ++ behind)
+  requests : RequestsTail log.turns ending asked behind
 
-all-none : (taken rest all : List ℕ) → all ≡ taken ++ rest → taken ≡ [] → rest ≡ [] → all ≡ []
-all-none taken rest all parts none no_more = parts ∙ ap (λ t. t ++ rest) none ∙ no_more
+data Stood (log : Log) (ending : Ending) (input : List ℕ) : Type 0 where
+  at_flags : Greeted log ending input → Stood log ending input
+  at_options : Negotiated log ending input → Stood log ending input
+  at_requests : Served log ending input → Stood log ending input
 
-some-length : (xs : List ℕ) → (xs ≡ [] → ⊥) → 0 < length xs
-some-length [] some = absurd (some refl)
-some-length (x ∷ xs) some = omega arith
+stood-at : (stage : Stage) (log : Log) (ending : Ending) (input rest : List ℕ) → log.stage ≡ stage → input ≡ log.taken ++ rest →
+    (log.ended ≡ true → rest ≡ []) → IsByInput ending → IsInput stage log ending → Stood log ending input
+stood-at greeted log ending input rest at parts at_end by is = at_flags (record {
+  stage = at;
+  none = (is.1.0, is.1.1, is.1.2, is.0);
+  decided = ap flags_of parts
+      ∙ flags-stopped ending log.ended log.taken rest by (⊎_elim (λ fault. absurd (subst (λ (e : Ending). IsByInput e) fault.0 by)) (λ stops. stops) is.1.3) at_end;
+  rest = rest;
+  parts = parts;
+})
+stood-at negotiating log ending input rest at parts at_end by is =
+    let taken = is.1.0 in
+    let has = is.1.1 in
+    at_options (record {
+      stage = at;
+      none = is.0;
+      fit = has.fit;
+      taken = taken;
+      behind = taken ++ rest;
+      taken_is = has.parts;
+      input_is = behind-flags log taken rest input has parts;
+      options = options-tail (Ends ending) log.options log.last taken rest log.ended is.1.2 by at_end;
+    })
+stood-at served log ending input rest at parts at_end by is =
+    let chosen = is.0 in
+    let asked = is.1 in
+    at_requests (record {
+      stage = at;
+      fit = is.2.fit;
+      chosen = chosen;
+      asked = asked;
+      behind = asked ++ rest;
+      taken_is = is.2.parts;
+      input_is = behind-flags log (chosen ++ asked) rest input is.2 parts ∙ ap (λ t. u32_text log.flags ++ t) (append_assoc chosen asked rest);
+      options = options-tail Begins log.options log.last chosen (asked ++ rest) false is.3 tt (λ e. absurd (cc));
+      requests = requests-tail ending log.turns asked rest log.ended is.4 by at_end;
+    })
 
--- such a session took all, up to the length of the message, and its ending is that of what was left
-before-taken : (message : List ℕ) (ending : Ending) (taken all : List ℕ) → 0 < length message → IsByInput ending →
-    Before message ending taken all → (length taken ≡ min (length all) (length message)) × (ending ≡ cut_of all)
-before-taken message Disconnected taken all some by before = absurd before.ends
-before-taken message Closed taken all some by before =
-    let none = all-none taken before.rest all before.parts before.ends.0 (before.at_end before.ends.1) in
-    (omega (arith, ap length before.ends.0, ap length none), sym (ap cut_of none ∙ cut-none))
-before-taken message Unbuilt taken all some by before = ⊎_elim
-    (λ e. (
-      omega (arith, all-length taken before.rest all before.parts, e.0),
-      sym (cut-some all (λ none. omega (arith, ap length none, all-length taken before.rest all before.parts, e.0, some))),
-    ))
-    (λ e. (
-      omega (arith, all-length taken before.rest all before.parts, ap length (before.at_end e.1), e.2),
-      sym (cut-some all (λ none. omega (arith, ap length none, all-length taken before.rest all before.parts, some-length taken e.0))),
-    ))
-    before.ends
-before-taken message (TooMany n) taken all some by before = absurd before.ends
-before-taken message ReadFault taken all some by before = absurd by
-before-taken message WriteFault taken all some by before = absurd by
-before-taken message Memory taken all some by before = absurd by
+stood : (log : Log) (ending : Ending) (input : List ℕ) → Reads log ending input → Stood log ending input
+stood log ending input reads = stood-at log.stage log ending input reads.rest refl reads.parts reads.at_end reads.by_input reads.is_input
 
-before-once : (message : List ℕ) (ending ending' : Ending) (taken taken' all : List ℕ) → 0 < length message →
-    IsByInput ending → IsByInput ending' → Before message ending taken all → Before message ending' taken' all →
-    (ending ≡ ending') × (taken ≡ taken')
-before-once message ending ending' taken taken' all some by by' a b =
-    let x = before-taken message ending taken all some by a in
-    let y = before-taken message ending' taken' all some by' b in
-    (x.1 ∙ sym y.1, (split taken taken' a.rest b.rest (sym a.parts ∙ b.parts) (x.0 ∙ sym y.0)).0)
+-- no session that came to its options has the input of one that didn't
+greeted-never : (log : Log) (ending : Ending) (input : List ℕ) (flags : ℕ) (behind : List ℕ) → Greeted log ending input → flags < 4 →
+    input ≡ u32_text flags ++ behind → ⊥
+greeted-never log ending input flags behind a fit is =
+    stopped-flagged ending (length log.taken) flags (sym a.decided ∙ ap flags_of is ∙ flags-agreed flags behind fit)
 
--- a session by its stage: before the client's flags, before the option, or at the requests
-greeted-before : (export : Export) (turns : List Turn) (ending : Ending) (taken input : List ℕ) →
-    Reads export greeted turns ending taken input → Before HELLO ending taken input
-greeted-before export turns ending taken input reads = record {
-  ended = reads.ended;
-  rest = reads.rest;
-  parts = reads.parts;
-  at_end = reads.at_end;
-  ends = ⊎_elim (λ fault. absurd (subst (λ (e : Ending). IsByInput e) fault.0 reads.by_input)) (λ ends. ends) reads.is_input.1;
-}
+-- nor one that began its requests that of one that ended before
+ends-begins : (ending : Ending) → Ends ending ≡ Begins → ⊥
+ends-begins ending is = absurd (cc)
 
-agreed-before : (export : Export) (turns : List Turn) (ending : Ending) (taken input : List ℕ) →
-    (reads : Reads export agreed turns ending taken input) →
-    (taken ≡ HELLO ++ reads.is_input.1.0) × (input ≡ HELLO ++ (reads.is_input.1.0 ++ reads.rest)) × Before GO ending reads.is_input.1.0 (reads.is_input.1.0 ++ reads.rest)
-agreed-before export turns ending taken input reads = (
-  reads.is_input.1.1,
-  reads.parts ∙ ap (λ t. t ++ reads.rest) reads.is_input.1.1 ∙ append_assoc HELLO reads.is_input.1.0 reads.rest,
-  record { ended = reads.ended; rest = reads.rest; parts = refl; at_end = reads.at_end; ends = reads.is_input.1.2 },
-)
+ends-same : (e e' : Ending) → Ends e ≡ Ends e' → e ≡ e'
+ends-same e e' is = cc
 
-served-tail : (export : Export) (turns : List Turn) (ending : Ending) (taken input : List ℕ) →
-    (reads : Reads export served turns ending taken input) →
-    (later : List ℕ) × (more : List ℕ) × (taken ≡ HELLO ++ (GO ++ later)) × (input ≡ HELLO ++ (GO ++ more)) × Tail export 0 turns ending later more
-served-tail export turns ending taken input reads =
-    let is = reads.is_input in
-    let later = is.0 ++ is.1 in (
-      later,
-      later ++ reads.rest,
-      is.2,
-      reads.parts ∙ ap (λ t. t ++ reads.rest) is.2 ∙ append_assoc HELLO (GO ++ later) reads.rest
-          ∙ ap (λ t. HELLO ++ t) (append_assoc GO later reads.rest),
+one-reading : (log log' : Log) (ending ending' : Ending) (input : List ℕ) → Stood log ending input → Stood log' ending' input → Once log log' ending ending'
+one-reading log log' ending ending' input (at_flags a) (at_flags b) =
+    let same = stopped-same ending ending' (length log.taken) (length log'.taken) (sym a.decided ∙ b.decided) in (
       record {
-        text = is.0;
-        bytes = is.1;
-        rest = reads.rest;
-        ended = reads.ended;
-        taken_is = refl;
-        parts = refl;
-        spells = is.3;
-        ends = is.4;
-        count = subst (λ (k : ℕ). IsCount ending k) (omega arith) is.5;
-        by_input = reads.by_input;
-        at_end = reads.at_end;
+        stage = a.stage ∙ sym b.stage;
+        flags = a.none.0 ∙ sym b.none.0;
+        options = a.none.1 ∙ sym b.none.1;
+        last = a.none.2 ∙ sym b.none.2;
+        asked = ap asked_of (a.none.3 ∙ sym b.none.3);
+        taken = (split log.taken log'.taken a.rest b.rest (sym a.parts ∙ b.parts) same.1).0;
       },
+      same.0,
+    )
+one-reading log log' ending ending' input (at_flags a) (at_options b) = absurd (greeted-never log ending input log'.flags b.behind a b.fit b.input_is)
+one-reading log log' ending ending' input (at_flags a) (at_requests b) =
+    absurd (greeted-never log ending input log'.flags (b.chosen ++ b.behind) a b.fit b.input_is)
+one-reading log log' ending ending' input (at_options a) (at_flags b) = absurd (greeted-never log' ending' input log.flags a.behind b a.fit a.input_is)
+one-reading log log' ending ending' input (at_options a) (at_options b) =
+    let flags = flags-once log.flags log'.flags a.behind b.behind input a.fit b.fit a.input_is b.input_is in
+    let once = options-once log.options log'.options (Ends ending) (Ends ending') log.last log'.last a.taken b.taken a.behind a.options
+    (subst (λ (t : List ℕ). OptionsTail log'.options (Ends ending') log'.last b.taken t) (sym flags.1) b.options) in (
+      record {
+        stage = a.stage ∙ sym b.stage;
+        flags = flags.0;
+        options = once.0;
+        last = once.2;
+        asked = ap asked_of (a.none ∙ sym b.none);
+        taken = a.taken_is ∙ ap (λ t. u32_text log.flags ++ t) once.3 ∙ ap (λ f. u32_text f ++ b.taken) flags.0 ∙ sym b.taken_is;
+      },
+      ends-same ending ending' once.1,
+    )
+one-reading log log' ending ending' input (at_options a) (at_requests b) =
+    let flags = flags-once log.flags log'.flags a.behind (b.chosen ++ b.behind) input a.fit b.fit a.input_is b.input_is in
+    let once = options-once log.options log'.options (Ends ending) Begins log.last log'.last a.taken b.chosen a.behind a.options
+    (subst (λ (t : List ℕ). OptionsTail log'.options Begins log'.last b.chosen t) (sym flags.1) b.options) in
+    absurd (ends-begins ending once.1)
+one-reading log log' ending ending' input (at_requests a) (at_flags b) =
+    absurd (greeted-never log' ending' input log.flags (a.chosen ++ a.behind) b a.fit a.input_is)
+one-reading log log' ending ending' input (at_requests a) (at_options b) =
+    let flags = flags-once log'.flags log.flags b.behind (a.chosen ++ a.behind) input b.fit a.fit b.input_is a.input_is in
+    let once = options-once log'.options log.options (Ends ending') Begins log'.last log.last b.taken a.chosen b.behind b.options
+    (subst (λ (t : List ℕ). OptionsTail log.options Begins log.last a.chosen t) (sym flags.1) a.options) in
+    absurd (ends-begins ending' once.1)
+one-reading log log' ending ending' input (at_requests a) (at_requests b) =
+    let flags = flags-once log.flags log'.flags (a.chosen ++ a.behind) (b.chosen ++ b.behind) input a.fit b.fit a.input_is b.input_is in
+    let once = options-once log.options log'.options Begins Begins log.last log'.last a.chosen b.chosen (a.chosen ++ a.behind) a.options
+    (subst (λ (t : List ℕ). OptionsTail log'.options Begins log'.last b.chosen t) (sym flags.1) b.options) in
+    let behind : a.behind ≡ b.behind = (split a.chosen b.chosen a.behind b.behind flags.1 (ap length once.3)).1 in
+    let requests = requests-once log.turns log'.turns ending ending' a.asked b.asked a.behind a.requests
+    (subst (λ (t : List ℕ). RequestsTail log'.turns ending' b.asked t) (sym behind) b.requests) in (
+      record {
+        stage = a.stage ∙ sym b.stage;
+        flags = flags.0;
+        options = once.0;
+        last = once.2;
+        asked = requests.0;
+        taken = a.taken_is ∙ ap (λ t. u32_text log.flags ++ (t ++ a.asked)) once.3 ∙ ap (λ t. u32_text log.flags ++ (b.chosen ++ t)) requests.2
+            ∙ ap (λ f. u32_text f ++ (b.chosen ++ b.asked)) flags.0 ∙ sym b.taken_is;
+      },
+      requests.1,
     )
 
-abbrev Same : Stage → Stage → List Turn → List Turn → Ending → Ending → List ℕ → List ℕ → Type 0
-Same stage stage' turns turns' ending ending' taken taken' =
-    (stage ≡ stage') × (asked_of turns ≡ asked_of turns') × (ending ≡ ending') × (taken ≡ taken')
-
-greeted-once : (export : Export) (turns turns' : List Turn) (ending ending' : Ending) (taken taken' input : List ℕ) →
-    Reads export greeted turns ending taken input → Reads export greeted turns' ending' taken' input →
-    Same greeted greeted turns turns' ending ending' taken taken'
-greeted-once export turns turns' ending ending' taken taken' input a b =
-    let same = before-once HELLO ending ending' taken taken' input (omega arith) a.by_input b.by_input
-    (greeted-before export turns ending taken input a) (greeted-before export turns' ending' taken' input b) in
-    (refl, ap asked_of (a.is_input.0 ∙ sym b.is_input.0), same.0, same.1)
-
-agreed-once : (export : Export) (turns turns' : List Turn) (ending ending' : Ending) (taken taken' input : List ℕ) →
-    Reads export agreed turns ending taken input → Reads export agreed turns' ending' taken' input →
-    Same agreed agreed turns turns' ending ending' taken taken'
-agreed-once export turns turns' ending ending' taken taken' input a b =
-    let x = agreed-before export turns ending taken input a in
-    let y = agreed-before export turns' ending' taken' input b in
-    let all = append_cancel_left HELLO (b.is_input.1.0 ++ b.rest) (a.is_input.1.0 ++ a.rest) (sym y.1 ∙ x.1) in
-    let same = before-once GO ending ending' a.is_input.1.0 b.is_input.1.0 (a.is_input.1.0 ++ a.rest) (omega arith) a.by_input b.by_input
-    x.2 (subst (λ (t : List ℕ). Before GO ending' b.is_input.1.0 t) all y.2) in
-    (refl, ap asked_of (a.is_input.0 ∙ sym b.is_input.0), same.0, x.0 ∙ ap (λ t. HELLO ++ t) same.1 ∙ sym y.0)
-
-served-once : (export : Export) (turns turns' : List Turn) (ending ending' : Ending) (taken taken' input : List ℕ) →
-    Reads export served turns ending taken input → Reads export served turns' ending' taken' input →
-    Same served served turns turns' ending ending' taken taken'
-served-once export turns turns' ending ending' taken taken' input a b =
-    let x = served-tail export turns ending taken input a in
-    let y = served-tail export turns' ending' taken' input b in
-    let all = append_cancel_left GO y.1 x.1 (append_cancel_left HELLO (GO ++ y.1) (GO ++ x.1) (sym y.3 ∙ x.3)) in
-    let same = tail-once export 0 turns turns' ending ending' x.0 y.0 x.1 x.4 (subst (λ (t : List ℕ). Tail export 0 turns' ending' y.0 t) all y.4) in
-    (refl, same.0, same.1, x.2 ∙ ap (λ t. HELLO ++ (GO ++ t)) same.2 ∙ sym y.2)
-
--- a session that ended before the client's flags has another input than one that went on
-greeted-never : (export : Export) (turns : List Turn) (ending : Ending) (taken input more : List ℕ) →
-    Reads export greeted turns ending taken input → input ≡ HELLO ++ more → ⊥
-greeted-never export turns ending taken input more a is =
-    before-never HELLO ending taken input more (omega arith) a.by_input (greeted-before export turns ending taken input a) is
-
--- and one that ended before the option another than one that went on
-agreed-never : (export : Export) (turns : List Turn) (ending : Ending) (taken input more : List ℕ) →
-    Reads export agreed turns ending taken input → input ≡ HELLO ++ (GO ++ more) → ⊥
-agreed-never export turns ending taken input more a is =
-    let x = agreed-before export turns ending taken input a in
-    before-never GO ending a.is_input.1.0 (a.is_input.1.0 ++ a.rest) more (omega arith) a.by_input x.2
-    (append_cancel_left HELLO (a.is_input.1.0 ++ a.rest) (GO ++ more) (sym x.1 ∙ is))
-
-pub reads-once : (export : Export) → ReadsOnce export
-reads-once export greeted greeted turns turns' ending ending' taken taken' input a b =
-    greeted-once export turns turns' ending ending' taken taken' input a b
-reads-once export greeted agreed turns turns' ending ending' taken taken' input a b =
-    absurd (greeted-never export turns ending taken input _ a (agreed-before export turns' ending' taken' input b).1)
-reads-once export greeted served turns turns' ending ending' taken taken' input a b =
-    absurd (greeted-never export turns ending taken input _ a (served-tail export turns' ending' taken' input b).3)
-reads-once export agreed greeted turns turns' ending ending' taken taken' input a b =
-    absurd (greeted-never export turns' ending' taken' input _ b (agreed-before export turns ending taken input a).1)
-reads-once export agreed agreed turns turns' ending ending' taken taken' input a b =
-    agreed-once export turns turns' ending ending' taken taken' input a b
-reads-once export agreed served turns turns' ending ending' taken taken' input a b =
-    absurd (agreed-never export turns ending taken input _ a (served-tail export turns' ending' taken' input b).3)
-reads-once export served greeted turns turns' ending ending' taken taken' input a b =
-    absurd (greeted-never export turns' ending' taken' input _ b (served-tail export turns ending taken input a).3)
-reads-once export served agreed turns turns' ending ending' taken taken' input a b =
-    absurd (agreed-never export turns' ending' taken' input _ b (served-tail export turns ending taken input a).3)
-reads-once export served served turns turns' ending ending' taken taken' input a b =
-    served-once export turns turns' ending ending' taken taken' input a b
+pub reads-once : ReadsOnce
+reads-once log log' ending ending' input a b = one-reading log log' ending ending' input (stood log ending input a) (stood log' ending' input b)

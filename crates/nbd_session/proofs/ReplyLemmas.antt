@@ -1,13 +1,17 @@
 -- A text that is put in pieces.
-use Rattle.std.proofs.Common.{◌≡◌, ℕ, ◌^◌, ◌≤◌, ◌<◌, List, [], ◌++◌, Option, Some, None, Result, Ok, Err, length, take, drop, ap, ◌∙◌, refl, sym, subst, arith, append_assoc, append-nil, length-append}
-use Rattle.std.proofs.lemmas.List.{take-append-drop}
+use Rattle.std.proofs.Common.{◌≡◌, ℕ, ◌+◌, ◌^◌, ◌≤◌, ◌<◌, List, [], ◌++◌, Option, Some, None, Result, Ok, Err, length, take, drop, ap, ◌∙◌, refl, sym, subst, arith, append_assoc, append-nil, length-append}
+use Rattle.std.proofs.lemmas.List.{take-append-drop, nil_from_length}
 use Rattle.std.specs.Prelude.{MatchResult}
 use Rattle.base_terms.specs.declared.failed.Failed.{Failed}
 use Rattle.base_terms.specs.Causes.{Rose}
 use Rattle.io_edge.specs.Streams as Streams
+use Rattle.nbd_session.specs.Counts.{capped}
 use Rattle.nbd_session.specs.Putting.{Puts}
+use Rattle.plain_disk.specs.declared.operation.Reply.{Reply}
+use Rattle.nbd_session.specs.Replies.{errno_of, data_of, reply_text}
 use Rattle.nbd_session.specs.Traffic.{Sent}
-use Rattle.nbd_session.proofs.TrafficLemmas.{sent_more, rose_earlier}
+use Rattle.nbd_wire.specs.Replies.{simple_reply_text}
+use Rattle.nbd_session.proofs.TrafficLemmas.{sent_none, sent_more, rose_earlier}
 
 some_list_same : (xs ys : List ℕ) → Some xs ≡ Some ys → xs ≡ ys
 some_list_same xs ys e = cc
@@ -84,3 +88,34 @@ puts-less h h' f f' p p' first second e a =
         );
       },
     )
+
+-- a text that reads otherwise
+pub puts-as : (h h' : Option (List ℕ)) (f f' p p' : ℕ) (text text' : List ℕ) (result : Result (Unit {0}) Failed) → text ≡ text' →
+    ((whole : List ℕ) × (front : List ℕ) × Puts {T = Unit {0}} h h' f f' p p' text result whole front) →
+    (whole : List ℕ) × (front : List ℕ) × Puts {T = Unit {0}} h h' f f' p p' text' result whole front
+puts-as h h' f f' p p' text text' result same puts =
+    subst (λ (t : List ℕ). (whole : List ℕ) × (front : List ℕ) × Puts {T = Unit {0}} h h' f f' p p' t result whole front) same puts
+
+-- a reply's head and data are its text
+pub reply-parts : (cookie error : ℕ) (reply : Reply) (head body : List ℕ) → error ≡ errno_of reply →
+    head ≡ simple_reply_text (record { error = error; cookie = cookie }) → body ≡ data_of reply → head ++ body ≡ reply_text cookie reply
+unfolding reply_text
+reply-parts cookie error reply head body number written data_is =
+    ap (λ h. h ++ body) (written ∙ ap (λ e. simple_reply_text (record { error = e; cookie = cookie })) number)
+    ∙ ap (λ b. simple_reply_text (record { error = errno_of reply; cookie = cookie }) ++ b) data_is
+
+pub reply-bare : (cookie error : ℕ) (reply : Reply) (head body : List ℕ) → error ≡ errno_of reply →
+    head ≡ simple_reply_text (record { error = error; cookie = cookie }) → body ≡ data_of reply → length body ≡ 0 → head ≡ reply_text cookie reply
+reply-bare cookie error reply head body number written data_is none =
+    sym (ap (λ b. head ++ b) (nil_from_length body none) ∙ append-nil head) ∙ reply-parts cookie error reply head body number written data_is
+
+-- a text of two parts that were written one behind the other
+pub pasted-both : (middle after head body : List ℕ) → 16 ≡ 0 + length head → take (0 + length head) middle ≡ head →
+    take (16 + length body) after ≡ take 16 middle ++ body → take (16 + length body) after ≡ head ++ body
+pasted-both middle after head body size first second = second ∙ ap (λ h. h ++ body) (ap (λ n. take n middle) size ∙ first)
+
+-- nothing was put
+pub puts-nothing : (h : Option (List ℕ)) (f p : ℕ) →
+    (whole : List ℕ) × (front : List ℕ) × Puts {T = Unit {0}} h h f f p p [] (Ok tt) whole front
+puts-nothing h f p =
+    ([], [], record { sent = sent_none h; later = omega arith; put = ap capped (omega arith); by_case = (refl, refl, refl) })

@@ -1,111 +1,210 @@
--- A request of which head and body were taken one after the other.
-use Rattle.std.proofs.Common.{◌≡◌, ℕ, ◌+◌, ◌<◌, Bool, true, false, List, ◌++◌, Option, Some, length, take, ap, refl, sym, subst, arith, inr, take_all, length-append}
-use Rattle.std.specs.Prelude.{MatchOption}
-use Rattle.plain_disk.specs.declared.operation.Op.TheVariants as Ops
-use Rattle.nbd_session.specs.declared.ending.Ending.TheVariants.{Unbuilt, ReadFault}
-use Rattle.nbd_session.specs.declared.export.Export.{Export}
-use Rattle.nbd_session.specs.declared.filling.Filled.TheVariants.{Whole}
-use Rattle.nbd_session.specs.declared.messages.Request.TheVariants.{Write}
-use Rattle.nbd_session.specs.declared.requests.Next.{Next}
-use Rattle.nbd_session.specs.declared.requests.Next.TheVariants.{Ask, Short, Stop}
-use Rattle.nbd_session.specs.declared.requests.Body.{Body}
-use Rattle.nbd_session.specs.declared.requests.Body.TheVariants as Bodies
-use Rattle.nbd_session.specs.Counts.{capped}
-use Rattle.nbd_session.specs.Requests.{request_of}
-use Rattle.nbd_session.specs.Session.{IsMessage, IsCut, AsksFor}
-use Rattle.nbd_session.specs.Taking.{BodyIs, NextIs, NextCase}
-use Rattle.nbd_session.specs.Traffic.{Took, Fills, HasEnded}
-use Rattle.nbd_session.proofs.TrafficLemmas.{took_more, ended_later, rose_earlier}
+-- Requests that were served, joined.
+use Rattle.std.proofs.Common.{◌≡◌, ℕ, ◌+◌, ◌^◌, ◌<◌, ◌≤◌, Bool, true, false, List, [], ◌∷◌, ◌++◌, Option, Some, None, Ok, Err, length, ap, ◌∙◌, refl, sym, subst, arith, append_assoc, append-nil, length-append}
+use Rattle.base_terms.specs.declared.failed.Failed.{Failed}
+use Rattle.plain_disk.specs.declared.operation.Op.{Op}
+use Rattle.plain_disk.specs.Plain.{Exchange}
+use Rattle.plain_disk.specs.declared.operation.Reply.TheVariants.{Errno}
+use Rattle.nbd_session.specs.declared.ending.Ending.{Ending}
+use Rattle.nbd_session.specs.declared.ending.Ending.TheVariants.{TooMany, PortSpent, WriteFault}
+use Rattle.nbd_session.specs.declared.requests.Next.TheVariants.{Ask, Refuse, Stop}
+use Rattle.nbd_session.specs.Grammar.{StopsRequests, EndsRequests, IsCount, RequestsEnd, AreRequests}
+use Rattle.nbd_session.specs.Moments.{Moment, Talks, calm, trouble_of}
+use Rattle.nbd_session.specs.Putting.{Replies}
+use Rattle.nbd_session.specs.Replies.{reply_text}
+use Rattle.nbd_session.specs.Requests.{IsMessage, IsRefusal}
+use Rattle.nbd_session.specs.Serving.{Serves}
+use Rattle.nbd_session.specs.Taking.{NextIs}
+use Rattle.nbd_session.specs.Traffic.{Intake, Takes}
+use Rattle.nbd_session.specs.Turns.{Turn, Spells, IsAnswered, exchange_of, exchanges_of, replies_to}
+use Rattle.nbd_session.proofs.MomentLemmas.{with_sink}
+use Rattle.nbd_session.proofs.TalkLemmas.{talks-none, talks-took, talks-stopped, talks-put, talks-unput, talks-more, talks-answered, talks-on, talks-enough}
 
--- the head of a write, and then so many bytes behind it
-pub record HeadTaken (export : Export) (given given' left left' : Option (List ℕ)) (faults faults' taken taken' : ℕ)
-    (buf : List ℕ) (cookie offset len : ℕ) : Type 0 where
-  pub fills : Fills given given' left left' faults faults' (length buf) Whole (take (length buf) buf)
-  pub size : length buf ≡ 28
-  pub counted : taken' ≡ capped (taken + 28)
-  pub asks : request_of export buf ≡ Some (Write cookie offset len)
+Spells-append : (xs ys : List Turn) (a b : List ℕ) → Spells xs a → Spells ys b → Spells (xs ++ ys) (a ++ b)
+unfolding Spells
+Spells-append [] ys a b first second = subst (λ (bytes : List ℕ). Spells ys bytes) (sym (ap (λ x. x ++ b) first)) second
+Spells-append (x ∷ xs) ys a b first second = (
+  first.0,
+  first.1 ++ b,
+  ap (λ t. t ++ b) first.2 ∙ append_assoc first.0 first.1 b,
+  first.3,
+  first.4,
+  Spells-append xs ys first.1 b first.5 second,
+)
 
-next-joined : (export : Export) (g g' g'' l l' l'' : Option (List ℕ)) (f f' f'' t t' t'' : ℕ) (buf : List ℕ) (cookie offset len : ℕ)
-    (body : Body) (more : List ℕ) (result : Next) (ended : Bool) →
-    HeadTaken export g g' l l' f f' t t' buf cookie offset len → BodyIs g' g'' l' l'' f' f'' t' t'' len body more →
-    (ended ≡ true → HasEnded l' l'') → NextCase export f f'' result (buf ++ more) ended →
-    (x : List ℕ) × (e : Bool) × NextIs export g g'' l l'' f f'' t t'' result x e
-next-joined export g g' g'' l l' l'' f f' f'' t t' t'' buf cookie offset len body more result ended head rest at_end by_case =
-    let whole : take (length buf) buf ≡ buf = take_all (length buf) buf (omega arith) in
-    let took : Took g g' l l' buf = subst (λ (bytes : List ℕ). Took g g' l l' bytes) whole head.fills.took in (
-      buf ++ more,
-      ended,
-      record {
-        took = took_more g g' g'' l l' l'' buf more took rest.took;
-        at_end = λ e. ended_later g g' l l' l'' buf took (at_end e);
-        later = omega (arith, head.fills.later, rest.later);
-        taken = omega (arith, head.counted, rest.taken, length-append buf more, head.size);
-        by_case = by_case;
-      },
-    )
+spells-none : Spells [] []
+unfolding Spells
+spells-none = refl
 
-write-message : (export : Export) (buf more : List ℕ) (cookie offset len : ℕ) → length buf ≡ 28 →
-    request_of export buf ≡ Some (Write cookie offset len) → length more ≡ len →
-    IsMessage export (buf ++ more) cookie (Ops.Write offset more false)
-write-message export buf more cookie offset len size asks is = record {
-  head = buf;
-  body = more;
-  parts = refl;
-  size = size;
-  asks = subst (λ o. MatchOption o ⊥ (λ request. AsksFor request more cookie (Ops.Write offset more false))) (sym asks) (refl, refl, is);
+spells-one : (turn : Turn) (bytes : List ℕ) → IsMessage bytes turn.cookie turn.asked → IsAnswered turn.asked turn.submitted turn.reply turn.tried → Spells (turn ∷ []) bytes
+unfolding Spells
+spells-one turn bytes message answered = (bytes, [], sym (append-nil bytes), message, answered, refl)
+
+pub replies_to-none : replies_to [] ≡ []
+unfolding replies_to
+replies_to-none = refl
+
+replies_to-one : (turn : Turn) → reply_text turn.cookie turn.reply ∷ [] ≡ replies_to (turn ∷ [])
+unfolding replies_to
+replies_to-one turn = refl
+
+replies_to-append : (xs ys : List Turn) → replies_to xs ++ replies_to ys ≡ replies_to (xs ++ ys)
+unfolding replies_to
+replies_to-append [] ys = refl
+replies_to-append (x ∷ xs) ys = ap (λ t. reply_text x.cookie x.reply ∷ t) (replies_to-append xs ys)
+
+pub exchanges_of-append : (xs ys : List Turn) → exchanges_of (xs ++ ys) ≡ exchanges_of xs ++ exchanges_of ys
+unfolding exchanges_of
+exchanges_of-append [] ys = refl
+exchanges_of-append (x ∷ xs) ys =
+    ap (λ t. exchange_of x.asked x.submitted x.reply x.tried ++ t) (exchanges_of-append xs ys)
+    ∙ sym (append_assoc (exchange_of x.asked x.submitted x.reply x.tried) (exchanges_of xs) (exchanges_of ys))
+
+pub exchanges_of-none : exchanges_of [] ≡ []
+unfolding exchanges_of
+exchanges_of-none = refl
+
+pub exchanges_of-one : (turn : Turn) → exchanges_of (turn ∷ []) ≡ exchange_of turn.asked turn.submitted turn.reply turn.tried
+unfolding exchanges_of
+exchanges_of-one turn = append-nil (exchange_of turn.asked turn.submitted turn.reply turn.tried)
+
+-- what the source brings is an end of the requests
+stops-end : (ending : Ending) (ended : Bool) (bytes : List ℕ) → StopsRequests ending ended bytes → EndsRequests ending ended bytes
+stops-end (TooMany m) ended bytes stops = absurd stops
+stops-end WriteFault ended bytes stops = absurd stops
+stops-end PortSpent ended bytes stops = absurd stops
+stops-end _ ended bytes stops = stops
+
+stops-count : (ending : Ending) (ended : Bool) (bytes : List ℕ) (n : ℕ) → StopsRequests ending ended bytes → n < 2 ^ 32 → IsCount (2 ^ 32) ending n
+stops-count (TooMany m) ended bytes n stops fewer = absurd stops
+stops-count WriteFault ended bytes n stops fewer = absurd stops
+stops-count _ ended bytes n stops fewer = fewer
+
+-- the session ended where a request was to come
+pub serves-stop : (a b : Intake) (h : Option (List ℕ)) (k p : ℕ) (ending : Ending) (bytes : List ℕ) (ended : Bool) (n : ℕ) →
+    NextIs a b (Stop ending) bytes ended → n < 2 ^ 32 →
+    Serves n (with_sink a h k p) (with_sink b h k p) (Some ending) [] bytes [] [] ended
+serves-stop a b h k p ending bytes ended n next fewer = record {
+  talks = subst (λ ms. Talks (with_sink a h k p) (with_sink b h k p) (Some ending) bytes ms [] [] ended) (sym replies_to-none)
+      (talks-stopped a b h k p ending bytes ended next.takes next.at_end next.by_case.0);
+  requests_are = record {
+    text = [];
+    bytes = bytes;
+    parts = refl;
+    spells = spells-none;
+    ends = (stops-end ending ended bytes next.by_case.1, stops-count ending ended bytes (n + 0) next.by_case.1 (omega arith));
+  };
 }
 
-pub next-whole : (export : Export) (g g' g'' l l' l'' : Option (List ℕ)) (f f' f'' t t' t'' : ℕ) (buf : List ℕ) (cookie offset len : ℕ)
-    (body : List ℕ) → HeadTaken export g g' l l' f f' t t' buf cookie offset len →
-    ((more : List ℕ) × BodyIs g' g'' l' l'' f' f'' t' t'' len (Bodies.Whole body) more) →
-    (x : List ℕ) × (e : Bool) × NextIs export g g'' l l'' f f'' t t'' (Ask cookie (Ops.Write offset body false)) x e
-next-whole export g g' g'' l l' l'' f f' f'' t t' t'' buf cookie offset len body head rest =
-    next-joined export g g' g'' l l' l'' f f' f'' t t' t'' buf cookie offset len (Bodies.Whole body) rest.0 _ false head rest.1
-    (λ e. absurd (cc)) (
-      subst (λ b. IsMessage export (buf ++ rest.0) cookie (Ops.Write offset b false)) (sym rest.1.by_case.0)
-          (write-message export buf rest.0 cookie offset len head.size head.asks rest.1.by_case.1),
-      omega (arith, head.fills.fewer, rest.1.by_case.2),
+-- the port was spent
+pub serves-spent : (a b : Intake) (h : Option (List ℕ)) (k p : ℕ) (cookie : ℕ) (op : Op) (bytes : List ℕ) (ended : Bool) (n : ℕ) →
+    NextIs a b (Ask cookie op) bytes ended → n < 2 ^ 32 →
+    Serves n (with_sink a h k p) (with_sink b h k p) (Some PortSpent) [] bytes [] [] false
+serves-spent a b h k p cookie op bytes ended n next fewer = record {
+  talks = subst (λ ms. Talks (with_sink a h k p) (with_sink b h k p) (Some PortSpent) bytes ms [] [] false) (sym replies_to-none)
+      (talks-enough _ _ PortSpent bytes [] [] [] refl (talks-took a b h k p bytes next.takes next.by_case.1));
+  requests_are = record {
+    text = [];
+    bytes = bytes;
+    parts = refl;
+    spells = spells-none;
+    ends = ((cookie, op, next.by_case.0), omega arith);
+  };
+}
+
+-- a request was taken, and its reply put or not
+pub serves-turn : (a b : Intake) (h h' : Option (List ℕ)) (k k' p p' : ℕ) (turn : Turn) (bytes : List ℕ) (result : Option Ending) →
+    Takes a b bytes → b.faults ≡ a.faults → IsMessage bytes turn.cookie turn.asked → IsAnswered turn.asked turn.submitted turn.reply turn.tried →
+    ((whole : List ℕ) × (front : List ℕ) × Replies h h' k k' p p' (reply_text turn.cookie turn.reply) result whole front) →
+    (whole : List ℕ) × (front : List ℕ) × ((n : ℕ) → n < 2 ^ 32 → Serves n (with_sink a h k p) (with_sink b h' k' p') result (turn ∷ []) bytes whole front false)
+serves-turn a b h h' k k' p p' turn bytes None takes held message answered replies =
+    let text = reply_text turn.cookie turn.reply in (
+      text,
+      [],
+      λ n fewer. record {
+        talks = subst (λ ms. Talks (with_sink a h k p) (with_sink b h' k' p') None bytes ms text [] false) (replies_to-one turn)
+            (talks-answered _ _ _ None bytes _ _ [] false (talks-took a b h k p bytes takes held) (talks-put b h h' k k' p p' text replies));
+        requests_are = record {
+          text = bytes;
+          bytes = [];
+          parts = sym (append-nil bytes);
+          spells = spells-one turn bytes message answered;
+          ends = refl;
+        };
+      },
+    )
+serves-turn a b h h' k k' p p' turn bytes (Some ending) takes held message answered replies =
+    let text = reply_text turn.cookie turn.reply in
+    let fault = replies.2 in (
+      replies.0,
+      replies.1,
+      λ n fewer. subst (λ e. Serves n (with_sink a h k p) (with_sink b h' k' p') (Some e) (turn ∷ []) bytes replies.0 replies.1 false) (sym fault.0) (record {
+        talks = subst (λ ms. Talks (with_sink a h k p) (with_sink b h' k' p') (Some WriteFault) bytes ms replies.0 replies.1 false) (replies_to-one turn)
+            (talks-answered _ _ _ (Some WriteFault) bytes _ _ replies.1 false (talks-took a b h k p bytes takes held)
+            (talks-unput b h h' k k' p p' text fault.1.0 (replies.0, replies.1, fault.1.1)));
+        requests_are = record {
+          text = bytes;
+          bytes = [];
+          parts = sym (append-nil bytes);
+          spells = spells-one turn bytes message answered;
+          ends = (refl, (omega arith, omega arith));
+        };
+      }),
     )
 
-pub next-short : (export : Export) (g g' g'' l l' l'' : Option (List ℕ)) (f f' f'' t t' t'' : ℕ) (buf : List ℕ) (cookie offset len : ℕ) →
-    HeadTaken export g g' l l' f f' t t' buf cookie offset len →
-    ((more : List ℕ) × BodyIs g' g'' l' l'' f' f'' t' t'' len Bodies.Short more) →
-    (x : List ℕ) × (e : Bool) × NextIs export g g'' l l'' f f'' t t'' (Short cookie) x e
-next-short export g g' g'' l l' l'' f f' f'' t t' t'' buf cookie offset len head rest =
-    next-joined export g g' g'' l l' l'' f f' f'' t t' t'' buf cookie offset len Bodies.Short rest.0 _ false head rest.1
-    (λ e. absurd (cc)) (
-      Ops.Write offset rest.0 false,
-      write-message export buf rest.0 cookie offset len head.size head.asks rest.1.by_case.0,
-      omega (arith, head.fills.fewer, rest.1.by_case.1),
-    )
+-- a request that the session itself refuses
+pub refused-answered : (asked : Option Op) (number : ℕ) → IsRefusal asked number → IsAnswered asked false (Errno number) 0
+refused-answered None number is = (refl, ap Errno is, refl)
+refused-answered (Some op) number is = (ap Errno is, refl)
 
-cut-write : (export : Export) (buf more : List ℕ) (cookie offset len : ℕ) → length buf ≡ 28 →
-    request_of export buf ≡ Some (Write cookie offset len) → length more < len → IsCut export (buf ++ more)
-cut-write export buf more cookie offset len size asks fewer =
-    inr (buf, more, cookie, offset, len, refl, size, asks, fewer)
+pub refused-exchanges : (asked : Option Op) (number : ℕ) → exchange_of asked false (Errno number) 0 ≡ []
+refused-exchanges None number = refl
+refused-exchanges (Some op) number = refl
 
-pub next-ended : (export : Export) (g g' g'' l l' l'' : Option (List ℕ)) (f f' f'' t t' t'' : ℕ) (buf : List ℕ) (cookie offset len : ℕ) →
-    HeadTaken export g g' l l' f f' t t' buf cookie offset len →
-    ((more : List ℕ) × BodyIs g' g'' l' l'' f' f'' t' t'' len Bodies.Ended more) →
-    (x : List ℕ) × (e : Bool) × NextIs export g g'' l l'' f f'' t t'' (Stop Unbuilt) x e
-next-ended export g g' g'' l l' l'' f f' f'' t t' t'' buf cookie offset len head rest =
-    next-joined export g g' g'' l l' l'' f f' f'' t t' t'' buf cookie offset len Bodies.Ended rest.0 _ true head rest.1
-    (λ e. rest.1.by_case.1) (
-      omega (arith, head.fills.fewer, rest.1.by_case.2),
-      inr (
-        (λ empty. let e : length (buf ++ rest.0) ≡ 0 = ap length empty in omega (arith, length-append buf rest.0, head.size)),
-        refl,
-        cut-write export buf rest.0 cookie offset len head.size head.asks rest.1.by_case.0,
-      ),
-    )
+-- nothing was served yet
+pub serves-none : (m : Moment) → Serves 0 m m None [] [] [] [] false
+unfolding replies_to
+serves-none m = record {
+  talks = talks-none m;
+  requests_are = record { text = []; bytes = []; parts = refl; spells = spells-none; ends = refl };
+}
 
-pub next-fault : (export : Export) (g g' g'' l l' l'' : Option (List ℕ)) (f f' f'' t t' t'' : ℕ) (buf : List ℕ) (cookie offset len : ℕ) →
-    HeadTaken export g g' l l' f f' t t' buf cookie offset len →
-    ((more : List ℕ) × BodyIs g' g'' l' l'' f' f'' t' t'' len Bodies.Fault more) →
-    (x : List ℕ) × (e : Bool) × NextIs export g g'' l l'' f f'' t t'' (Stop ReadFault) x e
-next-fault export g g' g'' l l' l'' f f' f'' t t' t'' buf cookie offset len head rest =
-    next-joined export g g' g'' l l' l'' f f' f'' t t' t'' buf cookie offset len Bodies.Fault rest.0 _ false head rest.1
-    (λ e. absurd (cc)) (
-      rose_earlier f f' f'' head.fills.later rest.1.by_case.1,
-      cut-write export buf rest.0 cookie offset len head.size head.asks rest.1.by_case.0,
-    )
+-- requests were served, and then others
+pub serves-more : (a b c : Moment) (result : Option Ending) (k : ℕ) (xs ys : List Turn) (ts us vs ws front : List ℕ) (ended : Bool) →
+    Serves 0 a b None xs ts vs [] false → k ≡ length xs → Serves k b c result ys us ws front ended →
+    Serves 0 a c result (xs ++ ys) (ts ++ us) (vs ++ ws) front ended
+serves-more a b c result k xs ys ts us vs ws front ended first is second =
+    let r = first.requests_are in
+    let s = second.requests_are in
+    let text : ts ≡ r.text = r.parts ∙ ap (λ x. r.text ++ x) r.ends ∙ append-nil r.text in
+    let count : k + length ys ≡ 0 + length (xs ++ ys) = omega (arith, length-append xs ys, is) in
+    record {
+      talks = subst (λ ms. Talks a c result (ts ++ us) ms (vs ++ ws) front ended) (replies_to-append xs ys)
+          (talks-more a b c result ts us _ _ vs ws front ended first.talks second.talks);
+      requests_are = record {
+        text = ts ++ s.text;
+        bytes = s.bytes;
+        parts = ap (λ x. ts ++ x) s.parts ∙ sym (append_assoc ts s.text s.bytes);
+        spells = Spells-append xs ys ts s.text (subst (λ (x : List ℕ). Spells xs x) (sym text) r.spells) s.spells;
+        ends = subst (λ (n : ℕ). RequestsEnd result n ended s.bytes) count s.ends;
+      };
+    }
+
+-- and the session goes on
+pub serves-on : (a b : Moment) (n : ℕ) (xs : List Turn) (ts vs front : List ℕ) (ended : Bool) →
+    Serves n a b None xs ts vs front ended → Serves n a b None xs ts vs [] false
+serves-on a b n xs ts vs front ended serves =
+    let r = serves.requests_are in
+    record {
+      talks = talks-on a b ts (replies_to xs) vs front ended serves.talks;
+      requests_are = record { text = r.text; bytes = r.bytes; parts = r.parts; spells = r.spells; ends = r.ends };
+    }
+
+-- the most requests were served
+pub serves-too_many : (a b : Moment) (xs : List Turn) (ts vs : List ℕ) → Serves 0 a b None xs ts vs [] false → length xs ≡ 2 ^ 32 →
+    Serves 0 a b (Some (TooMany (2 ^ 32))) xs ts vs [] false
+serves-too_many a b xs ts vs serves count =
+    let r = serves.requests_are in
+    record {
+      talks = talks-enough a b (TooMany (2 ^ 32)) ts (replies_to xs) vs [] refl serves.talks;
+      requests_are = record { text = r.text; bytes = r.bytes; parts = r.parts; spells = r.spells; ends = (r.ends, (omega arith, omega arith)) };
+    }

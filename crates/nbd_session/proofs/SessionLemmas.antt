@@ -1,89 +1,82 @@
 -- A whole session of its parts.
-use Rattle.std.proofs.Common.{◌≡◌, ℕ, ◌^◌, ◌<◌, ◌≤◌, Bool, List, [], ◌∷◌, ◌++◌, Option, Some, Ok, Err, length, ap, ◌∙◌, refl, sym, subst, arith, append_assoc, zero-add}
+use Rattle.std.proofs.Common.{◌≡◌, ℕ, ◌+◌, ◌^◌, ◌<◌, Bool, true, false, List, [], ◌∷◌, ◌++◌, Option, Some, None, Ok, Err, length, ap, ◌∙◌, refl, sym, subst, arith, append_assoc, append-nil}
 use Rattle.nbd_session.specs.declared.ending.Ending.{Ending}
 use Rattle.nbd_session.specs.declared.ending.SessionEnd.{SessionEnd}
 use Rattle.nbd_session.specs.declared.export.Export.{Export}
-use Rattle.nbd_session.specs.declared.messages.TheConstants.{GREETING, HELLO, GO}
-use Rattle.nbd_session.specs.Moments.{Moment, Traffic, moment}
+use Rattle.nbd_session.specs.declared.options.Course.TheVariants.{Begins}
+use Rattle.nbd_session.specs.Grammar.{AreOptions, AreRequests, answers_to, last_answer}
+use Rattle.nbd_session.specs.Moments.{Moment, Talks, moment}
 use Rattle.nbd_session.specs.Negotiation.{Negotiates}
-use Rattle.nbd_session.specs.Replies.{go_text}
 use Rattle.nbd_session.specs.Serving.{Serves}
-use Rattle.nbd_session.specs.Session.{Stage, served, Turn, Log, GoesOut, IsCount, IsSession, replies_text, last_reply, last_answer}
-use Rattle.nbd_session.proofs.TrafficLemmas.{ended_later}
-use Rattle.nbd_session.proofs.MomentLemmas.{traffic_more}
-use Rattle.nbd_session.proofs.ServingLemmas.{goes_out-more, causes-earlier}
+use Rattle.nbd_session.specs.Session.{Stage, greeted, negotiating, served, Log, IsInput, IsUnserved, IsSession, greeting, messages_of, no_zeroes}
+use Rattle.nbd_session.specs.Turns.{Turn, replies_to}
+use Rattle.nbd_session.proofs.TalkLemmas.{talks-on, talks-more}
+use Rattle.nbd_wire.specs.Fields.{u32_text}
+
+unserved-input : (stage : Stage) (log : Log) (ending : Ending) → log.turns ≡ [] → IsUnserved stage log ending → IsInput stage log ending
+unserved-input served log ending none is = absurd is
+unserved-input greeted log ending none is = (none, is)
+unserved-input negotiating log ending none is = (none, is)
 
 -- a session that ended before its requests
-pub session-early : (export : Export) (a b : Moment) (ending : Ending) →
-    a.taken ≡ 0 → a.put ≡ 0 → b.taken < 2 ^ 64 → b.put < 2 ^ 64 →
-    (begun : (stage : Stage) × (taken : List ℕ) × (whole : List ℕ) × (front : List ℕ) × (ended : Bool) × Negotiates export a b (Err ending) stage taken whole front ended) →
-    IsSession export (record { number = export.number; ending = ending; taken = b.taken; put = b.put }) a b
-    (record { stage = begun.0; taken = begun.1; whole = begun.2; front = begun.3; turns = []; ended = begun.4 })
-session-early export a b ending none_taken none_put taken_fits put_fits begun =
-    let n = begun.5 in
-    record {
-      number = refl;
-      input = n.by_case.0;
-      output = n.by_case.1;
-      taken = omega (arith, n.traffic.counted_in);
-      put = omega (arith, n.traffic.counted_out);
-      traffic = n.traffic;
-      at_end = n.at_end;
-      causes = n.by_case.2;
-    }
+pub session-early : (export : Export) (a b : Moment) (ending : Ending) (log : Log) →
+    a.taken ≡ 0 → a.put ≡ 0 → b.taken < 2 ^ 64 → b.put < 2 ^ 64 → Negotiates export a b (Err ending) log →
+    IsSession export (record { number = export.number; ending = ending; taken = b.taken; put = b.put }) a b log
+session-early export a b ending log none_taken none_put taken_fits put_fits n = record {
+  number = refl;
+  input = unserved-input log.stage log ending n.none_asked n.by_case;
+  talks = n.talks;
+  taken = omega (arith, n.talks.traffic.counted_in);
+  put = omega (arith, n.talks.traffic.counted_out);
+}
 
--- what a negotiation that came to the requests took and put
-begun-traffic : (export : Export) (a b : Moment) (stage : Stage) (taken whole front : List ℕ) (ended : Bool) →
-    Negotiates export a b (Ok tt) stage taken whole front ended → Traffic a b (HELLO ++ GO) (GREETING ++ go_text export) []
-begun-traffic export a b stage taken whole front ended n =
-    subst (λ (f : List ℕ). Traffic a b (HELLO ++ GO) (GREETING ++ go_text export) f) n.by_case.2
-    (subst (λ (w : List ℕ). Traffic a b (HELLO ++ GO) w front) n.by_case.1
-    (subst (λ (t : List ℕ). Traffic a b t whole front) n.by_case.0 n.traffic))
-
-abbrev pub served-log : List Turn → List ℕ → List ℕ → List ℕ → Bool → Export → Log
-served-log turns taken whole front ended export = record {
+abbrev pub served-log : Log → List Turn → List ℕ → List ℕ → List ℕ → Bool → Log
+served-log log turns taken whole front ended = record {
   stage = served;
-  taken = (HELLO ++ GO) ++ taken;
-  whole = (GREETING ++ go_text export) ++ whole;
-  front = front;
+  flags = log.flags;
+  options = log.options;
+  last = log.last;
   turns = turns;
+  taken = log.taken ++ taken;
+  whole = log.whole ++ whole;
+  front = front;
   ended = ended;
 }
 
-last_reply-last : (export : Export) (turns : List Turn) → length (last_reply turns) ≤ length (last_answer export served turns)
-unfolding last_reply
-last_reply-last export [] = omega arith
-last_reply-last export (turn ∷ turns) = omega arith
+served-messages : (export : Export) (log : Log) (turns : List Turn) (taken whole front : List ℕ) (ended : Bool) → log.turns ≡ [] →
+    messages_of export log ++ replies_to turns ≡ messages_of export (served-log log turns taken whole front ended)
+unfolding replies_to
+served-messages export log turns taken whole front ended none =
+    let said = answers_to export (no_zeroes log.flags) log.options ++ last_answer export (no_zeroes log.flags) log.last in
+    ap (λ ts. (greeting ∷ (said ++ replies_to ts)) ++ replies_to turns) none
+    ∙ ap (λ x. (greeting ∷ x) ++ replies_to turns) (append-nil said)
 
 -- a session that came to its requests
-pub session-served : (export : Export) (a b c : Moment) (ending : Ending) (turns : List Turn) (taken whole front : List ℕ) (ended : Bool) →
-    a.taken ≡ 0 → a.put ≡ 0 → c.taken < 2 ^ 64 → c.put < 2 ^ 64 →
-    ((stage : Stage) × (taken : List ℕ) × (whole : List ℕ) × (front : List ℕ) × (ended : Bool) × Negotiates export a b (Ok tt) stage taken whole front ended) →
-    Serves export 0 b c (Some ending) turns taken whole front ended →
-    IsSession export (record { number = export.number; ending = ending; taken = c.taken; put = c.put }) a c (served-log turns taken whole front ended export)
-session-served export a b c ending turns taken whole front ended none_taken none_put taken_fits put_fits begun serves =
-    let before = begun-traffic export a b begun.0 begun.1 begun.2 begun.3 begun.4 begun.5 in
-    let all = traffic_more a b c (HELLO ++ GO) taken (GREETING ++ go_text export) whole front before serves.traffic in
-    let e = serves.by_case in
+pub session-served : (export : Export) (a b c : Moment) (ending : Ending) (log : Log) (turns : List Turn) (taken whole front : List ℕ) (ended : Bool) →
+    a.taken ≡ 0 → a.put ≡ 0 → c.taken < 2 ^ 64 → c.put < 2 ^ 64 → Negotiates export a b (Ok tt) log →
+    Serves 0 b c (Some ending) turns taken whole front ended →
+    IsSession export (record { number = export.number; ending = ending; taken = c.taken; put = c.put }) a c (served-log log turns taken whole front ended)
+session-served export a b c ending log turns taken whole front ended none_taken none_put taken_fits put_fits n serves =
+    let begun = n.by_case in
+    let talks = subst (λ ms. Talks a c (Some ending) (log.taken ++ taken) ms (log.whole ++ whole) front ended)
+    (served-messages export log turns taken whole front ended n.none_asked)
+    (talks-more a b c (Some ending) log.taken taken (messages_of export log) (replies_to turns) log.whole whole front ended
+    (talks-on a b log.taken (messages_of export log) log.whole log.front log.ended n.talks) serves.talks) in
     record {
       number = refl;
       input = (
-        e.text,
-        e.bytes,
-        ap (λ x. (HELLO ++ GO) ++ x) e.parts ∙ append_assoc HELLO GO (e.text ++ e.bytes),
-        e.spells,
-        e.ends,
-        subst (λ (n : ℕ). IsCount ending n) (zero-add (length turns)) e.count,
+        begun.0,
+        taken,
+        record {
+          fit = begun.1.fit;
+          parts = ap (λ x. x ++ taken) begun.1.parts ∙ append_assoc (u32_text log.flags) begun.0 taken;
+        },
+        begun.2,
+        subst (λ (k : ℕ). AreRequests (Some ending) turns k taken ended) (omega arith) serves.requests_are,
       );
-      output = subst (λ (text : List ℕ). GoesOut ending (last_answer export served turns) text ((GREETING ++ go_text export) ++ whole) front)
-          (append_assoc GREETING (go_text export) (replies_text turns))
-          (goes_out-more ending (last_reply turns) (last_answer export served turns) (GREETING ++ go_text export) (replies_text turns) whole front
-          (last_reply-last export turns) e.goes_out);
-      taken = omega (arith, all.counted_in);
-      put = omega (arith, all.counted_out);
-      traffic = all;
-      at_end = λ is. ended_later _ _ _ _ _ (HELLO ++ GO) before.took (serves.at_end is);
-      causes = causes-earlier a b c ending begun.5.by_case.3 e.causes;
+      talks = talks;
+      taken = omega (arith, talks.traffic.counted_in);
+      put = omega (arith, talks.traffic.counted_out);
     }
 
 -- a session told of the end that was made

@@ -1,29 +1,50 @@
--- How a session begins.
-use Rattle.std.specs.Prelude.{ℕ, ◌≡◌, ◌+◌, ◌≤◌, Bool, true, List, [], ◌++◌, length, Option, Result, MatchResult}
+-- How a session begins, step by step.
+use Rattle.std.specs.Prelude.{ℕ, ◌≡◌, ◌+◌, ◌≤◌, ◌<◌, Bool, true, false, List, [], ◌++◌, length, Option, Some, None, Result, Ok, Err, MatchResult}
 use Rattle.nbd_session.specs.declared.ending.Ending.{Ending}
 use Rattle.nbd_session.specs.declared.export.Export.{Export}
-use Rattle.nbd_session.specs.declared.messages.TheConstants.{GREETING, HELLO, GO}
-use Rattle.nbd_session.specs.Counts.{capped}
-use Rattle.nbd_session.specs.Moments.{Moment, Traffic, NoneRose, HasCauses}
-use Rattle.nbd_session.specs.Replies.{go_text}
-use Rattle.nbd_session.specs.Session.{Stage, EndsBefore, IsInput, AnswersOf}
-use Rattle.nbd_session.specs.Taking.{IsStop}
-use Rattle.nbd_session.specs.Traffic.{Took, HasEnded}
+use Rattle.nbd_session.specs.declared.options.ClientOption.{ClientOption}
+use Rattle.nbd_session.specs.declared.options.Course.{Course}
+use Rattle.nbd_session.specs.declared.options.Course.TheVariants.{GoesOn, Begins, Ends}
+use Rattle.nbd_session.specs.Grammar.{StopsFlags, AreOptions, answers_to, last_answer}
+use Rattle.nbd_session.specs.Moments.{Moment, Talks, trouble_of}
+use Rattle.nbd_session.specs.Session.{Log, IsBegun, IsUnserved, messages_of}
+use Rattle.nbd_session.specs.Taking.{StopsBy}
+use Rattle.nbd_session.specs.Traffic.{Intake, Takes, HasEnded}
+use Rattle.nbd_wire.specs.declared.handshake.ClientFlags.{ClientFlags}
+use Rattle.nbd_wire.specs.Fields.{u32_text}
 
--- one message was waited for, and these bytes were taken
-pub record ExpectIs (old_given new_given old_left new_left : Option (List ℕ)) (old_faults new_faults old_taken new_taken : ℕ)
-    (message : List ℕ) (result : Result (Unit {0}) Ending) (bytes : List ℕ) (ended : Bool) : Type 0 where
-  pub took : Took old_given new_given old_left new_left bytes
-  pub at_end : ended ≡ true → HasEnded old_left new_left
-  pub later : old_faults ≤ new_faults
-  pub taken : new_taken ≡ capped (old_taken + length bytes)
-  pub by_case : MatchResult result (λ _. (bytes ≡ message) × (new_faults ≡ old_faults)) (λ ending. IsStop old_faults new_faults ending × EndsBefore message ending ended bytes)
+-- the client's flags were waited for, and these bytes were taken
+pub record FlagsAre (old new : Intake) (result : Result ClientFlags Ending) (bytes : List ℕ) (ended : Bool) : Type 0 where
+  pub takes : Takes old new bytes
+  pub at_end : ended ≡ true → HasEnded old.left new.left
+  pub by_case : MatchResult result (λ flags. (bytes ≡ u32_text flags.bits) × (flags.bits < 4) × (new.faults ≡ old.faults))
+      (λ ending. StopsBy old.faults new.faults (trouble_of ending) × StopsFlags ending ended bytes)
+
+-- the ending that a course brings
+abbrev pub ending_in : Course → Option Ending
+ending_in GoesOn = None
+ending_in Begins = None
+ending_in (Ends ending) = Some ending
+
+-- options were taken and answered, behind `n` earlier ones
+pub record Answers (export : Export) (no_zeroes : Bool) (n : ℕ) (old new : Moment) (course : Course) (options : List ClientOption)
+    (last : Option ClientOption) (taken whole front : List ℕ) (ended : Bool) : Type 0 where
+  pub talks : Talks old new (ending_in course) taken (answers_to export no_zeroes options ++ last_answer export no_zeroes last) whole front ended
+  pub options_are : AreOptions course options last (n + length options) taken ended
+
+-- the course after which a negotiation has this result
+abbrev pub course_to : Result (Unit {0}) Ending → Course
+course_to (Ok u) = Begins
+course_to (Err ending) = Ends ending
+
+-- options were taken and answered up to the one that begins the requests, or the session ended
+abbrev pub Agrees : Export → Bool → Moment → Moment → Result (Unit {0}) Ending → List ClientOption → Option ClientOption →
+    List ℕ → List ℕ → List ℕ → Bool → Type 0
+Agrees export no_zeroes old new result options last taken whole front ended =
+    Answers export no_zeroes 0 old new (course_to result) options last taken whole front ended
 
 -- the client agreed on the export, or the session ended before
-pub record Negotiates (export : Export) (old new : Moment) (result : Result (Unit {0}) Ending) (stage : Stage)
-    (taken whole front : List ℕ) (ended : Bool) : Type 0 where
-  pub traffic : Traffic old new taken whole front
-  pub at_end : ended ≡ true → HasEnded old.left new.left
-  pub by_case : MatchResult result
-      (λ _. (taken ≡ HELLO ++ GO) × (whole ≡ GREETING ++ go_text export) × (front ≡ []) × NoneRose old new)
-      (λ ending. IsInput export stage [] ending ended taken × AnswersOf export ending stage [] whole front × HasCauses old new ending)
+pub record Negotiates (export : Export) (old new : Moment) (result : Result (Unit {0}) Ending) (log : Log) : Type 0 where
+  pub talks : Talks old new (ending_in (course_to result)) log.taken (messages_of export log) log.whole log.front log.ended
+  pub none_asked : log.turns ≡ []
+  pub by_case : MatchResult result (λ _. IsBegun log) (λ ending. IsUnserved log.stage log ending)

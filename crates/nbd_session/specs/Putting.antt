@@ -1,7 +1,9 @@
 -- What is put of one text.
-use Rattle.std.specs.Prelude.{ℕ, ◌≡◌, ◌+◌, ◌≤◌, List, [], ◌++◌, length, Option, Result, MatchResult}
+use Rattle.std.specs.Prelude.{ℕ, ◌≡◌, ◌+◌, ◌≤◌, List, [], ◌++◌, length, Option, MatchOption, Result, Ok, Err, MatchResult}
 use Rattle.base_terms.specs.declared.failed.Failed.{Failed}
 use Rattle.base_terms.specs.Causes.{Rose}
+use Rattle.nbd_session.specs.declared.ending.Ending.{Ending}
+use Rattle.nbd_session.specs.declared.ending.Ending.TheVariants.{WriteFault}
 use Rattle.nbd_session.specs.Counts.{capped}
 use Rattle.nbd_session.specs.Traffic.{Sent}
 
@@ -11,6 +13,13 @@ pub record Puts {T : Type 0} (old_had new_had : Option (List ℕ)) (old_faults n
     (text : List ℕ) (result : Result T Failed) (whole front : List ℕ) : Type 0 where
   pub sent : Sent old_had new_had (whole ++ front)
   pub later : old_faults ≤ new_faults
-  pub put : new_put ≡ capped (old_put + length whole)
+  pub put : capped new_put ≡ capped (old_put + length whole)
   pub by_case : MatchResult result (λ _. (whole ≡ text) × (front ≡ []) × (new_faults ≡ old_faults))
       (λ _. Rose old_faults new_faults × ((rest : List ℕ) × (text ≡ whole ++ (front ++ rest))))
+
+-- a reply was put whole, or the sink failed
+abbrev pub Replies : Option (List ℕ) → Option (List ℕ) → ℕ → ℕ → ℕ → ℕ → List ℕ → Option Ending → List ℕ → List ℕ → Type 0
+Replies old_had new_had old_faults new_faults old_put new_put text result whole front =
+    MatchOption result (Puts {T = Unit {0}} old_had new_had old_faults new_faults old_put new_put text (Ok tt) whole front)
+    (λ ending. (ending ≡ WriteFault)
+    × ((failed : Failed) × Puts {T = Unit {0}} old_had new_had old_faults new_faults old_put new_put text (Err failed) whole front))

@@ -1,44 +1,48 @@
 -- An input is read in one way.
-use Rattle.std.specs.Prelude.{ℕ, ◌≡◌, Bool, true, List, [], ◌∷◌, ◌++◌}
+use Rattle.std.specs.Prelude.{ℕ, ◌≡◌, Bool, true, List, [], ◌∷◌, ◌++◌, map, Option}
 use Rattle.plain_disk.specs.declared.operation.Op.{Op}
 use Rattle.nbd_session.specs.declared.ending.Ending.{Ending}
-use Rattle.nbd_session.specs.declared.ending.Ending.TheVariants.{Disconnected, Closed, Unbuilt, TooMany, ReadFault, WriteFault, Memory}
-use Rattle.nbd_session.specs.declared.export.Export.{Export}
-use Rattle.nbd_session.specs.Session.{Stage, Turn, IsInput}
+use Rattle.nbd_session.specs.declared.ending.Ending.TheVariants.{PortSpent, ReadFault, WriteFault, Memory}
+use Rattle.nbd_session.specs.Session.{Log, IsInput}
+use Rattle.nbd_session.specs.Turns.{Turn}
 
--- what a client asks: its cookie and the operation
+-- what a client asks: its cookie and the operation, if it is one
 pub record Asked : Type 0 where
   pub cookie : ℕ
-  pub op : Op
+  pub asked : Option Op
 
 -- what was asked of a session
 unfoldable pub asked_of : List Turn → List Asked
-asked_of [] = []
-asked_of (turn ∷ turns) = record { cookie = turn.cookie; op = turn.op } ∷ asked_of turns
+asked_of turns = map (λ turn. record { cookie = turn.cookie; asked = turn.asked }) turns
 
--- an ending that the input brings, and no fault nor want of memory
+-- an ending that the input brings, and no fault, no want of memory and no port
 abbrev pub IsByInput : Ending → Type 0
-IsByInput Disconnected = Unit {0}
-IsByInput Closed = Unit {0}
-IsByInput Unbuilt = Unit {0}
-IsByInput (TooMany n) = Unit {0}
+IsByInput PortSpent = ⊥
 IsByInput ReadFault = ⊥
 IsByInput WriteFault = ⊥
 IsByInput Memory = ⊥
+IsByInput _ = Unit {0}
 
--- a session with these requests and this ending takes these bytes of an input
-pub record Reads (export : Export) (stage : Stage) (turns : List Turn) (ending : Ending) (taken input : List ℕ) : Type 0 where
+-- a session with this log and this ending takes its bytes from the front of an input
+pub record Reads (log : Log) (ending : Ending) (input : List ℕ) : Type 0 where
   pub rest : List ℕ
-  pub parts : input ≡ taken ++ rest
-  pub ended : Bool
-  pub at_end : ended ≡ true → rest ≡ []
+  pub parts : input ≡ log.taken ++ rest
+  pub at_end : log.ended ≡ true → rest ≡ []
   pub by_input : IsByInput ending
-  pub is_input : IsInput export stage turns ending ended taken
+  pub is_input : IsInput log.stage log ending
 
--- two sessions with one input come equally far, are asked the same, end in the same way and take
--- the same bytes
-abbrev pub ReadsOnce : Export → Type 0
-ReadsOnce export =
-    (stage stage' : Stage) (turns turns' : List Turn) (ending ending' : Ending) (taken taken' input : List ℕ) →
-    Reads export stage turns ending taken input → Reads export stage' turns' ending' taken' input →
-    (stage ≡ stage') × (asked_of turns ≡ asked_of turns') × (ending ≡ ending') × (taken ≡ taken')
+-- two logs tell of the same reading
+pub record AreOneReading (log log' : Log) : Type 0 where
+  pub stage : log.stage ≡ log'.stage
+  pub flags : log.flags ≡ log'.flags
+  pub options : log.options ≡ log'.options
+  pub last : log.last ≡ log'.last
+  pub asked : asked_of log.turns ≡ asked_of log'.turns
+  pub taken : log.taken ≡ log'.taken
+
+-- two sessions with one input come equally far, have the same flags and options, are asked the same, end
+-- in the same way and take the same bytes
+abbrev pub ReadsOnce : Type 0
+ReadsOnce =
+    (log log' : Log) (ending ending' : Ending) (input : List ℕ) → Reads log ending input → Reads log' ending' input →
+    AreOneReading log log' × (ending ≡ ending')

@@ -1,36 +1,76 @@
--- The messages of a session, on whole strings of bytes.
-use Rattle.std.specs.Prelude.{ℕ, ◌+◌, ◌==◌, not, ◌||◌, nat_lt, if◌then◌else◌, List, [], ◌∷◌, slice_index, Option, Some, None, is_some}
-use Rattle.std.specs.Int.{w16, w32, w64, from_be_bytes}
+-- What a client asks by a request.
+use Rattle.std.specs.Prelude.{ℕ, ◌≡◌, ◌⊎◌, ◌<◌, ◌==◌, nat_lt, if◌then◌else◌, List, ◌++◌, length, Option, Some, None}
+use Rattle.plain_disk.specs.declared.operation.Op.{Op}
 use Rattle.plain_disk.specs.declared.operation.Op.TheVariants as Ops
-use Rattle.plain_disk.specs.Operations.{wrong_of, wrong_range_of}
-use Rattle.nbd_session.specs.declared.export.Export.{Export}
-use Rattle.nbd_session.specs.declared.messages.Request.{Request}
-use Rattle.nbd_session.specs.declared.messages.Request.TheVariants.{Read, Write, Flush, Disconnect}
+use Rattle.nbd_session.specs.declared.ending.Ending.{Ending}
+use Rattle.nbd_session.specs.declared.ending.Ending.TheVariants.{Disconnected, TooLong}
+use Rattle.nbd_wire.specs.declared.requests.CommandType.{CommandType}
+use Rattle.nbd_wire.specs.declared.requests.CommandType.TheVariants.{Read, Write, Disc, Flush}
+use Rattle.nbd_wire.specs.declared.requests.RequestHead.{RequestHead}
+use Rattle.nbd_wire.specs.Requests.{IsRequestHead, request_text}
 
--- the numbers that stand big-endian at a place, of 2, 4 and 8 bytes
-abbrev pub number2 : List ℕ → ℕ → ℕ
-number2 xs at = from_be_bytes w16 (slice_index xs at ∷ slice_index xs (at + 1) ∷ [])
+-- the ending that a request's head brings: DISC, and a write of more than 33554432 bytes
+abbrev pub ending_by : CommandType → ℕ → Option Ending
+ending_by Disc len = Some Disconnected
+ending_by Write len = if nat_lt 33554432 len then Some (TooLong len) else None
+ending_by _ len = None
 
-abbrev pub number4 : List ℕ → ℕ → ℕ
-number4 xs at =
-    from_be_bytes w32 (slice_index xs at ∷ slice_index xs (at + 1) ∷ slice_index xs (at + 2) ∷ slice_index xs (at + 3) ∷ [])
+unfoldable pub ending_of : RequestHead → Option Ending
+ending_of head = ending_by head.command head.length
 
-abbrev pub number8 : List ℕ → ℕ → ℕ
-number8 xs at =
-    from_be_bytes w64 (slice_index xs at ∷ slice_index xs (at + 1) ∷ slice_index xs (at + 2) ∷ slice_index xs (at + 3)
-    ∷ slice_index xs (at + 4) ∷ slice_index xs (at + 5) ∷ slice_index xs (at + 6) ∷ slice_index xs (at + 7) ∷ [])
+-- how many bytes of data are behind a request's head
+abbrev pub data_length_by : CommandType → ℕ → ℕ
+data_length_by Write len = len
+data_length_by _ len = 0
 
--- the types of requests that are served: READ 0, WRITE 1, DISC 2, FLUSH 3
-abbrev pub request_of_kind : Export → ℕ → ℕ → ℕ → ℕ → Option Request
-request_of_kind export kind cookie offset len =
-    if kind == 0 then (if is_some (wrong_of export.atom export.size (Ops.Read offset len)) then None else Some (Read cookie offset len))
-    else (if kind == 1 then
-    (if nat_lt 33554432 len || is_some (wrong_range_of export.atom export.size offset len 0) then None else Some (Write cookie offset len))
-    else (if kind == 2 then Some Disconnect else (if kind == 3 then Some (Flush cookie) else None)))
+unfoldable pub data_length : RequestHead → ℕ
+data_length head = data_length_by head.command head.length
 
--- the request of a head of 28 bytes, None where it isn't one that is served
-unfoldable pub request_of : Export → List ℕ → Option Request
-request_of export head =
-    if not (number4 head 0 == 627086611) then None
-    else (if not (number2 head 4 == 0) then None
-    else request_of_kind export (number2 head 6) (number8 head 8) (number8 head 16) (number4 head 24))
+-- the operation of a type that is served
+abbrev pub operation_by : CommandType → ℕ → ℕ → ℕ → List ℕ → Option Op
+operation_by Read flags offset len body = Some (Ops.Read offset len)
+operation_by Write flags offset len body = Some (Ops.Write offset body (flags == 1))
+operation_by Flush flags offset len body = Some Ops.Flush
+operation_by _ flags offset len body = None
+
+-- the operation of a request with this data; None of a type that isn't served, and where there is another
+-- flag than "force unit access" (bit 0)
+unfoldable pub operation_of : RequestHead → List ℕ → Option Op
+operation_of head body =
+    if nat_lt 1 head.flags.bits then None else operation_by head.command head.flags.bits head.offset head.length body
+
+-- the bytes are one whole request under this cookie, with this operation if any, after which the session
+-- goes on
+pub record IsMessage (bytes : List ℕ) (cookie : ℕ) (asked : Option Op) : Type 0 where
+  pub head : RequestHead
+  pub body : List ℕ
+  pub is_head : IsRequestHead head
+  pub parts : bytes ≡ request_text head ++ body
+  pub size : length body ≡ data_length head
+  pub goes_on : ending_of head ≡ None
+  pub cookie_is : cookie ≡ head.cookie
+  pub asks : asked ≡ operation_of head body
+
+-- a front of such a request, and less than all of it: of its head, or of its data
+pub record IsCutData (bytes : List ℕ) : Type 0 where
+  pub head : RequestHead
+  pub body : List ℕ
+  pub is_head : IsRequestHead head
+  pub parts : bytes ≡ request_text head ++ body
+  pub fewer : length body < data_length head
+  pub goes_on : ending_of head ≡ None
+
+abbrev pub IsCutRequest : List ℕ → Type 0
+IsCutRequest bytes = (length bytes < 28) ⊎ IsCutData bytes
+
+-- the bytes are the head of a request that brings this ending
+pub record IsLastHead (bytes : List ℕ) (ending : Ending) : Type 0 where
+  pub head : RequestHead
+  pub is_head : IsRequestHead head
+  pub parts : bytes ≡ request_text head
+  pub brings : ending_of head ≡ Some ending
+
+-- the number with which the session itself answers: 22 what is no operation, 12 where memory is wanted
+abbrev pub IsRefusal : Option Op → ℕ → Type 0
+IsRefusal None number = number ≡ 22
+IsRefusal (Some op) number = number ≡ 12

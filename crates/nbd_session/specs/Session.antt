@@ -1,179 +1,82 @@
 -- A whole session, on whole strings of bytes.
-use Rattle.std.specs.Prelude.{ℕ, ◌≡◌, ◌≢◌, ◌^◌, ◌<◌, ◌≤◌, ◌⊎◌, Bool, true, false, List, [], ◌∷◌, ◌++◌, length, Some, None, MatchOption, if◌then◌else◌}
-use Rattle.plain_disk.specs.declared.operation.Op.{Op}
-use Rattle.plain_disk.specs.declared.operation.Op.TheVariants as Ops
-use Rattle.plain_disk.specs.declared.operation.Reply.{Reply}
-use Rattle.plain_disk.specs.declared.operation.Reply.TheVariants.{Errno}
-use Rattle.plain_disk.specs.Plain.{Exchange}
+use Rattle.std.specs.Prelude.{ℕ, ◌≡◌, ◌<◌, ◌⊎◌, Bool, true, false, not, ◌==◌, List, [], ◌∷◌, ◌++◌, length, bit_and, Option, Some, None}
 use Rattle.nbd_session.specs.declared.ending.Ending.{Ending}
-use Rattle.nbd_session.specs.declared.ending.Ending.TheVariants.{Disconnected, Closed, Unbuilt, TooMany, ReadFault, WriteFault, Memory}
+use Rattle.nbd_session.specs.declared.ending.Ending.TheVariants.{WriteFault}
 use Rattle.nbd_session.specs.declared.ending.SessionEnd.{SessionEnd}
 use Rattle.nbd_session.specs.declared.export.Export.{Export}
-use Rattle.nbd_session.specs.declared.messages.Request.{Request}
-use Rattle.nbd_session.specs.declared.messages.Request.TheVariants.{Read, Write, Flush, Disconnect}
-use Rattle.nbd_session.specs.declared.messages.TheConstants.{GREETING, HELLO, GO}
+use Rattle.nbd_session.specs.declared.options.ClientOption.{ClientOption}
+use Rattle.nbd_session.specs.declared.options.Course.TheVariants.{Begins, Ends}
 use Rattle.nbd_session.specs.Counts.{capped}
-use Rattle.nbd_session.specs.Moments.{Moment, Traffic, HasCauses}
-use Rattle.nbd_session.specs.Replies.{reply_text, go_text}
-use Rattle.nbd_session.specs.Requests.{request_of}
-use Rattle.nbd_session.specs.Traffic.{HasEnded}
+use Rattle.nbd_session.specs.Grammar.{StopsFlags, AreOptions, AreRequests, answers_to, last_answer}
+use Rattle.nbd_session.specs.Moments.{Moment, Talks}
+use Rattle.nbd_session.specs.Turns.{Turn, replies_to}
+use Rattle.nbd_wire.specs.Fields.{u32_text}
+use Rattle.nbd_wire.specs.Handshake.{greeting_text}
 
--- A request that was answered: its cookie, its operation and the reply; of a write, how many bytes
--- were tried; and whether it was submitted, which it wasn't where memory was wanted for it.
-pub record Turn : Type 0 where
-  pub cookie : ℕ
-  pub op : Op
-  pub reply : Reply
-  pub tried : ℕ
-  pub submitted : Bool
-
--- a request, with the bytes behind its head, asks for this operation under this cookie
-abbrev pub AsksFor : Request → List ℕ → ℕ → Op → Type 0
-AsksFor (Read cookie offset len) body cookie' op = (cookie' ≡ cookie) × (op ≡ Ops.Read offset len) × (body ≡ [])
-AsksFor (Write cookie offset len) body cookie' op = (cookie' ≡ cookie) × (op ≡ Ops.Write offset body false) × (length body ≡ len)
-AsksFor (Flush cookie) body cookie' op = (cookie' ≡ cookie) × (op ≡ Ops.Flush) × (body ≡ [])
-AsksFor Disconnect body cookie' op = ⊥
-
--- the bytes are one whole message that asks for this operation under this cookie
-pub record IsMessage (export : Export) (bytes : List ℕ) (cookie : ℕ) (op : Op) : Type 0 where
-  pub head : List ℕ
-  pub body : List ℕ
-  pub parts : bytes ≡ head ++ body
-  pub size : length head ≡ 28
-  pub asks : MatchOption (request_of export head) ⊥ (λ request. AsksFor request body cookie op)
-
--- a request that wasn't submitted is answered that memory was wanted, and nothing of it was tried
-abbrev pub IsAnswered : Turn → Type 0
-IsAnswered turn = turn.submitted ≡ false → (turn.reply ≡ Errno 12) × (turn.tried ≡ 0)
-
--- the bytes are these requests, one message after the other
-unfoldable pub Spells : Export → List Turn → List ℕ → Type 0
-Spells export [] bytes = bytes ≡ []
-Spells export (turn ∷ turns) bytes =
-    (message : List ℕ) × (rest : List ℕ) × (bytes ≡ message ++ rest)
-    × IsMessage export message turn.cookie turn.op × IsAnswered turn × Spells export turns rest
-
--- what the port was asked
-unfoldable pub exchanges_of : List Turn → List Exchange
-exchanges_of [] = []
-exchanges_of (turn ∷ turns) =
-    if turn.submitted then record { op = turn.op; reply = turn.reply; tried = turn.tried } ∷ exchanges_of turns
-    else exchanges_of turns
-
--- the replies, one after the other
-unfoldable pub replies_text : List Turn → List ℕ
-replies_text [] = []
-replies_text (turn ∷ turns) = reply_text turn.cookie turn.reply ++ replies_text turns
-
--- the last reply
-unfoldable pub last_reply : List Turn → List ℕ
-last_reply [] = []
-last_reply (turn ∷ []) = reply_text turn.cookie turn.reply
-last_reply (turn ∷ (next ∷ turns)) = last_reply (next ∷ turns)
-
--- a front of a message and no more: of its head, or of the bytes behind a write's head
-abbrev pub IsCut : Export → List ℕ → Type 0
-IsCut export bytes =
-    (length bytes < 28) ⊎ ((head : List ℕ) × (body : List ℕ) × (cookie : ℕ) × (offset : ℕ) × (len : ℕ)
-    × (bytes ≡ head ++ body) × (length head ≡ 28) × (request_of export head ≡ Some (Write cookie offset len)) × (length body < len))
-
--- The bytes that a session took behind its last request, by its ending. `ended` says that the
--- source had no more.
-abbrev pub EndsRequests : Export → Ending → Bool → List ℕ → Type 0
-EndsRequests export Disconnected ended bytes = (length bytes ≡ 28) × (request_of export bytes ≡ Some Disconnect)
-EndsRequests export Closed ended bytes = (bytes ≡ []) × (ended ≡ true)
-EndsRequests export Unbuilt ended bytes =
-    ((length bytes ≡ 28) × (request_of export bytes ≡ None)) ⊎ ((bytes ≢ []) × (ended ≡ true) × IsCut export bytes)
-EndsRequests export (TooMany m) ended bytes = bytes ≡ []
-EndsRequests export ReadFault ended bytes = IsCut export bytes
-EndsRequests export WriteFault ended bytes = bytes ≡ []
-EndsRequests export Memory ended bytes = ⊥
-
--- How many requests a session had, by its ending: the most that one may have only where that ended
--- it, or where the last reply of so many didn't go out.
-abbrev pub IsCount : Ending → ℕ → Type 0
-IsCount Disconnected n = n < 2 ^ 32
-IsCount Closed n = n < 2 ^ 32
-IsCount Unbuilt n = n < 2 ^ 32
-IsCount (TooMany m) n = (m ≡ n) × (n ≡ 2 ^ 32)
-IsCount ReadFault n = n < 2 ^ 32
-IsCount WriteFault n = n ≤ 2 ^ 32
-IsCount Memory n = ⊥
-
--- the bytes that a session took where the one message that it waited for didn't come
-abbrev pub EndsBefore : List ℕ → Ending → Bool → List ℕ → Type 0
-EndsBefore message Disconnected ended bytes = ⊥
-EndsBefore message Closed ended bytes = (bytes ≡ []) × (ended ≡ true)
-EndsBefore message Unbuilt ended bytes =
-    ((length bytes ≡ length message) × (bytes ≢ message)) ⊎ ((bytes ≢ []) × (ended ≡ true) × (length bytes < length message))
-EndsBefore message (TooMany n) ended bytes = ⊥
-EndsBefore message ReadFault ended bytes = length bytes < length message
-EndsBefore message WriteFault ended bytes = ⊥
-EndsBefore message Memory ended bytes = ⊥
-
--- how far a session came: to the client's flags, to the option, or to the requests
+-- how far a session came: to the client's flags, to its options, or to the requests
 pub data Stage : Type 0 where
   greeted : Stage
-  agreed : Stage
+  negotiating : Stage
   served : Stage
-
--- all that a session took, by its stage, its requests and its ending; nothing where the greeting
--- didn't go out
-abbrev pub IsInput : Export → Stage → List Turn → Ending → Bool → List ℕ → Type 0
-IsInput export greeted turns ending ended taken =
-    (turns ≡ []) × (((ending ≡ WriteFault) × (taken ≡ [])) ⊎ EndsBefore HELLO ending ended taken)
-IsInput export agreed turns ending ended taken =
-    (turns ≡ []) × ((bytes : List ℕ) × (taken ≡ HELLO ++ bytes) × EndsBefore GO ending ended bytes)
-IsInput export served turns ending ended taken =
-    (text : List ℕ) × (bytes : List ℕ) × (taken ≡ HELLO ++ (GO ++ (text ++ bytes)))
-    × Spells export turns text × EndsRequests export ending ended bytes × IsCount ending (length turns)
-
--- all that a session answers, by its stage and its requests
-abbrev pub answers : Export → Stage → List Turn → List ℕ
-answers export greeted turns = GREETING
-answers export agreed turns = GREETING
-answers export served turns = GREETING ++ (go_text export ++ replies_text turns)
-
--- the last message that a session answers
-abbrev pub last_answer : Export → Stage → List Turn → List ℕ
-last_answer export greeted turns = GREETING
-last_answer export agreed turns = GREETING
-last_answer export served [] = go_text export
-last_answer export served (turn ∷ turns) = last_reply (turn ∷ turns)
-
--- All of a text went out; where the sink failed, a front of it, which lacks no more than the last
--- message.
-abbrev pub GoesOut : Ending → List ℕ → List ℕ → List ℕ → List ℕ → Type 0
-GoesOut Disconnected last text whole front = (whole ≡ text) × (front ≡ [])
-GoesOut Closed last text whole front = (whole ≡ text) × (front ≡ [])
-GoesOut Unbuilt last text whole front = (whole ≡ text) × (front ≡ [])
-GoesOut (TooMany n) last text whole front = (whole ≡ text) × (front ≡ [])
-GoesOut ReadFault last text whole front = (whole ≡ text) × (front ≡ [])
-GoesOut WriteFault last text whole front =
-    (rest : List ℕ) × (text ≡ whole ++ (front ++ rest)) × (length (front ++ rest) ≤ length last)
-GoesOut Memory last text whole front = ⊥
-
-abbrev pub AnswersOf : Export → Ending → Stage → List Turn → List ℕ → List ℕ → Type 0
-AnswersOf export ending stage turns whole front =
-    GoesOut ending (last_answer export stage turns) (answers export stage turns) whole front
 
 -- what a session took and put, and the requests that it answered
 pub record Log : Type 0 where
   pub stage : Stage
+  -- the client's flags, 0 where they didn't come
+  pub flags : ℕ
+  -- the options after which the negotiation went on, and the one that ended it, if one did
+  pub options : List ClientOption
+  pub last : Option ClientOption
+  pub turns : List Turn
   pub taken : List ℕ
   -- the pieces that were put whole, and what may have gone out of the piece that failed
   pub whole : List ℕ
   pub front : List ℕ
-  pub turns : List Turn
   pub ended : Bool
+
+-- whether the zeros are left out, bit 1 of the client's flags
+unfoldable pub no_zeroes : ℕ → Bool
+no_zeroes flags = not (bit_and flags 2 == 0)
+
+-- the greeting, with the flags "fixed newstyle" (bit 0) and "no zeroes" (1)
+unfoldable pub greeting : List ℕ
+greeting = greeting_text (record { flags = record { bits = 3 } })
+
+-- all that a session answers, message after message
+abbrev pub messages_of : Export → Log → List (List ℕ)
+messages_of export log =
+    greeting ∷ (answers_to export (no_zeroes log.flags) log.options ++ last_answer export (no_zeroes log.flags) log.last) ++ replies_to log.turns
+
+-- a session came to its options: its flags, and then these bytes
+pub record HasFlags (log : Log) (rest : List ℕ) : Type 0 where
+  pub fit : log.flags < 4
+  pub parts : log.taken ≡ u32_text log.flags ++ rest
+
+-- all that a session took that ended before its requests
+abbrev pub IsUnserved : Stage → Log → Ending → Type 0
+IsUnserved greeted log ending =
+    (log.flags ≡ 0) × (log.options ≡ []) × (log.last ≡ None)
+    × (((ending ≡ WriteFault) × (log.taken ≡ [])) ⊎ StopsFlags ending log.ended log.taken)
+IsUnserved negotiating log ending =
+    (rest : List ℕ) × HasFlags log rest × AreOptions (Ends ending) log.options log.last (length log.options) rest log.ended
+IsUnserved served log ending = ⊥
+
+-- all that a session took that came to its requests, and has taken none
+abbrev pub IsBegun : Log → Type 0
+IsBegun log = (rest : List ℕ) × HasFlags log rest × AreOptions Begins log.options log.last (length log.options) rest false
+
+-- all that a session took, by its stage and its ending; nothing where the greeting didn't go out
+abbrev pub IsInput : Stage → Log → Ending → Type 0
+IsInput served log ending =
+    (chosen : List ℕ) × (asked : List ℕ) × HasFlags log (chosen ++ asked)
+    × AreOptions Begins log.options log.last (length log.options) chosen false
+    × AreRequests (Some ending) log.turns (length log.turns) asked log.ended
+IsInput stage log ending = (log.turns ≡ []) × IsUnserved stage log ending
 
 -- The log is that of a session that ended so, from one moment to another.
 pub record IsSession (export : Export) (end : SessionEnd) (old new : Moment) (log : Log) : Type 0 where
   pub number : end.number ≡ export.number
-  pub input : IsInput export log.stage log.turns end.ending log.ended log.taken
-  pub output : AnswersOf export end.ending log.stage log.turns log.whole log.front
+  pub input : IsInput log.stage log end.ending
+  pub talks : Talks old new (Some end.ending) log.taken (messages_of export log) log.whole log.front log.ended
   pub taken : end.taken ≡ capped (length log.taken)
   pub put : end.put ≡ capped (length log.whole)
-  pub traffic : Traffic old new log.taken log.whole log.front
-  pub at_end : log.ended ≡ true → HasEnded old.left new.left
-  pub causes : HasCauses old new end.ending

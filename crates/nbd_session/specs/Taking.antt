@@ -1,52 +1,79 @@
 -- What is taken of one message.
-use Rattle.std.specs.Prelude.{ℕ, ◌≡◌, ◌+◌, ◌<◌, ◌≤◌, Bool, true, List, length, Option}
+use Rattle.std.specs.Prelude.{ℕ, ◌≡◌, ◌≢◌, ◌+◌, ◌<◌, ◌≤◌, ◌⊎◌, ◌^◌, Bool, true, List, [], ◌++◌, length, take, Option, Some, None, Result, MatchResult}
 use Rattle.base_terms.specs.Causes.{Rose}
-use Rattle.plain_disk.specs.declared.operation.Op.{Op}
 use Rattle.nbd_session.specs.declared.ending.Ending.{Ending}
-use Rattle.nbd_session.specs.declared.ending.Ending.TheVariants.{Disconnected, Closed, Unbuilt, TooMany, ReadFault, WriteFault, Memory}
-use Rattle.nbd_session.specs.declared.export.Export.{Export}
+use Rattle.nbd_session.specs.declared.ending.Ending.TheVariants.{Closed, Truncated, ReadFault}
+use Rattle.nbd_session.specs.declared.filling.Filled.{Filled}
+use Rattle.nbd_session.specs.declared.options.ClientOption.{ClientOption}
 use Rattle.nbd_session.specs.declared.requests.Next.{Next}
-use Rattle.nbd_session.specs.declared.requests.Next.TheVariants.{Ask, Short, Stop}
-use Rattle.nbd_session.specs.declared.requests.Body.{Body}
-use Rattle.nbd_session.specs.declared.requests.Body.TheVariants as Bodies
-use Rattle.nbd_session.specs.Counts.{capped}
-use Rattle.nbd_session.specs.Session.{IsMessage, EndsRequests}
-use Rattle.nbd_session.specs.Traffic.{Took, HasEnded}
+use Rattle.nbd_session.specs.declared.requests.Next.TheVariants.{Ask, Refuse, Stop}
+use Rattle.nbd_session.specs.declared.taking.Data.{Data}
+use Rattle.nbd_session.specs.declared.taking.Data.TheVariants.{Whole, NoMemory, Ended, Fault}
+use Rattle.nbd_session.specs.Grammar.{IsOption, StopsOptions, StopsRequests}
+use Rattle.nbd_session.specs.Moments.{Trouble, calm, source_failed, sink_failed, trouble_of}
+use Rattle.nbd_session.specs.Requests.{IsMessage, IsRefusal}
+use Rattle.nbd_session.specs.Traffic.{Intake, Takes, FillsOr, HasEnded, filled_of}
+use Rattle.nbd_wire.specs.declared.requests.RequestHead.{RequestHead}
+use Rattle.nbd_wire.specs.Requests.{request_text}
 
--- the bytes behind the head of a write, of which `len` were wanted
-abbrev pub BodyCase : Option (List ℕ) → Option (List ℕ) → ℕ → ℕ → ℕ → Body → List ℕ → Type 0
-BodyCase old_left new_left before now len (Bodies.Whole body) bytes = (body ≡ bytes) × (length bytes ≡ len) × (now ≡ before)
-BodyCase old_left new_left before now len Bodies.Short bytes = (length bytes ≡ len) × (now ≡ before)
-BodyCase old_left new_left before now len Bodies.Ended bytes = (length bytes < len) × HasEnded old_left new_left × (now ≡ before)
-BodyCase old_left new_left before now len Bodies.Fault bytes = (length bytes < len) × Rose before now
+-- `len` bytes were wanted, and these were taken
+pub record TakesUpTo (old new : Intake) (len : ℕ) (result : Filled) (bytes : List ℕ) : Type 0 where
+  pub takes : Takes old new bytes
+  pub count : length bytes ≡ filled_of len result
+  pub fewer : FillsOr len old.left new.left old.faults new.faults result
 
-pub record BodyIs (old_given new_given old_left new_left : Option (List ℕ)) (old_faults new_faults : ℕ)
-    (old_taken new_taken : ℕ) (len : ℕ) (result : Body) (bytes : List ℕ) : Type 0 where
-  pub took : Took old_given new_given old_left new_left bytes
-  pub later : old_faults ≤ new_faults
-  pub taken : new_taken ≡ capped (old_taken + length bytes)
-  pub by_case : BodyCase old_left new_left old_faults new_faults len result bytes
+-- what the source alone brings: its count rose exactly where it failed
+abbrev pub StopsBy : ℕ → ℕ → Trouble → Type 0
+StopsBy before now calm = now ≡ before
+StopsBy before now source_failed = Rose before now
+StopsBy before now sink_failed = ⊥
 
--- endings that the source alone brings; a fault of it is told exactly where its count rose
-abbrev pub IsStop : ℕ → ℕ → Ending → Type 0
-IsStop before now Disconnected = now ≡ before
-IsStop before now Closed = now ≡ before
-IsStop before now Unbuilt = now ≡ before
-IsStop before now (TooMany n) = ⊥
-IsStop before now ReadFault = Rose before now
-IsStop before now WriteFault = ⊥
-IsStop before now Memory = ⊥
+-- a head of `len` bytes didn't come whole
+abbrev pub EndsHead : ℕ → Ending → Bool → List ℕ → Type 0
+EndsHead len Closed ended bytes = (bytes ≡ []) × (ended ≡ true)
+EndsHead len (Truncated n) ended bytes = (length bytes ≡ n) × (0 < n) × (n < len) × (ended ≡ true)
+EndsHead len ReadFault ended bytes = length bytes < len
+EndsHead len _ ended bytes = ⊥
 
-abbrev pub NextCase : Export → ℕ → ℕ → Next → List ℕ → Bool → Type 0
-NextCase export before now (Ask cookie op) bytes ended = IsMessage export bytes cookie op × (now ≡ before)
-NextCase export before now (Short cookie) bytes ended = (op : Op) × IsMessage export bytes cookie op × (now ≡ before)
-NextCase export before now (Stop ending) bytes ended = IsStop before now ending × EndsRequests export ending ended bytes
+-- a head was waited for, and these bytes were taken
+pub record HeadIs (old new : Intake) (len : ℕ) (head : List ℕ) (result : Result (Unit {0}) Ending) (bytes : List ℕ) (ended : Bool) : Type 0 where
+  pub takes : Takes old new bytes
+  pub at_end : ended ≡ true → HasEnded old.left new.left
+  pub by_case : MatchResult result (λ _. (bytes ≡ head) × (length bytes ≡ len) × (new.faults ≡ old.faults))
+      (λ ending. StopsBy old.faults new.faults (trouble_of ending) × EndsHead len ending ended bytes)
 
--- these bytes were taken, and this is what came
-pub record NextIs (export : Export) (old_given new_given old_left new_left : Option (List ℕ)) (old_faults new_faults : ℕ)
-    (old_taken new_taken : ℕ) (result : Next) (bytes : List ℕ) (ended : Bool) : Type 0 where
-  pub took : Took old_given new_given old_left new_left bytes
-  pub at_end : ended ≡ true → HasEnded old_left new_left
-  pub later : old_faults ≤ new_faults
-  pub taken : new_taken ≡ capped (old_taken + length bytes)
-  pub by_case : NextCase export old_faults new_faults result bytes ended
+-- the data behind a head, of which `len` bytes were wanted
+abbrev pub DataCase : Intake → Intake → ℕ → Data → List ℕ → Type 0
+DataCase old new len (Whole body) bytes = (body ≡ bytes) × (length bytes ≡ len) × (new.faults ≡ old.faults)
+DataCase old new len NoMemory bytes = (0 < len) × (bytes ≡ []) × (new ≡ old)
+DataCase old new len (Ended n) bytes = (length bytes ≡ n) × (n < len) × HasEnded old.left new.left × (new.faults ≡ old.faults)
+DataCase old new len Fault bytes = (length bytes < len) × Rose old.faults new.faults
+
+pub record DataIs (old new : Intake) (len : ℕ) (result : Data) (bytes : List ℕ) : Type 0 where
+  pub takes : Takes old new bytes
+  pub by_case : DataCase old new len result bytes
+
+-- an option was waited for, and these bytes were taken
+pub record OptionIs (old new : Intake) (result : Result ClientOption Ending) (bytes : List ℕ) (ended : Bool) : Type 0 where
+  pub takes : Takes old new bytes
+  pub at_end : ended ≡ true → HasEnded old.left new.left
+  pub by_case : MatchResult result (λ option. IsOption bytes option.option option.body × (new.faults ≡ old.faults))
+      (λ ending. StopsBy old.faults new.faults (trouble_of ending) × StopsOptions ending ended bytes)
+
+-- what came of a request that took these bytes
+abbrev pub NextCase : Intake → Intake → Next → List ℕ → Bool → Type 0
+NextCase old new (Ask cookie op) bytes ended = IsMessage bytes cookie (Some op) × (new.faults ≡ old.faults)
+NextCase old new (Refuse cookie number) bytes ended =
+    (asked : Option _) × IsMessage bytes cookie asked × IsRefusal asked number × (new.faults ≡ old.faults)
+NextCase old new (Stop ending) bytes ended = StopsBy old.faults new.faults (trouble_of ending) × StopsRequests ending ended bytes
+
+pub record NextIs (old new : Intake) (result : Next) (bytes : List ℕ) (ended : Bool) : Type 0 where
+  pub takes : Takes old new bytes
+  pub at_end : ended ≡ true → HasEnded old.left new.left
+  pub by_case : NextCase old new result bytes ended
+
+-- the same of the bytes behind its head
+pub record BehindHead (head : RequestHead) (old new : Intake) (result : Next) (body : List ℕ) (ended : Bool) : Type 0 where
+  pub takes : Takes old new body
+  pub at_end : ended ≡ true → HasEnded old.left new.left
+  pub by_case : NextCase old new result (request_text head ++ body) ended

@@ -1,6 +1,7 @@
 -- What went from a source and to a sink between two moments, where they tell it.
-use Rattle.std.specs.Prelude.{ℕ, ◌≡◌, ◌<◌, ◌≤◌, List, [], ◌++◌, length, Option, Some}
+use Rattle.std.specs.Prelude.{ℕ, ◌≡◌, ◌+◌, ◌<◌, ◌≤◌, List, [], ◌++◌, length, Option, Some}
 use Rattle.base_terms.specs.Causes.{Rose}
+use Rattle.nbd_session.specs.Counts.{capped}
 use Rattle.nbd_session.specs.declared.filling.Filled.{Filled}
 use Rattle.nbd_session.specs.declared.filling.Filled.TheVariants.{Whole, Ended, Fault}
 
@@ -36,3 +37,20 @@ pub record Fills (old_given new_given old_left new_left : Option (List ℕ)) (ol
   pub count : length bytes ≡ filled_of len result
   pub fewer : FillsOr len old_left new_left old_faults new_faults result
   pub later : old_faults ≤ new_faults
+
+-- a source at a moment, what it gave and has left and its count of faults, with the session's count of
+-- bytes taken
+pub record Intake : Type 0 where
+  pub given : Option (List ℕ)
+  pub left : Option (List ℕ)
+  pub faults : ℕ
+  pub taken : ℕ
+
+abbrev pub intake : (given left : Option (List ℕ)) (faults taken : ℕ) → Intake
+intake given left faults taken = record { given = given; left = left; faults = faults; taken = taken }
+
+-- these bytes were taken and counted
+pub record Takes (old new : Intake) (bytes : List ℕ) : Type 0 where
+  pub took : Took old.given new.given old.left new.left bytes
+  pub later : old.faults ≤ new.faults
+  pub counted : capped new.taken ≡ capped (old.taken + length bytes)

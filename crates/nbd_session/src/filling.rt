@@ -1,5 +1,4 @@
 ghost use Rattle.std.specs.Prelude.{◌≡◌, ◌≤◌, ◌+◌, ℕ, List, length, take};
-ghost use Rattle.nbd_session.specs.Counts.{capped};
 ghost use Rattle.nbd_session.specs.Traffic.{Fills, filled_of};
 
 use io_edge::Source;
@@ -46,15 +45,4 @@ pub fn skip<S: Source>(source: &mut S, length: usize) -> Filled
         }
     }
     Filled::Whole
-}
-
-/// A count of bytes taken, with those that came of `wanted`. It stands still at its last value.
-pub fn counted(count: u64, filled: Filled, wanted: usize) -> u64
-    ensures { result ≡ capped (count + filled_of wanted filled) }
-{
-    let came = match filled {
-        Filled::Whole => wanted,
-        Filled::Ended(n) | Filled::Fault(n) => n,
-    };
-    count.saturating_add(came as u64)
 }

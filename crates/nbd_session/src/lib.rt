@@ -1,28 +1,32 @@
-//! A session with one client by the NBD protocol, as a function of the bytes that it sends. After
-//! the greeting ("fixed newstyle") the client agrees on the one export and then asks for reads,
-//! writes and flushes, each of which is submitted to a port and answered by a simple reply. The
-//! layer above may rely on one clause of `serve_session`: the bytes that were put are the answers
-//! to the bytes that were taken and the port's replies, however the bytes came in pieces, and the
-//! operations that the port was asked are those of the bytes, in order. By `reading_is_unique` the
+//! A session with one client by the NBD protocol ("Fixed newstyle negotiation" and "Transmission"
+//! of its document), as a function of the bytes that the client sends. After the greeting the client
+//! agrees on the one export, `volume`, by EXPORT_NAME or GO; other options are refused. Then it asks
+//! for reads, writes and flushes, each of which is submitted to a port and answered by a simple
+//! reply; a request of another type or with an unknown flag is answered 22 here. Every input has its
+//! ending. The layer above may rely on one clause of `serve_session`: the bytes that were put are the
+//! answers to the bytes that were taken and the port's replies, however the bytes came in pieces, and
+//! the operations that the port was asked are those of the bytes, in order. By `reading_is_unique` the
 //! bytes leave no choice in what was asked and how the session ended.
 #![tactic(auto)]
 
 mod ending;
 mod export;
 mod filling;
-mod messages;
+mod info_data;
 mod negotiation;
+mod options;
 mod port;
 mod reading;
 mod replies;
 mod requests;
 mod session;
+mod taking;
 mod tally;
 #[cfg(test)]
 mod tests;
 
 pub use ending::{Ending, SessionEnd};
 pub use export::Export;
-pub use port::Port;
+pub use port::{Port, Submitted};
 pub use reading::reading_is_unique;
 pub use session::serve_session;

@@ -1,78 +1,183 @@
-ghost use Rattle.std.specs.Prelude.{◌≡◌, ◌≢◌, ◌<◌, ℕ, Bool, List, length, IsTrue, false};
-ghost use Rattle.nbd_session.specs.Negotiation.{ExpectIs, Negotiates};
-ghost use Rattle.nbd_session.specs.Session.{Stage};
+ghost use Rattle.std.specs.Prelude.{◌≡◌, ◌+◌, ◌<◌, ◌≤◌, ℕ, Bool, List, length, Option, IsOk};
 ghost use Rattle.nbd_session.specs.Moments.{moment};
+ghost use Rattle.nbd_session.specs.Negotiation.{Agrees, Answers, FlagsAre, Negotiates};
+ghost use Rattle.nbd_session.specs.Options.{answer_of, verdict_of};
+ghost use Rattle.nbd_session.specs.Putting.{Puts};
+ghost use Rattle.nbd_session.specs.Session.{Log};
+ghost use Rattle.nbd_session.specs.Traffic.{intake};
+ghost use Rattle.nbd_session.specs.declared.options.ClientOption.{ClientOption};
+ghost use Rattle.nbd_wire.specs.InfoReplies.{reply_head};
+ghost use Rattle.nbd_wire.specs.OptionReplies.{option_reply_text};
 
-use crate::filling::{Filled, counted, fill};
-use crate::messages::{GO, GREETING, HELLO};
-use crate::replies::{go_bytes, put_message};
+use crate::options::{Course, Verdict, judge, next_option};
+use crate::replies::put_message;
+use crate::taking::take_head;
 use crate::tally::Tally;
 use crate::{Ending, Export};
+use base_terms::Failed;
 use io_edge::{Sink, Source};
+use nbd_wire::{
+    ClientFlags, Greeting, HandshakeFlags, InfoReplies, OptionReplyHead, OptionType, ReplyType,
+};
+use std::alloc::Global;
 
-/// Greets the client, takes its flags and its choice of the export, and answers with the export's
-/// size and the transmission flags.
+/// The most options that one session may have.
+const MAX_OPTIONS: u64 = 65536;
+
+/// Greets the client, takes its flags, and answers its options up to the one by which it chooses the
+/// export.
 pub fn negotiate<S: Source, K: Sink>(
+    alloc: Global,
     source: &mut S,
     sink: &mut K,
     export: &Export,
     tally: &mut Tally,
 ) -> Result<(), Ending>
-    ensures { (stage : Stage) × (taken : List ℕ) × (whole : List ℕ) × (front : List ℕ) × (ended : Bool) × Negotiates export.now
+    ensures { (log : Log) × Negotiates export.now
         (moment (S.given source.old) (S.left source.old) (K.had sink.old) (S.faults source.old) (K.faults sink.old) tally.old.taken tally.old.put)
         (moment (S.given source.new) (S.left source.new) (K.had sink.new) (S.faults source.new) (K.faults sink.new) tally.new.taken tally.new.put)
-        result stage taken whole front ended }
+        result log }
 {
-    match put_message(sink, &GREETING, &mut tally.put) {
+    let greeting = Greeting {
+        flags: HandshakeFlags::FIXED_NEWSTYLE.union(HandshakeFlags::NO_ZEROES),
+    };
+    match put_message(sink, &greeting.write(), &mut tally.put) {
         Ok(()) => {}
         Err(_) => return Err(Ending::WriteFault),
     }
-    match expect(source, &HELLO, &mut [0; 4], &mut tally.taken) {
-        Ok(()) => {}
-        Err(ending) => return Err(ending),
-    }
-    match expect(source, &GO, &mut [0; 22], &mut tally.taken) {
-        Ok(()) => {}
-        Err(ending) => return Err(ending),
-    }
-    match put_message(sink, &go_bytes(export), &mut tally.put) {
-        Ok(()) => Ok(()),
-        Err(_) => Err(Ending::WriteFault),
+    match take_flags(source, &mut tally.taken) {
+        Ok(flags) => agree(alloc, source, sink, export, flags.has_no_zeroes(), tally),
+        Err(ending) => Err(ending),
     }
 }
 
-/// Takes the one message that is to come next into a buffer of its length, and counts the bytes that
-/// it took.
-fn expect<S: Source>(
+/// Takes the client's flags.
+fn take_flags<S: Source>(source: &mut S, taken: &mut u64) -> Result<ClientFlags, Ending>
+    ensures { (bytes : List ℕ) × (ended : Bool) × FlagsAre
+        (intake (S.given source.old) (S.left source.old) (S.faults source.old) taken.old)
+        (intake (S.given source.new) (S.left source.new) (S.faults source.new) taken.new)
+        result bytes ended }
+{
+    let mut bytes = [0u8; 4];
+    match take_head(source, &mut bytes, taken) {
+        Ok(()) => {}
+        Err(ending) => return Err(ending),
+    }
+    let flags = ClientFlags::read(&bytes);
+    if flags.has_other() {
+        return Err(Ending::BadFlags(flags.bits));
+    }
+    Ok(flags)
+}
+
+/// Answers options up to the one that begins the requests or ends the session.
+fn agree<S: Source, K: Sink>(
+    alloc: Global,
     source: &mut S,
-    message: &[u8],
-    buf: &mut [u8],
-    taken: &mut u64,
+    sink: &mut K,
+    export: &Export,
+    no_zeroes: bool,
+    tally: &mut Tally,
 ) -> Result<(), Ending>
-    requires some { 0 < length message.now }
-    requires size { length buf.old ≡ length message.now }
-    ensures { (bytes : List ℕ) × (ended : Bool) × ExpectIs (S.given source.old) (S.given source.new)
-        (S.left source.old) (S.left source.new) (S.faults source.old) (S.faults source.new) taken.old taken.new
-        message.now result bytes ended }
+    ensures { (options : List ClientOption) × (last : Option ClientOption) × (taken : List ℕ) × (whole : List ℕ) × (front : List ℕ) × (ended : Bool)
+        × Agrees export.now no_zeroes
+        (moment (S.given source.old) (S.left source.old) (K.had sink.old) (S.faults source.old) (K.faults sink.old) tally.old.taken tally.old.put)
+        (moment (S.given source.new) (S.left source.new) (K.had sink.new) (S.faults source.new) (K.faults sink.new) tally.new.taken tally.new.put)
+        result options last taken whole front ended }
 {
-    let filled = fill(source, buf);
-    *taken = counted(*taken, filled, message.len());
-    match filled {
-        Filled::Ended(0) => return Err(Ending::Closed),
-        Filled::Ended(_) => return Err(Ending::Unbuilt),
-        Filled::Fault(_) => return Err(Ending::ReadFault),
-        Filled::Whole => {}
+    for number in 0..MAX_OPTIONS {
+        match answer_next(alloc, source, sink, export, no_zeroes, tally) {
+            Course::GoesOn => {}
+            Course::Begins => return Ok(()),
+            Course::Ends(ending) => return Err(ending),
+        }
     }
-    if is_same(buf, message) {
-        Ok(())
-    } else {
-        Err(Ending::Unbuilt)
+    Err(Ending::TooMany(MAX_OPTIONS))
+}
+
+/// Takes the next option and answers it.
+fn answer_next<S: Source, K: Sink>(
+    alloc: Global,
+    source: &mut S,
+    sink: &mut K,
+    export: &Export,
+    no_zeroes: bool,
+    tally: &mut Tally,
+) -> Course
+    ensures { (options : List ClientOption) × (last : Option ClientOption) × (taken : List ℕ) × (whole : List ℕ) × (front : List ℕ) × (ended : Bool)
+        × (result ≡ Course.GoesOn → length options ≡ 1)
+        × ((n : ℕ) → n < 65536 → Answers export.now no_zeroes n
+        (moment (S.given source.old) (S.left source.old) (K.had sink.old) (S.faults source.old) (K.faults sink.old) tally.old.taken tally.old.put)
+        (moment (S.given source.new) (S.left source.new) (K.had sink.new) (S.faults source.new) (K.faults sink.new) tally.new.taken tally.new.put)
+        result options last taken whole front ended) }
+{
+    let option = match next_option(alloc, source, &mut tally.taken) {
+        Ok(option) => option,
+        Err(ending) => return Course::Ends(ending),
+    };
+    let verdict = judge(option.option, option.body.as_slice());
+    match put_answer(
+        sink,
+        export,
+        no_zeroes,
+        option.option,
+        verdict,
+        &mut tally.put,
+    ) {
+        Ok(()) => verdict.course(),
+        Err(_) => Course::Ends(Ending::WriteFault),
     }
 }
 
-fn is_same(left: &[u8], right: &[u8]) -> bool
-    ensures same { IsTrue result → left.now ≡ right.now }
-    ensures other { result ≡ false → left.now ≢ right.now }
+/// Puts the answer to an option.
+fn put_answer<K: Sink>(
+    sink: &mut K,
+    export: &Export,
+    no_zeroes: bool,
+    option: OptionType,
+    verdict: Verdict,
+    put: &mut u64,
+) -> Result<(), Failed>
+    ensures answer { (whole : List ℕ) × (front : List ℕ) × Puts (K.had sink.old) (K.had sink.new) (K.faults sink.old)
+        (K.faults sink.new) put.old put.new (answer_of export.now no_zeroes option verdict) result whole front }
+    ensures silent { verdict ≡ Verdict.Unknown → IsOk result }
 {
-    left == right
+    match verdict {
+        Verdict::Tell => {
+            if no_zeroes {
+                put_message(sink, &export.data().write(), put)
+            } else {
+                put_message(sink, &export.data().write_with_zeroes(), put)
+            }
+        }
+        Verdict::Agree => {
+            let replies = InfoReplies {
+                option,
+                export: export.data(),
+                blocks: export.blocks(),
+            };
+            put_message(sink, &replies.write(), put)
+        }
+        Verdict::Refuse(reply) => put_option_reply(sink, option, reply, put),
+        Verdict::Abort => put_option_reply(sink, option, ReplyType::Ack, put),
+        Verdict::Unknown => Ok(()),
+    }
+}
+
+/// Puts a reply without data to an option.
+fn put_option_reply<K: Sink>(
+    sink: &mut K,
+    option: OptionType,
+    reply: ReplyType,
+    put: &mut u64,
+) -> Result<(), Failed>
+    ensures { (whole : List ℕ) × (front : List ℕ) × Puts (K.had sink.old) (K.had sink.new) (K.faults sink.old)
+        (K.faults sink.new) put.old put.new (option_reply_text (reply_head option reply 0)) result whole front }
+{
+    let head = OptionReplyHead {
+        option,
+        reply,
+        length: 0,
+    };
+    put_message(sink, &head.write(), put)
 }

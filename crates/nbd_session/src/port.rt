@@ -1,18 +1,27 @@
-ghost use Rattle.std.specs.Prelude.{◌≡◌, ℕ, IfOk, OnErr, List, [], ◌∷◌, ◌++◌};
+ghost use Rattle.std.specs.Prelude.{◌≡◌, ℕ, IfOk, OnErr, List, [], ◌++◌};
 ghost use Rattle.plain_disk.specs.Plain.{Exchange};
+ghost use Rattle.nbd_session.specs.Ports.{exchanges_by};
 
 use plain_disk::{Op, Reply};
 use std::alloc::{AllocError, Global};
+
+/// What came of an operation that was submitted: its reply, or nothing, since the port takes none
+/// any more.
+#[derive(Debug, Drop)]
+pub enum Submitted {
+    Replied(Reply),
+    Spent,
+}
 
 /// Where a session submits the operations of its client.
 pub trait Port {
     /// From an old state to a new one these operations were submitted and answered, and no others.
     ghost did: { Self → Self → List Exchange → Type 0 };
 
-    /// Executes an operation and answers it. Where memory is wanted nothing was done.
-    fn submit(&mut self, alloc: Global, op: &Op) -> Result<Reply, AllocError>
-        ensures ok { IfOk result (λ reply. (n : ℕ)
-            × did self.old self.new (record { op = op.now; reply = reply; tried = n } ∷ [])) }
+    /// Executes an operation and answers it. Where memory is wanted, or the port is spent, nothing
+    /// was done.
+    fn submit(&mut self, alloc: Global, op: &Op) -> Result<Submitted, AllocError>
+        ensures ok { IfOk result (λ submitted. (n : ℕ) × did self.old self.new (exchanges_by op.now n submitted)) }
         ensures err { OnErr result (did self.old self.new []) };
 
     ghost did_none: { (port : Self) → did port port [] };

@@ -1,113 +1,158 @@
-ghost use Rattle.std.specs.Prelude.{◌≡◌, ◌<◌, ◌+◌, ℕ, Bool, List, length};
-ghost use Rattle.nbd_session.specs.Counts.{capped};
-ghost use Rattle.nbd_session.specs.Taking.{BodyIs, NextIs};
+ghost use Rattle.std.specs.Prelude.{◌≡◌, ◌<◌, ◌≤◌, ◌+◌, ◌^◌, ℕ, Bool, List, length, None};
+ghost use Rattle.nbd_session.specs.Requests.{ending_of, data_length, operation_of, IsRefusal};
+ghost use Rattle.nbd_session.specs.Taking.{BehindHead, NextIs};
+ghost use Rattle.nbd_session.specs.Traffic.{intake};
+ghost use Rattle.nbd_wire.specs.Requests.{IsRequestHead};
 
-use crate::filling::{Filled, counted, fill, skip};
-use crate::messages::{HEAD, Request, read_request};
-use crate::{Ending, Export};
+use crate::Ending;
+use crate::filling::Filled;
+use crate::taking::{Data, take_data, take_head, take_past};
 use base_terms::Bytes;
 use io_edge::Source;
-use plain_disk::Op;
+use nbd_wire::{CommandFlags, CommandType, RequestHead};
+use plain_disk::{MAX_READ, Op};
 use std::alloc::Global;
 
-/// What comes next from a client: a request, with its operation unless memory was wanted for it,
-/// or the end.
+/// How many bytes the head of a request has.
+const HEAD: usize = 28;
+
+/// The most bytes of data that a write may have.
+const MAX_WRITE: u32 = MAX_READ;
+
+const NO_MEMORY: u32 = 12;
+
+const INVALID: u32 = 22;
+
+/// What comes next from a client: a request with its operation, one that the session itself answers
+/// with the number of an error, or the end.
 #[derive(Debug, Drop)]
 pub enum Next {
     Ask { cookie: u64, op: Op },
-    Short { cookie: u64 },
+    Refuse { cookie: u64, number: u32 },
     Stop(Ending),
 }
 
-/// The bytes behind the head of a write: whole, whole but dropped for want of memory, or cut short
-/// by the end of the input or a fault of the source.
-#[derive(Debug, Drop)]
-pub enum Body {
-    Whole(Bytes),
-    Short,
-    Ended,
-    Fault,
-}
-
 /// Takes the next request from the source, and counts the bytes that it took.
-pub fn next_request<S: Source>(
-    alloc: Global,
-    source: &mut S,
-    export: &Export,
-    taken: &mut u64,
-) -> Next
-    requires { 0 < export.now.atom }
-    ensures { (bytes : List ℕ) × (ended : Bool) × NextIs export.now (S.given source.old) (S.given source.new)
-        (S.left source.old) (S.left source.new) (S.faults source.old) (S.faults source.new) taken.old taken.new
+pub fn next_request<S: Source>(alloc: Global, source: &mut S, taken: &mut u64) -> Next
+    ensures { (bytes : List ℕ) × (ended : Bool) × NextIs
+        (intake (S.given source.old) (S.left source.old) (S.faults source.old) taken.old)
+        (intake (S.given source.new) (S.left source.new) (S.faults source.new) taken.new)
         result bytes ended }
 {
-    let mut head = [0u8; HEAD];
-    let filled = fill(source, &mut head);
-    *taken = counted(*taken, filled, HEAD);
-    match filled {
-        Filled::Ended(0) => return Next::Stop(Ending::Closed),
-        Filled::Ended(_) => return Next::Stop(Ending::Unbuilt),
-        Filled::Fault(_) => return Next::Stop(Ending::ReadFault),
-        Filled::Whole => {}
+    let mut bytes = [0u8; HEAD];
+    match take_head(source, &mut bytes, taken) {
+        Ok(()) => {}
+        Err(ending) => return Next::Stop(ending),
     }
-    match read_request(&head, export) {
-        None => Next::Stop(Ending::Unbuilt),
-        Some(Request::Disconnect) => Next::Stop(Ending::Disconnected),
-        Some(Request::Flush { cookie }) => Next::Ask {
-            cookie,
-            op: Op::Flush,
-        },
-        Some(
-            Request::Read {
-                cookie,
-                offset,
-                length,
-            },
-        ) => Next::Ask {
-            cookie,
-            op: Op::Read { offset, length },
-        },
-        Some(
-            Request::Write {
-                cookie,
-                offset,
-                length,
-            },
-        ) => match take_body(alloc, source, length, taken) {
-            Body::Whole(body) => Next::Ask {
-                cookie,
-                op: Op::Write {
-                    offset,
-                    body,
-                    fua: false,
-                },
-            },
-            Body::Short => Next::Short { cookie },
-            Body::Ended => Next::Stop(Ending::Unbuilt),
-            Body::Fault => Next::Stop(Ending::ReadFault),
-        },
+    let head = match RequestHead::read(&bytes) {
+        Ok(head) => head,
+        Err(bad) => return Next::Stop(Ending::BadMagic(bad.number)),
+    };
+    match ending(&head) {
+        None => behind_head(alloc, source, &head, taken),
+        Some(ending) => Next::Stop(ending),
     }
 }
 
-fn take_body<S: Source>(alloc: Global, source: &mut S, length: u32, taken: &mut u64) -> Body
-    ensures { (bytes : List ℕ) × BodyIs (S.given source.old) (S.given source.new) (S.left source.old) (S.left source.new)
-        (S.faults source.old) (S.faults source.new) taken.old taken.new length result bytes }
+/// Takes what is behind the head of a request that doesn't end the session.
+fn behind_head<S: Source>(
+    alloc: Global,
+    source: &mut S,
+    head: &RequestHead,
+    taken: &mut u64,
+) -> Next
+    requires head { IsRequestHead head.now }
+    requires goes_on { ending_of head.now ≡ None }
+    ensures { (body : List ℕ) × (ended : Bool) × BehindHead head.now
+        (intake (S.given source.old) (S.left source.old) (S.faults source.old) taken.old)
+        (intake (S.given source.new) (S.left source.new) (S.faults source.new) taken.new)
+        result body ended }
 {
-    let wanted = length as usize;
-    let Ok(mut body) = vec![in alloc; 0u8; wanted] else {
-        let filled = skip(source, wanted);
-        *taken = counted(*taken, filled, wanted);
-        return match filled {
-            Filled::Whole => Body::Short,
-            Filled::Ended(_) => Body::Ended,
-            Filled::Fault(_) => Body::Fault,
-        };
-    };
-    let filled = fill(source, &mut body);
-    *taken = counted(*taken, filled, wanted);
-    match filled {
-        Filled::Whole => Body::Whole(Bytes::new(body)),
-        Filled::Ended(_) => Body::Ended,
-        Filled::Fault(_) => Body::Fault,
+    let cookie = head.cookie;
+    if head.flags.bits > CommandFlags::FUA.bits {
+        return refuse(source, head, INVALID, taken);
+    }
+    match take_data(alloc, source, data_length(head), taken) {
+        Data::Whole(body) => match operation(head, body) {
+            Some(op) => Next::Ask { cookie, op },
+            None => Next::Refuse {
+                cookie,
+                number: INVALID,
+            },
+        },
+        Data::NoMemory => refuse(source, head, NO_MEMORY, taken),
+        Data::Ended(n) => Next::Stop(Ending::Truncated((HEAD + n) as u64)),
+        Data::Fault => Next::Stop(Ending::ReadFault),
+    }
+}
+
+/// Drops the data of a request that is answered with the number of an error.
+fn refuse<S: Source>(source: &mut S, head: &RequestHead, number: u32, taken: &mut u64) -> Next
+    requires head { IsRequestHead head.now }
+    requires goes_on { ending_of head.now ≡ None }
+    requires refused { (body : List ℕ) → length body ≡ data_length head.now → IsRefusal (operation_of head.now body) number }
+    ensures { (body : List ℕ) × (ended : Bool) × BehindHead head.now
+        (intake (S.given source.old) (S.left source.old) (S.faults source.old) taken.old)
+        (intake (S.given source.new) (S.left source.new) (S.faults source.new) taken.new)
+        result body ended }
+{
+    match take_past(source, data_length(head) as usize, taken) {
+        Filled::Whole => Next::Refuse {
+            cookie: head.cookie,
+            number,
+        },
+        Filled::Ended(n) => Next::Stop(Ending::Truncated((HEAD + n) as u64)),
+        Filled::Fault(_) => Next::Stop(Ending::ReadFault),
+    }
+}
+
+/// The ending that a request's head brings, whatever its flags are.
+#[tactic(auto, unfolding(crate::specs::Requests::ending_of))]
+fn ending(head: &RequestHead) -> Option<Ending>
+    ensures { result ≡ ending_of head.now }
+{
+    match head.command {
+        CommandType::Disc => Some(Ending::Disconnected),
+        CommandType::Write => {
+            if head.length > MAX_WRITE {
+                Some(Ending::TooLong(head.length))
+            } else {
+                None
+            }
+        }
+        _ => None,
+    }
+}
+
+/// How many bytes of data are behind a request's head.
+#[tactic(auto, unfolding(crate::specs::Requests::data_length))]
+fn data_length(head: &RequestHead) -> u32
+    ensures { result ≡ data_length head.now }
+{
+    match head.command {
+        CommandType::Write => head.length,
+        _ => 0,
+    }
+}
+
+/// The operation of a request without another flag than "force unit access"; None of a type that
+/// isn't served.
+#[tactic(auto, unfolding(crate::specs::Requests::operation_of))]
+fn operation(head: &RequestHead, body: Bytes) -> Option<Op>
+    requires { head.now.flags.bits ≤ 1 }
+    ensures { result ≡ operation_of head.now body }
+{
+    match head.command {
+        CommandType::Read => Some(Op::Read {
+            offset: head.offset,
+            length: head.length,
+        }),
+        CommandType::Write => Some(Op::Write {
+            offset: head.offset,
+            body: body,
+            fua: head.flags.bits == CommandFlags::FUA.bits,
+        }),
+        CommandType::Flush => Some(Op::Flush),
+        _ => None,
     }
 }

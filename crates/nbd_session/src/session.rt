@@ -1,14 +1,16 @@
 ghost use Rattle.std.specs.Prelude.{◌≡◌, ◌<◌, ◌^◌, ◌+◌, ℕ, Bool, List, length, Some, None};
 ghost use Rattle.nbd_session.specs.Moments.{moment};
+ghost use Rattle.nbd_session.specs.Putting.{Replies};
 ghost use Rattle.nbd_session.specs.Replies.{reply_text};
-ghost use Rattle.nbd_session.specs.Serving.{Replies, Serves};
-ghost use Rattle.nbd_session.specs.Session.{IsSession, Log, Turn, exchanges_of};
+ghost use Rattle.nbd_session.specs.Serving.{Serves};
+ghost use Rattle.nbd_session.specs.Session.{IsSession, Log};
+ghost use Rattle.nbd_session.specs.Turns.{Turn, exchanges_of};
 
 use crate::negotiation::negotiate;
 use crate::replies::put_reply;
 use crate::requests::{Next, next_request};
 use crate::tally::Tally;
-use crate::{Ending, Export, Port, SessionEnd};
+use crate::{Ending, Export, Port, SessionEnd, Submitted};
 use io_edge::{Sink, Source};
 use plain_disk::Reply;
 use std::alloc::Global;
@@ -18,13 +20,15 @@ const MAX_REQUESTS: u64 = 1 << 32;
 
 const NO_MEMORY: u32 = 12;
 
-/// Serves one client to its end. What was put is the greeting, the reply to GO and a simple reply
-/// for each request, in order; what the port was asked are the operations of the requests, but for
-/// those that were answered 12 for want of memory, in order. Of the source it takes the bytes up to
-/// the message that ends the session, and no more. It ends with `ReadFault` exactly where the
-/// source's count of faults rose, and with `WriteFault` exactly where the sink's did; then at most
-/// the last message, or a rear of it, is missing. With `TooMany` it ends exactly after the `2^32`nd
-/// reply.
+/// Serves one client to its end. What was put is the greeting, the answers to the options and a
+/// simple reply for each request, in order; what the port was asked are the operations of the
+/// requests, but for those that were answered 12 for want of memory, in order. A request of an
+/// unknown type or with an unknown flag is no operation; it is answered 22. Of the source the session
+/// takes the bytes up to the end of the message that ends it, or of that message's head where that
+/// decides, and no more. It ends with `ReadFault` exactly where the source's count of faults rose, and
+/// with `WriteFault` exactly where the sink's did; then at most the last message, or a rear of it, is
+/// missing. With `TooMany` it ends exactly after the answer to the `65536`th option that goes on, or
+/// the reply to the `2^32`nd request.
 pub fn serve_session<S: Source, K: Sink, P: Port>(
     alloc: Global,
     source: &mut S,
@@ -32,18 +36,17 @@ pub fn serve_session<S: Source, K: Sink, P: Port>(
     port: &mut P,
     export: &Export,
 ) -> SessionEnd
-    requires { 0 < export.now.atom }
     ensures { (log : Log) × P.did port.old port.new (exchanges_of log.turns) × IsSession export.now result
         (moment (S.given source.old) (S.left source.old) (K.had sink.old) (S.faults source.old) (K.faults sink.old) 0 0)
         (moment (S.given source.new) (S.left source.new) (K.had sink.new) (S.faults source.new) (K.faults sink.new) result.taken result.put)
         log }
 {
     let mut tally = Tally { taken: 0, put: 0 };
-    match negotiate(source, sink, export, &mut tally) {
+    match negotiate(alloc, source, sink, export, &mut tally) {
         Ok(()) => {}
         Err(ending) => return end_of(export, ending, tally),
     }
-    let ending = serve_requests(alloc, source, sink, port, export, &mut tally);
+    let ending = serve_requests(alloc, source, sink, port, &mut tally);
     end_of(export, ending, tally)
 }
 
@@ -66,19 +69,17 @@ fn serve_requests<S: Source, K: Sink, P: Port>(
     source: &mut S,
     sink: &mut K,
     port: &mut P,
-    export: &Export,
     tally: &mut Tally,
 ) -> Ending
-    requires { 0 < export.now.atom }
     ensures { (turns : List Turn) × (taken : List ℕ) × (whole : List ℕ) × (front : List ℕ) × (ended : Bool)
         × P.did port.old port.new (exchanges_of turns)
-        × Serves export.now 0
+        × Serves 0
         (moment (S.given source.old) (S.left source.old) (K.had sink.old) (S.faults source.old) (K.faults sink.old) tally.old.taken tally.old.put)
         (moment (S.given source.new) (S.left source.new) (K.had sink.new) (S.faults source.new) (K.faults sink.new) tally.new.taken tally.new.put)
         (Some result) turns taken whole front ended }
 {
     for number in 0..MAX_REQUESTS {
-        match serve_request(alloc, source, sink, port, export, tally) {
+        match serve_request(alloc, source, sink, port, tally) {
             None => {}
             Some(ending) => return ending,
         }
@@ -92,23 +93,24 @@ fn serve_request<S: Source, K: Sink, P: Port>(
     source: &mut S,
     sink: &mut K,
     port: &mut P,
-    export: &Export,
     tally: &mut Tally,
 ) -> Option<Ending>
-    requires { 0 < export.now.atom }
     ensures { (turns : List Turn) × (taken : List ℕ) × (whole : List ℕ) × (front : List ℕ) × (ended : Bool)
         × (result ≡ None → length turns ≡ 1)
         × P.did port.old port.new (exchanges_of turns)
-        × ((n : ℕ) → n < 2 ^ 32 → Serves export.now n
+        × ((n : ℕ) → n < 2 ^ 32 → Serves n
         (moment (S.given source.old) (S.left source.old) (K.had sink.old) (S.faults source.old) (K.faults sink.old) tally.old.taken tally.old.put)
         (moment (S.given source.new) (S.left source.new) (K.had sink.new) (S.faults source.new) (K.faults sink.new) tally.new.taken tally.new.put)
         result turns taken whole front ended) }
 {
-    match next_request(alloc, source, export, &mut tally.taken) {
+    match next_request(alloc, source, &mut tally.taken) {
         Next::Stop(ending) => Some(ending),
-        Next::Short { cookie } => { answer(sink, cookie, &Reply::Errno(NO_MEMORY), &mut tally.put) }
+        Next::Refuse { cookie, number } => {
+            answer(sink, cookie, &Reply::Errno(number), &mut tally.put)
+        }
         Next::Ask { cookie, op } => match port.submit(alloc, &op) {
-            Ok(reply) => answer(sink, cookie, &reply, &mut tally.put),
+            Ok(Submitted::Replied(reply)) => answer(sink, cookie, &reply, &mut tally.put),
+            Ok(Submitted::Spent) => Some(Ending::PortSpent),
             Err(_) => answer(sink, cookie, &Reply::Errno(NO_MEMORY), &mut tally.put),
         },
     }

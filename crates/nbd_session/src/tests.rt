@@ -1,9 +1,24 @@
 ghost use Rattle.std.specs.Prelude.{Some};
 
-use crate::{Ending, Export, Port, SessionEnd, serve_session};
+mod messages;
+
+use self::messages::{
+    ABORT, ABORTED, AGREED, BLOCK, BLOCK_SIZES, DISCONNECT, EMPTY_EXPORT_NAME, EXPORT_NAME,
+    FLAGGED_DISCONNECT, FLAGGED_READ, FLAGGED_WRITE, FLAGS, FLAGS_WITH_ZEROES, FLUSH,
+    FLUSH_WANTS_MEMORY, FLUSHED, FORCED_READ, FORCED_WRITE, GO, GO_INVALID, GO_LONG, GO_MALFORMED,
+    GO_NAME_TOO_BIG, GO_OF_OTHER, GO_OF_VOLUME, GO_SHORT, GO_TOO_BIG, GO_UNKNOWN, GREETING,
+    HAS_READ, INFO, INFO_UNSUPPORTED, LIST, LIST_UNSUPPORTED, LONG_OPTION, LONG_OPTION_UNSUPPORTED,
+    LONG_READ, NO_SPACE, NO_TYPES, OTHER_EXPORT_NAME, OTHER_MAGIC, OTHER_MAGIC_OPTION, PLAIN_FLUSH,
+    Part, READ, READ_BEHIND, READ_FAR, READ_INVALID, READ_OF_9216, READ_OF_NOTHING,
+    READ_WANTS_MEMORY, SIZE, START_TLS, START_TLS_UNSUPPORTED, STRUCTURED_REPLY,
+    STRUCTURED_REPLY_UNSUPPORTED, TOLD, TOO_LONG_OPTION, TOO_LONG_WRITE, TRIM, UNALIGNED_READ,
+    UNKNOWN_FLAGS, UNKNOWN_TYPE, WRITE, WRITE_BEHIND, WRITE_INVALID, WRITE_WANTS_MEMORY,
+    WRITE_ZEROES, WRITTEN, ZEROES, bytes_of,
+};
+use crate::{Ending, Export, Port, SessionEnd, Submitted, serve_session};
 use base_terms::{Bytes, Failed};
 use io_edge::{ListSink, ListSource, Sink};
-use plain_disk::{Op, Reply};
+use plain_disk::{Op, Reply, wrong};
 use std::alloc::{AllocError, Global};
 use std::test::Fail;
 
@@ -13,60 +28,29 @@ const EXPORT: Export = Export {
     atom: 512,
 };
 
-const BEGIN: &[u8] = b"\0\0\0\x03IHAVEOPT\0\0\0\x07\0\0\0\x06\0\0\0\0\0\0";
+/// A client that writes the first block, reads it, flushes and disconnects.
+const CLIENT: &[Part] = &[FLAGS, GO, WRITE, BLOCK, READ, PLAIN_FLUSH, DISCONNECT];
 
-const WRITE: &[u8] = b"\x25\x60\x95\x13\0\0\0\x01\0\0\0\0\0\0\0\x01\0\0\0\0\0\0\0\0\0\0\x02\0";
+/// What it gets.
+const SERVER: &[Part] = &[
+    GREETING,
+    SIZE,
+    BLOCK_SIZES,
+    AGREED,
+    WRITTEN,
+    HAS_READ,
+    BLOCK,
+    FLUSHED,
+];
 
-const READ: &[u8] = b"\x25\x60\x95\x13\0\0\0\0\0\0\0\0\0\0\0\x02\0\0\0\0\0\0\0\0\0\0\x02\0";
-
-const FLUSH: &[u8] = b"\x25\x60\x95\x13\0\0\0\x03\0\0\0\0\0\0\0\x03\0\0\0\0\0\0\0\0\0\0\0\0";
-
-const DISCONNECT: &[u8] = b"\x25\x60\x95\x13\0\0\0\x02\0\0\0\0\0\0\0\x04\0\0\0\0\0\0\0\0\0\0\0\0";
-
-const GREETING: &[u8] = b"NBDMAGICIHAVEOPT\0\x03";
-
-const SIZE_REPLY: &[u8] =
-    b"\0\x03\xe8\x89\x04\x55\x65\xa9\0\0\0\x07\0\0\0\x03\0\0\0\x0c\0\0\0\0\0\0\0\0\x20\0\x01\x0d";
-
-const BLOCKS_REPLY: &[u8] =
-    b"\0\x03\xe8\x89\x04\x55\x65\xa9\0\0\0\x07\0\0\0\x03\0\0\0\x0e\0\x03\0\0\x02\0\0\0\x10\0\x02\0\0\0";
-
-const AGREED_REPLY: &[u8] = b"\0\x03\xe8\x89\x04\x55\x65\xa9\0\0\0\x07\0\0\0\x01\0\0\0\0";
-
-/// What a client sends that writes the first block, reads it, flushes and disconnects.
-fn client(alloc: Global) -> Result<Vec<u8>, AllocError> {
-    let mut bytes = Vec::new(alloc);
-    bytes.extend_from_slice(BEGIN)?;
-    bytes.extend_from_slice(WRITE)?;
-    bytes.extend_from_slice(&[0xa5; 512])?;
-    bytes.extend_from_slice(READ)?;
-    bytes.extend_from_slice(FLUSH)?;
-    bytes.extend_from_slice(DISCONNECT)?;
-    Ok(bytes)
-}
-
-/// What it gets up to the requests, and then these replies, the second with this data.
-fn server(alloc: Global, error: u8, data: &[u8]) -> Result<Vec<u8>, AllocError> {
-    let mut bytes = Vec::new(alloc);
-    bytes.extend_from_slice(GREETING)?;
-    bytes.extend_from_slice(SIZE_REPLY)?;
-    bytes.extend_from_slice(BLOCKS_REPLY)?;
-    bytes.extend_from_slice(AGREED_REPLY)?;
-    for cookie in [1, 2, 3] {
-        bytes.extend_from_slice(&[0x67, 0x44, 0x66, 0x98, 0, 0, 0, error])?;
-        bytes.extend_from_slice(&[0, 0, 0, 0, 0, 0, 0, cookie])?;
-        if cookie == 2 {
-            bytes.extend_from_slice(data)?;
-        }
-    }
-    Ok(bytes)
-}
-
-/// A block that is written, read and flushed, as long as there is memory.
+/// The first block of a small disk, which is written, read and flushed as long as there is memory
+/// and operations are left.
 #[derive(Drop)]
 struct Block {
     bytes: [u8; 512],
     has_memory: bool,
+    operations: u32,
+    forced: bool,
 }
 
 impl Block {
@@ -74,6 +58,8 @@ impl Block {
         Block {
             bytes: [0; 512],
             has_memory: true,
+            operations: 99,
+            forced: false,
         }
     }
 }
@@ -81,19 +67,36 @@ impl Block {
 impl Port for Block {
     ghost did = { λ _ _ _. Unit {0} };
 
-    fn submit(&mut self, alloc: Global, op: &Op) -> Result<Reply, AllocError> {
+    fn submit(&mut self, alloc: Global, op: &Op) -> Result<Submitted, AllocError> {
         if !self.has_memory {
             return Err(AllocError);
         }
-        match op {
-            Op::Read { .. } => Ok(Reply::Content(Bytes::new(Vec::from_slice(alloc, &self.bytes)?))),
-            Op::Write { body, .. } => {
+        if self.operations == 0 {
+            return Ok(Submitted::Spent);
+        }
+        self.operations -= 1;
+        // reads of up to 9216 bytes are answered, to show what goes out
+        if let Some(number) = wrong(op, 512, 8192) {
+            if !matches!(op, Op::Read { length: 9216, .. }) {
+                return Ok(Submitted::Replied(Reply::Errno(number)));
+            }
+        }
+        let reply = match op {
+            Op::Read { length, .. } => {
+                let mut content = vec![in alloc; 0u8; *length as usize]?;
+                let n = content.len().min(512);
+                content[..n].copy_from_slice(&self.bytes[..n]);
+                Reply::Content(Bytes::new(content))
+            }
+            Op::Write { body, fua, .. } => {
                 let n = body.len().min(512);
                 self.bytes[..n].copy_from_slice(&body.as_slice()[..n]);
-                Ok(Reply::Done)
+                self.forced = *fua;
+                Reply::Done
             }
-            Op::Flush => Ok(Reply::Done),
-        }
+            Op::Flush => Reply::Done,
+        };
+        Ok(Submitted::Replied(reply))
     }
 
     ghost did_none = { λ _. tt };
@@ -101,12 +104,24 @@ impl Port for Block {
     ghost did_more = { λ _ _ _ _ _ _ _. tt };
 }
 
-/// A sink that knows how often, and how much, was let out.
+/// A sink that knows how often it was put to, and how often, and how much, was let out.
 #[derive(Drop)]
 struct Door {
     inner: ListSink,
+    puts: u32,
     times: u32,
     out: usize,
+}
+
+impl Door {
+    fn new(alloc: Global, room: usize) -> Result<Door, AllocError> {
+        Ok(Door {
+            inner: ListSink::new(alloc, room, &[])?,
+            puts: 0,
+            times: 0,
+            out: 0,
+        })
+    }
 }
 
 impl Sink for Door {
@@ -115,6 +130,7 @@ impl Sink for Door {
     ghost faults = { λ s. s.inner.plan.faults };
 
     fn put(&mut self, bytes: &[u8]) -> Result<(), Failed> {
+        self.puts = self.puts.saturating_add(1);
         self.inner.put(bytes)
     }
 
@@ -125,110 +141,326 @@ impl Sink for Door {
     }
 }
 
-fn end(ending: Ending, taken: u64, put: u64) -> SessionEnd {
+fn end(ending: Ending, taken: usize, put: usize) -> SessionEnd {
     SessionEnd {
         number: 5,
         ending,
-        taken,
-        put,
+        taken: taken as u64,
+        put: put as u64,
     }
+}
+
+/// Serves a client that sends these parts, and tells whether the session took so many bytes, ended so
+/// and put exactly these parts.
+fn is_served(
+    alloc: Global,
+    sent: &[Part],
+    taken: usize,
+    ending: Ending,
+    wanted: &[Part],
+    port: &mut Block,
+) -> Result<bool, AllocError> {
+    let sent = bytes_of(alloc, sent)?;
+    let wanted = bytes_of(alloc, wanted)?;
+    let mut source = ListSource::new(alloc, &sent, 4096, &[])?;
+    let mut sink = ListSink::new(alloc, 20000, &[])?;
+    let ended = serve_session(alloc, &mut source, &mut sink, port, &EXPORT);
+    Ok(ended == end(ending, taken, wanted.len()) && sink.as_slice() == wanted.as_slice())
 }
 
 #[test]
 fn each_request_is_answered_however_the_bytes_come(rt: HostRuntime) -> Result<(), Fail> {
-    let sent = client(rt.alloc())?;
-    let wanted = server(rt.alloc(), 0, &[0xa5; 512])?;
+    let sent = bytes_of(rt.alloc(), CLIENT)?;
+    let wanted = bytes_of(rt.alloc(), SERVER)?;
     assert_eq!(rt; (sent.len(), wanted.len()), (650, 664));
     for piece in [1, 7, 4096] {
         assert!(rt; piece > 0);
         let mut source = ListSource::new(rt.alloc(), &sent, piece, &[])?;
-        let mut sink = Door {
-            inner: ListSink::new(rt.alloc(), 664, &[])?,
-            times: 0,
-            out: 0,
-        };
+        let mut sink = Door::new(rt.alloc(), 664)?;
         let mut port = Block::new();
         let ended = serve_session(rt.alloc(), &mut source, &mut sink, &mut port, &EXPORT);
         assert_eq!(rt; ended, end(Ending::Disconnected, 650, 664), "{piece}");
         assert_eq!(rt; sink.inner.as_slice(), wanted.as_slice(), "{piece}");
         assert_eq!(rt; (sink.times, sink.out), (5, 664), "each message is let out");
+        assert_eq!(rt; sink.puts, 5, "each message is one piece");
         assert_eq!(rt; port.bytes, [0xa5; 512], "{piece}");
     }
     Ok(())
 }
 
 #[test]
-fn a_request_without_memory_is_answered_so(rt: HostRuntime) -> Result<(), Fail> {
-    let mut source = ListSource::new(rt.alloc(), &client(rt.alloc())?, 4096, &[])?;
-    let mut sink = ListSink::new(rt.alloc(), 664, &[])?;
+fn much_data_goes_out_behind_its_head(rt: HostRuntime) -> Result<(), Fail> {
+    let sent = bytes_of(rt.alloc(), &[FLAGS, GO, READ_OF_9216, DISCONNECT])?;
+    let mut source = ListSource::new(rt.alloc(), &sent, 4096, &[])?;
+    let mut sink = Door::new(rt.alloc(), 20000)?;
     let mut port = Block::new();
-    port.has_memory = false;
     let ended = serve_session(rt.alloc(), &mut source, &mut sink, &mut port, &EXPORT);
-    assert_eq!(rt; ended, end(Ending::Disconnected, 650, 152));
-    assert_eq!(rt; sink.as_slice(), server(rt.alloc(), 12, &[])?.as_slice());
+    assert_eq!(rt; ended, end(Ending::Disconnected, 82, 104 + 16 + 9216));
+    assert_eq!(rt; (sink.puts, sink.times), (4, 3));
     Ok(())
 }
 
 #[test]
-fn a_session_ends_by_its_input(rt: HostRuntime) -> Result<(), Fail> {
-    let wanted = server(rt.alloc(), 0, &[0xa5; 512])?;
-    // of so many bytes of the client's, the one at a place is changed to a value
-    for (length, at, value, ending, taken, put) in [
-        (0, 0, 0, Ending::Closed, 0, 18),
-        (3, 0, 0, Ending::Unbuilt, 3, 18),
-        (650, 3, 1, Ending::Unbuilt, 4, 18),
-        (4, 0, 0, Ending::Closed, 4, 18),
-        (25, 0, 0, Ending::Unbuilt, 25, 18),
-        (650, 15, 6, Ending::Unbuilt, 26, 18),
-        (26, 0, 0, Ending::Closed, 26, 104),
-        (53, 0, 0, Ending::Unbuilt, 53, 104),
-        (565, 0, 0, Ending::Unbuilt, 565, 104),
-        (566, 0, 0, Ending::Closed, 566, 120),
-        (650, 29, 20, Ending::Unbuilt, 54, 104),
-        (650, 31, 1, Ending::Unbuilt, 54, 104),
-        (650, 33, 4, Ending::Unbuilt, 54, 104),
-        (650, 48, 32, Ending::Unbuilt, 54, 104),
-        (650, 49, 1, Ending::Unbuilt, 54, 104),
-        (650, 50, 3, Ending::Unbuilt, 54, 104),
-    ] {
-        let mut sent = client(rt.alloc())?;
-        sent.truncate(length);
-        if let Some(byte) = sent.get_mut(at) {
-            *byte = value;
+fn a_session_row_cut_short_ends_within_its_message(rt: HostRuntime) -> Result<(), Fail> {
+    let sent = bytes_of(rt.alloc(), CLIENT)?;
+    let wanted = bytes_of(rt.alloc(), SERVER)?;
+    // the messages begin here, and so much was put by then
+    let begins = [
+        (0, 18),
+        (4, 18),
+        (26, 104),
+        (566, 120),
+        (594, 648),
+        (622, 664),
+    ];
+    for length in 0..650 {
+        let mut whole = 0;
+        let mut put = 0;
+        for (begin, before) in begins {
+            if begin <= length {
+                whole = begin;
+                put = before;
+            }
         }
-        let mut source = ListSource::new(rt.alloc(), &sent, 7, &[])?;
+        let ending = if whole == length {
+            Ending::Closed
+        } else {
+            Ending::Truncated((length - whole) as u64)
+        };
+        let mut source = ListSource::new(rt.alloc(), &sent[..length], 50, &[])?;
         let mut sink = ListSink::new(rt.alloc(), 664, &[])?;
         let mut port = Block::new();
         let ended = serve_session(rt.alloc(), &mut source, &mut sink, &mut port, &EXPORT);
-        assert_eq!(rt;
-            ended,
-            end(ending, taken, put),
-            "{length} bytes, {value} at {at}"
-        );
-        assert_eq!(rt;
-            Some(sink.as_slice()),
-            wanted.get(..put as usize),
-            "{length}"
-        );
+        assert_eq!(rt; ended, end(ending, length, put), "{length}");
+        assert_eq!(rt; Some(sink.as_slice()), wanted.get(..put), "{length}");
     }
     Ok(())
 }
 
 #[test]
+fn an_export_is_chosen_by_its_name(rt: HostRuntime) -> Result<(), Fail> {
+    let go = &[GREETING, SIZE, BLOCK_SIZES, AGREED];
+    for (sent, taken, ending, wanted) in [
+        (
+            &[FLAGS_WITH_ZEROES, EXPORT_NAME] as &[Part],
+            26,
+            Ending::Closed,
+            &[GREETING, TOLD, ZEROES] as &[Part],
+        ),
+        (&[FLAGS, EXPORT_NAME], 26, Ending::Closed, &[GREETING, TOLD]),
+        (
+            &[FLAGS, EMPTY_EXPORT_NAME, DISCONNECT],
+            48,
+            Ending::Disconnected,
+            &[GREETING, TOLD],
+        ),
+        (
+            &[FLAGS, OTHER_EXPORT_NAME, GO],
+            25,
+            Ending::UnknownExport,
+            &[GREETING],
+        ),
+        (&[FLAGS, GO_OF_VOLUME], 36, Ending::Closed, go),
+        (&[FLAGS_WITH_ZEROES, GO], 26, Ending::Closed, go),
+        (&[UNKNOWN_FLAGS, GO], 4, Ending::BadFlags(4), &[GREETING]),
+        (
+            &[FLAGS, ABORT, GO],
+            20,
+            Ending::Aborted,
+            &[GREETING, ABORTED],
+        ),
+    ] {
+        let served = is_served(rt.alloc(), sent, taken, ending, wanted, &mut Block::new())?;
+        assert!(rt; served, "{ending:?} after {taken}");
+    }
+    Ok(())
+}
+
+#[test]
+fn an_option_is_refused_and_the_next_one_served(rt: HostRuntime) -> Result<(), Fail> {
+    for (option, size, reply) in [
+        (&[GO_MALFORMED] as &[Part], 23, GO_INVALID),
+        (&[GO_SHORT], 19, GO_INVALID),
+        (&[GO_LONG, (b"x", 4096), NO_TYPES], 4118, GO_UNKNOWN),
+        (&[GO_TOO_BIG, (b"x", 4097), NO_TYPES], 4119, GO_NAME_TOO_BIG),
+        (&[GO_OF_OTHER], 27, GO_UNKNOWN),
+        (&[LIST], 16, LIST_UNSUPPORTED),
+        (&[START_TLS], 16, START_TLS_UNSUPPORTED),
+        (&[INFO], 22, INFO_UNSUPPORTED),
+        (&[STRUCTURED_REPLY], 16, STRUCTURED_REPLY_UNSUPPORTED),
+        (
+            &[LONG_OPTION, (b"y", 65536)],
+            65552,
+            LONG_OPTION_UNSUPPORTED,
+        ),
+    ] {
+        let mut sent = Vec::new(rt.alloc());
+        sent.push(FLAGS)?;
+        sent.extend_from_slice(option)?;
+        sent.push(EXPORT_NAME)?;
+        let wanted = [GREETING, reply, TOLD];
+        let served = is_served(
+            rt.alloc(),
+            &sent,
+            26 + size,
+            Ending::Closed,
+            &wanted,
+            &mut Block::new(),
+        )?;
+        assert!(rt; served, "an option of {size} bytes");
+    }
+    for (option, ending) in [
+        (TOO_LONG_OPTION, Ending::TooLong(65537)),
+        (OTHER_MAGIC_OPTION, Ending::BadMagic(0x4948_4156_454f_5055)),
+    ] {
+        let sent = [FLAGS, option, GO];
+        let served = is_served(
+            rt.alloc(),
+            &sent,
+            20,
+            ending,
+            &[GREETING],
+            &mut Block::new(),
+        )?;
+        assert!(rt; served, "{ending:?}");
+    }
+    Ok(())
+}
+
+#[test]
+fn a_request_is_refused_and_the_next_one_served(rt: HostRuntime) -> Result<(), Fail> {
+    let with_body: &[Part] = &[BLOCK];
+    for (request, body, reply) in [
+        (READ_OF_NOTHING, &[] as &[Part], HAS_READ),
+        (READ_BEHIND, &[], READ_INVALID),
+        (WRITE_BEHIND, with_body, NO_SPACE),
+        (READ_FAR, &[], READ_INVALID),
+        (UNALIGNED_READ, &[], READ_INVALID),
+        (LONG_READ, &[], READ_INVALID),
+        (UNKNOWN_TYPE, &[], READ_INVALID),
+        (TRIM, &[], READ_INVALID),
+        (WRITE_ZEROES, &[], READ_INVALID),
+        (FLAGGED_READ, &[], READ_INVALID),
+        (FLAGGED_WRITE, with_body, WRITE_INVALID),
+    ] {
+        let mut sent = Vec::new(rt.alloc());
+        sent.extend_from_slice(&[FLAGS, EXPORT_NAME, request])?;
+        sent.extend_from_slice(body)?;
+        sent.extend_from_slice(&[FLUSH, FLAGGED_DISCONNECT, WRITE])?;
+        let size = 26 + 3 * 28 + 512 * body.len();
+        let wanted = [GREETING, TOLD, reply, FLUSHED];
+        let mut port = Block::new();
+        let served = is_served(
+            rt.alloc(),
+            &sent,
+            size,
+            Ending::Disconnected,
+            &wanted,
+            &mut port,
+        )?;
+        assert!(rt; served, "{size} bytes");
+        assert_eq!(rt; port.bytes, [0; 512]);
+    }
+    for (request, ending) in [
+        (TOO_LONG_WRITE, Ending::TooLong(33_554_433)),
+        (OTHER_MAGIC, Ending::BadMagic(627_086_612)),
+    ] {
+        let sent = [FLAGS, EXPORT_NAME, request, BLOCK];
+        let wanted = [GREETING, TOLD];
+        let served = is_served(rt.alloc(), &sent, 54, ending, &wanted, &mut Block::new())?;
+        assert!(rt; served, "{ending:?}");
+    }
+    Ok(())
+}
+
+#[test]
+fn a_forced_write_is_submitted_so(rt: HostRuntime) -> Result<(), Fail> {
+    for (write, forced) in [(WRITE, false), (FORCED_WRITE, true)] {
+        let sent = [FLAGS, EXPORT_NAME, write, BLOCK, FORCED_READ];
+        let wanted = [GREETING, TOLD, WRITTEN, HAS_READ, BLOCK];
+        let mut port = Block::new();
+        let served = is_served(rt.alloc(), &sent, 594, Ending::Closed, &wanted, &mut port)?;
+        assert!(rt; served, "{forced}");
+        assert_eq!(rt; port.forced, forced);
+    }
+    Ok(())
+}
+
+#[test]
+fn a_request_without_memory_is_answered_so(rt: HostRuntime) -> Result<(), Fail> {
+    let mut port = Block::new();
+    port.has_memory = false;
+    let wanted = [
+        GREETING,
+        SIZE,
+        BLOCK_SIZES,
+        AGREED,
+        WRITE_WANTS_MEMORY,
+        READ_WANTS_MEMORY,
+        FLUSH_WANTS_MEMORY,
+    ];
+    let served = is_served(
+        rt.alloc(),
+        CLIENT,
+        650,
+        Ending::Disconnected,
+        &wanted,
+        &mut port,
+    )?;
+    assert!(rt; served);
+    Ok(())
+}
+
+#[test]
+fn a_spent_port_ends_the_session(rt: HostRuntime) -> Result<(), Fail> {
+    let mut port = Block::new();
+    port.operations = 1;
+    let wanted = [GREETING, SIZE, BLOCK_SIZES, AGREED, WRITTEN];
+    let served = is_served(
+        rt.alloc(),
+        CLIENT,
+        594,
+        Ending::PortSpent,
+        &wanted,
+        &mut port,
+    )?;
+    assert!(rt; served);
+    Ok(())
+}
+
+#[test]
+fn a_session_has_its_most_options(rt: HostRuntime) -> Result<(), Fail> {
+    let mut sent = bytes_of(rt.alloc(), &[FLAGS])?;
+    for number in 0..65536 {
+        sent.extend_from_slice(LIST.0)?;
+    }
+    sent.extend_from_slice(GO.0)?;
+    let mut source = ListSource::new(rt.alloc(), &sent, 65536, &[])?;
+    let mut sink = ListSink::new(rt.alloc(), 18 + 20 * 65536, &[])?;
+    let mut port = Block::new();
+    let ended = serve_session(rt.alloc(), &mut source, &mut sink, &mut port, &EXPORT);
+    let wanted = end(Ending::TooMany(65536), 4 + 16 * 65536, 18 + 20 * 65536);
+    assert_eq!(rt; ended, wanted);
+    Ok(())
+}
+
+#[test]
 fn a_session_ends_by_a_fault(rt: HostRuntime) -> Result<(), Fail> {
-    let sent = client(rt.alloc())?;
-    let wanted = server(rt.alloc(), 0, &[0xa5; 512])?;
+    let sent = bytes_of(rt.alloc(), CLIENT)?;
+    let wanted = bytes_of(rt.alloc(), SERVER)?;
     // the sink has so much room, and the source's and the sink's calls of these numbers fail
     for (room, take, call, ending, taken, put) in [
         (17, 99, 99, Ending::WriteFault, 0, 0),
         (103, 99, 99, Ending::WriteFault, 26, 18),
-        (647, 99, 99, Ending::WriteFault, 594, 136),
+        (647, 99, 99, Ending::WriteFault, 594, 120),
         (663, 99, 99, Ending::WriteFault, 622, 648),
         (664, 99, 1, Ending::WriteFault, 0, 18),
         (664, 0, 99, Ending::ReadFault, 0, 18),
-        (664, 2, 99, Ending::ReadFault, 26, 104),
-        (664, 3, 99, Ending::ReadFault, 54, 104),
-        (664, 6, 99, Ending::ReadFault, 622, 664),
+        (664, 1, 99, Ending::ReadFault, 4, 18),
+        (664, 2, 99, Ending::ReadFault, 20, 18),
+        (664, 3, 99, Ending::ReadFault, 26, 104),
+        (664, 4, 99, Ending::ReadFault, 54, 104),
+        (664, 7, 99, Ending::ReadFault, 622, 664),
     ] {
         let mut source = ListSource::new(rt.alloc(), &sent, 4096, &[take])?;
         let mut sink = ListSink::new(rt.alloc(), room, &[call])?;
@@ -239,11 +471,7 @@ fn a_session_ends_by_a_fault(rt: HostRuntime) -> Result<(), Fail> {
             end(ending, taken, put),
             "room {room}, {take}, {call}"
         );
-        assert_eq!(rt;
-            Some(sink.as_slice()),
-            wanted.get(..put as usize),
-            "room {room}"
-        );
+        assert_eq!(rt; Some(sink.as_slice()), wanted.get(..put), "room {room}");
     }
     Ok(())
 }

@@ -1,7 +1,7 @@
-mod FieldLemmas
+pub mod FieldLemmas
 mod HandshakeLemmas
 mod InfoReplyLemmas
-mod OptionLemmas
+pub mod OptionLemmas
 mod OptionReplyLemmas
-mod RequestLemmas
+pub mod RequestLemmas
 mod SimpleReplyLemmas

@@ -1,4 +1,4 @@
-ghost use Rattle.std.specs.Prelude.{◌≡◌, ◌≢◌, IfOk, IfErr, take};
+ghost use Rattle.std.specs.Prelude.{◌≡◌, ◌≢◌, ◌<◌, ◌^◌, IfOk, IfErr, take};
 ghost use Rattle.nbd_wire.specs.Fields.{u64_text};
 ghost use Rattle.nbd_wire.specs.Options.{IsOptionHead, option_number, option_of, option_text};
 ghost use Rattle.nbd_wire.specs.Magic.{option_magic};
@@ -68,6 +68,7 @@ impl OptionHead {
         ensures taken { IfOk result (λ head. IsOptionHead head × (option_text head ≡ bytes.now)) }
         ensures only { (head : OptionHead) → IsOptionHead head → option_text head ≡ bytes.now → result ≡ Ok head }
         ensures refused { IfErr result (λ bad. (u64_text bad.number ≡ take 8 bytes.now) × (bad.number ≢ option_magic)) }
+        ensures fits { IfErr result (λ bad. bad.number < 2 ^ 64) }
     {
         let magic = u64_at(bytes, 0);
         if magic != OPTION_MAGIC {

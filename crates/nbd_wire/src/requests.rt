@@ -1,4 +1,4 @@
-ghost use Rattle.std.specs.Prelude.{◌≡◌, ◌≢◌, ◌↔◌, ◌≤◌, IsTrue, IfOk, IfErr, take};
+ghost use Rattle.std.specs.Prelude.{◌≡◌, ◌≢◌, ◌↔◌, ◌<◌, ◌≤◌, ◌^◌, IsTrue, IfOk, IfErr, take};
 ghost use Rattle.std.specs.Int.{IsBitSet};
 ghost use Rattle.nbd_wire.specs.Fields.{u32_text};
 ghost use Rattle.nbd_wire.specs.Requests.{IsRequestHead, command_number, command_of, request_text};
@@ -60,6 +60,9 @@ pub struct CommandFlags {
 }
 
 impl CommandFlags {
+    /// "Force unit access".
+    pub const FUA: CommandFlags = CommandFlags { bits: 1 };
+
     /// "Force unit access": what is written is to be kept before the reply.
     pub fn has_fua(self) -> bool
         ensures { IsTrue result ↔ IsBitSet self.bits 0 }
@@ -100,6 +103,7 @@ impl RequestHead {
         ensures taken { IfOk result (λ head. IsRequestHead head × (request_text head ≡ bytes.now)) }
         ensures only { (head : RequestHead) → IsRequestHead head → request_text head ≡ bytes.now → result ≡ Ok head }
         ensures refused { IfErr result (λ bad. (u32_text bad.number ≡ take 4 bytes.now) × (bad.number ≢ request_magic)) }
+        ensures fits { IfErr result (λ bad. bad.number < 2 ^ 32) }
     {
         let magic = u32_at(bytes, 0);
         if magic != REQUEST_MAGIC {

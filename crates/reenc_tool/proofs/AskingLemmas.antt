@@ -1,15 +1,13 @@
 -- A link that was asked once.
 use Rattle.std.proofs.Common.{◌≡◌, ℕ, List, [], ◌∷◌, ◌++◌, Option, Some, ap, refl, sym, subst, append-nil}
-use Rattle.std.specs.Prelude.{OnErr, Result, Ok, Err}
-use Rattle.std.specs.declared.alloc.AllocError.{AllocError}
-use Rattle.plain_disk.specs.declared.operation.Reply.{Reply}
 use Rattle.plain_volume.specs.Histories.{did_none}
 use Rattle.plain_volume.specs.Volume.{Volume, Did}
 use Rattle.bays.specs.Stories.{Script, Handed, Story, Begins, TakesBack}
 use Rattle.nbd_session.specs.declared.ending.SessionEnd.{SessionEnd}
 use Rattle.nbd_session.specs.declared.export.Export.{Export}
 use Rattle.nbd_session.specs.Moments.{Traffic, moment}
-use Rattle.nbd_session.specs.Session.{Log, IsSession, exchanges_of}
+use Rattle.nbd_session.specs.Session.{Log, IsSession}
+use Rattle.nbd_session.specs.Turns.{exchanges_of}
 use Rattle.reenc_tool.specs.Playing.{Played, AreSessions, Goes, Plays, numbered, operations_of}
 
 pub goes_none : (old new : Option Story) → ((story : Story) → old ≡ Some story → new ≡ Some story) → Goes old new []
@@ -70,6 +68,5 @@ pub operations_of-one : (one : Played) → operations_of (one ∷ []) ≡ exchan
 unfolding operations_of
 operations_of-one one = append-nil (exchanges_of one.log.turns)
 
-pub err_did : (result : Result Reply AllocError) (old new : Volume) → OnErr result (new ≡ old) → OnErr result (Did old new [])
-err_did (Ok reply) old new same = tt
-err_did (Err e) old new same = subst (λ (v : Volume). Did old v []) (sym same) (did_none old)
+pub same_did : (old new : Volume) → new ≡ old → Did old new []
+same_did old new same = subst (λ (v : Volume). Did old v []) (sym same) (did_none old)

@@ -8,7 +8,7 @@ use Rattle.base_terms.specs.Causes.{Rose}
 use Rattle.bays.specs.Stories.{Story}
 use Rattle.nbd_session.specs.declared.ending.SessionEnd.{SessionEnd}
 use Rattle.nbd_session.specs.declared.export.Export.{Export}
-use Rattle.nbd_session.specs.Session.{exchanges_of}
+use Rattle.nbd_session.specs.Turns.{exchanges_of}
 use Rattle.reenc_tool.specs.Asking.{HasNoneAhead}
 use Rattle.reenc_tool.specs.Lanes.{Lane, Lanes, TurnIs, IsOneOf}
 use Rattle.reenc_tool.specs.Playing.{Played, AreNumbered, AreSessions, Goes, Plays, of_link, operations_of}

@@ -4,7 +4,8 @@ use Rattle.bays.specs.Stories.{Script, Handed, Story}
 use Rattle.nbd_session.specs.declared.ending.SessionEnd.{SessionEnd}
 use Rattle.nbd_session.specs.declared.export.Export.{Export}
 use Rattle.nbd_session.specs.Moments.{Moment, moment}
-use Rattle.nbd_session.specs.Session.{Log, IsSession, exchanges_of}
+use Rattle.nbd_session.specs.Session.{Log, IsSession}
+use Rattle.nbd_session.specs.Turns.{exchanges_of}
 use Rattle.plain_disk.specs.Plain.{Exchange}
 
 -- a session that was served: the link that its connection came from, how it ended, its log, and the

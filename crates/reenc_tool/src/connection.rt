@@ -26,7 +26,6 @@ pub fn serve_next<L: Link, P: Port>(
     port: &mut P,
     export: &Export,
 ) -> Asked
-    requires { 0 < export.now.atom }
     ensures { (k : ℕ) → (played : List Played) × AskedIs export.now k (L.told link.old) (L.told link.new) (L.bound link.old)
         (L.bound link.new) (L.faults link.old) (L.faults link.new) ends.old.items ends.new.items result played
         × P.did port.old port.new (operations_of played) }

@@ -35,7 +35,6 @@ fn serve_turn<L: Link, P: Port>(
     export: &Export,
     trouble: &mut Trouble,
 )
-    requires { 0 < export.now.atom }
     ensures turn { (k : ℕ) → (played : List Played) × P.did port.old port.new (operations_of played)
         × TurnIs export.now k (L.told link.old) (L.told link.new) (L.bound link.old) (L.bound link.new) (L.faults link.old) (L.faults link.new)
         ends.old.items ends.new.items live.old live.new trouble.old.failed trouble.new.failed trouble.new.memory played }
@@ -66,7 +65,6 @@ fn serve_round<L: Link, P: Port>(
     export: &Export,
     trouble: &mut Trouble,
 )
-    requires atom { 0 < export.now.atom }
     requires links { length links.old.items ≤ 16 }
     requires lists { length ends.old.items ≡ length links.old.items }
     requires numbers { export.now.number + 16 < 2 ^ 64 }
@@ -111,7 +109,6 @@ pub fn serve_links<L: Link, P: Port>(
     size: u64,
     atom: u32,
 ) -> Trouble
-    requires atom { 0 < atom }
     requires links { length links.old.items ≤ 16 }
     requires lists { length ends.old.items ≡ length links.old.items }
     requires empty { (k : ℕ) (list : _) → k < length links.old.items → (slice_index_or ends.old.items k list).items ≡ [] }

@@ -1,8 +1,12 @@
 mod messages;
 
 use self::messages::{
-    AGAIN, AGREED, BLOCK, BLOCK_SIZES, CLIENT, FLUSHED, GREETING, HAS_READ, NOT_FLUSHED, NOT_READ,
-    NOT_WRITTEN, Part, READER, SILENT, SIZE, STRANGER, WRITER, WRITTEN, bytes_of,
+    ABORTED, AGAIN, AGREED, BLOCK, BLOCK_SIZES, BRIEF, CLIENT, DISCONNECT, EXPORT_NAME,
+    FLAGGED_WRITE, FLUSH, FLUSHED, FORCED_WRITE, GREETING, HAS_READ, HELLO, LEAVING, LONG_READ,
+    MISTAKEN, NAMING, NO_SPACE, NO_TLS, NOT_FLUSHED, NOT_READ, NOT_WRITTEN, OTHER_MAGIC, Part,
+    READ, READ_BEHIND, READ_FAR, READ_INVALID, READ_OF_NOTHING, READER, SILENT, SIZE, STRANGER,
+    TOLD, TOO_LONG_WRITE, UNALIGNED_READ, UNKNOWN_TYPE, WARY, WRITE_BEHIND, WRITE_INVALID, WRITER,
+    WRITTEN, ZEROES, bytes_of,
 };
 use crate::{Cause, Ended, Ending, Fit, SessionEnd, run};
 use bays::{MemBay, MemLink};
@@ -25,7 +29,7 @@ struct Outside<'a> {
     /// The calls of the bay, and of each link, that fail.
     fails: &'a [&'a [u64]],
     /// What each client sends.
-    clients: &'a [&'static [Part]],
+    clients: &'a [&'a [Part]],
     /// The most bytes that come at once.
     piece: usize,
     /// How many bytes each client takes.
@@ -153,7 +157,10 @@ fn a_client_is_answered_however_its_bytes_come(rt: HostRuntime) -> Result<(), Fa
 #[test]
 fn a_session_that_goes_no_further_leaves_the_command_fine(rt: HostRuntime) -> Result<(), Fail> {
     let greeting = bytes_of(rt.alloc(), &[GREETING])?;
-    for (client, ending, taken) in [(STRANGER, Ending::Unbuilt, 4), (SILENT, Ending::Closed, 0)] {
+    for (client, ending, taken) in [
+        (STRANGER, Ending::BadFlags(4), 4),
+        (SILENT, Ending::Closed, 0),
+    ] {
         let outside = Outside {
             clients: &[client],
             ..SMALL
@@ -163,6 +170,116 @@ fn a_session_that_goes_no_further_leaves_the_command_fine(rt: HostRuntime) -> Re
         assert_eq!(rt; out.as_slice(), b"served 1 sessions\n".as_slice());
         assert_eq!(rt; end_of(&ended, 0, 0), end(0, ending, taken, 18));
         assert_eq!(rt; put_of(&ended, 0, 0), Some(greeting.as_slice()));
+    }
+    Ok(())
+}
+
+#[test]
+fn a_client_negotiates_in_its_own_way(rt: HostRuntime) -> Result<(), Fail> {
+    // the zeros of the block that was never written
+    let content = ("00", 512);
+    for (client, ending, taken, wanted) in [
+        (
+            NAMING,
+            Ending::Disconnected,
+            82,
+            &[GREETING, TOLD, ZEROES, HAS_READ, content] as &[Part],
+        ),
+        (
+            BRIEF,
+            Ending::Disconnected,
+            82,
+            &[GREETING, TOLD, HAS_READ, content],
+        ),
+        (MISTAKEN, Ending::UnknownExport, 25, &[GREETING]),
+        (LEAVING, Ending::Aborted, 20, &[GREETING, ABORTED]),
+        (
+            WARY,
+            Ending::Disconnected,
+            666,
+            &[
+                GREETING,
+                NO_TLS,
+                SIZE,
+                BLOCK_SIZES,
+                AGREED,
+                WRITTEN,
+                HAS_READ,
+                BLOCK,
+                FLUSHED,
+            ],
+        ),
+    ] {
+        let outside = Outside {
+            clients: &[client],
+            ..SMALL
+        };
+        let (ended, _) = command(&rt, rt.alloc(), WORDS, &outside)?;
+        let wanted = bytes_of(rt.alloc(), wanted)?;
+        let served = end(0, ending, taken, wanted.len() as u64);
+        assert_eq!(rt; end_of(&ended, 0, 0), served);
+        assert_eq!(rt; put_of(&ended, 0, 0), Some(wanted.as_slice()), "{taken}");
+        assert_eq!(rt; (ended.status, ended.cause), (0, Cause::Fine), "{taken}");
+    }
+    Ok(())
+}
+
+#[test]
+fn each_request_has_its_answer(rt: HostRuntime) -> Result<(), Fail> {
+    let client: &[Part] = &[
+        HELLO,
+        EXPORT_NAME,
+        READ_OF_NOTHING,
+        READ_BEHIND,
+        WRITE_BEHIND,
+        BLOCK,
+        READ_FAR,
+        UNALIGNED_READ,
+        UNKNOWN_TYPE,
+        FLAGGED_WRITE,
+        BLOCK,
+        LONG_READ,
+        FORCED_WRITE,
+        BLOCK,
+        READ,
+        FLUSH,
+    ];
+    let answers = [
+        GREETING,
+        TOLD,
+        HAS_READ,
+        READ_INVALID,
+        NO_SPACE,
+        READ_INVALID,
+        READ_INVALID,
+        READ_INVALID,
+        WRITE_INVALID,
+        READ_INVALID,
+        WRITTEN,
+        HAS_READ,
+        BLOCK,
+        FLUSHED,
+    ];
+    for (last, taken, ending) in [
+        (DISCONNECT, 28, Ending::Disconnected),
+        (OTHER_MAGIC, 28, Ending::BadMagic(627_086_612)),
+        (TOO_LONG_WRITE, 28, Ending::TooLong(33_554_433)),
+        (("2560951300", 1), 5, Ending::Truncated(5)),
+        (("", 1), 0, Ending::Closed),
+    ] {
+        let mut sent = Vec::new(rt.alloc());
+        sent.extend_from_slice(client)?;
+        sent.push(last)?;
+        let outside = Outside {
+            clients: &[&sent],
+            ..SMALL
+        };
+        let (ended, _) = command(&rt, rt.alloc(), WORDS, &outside)?;
+        let wanted = bytes_of(rt.alloc(), &answers)?;
+        let served = end(0, ending, 1870 + taken, wanted.len() as u64);
+        assert_eq!(rt; end_of(&ended, 0, 0), served);
+        assert_eq!(rt; put_of(&ended, 0, 0), Some(wanted.as_slice()), "{taken}");
+        assert_eq!(rt; (ended.status, ended.cause), (0, Cause::Fine), "{taken}");
     }
     Ok(())
 }
@@ -288,7 +405,7 @@ fn a_client_that_takes_no_more_ends_its_session(rt: HostRuntime) -> Result<(), F
         rt.alloc(),
         &[GREETING, SIZE, BLOCK_SIZES, AGREED, WRITTEN, HAS_READ],
     )?;
-    for (room, taken, put) in [(17, 0, 0), (103, 26, 18), (647, 594, 136)] {
+    for (room, taken, put) in [(17, 0, 0), (103, 26, 18), (647, 594, 120)] {
         let (ended, out) = command(&rt, rt.alloc(), WORDS, &Outside { room, ..SMALL })?;
         assert_eq!(rt;
             end_of(&ended, 0, 0),

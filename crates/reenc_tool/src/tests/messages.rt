@@ -6,26 +6,28 @@ use std::test::Fail;
 /// Bytes in hexadecimal, and how often they come.
 pub type Part = (&'static str, usize);
 
-const HELLO: Part = ("00000003", 1);
+pub const HELLO: Part = ("00000003", 1);
 
 const GO: Part = ("49484156454f50540000000700000006000000000000", 1);
+
+pub const EXPORT_NAME: Part = ("49484156454f50540000000100000006766f6c756d65", 1);
 
 const WRITE: Part = (
     "25609513000000010000000000000001000000000000000000000200",
     1,
 );
 
-const READ: Part = (
+pub const READ: Part = (
     "25609513000000000000000000000002000000000000000000000200",
     1,
 );
 
-const FLUSH: Part = (
+pub const FLUSH: Part = (
     "25609513000000030000000000000003000000000000000000000000",
     1,
 );
 
-const DISCONNECT: Part = (
+pub const DISCONNECT: Part = (
     "25609513000000020000000000000004000000000000000000000000",
     1,
 );
@@ -64,8 +66,111 @@ pub const NOT_FLUSHED: Part = ("67446698000000050000000000000003", 1);
 /// What a client sends that writes the first block, reads it, flushes and disconnects.
 pub const CLIENT: &[Part] = &[HELLO, GO, WRITE, BLOCK, READ, FLUSH, DISCONNECT];
 
-/// One that sends other flags and then the same.
-pub const STRANGER: &[Part] = &[("00000001", 1), GO, WRITE, BLOCK, READ, FLUSH, DISCONNECT];
+/// One with a flag that isn't known.
+pub const STRANGER: &[Part] = &[("00000004", 1), GO, WRITE, BLOCK, READ, FLUSH, DISCONNECT];
+
+/// Clients that choose the export by its name, with and without the zeros, and one that asks for
+/// another name.
+pub const NAMING: &[Part] = &[("00000001", 1), EXPORT_NAME, READ, DISCONNECT];
+
+pub const BRIEF: &[Part] = &[HELLO, EXPORT_NAME, READ, DISCONNECT];
+
+pub const MISTAKEN: &[Part] = &[
+    HELLO,
+    ("49484156454f505400000001000000056f74686572", 1),
+    READ,
+];
+
+/// One that gives up.
+pub const LEAVING: &[Part] = &[HELLO, ("49484156454f50540000000200000000", 1), READ];
+
+/// One that asks for STARTTLS before it writes, reads, flushes and disconnects.
+pub const WARY: &[Part] = &[
+    HELLO,
+    ("49484156454f50540000000500000000", 1),
+    GO,
+    WRITE,
+    BLOCK,
+    READ,
+    FLUSH,
+    DISCONNECT,
+];
+
+/// A write that is to be kept before its reply, and one with a flag that isn't known.
+pub const FORCED_WRITE: Part = (
+    "25609513000100010000000000000001000000000000000000000200",
+    1,
+);
+
+pub const FLAGGED_WRITE: Part = (
+    "25609513000200010000000000000001000000000000000000000200",
+    1,
+);
+
+/// A write of 512 bytes at the end of the small disk.
+pub const WRITE_BEHIND: Part = (
+    "25609513000000010000000000000001000000000000200000000200",
+    1,
+);
+
+/// Reads of none at the end of the small disk, of 512 bytes there, at 2^64 - 512 and at 1, of
+/// 33554944 bytes, and a type that isn't known.
+pub const READ_OF_NOTHING: Part = (
+    "25609513000000000000000000000002000000000000200000000000",
+    1,
+);
+
+pub const READ_BEHIND: Part = (
+    "25609513000000000000000000000002000000000000200000000200",
+    1,
+);
+
+pub const READ_FAR: Part = (
+    "25609513000000000000000000000002fffffffffffffe0000000200",
+    1,
+);
+
+pub const UNALIGNED_READ: Part = (
+    "25609513000000000000000000000002000000000000000100000200",
+    1,
+);
+
+pub const LONG_READ: Part = (
+    "25609513000000000000000000000002000000000000000002000200",
+    1,
+);
+
+pub const UNKNOWN_TYPE: Part = (
+    "25609513000000090000000000000002000000000000000000000200",
+    1,
+);
+
+/// What ends the session by its magic number, and by its length.
+pub const OTHER_MAGIC: Part = (
+    "25609514000000020000000000000004000000000000000000000000",
+    1,
+);
+
+pub const TOO_LONG_WRITE: Part = (
+    "25609513000000010000000000000001000000000000000002000001",
+    1,
+);
+
+/// The answers to EXPORT_NAME, to ABORT and to STARTTLS.
+pub const TOLD: Part = ("0000000000002000010d", 1);
+
+pub const ZEROES: Part = ("00", 124);
+
+pub const ABORTED: Part = ("0003e889045565a9000000020000000100000000", 1);
+
+pub const NO_TLS: Part = ("0003e889045565a9000000058000000100000000", 1);
+
+/// The replies of an invalid argument, number 22, and of no space, number 28.
+pub const WRITE_INVALID: Part = ("67446698000000160000000000000001", 1);
+
+pub const READ_INVALID: Part = ("67446698000000160000000000000002", 1);
+
+pub const NO_SPACE: Part = ("674466980000001c0000000000000001", 1);
 
 /// One that sends nothing.
 pub const SILENT: &[Part] = &[];

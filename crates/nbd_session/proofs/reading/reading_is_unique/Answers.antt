@@ -2,4 +2,4 @@ use Rattle.nbd_session.proofs.ReadingLemmas.{reads-once}
 use Rattle.nbd_session.proofs.reading.reading_is_unique.Goals as goal
 
 pub returns : goal.returns
-returns c = reads-once c.args.export.now
+returns c = reads-once

@@ -1,49 +1,11 @@
-use Rattle.std.proofs.Common.{◌+◌, ◌∙◌, sym, ap, Some}
-use Rattle.nbd_session.specs.Counts.{capped}
-use Rattle.nbd_session.specs.Traffic.{filled_of}
-use Rattle.nbd_session.proofs.RequestLemmas.{next-whole, next-short, next-ended, next-fault}
+use Rattle.std.proofs.Common.{sym, ◌∙◌}
+use Rattle.nbd_session.proofs.HeadLemmas.{head-taken, next-joined, next-last}
 use Rattle.nbd_session.proofs.requests.next_request.Goals as goal
 
-pub returns-in-Whole-take_body : goal.returns-in-Whole-take_body
-returns-in-Whole-take_body g c =
-    next-whole c.args.export.now _ _ _ _ _ _ _ _ _ _ c.counted.result _ c.fill-filled.new.buf c.in-Some-Write.cookie c.in-Some-Write.offset c.in-Some-Write.length _
-    (record {
-      fills = c.in-Whole.ensures;
-      size = c.fill-filled.auto.buf;
-      counted = c.counted.ensures ∙ ap (λ filled. capped (c.args.taken.now + filled_of 28 filled)) c.in-Whole.is;
-      asks = sym c.read_request.ensures ∙ c.in-Some-Write.is ∙ ap Some c.in-Some-Write.field-0-is;
-    })
-    c.in-Whole-take_body.ensures
+pub returns-in-None : goal.returns-in-None
+returns-in-None g c =
+    next-joined _ _ _ c.in-Ok-read.head _ (head-taken _ _ 28 _ _ c.in-Ok-read.ensures.taken.1 c.in-Ok.ensures) c.behind_head.ensures
 
-pub returns-in-Short : goal.returns-in-Short
-returns-in-Short g c =
-    next-short c.args.export.now _ _ _ _ _ _ _ _ _ _ c.counted.result _ c.fill-filled.new.buf c.in-Some-Write.cookie c.in-Some-Write.offset c.in-Some-Write.length
-    (record {
-      fills = c.in-Whole.ensures;
-      size = c.fill-filled.auto.buf;
-      counted = c.counted.ensures ∙ ap (λ filled. capped (c.args.taken.now + filled_of 28 filled)) c.in-Whole.is;
-      asks = sym c.read_request.ensures ∙ c.in-Some-Write.is ∙ ap Some c.in-Some-Write.field-0-is;
-    })
-    c.in-Short.ensures
-
-pub returns-in-Ended-take_body : goal.returns-in-Ended-take_body
-returns-in-Ended-take_body g c =
-    next-ended c.args.export.now _ _ _ _ _ _ _ _ _ _ c.counted.result _ c.fill-filled.new.buf c.in-Some-Write.cookie c.in-Some-Write.offset c.in-Some-Write.length
-    (record {
-      fills = c.in-Whole.ensures;
-      size = c.fill-filled.auto.buf;
-      counted = c.counted.ensures ∙ ap (λ filled. capped (c.args.taken.now + filled_of 28 filled)) c.in-Whole.is;
-      asks = sym c.read_request.ensures ∙ c.in-Some-Write.is ∙ ap Some c.in-Some-Write.field-0-is;
-    })
-    c.in-Ended-take_body.ensures
-
-pub returns-in-Fault-take_body : goal.returns-in-Fault-take_body
-returns-in-Fault-take_body g c =
-    next-fault c.args.export.now _ _ _ _ _ _ _ _ _ _ c.counted.result _ c.fill-filled.new.buf c.in-Some-Write.cookie c.in-Some-Write.offset c.in-Some-Write.length
-    (record {
-      fills = c.in-Whole.ensures;
-      size = c.fill-filled.auto.buf;
-      counted = c.counted.ensures ∙ ap (λ filled. capped (c.args.taken.now + filled_of 28 filled)) c.in-Whole.is;
-      asks = sym c.read_request.ensures ∙ c.in-Some-Write.is ∙ ap Some c.in-Some-Write.field-0-is;
-    })
-    c.in-Fault-take_body.ensures
+pub returns-in-Some : goal.returns-in-Some
+returns-in-Some g c =
+    next-last _ _ c.in-Ok-read.head c.in-Some.ending (head-taken _ _ 28 _ _ c.in-Ok-read.ensures.taken.1 c.in-Ok.ensures) c.in-Ok-read.ensures.taken.0 (sym c.in-Some.ensures)

@@ -1,11 +1,11 @@
-use Rattle.std.proofs.Common.{[], ◌∷◌, false, true, refl}
+use Rattle.std.proofs.Common.{List, [], ◌∷◌, Some, ◌∙◌, false, true, refl, sym, subst}
+use Rattle.plain_disk.specs.Plain.{Exchange}
 use Rattle.plain_disk.specs.declared.operation.Reply.TheVariants.{Errno}
-use Rattle.nbd_session.specs.Session.{Turn, exchanges_of}
-use Rattle.nbd_session.proofs.ServingLemmas.{serves-stop, serves-turn}
+use Rattle.nbd_session.specs.Turns.{Turn}
+use Rattle.nbd_session.proofs.RequestLemmas.{serves-stop, serves-spent, serves-turn, refused-answered, refused-exchanges, exchanges_of-none, exchanges_of-one}
 use Rattle.nbd_session.proofs.session.serve_request.Goals as goal
 
 pub returns-in-Stop : goal.returns-in-Stop
-unfolding exchanges_of
 returns-in-Stop g c =
     let next = c.in-Stop.ensures in (
       [],
@@ -14,31 +14,68 @@ returns-in-Stop g c =
       [],
       next.1,
       (λ e. absurd (cc)),
-      g.met.P.Port.did_none c.args.port.now,
-      λ n fewer. serves-stop _ _ _ _ _ _ _ _ _ _ _ _ c.in-Stop.ending next.0 next.1 n next.2 fewer,
+      subst (λ (done : List Exchange). g.P.Port.did c.args.port.now c.args.port.now done) (sym exchanges_of-none) (g.met.P.Port.did_none c.args.port.now),
+      λ n fewer. serves-stop _ _ _ _ _ c.in-Stop.ending next.0 next.1 n next.2 fewer,
     )
 
-pub returns-in-Short : goal.returns-in-Short
-unfolding exchanges_of
-returns-in-Short g c =
-    let next = c.in-Short.ensures in
-    let turn : Turn = record { cookie = c.in-Short.cookie; op = next.2.by_case.0; reply = Errno 12; tried = 0; submitted = false } in
-    let served = serves-turn _ _ _ _ _ _ _ _ _ _ _ _ _ _ _ turn next.0 c.answer.result next.2.took next.2.by_case.2 next.2.taken next.2.by_case.1 (λ _. (refl, refl)) c.answer.ensures in
-    (turn ∷ [], next.0, served.0, served.1, false, (λ e. refl), g.met.P.Port.did_none c.args.port.now, served.2)
+pub returns-in-Refuse : goal.returns-in-Refuse
+returns-in-Refuse g c =
+    let next = c.in-Refuse.ensures in
+    let is = next.2.by_case in
+    let turn : Turn = record { cookie = c.in-Refuse.cookie; asked = is.0; reply = Errno c.in-Refuse.number; tried = 0; submitted = false } in
+    let served = serves-turn _ _ _ _ _ _ _ _ turn next.0 c.answer.result next.2.takes is.3 is.1 (refused-answered is.0 c.in-Refuse.number is.2) c.answer.ensures in (
+      turn ∷ [],
+      next.0,
+      served.0,
+      served.1,
+      false,
+      (λ e. refl),
+      subst (λ (done : List Exchange). g.P.Port.did c.args.port.now c.args.port.now done) (sym (exchanges_of-one turn ∙ refused-exchanges is.0 c.in-Refuse.number))
+          (g.met.P.Port.did_none c.args.port.now),
+      served.2,
+    )
 
-pub returns-in-Ok : goal.returns-in-Ok
-unfolding exchanges_of
-returns-in-Ok g c =
+pub returns-in-Ok-Replied : goal.returns-in-Ok-Replied
+returns-in-Ok-Replied g c =
     let next = c.in-Ask.ensures in
-    let did = c.in-Ok.ensures.ok in
-    let turn : Turn = record { cookie = c.in-Ask.cookie; op = c.in-Ask.op; reply = c.in-Ok.reply; tried = did.0; submitted = true } in
-    let served = serves-turn _ _ _ _ _ _ _ _ _ _ _ _ _ _ _ turn next.0 c.answer-in-Ok.result next.2.took next.2.by_case.1 next.2.taken next.2.by_case.0 (λ e. absurd (cc)) c.answer-in-Ok.ensures in
-    (turn ∷ [], next.0, served.0, served.1, false, (λ e. refl), did.1, served.2)
+    let did = c.in-Ok-Replied.ensures.ok in
+    let turn : Turn = record { cookie = c.in-Ask.cookie; asked = Some c.in-Ask.op; reply = c.in-Ok-Replied.reply; tried = did.0; submitted = true } in
+    let served = serves-turn _ _ _ _ _ _ _ _ turn next.0 c.answer-in-Ok-Replied.result next.2.takes next.2.by_case.1 next.2.by_case.0 tt c.answer-in-Ok-Replied.ensures in (
+      turn ∷ [],
+      next.0,
+      served.0,
+      served.1,
+      false,
+      (λ e. refl),
+      subst (λ (done : List Exchange). g.P.Port.did c.args.port.now c.submit.new.self done) (sym (exchanges_of-one turn)) (rw c.in-Ok-Replied.field-0-is at did.1),
+      served.2,
+    )
+
+pub returns-in-Ok-Spent : goal.returns-in-Ok-Spent
+returns-in-Ok-Spent g c =
+    let next = c.in-Ask.ensures in
+    let did = c.in-Ok-Spent.ensures.ok in (
+      [],
+      next.0,
+      [],
+      [],
+      false,
+      (λ e. absurd (cc)),
+      subst (λ (done : List Exchange). g.P.Port.did c.args.port.now c.submit.new.self done) (sym exchanges_of-none) (rw c.in-Ok-Spent.field-0-is at did.1),
+      λ n fewer. serves-spent _ _ _ _ _ c.in-Ask.cookie c.in-Ask.op next.0 next.1 n next.2 fewer,
+    )
 
 pub returns : goal.returns
-unfolding exchanges_of
 returns g c =
     let next = c.in-Ask.ensures in
-    let turn : Turn = record { cookie = c.in-Ask.cookie; op = c.in-Ask.op; reply = Errno 12; tried = 0; submitted = false } in
-    let served = serves-turn _ _ _ _ _ _ _ _ _ _ _ _ _ _ _ turn next.0 c.answer-in-Err.result next.2.took next.2.by_case.1 next.2.taken next.2.by_case.0 (λ _. (refl, refl)) c.answer-in-Err.ensures in
-    (turn ∷ [], next.0, served.0, served.1, false, (λ e. refl), c.in-Err.ensures.err, served.2)
+    let turn : Turn = record { cookie = c.in-Ask.cookie; asked = Some c.in-Ask.op; reply = Errno 12; tried = 0; submitted = false } in
+    let served = serves-turn _ _ _ _ _ _ _ _ turn next.0 c.answer-in-Err.result next.2.takes next.2.by_case.1 next.2.by_case.0 (refl, refl) c.answer-in-Err.ensures in (
+      turn ∷ [],
+      next.0,
+      served.0,
+      served.1,
+      false,
+      (λ e. refl),
+      subst (λ (done : List Exchange). g.P.Port.did c.args.port.now c.submit.new.self done) (sym (exchanges_of-one turn)) c.in-Err.ensures.err,
+      served.2,
+    )

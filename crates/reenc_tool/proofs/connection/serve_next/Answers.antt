@@ -52,7 +52,7 @@ returns-in-Ok g c = λ k.
       record {
         sessions = sessions_one c.args.export.now one session.2;
         goes = goes_one k c.serve_session-end.result session.0 _ _ _ _ _ _ _ _ _ _ _ _ _ session.0.taken session.0.whole session.0.front
-            (rw c.in-Ok-Some.field-0-is at c.in-Ok-Some.ensures.told) c.done.ensures.told session.2.traffic;
+            (rw c.in-Ok-Some.field-0-is at c.in-Ok-Some.ensures.told) c.done.ensures.told session.2.talks.traffic;
         ends = c.in-Ok.ensures.items ∙ ap (λ ends. ends ++ c.serve_session-end.result ∷ []) c.reserve.ensures.items;
         later = omega (arith, c.done.ensures.faults, c.in-Ok-Some.ensures.cause.later);
         by_case = (

@@ -1,0 +1,12 @@
+use Rattle.std.proofs.Common.{arith, [], refl, sym, ◌∙◌}
+use Rattle.nbd_session.proofs.HeadLemmas.{takes_none}
+use Rattle.nbd_session.proofs.taking.take_data.Goals as goal
+
+pub returns-then-length-eq0 : goal.returns-then-length-eq0
+returns-then-length-eq0 g c = (
+  [],
+  record { takes = takes_none _; by_case = (c.new-then-length-eq0.ensures ∙ c.new.ensures.items, omega arith, refl) },
+)
+
+pub returns-in_default : goal.returns-in_default
+returns-in_default g c = ([], record { takes = takes_none _; by_case = (omega arith, refl, refl) })

@@ -1,0 +1,91 @@
+ghost use Rattle.std.specs.Prelude.{◌≡◌, ◌<◌, ◌≤◌, ◌+◌, ◌^◌, ℕ, Bool, List, length, take};
+ghost use Rattle.nbd_session.specs.Counts.{capped};
+ghost use Rattle.nbd_session.specs.Taking.{DataIs, HeadIs, TakesUpTo};
+ghost use Rattle.nbd_session.specs.Traffic.{filled_of, intake};
+
+use crate::Ending;
+use crate::filling::{Filled, fill, skip};
+use base_terms::Bytes;
+use io_edge::Source;
+use std::alloc::Global;
+
+/// The data behind a head: whole, not taken for want of memory, or cut short after so many bytes by
+/// the end of the input, or by a fault of the source.
+#[derive(Debug, Drop)]
+pub enum Data {
+    Whole(Bytes),
+    NoMemory,
+    Ended(usize),
+    Fault,
+}
+
+/// Takes the head of a message, of the buffer's length, which decides what comes behind it.
+pub fn take_head<S: Source>(source: &mut S, head: &mut [u8], taken: &mut u64) -> Result<(), Ending>
+    requires { 0 < length head.old }
+    ensures { (bytes : List ℕ) × (ended : Bool) × HeadIs
+        (intake (S.given source.old) (S.left source.old) (S.faults source.old) taken.old)
+        (intake (S.given source.new) (S.left source.new) (S.faults source.new) taken.new)
+        (length head.old) head.new result bytes ended }
+{
+    match take_into(source, head, taken) {
+        Filled::Whole => Ok(()),
+        Filled::Ended(0) => Err(Ending::Closed),
+        Filled::Ended(n) => Err(Ending::Truncated(n as u64)),
+        Filled::Fault(_) => Err(Ending::ReadFault),
+    }
+}
+
+/// Takes the data of so many bytes behind a head.
+pub fn take_data<S: Source>(alloc: Global, source: &mut S, length: u32, taken: &mut u64) -> Data
+    ensures { (bytes : List ℕ) × DataIs
+        (intake (S.given source.old) (S.left source.old) (S.faults source.old) taken.old)
+        (intake (S.given source.new) (S.left source.new) (S.faults source.new) taken.new)
+        length result bytes }
+{
+    if length == 0 {
+        return Data::Whole(Bytes::new(Vec::new(alloc)));
+    }
+    let Ok(mut body) = vec![in alloc; 0u8; length as usize] else {
+        return Data::NoMemory;
+    };
+    match take_into(source, &mut body, taken) {
+        Filled::Whole => Data::Whole(Bytes::new(body)),
+        Filled::Ended(n) => Data::Ended(n),
+        Filled::Fault(_) => Data::Fault,
+    }
+}
+
+/// Fills a buffer, and counts the bytes that came.
+fn take_into<S: Source>(source: &mut S, buf: &mut [u8], taken: &mut u64) -> Filled
+    ensures { TakesUpTo
+        (intake (S.given source.old) (S.left source.old) (S.faults source.old) taken.old)
+        (intake (S.given source.new) (S.left source.new) (S.faults source.new) taken.new)
+        (length buf.new) result (take (filled_of (length buf.new) result) buf.new) }
+{
+    let filled = fill(source, buf);
+    *taken = counted(*taken, filled, buf.len());
+    filled
+}
+
+/// Takes so many bytes and drops them, and counts those that came.
+pub fn take_past<S: Source>(source: &mut S, length: usize, taken: &mut u64) -> Filled
+    ensures { (bytes : List ℕ) × TakesUpTo
+        (intake (S.given source.old) (S.left source.old) (S.faults source.old) taken.old)
+        (intake (S.given source.new) (S.left source.new) (S.faults source.new) taken.new)
+        length result bytes }
+{
+    let filled = skip(source, length);
+    *taken = counted(*taken, filled, length);
+    filled
+}
+
+/// A count of bytes taken, with those that came of `wanted`. It stands still at its last value.
+fn counted(count: u64, filled: Filled, wanted: usize) -> u64
+    ensures { result ≡ capped (count + filled_of wanted filled) }
+{
+    let came = match filled {
+        Filled::Whole => wanted,
+        Filled::Ended(n) | Filled::Fault(n) => n,
+    };
+    count.saturating_add(came as u64)
+}
