@@ -1,0 +1,11 @@
+pub mod Asks
+pub mod Contents
+pub mod Devices
+pub mod Events
+pub mod Pieces
+pub mod Promises
+pub mod Runs
+pub mod Seals
+pub mod Sound
+pub mod States
+pub mod Steps

@@ -1,0 +1,15 @@
+//! A volume as a machine of events. Lanes of clients read, write and flush its blocks; each call is
+//! one event, which makes at most one device call, and events of different lanes may come in any
+//! order. A table of locks keeps operations apart whose blocks meet, a map says on which side of a
+//! conversion each block lies and where, and each side has its key. The layer above may rely on one
+//! definition, `Step` of `specs/`: every call ensures it, with what the disk tells. By the laws of
+//! this crate the operations of every run of events are then those of one plain disk, and wherever a
+//! run stops the disk holds what that history allows.
+#![tactic(auto)]
+
+mod ask;
+mod keys;
+mod open;
+
+pub use ask::Ask;
+pub use keys::Keys;
