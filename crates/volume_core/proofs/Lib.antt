@@ -1,2 +1,3 @@
 pub mod Locking
 pub mod Soundness
+pub mod Invariant
