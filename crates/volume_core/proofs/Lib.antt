@@ -1,1 +1,3 @@
-
+pub mod Blockwise
+pub mod Entries
+pub mod PlainBlocks
