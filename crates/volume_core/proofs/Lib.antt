@@ -1,3 +1,5 @@
 pub mod Blockwise
 pub mod Entries
 pub mod PlainBlocks
+pub mod TableEntries
+pub mod DeviceViews
