@@ -1,3 +1,4 @@
+pub mod Answering
 pub mod Blockwise
 pub mod DeviceViews
 pub mod Entries
