@@ -1,3 +1,4 @@
+pub mod Admits
 pub mod Answering
 pub mod Blockwise
 pub mod DeviceViews
@@ -5,5 +6,6 @@ pub mod Entries
 pub mod Invariant
 pub mod Locking
 pub mod PlainBlocks
+pub mod Reading
 pub mod Soundness
 pub mod TableEntries
