@@ -21,7 +21,7 @@ use Rattle.volume_core.specs.Steps.{GetsPiece, MissesPiece, FindsBroken, HasPiec
 use Rattle.volume_core.specs.Views.{View, IsUnchanged}
 use Rattle.volume_core.proofs.Admits.{plain-other, plain-own}
 use Rattle.volume_core.proofs.Blockwise.{block_at-front, block_at-behind, blocks_joined, one_block}
-use Rattle.volume_core.proofs.Invariant.{IsRight, LaneKnows, Logic, Shown, KeepsWrites, writes_stay, writes_go_on, shown_kept, lanes_still}
+use Rattle.volume_core.proofs.Invariant.{IsRight, LaneKnows, Logic, Shown, KeepsWrites, writes_stay, writes_go_on, shown_kept, knows_still, lanes_still}
 use Rattle.volume_core.proofs.Locking.{either, same_or_not, holders-apart}
 
 -- a lane's entry in the table
@@ -160,3 +160,84 @@ knows_read old new seals plain left view lane o bytes lawful some logic shown at
   not_both (Read offset len) reads writes = writes
   not_both (Write offset len fua) reads writes = reads
   not_both Flush reads writes = reads
+
+never_both : (ask : Ask) → IsRead ask → IsWrite ask → ⊥
+never_both (Read offset len) reads writes = writes
+never_both (Write offset len fua) reads writes = reads
+never_both Flush reads writes = reads
+
+forced_writes : (ask : Ask) → IsForced ask → IsWrite ask
+forced_writes (Read offset len) forced = absurd forced
+forced_writes (Write offset len fua) forced = tt
+forced_writes Flush forced = absurd forced
+
+-- a read tries nothing
+read_untried : {K : Type 0} (state : State K) (plain : ℕ → List ℕ) (lane b : ℕ) (value : List ℕ) (o : Open) → open_at state.lanes lane ≡ Some o → IsRead o.ask →
+    IsTriedBy state plain lane b value → ⊥
+read_untried state plain lane b value o at reads tried =
+    never_both o.ask reads (let one : tried.o ≡ o = (let t = tried.is in cc) in subst (λ p. IsWrite p.ask) one tried.writes)
+
+pub logic_read : {K : Type 0} (old new : State K) (seals : Seals) (plain : ℕ → List ℕ) (left : List Block) (view : View) (lane : ℕ) (o : Open) (bytes : List ℕ) →
+    AreLawful old.map.atom seals → 0 < old.map.atom → Logic old plain left → IsSound new → Shown old seals plain left view → open_at old.lanes lane ≡ Some o → IsRead o.ask → HasPiece o → Holds old lane →
+    (is : GetsPiece old lane o bytes new) → ((k : ℕ) → k < is.piece.count → block_at old.map.atom bytes k ≡ view.current (place_of old.map is.piece + k)) →
+    Logic new (with_plain plain lane (plain lane ++ plain_piece seals old lane bytes)) left
+logic_read old new seals plain left view lane o bytes lawful some logic sound shown at reads has holds is content = record {
+  sound = sound;
+  are = rw is.goes.map logic.are;
+  sure = λ whole b below. logic.sure is.was b (subst (λ m. b < m.blocks) is.goes.map below);
+  lanes = lanes_still old plain new (with_plain plain lane (plain lane ++ plain_piece seals old lane bytes)) left lane (Some (moved o is.piece)) is.goes.map is.goes.lane_is
+      (plain-other plain lane (plain lane ++ plain_piece seals old lane bytes)) (λ k other held. rw is.goes.entries_are held)
+      (λ one same. let e : one ≡ moved o is.piece = cc in
+      rw e (knows_read old new seals plain left view lane o bytes lawful some logic shown at reads has holds is content)) logic.lanes;
+}
+
+pub shown_read : {K : Type 0} (old new : State K) (seals : Seals) (plain : ℕ → List ℕ) (left : List Block) (view next : View) (lane : ℕ) (o : Open) (bytes : List ℕ) →
+    open_at old.lanes lane ≡ Some o → IsRead o.ask → (is : GetsPiece old lane o bytes new) → IsUnchanged view next → Shown old seals plain left view →
+    Shown new seals (with_plain plain lane (plain lane ++ plain_piece seals old lane bytes)) left next
+shown_read old new seals plain left view next lane o bytes at reads is same shown =
+    let now = with_plain plain lane (plain lane ++ plain_piece seals old lane bytes) in
+    shown_kept old plain new now seals left view next is.goes.map
+        (writes_stay old plain new now lane (Some (moved o is.piece)) is.goes.map is.goes.lane_is
+        (plain-other plain lane (plain lane ++ plain_piece seals old lane bytes)) (λ b value. read_untried old plain lane b value o at reads)
+        (λ b value. read_untried new now lane b value (moved o is.piece) is.goes.lane_is.own reads)
+        (λ one same_one forced settled. let e : one ≡ moved o is.piece = cc in never_both o.ask reads (forced_writes o.ask (subst (λ p. IsForced p.ask) e forced))))
+        (λ whole. (is.was, same.current)) same.candidates shown
+
+-- an event of an operation failed
+knows_failing : {K : Type 0} (state : State K) (plain : ℕ → List ℕ) (left : List Block) (lane : ℕ) (o : Open) → LaneKnows state plain left lane o → LaneKnows state plain left lane (failing o)
+knows_failing state plain left lane o knows = record {
+  count = knows.count;
+  are = knows.are;
+  least = knows.least;
+  most = knows.most;
+  exact = λ whole. absurd (cc);
+  holds = knows.holds;
+  reads = knows.reads;
+  kept = knows.kept;
+}
+
+pub logic_goes_on : {K : Type 0} (old new : State K) (plain : ℕ → List ℕ) (left : List Block) (lane : ℕ) (next : Option Open) (is_broken : Bool) →
+    Logic old plain left → IsSound new → Goes old new lane old.entries next is_broken → (is_broken ≡ false → old.broken ≡ false) →
+    ((o : Open) → next ≡ Some o → LaneKnows old plain left lane o) → Logic new plain left
+logic_goes_on old new plain left lane next is_broken logic sound goes unbroken own = record {
+  sound = sound;
+  are = rw goes.map logic.are;
+  sure = λ whole b below. logic.sure (unbroken (sym goes.broken_is ∙ whole)) b (subst (λ m. b < m.blocks) goes.map below);
+  lanes = lanes_still old plain new plain left lane next goes.map goes.lane_is (λ k other. refl) (λ k other held. rw goes.entries_are held)
+      (λ o same. knows_on (own o same)) logic.lanes;
+}
+ where
+  knows_on : {o : Open} → LaneKnows old plain left lane o → LaneKnows new plain left lane o
+  knows_on {o} knows = knows_still old plain new plain left lane o goes.map refl (λ held. rw goes.entries_are held) knows
+
+pub logic_failed : {K : Type 0} (old new : State K) (plain : ℕ → List ℕ) (left : List Block) (lane : ℕ) (o : Open) (is_broken : Bool) →
+    Logic old plain left → IsSound new → open_at old.lanes lane ≡ Some o → Goes old new lane old.entries (Some (failing o)) is_broken → (is_broken ≡ false → old.broken ≡ false) →
+    Logic new plain left
+logic_failed old new plain left lane o is_broken logic sound at goes unbroken =
+    logic_goes_on old new plain left lane (Some (failing o)) is_broken logic sound goes unbroken
+        (λ one same. let e : one ≡ failing o = cc in rw e (knows_failing old plain left lane o (logic.lanes lane o at)))
+
+pub failing_keeps : {K : Type 0} (old new : State K) (plain : ℕ → List ℕ) (lane : ℕ) (o : Open) (is_broken : Bool) →
+    open_at old.lanes lane ≡ Some o → Goes old new lane old.entries (Some (failing o)) is_broken → KeepsWrites old plain new plain
+failing_keeps old new plain lane o is_broken at goes =
+    writes_go_on old plain new plain lane o (failing o) goes.map goes.lane_is at refl refl refl (λ k. refl)
