@@ -9,3 +9,4 @@ pub mod PlainBlocks
 pub mod Reading
 pub mod Soundness
 pub mod TableEntries
+pub mod Writing

@@ -161,12 +161,12 @@ knows_read old new seals plain left view lane o bytes lawful some logic shown at
   not_both (Write offset len fua) reads writes = reads
   not_both Flush reads writes = reads
 
-never_both : (ask : Ask) → IsRead ask → IsWrite ask → ⊥
+pub never_both : (ask : Ask) → IsRead ask → IsWrite ask → ⊥
 never_both (Read offset len) reads writes = writes
 never_both (Write offset len fua) reads writes = reads
 never_both Flush reads writes = reads
 
-forced_writes : (ask : Ask) → IsForced ask → IsWrite ask
+pub forced_writes : (ask : Ask) → IsForced ask → IsWrite ask
 forced_writes (Read offset len) forced = absurd forced
 forced_writes (Write offset len fua) forced = tt
 forced_writes Flush forced = absurd forced
