@@ -224,3 +224,127 @@ tried_candidates old new seals plain left lane o next piece bytes view after it 
       | inr outside ↦ was (tried.outside (place_in old.map b)
           (place_outside old.map o piece b it.apart it.is_piece (it.logic.sound.under_way lane o it.at).inside below outside) atom contains)
     ]
+
+-- a write that is settled knows all its blocks, so it holds
+settled_holds : {K : Type 0} (state : State K) (plain : ℕ → List ℕ) (left : List Block) (lane b : ℕ) (o : Open) → LaneKnows state plain left lane o → o.settled ≡ true →
+    o.range.start ≤ b → b < o.range.end → Holds state lane
+settled_holds state plain left lane b o knows settled from to =
+    let kept = knows.kept settled in
+    let least = knows.least in
+    knows.holds (omega (arith, kept, least, from, to))
+
+-- what a settled write of another lane leaves stays
+tried_settled : {K : Type 0} (old new : State K) (seals : Seals) (plain : ℕ → List ℕ) (left : List Block) (lane : ℕ) (o next : Open) (piece : Piece) (bytes : List ℕ) (view after : View) →
+    TriesPiece old new seals plain left lane o next piece bytes → IsTried old.map.atom (place_of old.map piece) piece.count bytes view after → Shown old seals plain left view →
+    (k : ℕ) (p : Open) → open_at new.lanes k ≡ Some p → IsForced p.ask → p.settled ≡ true → (b : ℕ) → p.range.start ≤ b → b < p.range.end → (atom : List ℕ) →
+    Contains (after.candidates (place_in old.map b)) atom →
+    IsSealed old.map seals b (block_at old.map.atom (now_of old seals plain lane bytes k) (b - p.range.start)) atom
+tried_settled old new seals plain left lane o next piece bytes view after it tried shown k p is forced settled b from to atom contains = elim (same_or_not k lane) [
+  | inl same ↦
+      let one : p ≡ next = (let u = ap (λ n. open_at new.lanes n) same ∙ it.goes.lane_is.own in cc) in
+      let was : o.settled ≡ true = sym it.unsettled ∙ subst (λ q. q.settled ≡ true) one settled in
+      let kept = (it.logic.lanes lane o it.at).kept was in
+      let more = it.has.some in absurd (omega (arith, kept, more))
+  | inr other ↦
+      let was : open_at old.lanes k ≡ Some p = sym (it.goes.lane_is.others k other) ∙ is in
+      let under_way = it.logic.sound.under_way k p was in
+      let inside = under_way.inside in
+      let bound = (it.logic.sound.under_way lane o it.at) in
+      let begun = bound.begun in
+      let ends = it.is_piece.within in
+      let holds = settled_holds old plain left k b p (it.logic.lanes k p was) settled from to in
+      let outside : IsOutside o.next piece.count b = elim (in_piece o.next piece.count b) [
+        | inl (j, lt, same_b) ↦ absurd (held_apart old lane k b o p it.logic.sound (λ same. other (sym same)) it.at (writes_lock o.ask it.writes) it.holds
+            (omega (arith, same_b, begun)) (omega (arith, same_b, lt, ends)) was (forced_writes p.ask forced) holds from to)
+        | inr out ↦ out
+      ] in
+      rw (plain-other plain lane (plain lane ++ plain_piece seals old lane bytes) k other)
+          (shown.settled k p was forced settled b from to atom
+          (tried.outside (place_in old.map b) (place_outside old.map o piece b it.apart it.is_piece bound.inside (omega (arith, to, inside)) outside) atom contains))
+]
+
+-- what each block holds after a piece was written
+written_current : {K : Type 0} (old new : State K) (seals : Seals) (plain : ℕ → List ℕ) (left : List Block) (lane : ℕ) (o next : Open) (piece : Piece) (bytes : List ℕ) (view after : View) →
+    TriesPiece old new seals plain left lane o next piece bytes → IsWritten old.map.atom (place_of old.map piece) piece.count bytes view after → Shown old seals plain left view → old.broken ≡ false →
+    (b : ℕ) → b < old.map.blocks → (value : List ℕ) × IsNow new (now_of old seals plain lane bytes) left b value × IsSealed old.map seals b value (after.current (place_in old.map b))
+written_current old new seals plain left lane o next piece bytes view after it written shown was b below = elim (in_piece o.next piece.count b) [
+  | inl (j, lt, is) ↦
+      let place : place_in old.map b ≡ place_of old.map piece + j = ap (λ n. place_in old.map n) is ∙ piece_place old.map o piece j it.is_piece lt in
+      (block_at old.map.atom (opened_piece old seals o bytes) j,
+      inl (lane, subst (λ n. IsTriedBy new (now_of old seals plain lane bytes) lane n (block_at old.map.atom (opened_piece old seals o bytes) j)) (sym is)
+          (now_tried old new seals plain left lane o next piece bytes j it lt)),
+      rw (place, written.inside j lt) (subst (λ n. IsSealed old.map seals n (block_at old.map.atom (opened_piece old seals o bytes) j) (block_at old.map.atom bytes j)) (sym is)
+          (piece_sealed old new seals plain left lane o next piece bytes j it lt)))
+  | inr outside ↦
+      let (value, is_now, sealed) = shown.current was b below in
+      let away = place_outside old.map o piece b it.apart it.is_piece (it.logic.sound.under_way lane o it.at).inside below outside in
+      (value, still_now value outside is_now, rw (written.outside (place_in old.map b) away) sealed)
+]
+ where
+  still_now : (value : List ℕ) → IsOutside o.next piece.count b → IsNow old plain left b value → IsNow new (now_of old seals plain lane bytes) left b value
+  still_now value outside (inl (k, tried)) = inl (k, still_tried old new seals plain left lane k o next piece bytes b value it tried)
+  still_now value outside (inr (none, is)) = inr (λ k other tried. (let (before, was_so) = was_tried old new seals plain left lane k o next piece bytes b other it outside tried in none k before was_so), is)
+
+-- what the lane knows
+knows_tried : {K : Type 0} (old new : State K) (seals : Seals) (plain : ℕ → List ℕ) (left : List Block) (lane : ℕ) (o next : Open) (piece : Piece) (bytes : List ℕ) →
+    TriesPiece old new seals plain left lane o next piece bytes → next.next ≤ o.next + piece.count → (next.failed ≡ false → next.next ≡ o.next + piece.count) →
+    LaneKnows new (now_of old seals plain lane bytes) left lane next
+knows_tried old new seals plain left lane o next piece bytes it least exact_next =
+    let knows = it.logic.lanes lane o it.at in
+    let map = it.goes.map in
+    let range = it.range in
+    let all = now_is old seals plain lane o bytes it.at in
+    let exact : o.range.start + knows.count ≡ o.next = knows.exact it.has.goes_on in
+    let ends = it.is_piece.within in
+    record {
+      count = knows.count + piece.count;
+      are = rw (map, all) (blocks_joined old.map.atom knows.count piece.count (plain lane) (opened_piece old seals o bytes) knows.are
+          (piece_blocks old.map seals o piece bytes it.lawful it.is_piece it.are));
+      least = rw range (omega (arith, least, exact));
+      most = rw range (omega (arith, exact, ends));
+      exact = λ whole. (let e = exact_next whole in rw range (omega (arith, exact, e)));
+      holds = λ any. rw it.goes.entries_are it.holds;
+      reads = λ reading k below. absurd (never_both o.ask (subst (λ a. IsRead a) it.ask reading) it.writes);
+      kept = λ settled. absurd (let kept = knows.kept (sym it.unsettled ∙ settled) in let more = it.has.some in omega (arith, kept, more));
+    }
+
+pub logic_tried : {K : Type 0} (old new : State K) (seals : Seals) (plain : ℕ → List ℕ) (left : List Block) (lane : ℕ) (o next : Open) (piece : Piece) (bytes : List ℕ) →
+    (it : TriesPiece old new seals plain left lane o next piece bytes) → IsSound new → (it.is_broken ≡ false → old.broken ≡ false) → next.next ≤ o.next + piece.count →
+    (next.failed ≡ false → next.next ≡ o.next + piece.count) → Logic new (now_of old seals plain lane bytes) left
+logic_tried old new seals plain left lane o next piece bytes it sound unbroken least exact = record {
+  sound = sound;
+  are = rw it.goes.map it.logic.are;
+  sure = λ whole b below. it.logic.sure (unbroken (sym it.goes.broken_is ∙ whole)) b (subst (λ m. b < m.blocks) it.goes.map below);
+  lanes = lanes_still old plain new (now_of old seals plain lane bytes) left lane (Some next) it.goes.map it.goes.lane_is
+      (plain-other plain lane (plain lane ++ plain_piece seals old lane bytes)) (λ k other held. rw it.goes.entries_are held)
+      (λ one same. let e : one ≡ next = cc in rw e (knows_tried old new seals plain left lane o next piece bytes it least exact)) it.logic.lanes;
+}
+
+-- a piece was written
+pub shown_written : {K : Type 0} (old new : State K) (seals : Seals) (plain : ℕ → List ℕ) (left : List Block) (lane : ℕ) (o next : Open) (piece : Piece) (bytes : List ℕ) (view after : View) →
+    TriesPiece old new seals plain left lane o next piece bytes → IsWritten old.map.atom (place_of old.map piece) piece.count bytes view after → old.broken ≡ false →
+    Shown old seals plain left view → Shown new seals (now_of old seals plain lane bytes) left after
+shown_written old new seals plain left lane o next piece bytes view after it written was shown =
+    let map = it.goes.map in record {
+      current = λ whole b below. subst (λ m. (value : List ℕ) × IsNow new (now_of old seals plain lane bytes) left b value × IsSealed m seals b value (after.current (place_in m b))) (sym map)
+          (written_current old new seals plain left lane o next piece bytes view after it written shown was b (subst (λ m. b < m.blocks) map below));
+      candidates = λ b below atom contains. subst (λ m. (value : List ℕ) × IsAllowedAt new (now_of old seals plain lane bytes) left b value × IsSealed m seals b value atom) (sym map)
+          (tried_candidates old new seals plain left lane o next piece bytes view after it written.tried shown b
+          (subst (λ m. b < m.blocks) map below) atom (subst (λ m. Contains (after.candidates (place_in m b)) atom) map contains));
+      settled = λ k p is forced settled b from to atom contains. rw map (tried_settled old new seals plain left lane o next piece bytes view after it written.tried shown k p is forced settled b from to atom
+          (subst (λ m. Contains (after.candidates (place_in m b)) atom) map contains));
+    }
+
+-- a write of a piece failed
+pub shown_tried : {K : Type 0} (old new : State K) (seals : Seals) (plain : ℕ → List ℕ) (left : List Block) (lane : ℕ) (o next : Open) (piece : Piece) (bytes : List ℕ) (view after : View) →
+    TriesPiece old new seals plain left lane o next piece bytes → IsTried old.map.atom (place_of old.map piece) piece.count bytes view after → new.broken ≡ true →
+    Shown old seals plain left view → Shown new seals (now_of old seals plain lane bytes) left after
+shown_tried old new seals plain left lane o next piece bytes view after it tried broken shown =
+    let map = it.goes.map in record {
+      current = λ whole b below. absurd (cc);
+      candidates = λ b below atom contains. subst (λ m. (value : List ℕ) × IsAllowedAt new (now_of old seals plain lane bytes) left b value × IsSealed m seals b value atom) (sym map)
+          (tried_candidates old new seals plain left lane o next piece bytes view after it tried shown b
+          (subst (λ m. b < m.blocks) map below) atom (subst (λ m. Contains (after.candidates (place_in m b)) atom) map contains));
+      settled = λ k p is forced settled b from to atom contains. rw map (tried_settled old new seals plain left lane o next piece bytes view after it tried shown k p is forced settled b from to atom
+          (subst (λ m. Contains (after.candidates (place_in m b)) atom) map contains));
+    }
