@@ -68,7 +68,7 @@ logic_forgets state plain left lane now free logic = record {
   are = logic.are;
   sure = logic.sure;
   lanes = lanes_still state plain state (with_plain plain lane now) left lane (open_at state.lanes lane) refl (becomes_itself state.lanes lane)
-      (plain-other plain lane now) (λ k other holds. holds) (λ o is. absurd (cc)) logic.lanes;
+      (plain-other plain lane now) (λ k other holds. holds) (λ was. was) (λ o is. absurd (cc)) logic.lanes;
 }
 
 pub shown_forgets : {K : Type 0} (state : State K) (seals : Seals) (plain : ℕ → List ℕ) (left : List Block) (lane : ℕ) (now : List ℕ) (view next : View) →
@@ -79,8 +79,8 @@ shown_forgets state seals plain left lane now view next free same shown =
 
 -- an operation that was admitted has done nothing yet
 knows_nothing : {K : Type 0} (state : State K) (plain : ℕ → List ℕ) (left : List Block) (lane : ℕ) (o : Open) → plain lane ≡ [] →
-    o.next ≡ o.range.start → o.range.start ≤ o.range.end → o.settled ≡ false → LaneKnows state plain left lane o
-knows_nothing state plain left lane o none first ordered unsettled = record {
+    o.next ≡ o.range.start → o.range.start ≤ o.range.end → o.settled ≡ false → o.failed ≡ false → LaneKnows state plain left lane o
+knows_nothing state plain left lane o none first ordered unsettled unfailed = record {
   count = 0;
   are = no_blocks state.map.atom (plain lane) none;
   least = omega (arith, first);
@@ -89,6 +89,7 @@ knows_nothing state plain left lane o none first ordered unsettled = record {
   holds = λ some. absurd (omega (arith, some));
   reads = λ is k below. absurd (omega (arith, below));
   kept = λ settled. absurd (cc);
+  breaks = λ writes failed. absurd (cc);
 }
 
 -- which entries hold stays when another enters
@@ -109,10 +110,10 @@ logic_admitted old new plain left lane ask outcome logic sound proper is =
       are = rw is.goes.map logic.are;
       sure = λ whole b below. logic.sure (sym is.goes.broken_is ∙ whole) b (subst (λ m. b < m.blocks) is.goes.map below);
       lanes = lanes_still old plain new (with_plain plain lane []) left lane (Some (begun old.map.atom ask)) is.goes.map is.goes.lane_is
-          (plain-other plain lane []) (holds_admitted old new lane ask outcome is)
+          (plain-other plain lane []) (holds_admitted old new lane ask outcome is) (λ was. is.goes.broken_is ∙ was)
           (λ o same. let e : o ≡ begun old.map.atom ask = cc in
           rw e (knows_nothing new (with_plain plain lane []) left lane (begun old.map.atom ask) (plain-own plain lane []) refl
-          (let from = under_way.begun in let to = under_way.within in omega (arith, from, to)) refl))
+          (let from = under_way.begun in let to = under_way.within in omega (arith, from, to)) refl refl))
           logic.lanes;
     }
 

@@ -2,6 +2,7 @@
 use Rattle.std.proofs.Common.{◌≡◌, ◌≢◌, inl, inr, ◌⊎◌, ℕ, suc, ◌+◌, ◌-◌, ◌*◌, ◌/◌, ◌<◌, ◌≤◌, Bool, true, false, List, [], ◌∷◌, ◌++◌, length, Option, Some, None, refl, sym, ◌∙◌, ap, subst, arith}
 use Rattle.block_range.specs.Blocks.{SharesBlock}
 use Rattle.plain_disk.specs.Plain.{Block}
+use Rattle.range_lock.specs.declared.Entry.{Entry}
 use Rattle.range_lock.specs.declared.Kind.TheVariants.{Shared, Alone}
 use Rattle.segment_map.specs.declared.Side.TheVariants.{Old, New, Zone}
 use Rattle.segment_map.specs.Maps.{place_on}
@@ -154,6 +155,7 @@ knows_read old new seals plain left view lane o bytes lawful some logic shown at
             (content j lt ∙ ap (λ p. view.current p) (sym (piece_place old.map o piece j is.next lt))))
       ]);
       kept = λ settled. absurd (let kept = knows.kept settled in let more = has.some in omega (arith, kept, more));
+      breaks = λ writes failed. absurd (not_both o.ask reads writes);
     }
  where
   not_both : (ask : Ask) → IsRead ask → IsWrite ask → ⊥
@@ -186,7 +188,7 @@ logic_read old new seals plain left view lane o bytes lawful some logic sound sh
   are = rw is.goes.map logic.are;
   sure = λ whole b below. logic.sure is.was b (subst (λ m. b < m.blocks) is.goes.map below);
   lanes = lanes_still old plain new (with_plain plain lane (plain lane ++ plain_piece seals old lane bytes)) left lane (Some (moved o is.piece)) is.goes.map is.goes.lane_is
-      (plain-other plain lane (plain lane ++ plain_piece seals old lane bytes)) (λ k other held. rw is.goes.entries_are held)
+      (plain-other plain lane (plain lane ++ plain_piece seals old lane bytes)) (λ k other held. rw is.goes.entries_are held) (λ was. absurd (let whole = is.was in cc))
       (λ one same. let e : one ≡ moved o is.piece = cc in
       rw e (knows_read old new seals plain left view lane o bytes lawful some logic shown at reads has holds is content)) logic.lanes;
 }
@@ -204,8 +206,9 @@ shown_read old new seals plain left view next lane o bytes at reads is same show
         (λ whole. (is.was, same.current)) same.candidates shown
 
 -- an event of an operation failed
-knows_failing : {K : Type 0} (state : State K) (plain : ℕ → List ℕ) (left : List Block) (lane : ℕ) (o : Open) → LaneKnows state plain left lane o → LaneKnows state plain left lane (failing o)
-knows_failing state plain left lane o knows = record {
+knows_failing : {K : Type 0} (state : State K) (plain : ℕ → List ℕ) (left : List Block) (lane : ℕ) (o : Open) → (IsWrite o.ask → state.broken ≡ true) →
+    LaneKnows state plain left lane o → LaneKnows state plain left lane (failing o)
+knows_failing state plain left lane o breaks knows = record {
   count = knows.count;
   are = knows.are;
   least = knows.least;
@@ -214,28 +217,41 @@ knows_failing state plain left lane o knows = record {
   holds = knows.holds;
   reads = knows.reads;
   kept = knows.kept;
+  breaks = λ writes failed. breaks writes;
 }
+
+-- a broken volume stays broken
+pub still_broken : {K : Type 0} (old new : State K) (lane : ℕ) (entries : List Entry) (next : Option Open) (is_broken : Bool) →
+    Goes old new lane entries next is_broken → (is_broken ≡ false → old.broken ≡ false) → old.broken ≡ true → new.broken ≡ true
+still_broken old new lane entries next is_broken goes unbroken was = elim (either is_broken) [
+  | inl breaks ↦ goes.broken_is ∙ breaks
+  | inr stays ↦ absurd (let whole = unbroken stays in cc)
+]
 
 pub logic_goes_on : {K : Type 0} (old new : State K) (plain : ℕ → List ℕ) (left : List Block) (lane : ℕ) (next : Option Open) (is_broken : Bool) →
     Logic old plain left → IsSound new → Goes old new lane old.entries next is_broken → (is_broken ≡ false → old.broken ≡ false) →
-    ((o : Open) → next ≡ Some o → LaneKnows old plain left lane o) → Logic new plain left
+    ((o : Open) → next ≡ Some o → LaneKnows new plain left lane o) → Logic new plain left
 logic_goes_on old new plain left lane next is_broken logic sound goes unbroken own = record {
   sound = sound;
   are = rw goes.map logic.are;
   sure = λ whole b below. logic.sure (unbroken (sym goes.broken_is ∙ whole)) b (subst (λ m. b < m.blocks) goes.map below);
   lanes = lanes_still old plain new plain left lane next goes.map goes.lane_is (λ k other. refl) (λ k other held. rw goes.entries_are held)
-      (λ o same. knows_on (own o same)) logic.lanes;
+      (still_broken old new lane old.entries next is_broken goes unbroken) own logic.lanes;
 }
- where
-  knows_on : {o : Open} → LaneKnows old plain left lane o → LaneKnows new plain left lane o
-  knows_on {o} knows = knows_still old plain new plain left lane o goes.map refl (λ held. rw goes.entries_are held) knows
+
+pub knows_on : {K : Type 0} (old new : State K) (plain : ℕ → List ℕ) (left : List Block) (lane : ℕ) (next : Option Open) (is_broken : Bool) (o : Open) →
+    Goes old new lane old.entries next is_broken → (is_broken ≡ false → old.broken ≡ false) → LaneKnows old plain left lane o → LaneKnows new plain left lane o
+knows_on old new plain left lane next is_broken o goes unbroken knows =
+    knows_still old plain new plain left lane o goes.map refl (λ held. rw goes.entries_are held) (still_broken old new lane old.entries next is_broken goes unbroken) knows
 
 pub logic_failed : {K : Type 0} (old new : State K) (plain : ℕ → List ℕ) (left : List Block) (lane : ℕ) (o : Open) (is_broken : Bool) →
     Logic old plain left → IsSound new → open_at old.lanes lane ≡ Some o → Goes old new lane old.entries (Some (failing o)) is_broken → (is_broken ≡ false → old.broken ≡ false) →
-    Logic new plain left
-logic_failed old new plain left lane o is_broken logic sound at goes unbroken =
+    (IsWrite o.ask → is_broken ≡ true) → Logic new plain left
+logic_failed old new plain left lane o is_broken logic sound at goes unbroken breaks =
     logic_goes_on old new plain left lane (Some (failing o)) is_broken logic sound goes unbroken
-        (λ one same. let e : one ≡ failing o = cc in rw e (knows_failing old plain left lane o (logic.lanes lane o at)))
+        (λ one same. let e : one ≡ failing o = cc in
+        rw e (knows_failing new plain left lane o (λ writes. goes.broken_is ∙ breaks writes)
+        (knows_on old new plain left lane (Some (failing o)) is_broken o goes unbroken (logic.lanes lane o at))))
 
 pub failing_keeps : {K : Type 0} (old new : State K) (plain : ℕ → List ℕ) (lane : ℕ) (o : Open) (is_broken : Bool) →
     open_at old.lanes lane ≡ Some o → Goes old new lane old.entries (Some (failing o)) is_broken → KeepsWrites old plain new plain

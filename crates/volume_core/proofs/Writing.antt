@@ -19,7 +19,7 @@ use Rattle.volume_core.proofs.Admits.{plain-other, plain-own}
 use Rattle.volume_core.proofs.Blockwise.{block_at-front, block_at-behind, blocks_joined, one_block}
 use Rattle.volume_core.proofs.Invariant.{LaneKnows, Logic, Shown, tried_goes, lanes_still}
 use Rattle.volume_core.proofs.Locking.{either, same_or_not, holders-apart}
-use Rattle.volume_core.proofs.Reading.{entry_is, writes_lock, writes_alone, never_both, forced_writes, piece_place, piece_blocks, piece_block}
+use Rattle.volume_core.proofs.Reading.{entry_is, writes_lock, writes_alone, never_both, forced_writes, still_broken, piece_place, piece_blocks, piece_block}
 
 -- two lanes that hold have no block in common where one of them writes
 pub held_apart : {K : Type 0} (state : State K) (lane other b : ℕ) (o p : Open) → IsSound state → lane ≢ other →
@@ -288,8 +288,8 @@ written_current old new seals plain left lane o next piece bytes view after it w
 -- what the lane knows
 knows_tried : {K : Type 0} (old new : State K) (seals : Seals) (plain : ℕ → List ℕ) (left : List Block) (lane : ℕ) (o next : Open) (piece : Piece) (bytes : List ℕ) →
     TriesPiece old new seals plain left lane o next piece bytes → next.next ≤ o.next + piece.count → (next.failed ≡ false → next.next ≡ o.next + piece.count) →
-    LaneKnows new (now_of old seals plain lane bytes) left lane next
-knows_tried old new seals plain left lane o next piece bytes it least exact_next =
+    (next.failed ≡ true → new.broken ≡ true) → LaneKnows new (now_of old seals plain lane bytes) left lane next
+knows_tried old new seals plain left lane o next piece bytes it least exact_next breaks =
     let knows = it.logic.lanes lane o it.at in
     let map = it.goes.map in
     let range = it.range in
@@ -306,18 +306,21 @@ knows_tried old new seals plain left lane o next piece bytes it least exact_next
       holds = λ any. rw it.goes.entries_are it.holds;
       reads = λ reading k below. absurd (never_both o.ask (subst (λ a. IsRead a) it.ask reading) it.writes);
       kept = λ settled. absurd (let kept = knows.kept (sym it.unsettled ∙ settled) in let more = it.has.some in omega (arith, kept, more));
+      breaks = λ writes failed. breaks failed;
     }
 
 pub logic_tried : {K : Type 0} (old new : State K) (seals : Seals) (plain : ℕ → List ℕ) (left : List Block) (lane : ℕ) (o next : Open) (piece : Piece) (bytes : List ℕ) →
     (it : TriesPiece old new seals plain left lane o next piece bytes) → IsSound new → (it.is_broken ≡ false → old.broken ≡ false) → next.next ≤ o.next + piece.count →
-    (next.failed ≡ false → next.next ≡ o.next + piece.count) → Logic new (now_of old seals plain lane bytes) left
-logic_tried old new seals plain left lane o next piece bytes it sound unbroken least exact = record {
+    (next.failed ≡ false → next.next ≡ o.next + piece.count) → (next.failed ≡ true → it.is_broken ≡ true) → Logic new (now_of old seals plain lane bytes) left
+logic_tried old new seals plain left lane o next piece bytes it sound unbroken least exact breaks = record {
   sound = sound;
   are = rw it.goes.map it.logic.are;
   sure = λ whole b below. it.logic.sure (unbroken (sym it.goes.broken_is ∙ whole)) b (subst (λ m. b < m.blocks) it.goes.map below);
   lanes = lanes_still old plain new (now_of old seals plain lane bytes) left lane (Some next) it.goes.map it.goes.lane_is
       (plain-other plain lane (plain lane ++ plain_piece seals old lane bytes)) (λ k other held. rw it.goes.entries_are held)
-      (λ one same. let e : one ≡ next = cc in rw e (knows_tried old new seals plain left lane o next piece bytes it least exact)) it.logic.lanes;
+      (still_broken old new lane old.entries (Some next) it.is_broken it.goes unbroken)
+      (λ one same. let e : one ≡ next = cc in
+      rw e (knows_tried old new seals plain left lane o next piece bytes it least exact (λ failed. it.goes.broken_is ∙ breaks failed))) it.logic.lanes;
 }
 
 -- a piece was written
