@@ -3,10 +3,12 @@ pub mod Answering
 pub mod Blockwise
 pub mod DeviceViews
 pub mod Entries
+pub mod Finishing
 pub mod Invariant
 pub mod Locking
 pub mod PlainBlocks
 pub mod Reading
+pub mod Settling
 pub mod Soundness
 pub mod TableEntries
 pub mod Writing

@@ -174,7 +174,7 @@ forced_writes (Write offset len fua) forced = tt
 forced_writes Flush forced = absurd forced
 
 -- a read tries nothing
-read_untried : {K : Type 0} (state : State K) (plain : ℕ → List ℕ) (lane b : ℕ) (value : List ℕ) (o : Open) → open_at state.lanes lane ≡ Some o → IsRead o.ask →
+pub read_untried : {K : Type 0} (state : State K) (plain : ℕ → List ℕ) (lane b : ℕ) (value : List ℕ) (o : Open) → open_at state.lanes lane ≡ Some o → IsRead o.ask →
     IsTriedBy state plain lane b value → ⊥
 read_untried state plain lane b value o at reads tried =
     never_both o.ask reads (let one : tried.o ≡ o = (let t = tried.is in cc) in subst (λ p. IsWrite p.ask) one tried.writes)

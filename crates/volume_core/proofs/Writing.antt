@@ -226,7 +226,7 @@ tried_candidates old new seals plain left lane o next piece bytes view after it 
     ]
 
 -- a write that is settled knows all its blocks, so it holds
-settled_holds : {K : Type 0} (state : State K) (plain : ℕ → List ℕ) (left : List Block) (lane b : ℕ) (o : Open) → LaneKnows state plain left lane o → o.settled ≡ true →
+pub settled_holds : {K : Type 0} (state : State K) (plain : ℕ → List ℕ) (left : List Block) (lane b : ℕ) (o : Open) → LaneKnows state plain left lane o → o.settled ≡ true →
     o.range.start ≤ b → b < o.range.end → Holds state lane
 settled_holds state plain left lane b o knows settled from to =
     let kept = knows.kept settled in
