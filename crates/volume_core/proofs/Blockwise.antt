@@ -21,6 +21,11 @@ block_within atom n k inside =
     let ends : suc k * atom ≤ n * atom = mul-le-mul_right atom inside in
     omega (arith, block_end atom k, ends)
 
+pub blocks_within : (atom count at n : ℕ) (bytes : List ℕ) → length bytes ≡ count * atom → at + n ≤ count
+    → (at + n) * atom ≤ length bytes
+blocks_within atom count at n bytes long within =
+    let ends : (at + n) * atom ≤ count * atom = mul-le-mul_right atom within in omega (arith, long)
+
 -- bytes stay bytes in parts and one after the other
 bytes_within : (xs : List ℕ) → ((k : ℕ) → k < length xs → get_or xs k 0 < 256) → AreBytes xs
 bytes_within xs within k =

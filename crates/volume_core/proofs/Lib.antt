@@ -3,3 +3,4 @@ pub mod Entries
 pub mod PlainBlocks
 pub mod TableEntries
 pub mod DeviceViews
+pub mod SealLemmas
