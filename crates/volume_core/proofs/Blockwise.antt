@@ -57,6 +57,14 @@ length-block_at atom n bytes k inside enough =
     length-take-le atom (drop (k * atom) bytes)
     (rw (length-drop (k * atom) bytes) (omega (arith, block_within atom n k inside)))
 
+-- a place at which a text has a whole block lies within it
+pub place_of_whole : (atom : ℕ) (bytes : List ℕ) (place : ℕ) → 0 < atom
+    → length (block_at atom bytes place) ≡ atom → suc place * atom ≤ length bytes
+place_of_whole atom bytes place some whole =
+    let taken = length-take atom (drop (place * atom) bytes) in
+    let left = length-drop (place * atom) bytes in
+    omega (arith, some, whole, taken, left, block_end atom place)
+
 pub bytes-block_at : (atom : ℕ) (bytes : List ℕ) (k : ℕ) → AreBytes bytes → AreBytes (block_at atom bytes k)
 bytes-block_at atom bytes k are = bytes-take atom (drop (k * atom) bytes) (bytes-drop (k * atom) bytes are)
 
@@ -153,8 +161,7 @@ blocks_joined atom m n xs ys first rest = record {
 pub blocks_part : (atom count s n : ℕ) (bytes : List ℕ) → AreBlocks atom count bytes → s + n ≤ count
     → AreBlocks atom n (take (n * atom) (drop (s * atom) bytes))
 blocks_part atom count s n bytes are within = record {
-  size = length-part atom s n bytes
-      (let e : (s + n) * atom ≤ count * atom = mul-le-mul_right atom within in omega (arith, are.size));
+  size = length-part atom s n bytes (blocks_within atom count s n bytes are.size within);
   are_bytes = bytes-take (n * atom) (drop (s * atom) bytes) (bytes-drop (s * atom) bytes are.are_bytes);
 }
 
