@@ -1,6 +1,5 @@
 -- Lemmas on what device calls do to a disk as a run sees it.
-use Rattle.std.proofs.Common.{◌≡◌, ℕ, ◌+◌, ◌*◌, ◌/◌, ◌<◌, ◌≤◌, List, [], length, take, drop, map, Some, Result, Ok, Err, refl, sym, ◌∙◌, ap, subst, inl, inr, arith}
-use Rattle.std.specs.Prelude.{Contains}
+use Rattle.std.proofs.Common.{◌≡◌, ℕ, ◌+◌, ◌*◌, ◌/◌, ◌<◌, ◌≤◌, List, length, take, drop, map, Some, Result, Ok, Err, refl, sym, ◌∙◌, ap, subst, inl, inr, arith}
 use Rattle.std.proofs.lemmas.List.{length-map}
 use Rattle.std.proofs.Math.Nat.{mul-div_cancel}
 use Rattle.base_terms.specs.declared.failed.Failed.{Failed}
@@ -17,7 +16,7 @@ use Rattle.volume_core.specs.Views.{View, view_of_bytes, view_of_cells, IsUnchan
 use Rattle.volume_core.specs.Views as views
 use Rattle.volume_core.proofs.Blockwise.{length-pasted_blocks, block_at-pasted, block_at-pasted_outside, block_at-part}
 use Rattle.volume_core.proofs.Entries.{length-changed}
-use Rattle.volume_core.proofs.TableEntries.{kept_view, wrote_view, length-tried, tried_view, untried_view, synced_view, length-thinned, thinned_view, unthinned_view}
+use Rattle.volume_core.proofs.TableEntries.{none_contained, kept_view, wrote_view, length-tried, tried_view, untried_view, synced_view, length-thinned, thinned_view, unthinned_view}
 
 -- a call leaves other bytes that are told, as many, and by this step of what a run sees
 pub record TurnsBytes (atom : ℕ) (bytes : List ℕ) (new : Device) (Step : View → View → Type 0) : Type 0 where
@@ -95,9 +94,6 @@ bytes-tried atom at n text bytes old new call told long =
     }
 
 -- a sync, also one that fails
-none_contained : (P : Type 0) (value : List ℕ) → Contains [] value → P
-none_contained P value has = absurd (omega (arith, has.1))
-
 pub bytes-synced : (atom : ℕ) (bytes : List ℕ) (old new : Device) (result : Result (Unit {0}) Failed)
     → SyncCall old new result → old.values ≡ Some bytes → TurnsBytes atom bytes new IsSynced
 bytes-synced atom bytes old new result call told = record {

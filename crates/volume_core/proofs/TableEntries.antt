@@ -17,7 +17,7 @@ use Rattle.volume_core.proofs.Entries.{length-blocks_of, blocks_of-at, changed_b
 abbrev no_cell : Cell
 no_cell = record { current = []; candidates = [] }
 
-none_contained : (P : Type 0) (value : List ℕ) → Contains [] value → P
+pub none_contained : (P : Type 0) (value : List ℕ) → Contains [] value → P
 none_contained P value has = absurd (omega (arith, has.1))
 
 one_contained : (x value : List ℕ) → Contains (x ∷ []) value → value ≡ x
