@@ -1,6 +1,13 @@
+pub mod Admits
+pub mod Answering
 pub mod Blockwise
-pub mod Entries
-pub mod PlainBlocks
-pub mod TableEntries
 pub mod DeviceViews
 pub mod SealLemmas
+pub mod Entries
+pub mod Invariant
+pub mod Locking
+pub mod PlainBlocks
+pub mod Reading
+pub mod Soundness
+pub mod TableEntries
+pub mod Writing
