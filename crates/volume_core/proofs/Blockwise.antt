@@ -65,6 +65,13 @@ place_of_whole atom bytes place some whole =
     let left = length-drop (place * atom) bytes in
     omega (arith, some, whole, taken, left, block_end atom place)
 
+pub blocks_of_whole : (atom at n : ℕ) (bytes : List ℕ) → 0 < atom → 0 < n
+    → ((k : ℕ) → k < n → length (block_at atom bytes (at + k)) ≡ atom) → (at + n) * atom ≤ length bytes
+blocks_of_whole atom at n bytes some more whole =
+    let last : suc (at + (n - 1)) ≡ at + n = omega arith in
+    subst (λ m. m * atom ≤ length bytes) last
+    (place_of_whole atom bytes (at + (n - 1)) some (whole (n - 1) (omega arith)))
+
 pub bytes-block_at : (atom : ℕ) (bytes : List ℕ) (k : ℕ) → AreBytes bytes → AreBytes (block_at atom bytes k)
 bytes-block_at atom bytes k are = bytes-take atom (drop (k * atom) bytes) (bytes-drop (k * atom) bytes are)
 

@@ -16,7 +16,7 @@ use Rattle.volume_core.specs.Views.{View, view_of_bytes, view_of_cells, IsUnchan
 use Rattle.volume_core.specs.Views as views
 use Rattle.volume_core.proofs.Blockwise.{length-pasted_blocks, block_at-pasted, block_at-pasted_outside, block_at-part}
 use Rattle.volume_core.proofs.Entries.{length-changed}
-use Rattle.volume_core.proofs.TableEntries.{none_contained, kept_view, wrote_view, length-tried, tried_view, untried_view, synced_view, length-thinned, thinned_view, unthinned_view}
+use Rattle.volume_core.proofs.TableEntries.{none_contained, place_of_some, kept_view, wrote_view, length-tried, tried_view, untried_view, synced_view, length-thinned, thinned_view, unthinned_view}
 
 -- a call leaves other bytes that are told, as many, and by this step of what a run sees
 pub record TurnsBytes (atom : ℕ) (bytes : List ℕ) (new : Device) (Step : View → View → Type 0) : Type 0 where
@@ -160,6 +160,13 @@ pub places_of_atoms : (old : Device) (atoms at n : ℕ)
     → ((before : Told) → old.told ≡ Some before → length before.now ≡ atoms) → at + n ≤ atoms
     → HasPlaces old at n
 places_of_atoms old atoms at n had within before was k below = omega (arith, had before was, within, below)
+
+pub places_of_current : (old : Device) (atom at n : ℕ) → 0 < atom
+    → ((before : Told) → old.told ≡ Some before → (k : ℕ) → k < n
+    → length ((view_of_cells before.now).current (at + k)) ≡ atom)
+    → HasPlaces old at n
+places_of_current old atom at n some whole before was k below =
+    place_of_some before.now (at + k) (omega (arith, some, whole before was k below))
 
 -- a write
 pub table-written : (atom at n : ℕ) (text : List ℕ) (old new : Device) (now : Told)

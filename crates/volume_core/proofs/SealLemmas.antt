@@ -8,7 +8,10 @@ use Rattle.cipher_laws.specs.Laws.{KeepsLengths, GivesBytes, UndoesSectors, Join
 use Rattle.sector_disk.specs.Geometry.{IsAtom}
 use Rattle.segment_map.specs.declared.Side.{Side}
 use Rattle.segment_map.specs.declared.Side.TheVariants.{Old, New, Zone}
-use Rattle.volume_core.specs.Seals.{key_of, tweak_of, number_of, seals_of, AreBlocks, AreLawful, block_at}
+use Rattle.segment_map.specs.declared.map.Map.{Map}
+use Rattle.volume_core.specs.Contents.{IsSealed}
+use Rattle.volume_core.specs.Pieces.{side_in}
+use Rattle.volume_core.specs.Seals.{Seals, key_of, tweak_of, number_of, seals_of, AreBlocks, AreLawful, block_at}
 use Rattle.volume_core.specs.declared.keys.Keys.{Keys}
 use Rattle.volume_core.proofs.Blockwise.{blocks_end, bytes-take, bytes-drop, block_at-one, block_at-front, block_at-behind}
 
@@ -167,3 +170,9 @@ keys_are_lawful sector seal unseal keys atom ciphers known old new =
           ∙ ap (λ first. unseal c first (block_at atom bytes k))
           (number_behind (tweak_of keys side) atom block k known);
     }
+
+-- what holds a value of a block has a block's bytes
+pub length-sealed : (map : Map) (seals : Seals) (b : ℕ) (value text : List ℕ) → AreLawful map.atom seals
+    → IsSealed map seals b value text → length text ≡ map.atom
+length-sealed map seals b value text lawful is =
+    ap (λ bytes. length bytes) is.1 ∙ (lawful.keeps_sealed (side_in map b) b value is.0).size ∙ omega arith
