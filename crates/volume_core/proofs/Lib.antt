@@ -2,6 +2,7 @@ pub mod Admits
 pub mod Answering
 pub mod Blockwise
 pub mod DeviceViews
+pub mod SealLemmas
 pub mod Entries
 pub mod Finishing
 pub mod Invariant
