@@ -5,6 +5,7 @@ pub mod DeviceViews
 pub mod SealLemmas
 pub mod Entries
 pub mod Finishing
+pub mod Here
 pub mod Invariant
 pub mod Locking
 pub mod PlainBlocks
