@@ -4,6 +4,7 @@ pub mod Blockwise
 pub mod DeviceViews
 pub mod SealLemmas
 pub mod Entries
+pub mod EndsServed
 pub mod EventsServed
 pub mod Finishing
 pub mod Here
