@@ -118,3 +118,127 @@ knows_body old plain left lane o offset len fua logic at is =
       whole = part;
       all = λ whole ended. (let exact = knows.exact whole in omega (arith, exact, ended, start, end));
     }
+
+-- what a write that is done, and one that failed, makes of a block
+change_newest : (fua : Bool) (block : Block) (value : List ℕ) → (change_of fua block value).newest ≡ value
+change_newest true block value = refl
+change_newest false block value = refl
+
+change_has : (fua : Bool) (block : Block) (value : List ℕ) → Contains (values_of (change_of fua block value)) value
+change_has true block value = written_for_good_contained block value
+change_has false block value = written_contained block value
+
+change_sure : (fua : Bool) (block : Block) (value : List ℕ) → (change_of fua block value).unsure ≡ false
+change_sure true block value = refl
+change_sure false block value = refl
+
+ends_write : {K : Type 0} (seals : Seals) (old new : State K) (plain : ℕ → List ℕ) (left : List Block) (lane : ℕ) (o : Open) (change : Block → List ℕ → Block) (here : Here old seals plain left) →
+    (at : open_at old.lanes lane ≡ Some o) → IsWrite o.ask → Holds old lane → Ends old new lane → ((block : Block) (value : List ℕ) → (change block value).newest ≡ value) →
+    ((block : Block) (value : List ℕ) → Contains (values_of (change block value)) value) →
+    (((block : Block) (value other : List ℕ) → Contains (values_of block) other → Contains (values_of (change block value)) other) ⊎ (IsForced o.ask × (o.settled ≡ true))) →
+    EndsWrite old new plain left lane o change (here.logic.lanes lane o at).count
+ends_write seals old new plain left lane o change here at writing holds goes newest has keeps =
+    let knows = here.logic.lanes lane o at in record {
+      some = positive old seals plain left here;
+      logic = here.logic;
+      at = at;
+      writes = writing;
+      holds = holds;
+      goes = goes;
+      are = knows.are;
+      most = knows.most;
+      newest = newest;
+      has = has;
+      keeps = keeps;
+    }
+
+-- a write that failed
+failed_write_served : {K : Type 0} (seals : Seals) (old new : State K) (plain : ℕ → List ℕ) (left : List Block) (lane : ℕ) (o : Open) (offset len : ℕ) (fua : Bool) (exchanges : List Exchange) →
+    Here old seals plain left → IsSound new → open_at old.lanes lane ≡ Some o → o.ask ≡ Write offset len fua → o.failed ≡ true → Holds old lane → Ends old new lane → new.disk ≡ old.disk →
+    AreExchanges (record { ask = Write offset len fua; plain = plain lane; reply = Errno 5 } ∷ []) exchanges → Served seals old new plain left exchanges
+failed_write_served seals old new plain left lane o offset len fua exchanges here sound at is failed holds goes rests are =
+    let knows = here.logic.lanes lane o at in
+    let body = knows_body old plain left lane o offset len fua here.logic at is in
+    let writing : IsWrite o.ask = rw is tt in
+    write_ended seals old new plain left lane o tried knows.count (record { ask = Write offset len fua; plain = plain lane; reply = Errno 5 }) exchanges here sound rests
+        (ends_write seals old new plain left lane o tried here at writing holds goes (λ block value. refl) tried_contained (inl tried-keeps))
+        (λ was. absurd (let breaks = knows.breaks writing failed in cc))
+        (λ exchange is_exchange. subst (λ n. Rattle.plain_disk.specs.Plain.Step old.map.atom left exchange (changed tried left n (blocks_of old.map.atom knows.count (plain lane)))) (sym body.start)
+        (step_unwritten old.map.atom old.map.blocks knows.count offset len fua left (plain lane) exchange here.logic.are.count body.proper (positive old seals plain left here) is_exchange body.most body.size))
+        are
+
+no_blocks_change : (change : Block → List ℕ → Block) (atom n at_block : ℕ) (left : List Block) (text : List ℕ) → n ≡ 0 → changed change left at_block (blocks_of atom n text) ≡ left
+unfolding blocks_of
+no_blocks_change change atom n at_block left text none = rw none (changed-nil change left at_block)
+
+-- a write that is done
+written_served : {K : Type 0} (seals : Seals) (old new : State K) (plain : ℕ → List ℕ) (left : List Block) (lane : ℕ) (o : Open) (offset len : ℕ) (fua : Bool) (exchanges : List Exchange) →
+    Here old seals plain left → IsSound new → open_at old.lanes lane ≡ Some o → o.ask ≡ Write offset len fua → o.failed ≡ false → IsComplete o → Holds old lane → Ends old new lane → new.disk ≡ old.disk →
+    AreExchanges (record { ask = Write offset len fua; plain = plain lane; reply = Done } ∷ []) exchanges → Served seals old new plain left exchanges
+written_served seals old new plain left lane o offset len fua exchanges here sound at is whole complete holds goes rests are =
+    let atom = old.map.atom in
+    let knows = here.logic.lanes lane o at in
+    let body = knows_body old plain left lane o offset len fua here.logic at is in
+    let writing : IsWrite o.ask = rw is tt in
+    let all : knows.count ≡ len / atom = body.all whole complete.pieces in
+    let long : length (plain lane) ≡ len = body.size ∙ ap (λ n. n * atom) all ∙ body.whole in
+    let steps : (exchange : Exchange) → Rattle.volume_core.specs.Runs.IsExchange (record { ask = Write offset len fua; plain = plain lane; reply = Done }) exchange →
+    Rattle.plain_disk.specs.Plain.Step atom left exchange (changed (change_of fua) left (offset / atom) (blocks_of atom knows.count (plain lane))) =
+    λ exchange is_exchange. step_written atom old.map.blocks knows.count offset len fua left (plain lane) exchange here.logic.are.count body.proper is_exchange long body.size (sym all) in
+    elim (either (nat_lt 0 len)) [
+      | inl some ↦ write_ended seals old new plain left lane o (change_of fua) knows.count (record { ask = Write offset len fua; plain = plain lane; reply = Done }) exchanges here sound rests
+          (ends_write seals old new plain left lane o (change_of fua) here at writing holds goes (change_newest fua) (change_has fua) (kept fua is (grind (arith, some))))
+          (λ was block value. change_sure fua block value)
+          (λ exchange is_exchange. subst (λ n. Rattle.plain_disk.specs.Plain.Step atom left exchange (changed (change_of fua) left n (blocks_of atom knows.count (plain lane)))) (sym body.start) (steps exchange is_exchange))
+          are
+      | inr none ↦
+          let empty : len ≡ 0 = grind (arith, none) in
+          let no_count : knows.count ≡ 0 = (let size = body.size in let some_atom = positive old seals plain left here in grind (arith, long, empty, size, some_atom)) in
+          let same : (change : Block → List ℕ → Block) (at_block : ℕ) → changed change left at_block (blocks_of atom knows.count (plain lane)) ≡ left =
+          λ change at_block. no_blocks_change change atom knows.count at_block left (plain lane) no_count in
+          write_ended seals old new plain left lane o written knows.count (record { ask = Write offset len fua; plain = plain lane; reply = Done }) exchanges here sound rests
+              (ends_write seals old new plain left lane o written here at writing holds goes (λ block value. refl) written_contained (inl written-keeps))
+              (λ was block value. refl)
+              (λ exchange is_exchange. subst (λ bs. Rattle.plain_disk.specs.Plain.Step atom left exchange bs) (same (change_of fua) (offset / atom) ∙ sym (same written o.range.start)) (steps exchange is_exchange))
+              are
+    ]
+ where
+  kept : (forced : Bool) → o.ask ≡ Write offset len forced → 0 < len →
+      ((block : Block) (value other : List ℕ) → Contains (values_of block) other → Contains (values_of (change_of forced block value)) other) ⊎ (IsForced o.ask × (o.settled ≡ true))
+  kept true asked some = (let forced : IsForced o.ask = rw asked (refl, some) in inr (forced, complete.kept forced))
+  kept false asked some = inl written-keeps
+
+-- an operation that ends is answered
+end_by : {K : Type 0} (seals : Seals) (old new : State K) (plain : ℕ → List ℕ) (left : List Block) (lane : ℕ) (o : Open) (ask : Ask) (exchanges : List Exchange) →
+    Here old seals plain left → IsSound new → open_at old.lanes lane ≡ Some o → o.ask ≡ ask → has_lock ask ≡ true → (o.failed ≡ true) ⊎ ((o.failed ≡ false) × IsComplete o) → Holds old lane → Ends old new lane →
+    new.disk ≡ old.disk → AreExchanges (record { ask = ask; plain = plain lane; reply = if o.failed then Errno 5 else full_reply ask (plain lane) } ∷ []) exchanges → Served seals old new plain left exchanges
+end_by seals old new plain left lane o (Read offset len) exchanges here sound at is has (inl failed) holds goes rests are =
+    let under_way = here.logic.sound.under_way lane o at in
+    let proper : wrong_ask old.map.atom (old.map.blocks * old.map.atom) (Read offset len) ≡ None = subst (λ a. wrong_ask old.map.atom (size_of old.map) a ≡ None) is under_way.proper in
+    read_ended seals old new plain left lane o (record { ask = Read offset len; plain = plain lane; reply = Errno 5 }) exchanges here sound at (rw is tt) goes rests
+        (λ exchange is_exchange. step_unread old.map.atom old.map.blocks offset len left (plain lane) exchange here.logic.are.count proper is_exchange)
+        (subst (λ b. AreExchanges (record { ask = Read offset len; plain = plain lane; reply = if b then Errno 5 else Content (plain lane) } ∷ []) exchanges) failed are)
+end_by seals old new plain left lane o (Read offset len) exchanges here sound at is has (inr (whole, complete)) holds goes rests are =
+    let under_way = here.logic.sound.under_way lane o at in
+    let proper : wrong_ask old.map.atom (old.map.blocks * old.map.atom) (Read offset len) ≡ None = subst (λ a. wrong_ask old.map.atom (size_of old.map) a ≡ None) is under_way.proper in
+    let right = read_right seals old plain left lane o offset len here at is whole complete.pieces in
+    read_ended seals old new plain left lane o (record { ask = Read offset len; plain = plain lane; reply = Content (plain lane) }) exchanges here sound at (rw is tt) goes rests
+        (λ exchange is_exchange. step_read old.map.atom old.map.blocks offset len left (plain lane) exchange here.logic.are.count proper is_exchange right.0 right.1)
+        (subst (λ b. AreExchanges (record { ask = Read offset len; plain = plain lane; reply = if b then Errno 5 else Content (plain lane) } ∷ []) exchanges) whole are)
+end_by seals old new plain left lane o (Write offset len fua) exchanges here sound at is has (inl failed) holds goes rests are =
+    failed_write_served seals old new plain left lane o offset len fua exchanges here sound at is failed holds goes rests
+        (subst (λ b. AreExchanges (record { ask = Write offset len fua; plain = plain lane; reply = if b then Errno 5 else Done } ∷ []) exchanges) failed are)
+end_by seals old new plain left lane o (Write offset len fua) exchanges here sound at is has (inr (whole, complete)) holds goes rests are =
+    written_served seals old new plain left lane o offset len fua exchanges here sound at is whole complete holds goes rests
+        (subst (λ b. AreExchanges (record { ask = Write offset len fua; plain = plain lane; reply = if b then Errno 5 else Done } ∷ []) exchanges) whole are)
+end_by seals old new plain left lane o Flush exchanges here sound at is has ended holds goes rests are = absurd (cc)
+
+pub finish_served : {K : Type 0} (seals : Seals) (old new : State K) (plain : ℕ → List ℕ) (left : List Block) (lane : ℕ) (o : Open) (exchanges : List Exchange) →
+    Here old seals plain left → IsSound new → open_at old.lanes lane ≡ Some o → has_lock o.ask ≡ true → (o.failed ≡ true) ⊎ IsComplete o → Holds old lane → Ends old new lane →
+    new.disk ≡ old.disk → AreExchanges (by_finish (Some o) (plain lane)) exchanges → Served seals old new plain left exchanges
+finish_served seals old new plain left lane o exchanges here sound at has (inl failed) holds goes rests are =
+    end_by seals old new plain left lane o o.ask exchanges here sound at refl has (inl failed) holds goes rests are
+finish_served seals old new plain left lane o exchanges here sound at has (inr complete) holds goes rests are = elim (either o.failed) [
+  | inl failed ↦ end_by seals old new plain left lane o o.ask exchanges here sound at refl has (inl failed) holds goes rests are
+  | inr whole ↦ end_by seals old new plain left lane o o.ask exchanges here sound at refl has (inr (whole, complete)) holds goes rests are
+]
