@@ -62,7 +62,7 @@ admitted_served seals old new plain left lane ask outcome exchanges here sound f
   map = is.goes.map;
 }
 
-admit_by : {K : Type 0} (seals : Seals) (old new : State K) (plain : ℕ → List ℕ) (left : List Block) (lane : ℕ) (ask : Ask) (outcome : Outcome) (exchanges : List Exchange) (wrong : Option ℕ) →
+pub admit_by : {K : Type 0} (seals : Seals) (old new : State K) (plain : ℕ → List ℕ) (left : List Block) (lane : ℕ) (ask : Ask) (outcome : Outcome) (exchanges : List Exchange) (wrong : Option ℕ) →
     wrong_ask old.map.atom (size_of old.map) ask ≡ wrong → Here old seals plain left → IsSound new → open_at old.lanes lane ≡ None →
     MatchOption wrong (MatchBool old.broken ((outcome ≡ refused 5) × (new ≡ old)) (IsAdmitted old lane ask outcome new)) (λ number. (outcome ≡ refused number) × (new ≡ old)) →
     AreExchanges (by_admit ask outcome) exchanges → Served seals old new (with_plain plain lane []) left exchanges
@@ -96,7 +96,7 @@ failed_here seals old new plain left lane o is_broken here sound at goes unbroke
         (λ whole. (unbroken (sym goes.broken_is ∙ whole), unchanged.current)) unchanged.candidates shown)
 
 -- a piece is read
-read_served : {K : Type 0} (seals : Seals) (old new : State K) (plain : ℕ → List ℕ) (left : List Block) (lane : ℕ) (o : Open) (outcome : Outcome) (exchanges : List Exchange) →
+pub read_served : {K : Type 0} (seals : Seals) (old new : State K) (plain : ℕ → List ℕ) (left : List Block) (lane : ℕ) (o : Open) (outcome : Outcome) (exchanges : List Exchange) →
     Here old seals plain left → IsSound new → open_at old.lanes lane ≡ Some o → IsRead o.ask → HasPiece o → Holds old lane → ReadStep old lane o outcome new →
     AreExchanges [] exchanges → Served seals old new (after_read seals old lane outcome plain) left exchanges
 read_served seals old new plain left lane o held exchanges here sound at reading has holds step are = absurd step
@@ -143,7 +143,7 @@ tries seals old new plain left lane o next piece bytes is_broken here at writing
   unsettled = unsettled;
 }
 
-write_served : {K : Type 0} (seals : Seals) (old new : State K) (plain : ℕ → List ℕ) (left : List Block) (lane : ℕ) (o : Open) (bytes : List ℕ) (outcome : Outcome) (exchanges : List Exchange) →
+pub write_served : {K : Type 0} (seals : Seals) (old new : State K) (plain : ℕ → List ℕ) (left : List Block) (lane : ℕ) (o : Open) (bytes : List ℕ) (outcome : Outcome) (exchanges : List Exchange) →
     Here old seals plain left → IsSound new → open_at old.lanes lane ≡ Some o → IsWrite o.ask → HasPiece o → Holds old lane → WriteStep old lane o bytes outcome new →
     AreExchanges [] exchanges → Served seals old new (after_write seals old lane bytes outcome plain) left exchanges
 unfolding tries
@@ -179,7 +179,7 @@ write_served seals old new plain left lane o bytes broken exchanges here sound a
         step.goes.map
 
 -- a flush that ends
-flush_served : {K : Type 0} (seals : Seals) (old new : State K) (plain : ℕ → List ℕ) (left : List Block) (lane : ℕ) (o : Open) (outcome : Outcome) (exchanges : List Exchange) →
+pub flush_served : {K : Type 0} (seals : Seals) (old new : State K) (plain : ℕ → List ℕ) (left : List Block) (lane : ℕ) (o : Open) (outcome : Outcome) (exchanges : List Exchange) →
     Here old seals plain left → IsSound new → open_at old.lanes lane ≡ Some o → o.ask ≡ Flush → SettleStep old lane o outcome new →
     AreExchanges (record { ask = Flush; plain = []; reply = flush_reply outcome } ∷ []) exchanges → Served seals old new plain left exchanges
 flush_served seals old new plain left lane o held exchanges here sound at is step are = absurd step
@@ -226,7 +226,7 @@ forced_locks (Read offset len) forced = absurd forced
 forced_locks (Write offset len fua) forced = refl
 forced_locks Flush forced = absurd forced
 
-settle_served : {K : Type 0} (seals : Seals) (old new : State K) (plain : ℕ → List ℕ) (left : List Block) (lane : ℕ) (o : Open) (outcome : Outcome) (exchanges : List Exchange) →
+pub settle_served : {K : Type 0} (seals : Seals) (old new : State K) (plain : ℕ → List ℕ) (left : List Block) (lane : ℕ) (o : Open) (outcome : Outcome) (exchanges : List Exchange) →
     Here old seals plain left → IsSound new → open_at old.lanes lane ≡ Some o → IsForced o.ask → o.next ≡ o.range.end → SettleStep old lane o outcome new →
     AreExchanges [] exchanges → Served seals old new plain left exchanges
 settle_served seals old new plain left lane o held exchanges here sound at forced whole step are = absurd step

@@ -33,6 +33,7 @@ pub record Here {K : Type 0} (state : State K) (seals : Seals) (plain : ℕ → 
   pub values : state.disk.values ≡ Some bytes
   pub shown : Shown state seals plain left (view_of_bytes state.map.atom bytes)
   pub tables : (told : Told) → state.disk.told ≡ Some told → Shown state seals plain left (view_of_cells told.now)
+  pub places : (told : Told) → state.disk.told ≡ Some told → (b : ℕ) → b < state.map.blocks → place_in state.map b < length told.now
 
 pub positive : {K : Type 0} (state : State K) (seals : Seals) (plain : ℕ → List ℕ) (left : List Block) → Here state seals plain left → 0 < state.map.atom
 positive state seals plain left here = some_atom state.map.atom here.logic.sound.fits.known
@@ -42,7 +43,7 @@ pub record Moves (atom : ℕ) (bytes : List ℕ) (old new : Device) (Rel : View 
   pub now : List ℕ
   pub values : new.values ≡ Some now
   pub by_bytes : Rel (view_of_bytes atom bytes) (view_of_bytes atom now)
-  pub by_tables : (told : Told) → new.told ≡ Some told → (before : Told) × (old.told ≡ Some before) × Rel (view_of_cells before.now) (view_of_cells told.now)
+  pub by_tables : (told : Told) → new.told ≡ Some told → (before : Told) × (old.told ≡ Some before) × (length told.now ≡ length before.now) × Rel (view_of_cells before.now) (view_of_cells told.now)
 
 pub here_after : {K : Type 0} (old new : State K) (seals : Seals) (plain now : ℕ → List ℕ) (left next : List Block) (Rel : View → View → Type 0) →
     (here : Here old seals plain left) → new.map ≡ old.map → Logic new now next → Moves old.map.atom here.bytes old.disk new.disk Rel →
@@ -55,7 +56,9 @@ here_after old new seals plain now left next Rel here map logic moves shows = re
   values = moves.values;
   shown = subst (λ m. Shown new seals now next (view_of_bytes m.atom moves.now)) (sym map)
       (shows (view_of_bytes old.map.atom here.bytes) (view_of_bytes old.map.atom moves.now) moves.by_bytes here.shown);
-  tables = λ told is. (let (before, was, moved) = moves.by_tables told is in shows (view_of_cells before.now) (view_of_cells told.now) moved (here.tables before was));
+  places = λ told is b below. (let (before, was, size, moved) = moves.by_tables told is in
+      rw (map, size) (here.places before was b (subst (λ m. b < m.blocks) map below)));
+  tables = λ told is. (let (before, was, size, moved) = moves.by_tables told is in shows (view_of_cells before.now) (view_of_cells told.now) moved (here.tables before was));
 }
 
 pub moves_not : (atom : ℕ) (bytes : List ℕ) (old new : Device) → new ≡ old → old.values ≡ Some bytes → Moves atom bytes old new IsUnchanged
@@ -63,7 +66,7 @@ moves_not atom bytes old new same values = record {
   now = bytes;
   values = ap (λ d. d.values) same ∙ values;
   by_bytes = record { current = λ place. refl; candidates = λ place value has. has };
-  by_tables = λ told is. (told, sym (ap (λ d. d.told) same) ∙ is, record { current = λ place. refl; candidates = λ place value has. has });
+  by_tables = λ told is. (told, sym (ap (λ d. d.told) same) ∙ is, refl, record { current = λ place. refl; candidates = λ place value has. has });
 }
 
 pub moves_by_read : (atom at : ℕ) (text bytes : List ℕ) (old new : Device) (result : Result (Unit {0}) Failed) → ReadCall atom at text old new result →
@@ -73,7 +76,7 @@ moves_by_read atom at text bytes old new result call values =
       now = turns.now;
       values = turns.told;
       by_bytes = turns.step;
-      by_tables = λ told is. (let turned = table-read atom at text old new result told call is in (turned.before, turned.told, turned.step));
+      by_tables = λ told is. (let turned = table-read atom at text old new result told call is in (turned.before, turned.told, turned.size, turned.step));
     }
 
 pub moves_by_tried : (atom at n : ℕ) (text bytes : List ℕ) (old new : Device) → WriteCall atom at text old new failed_call →
@@ -83,7 +86,7 @@ moves_by_tried atom at n text bytes old new call values some long =
       now = leaves.now;
       values = leaves.told;
       by_bytes = leaves.step;
-      by_tables = λ told is. (let turned = table-tried atom at n text old new told call is some long in (turned.before, turned.told, turned.step));
+      by_tables = λ told is. (let turned = table-tried atom at n text old new told call is some long in (turned.before, turned.told, turned.size, turned.step));
     }
 
 pub moves_by_written : (atom at n : ℕ) (text bytes : List ℕ) (old new : Device) → WriteCall atom at text old new succeeded →
@@ -93,7 +96,7 @@ moves_by_written atom at n text bytes old new call values some long within has =
       now = turns.now;
       values = turns.told;
       by_bytes = turns.step;
-      by_tables = λ told is. (let turned = table-written atom at n text old new told call is some long has in (turned.before, turned.told, turned.step));
+      by_tables = λ told is. (let turned = table-written atom at n text old new told call is some long has in (turned.before, turned.told, turned.size, turned.step));
     }
 
 pub moves_by_sync : (atom : ℕ) (bytes : List ℕ) (old new : Device) → SyncCall old new succeeded → old.values ≡ Some bytes → Moves atom bytes old new IsSynced
@@ -102,7 +105,7 @@ moves_by_sync atom bytes old new call values =
       now = turns.now;
       values = turns.told;
       by_bytes = turns.step;
-      by_tables = λ told is. (let turned = table-synced old new told call is in (turned.before, turned.told, turned.step));
+      by_tables = λ told is. (let turned = table-synced old new told call is in (turned.before, turned.told, turned.size, turned.step));
     }
 
 pub moves_by_failed_sync : (atom : ℕ) (bytes : List ℕ) (old new : Device) → SyncCall old new failed_call → old.values ≡ Some bytes → Moves atom bytes old new IsThinned
@@ -111,7 +114,7 @@ moves_by_failed_sync atom bytes old new call values =
       now = turns.now;
       values = turns.told;
       by_bytes = turns.step;
-      by_tables = λ told is. (let turned = table-thinned old new told call is in (turned.before, turned.told, turned.step));
+      by_tables = λ told is. (let turned = table-thinned old new told call is in (turned.before, turned.told, turned.size, turned.step));
     }
 
 -- a piece lies within the disk's bytes and tables

@@ -2,6 +2,7 @@ pub mod Admits
 pub mod Answering
 pub mod Blockwise
 pub mod DeviceViews
+pub mod RunsServed
 pub mod SealLemmas
 pub mod Entries
 pub mod EndsServed
