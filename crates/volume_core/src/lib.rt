@@ -9,7 +9,11 @@
 
 mod ask;
 mod keys;
+mod laws;
 mod open;
 
 pub use ask::Ask;
 pub use keys::Keys;
+pub use laws::{
+    every_run_is_served, failures_go_by_events, keys_seal_lawfully, volumes_stay_sound,
+};
