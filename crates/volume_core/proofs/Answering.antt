@@ -9,7 +9,7 @@ use Rattle.plain_disk.specs.declared.operation.Reply.TheVariants.{Content, Done,
 use Rattle.plain_disk.specs.Operations.{wrong_of, wrong_range_of}
 use Rattle.sector_disk.specs.Geometry.{IsAtom}
 use Rattle.plain_disk.specs.Plain.{Block, Exchange, Legal, Step, ProperStep, WriteStep, AreSure, newest_bytes, written, written_for_good, tried, flushed}
-use Rattle.sector_disk.proofs.BlockLemmas.{changed-nil}
+use Rattle.base_terms.proofs.BlockLemmas.{changed-nil}
 use Rattle.volume_core.specs.declared.ask.Ask.{Ask}
 use Rattle.volume_core.specs.declared.ask.Ask.TheVariants.{Read, Write, Flush}
 use Rattle.volume_core.specs.Asks.{wrong_ask}

@@ -3,7 +3,7 @@ use Rattle.std.proofs.Common.{◌≡◌, ◌≢◌, inl, inr, ◌⊎◌, ℕ, su
 use Rattle.base_terms.specs.Blocks.{blocks_of, changed}
 use Rattle.plain_disk.specs.declared.operation.Reply.TheVariants.{Content, Done, Errno}
 use Rattle.plain_disk.specs.Plain.{Block, Exchange, values_of, written, written_for_good, tried, newest_bytes, AreSure}
-use Rattle.sector_disk.proofs.BlockLemmas.{changed-nil}
+use Rattle.base_terms.proofs.BlockLemmas.{changed-nil}
 use Rattle.volume_core.specs.declared.ask.Ask.{Ask}
 use Rattle.volume_core.specs.declared.ask.Ask.TheVariants.{Read, Write, Flush}
 use Rattle.volume_core.specs.declared.open.Open.{Open}
