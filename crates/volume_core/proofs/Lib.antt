@@ -7,6 +7,7 @@ pub mod SealLemmas
 pub mod Entries
 pub mod EndsServed
 pub mod EventsServed
+pub mod Executions
 pub mod Failures
 pub mod Finishing
 pub mod Here

@@ -77,7 +77,7 @@ event_served seals old new plain left (finishes lane) outcome exchanges here mee
 record Parted (one rest : List Exchange) (all : List Exchange) : Type 0 where
   whole : all ≡ one ++ rest
 
-split_exchanges : (xs ys : List _) (exchanges : List Exchange) → AreExchanges (xs ++ ys) exchanges →
+pub split_exchanges : (xs ys : List _) (exchanges : List Exchange) → AreExchanges (xs ++ ys) exchanges →
     (first : List Exchange) × (rest : List Exchange) × (exchanges ≡ first ++ rest) × AreExchanges xs first × AreExchanges ys rest
 unfolding AreExchanges
 split_exchanges [] ys exchanges are = ([], exchanges, refl, tt, are)
