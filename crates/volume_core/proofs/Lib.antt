@@ -18,4 +18,5 @@ pub mod Reading
 pub mod Settling
 pub mod Soundness
 pub mod TableEntries
+pub mod Tables
 pub mod Writing
