@@ -221,7 +221,7 @@ flush_served seals old new plain left lane o broken exchanges here sound at is s
     }
 
 -- a write that is settled
-forced_locks : (ask : Ask) → IsForced ask → has_lock ask ≡ true
+pub forced_locks : (ask : Ask) → IsForced ask → has_lock ask ≡ true
 forced_locks (Read offset len) forced = absurd forced
 forced_locks (Write offset len fua) forced = refl
 forced_locks Flush forced = absurd forced

@@ -143,10 +143,10 @@ run_fails old lane before (one ∷ rest) (meets, step, is) was o at =
     run_fails one.after lane (fails lane one.event one.outcome before) rest is (event_fails old one.after lane one.event one.outcome before meets step was) o at
 
 -- what an event does to the volume as a whole
-record Whole {K : Type 0} (old new : State K) (failure : Bool) : Type 0 where
-  broken_is : new.broken ≡ (old.broken || failure)
-  map_is : new.map ≡ old.map
-  keys_are : new.keys ≡ old.keys
+pub record Whole {K : Type 0} (old new : State K) (failure : Bool) : Type 0 where
+  pub broken_is : new.broken ≡ (old.broken || failure)
+  pub map_is : new.map ≡ old.map
+  pub keys_are : new.keys ≡ old.keys
 
 whole_of : {K : Type 0} (old new : State K) (lane : ℕ) (entries : List Entry) (now : Option Open) (is_broken failure : Bool) → Goes old new lane entries now is_broken → is_broken ≡ (old.broken || failure) → Whole old new failure
 whole_of old new lane entries now is_broken failure goes is = record { broken_is = goes.broken_is ∙ is; map_is = goes.map; keys_are = goes.keys }
@@ -181,7 +181,7 @@ whole_settle old new lane q broken step = whole_of old new lane old.entries _ tr
 whole_same : {K : Type 0} (old new : State K) → new ≡ old → Whole old new false
 whole_same old new same = record { broken_is = ap (λ s. s.broken) same ∙ sym (or_false old.broken); map_is = ap (λ s. s.map) same; keys_are = ap (λ s. s.keys) same }
 
-whole_event : {K : Type 0} (old new : State K) (event : Event) (outcome : Outcome) → Step old event outcome new → Whole old new (breaks event outcome)
+pub whole_event : {K : Type 0} (old new : State K) (event : Event) (outcome : Outcome) → Step old event outcome new → Whole old new (breaks event outcome)
 unfolding Step
 whole_event old new (admits lane ask) outcome step = elim (admit_cases old new lane ask outcome (wrong_ask old.map.atom (size_of old.map) ask) refl step) [
   | inl same ↦ whole_same old new same

@@ -9,6 +9,7 @@ pub mod EndsServed
 pub mod EventsServed
 pub mod Executions
 pub mod Failures
+pub mod Faultless
 pub mod Finishing
 pub mod Here
 pub mod Invariant

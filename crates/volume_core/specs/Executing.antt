@@ -1,5 +1,5 @@
 -- Operations that were executed, each to its end, by some run of events.
-use Rattle.std.specs.Prelude.{ℕ, ◌≡◌, ◌++◌, ◌<◌, ◌-◌, ◌^◌, List, [], ◌∷◌, length, All, Option, Some, None, MatchOption}
+use Rattle.std.specs.Prelude.{ℕ, ◌≡◌, ◌++◌, ◌<◌, ◌-◌, ◌^◌, false, List, [], ◌∷◌, length, All, Option, Some, None, MatchOption}
 use Rattle.plain_disk.specs.declared.operation.Reply.TheVariants.{Content, Done, Errno}
 use Rattle.plain_disk.specs.Plain.{Block, Exchange, Legal}
 use Rattle.sector_disk.specs.Cells.{Cell}
@@ -68,3 +68,10 @@ AreFull atom size [] = Unit {0}
 AreFull atom size (answered ∷ rest) =
     MatchOption (wrong_ask atom size answered.ask) (IsFull answered answered.ask) (λ number. answered.reply ≡ Errno number)
     × AreFull atom size rest
+
+-- where no count of faults moved, every operation was served or refused with its number, and nothing
+-- is broken
+abbrev pub ServesWithoutFaults : {K : Type 0} → State K → Seals → List (Happening K) → Type 0
+ServesWithoutFaults start seals run =
+    (last_of start run).disk.faults ≡ start.disk.faults → start.disk.faults < 2 ^ 64 - 1 →
+    AreFull start.map.atom (size_of start.map) (answered_in seals start no_plain run) × ((last_of start run).broken ≡ false)
