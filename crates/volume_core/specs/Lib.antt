@@ -9,3 +9,4 @@ pub mod Seals
 pub mod Sound
 pub mod States
 pub mod Steps
+pub mod Views
