@@ -1,5 +1,6 @@
 -- What holds of a volume between any two events.
 use Rattle.std.specs.Prelude.{ℕ, ◌≡◌, ◌≢◌, suc, ◌+◌, ◌*◌, ◌<◌, ◌≤◌, ◌^◌, Bool, true, false, if◌then◌else◌, List, [], ◌∷◌, length, find, Option, Some, None, MatchOption}
+use Rattle.std.specs.List.{after_first}
 use Rattle.range_lock.specs.declared.Entry.{Entry}
 use Rattle.range_lock.specs.Locks.{is_of}
 use Rattle.sector_disk.specs.Geometry.{IsAtom}
@@ -49,4 +50,5 @@ pub record IsSound {K : Type 0} (state : State K) : Type 0 where
   pub some : 0 < length state.lanes
   pub count : length state.entries ≡ count_locks state.lanes
   pub entries : (lane : ℕ) → find (is_of lane) state.entries ≡ entry_in state.map.atom lane (open_at state.lanes lane)
+  pub once : (lane : ℕ) → find (is_of lane) (after_first (is_of lane) state.entries) ≡ None
   pub under_way : (lane : ℕ) (o : Open) → open_at state.lanes lane ≡ Some o → IsUnderWay state.map o

@@ -7,9 +7,15 @@
 //! run stops the disk holds what that history allows.
 #![tactic(auto)]
 
+mod answers;
 mod ask;
 mod keys;
 mod open;
+mod prepared;
+mod volume;
 
+pub use answers::{Admitted, Asked, Grant, PieceRead, PieceWritten, Progress, Settled};
 pub use ask::Ask;
 pub use keys::Keys;
+pub use prepared::Prepared;
+pub use volume::Volume;
