@@ -1,3 +1,4 @@
+pub mod Answers
 pub mod Asks
 pub mod Contents
 pub mod Devices
@@ -10,3 +11,4 @@ pub mod Sound
 pub mod States
 pub mod Steps
 pub mod Views
+pub mod Volumes
