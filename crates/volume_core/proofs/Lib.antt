@@ -1,4 +1,7 @@
 pub mod Blockwise
+pub mod CodePieces
+pub mod CodeSeals
+pub mod CodeSteps
 pub mod DeviceViews
 pub mod Entries
 pub mod Invariant

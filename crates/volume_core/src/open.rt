@@ -90,9 +90,9 @@ impl Open {
 ghost use Rattle.volume_core.specs.States.{open_at, LaneBecomes};
 
 /// Gives a lane this operation.
-pub(crate) fn set_lane(lanes: &mut [Option<Open>], lane: u32, now: Option<Open>)
-    requires { lane < length lanes.old }
-    ensures { LaneBecomes lanes.old lanes.new lane now }
+pub(crate) fn set_lane(lanes: &mut Vec<Option<Open>>, lane: u32, now: Option<Open>)
+    requires { lane < length lanes.old.items }
+    ensures { LaneBecomes lanes.old.items lanes.new.items lane now }
 {
     lanes[lane as usize] = now;
 }
