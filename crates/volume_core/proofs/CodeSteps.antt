@@ -3,11 +3,13 @@ use Rattle.std.proofs.Common.{◌≡◌, ◌≢◌, ◌⊎◌, inl, inr, ℕ, ze
 use Rattle.range_lock.specs.declared.Entry.{Entry}
 use Rattle.range_lock.specs.Locks.{is_of, has_entry}
 use Rattle.volume_core.specs.Asks.{IsRead, IsWrite, has_lock, entry_of}
-use Rattle.volume_core.specs.Events.{Event, Outcome, admits, asks, reads, writes, settles, finishes}
+use Rattle.volume_core.specs.Devices.{ReadCall, WriteCall, SyncCall}
+use Rattle.volume_core.specs.Events.{Event, Outcome, admits, asks, reads, writes, settles, finishes, got, done, device, broken}
+use Rattle.volume_core.specs.Pieces.{IsPieceOf, ArePieceBytes, place_of, size_of_piece, moved, failing, settling}
 use Rattle.volume_core.specs.Seals.{KeysFit}
 use Rattle.volume_core.specs.Sound.{IsSound, entry_in, count_locks, locks}
 use Rattle.volume_core.specs.States.{State, open_at}
-use Rattle.volume_core.specs.Steps.{Step, Meets, Has, HasPiece}
+use Rattle.volume_core.specs.Steps.{Step, Meets, Has, HasPiece, Goes, after_settle, succeeded, failed_call}
 use Rattle.volume_core.specs.Volumes.{IsVolume}
 use Rattle.volume_core.specs.declared.ask.Ask.{Ask}
 use Rattle.volume_core.specs.declared.keys.Keys.{Keys}
@@ -83,3 +85,30 @@ volume-kept sector size now old new event outcome is meets step same map keys = 
   sound = sound_kept old new event outcome is.sound meets step;
   keys = rw (map, keys) is.keys;
 }
+
+-- a lane's operation became this
+pub goes-to : {K : Type 0} (old new : State K) (lane : ℕ) (entries : List Entry) (one now : Option Open) (is_broken : Bool) → one ≡ now →
+    Goes old new lane entries one is_broken → Goes old new lane entries now is_broken
+goes-to old new lane entries one now is_broken same goes = rw (← same) goes
+
+-- the steps of a settle
+pub settle-done : {K : Type 0} (old new : State K) (lane : ℕ) (o next : Open) (now : Option Open) → open_at old.lanes lane ≡ Some o → old.broken ≡ false →
+    next ≡ settling o → now ≡ after_settle o next → SyncCall old.disk new.disk succeeded → Goes old new lane old.entries now false →
+    Step old (settles lane) done new
+unfolding Step
+settle-done old new lane o next now is was settled left call goes =
+    (o, is, record { was = was; call = call; goes = goes-to old new lane old.entries now (after_settle o (settling o)) false (rw settled at left) goes })
+
+pub settle-device : {K : Type 0} (old new : State K) (lane : ℕ) (o next : Open) (now : Option Open) → open_at old.lanes lane ≡ Some o → old.broken ≡ false →
+    next ≡ failing o → now ≡ after_settle o next → SyncCall old.disk new.disk failed_call → Goes old new lane old.entries now true →
+    Step old (settles lane) device new
+unfolding Step
+settle-device old new lane o next now is was failed left call goes =
+    (o, is, record { was = was; call = call; goes = goes-to old new lane old.entries now (after_settle o (failing o)) true (rw failed at left) goes })
+
+pub settle-broken : {K : Type 0} (old new : State K) (lane : ℕ) (o next : Open) (now : Option Open) → open_at old.lanes lane ≡ Some o → old.broken ≡ true →
+    next ≡ failing o → now ≡ after_settle o next → Goes old new lane old.entries now true → new.disk ≡ old.disk →
+    Step old (settles lane) broken new
+unfolding Step
+settle-broken old new lane o next now is was failed left goes rests =
+    (o, is, record { was = was; goes = goes-to old new lane old.entries now (after_settle o (failing o)) true (rw failed at left) goes; rests = rests })
