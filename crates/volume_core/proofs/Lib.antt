@@ -1,4 +1,5 @@
 pub mod Blockwise
+pub mod CodePieceSteps
 pub mod CodePieces
 pub mod CodeSeals
 pub mod CodeSteps

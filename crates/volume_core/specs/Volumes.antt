@@ -1,12 +1,22 @@
 -- A volume as its state: what it shows, what it keeps, and how it begins.
 use Rattle.std.specs.Prelude.{ℕ, ◌≡◌, Bool, false, List, [], replicate, Option, None}
 use Rattle.range_lock.specs.Locks.{Locks}
+use Rattle.sector_disk.specs.Steps.{Told}
 use Rattle.segment_map.specs.declared.map.Map.{Map}
 use Rattle.volume_core.specs.Seals.{KeysFit}
 use Rattle.volume_core.specs.Sound.{IsSound}
 use Rattle.volume_core.specs.States.{State, Device}
 use Rattle.volume_core.specs.declared.keys.Keys.{Keys}
 use Rattle.volume_core.specs.declared.open.Open.{Open}
+
+-- a disk, by what it tells of itself
+abbrev pub device_of : {D : Type 0} → (D → ℕ) → (D → Option (List ℕ)) → (D → Option Told) → (D → ℕ) → D → Device
+device_of count values told faults disk = record {
+  atoms = count disk;
+  values = values disk;
+  told = told disk;
+  faults = faults disk;
+}
 
 abbrev pub state_of : {K : Type 0} → Map → K → Locks → List (Option Open) → Bool → Device → State K
 state_of map keys table lanes broken disk = record {

@@ -1,14 +1,16 @@
 // A volume: its disk, its map and keys, and the operations under way on it.
 
 ghost use Rattle.std.specs.Prelude.{◌≡◌, ◌<◌, [], length, None, replicate, IfOk, IfErr};
-ghost use Rattle.sector_disk.specs.Geometry.{IsAtom};
+ghost use Rattle.cipher_laws.specs.Bytes.{AreBytes};
+ghost use Rattle.sector_disk.specs.Geometry.{IsInDisk};
 ghost use Rattle.volume_core.specs.Answers.{outcome_of_admitted, outcome_of_asked, outcome_of_read, outcome_of_written, outcome_of_settled, GrantsAdmitted, GrantsAsked, buffer_of_read, buffer_of_written, FitsPiece, is_idle};
 ghost use Rattle.volume_core.specs.Contents.{IsFresh};
+ghost use Rattle.volume_core.specs.Devices.{ReadCall};
 ghost use Rattle.volume_core.specs.Events.{admits, asks, reads, writes, settles, finishes, done};
 ghost use Rattle.volume_core.specs.Seals.{KeysFit};
 ghost use Rattle.volume_core.specs.Sound.{IsSound, MapFits};
-ghost use Rattle.volume_core.specs.Steps.{Step, Meets};
-ghost use Rattle.volume_core.specs.Volumes.{new_volume};
+ghost use Rattle.volume_core.specs.Steps.{Step, Meets, succeeded, failed_call};
+ghost use Rattle.volume_core.specs.Volumes.{device_of, new_volume};
 
 use crate::answers::{Admitted, Asked, Grant, PieceRead, PieceWritten, Progress, Settled};
 use crate::open::{Open, open_of, set_lane};
@@ -45,25 +47,15 @@ pub struct Volume<D: Disk, C: SectorCipher + Copy> {
 
 impl<D: Disk, C: SectorCipher + Copy> Model for Volume<D, C> {
     ghost use Rattle.volume_core.specs.States.{State};
-    ghost use Rattle.volume_core.specs.Volumes.{IsVolume, state_of};
+    ghost use Rattle.volume_core.specs.Volumes.{IsVolume, device_of, state_of};
     ghost use Rattle.volume_core.specs.declared.keys.Keys.{Keys};
 
     ghost Value = { State (Keys C) };
 
-    ghost view = { λ v. state_of v.map v.keys v.table v.lanes.items v.broken (record {
-      atoms = D.count v.disk;
-      values = D.values v.disk;
-      told = D.told v.disk;
-      faults = D.faults v.disk;
-    }) };
+    ghost view = { λ v. state_of v.map v.keys v.table v.lanes.items v.broken (device_of D.count D.values D.told D.faults v.disk) };
 
     ghost invariant = { λ v. IsVolume C.sector (D.size v.disk)
-        (state_of v.map v.keys v.table v.lanes.items v.broken (record {
-          atoms = D.count v.disk;
-          values = D.values v.disk;
-          told = D.told v.disk;
-          faults = D.faults v.disk;
-        })) };
+        (state_of v.map v.keys v.table v.lanes.items v.broken (device_of D.count D.values D.told D.faults v.disk)) };
 }
 
 impl<D: Disk> Volume<D, Context> {
@@ -74,12 +66,8 @@ impl<D: Disk> Volume<D, Context> {
         ensures fresh { IfOk result IsFresh }
         ensures sound { IfOk result IsSound }
         ensures lanes { IfOk result (λ volume. volume.lanes ≡ replicate lanes None) }
-        ensures disk { IfOk result (λ volume. volume.disk ≡ record {
-          atoms = D.count disk;
-          values = D.values disk;
-          told = D.told disk;
-          faults = D.faults disk;
-        }) }
+        ensures disk { IfOk result (λ volume. volume.disk
+            ≡ device_of D.count D.values D.told D.faults disk) }
         ensures refused { IfErr result (λ same. same ≡ disk) }
     {
         let blocks = disk.atoms();
@@ -119,12 +107,8 @@ impl<D: Disk, C: SectorCipher + Copy> Volume<D, C> {
         requires atom { map.atom ≡ D.size disk }
         requires map { MapFits map (D.count disk) }
         requires keys { KeysFit C.sector keys map.atom map.blocks }
-        ensures volume { IfOk result (λ volume. volume ≡ new_volume map keys lanes (record {
-          atoms = D.count disk;
-          values = D.values disk;
-          told = D.told disk;
-          faults = D.faults disk;
-        })) }
+        ensures volume { IfOk result (λ volume. volume ≡ new_volume map keys lanes 
+            (device_of D.count D.values D.told D.faults disk)) }
         ensures fresh { IfOk result IsFresh }
         ensures sound { IfOk result IsSound }
         ensures refused { IfErr result (λ same. same ≡ disk) }
@@ -258,15 +242,14 @@ impl<D: Disk, C: SectorCipher + Copy> Volume<D, C> {
         }
         let piece = self.map.next_piece(open.rest());
         let place = self.map.place(piece.first);
-        let mut vec = bytes.into_vec();
-        match self.disk.read(place, vec.as_mut_slice()) {
-            Ok(()) => {
+        match read_into(&mut self.disk, place, bytes) {
+            Ok(bytes) => {
                 set_lane(&mut self.lanes, lane, Some(open.moved(piece)));
-                PieceRead::Got(Bytes::new(vec))
+                PieceRead::Got(bytes)
             }
-            Err(Failed) => {
+            Err(bytes) => {
                 set_lane(&mut self.lanes, lane, Some(open.failing()));
-                PieceRead::Device(Bytes::new(vec))
+                PieceRead::Device(bytes)
             }
         }
     }
@@ -331,6 +314,35 @@ impl<D: Disk, C: SectorCipher + Copy> Volume<D, C> {
     {
         self.table.leave(lane);
         set_lane(&mut self.lanes, lane, None);
+    }
+}
+
+// The bytes of a vector, each below 256.
+fn text_of(vec: Vec<u8>) -> Bytes
+    ensures is { result ≡ vec.items }
+    ensures bytes { AreBytes result }
+{
+    Bytes::new(vec)
+}
+
+// Reads whole atoms from atom `at` on, and gives the buffer back.
+fn read_into<D: Disk>(disk: &mut D, at: u64, bytes: Bytes) -> Result<Bytes, Bytes>
+    requires { IsInDisk (D.size disk.old) (D.count disk.old) at (length bytes) }
+    ensures size { D.size disk.new ≡ D.size disk.old }
+    ensures read { IfOk result (λ buffer. ReadCall (D.size disk.old) at buffer
+        (device_of D.count D.values D.told D.faults disk.old)
+        (device_of D.count D.values D.told D.faults disk.new) succeeded) }
+    ensures missed { IfErr result (λ buffer. ReadCall (D.size disk.old) at buffer
+        (device_of D.count D.values D.told D.faults disk.old)
+        (device_of D.count D.values D.told D.faults disk.new) failed_call) }
+    ensures length { IfOk result (λ buffer. length buffer ≡ length bytes) }
+    ensures missed_length { IfErr result (λ buffer. length buffer ≡ length bytes) }
+    ensures bytes { IfOk result AreBytes }
+{
+    let mut vec = bytes.into_vec();
+    match disk.read(at, vec.as_mut_slice()) {
+        Ok(()) => Ok(text_of(vec)),
+        Err(Failed) => Err(Bytes::new(vec)),
     }
 }
 
