@@ -1,4 +1,6 @@
 pub mod Blockwise
+pub mod CodeAdmit
+pub mod CodeNew
 pub mod CodePieceSteps
 pub mod CodePieces
 pub mod CodeSeals
