@@ -6,6 +6,7 @@ pub mod Events
 pub mod Pieces
 pub mod Promises
 pub mod Runs
+pub mod Sealing
 pub mod Seals
 pub mod Sound
 pub mod States

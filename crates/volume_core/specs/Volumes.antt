@@ -1,8 +1,10 @@
 -- A volume as its state: what it shows, what it keeps, and how it begins.
-use Rattle.std.specs.Prelude.{ℕ, ◌≡◌, Bool, false, List, [], replicate, Option, None}
+use Rattle.std.specs.Prelude.{ℕ, ◌≡◌, ◌<◌, Bool, false, List, [], replicate, Option, None}
 use Rattle.range_lock.specs.Locks.{Locks}
 use Rattle.sector_disk.specs.Steps.{Told}
 use Rattle.segment_map.specs.declared.map.Map.{Map}
+use Rattle.segment_map.specs.declared.Side.TheVariants.{New}
+use Rattle.volume_core.specs.Pieces.{side_in, place_in}
 use Rattle.volume_core.specs.Seals.{KeysFit}
 use Rattle.volume_core.specs.Sound.{IsSound}
 use Rattle.volume_core.specs.States.{State, Device}
@@ -46,3 +48,10 @@ pub record IsVolume {C : Type 0} (sector : C → ℕ) (size : ℕ) (state : Stat
   pub atom : state.map.atom ≡ size
   pub sound : IsSound state
   pub keys : KeysFit sector state.keys state.map.atom state.map.blocks
+
+-- the blocks of a whole disk, all of them new and at their own places
+pub record IsWholeDisk (size atoms : ℕ) (map : Map) : Type 0 where
+  pub atom : map.atom ≡ size
+  pub blocks : map.blocks ≡ atoms
+  pub sides : (block : ℕ) → block < map.blocks → side_in map block ≡ New
+  pub places : (block : ℕ) → block < map.blocks → place_in map block ≡ block

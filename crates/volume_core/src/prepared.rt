@@ -8,6 +8,7 @@ use crate::Keys;
 use base_terms::Bytes;
 use cipher_laws::SectorCipher;
 use segment_map::Piece;
+use std::marker::Model;
 
 /// A piece of a write with its bytes, sealed. Sealing needs no volume, so that a lane may do it while
 /// others use the volume.
@@ -15,6 +16,14 @@ use segment_map::Piece;
 pub struct Prepared {
     piece: Piece,
     bytes: Bytes,
+}
+
+impl Model for Prepared {
+    ghost use Rattle.volume_core.specs.Sealing.{SealedPiece};
+
+    ghost Value = { SealedPiece };
+
+    ghost view = { λ p. record { piece = p.piece; bytes = p.bytes } };
 }
 
 impl Prepared {

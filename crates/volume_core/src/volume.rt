@@ -7,10 +7,11 @@ ghost use Rattle.volume_core.specs.Answers.{outcome_of_admitted, outcome_of_aske
 ghost use Rattle.volume_core.specs.Contents.{IsFresh};
 ghost use Rattle.volume_core.specs.Devices.{ReadCall};
 ghost use Rattle.volume_core.specs.Events.{admits, asks, reads, writes, settles, finishes, done};
-ghost use Rattle.volume_core.specs.Seals.{KeysFit};
-ghost use Rattle.volume_core.specs.Sound.{IsSound, MapFits};
+ghost use Rattle.volume_core.specs.Sealing.{ChangeNothing};
+ghost use Rattle.volume_core.specs.Seals.{KeysFit, seals_of};
+ghost use Rattle.volume_core.specs.Sound.{AreApart, IsSound, MapFits};
 ghost use Rattle.volume_core.specs.Steps.{Step, Meets, succeeded, failed_call};
-ghost use Rattle.volume_core.specs.Volumes.{device_of, new_volume};
+ghost use Rattle.volume_core.specs.Volumes.{IsWholeDisk, device_of, new_volume};
 
 use crate::answers::{Admitted, Asked, Grant, PieceRead, PieceWritten, Progress, Settled};
 use crate::open::{Open, open_of, set_lane};
@@ -63,6 +64,12 @@ impl<D: Disk> Volume<D, Context> {
     /// their bytes. It has so many lanes. Where there is no memory the disk is handed back.
     pub fn plain(alloc: Global, disk: D, lanes: u32) -> Result<Volume<D, Context>, D>
         requires { 0 < lanes }
+        ensures map { IfOk result (λ volume.
+            IsWholeDisk (D.size disk) (D.count disk) volume.map) }
+        ensures apart { IfOk result (λ volume. AreApart volume.map) }
+        ensures keys { IfOk result (λ volume. ChangeNothing
+            (seals_of ⟦<Context as SectorCipher>⟧.sealed ⟦<Context as SectorCipher>⟧.opened
+            volume.map.atom volume.keys)) }
         ensures fresh { IfOk result IsFresh }
         ensures sound { IfOk result IsSound }
         ensures lanes { IfOk result (λ volume. volume.lanes ≡ replicate lanes None) }
