@@ -9,6 +9,7 @@
 
 mod answers;
 mod ask;
+mod buffers;
 mod keys;
 mod open;
 mod prepared;

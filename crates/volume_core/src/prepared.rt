@@ -1,10 +1,12 @@
 // Pieces that are ready to be written.
 
 ghost use Rattle.std.specs.Prelude.{◌≡◌, ◌+◌, ◌*◌, length};
+ghost use Rattle.cipher_laws.specs.Bytes.{AreBytes};
 ghost use Rattle.sector_disk.specs.Geometry.{IsAtom};
 ghost use Rattle.volume_core.specs.Seals.{KeysFit, seals_of};
 
 use crate::Keys;
+use crate::buffers::bytes_of;
 use base_terms::Bytes;
 use cipher_laws::SectorCipher;
 use segment_map::Piece;
@@ -36,12 +38,14 @@ impl Prepared {
         ensures piece { result.piece ≡ piece }
         ensures bytes { result.bytes
             ≡ (seals_of C.sealed C.opened atom keys.now).sealed piece.side piece.first bytes }
+        ensures length { length result.bytes ≡ length bytes }
+        ensures are_bytes { AreBytes result.bytes }
     {
         let mut vec = bytes.into_vec();
         keys.seal(atom, piece, vec.as_mut_slice());
         Prepared {
             piece,
-            bytes: Bytes::new(vec),
+            bytes: bytes_of(vec),
         }
     }
 

@@ -1,19 +1,17 @@
 // A volume: its disk, its map and keys, and the operations under way on it.
 
 ghost use Rattle.std.specs.Prelude.{◌≡◌, ◌<◌, false, [], length, None, replicate, IfOk, IfErr};
-ghost use Rattle.cipher_laws.specs.Bytes.{AreBytes};
-ghost use Rattle.sector_disk.specs.Geometry.{IsInDisk};
 ghost use Rattle.volume_core.specs.Answers.{outcome_of_admitted, outcome_of_asked, outcome_of_read, outcome_of_written, outcome_of_settled, GrantsAdmitted, GrantsAsked, buffer_of_read, buffer_of_written, FitsPiece, is_idle};
 ghost use Rattle.volume_core.specs.Contents.{IsFresh};
-ghost use Rattle.volume_core.specs.Devices.{ReadCall};
 ghost use Rattle.volume_core.specs.Events.{admits, asks, reads, writes, settles, finishes, done};
 ghost use Rattle.volume_core.specs.Sealing.{ChangeNothing};
 ghost use Rattle.volume_core.specs.Seals.{KeysFit, seals_of};
 ghost use Rattle.volume_core.specs.Sound.{AreApart, IsSound, MapFits};
-ghost use Rattle.volume_core.specs.Steps.{Step, Meets, succeeded, failed_call};
+ghost use Rattle.volume_core.specs.Steps.{Step, Meets};
 ghost use Rattle.volume_core.specs.Volumes.{IsWholeDisk, device_of, new_volume};
 
 use crate::answers::{Admitted, Asked, Grant, PieceRead, PieceWritten, Progress, Settled};
+use crate::buffers::read_into;
 use crate::open::{Open, open_of, set_lane};
 use crate::{Ask, Keys, Prepared};
 use base_terms::{Bytes, Failed};
@@ -321,35 +319,6 @@ impl<D: Disk, C: SectorCipher + Copy> Volume<D, C> {
     {
         self.table.leave(lane);
         set_lane(&mut self.lanes, lane, None);
-    }
-}
-
-// The bytes of a vector, each below 256.
-fn text_of(vec: Vec<u8>) -> Bytes
-    ensures is { result ≡ vec.items }
-    ensures bytes { AreBytes result }
-{
-    Bytes::new(vec)
-}
-
-// Reads whole atoms from atom `at` on, and gives the buffer back.
-fn read_into<D: Disk>(disk: &mut D, at: u64, bytes: Bytes) -> Result<Bytes, Bytes>
-    requires { IsInDisk (D.size disk.old) (D.count disk.old) at (length bytes) }
-    ensures size { D.size disk.new ≡ D.size disk.old }
-    ensures read { IfOk result (λ buffer. ReadCall (D.size disk.old) at buffer
-        (device_of D.count D.values D.told D.faults disk.old)
-        (device_of D.count D.values D.told D.faults disk.new) succeeded) }
-    ensures missed { IfErr result (λ buffer. ReadCall (D.size disk.old) at buffer
-        (device_of D.count D.values D.told D.faults disk.old)
-        (device_of D.count D.values D.told D.faults disk.new) failed_call) }
-    ensures length { IfOk result (λ buffer. length buffer ≡ length bytes) }
-    ensures missed_length { IfErr result (λ buffer. length buffer ≡ length bytes) }
-    ensures bytes { IfOk result AreBytes }
-{
-    let mut vec = bytes.into_vec();
-    match disk.read(at, vec.as_mut_slice()) {
-        Ok(()) => Ok(text_of(vec)),
-        Err(Failed) => Err(Bytes::new(vec)),
     }
 }
 
