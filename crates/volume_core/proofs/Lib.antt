@@ -1,6 +1,12 @@
 pub mod Admits
 pub mod Answering
 pub mod Blockwise
+pub mod CodeAdmit
+pub mod CodeNew
+pub mod CodePieceSteps
+pub mod CodePieces
+pub mod CodeSeals
+pub mod CodeSteps
 pub mod DeviceViews
 pub mod RunsServed
 pub mod SealLemmas

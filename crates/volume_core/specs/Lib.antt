@@ -1,3 +1,4 @@
+pub mod Answers
 pub mod Asks
 pub mod Contents
 pub mod Devices
@@ -6,8 +7,10 @@ pub mod Executing
 pub mod Pieces
 pub mod Promises
 pub mod Runs
+pub mod Sealing
 pub mod Seals
 pub mod Sound
 pub mod States
 pub mod Steps
 pub mod Views
+pub mod Volumes

@@ -7,13 +7,20 @@
 //! run stops the disk holds what that history allows.
 #![tactic(auto)]
 
+mod answers;
 mod ask;
+mod buffers;
 mod keys;
 mod laws;
 mod open;
+mod prepared;
+mod volume;
 
+pub use answers::{Admitted, Asked, Grant, PieceRead, PieceWritten, Progress, Settled};
 pub use ask::Ask;
 pub use keys::Keys;
 pub use laws::{
     every_run_is_served, failures_go_by_events, keys_seal_lawfully, volumes_stay_sound,
 };
+pub use prepared::Prepared;
+pub use volume::Volume;
