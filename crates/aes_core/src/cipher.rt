@@ -23,7 +23,7 @@ use thiserror::Error;
 pub struct KeyLength(pub usize);
 
 /// AES-128 or AES-256 under one key (FIPS 197).
-#[derive(Drop)]
+#[derive(Clone, Copy)]
 pub struct Aes {
     round_keys: [RoundKey; ROUND_KEYS],
     rounds: usize,

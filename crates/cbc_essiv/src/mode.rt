@@ -8,7 +8,7 @@ use cipher_blocks::{block_at, number_block, put_block, xor};
 use cipher_laws::{BlockCipher, SectorMode};
 
 /// CBC with its two keys, each in a block cipher of its own.
-#[derive(Drop)]
+#[derive(Clone, Copy)]
 pub struct CbcEssiv<B> {
     body: B,
     iv: B,

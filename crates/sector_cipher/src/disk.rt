@@ -1,14 +1,14 @@
 // A cipher of sectors over any block cipher.
 
-ghost use Rattle.std.specs.Prelude.{◌≡◌, ◌<◌, ◌%◌};
+ghost use Rattle.std.specs.Prelude.{◌≡◌, ◌<◌, ◌%◌, ⊤};
 
 use crate::rows::seal_sectors;
 use cbc_essiv::CbcEssiv;
 use cipher_laws::{BlockCipher, Inverse, SectorCipher};
+use std::alloc::AllocError;
 use xts_mode::Xts;
 
 /// A cipher of sectors with its keys, over a block cipher.
-#[derive(Drop)]
 pub struct DiskCipher<B> {
     pub(crate) mode: Mode<B>,
     pub(crate) sector: usize,
@@ -16,12 +16,24 @@ pub struct DiskCipher<B> {
     ghost units: { sector % 512 ≡ 0 },
 }
 
-#[derive(Drop)]
+#[derive(Clone, Copy)]
 pub(crate) enum Mode<B> {
     Linear,
     Xts(Xts<B>),
     CbcEssiv(CbcEssiv<B>),
 }
+
+impl<B: Copy> Clone for DiskCipher<B> {
+    ghost is_clone = { λ x y. y ≡ x };
+
+    ghost is_infallible = { λ _. ⊤ };
+
+    fn clone(&self) -> Result<DiskCipher<B>, AllocError> {
+        Ok(*self)
+    }
+}
+
+impl<B: Copy> Copy for DiskCipher<B> {}
 
 #[tactic(auto, unfolding(crate::specs::Disk::sealed_in, crate::specs::Disk::opened_in, crate::specs::Disk::sealed_by, crate::specs::Disk::opened_by))]
 impl<B: BlockCipher> SectorCipher for DiskCipher<B> {

@@ -9,7 +9,7 @@ use cipher_blocks::{block_at, number_block, put_block, xor};
 use cipher_laws::{BlockCipher, Inverse, SectorMode};
 
 /// XTS with its two keys, each in a block cipher of its own.
-#[derive(Drop)]
+#[derive(Clone, Copy)]
 pub struct Xts<B> {
     body: B,
     tweak: B,

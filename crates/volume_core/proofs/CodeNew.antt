@@ -1,0 +1,42 @@
+-- A volume that has begun is sound.
+use Rattle.std.proofs.Common.{◌≡◌, ℕ, zero, suc, ◌<◌, Bool, false, Option, Some, None, List, [], ◌∷◌, length, replicate, find, refl, sym, ◌∙◌, arith}
+use Rattle.std.proofs.lemmas.List.{length-replicate}
+use Rattle.range_lock.specs.Locks.{Locks}
+use Rattle.segment_map.specs.declared.map.Map.{Map}
+use Rattle.volume_core.specs.Sound.{IsSound, MapFits, count_locks, entry_in}
+use Rattle.volume_core.specs.Seals.{KeysFit}
+use Rattle.volume_core.specs.States.{State, Device, open_at}
+use Rattle.volume_core.specs.Volumes.{state_of, IsVolume}
+use Rattle.volume_core.specs.declared.keys.Keys.{Keys}
+use Rattle.volume_core.specs.declared.open.Open.{Open}
+
+no_open : (n lane : ℕ) → open_at (replicate n None) lane ≡ None
+no_open zero lane = refl
+no_open (suc n) zero = refl
+no_open (suc n) (suc lane) = no_open n lane
+
+no_locks : (n : ℕ) → count_locks (replicate n None) ≡ 0
+unfolding count_locks
+no_locks zero = refl
+no_locks (suc n) = no_locks n
+
+pub new-sound : {K : Type 0} (map : Map) (keys : K) (table : Locks) (lanes : List (Option Open)) (n : ℕ) (disk : Device) → 0 < n → MapFits map disk.atoms →
+    table.room ≡ n → table.entries ≡ [] → lanes ≡ replicate n None → IsSound (state_of map keys table lanes false disk)
+new-sound map keys table lanes n disk some fits room entries are = record {
+  fits = fits;
+  room = room ∙ sym (length-replicate {A = Option Open} n None) ∙ rw are refl;
+  some = rw (are, length-replicate {A = Option Open} n None) some;
+  count = rw (entries, are) (sym (no_locks n));
+  entries = λ lane. rw (entries, are, no_open n lane) refl;
+  once = λ lane. rw entries refl;
+  under_way = λ lane o is. absurd (let none = no_open n lane in let found = rw are at is in cc);
+}
+
+pub new-volume : {C : Type 0} (sector : C → ℕ) (size : ℕ) (map : Map) (keys : Keys C) (table : Locks) (lanes : List (Option Open)) (n : ℕ) (disk : Device) → 0 < n →
+    map.atom ≡ size → MapFits map disk.atoms → KeysFit sector keys map.atom map.blocks → table.room ≡ n → table.entries ≡ [] → lanes ≡ replicate n None →
+    IsVolume sector size (state_of map keys table lanes false disk)
+new-volume sector size map keys table lanes n disk some atom fits keys_fit room entries are = record {
+  atom = atom;
+  sound = new-sound map keys table lanes n disk some fits room entries are;
+  keys = keys_fit;
+}

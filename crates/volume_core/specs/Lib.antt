@@ -1,0 +1,16 @@
+pub mod Answers
+pub mod Asks
+pub mod Contents
+pub mod Devices
+pub mod Events
+pub mod Executing
+pub mod Pieces
+pub mod Promises
+pub mod Runs
+pub mod Sealing
+pub mod Seals
+pub mod Sound
+pub mod States
+pub mod Steps
+pub mod Views
+pub mod Volumes

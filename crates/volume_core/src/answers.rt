@@ -1,0 +1,102 @@
+// What the calls of a volume answer.
+
+ghost use Rattle.std.specs.Prelude.{◌≡◌, ◌≤◌, MatchOption};
+ghost use Rattle.segment_map.specs.Maps.{IsNextPiece};
+
+use base_terms::Bytes;
+use block_range::BlockRange;
+use segment_map::{Map, Piece};
+
+/// The blocks of an operation, and the map that they have until its finish.
+#[derive(Clone, Copy, Debug, PartialEq, Eq)]
+pub struct Grant {
+    /// The map of the volume.
+    pub map: Map,
+    /// The blocks; a flush has none.
+    pub range: BlockRange,
+    ghost inside: { range.end ≤ map.blocks },
+}
+
+impl Grant {
+    /// The piece from block `at` on, which is a block of the range or its end: there is none exactly
+    /// at the end.
+    pub fn piece(&self, at: u64) -> Option<Piece>
+        requires { at ≤ self.now.range.end }
+        ensures { MatchOption result (at ≡ self.now.range.end)
+            (IsNextPiece self.now.map (record { start = at; end = self.now.range.end })) }
+    {
+        let end = self.range.end;
+        if at == end {
+            return None;
+        }
+        Some(self.map.next_piece(BlockRange { start: at, end }))
+    }
+}
+
+/// How an operation begins.
+#[derive(Clone, Copy, Debug, PartialEq, Eq)]
+pub enum Admitted {
+    /// It has its blocks.
+    Held(Grant),
+    /// The entry of this lane is earlier and conflicts.
+    Waiting(u32),
+    /// It is refused with this number, and nothing was done.
+    Refused(u32),
+}
+
+/// Where an operation stands that waited.
+#[derive(Clone, Copy, Debug, PartialEq, Eq)]
+pub enum Asked {
+    /// It has its blocks.
+    Held(Grant),
+    /// The entry of this lane is earlier and conflicts.
+    Waiting(u32),
+}
+
+/// A read of a piece, which gives its buffer back.
+#[derive(Debug, Drop)]
+pub enum PieceRead {
+    /// The buffer has the bytes of the piece, sealed as they lie on the disk.
+    Got(Bytes),
+    /// The disk failed; the buffer's content isn't to be used.
+    Device(Bytes),
+    /// An earlier write or sync failed; the buffer is as it was.
+    Broken(Bytes),
+}
+
+/// A write of a piece, which gives its buffer back, with the sealed bytes.
+#[derive(Debug, Drop)]
+pub enum PieceWritten {
+    Done(Bytes),
+    /// The disk failed, and the volume is broken.
+    Device(Bytes),
+    /// An earlier write or sync failed.
+    Broken(Bytes),
+}
+
+/// A wait until what was written is certain to be kept.
+#[derive(Clone, Copy, Debug, PartialEq, Eq)]
+pub enum Settled {
+    Done,
+    /// The disk failed, and the volume is broken.
+    Device,
+    /// An earlier write or sync failed.
+    Broken,
+}
+
+/// How far a volume's conversion is.
+#[derive(Clone, Copy, Debug, PartialEq, Eq)]
+pub struct Progress {
+    /// The block that parts new from old.
+    pub boundary: u64,
+    /// The number of blocks.
+    pub blocks: u64,
+    /// Whether no old block is left.
+    pub idle: bool,
+    /// The bytes of a block.
+    pub atom: u32,
+    /// Whether the volume can convert blocks.
+    pub armed: bool,
+    /// Whether a write or a sync has failed.
+    pub broken: bool,
+}

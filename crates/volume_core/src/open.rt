@@ -1,0 +1,109 @@
+// Operations under way.
+
+ghost use Rattle.std.specs.Prelude.{◌≡◌, ◌+◌, ◌<◌, ◌^◌, Some, length};
+ghost use Rattle.sector_disk.specs.Geometry.{IsAtom};
+
+use crate::Ask;
+use block_range::BlockRange;
+use segment_map::Piece;
+
+/// The operation of a lane under way: its blocks, the first of them that no piece has covered yet,
+/// whether it was settled, and whether one of its events failed.
+#[derive(Clone, Copy, Debug, PartialEq, Eq)]
+pub struct Open {
+    pub ask: Ask,
+    pub range: BlockRange,
+    pub next: u64,
+    pub settled: bool,
+    pub failed: bool,
+}
+
+impl Open {
+    ghost use Rattle.volume_core.specs.Pieces.{rest_of, moved, failing, settling};
+    ghost use Rattle.volume_core.specs.States.{begun};
+    ghost use Rattle.volume_core.specs.Steps.{after_settle};
+
+    /// An operation that has just begun, over blocks of `atom` bytes.
+    pub(crate) fn new(ask: Ask, atom: u32) -> Open
+        requires { IsAtom atom }
+        ensures { result ≡ begun atom ask }
+    {
+        let range = ask.range(atom);
+        Open {
+            ask,
+            range,
+            next: range.start,
+            settled: false,
+            failed: false,
+        }
+    }
+
+    /// The blocks that are left.
+    pub(crate) fn rest(self) -> BlockRange
+        ensures { result ≡ rest_of self }
+    {
+        BlockRange {
+            start: self.next,
+            end: self.range.end,
+        }
+    }
+
+    /// The operation after this piece.
+    pub(crate) fn moved(self, piece: Piece) -> Open
+        requires { piece.first + piece.count < 2 ^ 64 }
+        ensures { result ≡ moved self piece }
+    {
+        Open {
+            next: piece.first + piece.count,
+            ..self
+        }
+    }
+
+    /// The operation after one of its events failed.
+    pub(crate) fn failing(self) -> Open
+        ensures { result ≡ failing self }
+    {
+        Open {
+            failed: true,
+            ..self
+        }
+    }
+
+    /// The operation once it is settled.
+    pub(crate) fn settling(self) -> Open
+        ensures { result ≡ settling self }
+    {
+        Open {
+            settled: true,
+            ..self
+        }
+    }
+
+    /// What a settle leaves of the operation, which else would be `now`: a flush has ended.
+    pub(crate) fn after_settle(self, now: Open) -> Option<Open>
+        ensures { result ≡ after_settle self now }
+    {
+        if self.ask.has_lock() { Some(now) } else { None }
+    }
+}
+
+ghost use Rattle.volume_core.specs.States.{open_at, LaneBecomes};
+
+/// Gives a lane this operation.
+pub(crate) fn set_lane(lanes: &mut Vec<Option<Open>>, lane: u32, now: Option<Open>)
+    requires { lane < length lanes.old.items }
+    ensures { LaneBecomes lanes.old.items lanes.new.items lane now }
+{
+    lanes[lane as usize] = now;
+}
+
+/// The operation of a lane that has one.
+pub(crate) fn open_of(lanes: &[Option<Open>], lane: u32) -> Open
+    requires { (o : Open) × (open_at lanes.now lane ≡ Some o) }
+    ensures { open_at lanes.now lane ≡ Some result }
+{
+    match lanes.get(lane as usize) {
+        Some(Some(open)) => *open,
+        _ => unreachable!(),
+    }
+}

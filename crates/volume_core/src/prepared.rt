@@ -1,0 +1,73 @@
+// Pieces that are ready to be written.
+
+ghost use Rattle.std.specs.Prelude.{◌≡◌, ◌+◌, ◌*◌, length};
+ghost use Rattle.cipher_laws.specs.Bytes.{AreBytes};
+ghost use Rattle.sector_disk.specs.Geometry.{IsAtom};
+ghost use Rattle.volume_core.specs.Seals.{KeysFit, seals_of};
+
+use crate::Keys;
+use crate::buffers::bytes_of;
+use base_terms::Bytes;
+use cipher_laws::SectorCipher;
+use segment_map::Piece;
+use std::marker::Model;
+
+/// A piece of a write with its bytes, sealed. Sealing needs no volume, so that a lane may do it while
+/// others use the volume.
+#[derive(Debug, Drop)]
+pub struct Prepared {
+    piece: Piece,
+    bytes: Bytes,
+}
+
+impl Model for Prepared {
+    ghost use Rattle.volume_core.specs.Sealing.{SealedPiece};
+
+    ghost Value = { SealedPiece };
+
+    ghost view = { λ p. record { piece = p.piece; bytes = p.bytes } };
+}
+
+impl Prepared {
+    /// Seals the bytes of a piece where they lie, with the keys of its volume, whose blocks have
+    /// `atom` bytes. It takes no memory.
+    pub fn seal<C: SectorCipher>(keys: &Keys<C>, atom: u32, piece: Piece, bytes: Bytes) -> Prepared
+        requires known { IsAtom atom }
+        requires fits { KeysFit C.sector keys.now atom (piece.first + piece.count) }
+        requires size { length bytes ≡ piece.count * atom }
+        ensures piece { result.piece ≡ piece }
+        ensures bytes { result.bytes
+            ≡ (seals_of C.sealed C.opened atom keys.now).sealed piece.side piece.first bytes }
+        ensures length { length result.bytes ≡ length bytes }
+        ensures are_bytes { AreBytes result.bytes }
+    {
+        let mut vec = bytes.into_vec();
+        keys.seal(atom, piece, vec.as_mut_slice());
+        Prepared {
+            piece,
+            bytes: bytes_of(vec),
+        }
+    }
+
+    /// The piece.
+    pub fn piece(&self) -> Piece
+        ensures { result ≡ self.now.piece }
+    {
+        self.piece
+    }
+
+    /// The sealed bytes.
+    pub fn as_slice(&self) -> &[u8]
+        ensures { result.now ≡ self.now.bytes }
+    {
+        self.bytes.as_slice()
+    }
+
+    /// The buffer, with the sealed bytes.
+    pub fn into_bytes(self) -> Bytes
+        ensures { result ≡ self.bytes }
+    {
+        let Prepared { bytes, .. } = self;
+        bytes
+    }
+}

@@ -1,0 +1,337 @@
+// A volume: its disk, its map and keys, and the operations under way on it.
+
+ghost use Rattle.std.specs.Prelude.{◌≡◌, ◌<◌, false, [], length, None, replicate, IfOk, IfErr};
+ghost use Rattle.volume_core.specs.Answers.{outcome_of_admitted, outcome_of_asked, outcome_of_read, outcome_of_written, outcome_of_settled, GrantsAdmitted, GrantsAsked, buffer_of_read, buffer_of_written, FitsPiece, is_idle};
+ghost use Rattle.volume_core.specs.Contents.{IsFresh};
+ghost use Rattle.volume_core.specs.Events.{admits, asks, reads, writes, settles, finishes, done};
+ghost use Rattle.volume_core.specs.Sealing.{ChangeNothing};
+ghost use Rattle.volume_core.specs.Seals.{KeysFit, seals_of};
+ghost use Rattle.volume_core.specs.Sound.{AreApart, IsSound, MapFits};
+ghost use Rattle.volume_core.specs.Steps.{Step, Meets};
+ghost use Rattle.volume_core.specs.Volumes.{IsWholeDisk, device_of, new_volume};
+
+use crate::answers::{Admitted, Asked, Grant, PieceRead, PieceWritten, Progress, Settled};
+use crate::buffers::read_into;
+use crate::open::{Open, open_of, set_lane};
+use crate::{Ask, Keys, Prepared};
+use base_terms::{Bytes, Failed};
+use cipher_laws::SectorCipher;
+use range_lock::{Standing, Table};
+use sector_cipher::Context;
+use sector_disk::Disk;
+use segment_map::{Direction, Map};
+use std::alloc::{AllocError, Global};
+use std::marker::Model;
+
+/// The number of an error of the device.
+const DEVICE_ERROR: u32 = 5;
+
+/// A volume on a disk: a map says where each of its blocks lies and under which key, and its lanes
+/// have operations under way. A lane has one operation at a time, from its `admit` on: a read or a
+/// write to its `finish`, a flush to its `settle`. The last lane is the conversion's own, and the
+/// calls are given a lane below it.
+///
+/// Each call on a lane is one event: it makes at most one device call and takes no memory. `Device`
+/// comes exactly where that device call failed, and `Broken` exactly where a write or a sync had
+/// failed before; a failed read breaks nothing.
+#[derive(Drop)]
+pub struct Volume<D: Disk, C: SectorCipher + Copy> {
+    disk: D,
+    map: Map,
+    keys: Keys<C>,
+    table: Table,
+    lanes: Vec<Option<Open>>,
+    broken: bool,
+}
+
+impl<D: Disk, C: SectorCipher + Copy> Model for Volume<D, C> {
+    ghost use Rattle.volume_core.specs.States.{State};
+    ghost use Rattle.volume_core.specs.Volumes.{IsVolume, device_of, state_of};
+    ghost use Rattle.volume_core.specs.declared.keys.Keys.{Keys};
+
+    ghost Value = { State (Keys C) };
+
+    ghost view = { λ v. state_of v.map v.keys v.table v.lanes.items v.broken (device_of D.count D.values D.told D.faults v.disk) };
+
+    ghost invariant = { λ v. IsVolume C.sector (D.size v.disk)
+        (state_of v.map v.keys v.table v.lanes.items v.broken (device_of D.count D.values D.told D.faults v.disk)) };
+}
+
+impl<D: Disk> Volume<D, Context> {
+    /// The volume of a whole disk as it is: all blocks are new, at their places, and no key changes
+    /// their bytes. It has so many lanes. Where there is no memory the disk is handed back.
+    pub fn plain(alloc: Global, disk: D, lanes: u32) -> Result<Volume<D, Context>, D>
+        requires { 0 < lanes }
+        ensures map { IfOk result (λ volume.
+            IsWholeDisk (D.size disk) (D.count disk) volume.map) }
+        ensures apart { IfOk result (λ volume. AreApart volume.map) }
+        ensures keys { IfOk result (λ volume. ChangeNothing
+            (seals_of ⟦<Context as SectorCipher>⟧.sealed ⟦<Context as SectorCipher>⟧.opened
+            volume.map.atom volume.keys)) }
+        ensures fresh { IfOk result IsFresh }
+        ensures sound { IfOk result IsSound }
+        ensures lanes { IfOk result (λ volume. volume.lanes ≡ replicate lanes None) }
+        ensures disk { IfOk result (λ volume. volume.disk
+            ≡ device_of D.count D.values D.told D.faults disk) }
+        ensures refused { IfErr result (λ same. same ≡ disk) }
+    {
+        let blocks = disk.atoms();
+        let map = Map {
+            atom: disk.atom(),
+            blocks,
+            boundary: blocks,
+            direction: Direction::Forward,
+            zone: 0,
+            old_place: 0,
+            new_place: 0,
+        };
+        let keys = Keys {
+            old: Context::linear(),
+            old_tweak: 0,
+            new: Context::linear(),
+            new_tweak: 0,
+        };
+        Volume::of(alloc, disk, map, keys, lanes)
+    }
+}
+
+impl<D: Disk, C: SectorCipher + Copy> Volume<D, C> {
+    /// The volume of this map with the keys of its sides, and with so many lanes. The blocks of the
+    /// map have the size of the disk's atoms, and their places lie on the disk; the sectors of both
+    /// keys divide a block, and the IV numbers of all blocks fit 64 bits. What is promised of runs of
+    /// events asks besides that no two blocks have the same place. Where there is no memory the disk
+    /// is handed back.
+    pub fn of(
+        alloc: Global,
+        disk: D,
+        map: Map,
+        keys: Keys<C>,
+        lanes: u32,
+    ) -> Result<Volume<D, C>, D>
+        requires lanes { 0 < lanes }
+        requires atom { map.atom ≡ D.size disk }
+        requires map { MapFits map (D.count disk) }
+        requires keys { KeysFit C.sector keys map.atom map.blocks }
+        ensures volume { IfOk result (λ volume. volume ≡ new_volume map keys lanes 
+            (device_of D.count D.values D.told D.faults disk)) }
+        ensures fresh { IfOk result IsFresh }
+        ensures sound { IfOk result IsSound }
+        ensures refused { IfErr result (λ same. same ≡ disk) }
+    {
+        match no_operations(alloc, lanes as usize) {
+            Ok((table, lanes)) => Ok(Volume {
+                disk,
+                map,
+                keys,
+                table,
+                lanes,
+                broken: false,
+            }),
+            Err(AllocError) => Err(disk),
+        }
+    }
+
+    /// How far the conversion is.
+    pub fn progress(&self) -> Progress
+        ensures { result ≡ record {
+          boundary = self.now.map.boundary;
+          blocks = self.now.map.blocks;
+          idle = is_idle self.now.map;
+          atom = self.now.map.atom;
+          armed = false;
+          broken = self.now.broken;
+        } }
+    {
+        let Map {
+            boundary, blocks, ..
+        } = self.map;
+        Progress {
+            boundary,
+            blocks,
+            idle: match self.map.direction {
+                Direction::Forward => boundary == blocks,
+                Direction::Backward => boundary == 0,
+            },
+            atom: self.map.atom,
+            armed: false,
+            broken: self.broken,
+        }
+    }
+
+    /// Where the blocks lie now.
+    pub fn map(&self) -> Map
+        ensures is { result ≡ self.now.map }
+        ensures fits { MapFits result self.now.disk.atoms }
+        ensures sound { IsSound self.now }
+    {
+        self.map
+    }
+
+    /// A copy of the keys.
+    pub fn keys(&self) -> Keys<C>
+        ensures is { result ≡ self.now.keys }
+        ensures fits { KeysFit C.sector result self.now.map.atom self.now.map.blocks }
+    {
+        self.keys
+    }
+
+    /// The disk.
+    pub fn into_disk(self) -> D
+        ensures size { D.size result ≡ self.map.atom }
+        ensures count { D.count result ≡ self.disk.atoms }
+        ensures values { D.values result ≡ self.disk.values }
+        ensures told { D.told result ≡ self.disk.told }
+        ensures faults { D.faults result ≡ self.disk.faults }
+    {
+        let Volume { disk, .. } = self;
+        disk
+    }
+
+    /// Begins an operation on a lane that has none. A wrong operation is refused with its number, and
+    /// else one on a broken volume with 5; then nothing was done. A read or a write enters the table
+    /// of locks behind all others, and has its blocks where no earlier entry conflicts. A flush has
+    /// no blocks and never waits.
+    pub fn admit(&mut self, lane: u32, ask: Ask) -> Admitted
+        requires { Meets self.old (admits lane ask) }
+        ensures step { Step self.old (admits lane ask) (outcome_of_admitted result) self.new }
+        ensures grant { GrantsAdmitted self.new lane result }
+    {
+        let Map { atom, blocks, .. } = self.map;
+        if let Some(number) = ask.wrong(atom, blocks * u64::from(atom)) {
+            return Admitted::Refused(number);
+        }
+        if self.broken {
+            return Admitted::Refused(DEVICE_ERROR);
+        }
+        let open = Open::new(ask, atom);
+        set_lane(&mut self.lanes, lane, Some(open));
+        let map = self.map;
+        let range = open.range;
+        if !ask.has_lock() {
+            return Admitted::Held(Grant { map, range });
+        }
+        match self.table.enter(lane, range, ask.kind()) {
+            Standing::Held => Admitted::Held(Grant { map, range }),
+            Standing::Waiting(other) => Admitted::Waiting(other),
+        }
+    }
+
+    /// Tells where the read or write of a lane stands now.
+    pub fn ask(&self, lane: u32) -> Asked
+        requires { Meets self.now (asks lane) }
+        ensures step { Step self.now (asks lane) (outcome_of_asked result) self.now }
+        ensures grant { GrantsAsked self.now lane result }
+    {
+        let open = open_of(&self.lanes, lane);
+        match self.table.ask(lane) {
+            Standing::Held => Asked::Held(Grant {
+                map: self.map,
+                range: open.range,
+            }),
+            Standing::Waiting(other) => Asked::Waiting(other),
+        }
+    }
+
+    /// Reads the next piece of a lane's read, which holds its blocks, into a buffer of its size. The
+    /// bytes come sealed, as they lie on the disk.
+    pub fn piece_read(&mut self, lane: u32, bytes: Bytes) -> PieceRead
+        requires meets { Meets self.old (reads lane) }
+        requires fits { FitsPiece self.old lane bytes }
+        ensures step { Step self.old (reads lane) (outcome_of_read result) self.new }
+        ensures buffer { length (buffer_of_read result) ≡ length bytes }
+    {
+        let open = open_of(&self.lanes, lane);
+        if self.broken {
+            set_lane(&mut self.lanes, lane, Some(open.failing()));
+            return PieceRead::Broken(bytes);
+        }
+        let piece = self.map.next_piece(open.rest());
+        let place = self.map.place(piece.first);
+        match read_into(&mut self.disk, place, bytes) {
+            Ok(bytes) => {
+                set_lane(&mut self.lanes, lane, Some(open.moved(piece)));
+                PieceRead::Got(bytes)
+            }
+            Err(bytes) => {
+                set_lane(&mut self.lanes, lane, Some(open.failing()));
+                PieceRead::Device(bytes)
+            }
+        }
+    }
+
+    /// Writes the next piece of a lane's write, which holds its blocks. The bytes are sealed with the
+    /// volume's keys as that piece. A write that fails breaks the volume.
+    pub fn piece_write(&mut self, lane: u32, prepared: Prepared) -> PieceWritten
+        requires { Meets self.old (writes lane prepared.bytes) }
+        ensures step { Step self.old (writes lane prepared.bytes) (outcome_of_written result) self.new }
+        ensures buffer { buffer_of_written result ≡ prepared.bytes }
+    {
+        let open = open_of(&self.lanes, lane);
+        let bytes = prepared.into_bytes();
+        if self.broken {
+            set_lane(&mut self.lanes, lane, Some(open.failing()));
+            return PieceWritten::Broken(bytes);
+        }
+        let piece = self.map.next_piece(open.rest());
+        let place = self.map.place(piece.first);
+        match self.disk.write(place, bytes.as_slice()) {
+            Ok(()) => {
+                set_lane(&mut self.lanes, lane, Some(open.moved(piece)));
+                PieceWritten::Done(bytes)
+            }
+            Err(Failed) => {
+                self.broken = true;
+                set_lane(&mut self.lanes, lane, Some(open.failing()));
+                PieceWritten::Device(bytes)
+            }
+        }
+    }
+
+    /// Waits until every write so far is certain to be kept: the last event of a flush, and that of a
+    /// write with `fua` and some bytes before its finish. A sync that fails breaks the volume.
+    pub fn settle(&mut self, lane: u32) -> Settled
+        requires { Meets self.old (settles lane) }
+        ensures { Step self.old (settles lane) (outcome_of_settled result) self.new }
+    {
+        let open = open_of(&self.lanes, lane);
+        if self.broken {
+            set_lane(&mut self.lanes, lane, open.after_settle(open.failing()));
+            return Settled::Broken;
+        }
+        match self.disk.sync() {
+            Ok(()) => {
+                set_lane(&mut self.lanes, lane, open.after_settle(open.settling()));
+                Settled::Done
+            }
+            Err(Failed) => {
+                self.broken = true;
+                set_lane(&mut self.lanes, lane, open.after_settle(open.failing()));
+                Settled::Device
+            }
+        }
+    }
+
+    /// Ends a lane's read or write, which holds its blocks, and leaves them. It is complete, or one of
+    /// its events has failed.
+    pub fn finish(&mut self, lane: u32)
+        requires { Meets self.old (finishes lane) }
+        ensures { Step self.old (finishes lane) done self.new }
+    {
+        self.table.leave(lane);
+        set_lane(&mut self.lanes, lane, None);
+    }
+}
+
+// A table of locks without an entry, and lanes without an operation, as many as the table has room for.
+fn no_operations(alloc: Global, lanes: usize) -> Result<(Table, Vec<Option<Open>>), AllocError>
+    ensures room { IfOk result (λ made. made.0.room ≡ lanes) }
+    ensures entries { IfOk result (λ made. made.0.entries ≡ []) }
+    ensures lanes { IfOk result (λ made. made.1.items ≡ replicate lanes None) }
+{
+    let table = Table::with_room(alloc, lanes)?;
+    let lanes = vec![in alloc; None; lanes]?;
+    Ok((table, lanes))
+}
+
+#[cfg(test)]
+mod tests;
