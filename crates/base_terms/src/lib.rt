@@ -7,6 +7,6 @@ mod buffers;
 mod bytes;
 mod failed;
 
-pub use buffers::{paste, zeros};
+pub use buffers::{bytes_are_below_256, paste, zeros};
 pub use bytes::Bytes;
 pub use failed::Failed;

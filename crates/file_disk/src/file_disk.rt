@@ -109,6 +109,8 @@ impl<F: PositionedFile> Disk for FileDisk<F> {
 
     ghost whole = { λ d bytes is. Prim.cc };
 
+    ghost bytes = { λ d bytes is. Prim.cc };
+
     ghost agrees = { λ d t is. Prim.cc };
 
     ghost even = { λ d t is. Prim.cc };

@@ -1,5 +1,5 @@
 -- Why the disk in memory that tells its tables is a disk.
-use Rattle.std.specs.Prelude.{ℕ, ◌≡◌, ◌*◌, List, length, replicate, Some}
+use Rattle.std.specs.Prelude.{ℕ, ◌≡◌, ◌*◌, ◌<◌, List, length, replicate, slice_index, Some}
 use Rattle.std.proofs.Common.{sym, ap}
 use Rattle.base_terms.specs.Blocks.{lengths}
 use Rattle.sector_disk.specs.Cells.{content, currents, AreHeld}
@@ -15,6 +15,10 @@ mem_geometry d = record { known = is_atom-true d.atom d.known; fits = d.fits }
 pub mem_whole : (d : MemDisk) (bytes : List ℕ) → Some d.bytes.items ≡ Some bytes
     → length bytes ≡ d.atoms * d.atom
 mem_whole d bytes is = let e : d.bytes.items ≡ bytes = cc in rw (← e) d.whole
+
+pub mem_bytes : (d : MemDisk) (bytes : List ℕ) → Some d.bytes.items ≡ Some bytes
+    → (k : ℕ) → slice_index bytes k < 256
+mem_bytes d bytes is = let e : d.bytes.items ≡ bytes = cc in rw (← e) d.are_bytes
 
 pub mem_agrees : (d : MemDisk) (t : Told) → Some (told_of d) ≡ Some t
     → Some d.bytes.items ≡ Some (content t.now)

@@ -1,5 +1,5 @@
 -- Why the disk that tells its current bytes alone is a disk.
-use Rattle.std.specs.Prelude.{ℕ, ◌≡◌, ◌*◌, List, length, Some}
+use Rattle.std.specs.Prelude.{ℕ, ◌≡◌, ◌*◌, ◌<◌, List, length, slice_index, Some}
 use Rattle.sector_disk.specs.Geometry.{is_atom-true, IsDisk}
 use Rattle.sector_disk.specs.declared.ram_disk.RamDisk.{RamDisk}
 
@@ -9,3 +9,7 @@ ram_geometry d = record { known = is_atom-true d.atom d.known; fits = d.fits }
 pub ram_whole : (d : RamDisk) (bytes : List ℕ) → Some d.bytes.items ≡ Some bytes
     → length bytes ≡ d.atoms * d.atom
 ram_whole d bytes is = let e : d.bytes.items ≡ bytes = cc in rw (← e) d.whole
+
+pub ram_bytes : (d : RamDisk) (bytes : List ℕ) → Some d.bytes.items ≡ Some bytes
+    → (k : ℕ) → slice_index bytes k < 256
+ram_bytes d bytes is = let e : d.bytes.items ≡ bytes = cc in rw (← e) d.are_bytes

@@ -1,4 +1,4 @@
-ghost use Rattle.std.specs.Prelude.{◌≡◌, ℕ, ◌*◌, ◌^◌, ◌<◌, List, length, replicate, Option, Some};
+ghost use Rattle.std.specs.Prelude.{◌≡◌, ℕ, ◌*◌, ◌^◌, ◌<◌, List, length, replicate, slice_index, Option, Some};
 ghost use Rattle.base_terms.specs.Blocks.{lengths};
 ghost use Rattle.base_terms.specs.Causes.{HasCause};
 ghost use Rattle.sector_disk.specs.Cells.{content, currents, AreHeld};
@@ -83,6 +83,10 @@ pub trait Disk {
     /// It holds so many bytes.
     ghost whole: { (d : Self) (bytes : List ℕ) → values d ≡ Some bytes →
         length bytes ≡ count d * size d };
+
+    /// Each of the current bytes is below 256.
+    ghost bytes: { (d : Self) (bytes : List ℕ) → values d ≡ Some bytes →
+        (k : ℕ) → slice_index bytes k < 256 };
 
     /// The current bytes are those of the current table.
     ghost agrees: { (d : Self) (t : Told) → told d ≡ Some t → values d ≡ Some (content t.now) };

@@ -1,4 +1,4 @@
-ghost use Rattle.std.specs.Prelude.{◌≡◌, ◌≢◌, ◌*◌, ◌%◌, ◌^◌, ◌<◌, ◌↔◌, [], length, replicate, Some, IfOk, IfErr, OnErr, IsErr, IsTrue, is_ok, is_err};
+ghost use Rattle.std.specs.Prelude.{◌≡◌, ◌≢◌, ◌*◌, ◌%◌, ◌^◌, ◌<◌, ◌↔◌, ℕ, [], length, replicate, slice_index, Some, IfOk, IfErr, OnErr, IsErr, IsTrue, is_ok, is_err};
 ghost use Rattle.base_terms.specs.Blocks.{blocks_of, joined, lengths, pasted};
 ghost use Rattle.base_terms.specs.Causes.{HasCause};
 ghost use Rattle.sector_disk.specs.Calls.{table, changed_by};
@@ -12,7 +12,7 @@ ghost use Rattle.sector_disk.specs.Values.{Reads, Writes};
 use crate::call_record::{CallRecord, Kind};
 use crate::replay::{atoms_of_content, image_bytes};
 use crate::{Choice, Disk};
-use base_terms::{Failed, paste, zeros};
+use base_terms::{Failed, bytes_are_below_256, paste, zeros};
 use io_edge::FaultPlan;
 use std::alloc::{AllocError, AllocFailed, Global};
 
@@ -32,6 +32,7 @@ pub struct MemDisk {
     ghost fits: { atoms * atom < 2 ^ 63 },
     ghost began: { length start.items ≡ atoms * atom },
     ghost whole: { length bytes.items ≡ atoms * atom },
+    ghost are_bytes: { (k : ℕ) → slice_index bytes.items k < 256 },
     ghost same_atom: { calls.atom ≡ atom },
     ghost even: { lengths (currents (table atom atoms start.items calls.calls))
         ≡ replicate atoms atom },
@@ -60,11 +61,14 @@ impl MemDisk {
         ensures limits { IfOk result (λ disk. limits_of disk ≡ fresh_limits room fails.now) }
     {
         let len = atoms as usize * atom as usize;
+        let start = zeros(alloc, len)?;
+        let bytes = zeros(alloc, len)?;
+        bytes_are_below_256(&bytes);
         Ok(MemDisk {
             atom,
             atoms,
-            start: zeros(alloc, len)?,
-            bytes: zeros(alloc, len)?,
+            start,
+            bytes,
             calls: CallRecord::new(alloc, atom, room)?,
             mark: 0,
             stop: None,
@@ -129,6 +133,7 @@ impl MemDisk {
             ≡ fresh (sures (blocks_of (atom_of self) (atoms_of self) content.items)) }
         ensures limits { limits_of result ≡ fresh_limits (limits_of self).room [] }
     {
+        bytes_are_below_256(&content);
         let mut disk = self;
         paste(&mut disk.start, 0, content.as_slice());
         disk.bytes = content;
@@ -188,7 +193,7 @@ impl MemDisk {
 impl Disk for MemDisk {
     ghost use Rattle.std.specs.Prelude.{Some};
     ghost use Rattle.sector_disk.specs.Mem.{atom_of, atoms_of, atoms_in, bytes_of, told_of, limits_of};
-    ghost use Rattle.sector_disk.specs.MemLaws.{mem_geometry, mem_whole, mem_agrees, mem_even, mem_held};
+    ghost use Rattle.sector_disk.specs.MemLaws.{mem_geometry, mem_whole, mem_bytes, mem_agrees, mem_even, mem_held};
 
     ghost size = { atom_of };
 
@@ -203,6 +208,8 @@ impl Disk for MemDisk {
     ghost geometry = { mem_geometry };
 
     ghost whole = { mem_whole };
+
+    ghost bytes = { mem_bytes };
 
     ghost agrees = { mem_agrees };
 

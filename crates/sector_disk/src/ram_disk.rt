@@ -1,8 +1,8 @@
-ghost use Rattle.std.specs.Prelude.{◌≡◌, ◌*◌, ◌^◌, ◌<◌, length, replicate, Some, None, IfOk, IsTrue};
+ghost use Rattle.std.specs.Prelude.{◌≡◌, ◌*◌, ◌^◌, ◌<◌, ℕ, length, replicate, slice_index, Some, None, IfOk, IsTrue};
 ghost use Rattle.sector_disk.specs.Geometry.{is_atom, IsDisk};
 
 use crate::Disk;
-use base_terms::{Failed, paste, zeros};
+use base_terms::{Failed, bytes_are_below_256, paste, zeros};
 use std::alloc::{AllocError, Global};
 
 /// A disk in memory that never fails. It tells its current bytes alone.
@@ -14,6 +14,7 @@ pub struct RamDisk {
     ghost known: { IsTrue (is_atom atom) },
     ghost fits: { atoms * atom < 2 ^ 63 },
     ghost whole: { length bytes.items ≡ atoms * atom },
+    ghost are_bytes: { (k : ℕ) → slice_index bytes.items k < 256 },
 }
 
 impl RamDisk {
@@ -27,13 +28,14 @@ impl RamDisk {
     {
         let len = atoms as usize * atom as usize;
         let bytes = zeros(alloc, len)?;
+        bytes_are_below_256(&bytes);
         Ok(RamDisk { atom, atoms, bytes })
     }
 }
 
 impl Disk for RamDisk {
     ghost use Rattle.std.specs.Prelude.{Some, None};
-    ghost use Rattle.sector_disk.specs.RamLaws.{ram_geometry, ram_whole};
+    ghost use Rattle.sector_disk.specs.RamLaws.{ram_geometry, ram_whole, ram_bytes};
 
     ghost size = { λ d. d.atom };
 
@@ -48,6 +50,8 @@ impl Disk for RamDisk {
     ghost geometry = { ram_geometry };
 
     ghost whole = { ram_whole };
+
+    ghost bytes = { ram_bytes };
 
     ghost agrees = { λ d t is. Prim.cc };
 

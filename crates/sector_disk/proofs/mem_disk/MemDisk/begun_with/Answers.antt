@@ -1,4 +1,4 @@
-use Rattle.std.proofs.Common.{◌∙◌, sym}
+use Rattle.std.proofs.Common.{◌∙◌, sym, ℕ, ◌<◌, List, slice_index, subst}
 use Rattle.base_terms.proofs.BlockLemmas.{pasted_whole}
 use Rattle.sector_disk.proofs.TableLemmas.{even_start, content_start, told_start}
 use Rattle.sector_disk.proofs.mem_disk.MemDisk.begun_with.Goals as goal
@@ -35,3 +35,8 @@ returns-clause-told c =
           c.args.self.start.items c.args.content.items (c.requires ∙ sym c.args.self.began),
     )
     (told_start _ _ _)
+
+pub invariant_of-disk-clause-are_bytes : goal.invariant_of-disk-clause-are_bytes
+invariant_of-disk-clause-are_bytes c =
+    subst (λ (bytes : List ℕ). (k : ℕ) → slice_index bytes k < 256) c.deref.ensures.value
+    c.bytes_are_below_256.ensures
