@@ -20,8 +20,8 @@ pub trait Port {
 
     /// Executes an operation and answers it. Where memory is wanted, or the port is spent, nothing
     /// was done.
-    fn submit(&mut self, alloc: Global, op: &Op) -> Result<Submitted, AllocError>
-        ensures ok { IfOk result (λ submitted. (n : ℕ) × did self.old self.new (exchanges_by op.now n submitted)) }
+    fn submit(&mut self, alloc: Global, op: Op) -> Result<Submitted, AllocError>
+        ensures ok { IfOk result (λ submitted. (n : ℕ) × did self.old self.new (exchanges_by op n submitted)) }
         ensures err { OnErr result (did self.old self.new []) };
 
     ghost did_none: { (port : Self) → did port port [] };

@@ -108,7 +108,7 @@ fn serve_request<S: Source, K: Sink, P: Port>(
         Next::Refuse { cookie, number } => {
             answer(sink, cookie, &Reply::Errno(number), &mut tally.put)
         }
-        Next::Ask { cookie, op } => match port.submit(alloc, &op) {
+        Next::Ask { cookie, op } => match port.submit(alloc, op) {
             Ok(Submitted::Replied(reply)) => answer(sink, cookie, &reply, &mut tally.put),
             Ok(Submitted::Spent) => Some(Ending::PortSpent),
             Err(_) => answer(sink, cookie, &Reply::Errno(NO_MEMORY), &mut tally.put),

@@ -67,7 +67,7 @@ impl Block {
 impl Port for Block {
     ghost did = { λ _ _ _. Unit {0} };
 
-    fn submit(&mut self, alloc: Global, op: &Op) -> Result<Submitted, AllocError> {
+    fn submit(&mut self, alloc: Global, op: Op) -> Result<Submitted, AllocError> {
         if !self.has_memory {
             return Err(AllocError);
         }
@@ -76,14 +76,14 @@ impl Port for Block {
         }
         self.operations -= 1;
         // reads of up to 9216 bytes are answered, to show what goes out
-        if let Some(number) = wrong(op, 512, 8192) {
+        if let Some(number) = wrong(&op, 512, 8192) {
             if !matches!(op, Op::Read { length: 9216, .. }) {
                 return Ok(Submitted::Replied(Reply::Errno(number)));
             }
         }
         let reply = match op {
             Op::Read { length, .. } => {
-                let mut content = vec![in alloc; 0u8; *length as usize]?;
+                let mut content = vec![in alloc; 0u8; length as usize]?;
                 let n = content.len().min(512);
                 content[..n].copy_from_slice(&self.bytes[..n]);
                 Reply::Content(Bytes::new(content))
@@ -91,7 +91,7 @@ impl Port for Block {
             Op::Write { body, fua, .. } => {
                 let n = body.len().min(512);
                 self.bytes[..n].copy_from_slice(&body.as_slice()[..n]);
-                self.forced = *fua;
+                self.forced = fua;
                 Reply::Done
             }
             Op::Flush => Reply::Done,

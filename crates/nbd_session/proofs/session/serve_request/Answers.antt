@@ -65,8 +65,8 @@ returns-in-Ok-Spent g c =
       λ n fewer. serves-spent _ _ _ _ _ c.in-Ask.cookie c.in-Ask.op next.0 next.1 n next.2 fewer,
     )
 
-pub returns : goal.returns
-returns g c =
+pub returns-in-Err : goal.returns-in-Err
+returns-in-Err g c =
     let next = c.in-Ask.ensures in
     let turn : Turn = record { cookie = c.in-Ask.cookie; asked = Some c.in-Ask.op; reply = Errno 12; tried = 0; submitted = false } in
     let served = serves-turn _ _ _ _ _ _ _ _ turn next.0 c.answer-in-Err.result next.2.takes next.2.by_case.1 next.2.by_case.0 (refl, refl) c.answer-in-Err.ensures in (
