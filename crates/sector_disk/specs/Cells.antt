@@ -77,3 +77,8 @@ IsImage [] [] = Unit {0}
 IsImage [] (value ∷ values) = ⊥
 IsImage (cell ∷ cells) [] = ⊥
 IsImage (cell ∷ cells) (value ∷ values) = Contains cell.candidates value × IsImage cells values
+
+-- each atom holds its current value for certain
+unfoldable pub AreSettled : List Cell → Type 0
+AreSettled [] = Unit {0}
+AreSettled (cell ∷ cells) = (cell.candidates ≡ cell.current ∷ []) × AreSettled cells

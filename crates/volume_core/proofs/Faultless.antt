@@ -2,6 +2,10 @@
 use Rattle.std.proofs.Common.{◌≡◌, ◌≢◌, inl, inr, ◌⊎◌, ℕ, suc, ◌+◌, ◌-◌, ◌*◌, ◌/◌, ◌<◌, ◌≤◌, ◌^◌, Bool, true, false, if◌then◌else◌, List, [], ◌∷◌, ◌++◌, length, Option, Some, None, MatchOption, MatchBool, Result, refl, sym, ◌∙◌, ap, subst, arith, length-append}
 use Rattle.base_terms.specs.declared.failed.Failed.{Failed}
 use Rattle.base_terms.specs.Causes.{Rose, HasCause}
+use Rattle.std.proofs.lemmas.Bool.{cases_lt}
+use Rattle.plain_disk.specs.Operations.{wrong_of}
+use Rattle.plain_disk.specs.Outcomes.{IsServed, AreServed}
+use Rattle.plain_disk.specs.Plain.{Exchange}
 use Rattle.plain_disk.specs.declared.operation.Reply.TheVariants.{Content, Done, Errno}
 use Rattle.range_lock.specs.declared.Entry.{Entry}
 use Rattle.range_lock.specs.Locks.{without}
@@ -12,9 +16,9 @@ use Rattle.volume_core.specs.declared.open.Open.{Open}
 use Rattle.volume_core.specs.Asks.{IsRead, IsWrite, range_of, has_lock, wrong_ask}
 use Rattle.volume_core.specs.Contents.{IsFresh}
 use Rattle.volume_core.specs.Events.{Event, admits, asks, reads, writes, settles, finishes, Outcome, held, waits, refused, got, done, device, broken}
-use Rattle.volume_core.specs.Executing.{AreFull, IsFull, ServesWithoutFaults}
+use Rattle.volume_core.specs.Executing.{AreFull, IsFull, ServesWithoutFaults, BreaksByFaults}
 use Rattle.volume_core.specs.Pieces.{side_in, IsPieceOf, ArePieceBytes, moved, settling, IsComplete}
-use Rattle.volume_core.specs.Runs.{Happening, IsRun, last_of, with_plain, plain_piece, after_read, after_write, plain_after, plain_in, no_plain, answered_by, answered_in, by_admit, by_settle, by_finish, full_reply, refusal, Answered}
+use Rattle.volume_core.specs.Runs.{Happening, IsRun, last_of, with_plain, plain_piece, after_read, after_write, plain_after, plain_in, no_plain, answered_by, answered_in, by_admit, by_settle, by_finish, full_reply, refusal, Answered, Asked, IsExchange, AreExchanges}
 use Rattle.volume_core.specs.Seals.{Seals, AreLawful}
 use Rattle.volume_core.specs.Sound.{IsSound}
 use Rattle.volume_core.specs.States.{State, open_at, size_of, begun}
@@ -22,7 +26,7 @@ use Rattle.volume_core.specs.Steps.{Step, Meets, Goes, AdmitStep, IsAdmitted, Re
 use Rattle.volume_core.proofs.Admits.{plain-other, plain-own, unanswered}
 use Rattle.volume_core.proofs.Locking.{either, same_or_not}
 use Rattle.volume_core.proofs.Reading.{piece_blocks}
-use Rattle.volume_core.proofs.Answering.{read_whole}
+use Rattle.volume_core.proofs.Answering.{read_whole, wrong_asked}
 use Rattle.volume_core.proofs.EventsServed.{forced_locks}
 use Rattle.volume_core.proofs.Soundness.{sound_kept, match_true, match_false, admit_cases}
 use Rattle.volume_core.proofs.Failures.{whole_event}
@@ -304,12 +308,52 @@ fine_run start seals plain (one ∷ rest) fine (meets, step, is) same below =
     (answered_in seals one.after (plain_after seals start one.event one.outcome plain) rest) after.full
     (subst (λ m. AreFull m.atom (size_of m) (answered_in seals one.after (plain_after seals start one.event one.outcome plain) rest)) map later.0), later.1)
 
+-- what was answered in full was served
+exchange_served : (atom size : ℕ) (answered : Answered) (exchange : Exchange) → IsExchange answered exchange →
+    MatchOption (wrong_ask atom size answered.ask) (IsFull answered answered.ask) (λ number. answered.reply ≡ Errno number) →
+    MatchOption (wrong_of atom size exchange.op) (IsServed exchange.op exchange.reply) (λ number. exchange.reply ≡ Errno number)
+exchange_served atom size answered exchange is full =
+    served_by (wrong_ask atom size answered.ask) (wrong_asked atom size answered.ask answered.plain exchange.op is.op) full
+ where
+  full_served : (ask : Ask) → Asked ask answered.plain exchange.op → IsFull answered ask → IsServed exchange.op exchange.reply
+  full_served (Read offset len) op parts = rw (op, is.reply, parts.0) parts.1
+  full_served (Write offset len fua) (body, op, long, begins) full_so = rw (op, is.reply) full_so
+  full_served Flush op full_so = rw (op, is.reply) full_so
+  served_by : (wrong : Option ℕ) → wrong_of atom size exchange.op ≡ wrong → MatchOption wrong (IsFull answered answered.ask) (λ number. answered.reply ≡ Errno number) →
+      MatchOption (wrong_of atom size exchange.op) (IsServed exchange.op exchange.reply) (λ number. exchange.reply ≡ Errno number)
+  served_by None why full_so = rw why (full_served answered.ask is.op full_so)
+  served_by (Some number) why full_so = rw why (is.reply ∙ full_so)
+
+exchanges_served : (atom size : ℕ) (answered : List Answered) (exchanges : List Exchange) → AreExchanges answered exchanges → AreFull atom size answered → AreServed atom size exchanges
+unfolding AreExchanges AreFull AreServed
+exchanges_served atom size [] [] are full = tt
+exchanges_served atom size [] (exchange ∷ exchanges) are full = absurd are
+exchanges_served atom size (one ∷ answered) [] are full = absurd are
+exchanges_served atom size (one ∷ answered) (exchange ∷ exchanges) are full =
+    (exchange_served atom size one exchange are.0 full.0, exchanges_served atom size answered exchanges are.1 full.1)
+
+starts_fine : {K : Type 0} (start : State K) (seals : Seals) → IsSound start → IsFresh start → AreLawful start.map.atom seals → IsFine start seals no_plain
+starts_fine start seals sound fresh lawful = record {
+  sound = sound;
+  lawful = lawful;
+  unbroken = fresh.unbroken;
+  lanes = λ lane o at. absurd (let free = fresh.lanes lane in cc);
+}
+
 pub serves_without_faults : {K : Type 0} (start : State K) (seals : Seals) (run : List (Happening K)) → IsSound start → IsFresh start → AreLawful start.map.atom seals → IsRun start run →
     ServesWithoutFaults start seals run
-serves_without_faults start seals run sound fresh lawful is = λ same below.
-    fine_run start seals no_plain run (record {
-      sound = sound;
-      lawful = lawful;
-      unbroken = fresh.unbroken;
-      lanes = λ lane o at. absurd (let free = fresh.lanes lane in cc);
-    }) is same below
+serves_without_faults start seals run sound fresh lawful is = λ exchanges are same below.
+    let fine = fine_run start seals no_plain run (starts_fine start seals sound fresh lawful) is same below in
+    (exchanges_served start.map.atom (size_of start.map) (answered_in seals start no_plain run) exchanges are fine.0, fine.1)
+
+pub breaks_by_faults : {K : Type 0} (start : State K) (seals : Seals) (run : List (Happening K)) → IsSound start → IsFresh start → AreLawful start.map.atom seals → IsRun start run →
+    BreaksByFaults start run
+breaks_by_faults start seals run sound fresh lawful is = λ broken.
+    let later = faults_run start run is in
+    elim (cases_lt start.disk.faults (last_of start run).disk.faults) [
+      | inl rose ↦ inl rose
+      | inr stood ↦ elim (cases_lt start.disk.faults (2 ^ 64 - 1)) [
+        | inl low ↦ absurd (let fine = fine_run start seals no_plain run (starts_fine start seals sound fresh lawful) is (omega (arith, later, stood)) low in let whole = fine.1 in cc)
+        | inr last ↦ inr (omega (arith, later, last))
+      ]
+    ]

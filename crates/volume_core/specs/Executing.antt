@@ -1,6 +1,8 @@
 -- Operations that were executed, each to its end, by some run of events.
-use Rattle.std.specs.Prelude.{ℕ, ◌≡◌, ◌++◌, ◌<◌, ◌-◌, ◌^◌, false, List, [], ◌∷◌, length, All, Option, Some, None, MatchOption}
+use Rattle.std.specs.Prelude.{ℕ, ◌≡◌, ◌++◌, ◌<◌, ◌-◌, ◌^◌, true, false, List, [], ◌∷◌, length, All, Option, Some, None, MatchOption}
 use Rattle.plain_disk.specs.declared.operation.Reply.TheVariants.{Content, Done, Errno}
+use Rattle.base_terms.specs.Causes.{Rose}
+use Rattle.plain_disk.specs.Outcomes.{AreServed}
 use Rattle.plain_disk.specs.Plain.{Block, Exchange, Legal}
 use Rattle.sector_disk.specs.Cells.{Cell}
 use Rattle.sector_disk.specs.Steps.{Told}
@@ -72,6 +74,10 @@ AreFull atom size (answered ∷ rest) =
 -- where no count of faults moved, every operation was served or refused with its number, and nothing
 -- is broken
 abbrev pub ServesWithoutFaults : {K : Type 0} → State K → Seals → List (Happening K) → Type 0
-ServesWithoutFaults start seals run =
+ServesWithoutFaults start seals run = (exchanges : List Exchange) → AreExchanges (answered_in seals start no_plain run) exchanges →
     (last_of start run).disk.faults ≡ start.disk.faults → start.disk.faults < 2 ^ 64 - 1 →
-    AreFull start.map.atom (size_of start.map) (answered_in seals start no_plain run) × ((last_of start run).broken ≡ false)
+    AreServed start.map.atom (size_of start.map) exchanges × ((last_of start run).broken ≡ false)
+
+-- a volume breaks only where the count rose
+abbrev pub BreaksByFaults : {K : Type 0} → State K → List (Happening K) → Type 0
+BreaksByFaults start run = (last_of start run).broken ≡ true → Rose start.disk.faults (last_of start run).disk.faults
