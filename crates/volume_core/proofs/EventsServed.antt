@@ -29,30 +29,30 @@ use Rattle.volume_core.proofs.Soundness.{sound_kept, match_true, match_false}
 use Rattle.volume_core.proofs.Writing.{TriesPiece, now_of, logic_tried, shown_written, shown_tried}
 
 -- the moment after an event, and what was answered
-pub record Served {K : Type 0} (seals : Seals) (old new : State K) (now : ℕ → List ℕ) (left : List Block) (exchanges : List Exchange) : Type 0 where
+pub record Served {K : Type 0} (P : Type 0) (seals : Seals) (old new : State K) (now : ℕ → List ℕ) (left : List Block) (exchanges : List Exchange) : Type 0 where
   pub next : List Block
   pub legal : Legal old.map.atom left exchanges next
-  pub here : Here new seals now next
+  pub here : Here P new seals now next
   pub map : new.map ≡ old.map
 
 -- an operation that is refused
-refused_served : {K : Type 0} (seals : Seals) (old new : State K) (plain : ℕ → List ℕ) (left : List Block) (lane : ℕ) (ask : Ask) (number : ℕ) (exchanges : List Exchange) →
-    Here old seals plain left → open_at old.lanes lane ≡ None → new ≡ old →
+refused_served : {K P : Type 0} (seals : Seals) (old new : State K) (plain : ℕ → List ℕ) (left : List Block) (lane : ℕ) (ask : Ask) (number : ℕ) (exchanges : List Exchange) →
+    Here P old seals plain left → open_at old.lanes lane ≡ None → new ≡ old →
     ((exchange : Exchange) → IsExchange (refusal ask number) exchange → Rattle.plain_disk.specs.Plain.Step old.map.atom left exchange left) →
-    AreExchanges (refusal ask number ∷ []) exchanges → Served seals old new (with_plain plain lane []) left exchanges
-refused_served seals old new plain left lane ask number exchanges here free same step are = record {
+    AreExchanges (refusal ask number ∷ []) exchanges → Served P seals old new (with_plain plain lane []) left exchanges
+refused_served {P = P} seals old new plain left lane ask number exchanges here free same step are = record {
   next = left;
   legal = legal_one old.map.atom left left (refusal ask number) exchanges are step;
-  here = subst (λ s. Here s seals (with_plain plain lane []) left) (sym same)
+  here = subst (λ s. Here P s seals (with_plain plain lane []) left) (sym same)
       (here_after old old seals plain (with_plain plain lane []) left left IsUnchanged here refl
       (logic_forgets old plain left lane [] free here.logic) (moves_not old.map.atom here.bytes old.disk old.disk refl here.values)
       (λ view after unchanged shown. shown_forgets old seals plain left lane [] view after free unchanged shown));
   map = ap (λ s. s.map) same;
 }
 
-admitted_served : {K : Type 0} (seals : Seals) (old new : State K) (plain : ℕ → List ℕ) (left : List Block) (lane : ℕ) (ask : Ask) (outcome : Outcome) (exchanges : List Exchange) →
-    Here old seals plain left → IsSound new → open_at old.lanes lane ≡ None → wrong_ask old.map.atom (size_of old.map) ask ≡ None → IsAdmitted old lane ask outcome new →
-    AreExchanges (by_admit ask outcome) exchanges → Served seals old new (with_plain plain lane []) left exchanges
+admitted_served : {K P : Type 0} (seals : Seals) (old new : State K) (plain : ℕ → List ℕ) (left : List Block) (lane : ℕ) (ask : Ask) (outcome : Outcome) (exchanges : List Exchange) →
+    Here P old seals plain left → IsSound new → open_at old.lanes lane ≡ None → wrong_ask old.map.atom (size_of old.map) ask ≡ None → IsAdmitted old lane ask outcome new →
+    AreExchanges (by_admit ask outcome) exchanges → Served P seals old new (with_plain plain lane []) left exchanges
 admitted_served seals old new plain left lane ask outcome exchanges here sound free proper is are = record {
   next = left;
   legal = legal_none old.map.atom left exchanges (subst (λ xs. AreExchanges xs exchanges) (unanswered old new lane ask outcome is) are);
@@ -62,10 +62,10 @@ admitted_served seals old new plain left lane ask outcome exchanges here sound f
   map = is.goes.map;
 }
 
-pub admit_by : {K : Type 0} (seals : Seals) (old new : State K) (plain : ℕ → List ℕ) (left : List Block) (lane : ℕ) (ask : Ask) (outcome : Outcome) (exchanges : List Exchange) (wrong : Option ℕ) →
-    wrong_ask old.map.atom (size_of old.map) ask ≡ wrong → Here old seals plain left → IsSound new → open_at old.lanes lane ≡ None →
+pub admit_by : {K P : Type 0} (seals : Seals) (old new : State K) (plain : ℕ → List ℕ) (left : List Block) (lane : ℕ) (ask : Ask) (outcome : Outcome) (exchanges : List Exchange) (wrong : Option ℕ) →
+    wrong_ask old.map.atom (size_of old.map) ask ≡ wrong → Here P old seals plain left → IsSound new → open_at old.lanes lane ≡ None →
     MatchOption wrong (MatchBool old.broken ((outcome ≡ refused 5) × (new ≡ old)) (IsAdmitted old lane ask outcome new)) (λ number. (outcome ≡ refused number) × (new ≡ old)) →
-    AreExchanges (by_admit ask outcome) exchanges → Served seals old new (with_plain plain lane []) left exchanges
+    AreExchanges (by_admit ask outcome) exchanges → Served P seals old new (with_plain plain lane []) left exchanges
 admit_by seals old new plain left lane ask outcome exchanges (Some number) is here sound free step are =
     refused_served seals old new plain left lane ask number exchanges here free step.1
         (λ exchange is_exchange. step_wrong old.map.atom old.map.blocks number left ask exchange here.logic.are.count is is_exchange)
@@ -81,14 +81,14 @@ admit_by seals old new plain left lane ask outcome exchanges None is here sound 
 ]
 
 -- an event that answers nothing
-pub goes_on : {K : Type 0} (seals : Seals) (old new : State K) (now : ℕ → List ℕ) (left : List Block) (exchanges : List Exchange) → AreExchanges [] exchanges →
-    Here new seals now left → new.map ≡ old.map → Served seals old new now left exchanges
+pub goes_on : {K P : Type 0} (seals : Seals) (old new : State K) (now : ℕ → List ℕ) (left : List Block) (exchanges : List Exchange) → AreExchanges [] exchanges →
+    Here P new seals now left → new.map ≡ old.map → Served P seals old new now left exchanges
 goes_on seals old new now left exchanges are here map = record { next = left; legal = legal_none old.map.atom left exchanges are; here = here; map = map }
 
 -- an event of an operation that failed without a device call, or by a read
-failed_here : {K : Type 0} (seals : Seals) (old new : State K) (plain : ℕ → List ℕ) (left : List Block) (lane : ℕ) (o : Open) (is_broken : Bool) (here : Here old seals plain left) → IsSound new →
+failed_here : {K P : Type 0} (seals : Seals) (old new : State K) (plain : ℕ → List ℕ) (left : List Block) (lane : ℕ) (o : Open) (is_broken : Bool) (here : Here P old seals plain left) → IsSound new →
     open_at old.lanes lane ≡ Some o → Goes old new lane old.entries (Some (failing o)) is_broken → (is_broken ≡ false → old.broken ≡ false) → (IsWrite o.ask → is_broken ≡ true) →
-    Moves old.map.atom here.bytes old.disk new.disk IsUnchanged → Here new seals plain left
+    Moves P old.map.atom here.bytes old.disk new.disk IsUnchanged → Here P new seals plain left
 failed_here seals old new plain left lane o is_broken here sound at goes unbroken breaks moves =
     here_after old new seals plain plain left left IsUnchanged here goes.map
         (logic_failed old new plain left lane o is_broken here.logic sound at goes unbroken breaks) moves
@@ -96,9 +96,9 @@ failed_here seals old new plain left lane o is_broken here sound at goes unbroke
         (λ whole. (unbroken (sym goes.broken_is ∙ whole), unchanged.current)) unchanged.candidates shown)
 
 -- a piece is read
-pub read_served : {K : Type 0} (seals : Seals) (old new : State K) (plain : ℕ → List ℕ) (left : List Block) (lane : ℕ) (o : Open) (outcome : Outcome) (exchanges : List Exchange) →
-    Here old seals plain left → IsSound new → open_at old.lanes lane ≡ Some o → IsRead o.ask → HasPiece o → Holds old lane → ReadStep old lane o outcome new →
-    AreExchanges [] exchanges → Served seals old new (after_read seals old lane outcome plain) left exchanges
+pub read_served : {K P : Type 0} (seals : Seals) (old new : State K) (plain : ℕ → List ℕ) (left : List Block) (lane : ℕ) (o : Open) (outcome : Outcome) (exchanges : List Exchange) →
+    Here P old seals plain left → IsSound new → open_at old.lanes lane ≡ Some o → IsRead o.ask → HasPiece o → Holds old lane → ReadStep old lane o outcome new →
+    AreExchanges [] exchanges → Served P seals old new (after_read seals old lane outcome plain) left exchanges
 read_served seals old new plain left lane o held exchanges here sound at reading has holds step are = absurd step
 read_served seals old new plain left lane o (waits other) exchanges here sound at reading has holds step are = absurd step
 read_served seals old new plain left lane o (refused number) exchanges here sound at reading has holds step are = absurd step
@@ -122,8 +122,8 @@ read_served seals old new plain left lane o broken exchanges here sound at readi
         step.goes.map
 
 -- a piece is written
-tries : {K : Type 0} (seals : Seals) (old new : State K) (plain : ℕ → List ℕ) (left : List Block) (lane : ℕ) (o next : Open) (piece : Piece) (bytes : List ℕ) (is_broken : Bool) →
-    Here old seals plain left → open_at old.lanes lane ≡ Some o → IsWrite o.ask → HasPiece o → Holds old lane → IsPieceOf old.map o piece → ArePieceBytes old.map piece bytes →
+tries : {K P : Type 0} (seals : Seals) (old new : State K) (plain : ℕ → List ℕ) (left : List Block) (lane : ℕ) (o next : Open) (piece : Piece) (bytes : List ℕ) (is_broken : Bool) →
+    Here P old seals plain left → open_at old.lanes lane ≡ Some o → IsWrite o.ask → HasPiece o → Holds old lane → IsPieceOf old.map o piece → ArePieceBytes old.map piece bytes →
     Goes old new lane old.entries (Some next) is_broken → next.ask ≡ o.ask → next.range ≡ o.range → next.settled ≡ o.settled → TriesPiece old new seals plain left lane o next piece bytes
 tries seals old new plain left lane o next piece bytes is_broken here at writing has holds is_piece are goes ask range unsettled = record {
   lawful = here.lawful;
@@ -143,9 +143,9 @@ tries seals old new plain left lane o next piece bytes is_broken here at writing
   unsettled = unsettled;
 }
 
-pub write_served : {K : Type 0} (seals : Seals) (old new : State K) (plain : ℕ → List ℕ) (left : List Block) (lane : ℕ) (o : Open) (bytes : List ℕ) (outcome : Outcome) (exchanges : List Exchange) →
-    Here old seals plain left → IsSound new → open_at old.lanes lane ≡ Some o → IsWrite o.ask → HasPiece o → Holds old lane → WriteStep old lane o bytes outcome new →
-    AreExchanges [] exchanges → Served seals old new (after_write seals old lane bytes outcome plain) left exchanges
+pub write_served : {K P : Type 0} (seals : Seals) (old new : State K) (plain : ℕ → List ℕ) (left : List Block) (lane : ℕ) (o : Open) (bytes : List ℕ) (outcome : Outcome) (exchanges : List Exchange) →
+    Here P old seals plain left → IsSound new → open_at old.lanes lane ≡ Some o → IsWrite o.ask → HasPiece o → Holds old lane → WriteStep old lane o bytes outcome new →
+    AreExchanges [] exchanges → Served P seals old new (after_write seals old lane bytes outcome plain) left exchanges
 unfolding tries
 write_served seals old new plain left lane o bytes held exchanges here sound at writing has holds step are = absurd step
 write_served seals old new plain left lane o bytes (waits other) exchanges here sound at writing has holds step are = absurd step
@@ -179,9 +179,9 @@ write_served seals old new plain left lane o bytes broken exchanges here sound a
         step.goes.map
 
 -- a flush that ends
-pub flush_served : {K : Type 0} (seals : Seals) (old new : State K) (plain : ℕ → List ℕ) (left : List Block) (lane : ℕ) (o : Open) (outcome : Outcome) (exchanges : List Exchange) →
-    Here old seals plain left → IsSound new → open_at old.lanes lane ≡ Some o → o.ask ≡ Flush → SettleStep old lane o outcome new →
-    AreExchanges (record { ask = Flush; plain = []; reply = flush_reply outcome } ∷ []) exchanges → Served seals old new plain left exchanges
+pub flush_served : {K P : Type 0} (seals : Seals) (old new : State K) (plain : ℕ → List ℕ) (left : List Block) (lane : ℕ) (o : Open) (outcome : Outcome) (exchanges : List Exchange) →
+    Here P old seals plain left → IsSound new → open_at old.lanes lane ≡ Some o → o.ask ≡ Flush → SettleStep old lane o outcome new →
+    AreExchanges (record { ask = Flush; plain = []; reply = flush_reply outcome } ∷ []) exchanges → Served P seals old new plain left exchanges
 flush_served seals old new plain left lane o held exchanges here sound at is step are = absurd step
 flush_served seals old new plain left lane o (waits other) exchanges here sound at is step are = absurd step
 flush_served seals old new plain left lane o (refused number) exchanges here sound at is step are = absurd step
@@ -226,9 +226,9 @@ forced_locks (Read offset len) forced = absurd forced
 forced_locks (Write offset len fua) forced = refl
 forced_locks Flush forced = absurd forced
 
-pub settle_served : {K : Type 0} (seals : Seals) (old new : State K) (plain : ℕ → List ℕ) (left : List Block) (lane : ℕ) (o : Open) (outcome : Outcome) (exchanges : List Exchange) →
-    Here old seals plain left → IsSound new → open_at old.lanes lane ≡ Some o → IsForced o.ask → o.next ≡ o.range.end → SettleStep old lane o outcome new →
-    AreExchanges [] exchanges → Served seals old new plain left exchanges
+pub settle_served : {K P : Type 0} (seals : Seals) (old new : State K) (plain : ℕ → List ℕ) (left : List Block) (lane : ℕ) (o : Open) (outcome : Outcome) (exchanges : List Exchange) →
+    Here P old seals plain left → IsSound new → open_at old.lanes lane ≡ Some o → IsForced o.ask → o.next ≡ o.range.end → SettleStep old lane o outcome new →
+    AreExchanges [] exchanges → Served P seals old new plain left exchanges
 settle_served seals old new plain left lane o held exchanges here sound at forced whole step are = absurd step
 settle_served seals old new plain left lane o (waits other) exchanges here sound at forced whole step are = absurd step
 settle_served seals old new plain left lane o (refused number) exchanges here sound at forced whole step are = absurd step

@@ -10,7 +10,7 @@ use Rattle.volume_core.specs.Asks.{IsForced, has_lock}
 use Rattle.volume_core.specs.Contents.{block_in, cell_in, value_in, StandsFor, StandsNow, StopsAllowed, IsAllowedAt, IsSealed, Covers, IsTriedBy, IsNow}
 use Rattle.volume_core.specs.Events.{Event, admits, asks, reads, writes, settles, finishes, Outcome}
 use Rattle.volume_core.specs.Pieces.{place_in}
-use Rattle.volume_core.specs.Promises.{Starts, IsServed, ServesEachRun}
+use Rattle.volume_core.specs.Promises.{Starts, StartsCovered, IsServed, ServesEachRun}
 use Rattle.volume_core.specs.Runs.{Happening, IsRun, last_of, answered_in, answered_by, plain_in, plain_after, no_plain, AreExchanges, by_settle, by_finish, flush_reply}
 use Rattle.volume_core.specs.Seals.{Seals, block_at}
 use Rattle.volume_core.specs.Sound.{IsSound}
@@ -29,9 +29,9 @@ use Rattle.volume_core.proofs.SealLemmas.{length-sealed}
 use Rattle.volume_core.proofs.Soundness.{sound_kept}
 use Rattle.volume_core.proofs.TableEntries.{place_of_some}
 
-settles_served : {K : Type 0} (seals : Seals) (old new : State K) (plain : ℕ → List ℕ) (left : List Block) (lane : ℕ) (o : Open) (outcome : Outcome) (exchanges : List Exchange) →
-    Here old seals plain left → IsSound new → open_at old.lanes lane ≡ Some o → CanSettle o → SettleStep old lane o outcome new →
-    AreExchanges (by_settle (Some o) outcome) exchanges → Served seals old new plain left exchanges
+settles_served : {K P : Type 0} (seals : Seals) (old new : State K) (plain : ℕ → List ℕ) (left : List Block) (lane : ℕ) (o : Open) (outcome : Outcome) (exchanges : List Exchange) →
+    Here P old seals plain left → IsSound new → open_at old.lanes lane ≡ Some o → CanSettle o → SettleStep old lane o outcome new →
+    AreExchanges (by_settle (Some o) outcome) exchanges → Served P seals old new plain left exchanges
 settles_served seals old new plain left lane o outcome exchanges here sound at (inl is) step are =
     flush_served seals old new plain left lane o outcome exchanges here sound at is step
         (subst (λ xs. AreExchanges xs exchanges) (let e : by_settle (Some o) outcome ≡ record { ask = Flush; plain = []; reply = flush_reply outcome } ∷ [] = rw is refl in e) are)
@@ -45,14 +45,14 @@ settles_served seals old new plain left lane o outcome exchanges here sound at (
   locks Flush is = absurd is
 
 -- each event
-pub event_served : {K : Type 0} (seals : Seals) (old new : State K) (plain : ℕ → List ℕ) (left : List Block) (event : Event) (outcome : Outcome) (exchanges : List Exchange) →
-    Here old seals plain left → Meets old event → Step old event outcome new → AreExchanges (answered_by old event outcome plain) exchanges →
-    Served seals old new (plain_after seals old event outcome plain) left exchanges
+pub event_served : {K P : Type 0} (seals : Seals) (old new : State K) (plain : ℕ → List ℕ) (left : List Block) (event : Event) (outcome : Outcome) (exchanges : List Exchange) →
+    Here P old seals plain left → Meets old event → Step old event outcome new → AreExchanges (answered_by old event outcome plain) exchanges →
+    Served P seals old new (plain_after seals old event outcome plain) left exchanges
 unfolding Meets Step answered_by plain_after
 event_served seals old new plain left (admits lane ask) outcome exchanges here meets step are =
     admit_by seals old new plain left lane ask outcome exchanges _ refl here (sound_kept old new (admits lane ask) outcome here.logic.sound meets step) meets.1 step are
-event_served seals old new plain left (asks lane) outcome exchanges here meets step are =
-    goes_on seals old new plain left exchanges are (subst (λ s. Here s seals plain left) (sym step.1) here) (ap (λ s. s.map) step.1)
+event_served {P = P} seals old new plain left (asks lane) outcome exchanges here meets step are =
+    goes_on seals old new plain left exchanges are (subst (λ s. Here P s seals plain left) (sym step.1) here) (ap (λ s. s.map) step.1)
 event_served seals old new plain left (reads lane) outcome exchanges here meets (o, at, step) are =
     let (p, is, can) = meets.0 in
     let same : p ≡ o = cc in
@@ -92,13 +92,13 @@ legal_joined atom old middle new [] ys first rest = rw (← first) rest
 legal_joined atom old middle new (exchange ∷ xs) ys (next, step, first) rest = (next, step, legal_joined atom next middle new xs ys first rest)
 
 -- a run goes on from a moment to another
-record Ran {K : Type 0} (seals : Seals) (old : State K) (plain : ℕ → List ℕ) (left : List Block) (run : List (Happening K)) (exchanges : List Exchange) : Type 0 where
+record Ran {K : Type 0} (P : Type 0) (seals : Seals) (old : State K) (plain : ℕ → List ℕ) (left : List Block) (run : List (Happening K)) (exchanges : List Exchange) : Type 0 where
   next : List Block
   legal : Legal old.map.atom left exchanges next
-  here : Here (last_of old run) seals (plain_in seals old plain run) next
+  here : Here P (last_of old run) seals (plain_in seals old plain run) next
 
-run_served : {K : Type 0} (seals : Seals) (old : State K) (plain : ℕ → List ℕ) (left : List Block) (run : List (Happening K)) (exchanges : List Exchange) →
-    Here old seals plain left → IsRun old run → AreExchanges (answered_in seals old plain run) exchanges → Ran seals old plain left run exchanges
+run_served : {K P : Type 0} (seals : Seals) (old : State K) (plain : ℕ → List ℕ) (left : List Block) (run : List (Happening K)) (exchanges : List Exchange) →
+    Here P old seals plain left → IsRun old run → AreExchanges (answered_in seals old plain run) exchanges → Ran P seals old plain left run exchanges
 unfolding IsRun last_of answered_in plain_in
 run_served seals old plain left [] exchanges here is are = record { next = left; legal = legal_none old.map.atom left exchanges are; here = here }
 run_served seals old plain left (one ∷ rest) exchanges here (meets, step, is) are =
@@ -114,7 +114,8 @@ run_served seals old plain left (one ∷ rest) exchanges here (meets, step, is) 
     }
 
 -- a start is a moment
-starts_here : {K : Type 0} (start : State K) (seals : Seals) (blocks : List Block) (bytes : List ℕ) → Starts start seals blocks bytes → Here start seals no_plain blocks
+starts_here : {K : Type 0} (start : State K) (seals : Seals) (blocks : List Block) (bytes : List ℕ) → Starts start seals blocks bytes →
+    Here (StartsCovered start seals blocks) start seals no_plain blocks
 starts_here start seals blocks bytes starts =
     let none : (lane b : ℕ) (value : List ℕ) → IsTriedBy start no_plain lane b value → ⊥ = λ lane b value tried. idle start no_plain lane b value (starts.fresh.lanes lane) tried in record {
       logic = record {
@@ -132,10 +133,10 @@ starts_here start seals blocks bytes starts =
         candidates = λ b below atom contains. absurd (omega (arith, contains.1));
         settled = λ lane o is. absurd (let free = starts.fresh.lanes lane in cc);
       };
-      places = λ told is b below.
+      places = λ covered told is b below.
           place_of_some told.now (place_in start.map b) (let size = length-sealed start.map seals b (block_in blocks b).newest (cell_in told.now (place_in start.map b)).current starts.lawful
-          ((starts.covers told is).current b below) in let some = some_atom start.map.atom starts.sound.fits.known in omega (arith, size, some));
-      tables = λ told is. (let covers = starts.covers told is in record {
+          ((covered told is).current b below) in let some = some_atom start.map.atom starts.sound.fits.known in omega (arith, size, some));
+      tables = λ covered told is. (let covers = covered told is in record {
           current = λ whole b below. ((block_in blocks b).newest, inr (λ lane other tried. none lane b other tried, refl), covers.current b below);
           candidates = λ b below atom contains. (let (value, has, sealed) = covers.candidates b below atom contains in (value, inl has, sealed));
           settled = λ lane o at. absurd (let free = starts.fresh.lanes lane in cc);
@@ -143,10 +144,10 @@ starts_here start seals blocks bytes starts =
     }
 
 -- a stop at a moment leaves what is allowed
-stops_here : {K : Type 0} (state : State K) (seals : Seals) (plain : ℕ → List ℕ) (left : List Block) → Here state seals plain left → (told : Told) → state.disk.told ≡ Some told →
+stops_here : {K P : Type 0} (state : State K) (seals : Seals) (plain : ℕ → List ℕ) (left : List Block) → Here P state seals plain left → P → (told : Told) → state.disk.told ≡ Some told →
     StopsAllowed state seals plain left told.now
-stops_here state seals plain left here told is = λ image is_image b below.
-    (here.tables told is).candidates b below (value_in image (place_in state.map b)) (image_in told.now image (place_in state.map b) is_image (here.places told is b below))
+stops_here state seals plain left here premise told is = λ image is_image b below.
+    (here.tables premise told is).candidates b below (value_in image (place_in state.map b)) (image_in told.now image (place_in state.map b) is_image (here.places premise told is b below))
 
 -- every run from a start
 pub serves_each_run : {K : Type 0} (start : State K) (seals : Seals) → ServesEachRun start seals

@@ -8,6 +8,7 @@ use Rattle.sector_disk.specs.Cells.{Cell}
 use Rattle.sector_disk.specs.Steps.{Told}
 use Rattle.volume_core.specs.Asks.{wrong_ask}
 use Rattle.volume_core.specs.Contents.{StopsAllowed}
+use Rattle.volume_core.specs.Promises.{StartsCovered}
 use Rattle.volume_core.specs.Runs.{Happening, IsRun, last_of, answered_in, plain_in, no_plain, AreExchanges, Answered}
 use Rattle.volume_core.specs.Seals.{Seals}
 use Rattle.volume_core.specs.States.{State, open_at, size_of}
@@ -34,7 +35,7 @@ pub record StopsAt {K : Type 0} (start : State K) (seals : Seals) (blocks : List
   pub answered : AreExchanges (answered_in seals start no_plain earlier) first
   pub left : List Block
   pub legal : Legal start.map.atom blocks first left
-  pub allowed : (told : Told) → (last_of start earlier).disk.told ≡ Some told →
+  pub allowed : StartsCovered start seals blocks → (told : Told) → (last_of start earlier).disk.told ≡ Some told →
       StopsAllowed (last_of start earlier) seals (plain_in seals start no_plain earlier) left told.now
 
 -- a stop is allowed after each front of a run

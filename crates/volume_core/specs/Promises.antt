@@ -10,8 +10,7 @@ use Rattle.volume_core.specs.Sound.{IsSound, AreApart}
 use Rattle.volume_core.specs.States.{State, open_at}
 use Rattle.volume_core.specs.declared.open.Open.{Open}
 
--- a volume from which runs start: no operation is under way, and its disk stands for these blocks,
--- also in each image where it tells its tables
+-- a volume from which runs start: no operation is under way, and its disk stands for these blocks
 pub record Starts {K : Type 0} (start : State K) (seals : Seals) (blocks : List Block) (bytes : List ℕ) : Type 0 where
   pub sound : IsSound start
   pub fresh : IsFresh start
@@ -21,7 +20,10 @@ pub record Starts {K : Type 0} (start : State K) (seals : Seals) (blocks : List 
   pub sure : AreSure blocks
   pub values : start.disk.values ≡ Some bytes
   pub stands : StandsFor start.map seals blocks bytes
-  pub covers : (told : Told) → start.disk.told ≡ Some told → Covers start.map seals blocks told.now
+
+-- where the disk tells its tables, each image of it stands for values of these blocks too
+abbrev pub StartsCovered : {K : Type 0} → State K → Seals → List Block → Type 0
+StartsCovered start seals blocks = (told : Told) → start.disk.told ≡ Some told → Covers start.map seals blocks told.now
 
 -- The operations of a run are those of one plain disk: their history is legal; while nothing has
 -- failed the disk stands for the newest values with those of unfinished writes over them; and a stop
@@ -34,7 +36,7 @@ pub record IsServed {K : Type 0} (start : State K) (seals : Seals) (blocks : Lis
   pub values : (last_of start run).disk.values ≡ Some now
   pub stands : (last_of start run).broken ≡ false →
       StandsNow (last_of start run) seals (plain_in seals start no_plain run) left now
-  pub stops : (told : Told) → (last_of start run).disk.told ≡ Some told →
+  pub stops : StartsCovered start seals blocks → (told : Told) → (last_of start run).disk.told ≡ Some told →
       StopsAllowed (last_of start run) seals (plain_in seals start no_plain run) left told.now
 
 abbrev pub ServesEachRun : {K : Type 0} → State K → Seals → Type 0
