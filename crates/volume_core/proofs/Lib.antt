@@ -21,6 +21,7 @@ pub mod Here
 pub mod Invariant
 pub mod Locking
 pub mod PlainBlocks
+pub mod PlainStart
 pub mod Reading
 pub mod Settling
 pub mod Soundness

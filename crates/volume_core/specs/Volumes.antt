@@ -1,5 +1,7 @@
 -- A volume as its state: what it shows, what it keeps, and how it begins.
 use Rattle.std.specs.Prelude.{ℕ, ◌≡◌, ◌<◌, Bool, false, List, [], replicate, Option, None}
+use Rattle.base_terms.specs.Blocks.{blocks_of}
+use Rattle.plain_disk.specs.Plain.{Block, settled_blocks}
 use Rattle.range_lock.specs.Locks.{Locks}
 use Rattle.sector_disk.specs.Steps.{Told}
 use Rattle.segment_map.specs.declared.map.Map.{Map}
@@ -55,3 +57,7 @@ pub record IsWholeDisk (size atoms : ℕ) (map : Map) : Type 0 where
   pub blocks : map.blocks ≡ atoms
   pub sides : (block : ℕ) → block < map.blocks → side_in map block ≡ New
   pub places : (block : ℕ) → block < map.blocks → place_in map block ≡ block
+
+-- the plain disk's blocks that a whole disk begins with: each holds its atom's bytes for certain
+abbrev pub plain_blocks : {K : Type 0} → State K → List ℕ → List Block
+plain_blocks start bytes = settled_blocks (blocks_of start.map.atom start.disk.atoms bytes)
