@@ -1,25 +1,34 @@
 //! What follows for every run of events. Each law is the contract of a function that does nothing. A
 //! proof above cites it by its call.
 
-ghost use Rattle.std.specs.Prelude.{◌≡◌, ◌%◌, ℕ, List};
+ghost use Rattle.std.specs.Prelude.{◌≡◌, ◌%◌, ◌*◌, ◌++◌, [], ℕ, List, length, replicate, Some};
+ghost use Rattle.base_terms.specs.Blocks.{lengths};
+ghost use Rattle.cipher_laws.specs.Bytes.{AreBytes};
+ghost use Rattle.plain_disk.specs.Plain.{Block, Exchange};
+ghost use Rattle.sector_disk.specs.Cells.{AreSettled, content, currents};
 ghost use Rattle.sector_disk.specs.Geometry.{IsAtom};
+ghost use Rattle.sector_disk.specs.Steps.{Told};
 ghost use Rattle.volume_core.specs.Contents.{IsFresh};
 ghost use Rattle.volume_core.specs.Events.{Event, Outcome};
-ghost use Rattle.volume_core.specs.Promises.{ServesEachRun, GoesByEvents};
-ghost use Rattle.volume_core.specs.Runs.{Happening, IsRun};
+ghost use Rattle.volume_core.specs.Executing.{Executes, StopsAlong, TellsRun, ServesWithoutFaults, BreaksByFaults};
+ghost use Rattle.volume_core.specs.Promises.{Starts, StartsCovered, ServesEachRun, GoesByEvents};
+ghost use Rattle.volume_core.specs.Runs.{Happening, IsRun, last_of, answered_in, no_plain, AreExchanges};
+ghost use Rattle.volume_core.specs.Sealing.{ChangeNothing};
 ghost use Rattle.volume_core.specs.Seals.{Seals, AreLawful, seals_of};
-ghost use Rattle.volume_core.specs.Sound.{IsSound};
+ghost use Rattle.volume_core.specs.Sound.{IsSound, AreApart};
 ghost use Rattle.volume_core.specs.States.{State};
 ghost use Rattle.volume_core.specs.Steps.{Step, Meets};
+ghost use Rattle.volume_core.specs.Volumes.{IsWholeDisk, plain_blocks};
 ghost use Rattle.volume_core.specs.declared.keys.Keys.{Keys};
 
 use cipher_laws::SectorCipher;
 
 /// The operations of every run of events, on whatever lanes and in whatever order, are those of one
 /// plain disk that was asked one history. While no write or sync has failed the disk's current bytes
-/// stand for the newest values, with the values of unfinished writes over them. Wherever the run
-/// stops each image of the disk stands for a content in which each block holds its last flushed
-/// value, one written since, or one that an unfinished write has tried.
+/// stand for the newest values, with the values of unfinished writes over them. Where the disk tells
+/// its tables, and each of its images stood for values of the blocks at the start, then wherever the
+/// run stops each image stands for a content in which each block holds its last flushed value, one
+/// written since, or one that an unfinished write has tried.
 ///
 /// It speaks of a volume on which no operation is under way, whose blocks have places of their own,
 /// and whose disk tells its bytes and stands for the given blocks.
@@ -47,4 +56,60 @@ pub fn keys_seal_lawfully<C: SectorCipher>()
     ensures { (keys : Keys C) (atom : ℕ) → IsAtom atom →
         atom % C.sector keys.old ≡ 0 → atom % C.sector keys.new ≡ 0 →
         AreLawful atom (seals_of C.sealed C.opened atom keys) }
+{}
+
+/// Where nothing was executed nothing was done, and two executions, one after the other, are one.
+pub fn executions_join<C: SectorCipher>()
+    ensures none { (seals : Seals) (state : State (Keys C)) → Executes seals state state [] [] }
+    ensures joined { (seals : Seals) (old middle new : State (Keys C))
+        (xs ys : List (Happening (Keys C))) (first rest : List Exchange) →
+        Executes seals old middle xs first → Executes seals middle new ys rest →
+        Executes seals old new (xs ++ ys) (first ++ rest) }
+{}
+
+/// A run may stop after each of its events: the operations answered by then are a front of the
+/// history, and what the disk may hold is allowed there.
+pub fn runs_stop_anywhere<C: SectorCipher>()
+    ensures { (start : State (Keys C)) (seals : Seals) (blocks : List Block) (bytes : List ℕ)
+        (run : List (Happening (Keys C))) (exchanges : List Exchange) →
+        Starts start seals blocks bytes → IsRun start run →
+        AreExchanges (answered_in seals start no_plain run) exchanges →
+        StopsAlong start seals blocks run exchanges }
+{}
+
+/// Each table that a disk has had since the start of a run is the one after some of its events.
+pub fn tables_are_of_events<C: SectorCipher>()
+    ensures { (start : State (Keys C)) (run : List (Happening (Keys C))) (now : Told) →
+        IsRun start run → (last_of start run).disk.told ≡ Some now → TellsRun start run now }
+{}
+
+/// Where the count of faults stood, each operation of a run got its content or is done, or was
+/// refused with its number where it is wrong; and a volume breaks only where the count rose. This
+/// holds for disks that tell nothing too.
+pub fn runs_fail_by_faults<C: SectorCipher>()
+    ensures served { (start : State (Keys C)) (seals : Seals) (run : List (Happening (Keys C))) →
+        IsSound start → IsFresh start → AreLawful start.map.atom seals → IsRun start run →
+        ServesWithoutFaults start seals run }
+    ensures broken { (start : State (Keys C)) (seals : Seals) (run : List (Happening (Keys C))) →
+        IsSound start → IsFresh start → AreLawful start.map.atom seals → IsRun start run →
+        BreaksByFaults start run }
+{}
+
+/// The volume of a whole disk as it is stands for the plain disk that holds the disk's own atoms for
+/// certain. Where each atom of a disk that tells its tables held its value for certain, so does each
+/// image.
+pub fn plain_volumes_start<C: SectorCipher>()
+    ensures starts { (start : State (Keys C)) (seals : Seals) (bytes : List ℕ) →
+        IsSound start → IsFresh start → AreApart start.map →
+        IsWholeDisk start.map.atom start.disk.atoms start.map →
+        AreLawful start.map.atom seals → ChangeNothing seals → start.disk.values ≡ Some bytes →
+        length bytes ≡ start.disk.atoms * start.map.atom → AreBytes bytes →
+        Starts start seals (plain_blocks start bytes) bytes }
+    ensures covered { (start : State (Keys C)) (seals : Seals) (bytes : List ℕ) →
+        IsWholeDisk start.map.atom start.disk.atoms start.map → ChangeNothing seals →
+        length bytes ≡ start.disk.atoms * start.map.atom → AreBytes bytes →
+        ((told : Told) → start.disk.told ≡ Some told → AreSettled told.now
+        × (bytes ≡ content told.now)
+        × (lengths (currents told.now) ≡ replicate start.disk.atoms start.map.atom)) →
+        StartsCovered start seals (plain_blocks start bytes) }
 {}

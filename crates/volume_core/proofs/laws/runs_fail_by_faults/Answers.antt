@@ -1,0 +1,8 @@
+use Rattle.volume_core.proofs.Faultless.{serves_without_faults, breaks_by_faults}
+use Rattle.volume_core.proofs.laws.runs_fail_by_faults.Goals as goal
+
+pub returns-clause-served : goal.returns-clause-served
+returns-clause-served c _ = serves_without_faults
+
+pub returns-clause-broken : goal.returns-clause-broken
+returns-clause-broken c _ = breaks_by_faults
