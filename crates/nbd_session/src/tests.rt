@@ -319,22 +319,24 @@ fn an_option_is_refused_and_the_next_one_served(rt: HostRuntime) -> Result<(), F
 
 #[test]
 fn a_request_is_refused_and_the_next_one_served(rt: HostRuntime) -> Result<(), Fail> {
-    for (request, body, reply) in [
-        (READ_OF_NOTHING, &[] as &[Part], HAS_READ),
-        (READ_BEHIND, &[], READ_INVALID),
-        (WRITE_BEHIND, &[BLOCK], NO_SPACE),
-        (READ_FAR, &[], READ_INVALID),
-        (UNALIGNED_READ, &[], READ_INVALID),
-        (LONG_READ, &[], READ_INVALID),
-        (UNKNOWN_TYPE, &[], READ_INVALID),
-        (TRIM, &[], READ_INVALID),
-        (WRITE_ZEROES, &[], READ_INVALID),
-        (FLAGGED_READ, &[], READ_INVALID),
-        (FLAGGED_WRITE, &[BLOCK], WRITE_INVALID),
+    for (request, blocks, reply) in [
+        (READ_OF_NOTHING, 0, HAS_READ),
+        (READ_BEHIND, 0, READ_INVALID),
+        (WRITE_BEHIND, 1, NO_SPACE),
+        (READ_FAR, 0, READ_INVALID),
+        (UNALIGNED_READ, 0, READ_INVALID),
+        (LONG_READ, 0, READ_INVALID),
+        (UNKNOWN_TYPE, 0, READ_INVALID),
+        (TRIM, 0, READ_INVALID),
+        (WRITE_ZEROES, 0, READ_INVALID),
+        (FLAGGED_READ, 0, READ_INVALID),
+        (FLAGGED_WRITE, 1, WRITE_INVALID),
     ] {
         let mut sent = Vec::new(rt.alloc());
         sent.extend_from_slice(&[FLAGS, EXPORT_NAME, request])?;
-        sent.extend_from_slice(body)?;
+        for block in 0..blocks {
+            sent.push(BLOCK)?;
+        }
         sent.extend_from_slice(&[FLUSH, FLAGGED_DISCONNECT])?;
         let wanted = [GREETING, TOLD, reply, FLUSHED];
         let mut port = Block::new();
