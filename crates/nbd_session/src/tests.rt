@@ -150,22 +150,24 @@ fn end(ending: Ending, taken: usize, put: usize) -> SessionEnd {
     }
 }
 
-/// Serves a client that sends these parts, and tells whether the session took so many bytes, ended so
-/// and put exactly these parts.
+/// Serves a client that sends these parts, and then others, and tells whether the session took the
+/// first ones alone, ended so and put exactly these.
 fn is_served(
     alloc: Global,
-    sent: &[Part],
-    taken: usize,
+    taken: &[Part],
+    others: &[Part],
     ending: Ending,
     wanted: &[Part],
     port: &mut Block,
 ) -> Result<bool, AllocError> {
-    let sent = bytes_of(alloc, sent)?;
+    let mut sent = bytes_of(alloc, taken)?;
     let wanted = bytes_of(alloc, wanted)?;
+    let ended_so = end(ending, sent.len(), wanted.len());
+    sent.extend_from_slice(&bytes_of(alloc, others)?)?;
     let mut source = ListSource::new(alloc, &sent, 4096, &[])?;
     let mut sink = ListSink::new(alloc, 20000, &[])?;
     let ended = serve_session(alloc, &mut source, &mut sink, port, &EXPORT);
-    Ok(ended == end(ending, taken, wanted.len()) && sink.as_slice() == wanted.as_slice())
+    Ok(ended == ended_so && sink.as_slice() == wanted.as_slice())
 }
 
 #[test]
@@ -201,8 +203,7 @@ fn much_data_goes_out_behind_its_head(rt: HostRuntime) -> Result<(), Fail> {
 }
 
 #[test]
-fn a_session_row_cut_short_ends_within_its_message(rt: HostRuntime) -> Result<(), Fail> {
-    let sent = bytes_of(rt.alloc(), CLIENT)?;
+fn a_session_cut_short_ends_within_its_message(rt: HostRuntime) -> Result<(), Fail> {
     let wanted = bytes_of(rt.alloc(), SERVER)?;
     // the messages begin here, and so much was put by then
     let begins = [
@@ -213,21 +214,21 @@ fn a_session_row_cut_short_ends_within_its_message(rt: HostRuntime) -> Result<()
         (594, 648),
         (622, 664),
     ];
-    for length in 0..650 {
-        let mut whole = 0;
-        let mut put = 0;
-        for (begin, before) in begins {
-            if begin <= length {
-                whole = begin;
-                put = before;
+    for length in 0..650usize {
+        let mut message = (0usize, 18usize);
+        for begin in begins {
+            if begin.0 <= length {
+                message = begin;
             }
         }
-        let ending = if whole == length {
-            Ending::Closed
-        } else {
-            Ending::Truncated((length - whole) as u64)
+        let (whole, put) = message;
+        let ending = match length.saturating_sub(whole) {
+            0 => Ending::Closed,
+            n => Ending::Truncated(n as u64),
         };
-        let mut source = ListSource::new(rt.alloc(), &sent[..length], 50, &[])?;
+        let mut sent = bytes_of(rt.alloc(), CLIENT)?;
+        sent.truncate(length);
+        let mut source = ListSource::new(rt.alloc(), &sent, 50, &[])?;
         let mut sink = ListSink::new(rt.alloc(), 664, &[])?;
         let mut port = Block::new();
         let ended = serve_session(rt.alloc(), &mut source, &mut sink, &mut port, &EXPORT);
@@ -240,88 +241,77 @@ fn a_session_row_cut_short_ends_within_its_message(rt: HostRuntime) -> Result<()
 #[test]
 fn an_export_is_chosen_by_its_name(rt: HostRuntime) -> Result<(), Fail> {
     let go = &[GREETING, SIZE, BLOCK_SIZES, AGREED];
-    for (sent, taken, ending, wanted) in [
+    for (sent, others, ending, wanted) in [
         (
             &[FLAGS_WITH_ZEROES, EXPORT_NAME] as &[Part],
-            26,
+            &[] as &[Part],
             Ending::Closed,
             &[GREETING, TOLD, ZEROES] as &[Part],
         ),
-        (&[FLAGS, EXPORT_NAME], 26, Ending::Closed, &[GREETING, TOLD]),
+        (
+            &[FLAGS, EXPORT_NAME],
+            &[],
+            Ending::Closed,
+            &[GREETING, TOLD],
+        ),
         (
             &[FLAGS, EMPTY_EXPORT_NAME, DISCONNECT],
-            48,
+            &[GO],
             Ending::Disconnected,
             &[GREETING, TOLD],
         ),
         (
-            &[FLAGS, OTHER_EXPORT_NAME, GO],
-            25,
+            &[FLAGS, OTHER_EXPORT_NAME],
+            &[GO],
             Ending::UnknownExport,
             &[GREETING],
         ),
-        (&[FLAGS, GO_OF_VOLUME], 36, Ending::Closed, go),
-        (&[FLAGS_WITH_ZEROES, GO], 26, Ending::Closed, go),
-        (&[UNKNOWN_FLAGS, GO], 4, Ending::BadFlags(4), &[GREETING]),
+        (&[FLAGS, GO_OF_VOLUME], &[], Ending::Closed, go),
+        (&[FLAGS_WITH_ZEROES, GO], &[], Ending::Closed, go),
+        (&[UNKNOWN_FLAGS], &[GO], Ending::BadFlags(4), &[GREETING]),
         (
-            &[FLAGS, ABORT, GO],
-            20,
+            &[FLAGS, ABORT],
+            &[GO],
             Ending::Aborted,
             &[GREETING, ABORTED],
         ),
     ] {
-        let served = is_served(rt.alloc(), sent, taken, ending, wanted, &mut Block::new())?;
-        assert!(rt; served, "{ending:?} after {taken}");
+        let served = is_served(rt.alloc(), sent, others, ending, wanted, &mut Block::new())?;
+        assert!(rt; served, "{ending:?} of {} parts", sent.len());
     }
     Ok(())
 }
 
 #[test]
 fn an_option_is_refused_and_the_next_one_served(rt: HostRuntime) -> Result<(), Fail> {
-    for (option, size, reply) in [
-        (&[GO_MALFORMED] as &[Part], 23, GO_INVALID),
-        (&[GO_SHORT], 19, GO_INVALID),
-        (&[GO_LONG, (b"x", 4096), NO_TYPES], 4118, GO_UNKNOWN),
-        (&[GO_TOO_BIG, (b"x", 4097), NO_TYPES], 4119, GO_NAME_TOO_BIG),
-        (&[GO_OF_OTHER], 27, GO_UNKNOWN),
-        (&[LIST], 16, LIST_UNSUPPORTED),
-        (&[START_TLS], 16, START_TLS_UNSUPPORTED),
-        (&[INFO], 22, INFO_UNSUPPORTED),
-        (&[STRUCTURED_REPLY], 16, STRUCTURED_REPLY_UNSUPPORTED),
-        (
-            &[LONG_OPTION, (b"y", 65536)],
-            65552,
-            LONG_OPTION_UNSUPPORTED,
-        ),
+    for (option, name, reply) in [
+        (GO_MALFORMED, &[] as &[Part], GO_INVALID),
+        (GO_SHORT, &[], GO_INVALID),
+        (GO_LONG, &[(b"x", 4096), NO_TYPES], GO_UNKNOWN),
+        (GO_TOO_BIG, &[(b"x", 4097), NO_TYPES], GO_NAME_TOO_BIG),
+        (GO_OF_OTHER, &[], GO_UNKNOWN),
+        (LIST, &[], LIST_UNSUPPORTED),
+        (START_TLS, &[], START_TLS_UNSUPPORTED),
+        (INFO, &[], INFO_UNSUPPORTED),
+        (STRUCTURED_REPLY, &[], STRUCTURED_REPLY_UNSUPPORTED),
+        (LONG_OPTION, &[(b"y", 65536)], LONG_OPTION_UNSUPPORTED),
     ] {
         let mut sent = Vec::new(rt.alloc());
-        sent.push(FLAGS)?;
-        sent.extend_from_slice(option)?;
+        sent.extend_from_slice(&[FLAGS, option])?;
+        sent.extend_from_slice(name)?;
         sent.push(EXPORT_NAME)?;
         let wanted = [GREETING, reply, TOLD];
-        let served = is_served(
-            rt.alloc(),
-            &sent,
-            26 + size,
-            Ending::Closed,
-            &wanted,
-            &mut Block::new(),
-        )?;
-        assert!(rt; served, "an option of {size} bytes");
+        let mut port = Block::new();
+        let served = is_served(rt.alloc(), &sent, &[], Ending::Closed, &wanted, &mut port)?;
+        assert!(rt; served, "{:?}", option.0);
     }
     for (option, ending) in [
         (TOO_LONG_OPTION, Ending::TooLong(65537)),
         (OTHER_MAGIC_OPTION, Ending::BadMagic(0x4948_4156_454f_5055)),
     ] {
-        let sent = [FLAGS, option, GO];
-        let served = is_served(
-            rt.alloc(),
-            &sent,
-            20,
-            ending,
-            &[GREETING],
-            &mut Block::new(),
-        )?;
+        let sent = [FLAGS, option];
+        let mut port = Block::new();
+        let served = is_served(rt.alloc(), &sent, &[GO], ending, &[GREETING], &mut port)?;
         assert!(rt; served, "{ending:?}");
     }
     Ok(())
@@ -329,45 +319,40 @@ fn an_option_is_refused_and_the_next_one_served(rt: HostRuntime) -> Result<(), F
 
 #[test]
 fn a_request_is_refused_and_the_next_one_served(rt: HostRuntime) -> Result<(), Fail> {
-    let with_body: &[Part] = &[BLOCK];
-    for (request, body, reply) in [
-        (READ_OF_NOTHING, &[] as &[Part], HAS_READ),
-        (READ_BEHIND, &[], READ_INVALID),
-        (WRITE_BEHIND, with_body, NO_SPACE),
-        (READ_FAR, &[], READ_INVALID),
-        (UNALIGNED_READ, &[], READ_INVALID),
-        (LONG_READ, &[], READ_INVALID),
-        (UNKNOWN_TYPE, &[], READ_INVALID),
-        (TRIM, &[], READ_INVALID),
-        (WRITE_ZEROES, &[], READ_INVALID),
-        (FLAGGED_READ, &[], READ_INVALID),
-        (FLAGGED_WRITE, with_body, WRITE_INVALID),
+    for (request, blocks, reply) in [
+        (READ_OF_NOTHING, 0, HAS_READ),
+        (READ_BEHIND, 0, READ_INVALID),
+        (WRITE_BEHIND, 1, NO_SPACE),
+        (READ_FAR, 0, READ_INVALID),
+        (UNALIGNED_READ, 0, READ_INVALID),
+        (LONG_READ, 0, READ_INVALID),
+        (UNKNOWN_TYPE, 0, READ_INVALID),
+        (TRIM, 0, READ_INVALID),
+        (WRITE_ZEROES, 0, READ_INVALID),
+        (FLAGGED_READ, 0, READ_INVALID),
+        (FLAGGED_WRITE, 1, WRITE_INVALID),
     ] {
         let mut sent = Vec::new(rt.alloc());
         sent.extend_from_slice(&[FLAGS, EXPORT_NAME, request])?;
-        sent.extend_from_slice(body)?;
-        sent.extend_from_slice(&[FLUSH, FLAGGED_DISCONNECT, WRITE])?;
-        let size = 26 + 3 * 28 + 512 * body.len();
+        for block in 0..blocks {
+            sent.push(BLOCK)?;
+        }
+        sent.extend_from_slice(&[FLUSH, FLAGGED_DISCONNECT])?;
         let wanted = [GREETING, TOLD, reply, FLUSHED];
         let mut port = Block::new();
-        let served = is_served(
-            rt.alloc(),
-            &sent,
-            size,
-            Ending::Disconnected,
-            &wanted,
-            &mut port,
-        )?;
-        assert!(rt; served, "{size} bytes");
+        let ending = Ending::Disconnected;
+        let served = is_served(rt.alloc(), &sent, &[WRITE], ending, &wanted, &mut port)?;
+        assert!(rt; served, "{:?}", request.0);
         assert_eq!(rt; port.bytes, [0; 512]);
     }
     for (request, ending) in [
         (TOO_LONG_WRITE, Ending::TooLong(33_554_433)),
         (OTHER_MAGIC, Ending::BadMagic(627_086_612)),
     ] {
-        let sent = [FLAGS, EXPORT_NAME, request, BLOCK];
+        let sent = [FLAGS, EXPORT_NAME, request];
         let wanted = [GREETING, TOLD];
-        let served = is_served(rt.alloc(), &sent, 54, ending, &wanted, &mut Block::new())?;
+        let mut port = Block::new();
+        let served = is_served(rt.alloc(), &sent, &[BLOCK], ending, &wanted, &mut port)?;
         assert!(rt; served, "{ending:?}");
     }
     Ok(())
@@ -379,7 +364,7 @@ fn a_forced_write_is_submitted_so(rt: HostRuntime) -> Result<(), Fail> {
         let sent = [FLAGS, EXPORT_NAME, write, BLOCK, FORCED_READ];
         let wanted = [GREETING, TOLD, WRITTEN, HAS_READ, BLOCK];
         let mut port = Block::new();
-        let served = is_served(rt.alloc(), &sent, 594, Ending::Closed, &wanted, &mut port)?;
+        let served = is_served(rt.alloc(), &sent, &[], Ending::Closed, &wanted, &mut port)?;
         assert!(rt; served, "{forced}");
         assert_eq!(rt; port.forced, forced);
     }
@@ -399,15 +384,8 @@ fn a_request_without_memory_is_answered_so(rt: HostRuntime) -> Result<(), Fail> 
         READ_WANTS_MEMORY,
         FLUSH_WANTS_MEMORY,
     ];
-    let served = is_served(
-        rt.alloc(),
-        CLIENT,
-        650,
-        Ending::Disconnected,
-        &wanted,
-        &mut port,
-    )?;
-    assert!(rt; served);
+    let ending = Ending::Disconnected;
+    assert!(rt; is_served(rt.alloc(), CLIENT, &[GO], ending, &wanted, &mut port)?);
     Ok(())
 }
 
@@ -415,16 +393,10 @@ fn a_request_without_memory_is_answered_so(rt: HostRuntime) -> Result<(), Fail> 
 fn a_spent_port_ends_the_session(rt: HostRuntime) -> Result<(), Fail> {
     let mut port = Block::new();
     port.operations = 1;
+    let sent = [FLAGS, GO, WRITE, BLOCK, READ];
     let wanted = [GREETING, SIZE, BLOCK_SIZES, AGREED, WRITTEN];
-    let served = is_served(
-        rt.alloc(),
-        CLIENT,
-        594,
-        Ending::PortSpent,
-        &wanted,
-        &mut port,
-    )?;
-    assert!(rt; served);
+    let ending = Ending::PortSpent;
+    assert!(rt; is_served(rt.alloc(), &sent, &[FLUSH], ending, &wanted, &mut port)?);
     Ok(())
 }
 

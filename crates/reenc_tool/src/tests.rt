@@ -1,12 +1,10 @@
 mod messages;
 
 use self::messages::{
-    ABORTED, AGAIN, AGREED, BLOCK, BLOCK_SIZES, BRIEF, CLIENT, DISCONNECT, EXPORT_NAME,
-    FLAGGED_WRITE, FLUSH, FLUSHED, FORCED_WRITE, GREETING, HAS_READ, HELLO, LEAVING, LONG_READ,
-    MISTAKEN, NAMING, NO_SPACE, NO_TLS, NOT_FLUSHED, NOT_READ, NOT_WRITTEN, OTHER_MAGIC, Part,
-    READ, READ_BEHIND, READ_FAR, READ_INVALID, READ_OF_NOTHING, READER, SILENT, SIZE, STRANGER,
-    TOLD, TOO_LONG_WRITE, UNALIGNED_READ, UNKNOWN_TYPE, WARY, WRITE_BEHIND, WRITE_INVALID, WRITER,
-    WRITTEN, ZEROES, bytes_of,
+    AGAIN, AGREED, BLOCK, BLOCK_SIZES, BRIEF, BRIEF_ANSWERS, CLIENT, CUT, FLUSHED, GREETING,
+    HAS_READ, IDLE, IDLE_ANSWERS, LAVISH, LEAVING, LEAVING_ANSWERS, MISTAKEN, MISTAKEN_ANSWERS,
+    NAMING, NAMING_ANSWERS, NOT_FLUSHED, NOT_READ, NOT_WRITTEN, Part, READER, SILENT, SIZE,
+    STRANGER, STRAYING, VARIOUS, VARIOUS_ANSWERS, WARY, WARY_ANSWERS, WRITER, WRITTEN, bytes_of,
 };
 use crate::{Cause, Ended, Ending, Fit, SessionEnd, run};
 use bays::{MemBay, MemLink};
@@ -29,7 +27,7 @@ struct Outside<'a> {
     /// The calls of the bay, and of each link, that fail.
     fails: &'a [&'a [u64]],
     /// What each client sends.
-    clients: &'a [&'a [Part]],
+    clients: &'a [&'static [Part]],
     /// The most bytes that come at once.
     piece: usize,
     /// How many bytes each client takes.
@@ -175,108 +173,26 @@ fn a_session_that_goes_no_further_leaves_the_command_fine(rt: HostRuntime) -> Re
 }
 
 #[test]
-fn a_client_negotiates_in_its_own_way(rt: HostRuntime) -> Result<(), Fail> {
-    // the zeros of the block that was never written
-    let content = ("00", 512);
-    for (client, ending, taken, wanted) in [
-        (
-            NAMING,
-            Ending::Disconnected,
-            82,
-            &[GREETING, TOLD, ZEROES, HAS_READ, content] as &[Part],
-        ),
-        (
-            BRIEF,
-            Ending::Disconnected,
-            82,
-            &[GREETING, TOLD, HAS_READ, content],
-        ),
-        (MISTAKEN, Ending::UnknownExport, 25, &[GREETING]),
-        (LEAVING, Ending::Aborted, 20, &[GREETING, ABORTED]),
-        (
-            WARY,
-            Ending::Disconnected,
-            666,
-            &[
-                GREETING,
-                NO_TLS,
-                SIZE,
-                BLOCK_SIZES,
-                AGREED,
-                WRITTEN,
-                HAS_READ,
-                BLOCK,
-                FLUSHED,
-            ],
-        ),
+fn each_client_is_answered_in_its_own_way(rt: HostRuntime) -> Result<(), Fail> {
+    for (client, ending, taken, answers) in [
+        (NAMING, Ending::Disconnected, 82, NAMING_ANSWERS),
+        (BRIEF, Ending::Disconnected, 82, BRIEF_ANSWERS),
+        (MISTAKEN, Ending::UnknownExport, 25, MISTAKEN_ANSWERS),
+        (LEAVING, Ending::Aborted, 20, LEAVING_ANSWERS),
+        (WARY, Ending::Disconnected, 666, WARY_ANSWERS),
+        (VARIOUS, Ending::Disconnected, 1898, VARIOUS_ANSWERS),
+        (STRAYING, Ending::BadMagic(627_086_612), 54, IDLE_ANSWERS),
+        (LAVISH, Ending::TooLong(33_554_433), 54, IDLE_ANSWERS),
+        (CUT, Ending::Truncated(5), 31, IDLE_ANSWERS),
+        (IDLE, Ending::Closed, 26, IDLE_ANSWERS),
     ] {
         let outside = Outside {
             clients: &[client],
             ..SMALL
         };
         let (ended, _) = command(&rt, rt.alloc(), WORDS, &outside)?;
-        let wanted = bytes_of(rt.alloc(), wanted)?;
+        let wanted = bytes_of(rt.alloc(), answers)?;
         let served = end(0, ending, taken, wanted.len() as u64);
-        assert_eq!(rt; end_of(&ended, 0, 0), served);
-        assert_eq!(rt; put_of(&ended, 0, 0), Some(wanted.as_slice()), "{taken}");
-        assert_eq!(rt; (ended.status, ended.cause), (0, Cause::Fine), "{taken}");
-    }
-    Ok(())
-}
-
-#[test]
-fn each_request_has_its_answer(rt: HostRuntime) -> Result<(), Fail> {
-    let client: &[Part] = &[
-        HELLO,
-        EXPORT_NAME,
-        READ_OF_NOTHING,
-        READ_BEHIND,
-        WRITE_BEHIND,
-        BLOCK,
-        READ_FAR,
-        UNALIGNED_READ,
-        UNKNOWN_TYPE,
-        FLAGGED_WRITE,
-        BLOCK,
-        LONG_READ,
-        FORCED_WRITE,
-        BLOCK,
-        READ,
-        FLUSH,
-    ];
-    let answers = [
-        GREETING,
-        TOLD,
-        HAS_READ,
-        READ_INVALID,
-        NO_SPACE,
-        READ_INVALID,
-        READ_INVALID,
-        READ_INVALID,
-        WRITE_INVALID,
-        READ_INVALID,
-        WRITTEN,
-        HAS_READ,
-        BLOCK,
-        FLUSHED,
-    ];
-    for (last, taken, ending) in [
-        (DISCONNECT, 28, Ending::Disconnected),
-        (OTHER_MAGIC, 28, Ending::BadMagic(627_086_612)),
-        (TOO_LONG_WRITE, 28, Ending::TooLong(33_554_433)),
-        (("2560951300", 1), 5, Ending::Truncated(5)),
-        (("", 1), 0, Ending::Closed),
-    ] {
-        let mut sent = Vec::new(rt.alloc());
-        sent.extend_from_slice(client)?;
-        sent.push(last)?;
-        let outside = Outside {
-            clients: &[&sent],
-            ..SMALL
-        };
-        let (ended, _) = command(&rt, rt.alloc(), WORDS, &outside)?;
-        let wanted = bytes_of(rt.alloc(), &answers)?;
-        let served = end(0, ending, 1870 + taken, wanted.len() as u64);
         assert_eq!(rt; end_of(&ended, 0, 0), served);
         assert_eq!(rt; put_of(&ended, 0, 0), Some(wanted.as_slice()), "{taken}");
         assert_eq!(rt; (ended.status, ended.cause), (0, Cause::Fine), "{taken}");

@@ -161,6 +161,9 @@ pub const TOLD: Part = ("0000000000002000010d", 1);
 
 pub const ZEROES: Part = ("00", 124);
 
+/// A block that was never written.
+pub const NOTHING: Part = ("00", 512);
+
 pub const ABORTED: Part = ("0003e889045565a9000000020000000100000000", 1);
 
 pub const NO_TLS: Part = ("0003e889045565a9000000058000000100000000", 1);
@@ -183,6 +186,76 @@ pub const READER: &[Part] = &[HELLO, GO, READ, DISCONNECT];
 pub const AGAIN: &[Part] = &[
     HELLO, GO, WRITE, BLOCK, READ, FLUSH, READ, FLUSH, DISCONNECT,
 ];
+
+/// What the clients that negotiate in their own way get.
+pub const NAMING_ANSWERS: &[Part] = &[GREETING, TOLD, ZEROES, HAS_READ, NOTHING];
+
+pub const BRIEF_ANSWERS: &[Part] = &[GREETING, TOLD, HAS_READ, NOTHING];
+
+pub const MISTAKEN_ANSWERS: &[Part] = &[GREETING];
+
+pub const LEAVING_ANSWERS: &[Part] = &[GREETING, ABORTED];
+
+pub const WARY_ANSWERS: &[Part] = &[
+    GREETING,
+    NO_TLS,
+    SIZE,
+    BLOCK_SIZES,
+    AGREED,
+    WRITTEN,
+    HAS_READ,
+    BLOCK,
+    FLUSHED,
+];
+
+/// One that sends requests of many kinds, and what it gets.
+pub const VARIOUS: &[Part] = &[
+    HELLO,
+    EXPORT_NAME,
+    READ_OF_NOTHING,
+    READ_BEHIND,
+    WRITE_BEHIND,
+    BLOCK,
+    READ_FAR,
+    UNALIGNED_READ,
+    UNKNOWN_TYPE,
+    FLAGGED_WRITE,
+    BLOCK,
+    LONG_READ,
+    FORCED_WRITE,
+    BLOCK,
+    READ,
+    FLUSH,
+    DISCONNECT,
+];
+
+pub const VARIOUS_ANSWERS: &[Part] = &[
+    GREETING,
+    TOLD,
+    HAS_READ,
+    READ_INVALID,
+    NO_SPACE,
+    READ_INVALID,
+    READ_INVALID,
+    READ_INVALID,
+    WRITE_INVALID,
+    READ_INVALID,
+    WRITTEN,
+    HAS_READ,
+    BLOCK,
+    FLUSHED,
+];
+
+/// Clients whose session ends where a request is to come, and what they get.
+pub const STRAYING: &[Part] = &[HELLO, EXPORT_NAME, OTHER_MAGIC, READ];
+
+pub const LAVISH: &[Part] = &[HELLO, EXPORT_NAME, TOO_LONG_WRITE, READ];
+
+pub const CUT: &[Part] = &[HELLO, EXPORT_NAME, ("2560951300", 1)];
+
+pub const IDLE: &[Part] = &[HELLO, EXPORT_NAME];
+
+pub const IDLE_ANSWERS: &[Part] = &[GREETING, TOLD];
 
 /// The bytes of all parts.
 pub fn bytes_of(alloc: Global, parts: &[Part]) -> Result<Vec<u8>, Fail> {
