@@ -21,4 +21,4 @@ pub use gate::{Gate, OpenGate, Place};
 pub use seeds::{FixedSeeds, Seeds};
 pub use sink::{ListSink, Sink, VoidSink};
 pub use source::{ListSource, Source};
-pub use streams::{OsSeeds, StdSink, StdSource};
+pub use streams::{OsSeeds, StdSink, StdSource, answered};

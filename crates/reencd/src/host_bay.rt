@@ -3,11 +3,12 @@ ghost use Rattle.base_terms.specs.Causes.{Rose};
 ghost use Rattle.bays.specs.Bays.{HasBayCause};
 ghost use Rattle.reencd.specs.Shares.{AreShared, share_of};
 
+use crate::host_file::HostFile;
 use crate::host_link::{Door, HostLink};
 use crate::notices::{announce, complain};
 use base_terms::Bytes;
 use bays::{Bay, BayFault};
-use file_disk::FileDisk;
+use file_disk::{FileDisk, open_locked};
 use std::alloc::Global;
 use std::fs::{File, Files};
 use std::io::{self, ErrorKind, Read, Stderr, Stdin, Stdout};
@@ -54,6 +55,13 @@ impl<R: Files<File = File> + Net + Drop> HostBay<R> {
         }
         self.faults = self.faults.saturating_add(1);
         BayFault::Failed
+    }
+
+    /// The file or block device of that name, and how many bytes it has.
+    fn open_file(&self, alloc: Global, name: &str) -> io::Result<(HostFile, u64)> {
+        let kept_name = String::from_str(alloc, name)?;
+        let (file, len) = open_locked(&self.machine, name)?;
+        Ok((HostFile::new(alloc, self.errors, kept_name, file), len))
     }
 
     /// The whole file of that name, cut behind the most bytes of a key.
@@ -127,7 +135,7 @@ fn share_for(workers: u32, sessions: u32, k: u32) -> u32
 }
 
 impl<R: Files<File = File> + Net + Drop> Bay for HostBay<R> {
-    type Disk = FileDisk;
+    type Disk = FileDisk<HostFile>;
 
     type Link = HostLink<R>;
 
@@ -137,9 +145,14 @@ impl<R: Files<File = File> + Net + Drop> Bay for HostBay<R> {
 
     ghost faults = { λ bay. bay.faults };
 
-    fn disk(&mut self, alloc: Global, name: &str, atom: u32) -> Result<FileDisk, BayFault> {
-        match FileDisk::open(&self.machine, name, atom) {
-            Ok(disk) => Ok(disk),
+    fn disk(
+        &mut self,
+        alloc: Global,
+        name: &str,
+        atom: u32,
+    ) -> Result<FileDisk<HostFile>, BayFault> {
+        match self.open_file(alloc, name) {
+            Ok((file, len)) => Ok(FileDisk::new(file, len, atom)),
             Err(error) => Err(self.refused(alloc, name, &error)),
         }
     }

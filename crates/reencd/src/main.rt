@@ -4,12 +4,16 @@
 #![tactic(auto)]
 
 mod host_bay;
+mod host_file;
 mod host_link;
 mod notices;
 mod streams;
+#[cfg(test)]
+mod tests;
 
 use file_disk::FileDisk;
 use host_bay::HostBay;
+use host_file::HostFile;
 use host_link::HostLink;
 use io_edge::{OpenGate, OsSeeds, StdSink};
 use reenc_tool::{Cause, Ended, run};
@@ -28,7 +32,7 @@ fn main(rt: HostRuntime) -> ExitCode {
     };
     let mut bay = HostBay::new(rt, rt.stdin(), rt.stdout(), rt.stderr());
     let mut seeds = OsSeeds::new(rt);
-    let ended: Ended<FileDisk, HostLink<HostRuntime>> = run(
+    let ended: Ended<FileDisk<HostFile>, HostLink<HostRuntime>> = run(
         &rt,
         rt.alloc(),
         words.as_slice(),
