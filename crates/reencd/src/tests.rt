@@ -7,7 +7,7 @@ use base_terms::Failed;
 use bays::{Bay, BayFault, Link};
 use file_disk::FileDisk;
 use io_edge::{ListSink, OpenGate, OsSeeds};
-use reenc_tool::{Cause, Ended, run};
+use reenc_tool::{Ended, run};
 use sector_disk::Disk;
 use std::alloc::Global;
 use std::cell::Cell;
@@ -16,47 +16,65 @@ use std::io::{self, ErrorKind, Read, Write};
 use std::net::{Net, OpenListener, SocketAddr, TcpListener, TcpStream};
 use std::os::fd::{AsRawFd, RawFd};
 use std::rc::Rc;
+use std::sync::Wait;
 use std::test::Fail;
-use std::thread;
+use std::thread::{self, Threads};
 use std::time::{Clock, Duration};
 
-/// Bytes in hexadecimal.
-const HELLO: &str = "00000003";
+/// Bytes in hexadecimal, and how often they come.
+type Part = (&'static str, usize);
 
-const GO: &str = "49484156454f50540000000700000006000000000000";
+/// What a client sends that agrees on the export, writes the first block, reads it, flushes and
+/// disconnects.
+const SENT: &[Part] = &[
+    ("00000003", 1),
+    ("49484156454f50540000000700000006000000000000", 1),
+    (
+        "25609513000000010000000000000001000000000000000000000200",
+        1,
+    ),
+    ("a5", 512),
+    (
+        "25609513000000000000000000000002000000000000000000000200",
+        1,
+    ),
+    (
+        "25609513000000030000000000000003000000000000000000000000",
+        1,
+    ),
+    (
+        "25609513000000020000000000000004000000000000000000000000",
+        1,
+    ),
+];
 
-const WRITE: &str = "25609513000000010000000000000001000000000000000000000200";
+/// What it is answered: the greeting; an export of 8192 bytes with flushes, FUA and several connections
+/// at once; its blocks, of 512 bytes or more, best 4096, and 32 MiB at most; that it is agreed; and the
+/// replies to the write, to the read, with the block, and to the flush.
+const ANSWERED: &[Part] = &[
+    ("4e42444d4147494349484156454f50540003", 1),
+    (
+        "0003e889045565a900000007000000030000000c00000000000000002000010d",
+        1,
+    ),
+    (
+        "0003e889045565a900000007000000030000000e0003000002000000100002000000",
+        1,
+    ),
+    ("0003e889045565a9000000070000000100000000", 1),
+    ("67446698000000000000000000000001", 1),
+    ("67446698000000000000000000000002", 1),
+    ("a5", 512),
+    ("67446698000000000000000000000003", 1),
+];
 
-const READ: &str = "25609513000000000000000000000002000000000000000000000200";
-
-const FLUSH: &str = "25609513000000030000000000000003000000000000000000000000";
-
-const DISCONNECT: &str = "25609513000000020000000000000004000000000000000000000000";
-
-const GREETING: &str = "4e42444d4147494349484156454f50540003";
-
-/// An export of 8192 bytes, with flushes, FUA and several connections at once.
-const SIZE: &str = "0003e889045565a900000007000000030000000c00000000000000002000010d";
-
-/// Blocks of at least 512 bytes, best 4096, and 32 MiB at most.
-const BLOCK_SIZES: &str = "0003e889045565a900000007000000030000000e0003000002000000100002000000";
-
-const AGREED: &str = "0003e889045565a9000000070000000100000000";
-
-const WRITTEN: &str = "67446698000000000000000000000001";
-
-const HAS_READ: &str = "67446698000000000000000000000002";
-
-const FLUSHED: &str = "67446698000000000000000000000003";
-
-/// The bytes of all parts, where each `block` is one of 512 bytes.
-fn bytes_of(alloc: Global, parts: &[&str]) -> Result<Vec<u8>, Fail> {
+/// The bytes of all parts.
+fn bytes_of(alloc: Global, parts: &[Part]) -> Result<Vec<u8>, Fail> {
     let mut bytes = Vec::new(alloc);
-    for part in parts {
-        if *part == "block" {
-            bytes.extend_from_slice(&[0xa5; 512])?;
-        } else {
-            bytes.extend_from_slice(&hex::decode(alloc, *part)?)?;
+    for (part, times) in parts {
+        let part = hex::decode(alloc, *part)?;
+        for _ in 0..*times {
+            bytes.extend_from_slice(&part)?;
         }
     }
     Ok(bytes)
@@ -92,59 +110,55 @@ fn ask<R: Net + Clock>(
     Ok(answer)
 }
 
-#[test]
-fn a_client_over_tcp_is_served_from_a_file(rt: HostRuntime) -> Result<(), Fail> {
-    let path = "reencd_served.img";
-    File::create(&rt, path)?.set_len(8192)?;
-    let alloc = rt.alloc();
-    let sent = bytes_of(alloc, &[HELLO, GO, WRITE, "block", READ, FLUSH, DISCONNECT])?;
-    let wanted = bytes_of(
-        alloc,
-        &[
-            GREETING,
-            SIZE,
-            BLOCK_SIZES,
-            AGREED,
-            WRITTEN,
-            HAS_READ,
-            "block",
-            FLUSHED,
-        ],
-    )?;
-    let address = free_address(&rt)?;
-    let client = thread::spawn(&rt, move || ask(&rt, alloc, address, &sent))?;
-    let mut words = Vec::new(alloc);
-    for word in ["serve", path, "--plain", "--atom", "512", "--listen"] {
-        words.push(String::from_str(alloc, word)?)?;
+fn bay_of(rt: HostRuntime) -> HostBay<HostRuntime> {
+    HostBay::new(rt, rt.stdin(), rt.stdout(), rt.stderr())
+}
+
+/// Runs the command of these words on the machine, and gives its status and the text that it printed.
+fn command(
+    threads: &(impl Threads + Wait + Sync),
+    rt: HostRuntime,
+    words: &str,
+) -> Result<(u8, ListSink), Fail> {
+    let mut list = Vec::new(rt.alloc());
+    for word in words.split(' ') {
+        list.push(String::from_str(rt.alloc(), word)?)?;
     }
-    words.push(address.to_string(alloc)?)?;
-    for word in ["--sessions", "1"] {
-        words.push(String::from_str(alloc, word)?)?;
-    }
-    let mut bay = HostBay::new(rt, rt.stdin(), rt.stdout(), rt.stderr());
+    let mut bay = bay_of(rt);
     let mut seeds = OsSeeds::new(rt);
-    let mut out = ListSink::new(alloc, 100, &[])?;
+    let mut out = ListSink::new(rt.alloc(), 100, &[])?;
     let ended: Ended<FileDisk<HostFile>, HostLink<HostRuntime>> = run(
-        &rt,
-        alloc,
-        words.as_slice(),
+        threads,
+        rt.alloc(),
+        &list,
         &mut bay,
         &mut seeds,
         &mut out,
         &OpenGate,
     );
-    assert_eq!(rt; client.join(&rt)?.as_slice(), wanted.as_slice());
-    assert_eq!(rt; (ended.status, ended.cause), (0, Cause::Fine));
-    assert_eq!(rt; out.as_slice(), b"served 1 sessions\n".as_slice());
-    drop(ended);
-    let kept = fs::read(&rt, path)?;
-    assert_eq!(rt; &kept[..512], [0xa5; 512].as_slice());
-    assert_eq!(rt; &kept[512..], [0; 7680].as_slice());
-    Ok(fs::remove_file(&rt, path)?)
+    Ok((ended.status, out))
 }
 
-fn bay_of(rt: HostRuntime) -> HostBay<HostRuntime> {
-    HostBay::new(rt, rt.stdin(), rt.stdout(), rt.stderr())
+#[test]
+fn a_client_over_tcp_is_served_from_a_file(rt: HostRuntime) -> Result<(), Fail> {
+    let path = "reencd_served.img";
+    File::create(&rt, path)?.set_len(8192)?;
+    let alloc = rt.alloc();
+    let sent = bytes_of(alloc, SENT)?;
+    let wanted = bytes_of(alloc, ANSWERED)?;
+    let address = free_address(&rt)?;
+    let client = thread::spawn(&rt, move || ask(&rt, alloc, address, &sent))?;
+    let words = format!(in alloc;
+        "serve {path} --plain --atom 512 --listen {address} --sessions 1"
+    )?;
+    let (status, out) = command(&rt, rt, words.as_str())?;
+    assert_eq!(rt; client.join(&rt)?.as_slice(), wanted.as_slice());
+    assert_eq!(rt; status, 0);
+    assert_eq!(rt; out.as_slice(), b"served 1 sessions\n".as_slice());
+    let mut kept = [0; 8192];
+    kept[..512].fill(0xa5);
+    assert_eq!(rt; fs::read(&rt, path)?.as_slice(), kept.as_slice());
+    Ok(fs::remove_file(&rt, path)?)
 }
 
 #[test]
