@@ -1,10 +1,10 @@
-# nbdinfo over TCP and over standard input and output.
+# nbdinfo: the size, what the export can do, and its block sizes.
 . "$(dirname "$0")/common.sh"
 needs nbdinfo
 truncate -s 3M "$room/disk.img"
 serve "$room/disk.img" 512 100
 uri=nbd://127.0.0.1:$port
-expect "size over TCP" "$(nbdinfo --size "$uri")" 3145728
+expect size "$(nbdinfo --size "$uri")" 3145728
 for can in flush fua multi-conn; do
     nbdinfo --can "$can" "$uri"
     expect "status of --can $can" "$?" 0
@@ -20,5 +20,3 @@ cat "$room/all"
 expect "block sizes" "$(sed -n 's/.*block_size_\(.*\): \([0-9]*\).*/\1 \2/p' "$room/all" | tr '\n' ' ')" \
     "minimum 512 preferred 4096 maximum 33554432 "
 stop TERM
-size=$(nbdinfo --size -- [ "$reencd" serve "$room/disk.img" --plain --atom 512 --listen stdio --sessions 1 ])
-expect "size over standard input and output" "$size" 3145728

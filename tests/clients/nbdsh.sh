@@ -1,4 +1,4 @@
-# libnbd in Python: each request, and what is out of range.
+# libnbd in Python: each request, what is out of range, and a session over standard input and output.
 . "$(dirname "$0")/common.sh"
 for python in python3 /usr/bin/python3 none; do
     [ "$python" != none ] || { echo "skipped: Python has no module nbd"; exit 77; }
@@ -51,3 +51,18 @@ assert h.pread(512, 0) == BLOCK, "the session goes on"
 h.shutdown()
 PYTHON
 served 1
+
+REENCD=$reencd DISK=$room/disk.img "$python" -m nbd -c - <<'PYTHON' || fail "libnbd over standard input and output"
+import os
+
+words = ["serve", os.environ["DISK"], *"--plain --atom 4096 --listen stdio --sessions 1".split()]
+h.connect_command([os.environ["REENCD"], *words])
+assert h.get_size() == 64 << 20
+assert h.get_block_size(nbd.SIZE_MINIMUM) == 4096
+assert h.pread(4096, 0) == bytes(range(256)) * 16
+h.pwrite(bytes(4096), 0)
+h.flush()
+assert h.pread(4096, 0) == bytes(4096)
+h.shutdown()
+print("write, read, flush over standard input and output")
+PYTHON
