@@ -63,6 +63,7 @@ assert h.pread(4096, 0) == bytes(range(256)) * 16
 h.pwrite(bytes(4096), 0)
 h.flush()
 assert h.pread(4096, 0) == bytes(4096)
-h.shutdown()
+# the server's own line follows the session, which a client that waits for the end takes for a reply
+h.aio_disconnect()
 print("write, read, flush over standard input and output")
 PYTHON
