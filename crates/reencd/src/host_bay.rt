@@ -12,7 +12,7 @@ use file_disk::{FileDisk, open_locked};
 use std::alloc::Global;
 use std::fs::{File, Files};
 use std::io::{self, ErrorKind, Read, Stderr, Stdin, Stdout};
-use std::net::{Net, TcpListener};
+use std::net::{Net, TcpListener, TcpStream};
 
 /// The most bytes that are taken of a key file.
 const MAX_KEY: u64 = 513;
@@ -22,7 +22,7 @@ const MAX_KEY: u64 = 513;
 /// any that is free), or `stdio`, where standard input and output are the one client. What the system
 /// refuses is said on standard error, and so is where clients may connect.
 #[derive(Drop)]
-pub struct HostBay<R: Files<File = File> + Net + Drop> {
+pub struct HostBay<R: Files<File = File> + Net<Stream = TcpStream> + Drop> {
     machine: R,
     input: Stdin,
     output: Stdout,
@@ -30,7 +30,7 @@ pub struct HostBay<R: Files<File = File> + Net + Drop> {
     faults: u64,
 }
 
-impl<R: Files<File = File> + Net + Drop> HostBay<R> {
+impl<R: Files<File = File> + Net<Stream = TcpStream> + Drop> HostBay<R> {
     /// A bay of this machine, with these standard streams.
     pub fn new(machine: R, input: Stdin, output: Stdout, errors: Stderr) -> HostBay<R>
         ensures { result.faults ≡ 0 }
@@ -134,7 +134,7 @@ fn share_for(workers: u32, sessions: u32, k: u32) -> u32
     }
 }
 
-impl<R: Files<File = File> + Net + Drop> Bay for HostBay<R> {
+impl<R: Files<File = File> + Net<Stream = TcpStream> + Drop> Bay for HostBay<R> {
     type Disk = FileDisk<HostFile>;
 
     type Link = HostLink<R>;

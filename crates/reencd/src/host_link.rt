@@ -6,27 +6,30 @@ use crate::notices::complain;
 use crate::streams::{HostReader, HostWriter};
 use base_terms::Failed;
 use bays::Link;
-use io_edge::{StdSink, StdSource};
+use io_edge::{GatheringWriter, StdSink, StdSource};
 use std::alloc::Global;
-use std::io::{self, BufReader, BufWriter, ErrorKind, Stderr, Stdin, Stdout};
-use std::net::{Net, OpenListener, OpenStream};
+use std::io::{self, BufReader, ErrorKind, Stderr, Stdin, Stdout};
+use std::net::{Net, OpenListener, TcpStream};
+
+/// How many bytes a connection reads ahead and holds back at most.
+const ROOM: usize = 8192;
 
 /// The source of a connection. It reads ahead, so that a request and the beginning of its data come by
 /// one call of the system.
-pub type HostSource<S> = StdSource<BufReader<HostReader<S>>>;
+pub type HostSource = StdSource<BufReader<HostReader>>;
 
-/// The sink of a connection. It holds back short pieces until they are pushed out, so that a reply
-/// and its data leave by one call of the system.
-pub type HostSink<S> = StdSink<BufWriter<HostWriter<S>>>;
+/// The sink of a connection. It holds short pieces back until they are pushed out or a long one
+/// follows, so that a reply and its data leave by one call of the system.
+pub type HostSink = StdSink<GatheringWriter<HostWriter>>;
 
 /// A source and a sink over the two ends of a connection. It fails only where memory is wanted.
-fn connection<S: io::Read + io::Write + Drop>(
+fn connection(
     alloc: Global,
-    reader: HostReader<S>,
-    writer: HostWriter<S>,
-) -> io::Result<(HostSource<S>, HostSink<S>)> {
-    let source = StdSource::new(BufReader::new(alloc, reader)?);
-    let sink = StdSink::new(BufWriter::new(alloc, writer)?);
+    reader: HostReader,
+    writer: HostWriter,
+) -> io::Result<(HostSource, HostSink)> {
+    let source = StdSource::new(BufReader::with_capacity(alloc, ROOM, reader)?);
+    let sink = StdSink::new(GatheringWriter::new(alloc, ROOM, writer)?);
     Ok((source, sink))
 }
 
@@ -52,7 +55,7 @@ impl<L: OpenListener + Drop> Door<L> {
 /// A link of the machine. It gives as many connections as its sessions are, one after the other, and
 /// then none. Where the system refuses one, that is said on standard error.
 #[derive(Drop)]
-pub struct HostLink<R: Net> {
+pub struct HostLink<R: Net<Stream = TcpStream>> {
     door: Door<R::Listener>,
     address: String,
     alloc: Global,
@@ -63,7 +66,7 @@ pub struct HostLink<R: Net> {
     ghost few: { lent + left < 2 ^ 32 },
 }
 
-impl<R: Net> HostLink<R> {
+impl<R: Net<Stream = TcpStream>> HostLink<R> {
     /// A link whose clients come in by this door, `sessions` of them. The address is what is told of
     /// it on standard error.
     pub fn new(
@@ -90,10 +93,10 @@ impl<R: Net> HostLink<R> {
 }
 
 /// The next client at the door.
-fn admit<R: Net>(
+fn admit<R: Net<Stream = TcpStream>>(
     alloc: Global,
     door: &Door<R::Listener>,
-) -> io::Result<(HostSource<R::Stream>, HostSink<R::Stream>)> {
+) -> io::Result<(HostSource, HostSink)> {
     match door {
         Door::Standard(input, output) => connection(
             alloc,
@@ -124,10 +127,10 @@ fn accept<L: OpenListener>(listener: &L) -> io::Result<L::Stream> {
     Err(io::Error::from(ErrorKind::ConnectionAborted))
 }
 
-impl<R: Net> Link for HostLink<R> {
-    type In = HostSource<R::Stream>;
+impl<R: Net<Stream = TcpStream>> Link for HostLink<R> {
+    type In = HostSource;
 
-    type Out = HostSink<R::Stream>;
+    type Out = HostSink;
 
     ghost told = { λ _. None };
 

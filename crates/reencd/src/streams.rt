@@ -1,13 +1,15 @@
-use std::io::{self, Read, Stdin, Stdout, Write};
+use io_edge::WritePair;
+use std::io::{self, IoSlice, Read, Stdin, Stdout, Write};
+use std::net::TcpStream;
 
 /// What a connection is read from.
 #[derive(Drop)]
-pub enum HostReader<S: Drop> {
+pub enum HostReader {
     Standard(Stdin),
-    Socket(S),
+    Socket(TcpStream),
 }
 
-impl<S: Read + Drop> Read for HostReader<S> {
+impl Read for HostReader {
     fn read(&mut self, buf: &mut [u8]) -> io::Result<usize> {
         match self {
             HostReader::Standard(input) => input.read(buf),
@@ -18,12 +20,12 @@ impl<S: Read + Drop> Read for HostReader<S> {
 
 /// What a connection is written to.
 #[derive(Drop)]
-pub enum HostWriter<S: Drop> {
+pub enum HostWriter {
     Standard(Stdout),
-    Socket(S),
+    Socket(TcpStream),
 }
 
-impl<S: Write + Drop> Write for HostWriter<S> {
+impl Write for HostWriter {
     fn write(&mut self, buf: &[u8]) -> io::Result<usize> {
         match self {
             HostWriter::Standard(output) => output.write(buf),
@@ -35,6 +37,18 @@ impl<S: Write + Drop> Write for HostWriter<S> {
         match self {
             HostWriter::Standard(output) => output.flush(),
             HostWriter::Socket(stream) => stream.flush(),
+        }
+    }
+}
+
+impl WritePair for HostWriter {
+    fn write_pair(&mut self, first: &[u8], second: &[u8]) -> io::Result<usize> {
+        match self {
+            HostWriter::Standard(output) if first.is_empty() => output.write(second),
+            HostWriter::Standard(output) => output.write(first),
+            HostWriter::Socket(stream) => {
+                stream.write_vectored(&[IoSlice::new(first), IoSlice::new(second)])
+            }
         }
     }
 }
