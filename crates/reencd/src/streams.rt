@@ -47,7 +47,7 @@ impl WritePair for HostWriter {
             HostWriter::Standard(output) if first.is_empty() => output.write(second),
             HostWriter::Standard(output) => output.write(first),
             HostWriter::Socket(stream) => {
-                stream.write_vectored(&[IoSlice::new(first), IoSlice::new(second)])
+                TcpStream::write_vectored(stream, &[IoSlice::new(first), IoSlice::new(second)])
             }
         }
     }
