@@ -6,6 +6,7 @@ ghost use Rattle.sector_disk.specs.Geometry.{is_atom, IsAtom, IsInDisk};
 
 use crate::PositionedFile;
 use base_terms::Failed;
+use io_edge::answered;
 use sector_disk::Disk;
 use std::fs::{File, Files, TryLockError};
 use std::io::{self, ErrorKind, Seek, SeekFrom};
@@ -30,25 +31,36 @@ pub struct FileDisk<F: PositionedFile = File> {
 }
 
 impl FileDisk<File> {
-    /// Opens the file of that name for reading and writing, in atoms of 512 or 4096 bytes, as many as
-    /// are whole in it and lie below `2^63` bytes; of a block device its size counts. The disk holds
-    /// the file's exclusive advisory lock until it is dropped.
+    /// A disk on the file of that name, in atoms of 512 or 4096 bytes, as many as are whole in it and
+    /// lie below `2^63` bytes. The file is opened as by [`open_locked`], and locked until the disk is
+    /// dropped.
     ///
     /// # Errors
     ///
-    /// What the system said where it doesn't open, lock or measure the file, as `NotFound`; of the
-    /// kind `WouldBlock` where another open of the file holds a lock. Of the kind `OutOfMemory` where
-    /// the system wants memory; the call itself takes none. Nothing stays open or locked.
+    /// Those of [`open_locked`].
     pub fn open<R: Files<File = File>>(rt: &R, path: &str, atom: u32) -> io::Result<FileDisk<File>>
         requires { IsAtom atom }
         ensures atom { IfOk result (λ disk. ⟦<FileDisk<File> as Disk>⟧.size disk ≡ atom) }
         ensures faults { IfOk result (λ disk. ⟦<FileDisk<File> as Disk>⟧.faults disk ≡ 0) }
     {
-        let mut file = File::options().read(true).write(true).open(rt, path)?;
-        lock(&file)?;
-        let len = file.seek(SeekFrom::End(0))?;
+        let (file, len) = open_locked(rt, path)?;
         Ok(FileDisk::new(file, len, atom))
     }
+}
+
+/// Opens the file or block device of that name for reading and writing, takes its exclusive advisory
+/// lock, which the open file keeps, and measures it in bytes.
+///
+/// # Errors
+///
+/// What the system said where it doesn't open, lock or measure the file, as `NotFound`; of the kind
+/// `WouldBlock` where another open of the file holds a lock. Of the kind `OutOfMemory` where the system
+/// wants memory; the call itself takes none. Nothing stays open or locked.
+pub fn open_locked<R: Files<File = File>>(rt: &R, path: &str) -> io::Result<(File, u64)> {
+    let mut file = File::options().read(true).write(true).open(rt, path)?;
+    lock(&file)?;
+    let len = file.seek(SeekFrom::End(0))?;
+    Ok((file, len))
 }
 
 /// Takes the file's exclusive advisory lock, or fails where another open of the file holds one.
@@ -64,7 +76,8 @@ fn lock(file: &File) -> io::Result<()> {
 }
 
 impl<F: PositionedFile> FileDisk<F> {
-    /// A disk on an open file of `len` bytes, as [`FileDisk::open`] makes it once it has the file.
+    /// A disk on an open file of `len` bytes, as [`FileDisk::open`] makes it once it has the file:
+    /// its whole atoms that lie below `2^63` bytes.
     /// Nobody else is to write there while it lives.
     pub fn new(file: F, len: u64, atom: u32) -> FileDisk<F>
         requires { IsAtom atom }
@@ -164,19 +177,4 @@ impl<F: PositionedFile> Disk for FileDisk<F> {
     fn mark(&mut self, _number: u64)
         ensures nothing { self.new ≡ self.old }
     {}
-}
-
-/// What the system answered, of which a failure is counted.
-fn answered(done: io::Result<()>, faults: &mut u64) -> Result<(), Failed>
-    ensures same { is_ok result ≡ is_ok done }
-    ensures cause { HasCause faults.old faults.new result }
-    ensures counts { Counts faults.old faults.new result }
-{
-    match done {
-        Ok(()) => Ok(()),
-        Err(_) => {
-            *faults = faults.saturating_add(1);
-            Err(Failed)
-        }
-    }
 }

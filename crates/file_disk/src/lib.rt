@@ -10,5 +10,5 @@
 mod file_disk;
 mod positioned_file;
 
-pub use file_disk::FileDisk;
+pub use file_disk::{FileDisk, open_locked};
 pub use positioned_file::PositionedFile;

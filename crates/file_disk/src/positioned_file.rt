@@ -1,7 +1,7 @@
 ghost use Rattle.std.specs.Prelude.{ℕ, List, Bool, is_ok};
 
 use std::fs::File;
-use std::io;
+use std::io::{self, ErrorKind};
 use std::os::unix::fs::FileExt;
 
 /// A file that is read and written at places, counted in bytes from its start. What its calls do is
@@ -38,7 +38,13 @@ impl PositionedFile for File {
     ghost syncs = { λ _ _ _. Unit {0} };
 
     fn read_exact_at(&mut self, buf: &mut [u8], from: u64) -> io::Result<()> {
-        FileExt::read_exact_at(self, buf, from)
+        match FileExt::read_exact_at(self, buf, from) {
+            Err(error) if error.kind() == ErrorKind::UnexpectedEof => {
+                let message = "the file was cut short";
+                Err(io::Error::new(ErrorKind::UnexpectedEof, message))
+            }
+            done => done,
+        }
     }
 
     fn write_all_at(&mut self, bytes: &[u8], from: u64) -> io::Result<()> {

@@ -9,6 +9,7 @@
 
 mod fault_plan;
 mod gate;
+mod gathering;
 mod seeds;
 mod sink;
 mod source;
@@ -18,7 +19,8 @@ mod tests;
 
 pub use fault_plan::FaultPlan;
 pub use gate::{Gate, OpenGate, Place};
+pub use gathering::{GatheringWriter, WritePair};
 pub use seeds::{FixedSeeds, Seeds};
 pub use sink::{ListSink, Sink, VoidSink};
 pub use source::{ListSource, Source};
-pub use streams::{OsSeeds, StdSink, StdSource};
+pub use streams::{OsSeeds, StdSink, StdSource, answered};

@@ -1,4 +1,4 @@
-ghost use Rattle.std.specs.Prelude.{◌≡◌, ◌≢◌, ℕ, ◌≤◌, List, length, None, Ok, IfOk, IfErr, OnOk, IsErr, MatchResult};
+ghost use Rattle.std.specs.Prelude.{◌≡◌, ◌≢◌, ℕ, ◌≤◌, List, length, None, Ok, IfOk, IfErr, OnOk, is_ok, IsErr, MatchResult};
 ghost use Rattle.std.specs.IoError.{error_kind};
 ghost use Rattle.std.specs.Io.KnownBytes.{ReadConsumes, Appends, Keeps};
 ghost use Rattle.base_terms.specs.Causes.{HasCause};
@@ -133,8 +133,9 @@ impl<R: RandomSource + Drop> Seeds for OsSeeds<R> {
     }
 }
 
-/// What std answered, of which a failure is counted.
-fn answered<T>(done: io::Result<T>, faults: &mut u64) -> Result<T, Failed>
+/// What the system answered, of which a failure is counted, up to the last value of the count.
+pub fn answered<T>(done: io::Result<T>, faults: &mut u64) -> Result<T, Failed>
+    ensures same { is_ok result ≡ is_ok done }
     ensures value { MatchResult done (λ value. result ≡ Ok value) (λ _. IsErr result) }
     ensures cause { HasCause faults.old faults.new result }
     ensures counts { Counts faults.old faults.new result }

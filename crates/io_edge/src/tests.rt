@@ -1,6 +1,6 @@
 use crate::{
-    FaultPlan, FixedSeeds, Gate, ListSink, ListSource, OpenGate, OsSeeds, Place, Seeds, Sink,
-    Source, StdSink, StdSource, VoidSink,
+    FaultPlan, FixedSeeds, Gate, GatheringWriter, ListSink, ListSource, OpenGate, OsSeeds, Place,
+    Seeds, Sink, Source, StdSink, StdSource, VoidSink, WritePair,
 };
 use base_terms::Failed;
 use std::io::{self, ErrorKind, Read, Write};
@@ -152,6 +152,49 @@ fn a_sink_fails_where_its_writer_takes_nothing_or_cannot_flush(rt: HostRuntime) 
     );
     assert_eq!(rt; sink.push_out(), Err(Failed));
     assert_eq!(rt; sink.put(b""), Ok(()), "a piece that is empty");
+}
+
+/// A text in memory that takes at most `most` bytes a call.
+#[derive(Drop)]
+struct Slow {
+    text: Vec<u8>,
+    most: usize,
+}
+
+impl Write for Slow {
+    fn write(&mut self, buf: &[u8]) -> io::Result<usize> {
+        self.write_pair(buf, &[])
+    }
+
+    fn flush(&mut self) -> io::Result<()> {
+        Ok(())
+    }
+}
+
+impl WritePair for Slow {
+    fn write_pair(&mut self, first: &[u8], second: &[u8]) -> io::Result<usize> {
+        let of_first = first.len().min(self.most);
+        let of_second = second.len().min(self.most - of_first);
+        self.text.extend_from_slice(&first[..of_first])?;
+        self.text.extend_from_slice(&second[..of_second])?;
+        Ok(of_first + of_second)
+    }
+}
+
+#[test]
+fn a_gathering_writer_writes_all_in_order(rt: HostRuntime) -> Result<(), Fail> {
+    let pieces: [&[u8]; 5] = [b"abc", b"defghijklmno", b"p", b"qr", b"stuvw"];
+    for most in [1, 2, 3, 4, 7, 100] {
+        let text = Vec::new(rt.alloc());
+        let mut writer = GatheringWriter::new(rt.alloc(), 4, Slow { text, most })?;
+        for piece in pieces {
+            writer.write_all(piece)?;
+        }
+        writer.flush()?;
+        let seen = writer.writer().text.as_slice();
+        assert_eq!(rt; seen, b"abcdefghijklmnopqrstuvw".as_slice(), "{most}");
+    }
+    Ok(())
 }
 
 /// A system without randomness.

@@ -1,1 +1,1 @@
-pub mod Connections
+pub mod Shares

@@ -3,12 +3,20 @@
 //! stands here is the trusted edge to the machine.
 #![tactic(auto)]
 
-mod host;
+mod host_bay;
+mod host_file;
+mod host_link;
+mod notices;
+mod streams;
+#[cfg(test)]
+mod tests;
 
-use host::HostBay;
+use file_disk::FileDisk;
+use host_bay::HostBay;
+use host_file::HostFile;
+use host_link::HostLink;
 use io_edge::{OpenGate, OsSeeds, StdSink};
 use reenc_tool::{Cause, Ended, run};
-use sector_disk::RamDisk;
 use std::env;
 use std::io::ErrorKind;
 use std::process::ExitCode;
@@ -22,9 +30,9 @@ fn main(rt: HostRuntime) -> ExitCode {
     let Ok(words) = words.skip(1).collect::<Vec<String>>(rt.alloc()) else {
         return ended_early(&rt, ErrorKind::OutOfMemory);
     };
-    let mut bay = HostBay::new(rt.stdin(), rt.stdout());
+    let mut bay = HostBay::new(rt, rt.stdin(), rt.stdout(), rt.stderr());
     let mut seeds = OsSeeds::new(rt);
-    let ended: Ended<RamDisk, host::HostLink> = run(
+    let ended: Ended<FileDisk<HostFile>, HostLink<HostRuntime>> = run(
         &rt,
         rt.alloc(),
         words.as_slice(),

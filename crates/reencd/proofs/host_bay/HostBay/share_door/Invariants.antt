@@ -1,0 +1,9 @@
+use Rattle.std.proofs.Common.{◌≡◌, ◌<◌, ℕ, length, slice_index_or}
+use Rattle.reencd.specs.Shares.{share_of}
+use Rattle.reencd.proofs.host_bay.HostBay.share_door.Given as goal
+
+abbrev pub invariant-loop-k : goal.invariant-loop-k
+invariant-loop-k g l = record {
+  count : length l.links.items ≡ l.k;
+  shared : (j : ℕ) (link : _) → j < l.k → (slice_index_or l.links.items j link).left ≡ share_of l.workers l.sessions j;
+}

@@ -1,0 +1,42 @@
+use std::alloc::Global;
+use std::io::{self, Stderr};
+use std::net::OpenListener;
+
+/// Says in one line on standard error what the system refused and why, as `reencd: disk.img: No such
+/// file or directory`. Where that line can't be put, nobody is told.
+pub fn complain(alloc: Global, errors: Stderr, what: &str, error: &io::Error) {
+    let _ = match error.to_string(alloc) {
+        Ok(text) => eprintln!(errors; "reencd: {what}: {}", without_number(text.as_str())),
+        Err(_) => eprintln!(errors; "reencd: {what}: {}", error.kind()),
+    };
+}
+
+/// The system's words without the number that stands behind them.
+fn without_number(text: &str) -> &str {
+    match text.split_once(" (os error ") {
+        Some((words, _)) => words,
+        None => text,
+    }
+}
+
+/// Says in one line on standard error where clients may connect from now on.
+pub fn announce(errors: Stderr, listener: &impl OpenListener) {
+    if let Ok(address) = listener.local_addr() {
+        let _ = eprintln!(errors; "reencd: listening on {address}");
+    }
+}
+
+#[cfg(test)]
+mod tests {
+    use super::*;
+
+    #[test]
+    fn the_number_of_an_error_is_cut(rt: HostRuntime) {
+        for (text, words) in [
+            ("Permission denied (os error 13)", "Permission denied"),
+            ("locked by another process", "locked by another process"),
+        ] {
+            assert_eq!(rt; without_number(text), words);
+        }
+    }
+}

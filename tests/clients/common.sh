@@ -1,0 +1,74 @@
+# What every script of this folder begins with: a folder of its own, a server on a free port, and the
+# words by which it ends. It is sourced.
+set -u
+
+here=$(cd "$(dirname "${BASH_SOURCE[0]}")" && pwd)
+reencd=${REENCD:-$here/../../crates/reencd/out/reencd}
+room=$(mktemp -d)
+: >"$room/stdout"
+: >"$room/stderr"
+server=
+port=
+
+clean_up() {
+    if [ -n "$server" ]; then
+        kill "$server" 2>/dev/null
+        wait "$server" 2>/dev/null
+    fi
+    rm -rf "$room"
+}
+trap clean_up EXIT
+
+# Ends the script as failed.
+fail() {
+    echo "failed: $*"
+    exit 1
+}
+
+# Ends the script as skipped where one of these commands is not there.
+needs() {
+    for tool in "$@"; do
+        if ! command -v "$tool" >/dev/null; then
+            echo "skipped: there is no $tool"
+            exit 77
+        fi
+    done
+}
+
+# Says what was seen, and fails where it isn't what was wanted: WHAT SEEN WANTED.
+expect() {
+    echo "$1: $2"
+    [ "$2" = "$3" ] || fail "$1 is not $3"
+}
+
+# Starts a server of DISK in atoms of ATOM bytes for so many SESSIONS on a free port. Its process is
+# $server, its port $port, and what it prints is in $room/stdout and $room/stderr.
+serve() {
+    "$reencd" serve "$1" --plain --atom "$2" --listen 127.0.0.1:0 --sessions "$3" \
+        >"$room/stdout" 2>"$room/stderr" </dev/null &
+    server=$!
+    for _ in $(seq 200); do
+        port=$(sed -n 's/^reencd: listening on .*:\([0-9]*\)$/\1/p' "$room/stderr")
+        [ -n "$port" ] && return
+        kill -0 "$server" 2>/dev/null || break
+        sleep 0.05
+    done
+    fail "the server did not start: $(cat "$room/stdout" "$room/stderr")"
+}
+
+# Waits for the server's own end, and expects it to be fine after so many sessions.
+served() {
+    wait "$server"
+    expect "status of the server" "$?" 0
+    server=
+    expect "line of the server" "$(cat "$room/stdout")" "served $1 sessions"
+}
+
+# Ends the server by the signal.
+stop() {
+    kill -"$1" "$server"
+    wait "$server" 2>/dev/null
+    server=
+}
+
+[ -x "$reencd" ] || fail "there is no program $reencd: rt ci builds it"

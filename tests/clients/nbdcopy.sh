@@ -1,0 +1,14 @@
+# nbdcopy in and out again over one connection: the content is the same.
+. "$(dirname "$0")/common.sh"
+needs nbdcopy cmp
+head -c 20000256 /dev/urandom >"$room/wanted"
+truncate -s 20000256 "$room/disk.img"
+serve "$room/disk.img" 512 100
+uri=nbd://127.0.0.1:$port
+nbdcopy --connections=1 --flush "$room/wanted" "$uri" || fail "nbdcopy in"
+cmp "$room/wanted" "$room/disk.img" || fail "the file has other content"
+echo "copied $(stat -c %s "$room/wanted") bytes in"
+nbdcopy --connections=1 "$uri" "$room/seen" || fail "nbdcopy out"
+cmp "$room/wanted" "$room/seen" || fail "other content came out"
+echo "copied them out again"
+stop TERM

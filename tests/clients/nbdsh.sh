@@ -1,0 +1,69 @@
+# libnbd in Python: each request, what is out of range, and a session over standard input and output.
+. "$(dirname "$0")/common.sh"
+for python in python3 /usr/bin/python3 none; do
+    [ "$python" != none ] || { echo "skipped: Python has no module nbd"; exit 77; }
+    "$python" -c "import nbd" 2>/dev/null && break
+done
+truncate -s 64M "$room/disk.img"
+serve "$room/disk.img" 512 1
+"$python" -m nbd -u "nbd://127.0.0.1:$port" -c - <<'PYTHON' || fail "libnbd"
+import errno
+
+BLOCK = bytes(range(256)) * 2
+assert h.get_size() == 64 << 20, h.get_size()
+assert h.can_flush() and h.can_fua() and h.can_multi_conn() and not h.is_read_only()
+assert not h.can_trim() and not h.can_zero()
+print("size and flags")
+assert h.pread(512, 0) == bytes(512)
+h.pwrite(BLOCK, 512)
+assert h.pread(1536, 0) == bytes(512) + BLOCK + bytes(512)
+h.pwrite(BLOCK, (64 << 20) - 512, nbd.CMD_FLAG_FUA)
+h.flush()
+assert h.pread(512, (64 << 20) - 512) == BLOCK
+print("write, read, flush")
+big = BLOCK * 65536
+h.pwrite(big, 0)
+assert h.pread(len(big), 0) == big
+print("32 MiB in one request")
+
+h.set_strict_mode(0)
+
+
+def fails(errors, call, *words):
+    try:
+        call(*words)
+    except nbd.Error as error:
+        assert error.errnum in errors, error
+        print(call.__name__, words[-1], "fails by", errno.errorcode[error.errnum])
+    else:
+        raise AssertionError("it succeeds")
+
+
+end = 64 << 20
+fails([errno.EINVAL], h.pread, 512, end)
+fails([errno.EINVAL], h.pread, 1024, end - 512)
+fails([errno.EINVAL], h.pread, 512, 1)
+fails([errno.EINVAL], h.pread, 100, 0)
+fails([errno.ENOSPC], h.pwrite, BLOCK, end)
+fails([errno.EINVAL], h.pwrite, BLOCK, 1)
+fails([errno.EINVAL], h.trim, 512, 0)
+assert h.pread(512, 0) == BLOCK, "the session goes on"
+h.shutdown()
+PYTHON
+served 1
+
+REENCD=$reencd DISK=$room/disk.img "$python" -m nbd -c - <<'PYTHON' || fail "libnbd over standard input and output"
+import os
+
+words = ["serve", os.environ["DISK"], *"--plain --atom 4096 --listen stdio --sessions 1".split()]
+h.connect_command([os.environ["REENCD"], *words])
+assert h.get_size() == 64 << 20
+assert h.get_block_size(nbd.SIZE_MINIMUM) == 4096
+assert h.pread(4096, 0) == bytes(range(256)) * 16
+h.pwrite(bytes(4096), 0)
+h.flush()
+assert h.pread(4096, 0) == bytes(4096)
+# the server's own line follows the session, which a client that waits for the end takes for a reply
+h.aio_disconnect()
+print("write, read, flush over standard input and output")
+PYTHON

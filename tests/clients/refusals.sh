@@ -1,0 +1,42 @@
+# What the program says where it can't do what it is asked: one line on standard output with the status
+# and its name, and one on standard error with the reason.
+. "$(dirname "$0")/common.sh"
+cd "$room" || exit 1
+
+# The program with these words ends with this status, line and reason.
+refuses() {
+    status=$1 line=$2 reason=$3
+    shift 3
+    "$reencd" "$@" >out 2>err </dev/null
+    expect "$*" "$? $(cat out) $(cat err)" "$status $line $reason"
+}
+
+plain() {
+    echo "serve $1 --plain --atom 512 --listen $2 --sessions 1"
+}
+
+truncate -s 1M disk.img
+truncate -s 511 small.img
+mkdir folder
+# shellcheck disable=SC2046
+{
+    refuses 1 "fault 1 Usage" "" serve
+    refuses 2 "fault 2 Device" "reencd: missing.img: No such file or directory" $(plain missing.img stdio)
+    refuses 2 "fault 2 Device" "reencd: folder: Is a directory" $(plain folder stdio)
+    refuses 8 "fault 8 NoFit" "" $(plain small.img stdio)
+    refuses 2 "fault 2 Device" "reencd: nowhere: invalid socket address" $(plain disk.img nowhere)
+    refuses 2 "fault 2 Device" "reencd: 127.0.0.1:65536: invalid port value" $(plain disk.img 127.0.0.1:65536)
+    refuses 2 "fault 2 Device" "reencd: 192.0.2.1:10809: Cannot assign requested address" $(plain disk.img 192.0.2.1:10809)
+    serve disk.img 512 1
+    refuses 2 "fault 2 Device" "reencd: disk.img: locked by another process" $(plain disk.img stdio)
+    cp disk.img other.img
+    refuses 2 "fault 2 Device" "reencd: 127.0.0.1:$port: Address already in use" $(plain other.img "127.0.0.1:$port")
+}
+if [ "$(id -u)" != 0 ]; then
+    chmod 0 other.img
+    # shellcheck disable=SC2046
+    refuses 2 "fault 2 Device" "reencd: other.img: Permission denied" $(plain other.img stdio)
+fi
+stop TERM
+"$reencd" serve disk.img --plain --atom 512 --listen stdio --sessions 1 </dev/null >/dev/full 2>err
+expect "output that is full" "$? $(cat err)" "11 "
