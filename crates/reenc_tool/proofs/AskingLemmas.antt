@@ -1,7 +1,5 @@
 -- A link that was asked once.
 use Rattle.std.proofs.Common.{◌≡◌, ℕ, List, [], ◌∷◌, ◌++◌, Option, Some, ap, refl, sym, subst, append-nil}
-use Rattle.plain_volume.specs.Histories.{did_none}
-use Rattle.plain_volume.specs.Volume.{Volume, Did}
 use Rattle.bays.specs.Stories.{Script, Handed, Story, Begins, TakesBack}
 use Rattle.nbd_session.specs.declared.ending.SessionEnd.{SessionEnd}
 use Rattle.nbd_session.specs.declared.export.Export.{Export}
@@ -67,6 +65,3 @@ operations_of-none = refl
 pub operations_of-one : (one : Played) → operations_of (one ∷ []) ≡ exchanges_of one.log.turns
 unfolding operations_of
 operations_of-one one = append-nil (exchanges_of one.log.turns)
-
-pub same_did : (old new : Volume) → new ≡ old → Did old new []
-same_did old new same = subst (λ (v : Volume). Did old v []) (sym same) (did_none old)

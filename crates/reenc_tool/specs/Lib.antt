@@ -2,6 +2,7 @@ pub mod Asking
 pub mod Ending
 pub mod Lanes
 pub mod Playing
+pub mod Ports
 pub mod Running
 pub mod Status
 pub mod Texts

@@ -1,10 +1,11 @@
 ghost use Rattle.std.specs.Prelude.{◌≡◌, ◌<◌, ◌≤◌, ◌⊎◌, ℕ, List, [], length, map, slice_index_or, string_bytes, vec_len, Some, None, false, IfOk};
-ghost use Rattle.reenc_tool.specs.Running.{Came, HasNoOther, Ran, WasServed, WasStopped, cause_of, unbroken};
+ghost use Rattle.reenc_tool.specs.Running.{Came, HasNoOther, Ran, WasServed, WasStopped, cause_of};
 ghost use Rattle.reenc_tool.specs.Ending.{EndsAs};
 ghost use Rattle.reenc_tool.specs.Status.{status_of};
 ghost use Rattle.reenc_tool.specs.Texts.{Prints, line_of, sessions_in};
 ghost use Rattle.reenc_tool.specs.Words.{NotServe};
 ghost use Rattle.reenc_tool.specs.declared.ended.Cause.{Cause};
+ghost use Rattle.volume_core.specs.Volumes.{device_of};
 
 use crate::ended::{Cause, Ended, Fit};
 use crate::port::VolumePort;
@@ -14,14 +15,22 @@ use crate::words::{Command, read_words};
 use bays::{Bay, BayFault, Link};
 use io_edge::{Gate, Seeds, Sink};
 use nbd_session::SessionEnd;
-use plain_volume::{PlainVolume, serves_without_faults, starts_settled, stops_are_allowed};
+use sector_cipher::Context;
 use sector_disk::Disk;
 use std::alloc::{AllocError, Global};
 use std::sync::Wait;
 use std::thread::Threads;
+use volume_core::{
+    Progress, Volume, every_run_is_served, failures_go_by_events, keys_seal_lawfully,
+    plain_volumes_start, runs_fail_by_faults, runs_stop_anywhere, tables_are_of_events,
+};
 
 /// How many links serve a command.
 const WORKERS: u32 = 4;
+
+/// How many lanes the volume has: the one that executes the sessions' operations, and the
+/// conversion's own.
+const LANES: u32 = 2;
 
 /// Serves sessions over links on a disk that has a block, and hands both back.
 fn serve_disk<D: Disk, L: Link>(alloc: Global, disk: D, links: Vec<L>) -> Ended<D, L>
@@ -29,33 +38,32 @@ fn serve_disk<D: Disk, L: Link>(alloc: Global, disk: D, links: Vec<L>) -> Ended<
     requires bound { (k : ℕ) (link : L) → k < length links.items → L.bound (slice_index_or links.items k link) ≤ 65535 }
     ensures status { result.status ≡ status_of result.cause }
     ensures other { HasNoOther result.header result.pass result.demo }
-    ensures ended { (Ran (unbroken D.size D.count D.values D.told D.faults)
+    ensures ended { (Ran D.size (device_of D.count D.values D.told D.faults)
         L.told L.bound L.faults (λ list. list.items) disk links.items result.cause result.disk result.links.items result.sessions.items)
         ⊎ ((result.cause ≡ Cause.Memory) × (result.disk ≡ Some disk) × (result.links.items ≡ links.items) × (result.sessions.items ≡ [])) }
 {
     let mut links = links;
     let Ok(mut sessions) = empty_lists(alloc, links.len()) else {
-        return Ended {
-            status: Cause::Memory.status(),
-            cause: Cause::Memory,
-            disk: Some(disk),
-            header: None,
-            pass: None,
-            demo: None,
-            sessions: Vec::new(alloc),
-            links,
-        };
+        return ended_by_memory(alloc, disk, links);
     };
-    serves_without_faults();
-    starts_settled();
-    stops_are_allowed();
-    let volume = PlainVolume::new(disk);
-    let size = volume.size();
-    let atom = volume.atom();
+    let volume = match Volume::plain(alloc, disk, LANES) {
+        Ok(volume) => volume,
+        Err(disk) => return ended_by_memory(alloc, disk, links),
+    };
+    let keys = volume.keys();
+    keys_seal_lawfully::<Context>();
+    every_run_is_served::<Context>();
+    failures_go_by_events::<Context>();
+    runs_stop_anywhere::<Context>();
+    tables_are_of_events::<Context>();
+    runs_fail_by_faults::<Context>();
+    plain_volumes_start::<Context>();
+    let Progress { blocks, atom, .. } = volume.progress();
+    let size = blocks * u64::from(atom);
     let mut port = VolumePort { volume };
     let trouble = serve_links(alloc, &mut links, &mut sessions, &mut port, size, atom);
     let VolumePort { volume } = port;
-    let cause = cause(volume.is_broken(), trouble);
+    let cause = cause(volume.progress().broken, trouble);
     Ended {
         status: cause.status(),
         cause,
@@ -64,6 +72,27 @@ fn serve_disk<D: Disk, L: Link>(alloc: Global, disk: D, links: Vec<L>) -> Ended<
         pass: None,
         demo: None,
         sessions,
+        links,
+    }
+}
+
+/// Ends without a session for want of memory, and hands back the disk and the links.
+fn ended_by_memory<D, L>(alloc: Global, disk: D, links: Vec<L>) -> Ended<D, L>
+    ensures status { result.status ≡ status_of result.cause }
+    ensures other { HasNoOther result.header result.pass result.demo }
+    ensures cause { result.cause ≡ Cause.Memory }
+    ensures disk { result.disk ≡ Some disk }
+    ensures links { result.links.items ≡ links.items }
+    ensures sessions { result.sessions.items ≡ [] }
+{
+    Ended {
+        status: Cause::Memory.status(),
+        cause: Cause::Memory,
+        disk: Some(disk),
+        header: None,
+        pass: None,
+        demo: None,
+        sessions: Vec::new(alloc),
         links,
     }
 }
@@ -126,7 +155,7 @@ fn serve_plain<B: Bay>(
     ensures status { result.status ≡ status_of result.cause }
     ensures other { HasNoOther result.header result.pass result.demo }
     ensures later { B.faults bay.old ≤ B.faults bay.new }
-    ensures ended { WasServed (unbroken B.Disk.size B.Disk.count B.Disk.values B.Disk.told B.Disk.faults)
+    ensures ended { WasServed B.Disk.size (device_of B.Disk.count B.Disk.values B.Disk.told B.Disk.faults)
         B.Link.told B.Link.bound B.Link.faults (λ list. list.items) (B.inputs bay.old) command.now.sessions disk (B.faults bay.old) (B.faults bay.new) result.cause result.disk result.links.items result.sessions.items
         ⊎ WasStopped B.Link.told B.Link.bound (B.inputs bay.old) command.now.sessions disk (B.Disk.count disk) (B.faults bay.old) (B.faults bay.new)
         result.cause result.disk result.links.items result.sessions.items }
@@ -151,7 +180,7 @@ fn execute<B: Bay>(alloc: Global, words: &[String], bay: &mut B) -> Ended<B::Dis
     ensures status { result.status ≡ status_of result.cause }
     ensures other { HasNoOther result.header result.pass result.demo }
     ensures later { B.faults bay.old ≤ B.faults bay.new }
-    ensures came { Came (unbroken B.Disk.size B.Disk.count B.Disk.values B.Disk.told B.Disk.faults)
+    ensures came { Came B.Disk.size (device_of B.Disk.count B.Disk.values B.Disk.told B.Disk.faults)
         B.Link.told B.Link.bound B.Link.faults (λ list. list.items) (B.shelf bay.old) (B.inputs bay.old) (map string_bytes words.now) (B.faults bay.old) (B.faults bay.new)
         result.cause result.disk result.links.items result.sessions.items }
     ensures unasked { NotServe (map string_bytes words.now) → bay.new ≡ bay.old }
@@ -189,7 +218,7 @@ pub fn run<W: Threads + Wait + Sync, B: Bay, R: Seeds, O: Sink, G: Gate>(
     ensures status { result.status ≡ status_of result.cause }
     ensures other { HasNoOther result.header result.pass result.demo }
     ensures run { (cause : Cause) × EndsAs cause (O.faults out.old) (O.faults out.new) result.cause
-        × Came (unbroken B.Disk.size B.Disk.count B.Disk.values B.Disk.told B.Disk.faults)
+        × Came B.Disk.size (device_of B.Disk.count B.Disk.values B.Disk.told B.Disk.faults)
         B.Link.told B.Link.bound B.Link.faults (λ list. list.items) (B.shelf bay.old) (B.inputs bay.old) (map string_bytes words.now) (B.faults bay.old) (B.faults bay.new)
         cause result.disk result.links.items result.sessions.items
         × Prints (O.had out.old) (O.had out.new) (O.faults out.old) (O.faults out.new)

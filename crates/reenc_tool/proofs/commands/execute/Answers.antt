@@ -12,8 +12,8 @@ returns-in-Ok-clause-came g c =
       inl (record {
         disk = c.in-Ok.disk;
         kept = c.in-Ok.ensures.told;
-        atom = c.in-Ok.ensures.atom;
-        ended = ended_earlier _ g.B.Link.Link.told g.B.Link.Link.bound g.B.Link.Link.faults _ _ _ _ c.in-Ok.disk _ _ (g.B.Bay.faults c.disk.new.self) _ _ _ _ _
+        atom_is = c.in-Ok.ensures.atom;
+        ended = ended_earlier g.B.Disk.Disk.size _ g.B.Link.Link.told g.B.Link.Link.bound g.B.Link.Link.faults _ _ _ _ c.in-Ok.disk _ _ (g.B.Bay.faults c.disk.new.self) _ _ _ _ _
             c.in-Ok.ensures.inputs (c.in-Ok.ensures.cause.held refl) c.serve_plain.ensures.ended;
       }),
     )

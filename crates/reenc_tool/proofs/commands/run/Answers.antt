@@ -13,7 +13,7 @@ returns-clause-run g c =
       ended.cause,
       subst (λ (cause : Cause). EndsAs ended.cause (g.O.Sink.faults c.args.out.now) (g.O.Sink.faults c.print-cause.new.out) cause)
           (sym c.ending_by.ensures.cause) c.print-cause.ensures.cause,
-      came_same _ g.B.Link.Link.told g.B.Link.Link.bound g.B.Link.Link.faults _ _ _ _ _ _ ended.cause _ _ _ _ _ _
+      came_same g.B.Disk.Disk.size _ g.B.Link.Link.told g.B.Link.Link.bound g.B.Link.Link.faults _ _ _ _ _ _ ended.cause _ _ _ _ _ _
           c.ending_by.ensures.disk (ap (λ links. links.items) c.ending_by.ensures.links) sessions c.execute-ended.ensures.came,
       subst (λ (cause : Cause). Prints (g.O.Sink.had c.args.out.now) (g.O.Sink.had c.print-cause.new.out) (g.O.Sink.faults c.args.out.now) (g.O.Sink.faults c.print-cause.new.out)
           (line_of ended.cause cause (sessions_in (λ list. vec_len list) c.ending_by.result.sessions.items))) (sym c.ending_by.ensures.cause)

@@ -1,27 +1,56 @@
-use Rattle.std.proofs.Common.{◌*◌, ◌∙◌, ap, refl, subst, arith, inl}
-use Rattle.plain_volume.specs.Volume.{Volume, Did}
+use Rattle.std.proofs.Common.{◌≡◌, ◌*◌, ◌∙◌, ap, refl, sym, subst, arith, inl}
+use Rattle.volume_core.specs.States.{size_of}
+use Rattle.volume_core.specs.Volumes.{IsWholeDisk}
 use Rattle.reenc_tool.specs.Running.{cause_of}
 use Rattle.reenc_tool.specs.Playing.{operations_of}
 use Rattle.reenc_tool.proofs.RoundLemmas.{some_element}
-use Rattle.reenc_tool.proofs.RunLemmas.{ran_of, volume_same}
-use Rattle.reenc_tool.proofs.StopLemmas.{may_stop}
+use Rattle.reenc_tool.proofs.RunLemmas.{ran_of, device_same}
 use Rattle.reenc_tool.proofs.commands.serve_disk.Goals as goal
 
 pub returns-clause-ended : goal.returns-clause-ended
 returns-clause-ended g c =
     let s = c.serve_links-trouble.ensures in
-    let final : Volume = c.serve_links-trouble.new.port.volume in
-    let did = subst (λ (v : Volume). Did v final (operations_of s.0)) c.new-volume.ensures s.1 in
-    inl (ran_of _ g.L.Link.told g.L.Link.bound g.L.Link.faults (λ list. list.items) c.args.disk c.into_disk.result c.args.links.items
-    (some_element c.args.links.items 0 (omega (arith, c.requires.count))) _ _ c.cause-cause.result final
-    c.serve_links-trouble.result.failed c.serve_links-trouble.result.memory s.0 c.size-size.result c.atom-atom.result
-    c.serves_without_faults.ensures c.starts_settled.ensures refl (λ bytes is. g.met.D.Disk.whole c.args.disk bytes is)
-    did
-    (may_stop _ final (operations_of s.0) c.stops_are_allowed.ensures.allowed c.stops_are_allowed.ensures.settled c.starts_settled.ensures
-    did (g.met.D.Disk.geometry c.args.disk).known (λ bytes is. g.met.D.Disk.whole c.args.disk bytes is)
-    (λ told is. g.met.D.Disk.agrees c.args.disk told is) (λ told is. g.met.D.Disk.even c.args.disk told is))
-    (c.size-size.ensures.is ∙ ap (λ v. v.atoms * v.atom) c.new-volume.ensures)
-    (c.atom-atom.ensures.is ∙ ap (λ v. v.atom) c.new-volume.ensures)
+    let start = c.in-Ok-plain.volume in
+    let made = c.in-Ok-plain.ensures in
+    let final = c.serve_links-trouble.new.port.volume in
+    let did = s.1 in
+    let fits = c.keys-keys.ensures.fits in
+    let atom_is = made.map.atom in
+    inl (ran_of g.D.Disk.size _ g.L.Link.told g.L.Link.bound g.L.Link.faults (λ list. list.items) c.args.disk c.into_disk.result c.args.links.items
+    (some_element c.args.links.items 0 (omega (arith, c.requires.count))) _ _ c.cause-cause.result start _ final did.run
+    c.serve_links-trouble.result.failed c.serve_links-trouble.result.memory s.0 _ _
+    (record {
+      served = c.every_run_is_served.ensures start _;
+      events = c.failures_go_by_events.ensures start did.run;
+      stops = λ blocks bytes exchanges. c.runs_stop_anywhere.ensures start _ blocks bytes did.run exchanges;
+      tables = λ now. c.tables_are_of_events.ensures start did.run now;
+      faultless = c.runs_fail_by_faults.ensures.served start _ did.run;
+      breaks = c.runs_fail_by_faults.ensures.broken start _ did.run;
+      starts = λ bytes. c.plain_volumes_start.ensures.starts start _ bytes;
+      covered = λ bytes. c.plain_volumes_start.ensures.covered start _ bytes;
+    })
+    (record {
+      fresh = made.fresh;
+      sound = made.sound;
+      size = atom_is;
+      disk = made.disk;
+      whole = subst (λ n. IsWholeDisk start.map.atom n start.map) (sym (ap (λ d. d.atoms) made.disk))
+          (subst (λ a. IsWholeDisk a (g.D.Disk.count c.args.disk) start.map) (sym atom_is) made.map);
+      apart = made.apart;
+      nothing = made.keys;
+    })
+    (c.keys_seal_lawfully.ensures start.keys start.map.atom made.sound.fits.known
+    (rw c.keys-keys.ensures.is at fits.old_sector) (rw c.keys-keys.ensures.is at fits.new_sector))
+    (record {
+      whole = λ bytes is. g.met.D.Disk.whole c.args.disk bytes is;
+      are_bytes = λ bytes is. g.met.D.Disk.bytes c.args.disk bytes is;
+      agrees = λ told is. g.met.D.Disk.agrees c.args.disk told is;
+      even = λ told is. g.met.D.Disk.even c.args.disk told is;
+    })
+    did.executes
+    (ap (λ p. p.blocks * c.from.result) c.progress-blocks.ensures ∙ ap (λ a. start.map.blocks * a) (c.from.ensures ∙ ap (λ p. p.atom) c.progress-blocks.ensures))
+    (ap (λ p. p.atom) c.progress-blocks.ensures)
     s.2 s.3 s.4
-    (volume_same _ final c.into_disk.ensures.size c.into_disk.ensures.count c.into_disk.ensures.values c.into_disk.ensures.told c.into_disk.ensures.faults refl)
-    (c.cause-cause.ensures ∙ ap (λ b. cause_of b c.serve_links-trouble.result.failed c.serve_links-trouble.result.memory) c.is_broken.ensures))
+    (device_same _ _ _ _ final.disk c.into_disk.ensures.count c.into_disk.ensures.values c.into_disk.ensures.told c.into_disk.ensures.faults)
+    (c.into_disk.ensures.size ∙ ap (λ m. m.atom) did.map ∙ atom_is)
+    (c.cause-cause.ensures ∙ ap (λ p. cause_of p.broken c.serve_links-trouble.result.failed c.serve_links-trouble.result.memory) c.progress.ensures))
