@@ -21,8 +21,8 @@ impl<D: Disk> Port for VolumePort<D> {
 
     ghost did_more = { λ first second third xs ys. did_joined first.volume second.volume third.volume xs ys };
 
-    fn submit(&mut self, alloc: Global, op: &Op) -> Result<Submitted, AllocError> {
-        match self.volume.perform(alloc, op) {
+    fn submit(&mut self, alloc: Global, op: Op) -> Result<Submitted, AllocError> {
+        match self.volume.perform(alloc, &op) {
             Ok(reply) => Ok(Submitted::Replied(reply)),
             Err(refused) => Err(refused),
         }

@@ -1,5 +1,5 @@
 use Rattle.reenc_tool.proofs.AskingLemmas.{same_did}
 use Rattle.reenc_tool.proofs.port.VolumePortPort.submit.Goals as goal
 
-pub returns-in-Err-clause-err : goal.returns-in-Err-clause-err
-returns-in-Err-clause-err g c = same_did _ _ c.in-Err.ensures.err
+pub returns-clause-err : goal.returns-clause-err
+returns-clause-err g c = same_did _ _ c.in-Err.ensures.err
