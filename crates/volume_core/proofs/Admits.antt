@@ -58,8 +58,8 @@ forget_writes : {K : Type 0} (state : State K) (plain : ℕ → List ℕ) (lane 
     KeepsWrites state plain state (with_plain plain lane now)
 forget_writes state plain lane now free =
     writes_stay state plain state (with_plain plain lane now) lane (open_at state.lanes lane) refl (becomes_itself state.lanes lane)
-        (plain-other plain lane now) (λ b value. idle state plain lane b value free) (λ b value. idle state (with_plain plain lane now) lane b value free)
-        (λ o is forced settled. cc)
+    (plain-other plain lane now) (λ b value. idle state plain lane b value free) (λ b value. idle state (with_plain plain lane now) lane b value free)
+    (λ o is forced settled. cc)
 
 pub logic_forgets : {K : Type 0} (state : State K) (plain : ℕ → List ℕ) (left : List Block) (lane : ℕ) (now : List ℕ) → open_at state.lanes lane ≡ None →
     Logic state plain left → Logic state (with_plain plain lane now) left
@@ -75,7 +75,7 @@ pub shown_forgets : {K : Type 0} (state : State K) (seals : Seals) (plain : ℕ 
     open_at state.lanes lane ≡ None → IsUnchanged view next → Shown state seals plain left view → Shown state seals (with_plain plain lane now) left next
 shown_forgets state seals plain left lane now view next free same shown =
     shown_kept state plain state (with_plain plain lane now) seals left view next refl (forget_writes state plain lane now free)
-        (λ whole. (whole, same.current)) same.candidates shown
+    (λ whole. (whole, same.current)) same.candidates shown
 
 -- an operation that was admitted has done nothing yet
 knows_nothing : {K : Type 0} (state : State K) (plain : ℕ → List ℕ) (left : List Block) (lane : ℕ) (o : Open) → plain lane ≡ [] →
@@ -122,11 +122,11 @@ pub shown_admitted : {K : Type 0} (old new : State K) (seals : Seals) (plain : �
     Shown old seals plain left view → Shown new seals (with_plain plain lane []) left next
 shown_admitted old new seals plain left lane ask outcome view next some free is same shown =
     shown_kept old plain new (with_plain plain lane []) seals left view next is.goes.map
-        (writes_stay old plain new (with_plain plain lane []) lane (Some (begun old.map.atom ask)) is.goes.map is.goes.lane_is
-        (plain-other plain lane []) (λ b value. idle old plain lane b value free)
-        (λ b value. untried new (with_plain plain lane []) lane b value (rw is.goes.map some) (plain-own plain lane []))
-        (λ o begins_so forced settled. let e : o ≡ begun old.map.atom ask = cc in let never : false ≡ true = subst (λ p. p.settled ≡ true) e settled in cc))
-        (λ whole. (sym is.goes.broken_is ∙ whole, same.current)) same.candidates shown
+    (writes_stay old plain new (with_plain plain lane []) lane (Some (begun old.map.atom ask)) is.goes.map is.goes.lane_is
+    (plain-other plain lane []) (λ b value. idle old plain lane b value free)
+    (λ b value. untried new (with_plain plain lane []) lane b value (rw is.goes.map some) (plain-own plain lane []))
+    (λ o begins_so forced settled. let e : o ≡ begun old.map.atom ask = cc in let never : false ≡ true = subst (λ p. p.settled ≡ true) e settled in cc))
+    (λ whole. (sym is.goes.broken_is ∙ whole, same.current)) same.candidates shown
 
 -- an operation that was admitted isn't answered yet
 pub unanswered : {K : Type 0} (old new : State K) (lane : ℕ) (ask : Ask) (outcome : Outcome) → IsAdmitted old lane ask outcome new → by_admit ask outcome ≡ []
@@ -134,12 +134,12 @@ unanswered old new lane ask outcome is = elim (either (has_lock ask)) [
   | inl has ↦ standing_tells ask outcome (IsStanding old.entries (entry_of old.map.atom lane ask)) (match_true (has_lock ask) _ _ has is.enters).1
   | inr has_none ↦ rw (match_false (has_lock ask) _ _ has_none is.enters).1 refl
 ]
- where
-  standing_tells : (ask : Ask) (outcome : Outcome) (stands : _) → TellsStanding stands outcome → by_admit ask outcome ≡ []
-  standing_tells ask held stands tells = refl
-  standing_tells ask (waits other) stands tells = refl
-  standing_tells ask (refused number) stands tells = absurd tells
-  standing_tells ask (got sealed) stands tells = absurd tells
-  standing_tells ask done stands tells = absurd tells
-  standing_tells ask device stands tells = absurd tells
-  standing_tells ask broken stands tells = absurd tells
+  where
+    standing_tells : (ask : Ask) (outcome : Outcome) (stands : _) → TellsStanding stands outcome → by_admit ask outcome ≡ []
+    standing_tells ask held stands tells = refl
+    standing_tells ask (waits other) stands tells = refl
+    standing_tells ask (refused number) stands tells = absurd tells
+    standing_tells ask (got sealed) stands tells = absurd tells
+    standing_tells ask done stands tells = absurd tells
+    standing_tells ask device stands tells = absurd tells
+    standing_tells ask broken stands tells = absurd tells

@@ -76,10 +76,10 @@ pub blocks_of-front : (atom m : ℕ) (text front : List ℕ) → take (m * atom)
 blocks_of-front atom m text front begins =
     let same : blocks_of atom m front ≡ blocks_of atom m (take (m * atom) text) = ap (λ f. blocks_of atom m f) (sym begins) in
     ext_get_or [] (blocks_of atom m text) (blocks_of atom m front)
-        (length-blocks_of atom m text ∙ sym (length-blocks_of atom m front))
-        (λ k below. let inside : k < m = (let long = length-blocks_of atom m text in omega (arith, below, long)) in
-        blocks_of-at atom m text k [] inside
-        ∙ sym (ap (λ bs. Rattle.std.specs.Prelude.slice_index_or bs k []) same ∙ blocks_of-at atom m (take (m * atom) text) k [] inside ∙ block_at-take atom m text k inside))
+    (length-blocks_of atom m text ∙ sym (length-blocks_of atom m front))
+    (λ k below. let inside : k < m = (let long = length-blocks_of atom m text in omega (arith, below, long)) in
+    blocks_of-at atom m text k [] inside
+    ∙ sym (ap (λ bs. Rattle.std.specs.Prelude.slice_index_or bs k []) same ∙ blocks_of-at atom m (take (m * atom) text) k [] inside ∙ block_at-take atom m text k inside))
 
 -- a range that isn't wrong is of whole blocks
 range_whole : (atom size offset len past : ℕ) → IsAtom atom → wrong_range_of atom size offset len past ≡ None →
@@ -88,9 +88,9 @@ range_whole atom size offset len past known proper = elim known [
   | inl is ↦ whole_at 512 (inl refl) (subst (λ a. wrong_range_of a size offset len past ≡ None) is proper) is
   | inr is ↦ whole_at 4096 (inr refl) (subst (λ a. wrong_range_of a size offset len past ≡ None) is proper) is
 ]
- where
-  whole_at : (a : ℕ) → (a ≡ 512) ⊎ (a ≡ 4096) → wrong_range_of a size offset len past ≡ None → atom ≡ a → (offset / atom * atom ≡ offset) × (len / atom * atom ≡ len)
-  whole_at a which right same = rw same (grind (arith, which, right), grind (arith, which, right))
+  where
+    whole_at : (a : ℕ) → (a ≡ 512) ⊎ (a ≡ 4096) → wrong_range_of a size offset len past ≡ None → atom ≡ a → (offset / atom * atom ≡ offset) × (len / atom * atom ≡ len)
+    whole_at a which right same = rw same (grind (arith, which, right), grind (arith, which, right))
 
 pub read_whole : (atom size offset len : ℕ) → IsAtom atom → wrong_ask atom size (Read offset len) ≡ None → (offset / atom * atom ≡ offset) × (len / atom * atom ≡ len)
 read_whole atom size offset len known proper = range_whole atom size offset len 22 known (elim (either (nat_lt 33554432 len)) [
@@ -115,7 +115,7 @@ pub step_read : (atom blocks offset len : ℕ) (left : List Block) (plain : List
     plain ≡ take len (drop offset (newest_bytes left)) → AreSure (take (len / atom) (drop (offset / atom) left)) → Step atom left exchange left
 step_read atom blocks offset len left plain exchange count proper is right sure =
     proper_goes atom blocks left left (record { ask = Read offset len; plain = plain; reply = Content plain }) exchange count proper is
-        (read_goes atom offset len left plain exchange is right sure)
+    (read_goes atom offset len left plain exchange is right sure)
 
 unread_goes : (atom offset len : ℕ) (left : List Block) (plain : List ℕ) (exchange : Exchange) →
     IsExchange (record { ask = Read offset len; plain = plain; reply = Errno 5 }) exchange → ProperStep atom left exchange.op exchange.reply exchange.tried left
@@ -127,7 +127,7 @@ pub step_unread : (atom blocks offset len : ℕ) (left : List Block) (plain : Li
     IsExchange (record { ask = Read offset len; plain = plain; reply = Errno 5 }) exchange → Step atom left exchange left
 step_unread atom blocks offset len left plain exchange count proper is =
     proper_goes atom blocks left left (record { ask = Read offset len; plain = plain; reply = Errno 5 }) exchange count proper is
-        (unread_goes atom offset len left plain exchange is)
+    (unread_goes atom offset len left plain exchange is)
 
 -- what a write that is done, and one that failed, does to its blocks
 abbrev pub change_of : Bool → Block → List ℕ → Block
@@ -150,8 +150,8 @@ pub step_written : (atom blocks count offset len : ℕ) (fua : Bool) (left : Lis
     Step atom left exchange (changed (change_of fua) left (offset / atom) (blocks_of atom count plain))
 step_written atom blocks count offset len fua left plain exchange size proper is long whole counted =
     proper_goes atom blocks left (changed (change_of fua) left (offset / atom) (blocks_of atom count plain))
-        (record { ask = Write offset len fua; plain = plain; reply = Done }) exchange size proper is
-        (write_goes atom count offset len fua left plain exchange is long whole counted)
+    (record { ask = Write offset len fua; plain = plain; reply = Done }) exchange size proper is
+    (write_goes atom count offset len fua left plain exchange is long whole counted)
 
 unwritten_goes : (atom count offset len : ℕ) (fua : Bool) (left : List Block) (plain : List ℕ) (exchange : Exchange) →
     IsExchange (record { ask = Write offset len fua; plain = plain; reply = Errno 5 }) exchange → length plain ≤ len → length plain ≡ count * atom → 0 < atom →
@@ -172,8 +172,8 @@ pub step_unwritten : (atom blocks count offset len : ℕ) (fua : Bool) (left : L
     Step atom left exchange (changed tried left (offset / atom) (blocks_of atom count plain))
 step_unwritten atom blocks count offset len fua left plain exchange size proper some is most whole =
     proper_goes atom blocks left (changed tried left (offset / atom) (blocks_of atom count plain))
-        (record { ask = Write offset len fua; plain = plain; reply = Errno 5 }) exchange size proper is
-        (unwritten_goes atom count offset len fua left plain exchange is most whole some)
+    (record { ask = Write offset len fua; plain = plain; reply = Errno 5 }) exchange size proper is
+    (unwritten_goes atom count offset len fua left plain exchange is most whole some)
 
 -- a flush that is done, and one that failed
 flush_goes : (atom : ℕ) (left : List Block) (exchange : Exchange) → IsExchange (record { ask = Flush; plain = []; reply = Done }) exchange →

@@ -61,12 +61,13 @@ read_right seals old plain left lane o offset len here at is whole ended =
     let reading : IsRead o.ask = rw is tt in
     let text : plain lane ≡ take (len / atom * atom) (drop (offset / atom * atom) (newest_bytes left)) =
     is_newest_part atom (offset / atom) (len / atom) left (plain lane) (sized old plain left logic) inside (knows.are.size ∙ ap (λ n. n * atom) count)
-        (λ k below. (knows.reads reading k (omega (arith, count, below))).0 ∙ ap (λ n. (block_in left (n + k)).newest) start) in
-    (text ∙ rw (parts.0, parts.1) refl,
-    sure_part (offset / atom) (len / atom) left inside (λ b from to.
-        let k : ℕ = b - offset / atom in
-        let place : o.range.start + k ≡ b = omega (arith, start, from) in
-        subst (λ n. (block_in left n).unsure ≡ false) place (knows.reads reading k (omega (arith, count, from, to))).1))
+    (λ k below. (knows.reads reading k (omega (arith, count, below))).0 ∙ ap (λ n. (block_in left (n + k)).newest) start) in (
+      text ∙ rw (parts.0, parts.1) refl,
+      sure_part (offset / atom) (len / atom) left inside (λ b from to.
+          let k : ℕ = b - offset / atom in
+          let place : o.range.start + k ≡ b = omega (arith, start, from) in
+          subst (λ n. (block_in left n).unsure ≡ false) place (knows.reads reading k (omega (arith, count, from, to))).1),
+    )
 
 -- a write that ends, with what it made of its blocks
 write_ended : {K P : Type 0} (seals : Seals) (old new : State K) (plain : ℕ → List ℕ) (left : List Block) (lane : ℕ) (o : Open) (change : Block → List ℕ → Block) (count : ℕ) (one : Answered)
@@ -161,11 +162,11 @@ failed_write_served seals old new plain left lane o offset len fua exchanges her
     let body = knows_body old plain left lane o offset len fua here.logic at is in
     let writing : IsWrite o.ask = rw is tt in
     write_ended seals old new plain left lane o tried knows.count (record { ask = Write offset len fua; plain = plain lane; reply = Errno 5 }) exchanges here sound rests
-        (ends_write seals old new plain left lane o tried here at writing holds goes (λ block value. refl) tried_contained (inl tried-keeps))
-        (λ was. absurd (let breaks = knows.breaks writing failed in cc))
-        (λ exchange is_exchange. subst (λ n. Rattle.plain_disk.specs.Plain.Step old.map.atom left exchange (changed tried left n (blocks_of old.map.atom knows.count (plain lane)))) (sym body.start)
-        (step_unwritten old.map.atom old.map.blocks knows.count offset len fua left (plain lane) exchange here.logic.are.count body.proper (positive old seals plain left here) is_exchange body.most body.size))
-        are
+    (ends_write seals old new plain left lane o tried here at writing holds goes (λ block value. refl) tried_contained (inl tried-keeps))
+    (λ was. absurd (let breaks = knows.breaks writing failed in cc))
+    (λ exchange is_exchange. subst (λ n. Rattle.plain_disk.specs.Plain.Step old.map.atom left exchange (changed tried left n (blocks_of old.map.atom knows.count (plain lane)))) (sym body.start)
+    (step_unwritten old.map.atom old.map.blocks knows.count offset len fua left (plain lane) exchange here.logic.are.count body.proper (positive old seals plain left here) is_exchange body.most body.size))
+    are
 
 no_blocks_change : (change : Block → List ℕ → Block) (atom n at_block : ℕ) (left : List Block) (text : List ℕ) → n ≡ 0 → changed change left at_block (blocks_of atom n text) ≡ left
 unfolding blocks_of
@@ -197,16 +198,16 @@ written_served seals old new plain left lane o offset len fua exchanges here sou
           let same : (change : Block → List ℕ → Block) (at_block : ℕ) → changed change left at_block (blocks_of atom knows.count (plain lane)) ≡ left =
           λ change at_block. no_blocks_change change atom knows.count at_block left (plain lane) no_count in
           write_ended seals old new plain left lane o written knows.count (record { ask = Write offset len fua; plain = plain lane; reply = Done }) exchanges here sound rests
-              (ends_write seals old new plain left lane o written here at writing holds goes (λ block value. refl) written_contained (inl written-keeps))
-              (λ was block value. refl)
-              (λ exchange is_exchange. subst (λ bs. Rattle.plain_disk.specs.Plain.Step atom left exchange bs) (same (change_of fua) (offset / atom) ∙ sym (same written o.range.start)) (steps exchange is_exchange))
-              are
+          (ends_write seals old new plain left lane o written here at writing holds goes (λ block value. refl) written_contained (inl written-keeps))
+          (λ was block value. refl)
+          (λ exchange is_exchange. subst (λ bs. Rattle.plain_disk.specs.Plain.Step atom left exchange bs) (same (change_of fua) (offset / atom) ∙ sym (same written o.range.start)) (steps exchange is_exchange))
+          are
     ]
- where
-  kept : (forced : Bool) → o.ask ≡ Write offset len forced → 0 < len →
-      ((block : Block) (value other : List ℕ) → Contains (values_of block) other → Contains (values_of (change_of forced block value)) other) ⊎ (IsForced o.ask × (o.settled ≡ true))
-  kept true asked some = (let forced : IsForced o.ask = rw asked (refl, some) in inr (forced, complete.kept forced))
-  kept false asked some = inl written-keeps
+  where
+    kept : (forced : Bool) → o.ask ≡ Write offset len forced → 0 < len →
+        ((block : Block) (value other : List ℕ) → Contains (values_of block) other → Contains (values_of (change_of forced block value)) other) ⊎ (IsForced o.ask × (o.settled ≡ true))
+    kept true asked some = (let forced : IsForced o.ask = rw asked (refl, some) in inr (forced, complete.kept forced))
+    kept false asked some = inl written-keeps
 
 -- an operation that ends is answered
 end_by : {K P : Type 0} (seals : Seals) (old new : State K) (plain : ℕ → List ℕ) (left : List Block) (lane : ℕ) (o : Open) (ask : Ask) (exchanges : List Exchange) →
@@ -216,21 +217,21 @@ end_by seals old new plain left lane o (Read offset len) exchanges here sound at
     let under_way = here.logic.sound.under_way lane o at in
     let proper : wrong_ask old.map.atom (old.map.blocks * old.map.atom) (Read offset len) ≡ None = subst (λ a. wrong_ask old.map.atom (size_of old.map) a ≡ None) is under_way.proper in
     read_ended seals old new plain left lane o (record { ask = Read offset len; plain = plain lane; reply = Errno 5 }) exchanges here sound at (rw is tt) goes rests
-        (λ exchange is_exchange. step_unread old.map.atom old.map.blocks offset len left (plain lane) exchange here.logic.are.count proper is_exchange)
-        (subst (λ b. AreExchanges (record { ask = Read offset len; plain = plain lane; reply = if b then Errno 5 else Content (plain lane) } ∷ []) exchanges) failed are)
+    (λ exchange is_exchange. step_unread old.map.atom old.map.blocks offset len left (plain lane) exchange here.logic.are.count proper is_exchange)
+    (subst (λ b. AreExchanges (record { ask = Read offset len; plain = plain lane; reply = if b then Errno 5 else Content (plain lane) } ∷ []) exchanges) failed are)
 end_by seals old new plain left lane o (Read offset len) exchanges here sound at is has (inr (whole, complete)) holds goes rests are =
     let under_way = here.logic.sound.under_way lane o at in
     let proper : wrong_ask old.map.atom (old.map.blocks * old.map.atom) (Read offset len) ≡ None = subst (λ a. wrong_ask old.map.atom (size_of old.map) a ≡ None) is under_way.proper in
     let right = read_right seals old plain left lane o offset len here at is whole complete.pieces in
     read_ended seals old new plain left lane o (record { ask = Read offset len; plain = plain lane; reply = Content (plain lane) }) exchanges here sound at (rw is tt) goes rests
-        (λ exchange is_exchange. step_read old.map.atom old.map.blocks offset len left (plain lane) exchange here.logic.are.count proper is_exchange right.0 right.1)
-        (subst (λ b. AreExchanges (record { ask = Read offset len; plain = plain lane; reply = if b then Errno 5 else Content (plain lane) } ∷ []) exchanges) whole are)
+    (λ exchange is_exchange. step_read old.map.atom old.map.blocks offset len left (plain lane) exchange here.logic.are.count proper is_exchange right.0 right.1)
+    (subst (λ b. AreExchanges (record { ask = Read offset len; plain = plain lane; reply = if b then Errno 5 else Content (plain lane) } ∷ []) exchanges) whole are)
 end_by seals old new plain left lane o (Write offset len fua) exchanges here sound at is has (inl failed) holds goes rests are =
     failed_write_served seals old new plain left lane o offset len fua exchanges here sound at is failed holds goes rests
-        (subst (λ b. AreExchanges (record { ask = Write offset len fua; plain = plain lane; reply = if b then Errno 5 else Done } ∷ []) exchanges) failed are)
+    (subst (λ b. AreExchanges (record { ask = Write offset len fua; plain = plain lane; reply = if b then Errno 5 else Done } ∷ []) exchanges) failed are)
 end_by seals old new plain left lane o (Write offset len fua) exchanges here sound at is has (inr (whole, complete)) holds goes rests are =
     written_served seals old new plain left lane o offset len fua exchanges here sound at is whole complete holds goes rests
-        (subst (λ b. AreExchanges (record { ask = Write offset len fua; plain = plain lane; reply = if b then Errno 5 else Done } ∷ []) exchanges) whole are)
+    (subst (λ b. AreExchanges (record { ask = Write offset len fua; plain = plain lane; reply = if b then Errno 5 else Done } ∷ []) exchanges) whole are)
 end_by seals old new plain left lane o Flush exchanges here sound at is has ended holds goes rests are = absurd (cc)
 
 pub finish_served : {K P : Type 0} (seals : Seals) (old new : State K) (plain : ℕ → List ℕ) (left : List Block) (lane : ℕ) (o : Open) (exchanges : List Exchange) →

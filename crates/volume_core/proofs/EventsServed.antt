@@ -68,14 +68,14 @@ pub admit_by : {K P : Type 0} (seals : Seals) (old new : State K) (plain : ℕ �
     AreExchanges (by_admit ask outcome) exchanges → Served P seals old new (with_plain plain lane []) left exchanges
 admit_by seals old new plain left lane ask outcome exchanges (Some number) is here sound free step are =
     refused_served seals old new plain left lane ask number exchanges here free step.1
-        (λ exchange is_exchange. step_wrong old.map.atom old.map.blocks number left ask exchange here.logic.are.count is is_exchange)
-        (subst (λ o. AreExchanges (by_admit ask o) exchanges) step.0 are)
+    (λ exchange is_exchange. step_wrong old.map.atom old.map.blocks number left ask exchange here.logic.are.count is is_exchange)
+    (subst (λ o. AreExchanges (by_admit ask o) exchanges) step.0 are)
 admit_by seals old new plain left lane ask outcome exchanges None is here sound free step are = elim (either old.broken) [
   | inl was ↦
       let refusing = match_true old.broken ((outcome ≡ refused 5) × (new ≡ old)) (IsAdmitted old lane ask outcome new) was step in
       refused_served seals old new plain left lane ask 5 exchanges here free refusing.1
-          (λ exchange is_exchange. step_refused old.map.atom old.map.blocks left ask exchange here.logic.are.count is (positive old seals plain left here) is_exchange)
-          (subst (λ o. AreExchanges (by_admit ask o) exchanges) refusing.0 are)
+      (λ exchange is_exchange. step_refused old.map.atom old.map.blocks left ask exchange here.logic.are.count is (positive old seals plain left here) is_exchange)
+      (subst (λ o. AreExchanges (by_admit ask o) exchanges) refusing.0 are)
   | inr was ↦ admitted_served seals old new plain left lane ask outcome exchanges here sound free is
       (match_false old.broken ((outcome ≡ refused 5) × (new ≡ old)) (IsAdmitted old lane ask outcome new) was step) are
 ]
@@ -91,9 +91,9 @@ failed_here : {K P : Type 0} (seals : Seals) (old new : State K) (plain : ℕ �
     Moves P old.map.atom here.bytes old.disk new.disk IsUnchanged → Here P new seals plain left
 failed_here seals old new plain left lane o is_broken here sound at goes unbroken breaks moves =
     here_after old new seals plain plain left left IsUnchanged here goes.map
-        (logic_failed old new plain left lane o is_broken here.logic sound at goes unbroken breaks) moves
-        (λ view after unchanged shown. shown_kept old plain new plain seals left view after goes.map (failing_keeps old new plain lane o is_broken at goes)
-        (λ whole. (unbroken (sym goes.broken_is ∙ whole), unchanged.current)) unchanged.candidates shown)
+    (logic_failed old new plain left lane o is_broken here.logic sound at goes unbroken breaks) moves
+    (λ view after unchanged shown. shown_kept old plain new plain seals left view after goes.map (failing_keeps old new plain lane o is_broken at goes)
+    (λ whole. (unbroken (sym goes.broken_is ∙ whole), unchanged.current)) unchanged.candidates shown)
 
 -- a piece is read
 pub read_served : {K P : Type 0} (seals : Seals) (old new : State K) (plain : ℕ → List ℕ) (left : List Block) (lane : ℕ) (o : Open) (outcome : Outcome) (exchanges : List Exchange) →
@@ -104,22 +104,22 @@ read_served seals old new plain left lane o (waits other) exchanges here sound a
 read_served seals old new plain left lane o (refused number) exchanges here sound at reading has holds step are = absurd step
 read_served seals old new plain left lane o (got bytes) exchanges here sound at reading has holds step are =
     goes_on seals old new (with_plain plain lane (plain lane ++ plain_piece seals old lane bytes)) left exchanges are
-        (here_after old new seals plain (with_plain plain lane (plain lane ++ plain_piece seals old lane bytes)) left left IsUnchanged here step.goes.map
-        (logic_read old new seals plain left (view_of_bytes old.map.atom here.bytes) lane o bytes here.lawful (positive old seals plain left here) here.logic sound here.shown at reading has holds step
-        (λ k below. block-read old.map.atom (place_of old.map step.piece) step.piece.count bytes here.bytes old.disk new.disk k step.call here.values step.are.size below))
-        (moves_by_read old.map.atom (place_of old.map step.piece) bytes here.bytes old.disk new.disk succeeded step.call here.values)
-        (λ view after unchanged shown. shown_read old new seals plain left view after lane o bytes at reading step unchanged shown))
-        step.goes.map
+    (here_after old new seals plain (with_plain plain lane (plain lane ++ plain_piece seals old lane bytes)) left left IsUnchanged here step.goes.map
+    (logic_read old new seals plain left (view_of_bytes old.map.atom here.bytes) lane o bytes here.lawful (positive old seals plain left here) here.logic sound here.shown at reading has holds step
+    (λ k below. block-read old.map.atom (place_of old.map step.piece) step.piece.count bytes here.bytes old.disk new.disk k step.call here.values step.are.size below))
+    (moves_by_read old.map.atom (place_of old.map step.piece) bytes here.bytes old.disk new.disk succeeded step.call here.values)
+    (λ view after unchanged shown. shown_read old new seals plain left view after lane o bytes at reading step unchanged shown))
+    step.goes.map
 read_served seals old new plain left lane o done exchanges here sound at reading has holds step are = absurd step
 read_served seals old new plain left lane o device exchanges here sound at reading has holds step are =
     goes_on seals old new plain left exchanges are
-        (failed_here seals old new plain left lane o false here sound at step.goes (λ whole. step.was) (λ writing. absurd (never_both o.ask reading writing))
-        (moves_by_read old.map.atom (place_of old.map step.piece) step.bytes here.bytes old.disk new.disk failed_call step.call here.values))
-        step.goes.map
+    (failed_here seals old new plain left lane o false here sound at step.goes (λ whole. step.was) (λ writing. absurd (never_both o.ask reading writing))
+    (moves_by_read old.map.atom (place_of old.map step.piece) step.bytes here.bytes old.disk new.disk failed_call step.call here.values))
+    step.goes.map
 read_served seals old new plain left lane o broken exchanges here sound at reading has holds step are =
     goes_on seals old new plain left exchanges are
-        (failed_here seals old new plain left lane o true here sound at step.goes (λ whole. absurd (cc)) (λ writing. refl) (moves_not old.map.atom here.bytes old.disk new.disk step.rests here.values))
-        step.goes.map
+    (failed_here seals old new plain left lane o true here sound at step.goes (λ whole. absurd (cc)) (λ writing. refl) (moves_not old.map.atom here.bytes old.disk new.disk step.rests here.values))
+    step.goes.map
 
 -- a piece is written
 tries : {K P : Type 0} (seals : Seals) (old new : State K) (plain : ℕ → List ℕ) (left : List Block) (lane : ℕ) (o next : Open) (piece : Piece) (bytes : List ℕ) (is_broken : Bool) →
@@ -157,26 +157,26 @@ write_served seals old new plain left lane o bytes done exchanges here sound at 
     let first : step.piece.first ≡ o.next = step.next.first in
     let it = tries seals old new plain left lane o (moved o step.piece) step.piece bytes false here at writing has holds step.next step.are step.goes refl refl refl in
     goes_on seals old new (now_of old seals plain lane bytes) left exchanges are
-        (here_after old new seals plain (now_of old seals plain lane bytes) left left (IsWritten old.map.atom (place_of old.map step.piece) step.piece.count bytes) here step.goes.map
-        (logic_tried old new seals plain left lane o (moved o step.piece) step.piece bytes it sound (λ whole. step.was) (omega (arith, first)) (λ whole. omega (arith, first))
-            (λ failed. absurd (let whole = has.goes_on in cc)))
-        (moves_by_written old.map.atom (place_of old.map step.piece) step.piece.count bytes here.bytes old.disk new.disk step.call here.values some step.are.size
-            (piece_in_bytes old seals plain left o step.piece here step.was step.next inside) (piece_in_tables old seals plain left o step.piece here step.was step.next inside))
-        (λ view after wrote shown. shown_written old new seals plain left lane o (moved o step.piece) step.piece bytes view after it wrote step.was shown))
-        step.goes.map
+    (here_after old new seals plain (now_of old seals plain lane bytes) left left (IsWritten old.map.atom (place_of old.map step.piece) step.piece.count bytes) here step.goes.map
+    (logic_tried old new seals plain left lane o (moved o step.piece) step.piece bytes it sound (λ whole. step.was) (omega (arith, first)) (λ whole. omega (arith, first))
+    (λ failed. absurd (let whole = has.goes_on in cc)))
+    (moves_by_written old.map.atom (place_of old.map step.piece) step.piece.count bytes here.bytes old.disk new.disk step.call here.values some step.are.size
+    (piece_in_bytes old seals plain left o step.piece here step.was step.next inside) (piece_in_tables old seals plain left o step.piece here step.was step.next inside))
+    (λ view after wrote shown. shown_written old new seals plain left lane o (moved o step.piece) step.piece bytes view after it wrote step.was shown))
+    step.goes.map
 write_served seals old new plain left lane o bytes device exchanges here sound at writing has holds step are =
     let some = positive old seals plain left here in
     let it = tries seals old new plain left lane o (failing o) step.piece bytes true here at writing has holds step.next step.are step.goes refl refl refl in
     goes_on seals old new (now_of old seals plain lane bytes) left exchanges are
-        (here_after old new seals plain (now_of old seals plain lane bytes) left left (IsTried old.map.atom (place_of old.map step.piece) step.piece.count bytes) here step.goes.map
-        (logic_tried old new seals plain left lane o (failing o) step.piece bytes it sound (λ whole. absurd (cc)) (omega arith) (λ whole. absurd (cc)) (λ failed. refl))
-        (moves_by_tried old.map.atom (place_of old.map step.piece) step.piece.count bytes here.bytes old.disk new.disk step.call here.values some step.are.size)
-        (λ view after attempted shown. shown_tried old new seals plain left lane o (failing o) step.piece bytes view after it attempted step.goes.broken_is shown))
-        step.goes.map
+    (here_after old new seals plain (now_of old seals plain lane bytes) left left (IsTried old.map.atom (place_of old.map step.piece) step.piece.count bytes) here step.goes.map
+    (logic_tried old new seals plain left lane o (failing o) step.piece bytes it sound (λ whole. absurd (cc)) (omega arith) (λ whole. absurd (cc)) (λ failed. refl))
+    (moves_by_tried old.map.atom (place_of old.map step.piece) step.piece.count bytes here.bytes old.disk new.disk step.call here.values some step.are.size)
+    (λ view after attempted shown. shown_tried old new seals plain left lane o (failing o) step.piece bytes view after it attempted step.goes.broken_is shown))
+    step.goes.map
 write_served seals old new plain left lane o bytes broken exchanges here sound at writing has holds step are =
     goes_on seals old new plain left exchanges are
-        (failed_here seals old new plain left lane o true here sound at step.goes (λ whole. absurd (cc)) (λ is. refl) (moves_not old.map.atom here.bytes old.disk new.disk step.rests here.values))
-        step.goes.map
+    (failed_here seals old new plain left lane o true here sound at step.goes (λ whole. absurd (cc)) (λ is. refl) (moves_not old.map.atom here.bytes old.disk new.disk step.rests here.values))
+    step.goes.map
 
 -- a flush that ends
 pub flush_served : {K P : Type 0} (seals : Seals) (old new : State K) (plain : ℕ → List ℕ) (left : List Block) (lane : ℕ) (o : Open) (outcome : Outcome) (exchanges : List Exchange) →
@@ -237,22 +237,22 @@ settle_served seals old new plain left lane o done exchanges here sound at force
     let has = forced_locks o.ask forced in
     let goes = subst (λ x. Goes old new lane old.entries x false) (let e : after_settle o (settling o) ≡ Some (settling o) = rw has refl in e) step.goes in
     goes_on seals old new plain left exchanges are
-        (here_after old new seals plain plain left left IsSynced here step.goes.map
-        (logic_settled old new plain left lane o here.logic sound at whole goes step.was) (moves_by_sync old.map.atom here.bytes old.disk new.disk step.call here.values)
-        (λ view after synced shown. shown_settled old new plain seals left lane o view after (positive old seals plain left here) here.logic at forced whole goes step.was synced shown))
-        step.goes.map
+    (here_after old new seals plain plain left left IsSynced here step.goes.map
+    (logic_settled old new plain left lane o here.logic sound at whole goes step.was) (moves_by_sync old.map.atom here.bytes old.disk new.disk step.call here.values)
+    (λ view after synced shown. shown_settled old new plain seals left lane o view after (positive old seals plain left here) here.logic at forced whole goes step.was synced shown))
+    step.goes.map
 settle_served seals old new plain left lane o device exchanges here sound at forced whole step are =
     let has = forced_locks o.ask forced in
     let goes = subst (λ x. Goes old new lane old.entries x true) (let e : after_settle o (failing o) ≡ Some (failing o) = rw has refl in e) step.goes in
     goes_on seals old new plain left exchanges are
-        (here_after old new seals plain plain left left IsThinned here step.goes.map
-        (logic_failed old new plain left lane o true here.logic sound at goes (λ stays. absurd (cc)) (λ writing. refl)) (moves_by_failed_sync old.map.atom here.bytes old.disk new.disk step.call here.values)
-        (λ view after thinned shown. shown_kept old plain new plain seals left view after goes.map (failing_keeps old new plain lane o true at goes)
-        (λ unbroken. absurd (let breaks = goes.broken_is in cc)) thinned shown))
-        step.goes.map
+    (here_after old new seals plain plain left left IsThinned here step.goes.map
+    (logic_failed old new plain left lane o true here.logic sound at goes (λ stays. absurd (cc)) (λ writing. refl)) (moves_by_failed_sync old.map.atom here.bytes old.disk new.disk step.call here.values)
+    (λ view after thinned shown. shown_kept old plain new plain seals left view after goes.map (failing_keeps old new plain lane o true at goes)
+    (λ unbroken. absurd (let breaks = goes.broken_is in cc)) thinned shown))
+    step.goes.map
 settle_served seals old new plain left lane o broken exchanges here sound at forced whole step are =
     let has = forced_locks o.ask forced in
     let goes = subst (λ x. Goes old new lane old.entries x true) (let e : after_settle o (failing o) ≡ Some (failing o) = rw has refl in e) step.goes in
     goes_on seals old new plain left exchanges are
-        (failed_here seals old new plain left lane o true here sound at goes (λ stays. absurd (cc)) (λ writing. refl) (moves_not old.map.atom here.bytes old.disk new.disk step.rests here.values))
-        step.goes.map
+    (failed_here seals old new plain left lane o true here sound at goes (λ stays. absurd (cc)) (λ writing. refl) (moves_not old.map.atom here.bytes old.disk new.disk step.rests here.values))
+    step.goes.map

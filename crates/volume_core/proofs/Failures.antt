@@ -20,10 +20,10 @@ other_fails lane other before failure differ = elim (either (nat_eq other lane))
   | inl same ↦ absurd (differ (grind (arith, same)))
   | inr not_same ↦ rw not_same (beside before)
 ]
- where
-  beside : (b : Bool) → (b || false) ≡ b
-  beside true = refl
-  beside false = refl
+  where
+    beside : (b : Bool) → (b || false) ≡ b
+    beside true = refl
+    beside false = refl
 
 own_fails : (lane : ℕ) (before failure : Bool) → (before || ((lane == lane) && failure)) ≡ (before || failure)
 own_fails lane before failure = (let same : nat_eq lane lane ≡ true = grind arith in rw same refl)
@@ -57,14 +57,14 @@ read_fails old new lane other q (waits third) before at step was o is = absurd s
 read_fails old new lane other q (refused number) before at step was o is = absurd step
 read_fails old new lane other q (got bytes) before at step was o is =
     of_lane old new lane other old.entries (Some (moved q step.piece)) false false before o step.goes was
-        (λ p same own. let e : p ≡ moved q step.piece = cc in ap (λ x. x.failed) e ∙ had_failed old lane other q before at was own ∙ sym (or_false before)) is
+    (λ p same own. let e : p ≡ moved q step.piece = cc in ap (λ x. x.failed) e ∙ had_failed old lane other q before at was own ∙ sym (or_false before)) is
 read_fails old new lane other q done before at step was o is = absurd step
 read_fails old new lane other q device before at step was o is =
     of_lane old new lane other old.entries (Some (failing q)) false true before o step.goes was
-        (λ p same own. let e : p ≡ failing q = cc in ap (λ x. x.failed) e ∙ sym (or_true before)) is
+    (λ p same own. let e : p ≡ failing q = cc in ap (λ x. x.failed) e ∙ sym (or_true before)) is
 read_fails old new lane other q broken before at step was o is =
     of_lane old new lane other old.entries (Some (failing q)) true true before o step.goes was
-        (λ p same own. let e : p ≡ failing q = cc in ap (λ x. x.failed) e ∙ sym (or_true before)) is
+    (λ p same own. let e : p ≡ failing q = cc in ap (λ x. x.failed) e ∙ sym (or_true before)) is
 
 write_fails : {K : Type 0} (old new : State K) (lane other : ℕ) (q : Open) (bytes : List ℕ) (outcome : Outcome) (before : Bool) → open_at old.lanes other ≡ Some q → WriteStep old other q bytes outcome new →
     ((p : Open) → open_at old.lanes lane ≡ Some p → p.failed ≡ before) → (o : Open) → open_at new.lanes lane ≡ Some o → o.failed ≡ (before || ((other == lane) && is_failure outcome))
@@ -74,13 +74,13 @@ write_fails old new lane other q bytes (refused number) before at step was o is 
 write_fails old new lane other q bytes (got sealed) before at step was o is = absurd step
 write_fails old new lane other q bytes done before at step was o is =
     of_lane old new lane other old.entries (Some (moved q step.piece)) false false before o step.goes was
-        (λ p same own. let e : p ≡ moved q step.piece = cc in ap (λ x. x.failed) e ∙ had_failed old lane other q before at was own ∙ sym (or_false before)) is
+    (λ p same own. let e : p ≡ moved q step.piece = cc in ap (λ x. x.failed) e ∙ had_failed old lane other q before at was own ∙ sym (or_false before)) is
 write_fails old new lane other q bytes device before at step was o is =
     of_lane old new lane other old.entries (Some (failing q)) true true before o step.goes was
-        (λ p same own. let e : p ≡ failing q = cc in ap (λ x. x.failed) e ∙ sym (or_true before)) is
+    (λ p same own. let e : p ≡ failing q = cc in ap (λ x. x.failed) e ∙ sym (or_true before)) is
 write_fails old new lane other q bytes broken before at step was o is =
     of_lane old new lane other old.entries (Some (failing q)) true true before o step.goes was
-        (λ p same own. let e : p ≡ failing q = cc in ap (λ x. x.failed) e ∙ sym (or_true before)) is
+    (λ p same own. let e : p ≡ failing q = cc in ap (λ x. x.failed) e ∙ sym (or_true before)) is
 
 -- after a settle the operation has failed as its result says, if it is open still
 settled_is : (q now p : Open) → after_settle q now ≡ Some p → p ≡ now
@@ -97,13 +97,13 @@ settle_fails old new lane other q (refused number) before at step was o is = abs
 settle_fails old new lane other q (got sealed) before at step was o is = absurd step
 settle_fails old new lane other q done before at step was o is =
     of_lane old new lane other old.entries (after_settle q (settling q)) false false before o step.goes was
-        (λ p same own. ap (λ x. x.failed) (settled_is q (settling q) p same) ∙ had_failed old lane other q before at was own ∙ sym (or_false before)) is
+    (λ p same own. ap (λ x. x.failed) (settled_is q (settling q) p same) ∙ had_failed old lane other q before at was own ∙ sym (or_false before)) is
 settle_fails old new lane other q device before at step was o is =
     of_lane old new lane other old.entries (after_settle q (failing q)) true true before o step.goes was
-        (λ p same own. ap (λ x. x.failed) (settled_is q (failing q) p same) ∙ sym (or_true before)) is
+    (λ p same own. ap (λ x. x.failed) (settled_is q (failing q) p same) ∙ sym (or_true before)) is
 settle_fails old new lane other q broken before at step was o is =
     of_lane old new lane other old.entries (after_settle q (failing q)) true true before o step.goes was
-        (λ p same own. ap (λ x. x.failed) (settled_is q (failing q) p same) ∙ sym (or_true before)) is
+    (λ p same own. ap (λ x. x.failed) (settled_is q (failing q) p same) ∙ sym (or_true before)) is
 
 -- a lane that begins has not failed, and what another begins or ends changes nothing
 admit_fails : {K : Type 0} (old new : State K) (lane other : ℕ) (ask : Ask) (outcome : Outcome) (before : Bool) → open_at old.lanes other ≡ None → AdmitStep old other ask outcome new →

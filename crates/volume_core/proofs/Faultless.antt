@@ -101,9 +101,9 @@ fine_read old new seals plain lane o (waits other) fine sound at reading same be
 fine_read old new seals plain lane o (refused number) fine sound at reading same below step = absurd step
 fine_read old new seals plain lane o (got bytes) fine sound at reading same below step =
     fine_after old new seals plain (with_plain plain lane (plain lane ++ plain_piece seals old lane bytes)) lane old.entries (Some (moved o step.piece)) fine sound step.goes
-        (plain-other plain lane (plain lane ++ plain_piece seals old lane bytes))
-        (λ p is. let e : p ≡ moved o step.piece = cc in
-        rw e ((fine.lanes lane o at).0, λ has. piece_length old seals plain lane o step.piece bytes fine at has step.next step.are))
+    (plain-other plain lane (plain lane ++ plain_piece seals old lane bytes))
+    (λ p is. let e : p ≡ moved o step.piece = cc in
+    rw e ((fine.lanes lane o at).0, λ has. piece_length old seals plain lane o step.piece bytes fine at has step.next step.are))
 fine_read old new seals plain lane o done fine sound at reading same below step = absurd step
 fine_read old new seals plain lane o device fine sound at reading same below step = absurd (rose_not old.disk.faults new.disk.faults (step.call.cause.failed refl) same below)
 fine_read old new seals plain lane o broken fine sound at reading same below step = absurd (let was = step.was in let whole = fine.unbroken in cc)
@@ -116,9 +116,9 @@ fine_write old new seals plain lane o bytes (refused number) fine sound at writi
 fine_write old new seals plain lane o bytes (got sealed) fine sound at writing same below step = absurd step
 fine_write old new seals plain lane o bytes done fine sound at writing same below step =
     fine_after old new seals plain (with_plain plain lane (plain lane ++ plain_piece seals old lane bytes)) lane old.entries (Some (moved o step.piece)) fine sound step.goes
-        (plain-other plain lane (plain lane ++ plain_piece seals old lane bytes))
-        (λ p is. let e : p ≡ moved o step.piece = cc in
-        rw e ((fine.lanes lane o at).0, λ has. piece_length old seals plain lane o step.piece bytes fine at has step.next step.are))
+    (plain-other plain lane (plain lane ++ plain_piece seals old lane bytes))
+    (λ p is. let e : p ≡ moved o step.piece = cc in
+    rw e ((fine.lanes lane o at).0, λ has. piece_length old seals plain lane o step.piece bytes fine at has step.next step.are))
 fine_write old new seals plain lane o bytes device fine sound at writing same below step = absurd (rose_not old.disk.faults new.disk.faults (step.call.cause.failed refl) same below)
 fine_write old new seals plain lane o bytes broken fine sound at writing same below step = absurd (let was = step.was in let whole = fine.unbroken in cc)
 
@@ -132,10 +132,10 @@ ends_or_settled o p is = elim (either (has_lock o.ask)) [
 settle_full : {K : Type 0} (old : State K) (o : Open) → wrong_ask old.map.atom (size_of old.map) o.ask ≡ None → CanSettle o → AreFull old.map.atom (size_of old.map) (by_settle (Some o) done)
 settle_full old o proper (inl is) =
     subst (λ xs. AreFull old.map.atom (size_of old.map) xs) (let e : record { ask = Flush; plain = []; reply = Done } ∷ [] ≡ by_settle (Some o) done = rw is refl in e)
-        (proper_full old.map.atom (size_of old.map) (record { ask = Flush; plain = []; reply = Done }) refl refl)
+    (proper_full old.map.atom (size_of old.map) (record { ask = Flush; plain = []; reply = Done }) refl refl)
 settle_full old o proper (inr (forced, ended, unfailed, unsettled)) =
     subst (λ xs. AreFull old.map.atom (size_of old.map) xs) (let has = forced_locks o.ask forced in let e : [] ≡ by_settle (Some o) done = rw has refl in e)
-        (none_full old.map.atom (size_of old.map))
+    (none_full old.map.atom (size_of old.map))
 
 fine_settle : {K : Type 0} (old new : State K) (seals : Seals) (plain : ℕ → List ℕ) (lane : ℕ) (o : Open) (outcome : Outcome) → IsFine old seals plain → IsSound new → open_at old.lanes lane ≡ Some o → CanSettle o →
     new.disk.faults ≡ old.disk.faults → old.disk.faults < 2 ^ 64 - 1 → SettleStep old lane o outcome new → FineAfter old new seals plain (by_settle (Some o) outcome)
@@ -303,10 +303,12 @@ fine_run start seals plain (one ∷ rest) fine (meets, step, is) same below =
     let here : one.after.disk.faults ≡ start.disk.faults = omega (arith, first, behind, same) in
     let after = fine_event start one.after seals plain one.event one.outcome fine meets step here below in
     let later = fine_run one.after seals (plain_after seals start one.event one.outcome plain) rest after.fine is (same ∙ sym here) (omega (arith, here, below)) in
-    let map = map_event start one.after seals plain plain one.event one.outcome step in
-    (full_joined start.map.atom (size_of start.map) (answered_by start one.event one.outcome plain)
-    (answered_in seals one.after (plain_after seals start one.event one.outcome plain) rest) after.full
-    (subst (λ m. AreFull m.atom (size_of m) (answered_in seals one.after (plain_after seals start one.event one.outcome plain) rest)) map later.0), later.1)
+    let map = map_event start one.after seals plain plain one.event one.outcome step in (
+      full_joined start.map.atom (size_of start.map) (answered_by start one.event one.outcome plain)
+          (answered_in seals one.after (plain_after seals start one.event one.outcome plain) rest) after.full
+          (subst (λ m. AreFull m.atom (size_of m) (answered_in seals one.after (plain_after seals start one.event one.outcome plain) rest)) map later.0),
+      later.1,
+    )
 
 -- what was answered in full was served
 exchange_served : (atom size : ℕ) (answered : Answered) (exchange : Exchange) → IsExchange answered exchange →
@@ -314,15 +316,16 @@ exchange_served : (atom size : ℕ) (answered : Answered) (exchange : Exchange) 
     MatchOption (wrong_of atom size exchange.op) (IsServed exchange.op exchange.reply) (λ number. exchange.reply ≡ Errno number)
 exchange_served atom size answered exchange is full =
     served_by (wrong_ask atom size answered.ask) (wrong_asked atom size answered.ask answered.plain exchange.op is.op) full
- where
-  full_served : (ask : Ask) → Asked ask answered.plain exchange.op → IsFull answered ask → IsServed exchange.op exchange.reply
-  full_served (Read offset len) op parts = rw (op, is.reply, parts.0) parts.1
-  full_served (Write offset len fua) (body, op, long, begins) full_so = rw (op, is.reply) full_so
-  full_served Flush op full_so = rw (op, is.reply) full_so
-  served_by : (wrong : Option ℕ) → wrong_of atom size exchange.op ≡ wrong → MatchOption wrong (IsFull answered answered.ask) (λ number. answered.reply ≡ Errno number) →
-      MatchOption (wrong_of atom size exchange.op) (IsServed exchange.op exchange.reply) (λ number. exchange.reply ≡ Errno number)
-  served_by None why full_so = rw why (full_served answered.ask is.op full_so)
-  served_by (Some number) why full_so = rw why (is.reply ∙ full_so)
+  where
+    full_served : (ask : Ask) → Asked ask answered.plain exchange.op → IsFull answered ask → IsServed exchange.op exchange.reply
+    full_served (Read offset len) op parts = rw (op, is.reply, parts.0) parts.1
+    full_served (Write offset len fua) (body, op, long, begins) full_so = rw (op, is.reply) full_so
+    full_served Flush op full_so = rw (op, is.reply) full_so
+
+    served_by : (wrong : Option ℕ) → wrong_of atom size exchange.op ≡ wrong → MatchOption wrong (IsFull answered answered.ask) (λ number. answered.reply ≡ Errno number) →
+        MatchOption (wrong_of atom size exchange.op) (IsServed exchange.op exchange.reply) (λ number. exchange.reply ≡ Errno number)
+    served_by None why full_so = rw why (full_served answered.ask is.op full_so)
+    served_by (Some number) why full_so = rw why (is.reply ∙ full_so)
 
 exchanges_served : (atom size : ℕ) (answered : List Answered) (exchanges : List Exchange) → AreExchanges answered exchanges → AreFull atom size answered → AreServed atom size exchanges
 unfolding AreExchanges AreFull AreServed

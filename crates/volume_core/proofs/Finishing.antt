@@ -42,9 +42,9 @@ pub shown_read_ended : {K : Type 0} (old new : State K) (plain : ℕ → List �
     open_at old.lanes lane ≡ Some o → IsRead o.ask → Ends old new lane → IsUnchanged view next → Shown old seals plain left view → Shown new seals plain left next
 shown_read_ended old new plain seals left lane o view next is reads goes same shown =
     shown_kept old plain new plain seals left view next goes.map
-        (writes_stay old plain new plain lane None goes.map goes.lane_is (λ k other. refl) (λ b value. read_untried old plain lane b value o is reads)
-        (λ b value. idle new plain lane b value goes.lane_is.own) (λ one same_one. absurd (cc)))
-        (λ whole. (sym goes.broken_is ∙ whole, same.current)) same.candidates shown
+    (writes_stay old plain new plain lane None goes.map goes.lane_is (λ k other. refl) (λ b value. read_untried old plain lane b value o is reads)
+    (λ b value. idle new plain lane b value goes.lane_is.own) (λ one same_one. absurd (cc)))
+    (λ whole. (sym goes.broken_is ∙ whole, same.current)) same.candidates shown
 
 -- A write that ended, and what it made of the blocks that it tried: each has the new value, and either
 -- keeps those before, or was settled.
@@ -89,7 +89,7 @@ only_own : {K : Type 0} (old new : State K) (plain : ℕ → List ℕ) (left : L
     EndsWrite old new plain left lane o change count → j < count → k ≢ lane → IsTriedBy old plain k (o.range.start + j) value → ⊥
 only_own old new plain left lane k o change count j value it below other tried =
     tried_apart old plain left lane k (o.range.start + j) value o it.logic it.some (λ same. other (sym same)) it.at (writes_lock o.ask it.writes) it.holds
-        (omega arith) (let most = it.most in omega (arith, most, below)) tried
+    (omega arith) (let most = it.most in omega (arith, most, below)) tried
 
 -- what is tried still was tried before, by another lane
 tried_before : {K : Type 0} (old new : State K) (plain : ℕ → List ℕ) (left : List Block) (lane k : ℕ) (o : Open) (change : Block → List ℕ → Block) (count b : ℕ) (value : List ℕ) →
@@ -206,10 +206,12 @@ ended_allowed old new seals plain left lane o change count view it shown b below
               ]
             ]
             | inr (forced, settled) ↦
-                let place : b - o.range.start ≡ j = omega (arith, is) in
-                (block_at old.map.atom (plain lane) j, inl own_has,
-                subst (λ n. IsSealed old.map seals b (block_at old.map.atom (plain lane) n) atom) place
-                    (shown.settled lane o it.at forced settled b (omega (arith, is)) (let most = it.most in omega (arith, most, is, lt)) atom contains))
+                let place : b - o.range.start ≡ j = omega (arith, is) in (
+                  block_at old.map.atom (plain lane) j,
+                  inl own_has,
+                  subst (λ n. IsSealed old.map seals b (block_at old.map.atom (plain lane) n) atom) place
+                      (shown.settled lane o it.at forced settled b (omega (arith, is)) (let most = it.most in omega (arith, most, is, lt)) atom contains),
+                )
           ]
       | inr outside ↦
           let same = ended_outside old plain left lane o change count b outside in
@@ -234,30 +236,35 @@ ended_current old new plain left lane o change count it b value is_now = elim (i
   | inl (j, lt, is) ↦
       let now : (block_in next b).newest ≡ block_at old.map.atom (plain lane) j =
       subst (λ n. (block_in next n).newest ≡ block_at old.map.atom (plain lane) j) (sym is)
-          (ap (λ block. block.newest) (ended_inside old new plain left lane o change count j it lt) ∙ it.newest (block_in left (o.range.start + j)) (block_at old.map.atom (plain lane) j)) in
+      (ap (λ block. block.newest) (ended_inside old new plain left lane o change count j it lt) ∙ it.newest (block_in left (o.range.start + j)) (block_at old.map.atom (plain lane) j)) in
       let place : b - o.range.start ≡ j = omega (arith, is) in
       let enough : suc (b - o.range.start) * old.map.atom ≤ length (plain lane) = (let size = it.are.size in let some = it.some in rw (place, size) (grind (arith, lt))) in
       let own : value ≡ block_at old.map.atom (plain lane) (b - o.range.start) =
       own_value old plain left lane b value o it.logic it.some it.at it.writes it.holds (omega (arith, is)) (let most = it.most in omega (arith, most, is, lt)) enough is_now in
-      inr (λ k other tried. (let (differ, before) = tried_before old new plain left lane k o change count b other it tried in
-          only_own old new plain left lane k o change count j other it lt differ (subst (λ n. IsTriedBy old plain k n other) is before)),
-      own ∙ ap (λ n. block_at old.map.atom (plain lane) n) place ∙ sym now)
+      inr (
+        λ k other tried. (let (differ, before) = tried_before old new plain left lane k o change count b other it tried in
+            only_own old new plain left lane k o change count j other it lt differ (subst (λ n. IsTriedBy old plain k n other) is before)),
+        own ∙ ap (λ n. block_at old.map.atom (plain lane) n) place ∙ sym now,
+      )
   | inr outside ↦ beside outside is_now
 ]
- where
-  next : List Block
-  next = ended_blocks old plain left lane o change count
-  beside : IsOutside o.range.start count b → IsNow old plain left b value → IsNow new plain next b value
-  beside outside (inl (k, tried)) = elim (same_or_not k lane) [
-    | inl is_lane ↦ absurd (let (i, i_lt, i_is, i_value) = own_of old new plain left lane o change count b value it (subst (λ n. IsTriedBy old plain n b value) is_lane tried) in
-        elim outside [
-          | inl less ↦ omega (arith, less, i_is)
-          | inr more ↦ omega (arith, more, i_is, i_lt)
-        ])
-    | inr other ↦ inl (k, tried_after old new plain left lane k o change count b value it other tried)
-  ]
-  beside outside (inr (none, is)) = inr (λ k other tried. (let (differ, before) = tried_before old new plain left lane k o change count b other it tried in none k other before),
-      is ∙ sym (ap (λ block. block.newest) (ended_outside old plain left lane o change count b outside)))
+  where
+    next : List Block
+    next = ended_blocks old plain left lane o change count
+
+    beside : IsOutside o.range.start count b → IsNow old plain left b value → IsNow new plain next b value
+    beside outside (inl (k, tried)) = elim (same_or_not k lane) [
+      | inl is_lane ↦ absurd (let (i, i_lt, i_is, i_value) = own_of old new plain left lane o change count b value it (subst (λ n. IsTriedBy old plain n b value) is_lane tried) in
+          elim outside [
+            | inl less ↦ omega (arith, less, i_is)
+            | inr more ↦ omega (arith, more, i_is, i_lt)
+          ])
+      | inr other ↦ inl (k, tried_after old new plain left lane k o change count b value it other tried)
+    ]
+    beside outside (inr (none, is)) = inr (
+      λ k other tried. (let (differ, before) = tried_before old new plain left lane k o change count b other it tried in none k other before),
+      is ∙ sym (ap (λ block. block.newest) (ended_outside old plain left lane o change count b outside)),
+    )
 
 pub shown_write_ended : {K : Type 0} (old new : State K) (seals : Seals) (plain : ℕ → List ℕ) (left : List Block) (lane : ℕ) (o : Open) (change : Block → List ℕ → Block) (count : ℕ) (view next : View) →
     EndsWrite old new plain left lane o change count → IsUnchanged view next → Shown old seals plain left view →

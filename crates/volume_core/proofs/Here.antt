@@ -132,10 +132,10 @@ pub piece_in_bytes : {K P : Type 0} (state : State K) (seals : Seals) (plain : �
     state.broken ≡ false → IsPieceOf state.map o piece → o.range.end ≤ state.map.blocks → (place_of state.map piece + piece.count) * state.map.atom ≤ length here.bytes
 piece_in_bytes state seals plain left o piece here was next inside =
     blocks_of_whole state.map.atom (place_of state.map piece) piece.count here.bytes (positive state seals plain left here) next.some
-        (λ k below. piece_length state seals plain left (view_of_bytes state.map.atom here.bytes) o piece k here.lawful here.shown was next inside below)
+    (λ k below. piece_length state seals plain left (view_of_bytes state.map.atom here.bytes) o piece k here.lawful here.shown was next inside below)
 
 pub piece_in_tables : {K P : Type 0} (state : State K) (seals : Seals) (plain : ℕ → List ℕ) (left : List Block) (o : Open) (piece : Piece) → Here P state seals plain left →
     state.broken ≡ false → IsPieceOf state.map o piece → o.range.end ≤ state.map.blocks → P → HasPlaces state.disk (place_of state.map piece) piece.count
 piece_in_tables state seals plain left o piece here was next inside premise =
     places_of_current state.disk state.map.atom (place_of state.map piece) piece.count (positive state seals plain left here)
-        (λ before is k below. piece_length state seals plain left (view_of_cells before.now) o piece k here.lawful (here.tables premise before is) was next inside below)
+    (λ before is k below. piece_length state seals plain left (view_of_cells before.now) o piece k here.lawful (here.tables premise before is) was next inside below)

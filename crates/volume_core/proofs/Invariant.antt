@@ -164,12 +164,12 @@ shown_kept old plain new now seals left view next map keeps unbroken thinned sho
       (value, now_kept old plain new now left b value keeps.tried is_now, rw (map, same (place_in old.map b)) sealed);
   candidates = λ b below atom contains.
       let (value, allowed, sealed) = shown.candidates b (subst (λ m. b < m.blocks) map below) atom
-          (thinned (place_in old.map b) atom (subst (λ m. Contains (next.candidates (place_in m b)) atom) map contains)) in
+      (thinned (place_in old.map b) atom (subst (λ m. Contains (next.candidates (place_in m b)) atom) map contains)) in
       (value, allowed_kept old plain new now left b value keeps.tried allowed, rw map sealed);
   settled = λ lane o is forced is_settled b from to atom contains.
       let (before, was, ask, range, was_settled, known) = keeps.settled lane o is forced is_settled in
       let sealed = shown.settled lane before was (subst (λ a. IsForced a) (sym ask) forced) was_settled b (rw range from) (rw range to) atom
-          (thinned (place_in old.map b) atom (subst (λ m. Contains (next.candidates (place_in m b)) atom) map contains)) in
+      (thinned (place_in old.map b) atom (subst (λ m. Contains (next.candidates (place_in m b)) atom) map contains)) in
       rw (map, known, ← range) sealed;
 }
 

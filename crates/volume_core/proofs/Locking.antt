@@ -55,10 +55,13 @@ pub find-there : {X : Type 0} (p : X → Bool) (x : X) (xs : List X) → p x ≡
 find-there p x xs is = rw is refl
 
 pub conflicts-back : (e f : Entry) → Conflicts e f → Conflicts f e
-conflicts-back e f ((k, both), kinds) = ((k, (both.1, both.0)), elim kinds [
-  | inl first ↦ inr first
-  | inr second ↦ inl second
-])
+conflicts-back e f ((k, both), kinds) = (
+  (k, (both.1, both.0)),
+  elim kinds [
+    | inl first ↦ inr first
+    | inr second ↦ inl second
+  ],
+)
 
 -- a table with one more entry behind all others
 pub find-more : (p : Entry → Bool) (xs : List Entry) (e : Entry) → p e ≡ false → find p (xs ++ e ∷ []) ≡ find p xs
@@ -74,9 +77,9 @@ find-last p (x ∷ xs) e none own = elim (either (p x)) [
   | inl is ↦ absurd (some_is_none x (sym (find-here p x xs is) ∙ none))
   | inr is ↦ rw is (find-last p xs e (sym (find-there p x xs is) ∙ none) own)
 ]
- where
-  some_is_none : (x : Entry) → Some x ≡ None → ⊥
-  some_is_none x same = cc
+  where
+    some_is_none : (x : Entry) → Some x ≡ None → ⊥
+    some_is_none x same = cc
 
 pub before-more : (p : Entry → Bool) (xs : List Entry) (e first : Entry) → find p xs ≡ Some first → before_first p (xs ++ e ∷ []) ≡ before_first p xs
 before-more p [] e first found = absurd (cc)
@@ -207,8 +210,8 @@ before-without P lane other (x ∷ xs) differ all = elim (either (is_of lane x))
     | inr not_own ↦
         let parts : All P (x ∷ before_first (is_of other) xs) = subst (λ ys. All P ys) (before-there (is_of other) x xs not_own) all in
         subst (λ ys. All P ys) (sym (before-there (is_of other) x (without lane xs) not_own))
-            (All-cons P x (before_first (is_of other) (without lane xs)) (All-head P x (before_first (is_of other) xs) parts)
-            (before-without P lane other xs differ (All-tail P x (before_first (is_of other) xs) parts)))
+        (All-cons P x (before_first (is_of other) (without lane xs)) (All-head P x (before_first (is_of other) xs) parts)
+        (before-without P lane other xs differ (All-tail P x (before_first (is_of other) xs) parts)))
   ])
 ]
 
@@ -253,5 +256,5 @@ holders-apart one other e f entries differ is_e is_f one_holds other_holds both 
     let same_e : by_one.entry ≡ e = (let found = by_one.is in cc) in
     let same_f : by_other.entry ≡ f = (let found = by_other.is in cc) in
     apart_by one other e f entries differ is_e is_f
-        (subst (λ y. All (λ x. Conflicts x y → ⊥) (before_first (is_of one) entries)) same_e by_one.free)
-        (subst (λ y. All (λ x. Conflicts x y → ⊥) (before_first (is_of other) entries)) same_f by_other.free) both
+    (subst (λ y. All (λ x. Conflicts x y → ⊥) (before_first (is_of one) entries)) same_e by_one.free)
+    (subst (λ y. All (λ x. Conflicts x y → ⊥) (before_first (is_of other) entries)) same_f by_other.free) both

@@ -53,9 +53,9 @@ plain_starts start seals bytes sound fresh apart whole lawful nothing values lon
           rw (plain_in start.map.atom start.disk.atoms bytes b inside, whole.places b below)
           (one_block start.map.atom start.disk.atoms bytes b blocks inside, sym (nothing.sealed (side_in start.map b) b (block_at start.map.atom bytes b))));
     }
- where
-  plain_block_list : ℕ → ℕ → List ℕ → List Block
-  plain_block_list atom atoms text = settled_blocks (blocks_of atom atoms text)
+  where
+    plain_block_list : ℕ → ℕ → List ℕ → List Block
+    plain_block_list atom atoms text = settled_blocks (blocks_of atom atoms text)
 
 -- the current values of a table, and its only candidates
 current_in : (cells : List Cell) (place : ℕ) → (cell_in cells place).current ≡ slice_index_or (currents cells) place []
@@ -68,10 +68,10 @@ settled_cell : (cells : List Cell) (place : ℕ) (atom : List ℕ) → AreSettle
 unfolding AreSettled
 settled_cell [] place atom settled has = absurd (omega (arith, has.1))
 settled_cell (cell ∷ cells) zero atom settled has = one_of cell.current atom (subst (λ xs. Contains xs atom) settled.0 has)
- where
-  one_of : (x value : List ℕ) → Contains (x ∷ []) value → value ≡ x
-  one_of x value (zero, below, is) = sym is
-  one_of x value (suc k, below, is) = absurd (omega (arith, below))
+  where
+    one_of : (x value : List ℕ) → Contains (x ∷ []) value → value ≡ x
+    one_of x value (zero, below, is) = sym is
+    one_of x value (suc k, below, is) = absurd (omega (arith, below))
 settled_cell (cell ∷ cells) (suc place) atom settled has = settled_cell cells place atom settled.1 has
 
 table_blocks : (atom atoms : ℕ) (bytes : List ℕ) (cells : List Cell) → bytes ≡ content cells → lengths (currents cells) ≡ replicate atoms atom → blocks_of atom atoms bytes ≡ currents cells
@@ -89,13 +89,15 @@ plain_covered start seals bytes whole nothing long are tells = λ told is.
     let blocks : AreBlocks atom atoms bytes = record { size = long; are_bytes = are } in
     let sealed : (b : ℕ) → b < start.map.blocks → IsSealed start.map seals b (block_in (plain_blocks start bytes) b).newest (cell_in told.now (place_in start.map b)).current =
     λ b below. (let inside : b < atoms = subst (λ n. b < n) whole.blocks below in
-        let current : (cell_in told.now (place_in start.map b)).current ≡ block_at atom bytes b =
-        ap (λ p. (cell_in told.now p).current) (whole.places b below) ∙ current_in told.now b ∙ ap (λ vs. slice_index_or vs b []) (sym (table_blocks atom atoms bytes told.now same even))
-        ∙ blocks_of-at atom atoms bytes b [] inside in
-        rw (plain_in atom atoms bytes b inside, current)
-            (one_block atom atoms bytes b blocks inside, sym (nothing.sealed (side_in start.map b) b (block_at atom bytes b)))) in record {
-      candidates = λ b below value has.
-          ((block_in (plain_blocks start bytes) b).newest, newest_contained (block_in (plain_blocks start bytes) b),
-          subst (λ x. IsSealed start.map seals b (block_in (plain_blocks start bytes) b).newest x) (sym (settled_cell told.now (place_in start.map b) value settled has)) (sealed b below));
+    let current : (cell_in told.now (place_in start.map b)).current ≡ block_at atom bytes b =
+    ap (λ p. (cell_in told.now p).current) (whole.places b below) ∙ current_in told.now b ∙ ap (λ vs. slice_index_or vs b []) (sym (table_blocks atom atoms bytes told.now same even))
+    ∙ blocks_of-at atom atoms bytes b [] inside in
+    rw (plain_in atom atoms bytes b inside, current)
+    (one_block atom atoms bytes b blocks inside, sym (nothing.sealed (side_in start.map b) b (block_at atom bytes b)))) in record {
+      candidates = λ b below value has. (
+        (block_in (plain_blocks start bytes) b).newest,
+        newest_contained (block_in (plain_blocks start bytes) b),
+        subst (λ x. IsSealed start.map seals b (block_in (plain_blocks start bytes) b).newest x) (sym (settled_cell told.now (place_in start.map b) value settled has)) (sealed b below),
+      );
       current = sealed;
     }

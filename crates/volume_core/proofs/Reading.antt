@@ -61,11 +61,12 @@ tried_apart state plain left lane other b value o logic some differ is has holds
     let range : o.range ≡ range_of state.map.atom o.ask = under_way.range_is in
     let others_range : tried.o.range ≡ range_of state.map.atom tried.o.ask = others_way.range_is in
     holders-apart lane other (entry_of state.map.atom lane o.ask) (entry_of state.map.atom other tried.o.ask) state.entries differ
-        (entry_is state lane o logic.sound is has)
-        (entry_is state other tried.o logic.sound tried.is (writes_lock tried.o.ask tried.writes))
-        holds (knows.holds (omega (arith, below)))
-        ((b, ((rw (← range) from, rw (← range) to), (rw (← others_range) begun, rw (← others_range) (omega (arith, below, most, begun))))),
-        inr (writes_alone tried.o.ask tried.writes))
+    (entry_is state lane o logic.sound is has)
+    (entry_is state other tried.o logic.sound tried.is (writes_lock tried.o.ask tried.writes))
+    holds (knows.holds (omega (arith, below))) (
+      (b, ((rw (← range) from, rw (← range) to), (rw (← others_range) begun, rw (← others_range) (omega (arith, below, most, begun))))),
+      inr (writes_alone tried.o.ask tried.writes),
+    )
 
 -- the blocks of a piece are on its side, in places one after the other
 pub piece_side : (map : Map) (o : Open) (piece : Piece) (k : ℕ) → IsPieceOf map o piece → k < piece.count → side_in map (o.next + k) ≡ piece.side
@@ -73,11 +74,11 @@ piece_side map o piece k next below = rw (next.one_side k below) refl
 
 pub piece_place : (map : Map) (o : Open) (piece : Piece) (k : ℕ) → IsPieceOf map o piece → k < piece.count → place_in map (o.next + k) ≡ place_of map piece + k
 piece_place map o piece k next below = rw (piece_side map o piece k next below, next.first) (place_behind map o.next k piece.side)
- where
-  place_behind : (map : Map) (first k : ℕ) (side : _) → place_on map (first + k) side ≡ place_on map first side + k
-  place_behind map first k Old = omega arith
-  place_behind map first k Zone = omega arith
-  place_behind map first k New = omega arith
+  where
+    place_behind : (map : Map) (first k : ℕ) (side : _) → place_on map (first + k) side ≡ place_on map first side + k
+    place_behind map first k Old = omega arith
+    place_behind map first k Zone = omega arith
+    place_behind map first k New = omega arith
 
 pub first_side : (map : Map) (o : Open) (piece : Piece) → IsPieceOf map o piece → side_in map o.next ≡ piece.side
 first_side map o piece next = (let e : o.next ≡ o.next + 0 = omega arith in let some = next.some in
@@ -104,9 +105,10 @@ right_read state seals plain left view b sealed lawful logic shown was below unt
     let newest : value ≡ (block_in left b).newest = elim is_now [
       | inl tried ↦ absurd (untried tried.0 value tried.1)
       | inr only ↦ only.1
-    ] in
-    (ap (λ bytes. seals.opened (side_in state.map b) b bytes) (same ∙ is_sealed.1) ∙ lawful.opens_sealed (side_in state.map b) b value is_sealed.0 ∙ newest,
-    logic.sure was b below)
+    ] in (
+      ap (λ bytes. seals.opened (side_in state.map b) b bytes) (same ∙ is_sealed.1) ∙ lawful.opens_sealed (side_in state.map b) b value is_sealed.0 ∙ newest,
+      logic.sure was b below,
+    )
 
 -- a piece was read
 knows_read : {K : Type 0} (old new : State K) (seals : Seals) (plain : ℕ → List ℕ) (left : List Block) (view : View) (lane : ℕ) (o : Open) (bytes : List ℕ) →
@@ -157,11 +159,11 @@ knows_read old new seals plain left view lane o bytes lawful some logic shown at
       kept = λ settled. absurd (let kept = knows.kept settled in let more = has.some in omega (arith, kept, more));
       breaks = λ writes failed. absurd (not_both o.ask reads writes);
     }
- where
-  not_both : (ask : Ask) → IsRead ask → IsWrite ask → ⊥
-  not_both (Read offset len) reads writes = writes
-  not_both (Write offset len fua) reads writes = reads
-  not_both Flush reads writes = reads
+  where
+    not_both : (ask : Ask) → IsRead ask → IsWrite ask → ⊥
+    not_both (Read offset len) reads writes = writes
+    not_both (Write offset len fua) reads writes = reads
+    not_both Flush reads writes = reads
 
 pub never_both : (ask : Ask) → IsRead ask → IsWrite ask → ⊥
 never_both (Read offset len) reads writes = writes
@@ -199,11 +201,11 @@ pub shown_read : {K : Type 0} (old new : State K) (seals : Seals) (plain : ℕ �
 shown_read old new seals plain left view next lane o bytes at reads is same shown =
     let now = with_plain plain lane (plain lane ++ plain_piece seals old lane bytes) in
     shown_kept old plain new now seals left view next is.goes.map
-        (writes_stay old plain new now lane (Some (moved o is.piece)) is.goes.map is.goes.lane_is
-        (plain-other plain lane (plain lane ++ plain_piece seals old lane bytes)) (λ b value. read_untried old plain lane b value o at reads)
-        (λ b value. read_untried new now lane b value (moved o is.piece) is.goes.lane_is.own reads)
-        (λ one same_one forced settled. let e : one ≡ moved o is.piece = cc in never_both o.ask reads (forced_writes o.ask (subst (λ p. IsForced p.ask) e forced))))
-        (λ whole. (is.was, same.current)) same.candidates shown
+    (writes_stay old plain new now lane (Some (moved o is.piece)) is.goes.map is.goes.lane_is
+    (plain-other plain lane (plain lane ++ plain_piece seals old lane bytes)) (λ b value. read_untried old plain lane b value o at reads)
+    (λ b value. read_untried new now lane b value (moved o is.piece) is.goes.lane_is.own reads)
+    (λ one same_one forced settled. let e : one ≡ moved o is.piece = cc in never_both o.ask reads (forced_writes o.ask (subst (λ p. IsForced p.ask) e forced))))
+    (λ whole. (is.was, same.current)) same.candidates shown
 
 -- an event of an operation failed
 knows_failing : {K : Type 0} (state : State K) (plain : ℕ → List ℕ) (left : List Block) (lane : ℕ) (o : Open) → (IsWrite o.ask → state.broken ≡ true) →
@@ -249,9 +251,9 @@ pub logic_failed : {K : Type 0} (old new : State K) (plain : ℕ → List ℕ) (
     (IsWrite o.ask → is_broken ≡ true) → Logic new plain left
 logic_failed old new plain left lane o is_broken logic sound at goes unbroken breaks =
     logic_goes_on old new plain left lane (Some (failing o)) is_broken logic sound goes unbroken
-        (λ one same. let e : one ≡ failing o = cc in
-        rw e (knows_failing new plain left lane o (λ writes. goes.broken_is ∙ breaks writes)
-        (knows_on old new plain left lane (Some (failing o)) is_broken o goes unbroken (logic.lanes lane o at))))
+    (λ one same. let e : one ≡ failing o = cc in
+    rw e (knows_failing new plain left lane o (λ writes. goes.broken_is ∙ breaks writes)
+    (knows_on old new plain left lane (Some (failing o)) is_broken o goes unbroken (logic.lanes lane o at))))
 
 pub failing_keeps : {K : Type 0} (old new : State K) (plain : ℕ → List ℕ) (lane : ℕ) (o : Open) (is_broken : Bool) →
     open_at old.lanes lane ≡ Some o → Goes old new lane old.entries (Some (failing o)) is_broken → KeepsWrites old plain new plain

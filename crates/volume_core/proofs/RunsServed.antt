@@ -34,15 +34,15 @@ settles_served : {K P : Type 0} (seals : Seals) (old new : State K) (plain : ℕ
     AreExchanges (by_settle (Some o) outcome) exchanges → Served P seals old new plain left exchanges
 settles_served seals old new plain left lane o outcome exchanges here sound at (inl is) step are =
     flush_served seals old new plain left lane o outcome exchanges here sound at is step
-        (subst (λ xs. AreExchanges xs exchanges) (let e : by_settle (Some o) outcome ≡ record { ask = Flush; plain = []; reply = flush_reply outcome } ∷ [] = rw is refl in e) are)
+    (subst (λ xs. AreExchanges xs exchanges) (let e : by_settle (Some o) outcome ≡ record { ask = Flush; plain = []; reply = flush_reply outcome } ∷ [] = rw is refl in e) are)
 settles_served seals old new plain left lane o outcome exchanges here sound at (inr (forced, whole, unfailed, unsettled)) step are =
     settle_served seals old new plain left lane o outcome exchanges here sound at forced whole step
-        (subst (λ xs. AreExchanges xs exchanges) (let has = locks o.ask forced in let e : by_settle (Some o) outcome ≡ [] = rw has refl in e) are)
- where
-  locks : (ask : Ask) → IsForced ask → has_lock ask ≡ true
-  locks (Read offset len) is = absurd is
-  locks (Write offset len fua) is = refl
-  locks Flush is = absurd is
+    (subst (λ xs. AreExchanges xs exchanges) (let has = locks o.ask forced in let e : by_settle (Some o) outcome ≡ [] = rw has refl in e) are)
+  where
+    locks : (ask : Ask) → IsForced ask → has_lock ask ≡ true
+    locks (Read offset len) is = absurd is
+    locks (Write offset len fua) is = refl
+    locks Flush is = absurd is
 
 -- each event
 pub event_served : {K P : Type 0} (seals : Seals) (old new : State K) (plain : ℕ → List ℕ) (left : List Block) (event : Event) (outcome : Outcome) (exchanges : List Exchange) →
@@ -57,21 +57,21 @@ event_served seals old new plain left (reads lane) outcome exchanges here meets 
     let (p, is, can) = meets.0 in
     let same : p ≡ o = cc in
     read_served seals old new plain left lane o outcome exchanges here (sound_kept old new (reads lane) outcome here.logic.sound meets (o, at, step)) at
-        (subst (λ q. Rattle.volume_core.specs.Asks.IsRead q.ask) same can.0) (subst (λ q. Rattle.volume_core.specs.Steps.HasPiece q) same can.1) meets.1 step are
+    (subst (λ q. Rattle.volume_core.specs.Asks.IsRead q.ask) same can.0) (subst (λ q. Rattle.volume_core.specs.Steps.HasPiece q) same can.1) meets.1 step are
 event_served seals old new plain left (writes lane bytes) outcome exchanges here meets (o, at, step) are =
     let (p, is, can) = meets.0 in
     let same : p ≡ o = cc in
     write_served seals old new plain left lane o bytes outcome exchanges here (sound_kept old new (writes lane bytes) outcome here.logic.sound meets (o, at, step)) at
-        (subst (λ q. Rattle.volume_core.specs.Asks.IsWrite q.ask) same can.0) (subst (λ q. Rattle.volume_core.specs.Steps.HasPiece q) same can.1) meets.1 step are
+    (subst (λ q. Rattle.volume_core.specs.Asks.IsWrite q.ask) same can.0) (subst (λ q. Rattle.volume_core.specs.Steps.HasPiece q) same can.1) meets.1 step are
 event_served seals old new plain left (settles lane) outcome exchanges here meets (o, at, step) are =
     let (p, is, can) = meets in
     let same : p ≡ o = cc in
     settles_served seals old new plain left lane o outcome exchanges here (sound_kept old new (settles lane) outcome here.logic.sound meets (o, at, step)) at
-        (subst (λ q. CanSettle q) same can) step (subst (λ x. AreExchanges (by_settle x outcome) exchanges) at are)
+    (subst (λ q. CanSettle q) same can) step (subst (λ x. AreExchanges (by_settle x outcome) exchanges) at are)
 event_served seals old new plain left (finishes lane) outcome exchanges here meets step are =
     let (o, at, can) = meets.0 in
     finish_served seals old new plain left lane o exchanges here (sound_kept old new (finishes lane) outcome here.logic.sound meets step) at can.0 can.1 meets.1 step.goes step.rests
-        (subst (λ x. AreExchanges (by_finish x (plain lane)) exchanges) at are)
+    (subst (λ x. AreExchanges (by_finish x (plain lane)) exchanges) at are)
 
 -- exchanges of two lists of answers, one after the other
 record Parted (one rest : List Exchange) (all : List Exchange) : Type 0 where
@@ -137,10 +137,10 @@ starts_here start seals blocks bytes starts =
           place_of_some told.now (place_in start.map b) (let size = length-sealed start.map seals b (block_in blocks b).newest (cell_in told.now (place_in start.map b)).current starts.lawful
           ((covered told is).current b below) in let some = some_atom start.map.atom starts.sound.fits.known in omega (arith, size, some));
       tables = λ covered told is. (let covers = covered told is in record {
-          current = λ whole b below. ((block_in blocks b).newest, inr (λ lane other tried. none lane b other tried, refl), covers.current b below);
-          candidates = λ b below atom contains. (let (value, has, sealed) = covers.candidates b below atom contains in (value, inl has, sealed));
-          settled = λ lane o at. absurd (let free = starts.fresh.lanes lane in cc);
-        });
+        current = λ whole b below. ((block_in blocks b).newest, inr (λ lane other tried. none lane b other tried, refl), covers.current b below);
+        candidates = λ b below atom contains. (let (value, has, sealed) = covers.candidates b below atom contains in (value, inl has, sealed));
+        settled = λ lane o at. absurd (let free = starts.fresh.lanes lane in cc);
+      });
     }
 
 -- a stop at a moment leaves what is allowed

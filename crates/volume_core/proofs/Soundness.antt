@@ -102,9 +102,9 @@ range_inside atom blocks offset len past known proper = elim known [
   | inl is ↦ inside_at 512 (inl refl) (subst (λ a. wrong_range_of a (blocks * a) offset len past ≡ None) is proper) is
   | inr is ↦ inside_at 4096 (inr refl) (subst (λ a. wrong_range_of a (blocks * a) offset len past ≡ None) is proper) is
 ]
- where
-  inside_at : (a : ℕ) → (a ≡ 512) ⊎ (a ≡ 4096) → wrong_range_of a (blocks * a) offset len past ≡ None → atom ≡ a → offset / atom + len / atom ≤ blocks
-  inside_at a which right same = rw same (grind (arith, which, right))
+  where
+    inside_at : (a : ℕ) → (a ≡ 512) ⊎ (a ≡ 4096) → wrong_range_of a (blocks * a) offset len past ≡ None → atom ≡ a → offset / atom + len / atom ≤ blocks
+    inside_at a which right same = rw same (grind (arith, which, right))
 
 pub proper-inside : (atom blocks : ℕ) (ask : Ask) → IsAtom atom → wrong_ask atom (blocks * atom) ask ≡ None → (range_of atom ask).end ≤ blocks
 proper-inside atom blocks (Read offset len) known proper = range_inside atom blocks offset len 22 known (elim (either (nat_lt 33554432 len)) [
@@ -123,11 +123,11 @@ begins map ask known proper = record {
   within = ordered ask;
   inside = proper-inside map.atom map.blocks ask known proper;
 }
- where
-  ordered : (one : Ask) → (range_of map.atom one).start ≤ (range_of map.atom one).end
-  ordered (Read offset len) = omega arith
-  ordered (Write offset len fua) = omega arith
-  ordered Flush = omega arith
+  where
+    ordered : (one : Ask) → (range_of map.atom one).start ≤ (range_of map.atom one).end
+    ordered (Read offset len) = omega arith
+    ordered (Write offset len fua) = omega arith
+    ordered Flush = omega arith
 
 -- it goes on when a piece was made, when it failed, and when it is settled
 pub goes-on : (map : Map) (o : Open) (piece : Piece) → IsUnderWay map o → IsPieceOf map o piece → IsUnderWay map (moved o piece)
@@ -177,7 +177,7 @@ sound_open : {K : Type 0} (old new : State K) (lane : ℕ) (o now : Open) (is_br
     new.disk.atoms ≡ old.disk.atoms → open_at old.lanes lane ≡ Some o → now.ask ≡ o.ask → IsUnderWay old.map now → IsSound new
 sound_open old new lane o now is_broken sound goes atoms is same under_way =
     sound_goes old new lane (Some now) is_broken sound goes atoms
-        (rw (is, same) refl) (rw (is, same) refl) (λ one same_one. let e : one ≡ now = cc in rw e under_way)
+    (rw (is, same) refl) (rw (is, same) refl) (λ one same_one. let e : one ≡ now = cc in rw e under_way)
 
 -- a flush that ended
 sound_ended : {K : Type 0} (old new : State K) (lane : ℕ) (o : Open) (is_broken : Bool) → IsSound old → Goes old new lane old.entries None is_broken →
@@ -270,9 +270,9 @@ sound_admitted old new lane ask outcome sound free proper is = elim (either (has
       sound_locked old new lane ask sound has free proper enters.0 is.goes is.rests)
   | inr has_none ↦ (let enters = rw has_none at is.enters in
       sound_goes old new lane (Some (begun old.map.atom ask)) old.broken sound
-          (subst (λ es. Goes old new lane es (Some (begun old.map.atom ask)) old.broken) enters.0 is.goes)
-          (ap (λ d. d.atoms) is.rests) (rw (free, has_none) refl) (rw (free, has_none) refl)
-          (λ o same. let e : o ≡ begun old.map.atom ask = cc in rw e (begins old.map ask sound.fits.known proper)))
+      (subst (λ es. Goes old new lane es (Some (begun old.map.atom ask)) old.broken) enters.0 is.goes)
+      (ap (λ d. d.atoms) is.rests) (rw (free, has_none) refl) (rw (free, has_none) refl)
+      (λ o same. let e : o ≡ begun old.map.atom ask = cc in rw e (begins old.map ask sound.fits.known proper)))
 ]
 
 pub admit_cases : {K : Type 0} (old new : State K) (lane : ℕ) (ask : Ask) (outcome : Outcome) (wrong : Option ℕ) → wrong_ask old.map.atom (size_of old.map) ask ≡ wrong →
@@ -300,7 +300,7 @@ sound_read old new lane o (waits other) sound is step = absurd step
 sound_read old new lane o (refused number) sound is step = absurd step
 sound_read old new lane o (got bytes) sound is step =
     sound_open old new lane o (moved o step.piece) false sound step.goes step.call.atoms is refl
-        (goes-on old.map o step.piece (sound.under_way lane o is) step.next)
+    (goes-on old.map o step.piece (sound.under_way lane o is) step.next)
 sound_read old new lane o done sound is step = absurd step
 sound_read old new lane o device sound is step =
     sound_open old new lane o (failing o) false sound step.goes step.call.atoms is refl (goes-on-failing old.map o (sound.under_way lane o is))
@@ -315,7 +315,7 @@ sound_write old new lane o bytes (refused number) sound is step = absurd step
 sound_write old new lane o bytes (got sealed) sound is step = absurd step
 sound_write old new lane o bytes done sound is step =
     sound_open old new lane o (moved o step.piece) false sound step.goes step.call.atoms is refl
-        (goes-on old.map o step.piece (sound.under_way lane o is) step.next)
+    (goes-on old.map o step.piece (sound.under_way lane o is) step.next)
 sound_write old new lane o bytes device sound is step =
     sound_open old new lane o (failing o) true sound step.goes step.call.atoms is refl (goes-on-failing old.map o (sound.under_way lane o is))
 sound_write old new lane o bytes broken sound is step =

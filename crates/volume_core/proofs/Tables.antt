@@ -112,17 +112,17 @@ tells_run start (one ∷ rest) now (meets, step, is) told =
     let later : All (λ table. WasTold start (one ∷ rest) table.1) behind.tables = λ k d below. told_later start one rest _ (behind.each k d below) in
     elim grew [
       | inl same ↦ record {
-          before = before;
-          was = was;
-          tables = behind.tables;
-          since = behind.since ∙ ap (λ t. t.past ++ behind.tables) same;
-          each = later;
-        }
+        before = before;
+        was = was;
+        tables = behind.tables;
+        since = behind.since ∙ ap (λ t. t.past ++ behind.tables) same;
+        each = later;
+      }
       | inr grown ↦ record {
-          before = before;
-          was = was;
-          tables = (before.mark, behind.before.now) ∷ behind.tables;
-          since = behind.since ∙ ap (λ t. t.past ++ behind.tables) grown ∙ append_assoc before.past ((before.mark, behind.before.now) ∷ []) behind.tables;
-          each = All-cons (λ table. WasTold start (one ∷ rest) table.1) (before.mark, behind.before.now) behind.tables (told_first start one rest behind.before behind.was) later;
-        }
+        before = before;
+        was = was;
+        tables = (before.mark, behind.before.now) ∷ behind.tables;
+        since = behind.since ∙ ap (λ t. t.past ++ behind.tables) grown ∙ append_assoc before.past ((before.mark, behind.before.now) ∷ []) behind.tables;
+        each = All-cons (λ table. WasTold start (one ∷ rest) table.1) (before.mark, behind.before.now) behind.tables (told_first start one rest behind.before behind.was) later;
+      }
     ]

@@ -29,8 +29,8 @@ held_apart state lane other b o p sound differ is has holds from to others_is wr
     let range : o.range ≡ range_of state.map.atom o.ask = (sound.under_way lane o is).range_is in
     let others_range : p.range ≡ range_of state.map.atom p.ask = (sound.under_way other p others_is).range_is in
     holders-apart lane other (entry_of state.map.atom lane o.ask) (entry_of state.map.atom other p.ask) state.entries differ
-        (entry_is state lane o sound is has) (entry_is state other p sound others_is (writes_lock p.ask writes)) holds others_hold
-        ((b, ((rw (← range) from, rw (← range) to), (rw (← others_range) others_from, rw (← others_range) others_to))), inr (writes_alone p.ask writes))
+    (entry_is state lane o sound is has) (entry_is state other p sound others_is (writes_lock p.ask writes)) holds others_hold
+    ((b, ((rw (← range) from, rw (← range) to), (rw (← others_range) others_from, rw (← others_range) others_to))), inr (writes_alone p.ask writes))
 
 -- the place of a block that isn't the piece's is none of the piece's places
 pub place_outside : (map : Map) (o : Open) (piece : Piece) (b : ℕ) → AreApart map → IsPieceOf map o piece → o.range.end ≤ map.blocks → b < map.blocks →
@@ -153,24 +153,29 @@ was_tried old new seals plain left lane k o next piece bytes b value it outside 
       let begun : o.range.start ≤ b = rw (← it.range) (subst (λ p. p.range.start ≤ b) one tried.begun) in
       let most : suc (b - o.range.start) * old.map.atom ≤ (knows.count + piece.count) * old.map.atom =
       rw (← both, ← all, ← it.range) (subst (λ m. suc (b - next.range.start) * m.atom ≤ length (now_of old seals plain lane bytes k)) it.goes.map
-          (subst (λ p. suc (b - p.range.start) * new.map.atom ≤ length (now_of old seals plain lane bytes k)) one tried.tried)) in
+      (subst (λ p. suc (b - p.range.start) * new.map.atom ≤ length (now_of old seals plain lane bytes k)) one tried.tried)) in
       let some = it.some in
       let inside : b - o.range.start < knows.count + piece.count = grind (arith, most, some) in
       let below : b < o.next = elim outside [
         | inl less ↦ less
         | inr more ↦ absurd (omega (arith, more, inside, begun, exact))
       ] in
-      let count : suc (b - o.range.start) ≤ knows.count = omega (arith, below, exact, begun) in
-      (block_at old.map.atom (plain k) (b - o.range.start), record {
-        o = o;
-        is = ap (λ n. open_at old.lanes n) same ∙ it.at;
-        writes = it.writes;
-        begun = begun;
-        tried = rw (same, size) (grind (arith, count));
-        value_is = refl;
-      })
-  | inr other ↦ (value, tried_goes new (now_of old seals plain lane bytes) old plain k b value (sym it.goes.map) (sym (it.goes.lane_is.others k other))
-      (sym (plain-other plain lane (plain lane ++ plain_piece seals old lane bytes) k other)) tried)
+      let count : suc (b - o.range.start) ≤ knows.count = omega (arith, below, exact, begun) in (
+        block_at old.map.atom (plain k) (b - o.range.start),
+        record {
+          o = o;
+          is = ap (λ n. open_at old.lanes n) same ∙ it.at;
+          writes = it.writes;
+          begun = begun;
+          tried = rw (same, size) (grind (arith, count));
+          value_is = refl;
+        },
+      )
+  | inr other ↦ (
+    value,
+    tried_goes new (now_of old seals plain lane bytes) old plain k b value (sym it.goes.map) (sym (it.goes.lane_is.others k other))
+        (sym (plain-other plain lane (plain lane ++ plain_piece seals old lane bytes) k other)) tried,
+  )
 ]
 
 -- a block is the piece's or not
@@ -192,9 +197,10 @@ piece_sealed old new seals plain left lane o next piece bytes j it below =
     let blocks : AreBlocks atom piece.count bytes = record { size = it.are.size; are_bytes = it.are.are_bytes } in
     let one : AreBlocks atom 1 (block_at atom bytes j) = one_block atom piece.count bytes j blocks below in
     let value = piece_block old.map seals o piece bytes j it.lawful it.is_piece it.are below in
-    let side = side_in old.map (o.next + j) in
-    (one_block atom piece.count (opened_piece old seals o bytes) j (piece_blocks old.map seals o piece bytes it.lawful it.is_piece it.are) below,
-    sym (ap (λ v. seals.sealed side (o.next + j) v) value ∙ it.lawful.seals_opened side (o.next + j) (block_at atom bytes j) one))
+    let side = side_in old.map (o.next + j) in (
+      one_block atom piece.count (opened_piece old seals o bytes) j (piece_blocks old.map seals o piece bytes it.lawful it.is_piece it.are) below,
+      sym (ap (λ v. seals.sealed side (o.next + j) v) value ∙ it.lawful.seals_opened side (o.next + j) (block_at atom bytes j) one),
+    )
 
 still_allowed : {K : Type 0} (old new : State K) (seals : Seals) (plain : ℕ → List ℕ) (left : List Block) (lane : ℕ) (o next : Open) (piece : Piece) (bytes : List ℕ) (b : ℕ) (value : List ℕ) →
     TriesPiece old new seals plain left lane o next piece bytes → IsAllowedAt old plain left b value → IsAllowedAt new (now_of old seals plain lane bytes) left b value
@@ -210,16 +216,21 @@ tried_candidates : {K : Type 0} (old new : State K) (seals : Seals) (plain : ℕ
 tried_candidates old new seals plain left lane o next piece bytes view after it tried shown b below atom contains =
     let was : Contains (view.candidates (place_in old.map b)) atom → (value : List ℕ) × IsAllowedAt new (now_of old seals plain lane bytes) left b value × IsSealed old.map seals b value atom =
     λ before. (let (value, allowed, sealed) = shown.candidates b below atom before in
-        (value, still_allowed old new seals plain left lane o next piece bytes b value it allowed, sealed)) in
+    (value, still_allowed old new seals plain left lane o next piece bytes b value it allowed, sealed)) in
     elim (in_piece o.next piece.count b) [
       | inl (j, lt, is) ↦
           let place : place_in old.map b ≡ place_of old.map piece + j = ap (λ n. place_in old.map n) is ∙ piece_place old.map o piece j it.is_piece lt in
           elim (tried.inside j lt atom (subst (λ p. Contains (after.candidates p) atom) place contains)) [
             | inl before ↦ was (subst (λ p. Contains (view.candidates p) atom) (sym place) before)
-            | inr same ↦ (block_at old.map.atom (opened_piece old seals o bytes) j,
-                inr (lane, subst (λ n. IsTriedBy new (now_of old seals plain lane bytes) lane n (block_at old.map.atom (opened_piece old seals o bytes) j)) (sym is)
-                    (now_tried old new seals plain left lane o next piece bytes j it lt)),
-                rw (is, same) (piece_sealed old new seals plain left lane o next piece bytes j it lt))
+            | inr same ↦ (
+              block_at old.map.atom (opened_piece old seals o bytes) j,
+              inr (
+                lane,
+                subst (λ n. IsTriedBy new (now_of old seals plain lane bytes) lane n (block_at old.map.atom (opened_piece old seals o bytes) j)) (sym is)
+                    (now_tried old new seals plain left lane o next piece bytes j it lt),
+              ),
+              rw (is, same) (piece_sealed old new seals plain left lane o next piece bytes j it lt),
+            )
           ]
       | inr outside ↦ was (tried.outside (place_in old.map b)
           (place_outside old.map o piece b it.apart it.is_piece (it.logic.sound.under_way lane o it.at).inside below outside) atom contains)
@@ -259,8 +270,8 @@ tried_settled old new seals plain left lane o next piece bytes view after it tri
         | inr out ↦ out
       ] in
       rw (plain-other plain lane (plain lane ++ plain_piece seals old lane bytes) k other)
-          (shown.settled k p was forced settled b from to atom
-          (tried.outside (place_in old.map b) (place_outside old.map o piece b it.apart it.is_piece bound.inside (omega (arith, to, inside)) outside) atom contains))
+      (shown.settled k p was forced settled b from to atom
+      (tried.outside (place_in old.map b) (place_outside old.map o piece b it.apart it.is_piece bound.inside (omega (arith, to, inside)) outside) atom contains))
 ]
 
 -- what each block holds after a piece was written
@@ -269,21 +280,25 @@ written_current : {K : Type 0} (old new : State K) (seals : Seals) (plain : ℕ 
     (b : ℕ) → b < old.map.blocks → (value : List ℕ) × IsNow new (now_of old seals plain lane bytes) left b value × IsSealed old.map seals b value (after.current (place_in old.map b))
 written_current old new seals plain left lane o next piece bytes view after it written shown was b below = elim (in_piece o.next piece.count b) [
   | inl (j, lt, is) ↦
-      let place : place_in old.map b ≡ place_of old.map piece + j = ap (λ n. place_in old.map n) is ∙ piece_place old.map o piece j it.is_piece lt in
-      (block_at old.map.atom (opened_piece old seals o bytes) j,
-      inl (lane, subst (λ n. IsTriedBy new (now_of old seals plain lane bytes) lane n (block_at old.map.atom (opened_piece old seals o bytes) j)) (sym is)
-          (now_tried old new seals plain left lane o next piece bytes j it lt)),
-      rw (place, written.inside j lt) (subst (λ n. IsSealed old.map seals n (block_at old.map.atom (opened_piece old seals o bytes) j) (block_at old.map.atom bytes j)) (sym is)
-          (piece_sealed old new seals plain left lane o next piece bytes j it lt)))
+      let place : place_in old.map b ≡ place_of old.map piece + j = ap (λ n. place_in old.map n) is ∙ piece_place old.map o piece j it.is_piece lt in (
+        block_at old.map.atom (opened_piece old seals o bytes) j,
+        inl (
+          lane,
+          subst (λ n. IsTriedBy new (now_of old seals plain lane bytes) lane n (block_at old.map.atom (opened_piece old seals o bytes) j)) (sym is)
+              (now_tried old new seals plain left lane o next piece bytes j it lt),
+        ),
+        rw (place, written.inside j lt) (subst (λ n. IsSealed old.map seals n (block_at old.map.atom (opened_piece old seals o bytes) j) (block_at old.map.atom bytes j)) (sym is)
+            (piece_sealed old new seals plain left lane o next piece bytes j it lt)),
+      )
   | inr outside ↦
       let (value, is_now, sealed) = shown.current was b below in
       let away = place_outside old.map o piece b it.apart it.is_piece (it.logic.sound.under_way lane o it.at).inside below outside in
       (value, still_now value outside is_now, rw (written.outside (place_in old.map b) away) sealed)
 ]
- where
-  still_now : (value : List ℕ) → IsOutside o.next piece.count b → IsNow old plain left b value → IsNow new (now_of old seals plain lane bytes) left b value
-  still_now value outside (inl (k, tried)) = inl (k, still_tried old new seals plain left lane k o next piece bytes b value it tried)
-  still_now value outside (inr (none, is)) = inr (λ k other tried. (let (before, was_so) = was_tried old new seals plain left lane k o next piece bytes b other it outside tried in none k before was_so), is)
+  where
+    still_now : (value : List ℕ) → IsOutside o.next piece.count b → IsNow old plain left b value → IsNow new (now_of old seals plain lane bytes) left b value
+    still_now value outside (inl (k, tried)) = inl (k, still_tried old new seals plain left lane k o next piece bytes b value it tried)
+    still_now value outside (inr (none, is)) = inr (λ k other tried. (let (before, was_so) = was_tried old new seals plain left lane k o next piece bytes b other it outside tried in none k before was_so), is)
 
 -- what the lane knows
 knows_tried : {K : Type 0} (old new : State K) (seals : Seals) (plain : ℕ → List ℕ) (left : List Block) (lane : ℕ) (o next : Open) (piece : Piece) (bytes : List ℕ) →

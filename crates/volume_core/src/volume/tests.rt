@@ -358,7 +358,11 @@ fn pieces_of_a_write_end_at_the_boundary(rt: HostRuntime) -> Result<(), Fail> {
 }
 
 fn piece_of(grant: Grant, at: u64) -> Option<Piece> {
-    if at <= grant.range.end { grant.piece(at) } else { None }
+    if at <= grant.range.end {
+        grant.piece(at)
+    } else {
+        None
+    }
 }
 
 // The atoms of a disk hold these bytes, sealed by the context alone.
@@ -422,12 +426,51 @@ fn a_block_of_eight_units_has_eight_numbers(rt: HostRuntime) -> Result<(), Fail>
 fn wrong_operations_are_refused_with_their_numbers(rt: HostRuntime) -> Result<(), Fail> {
     let mut volume = small(rt.alloc(), 2)?;
     let cases = [
-        (Ask::Read { offset: 1, length: 512 }, 22),
-        (Ask::Read { offset: 8192, length: 512 }, 22),
-        (Ask::Read { offset: 0, length: 33_554_944 }, 22),
-        (Ask::Write { offset: 0, length: 100, fua: true }, 22),
-        (Ask::Write { offset: 8193, length: 512, fua: true }, 22),
-        (Ask::Write { offset: 7680, length: 1024, fua: false }, 28),
+        (
+            Ask::Read {
+                offset: 1,
+                length: 512,
+            },
+            22,
+        ),
+        (
+            Ask::Read {
+                offset: 8192,
+                length: 512,
+            },
+            22,
+        ),
+        (
+            Ask::Read {
+                offset: 0,
+                length: 33_554_944,
+            },
+            22,
+        ),
+        (
+            Ask::Write {
+                offset: 0,
+                length: 100,
+                fua: true,
+            },
+            22,
+        ),
+        (
+            Ask::Write {
+                offset: 8193,
+                length: 512,
+                fua: true,
+            },
+            22,
+        ),
+        (
+            Ask::Write {
+                offset: 7680,
+                length: 1024,
+                fua: false,
+            },
+            28,
+        ),
     ];
     for (ask, number) in cases {
         assert_eq!(rt; admit(&mut volume, 0, ask), Answer::Refused(number));
@@ -456,7 +499,15 @@ fn answers(alloc: Global, fails: u64) -> Result<[Answer; 10], Fail> {
     finish(&mut volume, 0);
     answers[6] = admit(&mut volume, 0, Ask::Flush);
     answers[7] = settle(&mut volume, 0);
-    answers[8] = admit(&mut volume, 1, Ask::Write { offset: 1, length: 1, fua: false });
+    answers[8] = admit(
+        &mut volume,
+        1,
+        Ask::Write {
+            offset: 1,
+            length: 1,
+            fua: false,
+        },
+    );
     answers[9] = admit(&mut volume, 1, read_of(1, 1));
     Ok(answers)
 }
@@ -467,14 +518,64 @@ fn each_failure_has_its_answers(rt: HostRuntime) -> Result<(), Fail> {
     let wrong = Refused(22);
     let refused = Refused(5);
     let cases = [
-        [Held, Held, Device, Done, Done, Done, Held, Done, wrong, Held],
-        [Held, Held, Got(0, 0), Device, Unmet, Done, refused, Unmet, wrong, refused],
-        [Held, Held, Got(0, 0), Done, Device, Done, refused, Unmet, wrong, refused],
-        [Held, Held, Got(0, 0), Done, Done, Done, Held, Device, wrong, refused],
-        [Held, Held, Got(0, 0), Done, Done, Done, Held, Done, wrong, Held],
+        [
+            Held, Held, Device, Done, Done, Done, Held, Done, wrong, Held,
+        ],
+        [
+            Held,
+            Held,
+            Got(0, 0),
+            Device,
+            Unmet,
+            Done,
+            refused,
+            Unmet,
+            wrong,
+            refused,
+        ],
+        [
+            Held,
+            Held,
+            Got(0, 0),
+            Done,
+            Device,
+            Done,
+            refused,
+            Unmet,
+            wrong,
+            refused,
+        ],
+        [
+            Held,
+            Held,
+            Got(0, 0),
+            Done,
+            Done,
+            Done,
+            Held,
+            Device,
+            wrong,
+            refused,
+        ],
+        [
+            Held,
+            Held,
+            Got(0, 0),
+            Done,
+            Done,
+            Done,
+            Held,
+            Done,
+            wrong,
+            Held,
+        ],
     ];
     for (fails, case) in cases.iter().enumerate() {
-        assert_eq!(rt; answers(rt.alloc(), fails as u64)?, *case, "at call {fails}");
+        assert_eq!(rt;
+            answers(rt.alloc(), fails as u64)?,
+            *case,
+            "at call {fails}"
+        );
     }
     Ok(())
 }
