@@ -56,8 +56,10 @@ unfolding Step
 admit-entered old new lane ask o kind standing outcome proper was has begins is entries stands tells goes rests =
     let same = entry_is old.map.atom lane ask o kind begins is in
     rw proper (unbroken old.broken ((outcome ≡ refused 5) × (new ≡ old)) (IsAdmitted old lane ask outcome new) was (record {
-      enters = rw has (entries ∙ ap (λ (e : Entry). old.entries ++ e ∷ []) same,
-          tells (IsStanding old.entries (entry_of old.map.atom lane ask)) (subst (λ (e : Entry). IsStanding old.entries e standing) same stands));
+      enters = rw has (
+        entries ∙ ap (λ (e : Entry). old.entries ++ e ∷ []) same,
+        tells (IsStanding old.entries (entry_of old.map.atom lane ask)) (subst (λ (e : Entry). IsStanding old.entries e standing) same stands),
+      );
       goes = goes-to old new lane new.entries (Some o) (Some (begun old.map.atom ask)) old.broken (ap (λ (x : Open). Some x) begins) goes;
       rests = rests;
     }))

@@ -60,7 +60,7 @@ pub piece-in-disk : {K : Type 0} (state : State K) (lane place size len : ℕ) (
     IsInDisk size state.disk.atoms place len
 piece-in-disk state lane place size len o piece sound is next at atom long =
     piece-on-disk state.map state.disk.atoms size place len o piece sound.fits next (ends-inside state lane o sound is) atom
-        (place-of state.map o piece place next at) long
+    (place-of state.map o piece place next at) long
 
 -- a read of a piece
 pub read-got : {K : Type 0} (old new : State K) (lane place size : ℕ) (bytes : List ℕ) (o after : Open) (piece : Piece) → open_at old.lanes lane ≡ Some o →
@@ -68,28 +68,36 @@ pub read-got : {K : Type 0} (old new : State K) (lane place size : ℕ) (bytes :
     length bytes ≡ size_of_piece old.map piece → AreBytes bytes → ReadCall size place bytes old.disk new.disk succeeded → after ≡ moved o piece →
     Goes old new lane old.entries (Some after) false → Step old (reads lane) (got bytes) new
 unfolding Step
-read-got old new lane place size bytes o after piece is was next at atom long are call moves goes = (o, is, record {
-  was = was;
-  piece = piece;
-  next = next;
-  are = record { size = long; are_bytes = are };
-  call = rw (← place-of old.map o piece place next at, atom) call;
-  goes = goes-to old new lane old.entries (Some after) (Some (moved o piece)) false (ap (λ (x : Open). Some x) moves) goes;
-})
+read-got old new lane place size bytes o after piece is was next at atom long are call moves goes = (
+  o,
+  is,
+  record {
+    was = was;
+    piece = piece;
+    next = next;
+    are = record { size = long; are_bytes = are };
+    call = rw (← place-of old.map o piece place next at, atom) call;
+    goes = goes-to old new lane old.entries (Some after) (Some (moved o piece)) false (ap (λ (x : Open). Some x) moves) goes;
+  },
+)
 
 pub read-missed : {K : Type 0} (old new : State K) (lane place size : ℕ) (bytes : List ℕ) (o after : Open) (piece : Piece) → open_at old.lanes lane ≡ Some o →
     old.broken ≡ false → IsPieceOf old.map o piece → place_at old.map piece.first ≡ Some place → old.map.atom ≡ size →
     ReadCall size place bytes old.disk new.disk failed_call → after ≡ failing o →
     Goes old new lane old.entries (Some after) false → Step old (reads lane) device new
 unfolding Step
-read-missed old new lane place size bytes o after piece is was next at atom call fails goes = (o, is, record {
-  was = was;
-  piece = piece;
-  next = next;
-  bytes = bytes;
-  call = rw (← place-of old.map o piece place next at, atom) call;
-  goes = goes-to old new lane old.entries (Some after) (Some (failing o)) false (ap (λ (x : Open). Some x) fails) goes;
-})
+read-missed old new lane place size bytes o after piece is was next at atom call fails goes = (
+  o,
+  is,
+  record {
+    was = was;
+    piece = piece;
+    next = next;
+    bytes = bytes;
+    call = rw (← place-of old.map o piece place next at, atom) call;
+    goes = goes-to old new lane old.entries (Some after) (Some (failing o)) false (ap (λ (x : Open). Some x) fails) goes;
+  },
+)
 
 pub read-broken : {K : Type 0} (old new : State K) (lane : ℕ) (o after : Open) → open_at old.lanes lane ≡ Some o → old.broken ≡ true → after ≡ failing o →
     Goes old new lane old.entries (Some after) true → new.disk ≡ old.disk → Step old (reads lane) broken new
@@ -103,28 +111,36 @@ pub write-done : {K : Type 0} (old new : State K) (lane place size : ℕ) (bytes
     ArePieceBytes old.map piece bytes → WriteCall size place bytes old.disk new.disk succeeded → after ≡ moved o piece →
     Goes old new lane old.entries (Some after) false → Step old (writes lane bytes) done new
 unfolding Step
-write-done old new lane place size bytes o after piece is was next at atom are call moves goes = (o, is, record {
-  was = was;
-  piece = piece;
-  next = next;
-  are = are;
-  call = rw (← place-of old.map o piece place next at, atom) call;
-  goes = goes-to old new lane old.entries (Some after) (Some (moved o piece)) false (ap (λ (x : Open). Some x) moves) goes;
-})
+write-done old new lane place size bytes o after piece is was next at atom are call moves goes = (
+  o,
+  is,
+  record {
+    was = was;
+    piece = piece;
+    next = next;
+    are = are;
+    call = rw (← place-of old.map o piece place next at, atom) call;
+    goes = goes-to old new lane old.entries (Some after) (Some (moved o piece)) false (ap (λ (x : Open). Some x) moves) goes;
+  },
+)
 
 pub write-device : {K : Type 0} (old new : State K) (lane place size : ℕ) (bytes : List ℕ) (o after : Open) (piece : Piece) → open_at old.lanes lane ≡ Some o →
     old.broken ≡ false → IsPieceOf old.map o piece → place_at old.map piece.first ≡ Some place → old.map.atom ≡ size →
     ArePieceBytes old.map piece bytes → WriteCall size place bytes old.disk new.disk failed_call → after ≡ failing o →
     Goes old new lane old.entries (Some after) true → Step old (writes lane bytes) device new
 unfolding Step
-write-device old new lane place size bytes o after piece is was next at atom are call fails goes = (o, is, record {
-  was = was;
-  piece = piece;
-  next = next;
-  are = are;
-  call = rw (← place-of old.map o piece place next at, atom) call;
-  goes = goes-to old new lane old.entries (Some after) (Some (failing o)) true (ap (λ (x : Open). Some x) fails) goes;
-})
+write-device old new lane place size bytes o after piece is was next at atom are call fails goes = (
+  o,
+  is,
+  record {
+    was = was;
+    piece = piece;
+    next = next;
+    are = are;
+    call = rw (← place-of old.map o piece place next at, atom) call;
+    goes = goes-to old new lane old.entries (Some after) (Some (failing o)) true (ap (λ (x : Open). Some x) fails) goes;
+  },
+)
 
 pub write-broken : {K : Type 0} (old new : State K) (lane : ℕ) (bytes : List ℕ) (o after : Open) → open_at old.lanes lane ≡ Some o → old.broken ≡ true →
     after ≡ failing o → Goes old new lane old.entries (Some after) true → new.disk ≡ old.disk → Step old (writes lane bytes) broken new

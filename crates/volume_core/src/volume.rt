@@ -112,7 +112,7 @@ impl<D: Disk, C: SectorCipher + Copy> Volume<D, C> {
         requires atom { map.atom ≡ D.size disk }
         requires map { MapFits map (D.count disk) }
         requires keys { KeysFit C.sector keys map.atom map.blocks }
-        ensures volume { IfOk result (λ volume. volume ≡ new_volume map keys lanes 
+        ensures volume { IfOk result (λ volume. volume ≡ new_volume map keys lanes
             (device_of D.count D.values D.told D.faults disk)) }
         ensures fresh { IfOk result IsFresh }
         ensures sound { IfOk result IsSound }
@@ -143,7 +143,9 @@ impl<D: Disk, C: SectorCipher + Copy> Volume<D, C> {
         } }
     {
         let Map {
-            boundary, blocks, ..
+            boundary,
+            blocks,
+            ..
         } = self.map;
         Progress {
             boundary,

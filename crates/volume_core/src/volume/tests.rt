@@ -1,3 +1,13 @@
+ghost use Rattle.std.specs.Prelude.{◌≡◌, ◌+◌, ◌%◌, ◌^◌, ◌<◌, ◌≤◌, ◌⊎◌, List, IsTrue, IfOk, IfSome, Some, ℕ};
+ghost use Rattle.sector_disk.specs.Images.{IsChoice};
+ghost use Rattle.volume_core.specs.Events.{admits, settles, finishes};
+ghost use Rattle.volume_core.specs.Pieces.{IsPieceOf};
+ghost use Rattle.volume_core.specs.Seals.{KeysFit};
+ghost use Rattle.volume_core.specs.Sound.{MapFits};
+ghost use Rattle.volume_core.specs.States.{open_at};
+ghost use Rattle.volume_core.specs.Steps.{Meets, Holds, HasPiece};
+ghost use Rattle.volume_core.specs.declared.ask.Ask.{Ask};
+
 use crate::answers::{Admitted, Asked, Grant, PieceRead, PieceWritten, Progress, Settled};
 use crate::open::Open;
 use crate::{Ask, Keys, Prepared, Volume};
@@ -27,63 +37,84 @@ enum Answer {
 
 // What a lane's call asks of the volume.
 
-fn can_admit<D: Disk, C: SectorCipher + Copy>(volume: &Volume<D, C>, lane: u32) -> bool {
-    (lane as usize) + 1 < volume.lanes.len() && volume.lanes[lane as usize].is_none()
+#[tactic(auto, unfolding(crate::specs::Steps::Meets))]
+fn can_admit<D: Disk, C: SectorCipher + Copy>(volume: &Volume<D, C>, lane: u32) -> bool
+    ensures { (ask : Ask) → IsTrue result → Meets volume.now (admits lane ask) }
+{
+    (lane as usize) + 1 < volume.lanes.len() && open_in(volume, lane).is_none()
 }
 
-fn open_at<D: Disk, C: SectorCipher + Copy>(volume: &Volume<D, C>, lane: u32) -> Option<Open> {
-    volume.lanes.get(lane as usize).copied().flatten()
+fn open_in<D: Disk, C: SectorCipher + Copy>(volume: &Volume<D, C>, lane: u32) -> Option<Open>
+    ensures { result ≡ open_at volume.now.lanes lane }
+{
+    match volume.lanes.get(lane as usize) {
+        Some(open) => *open,
+        None => None,
+    }
 }
 
-fn is_held<D: Disk, C: SectorCipher + Copy>(volume: &Volume<D, C>, lane: u32) -> bool {
+fn is_held<D: Disk, C: SectorCipher + Copy>(volume: &Volume<D, C>, lane: u32) -> bool
+    ensures { IsTrue result → Holds volume.now lane }
+{
     volume.table.has_entry(lane) && volume.table.ask(lane) == Standing::Held
 }
 
-// The next piece of a lane that holds a read, or else a write.
+// The operation of a lane that holds its blocks, with its next piece.
 fn next_piece<D: Disk, C: SectorCipher + Copy>(
     volume: &Volume<D, C>,
     lane: u32,
-    reads: bool,
-) -> Option<Piece> {
-    let open = open_at(volume, lane)?;
-    let fits = match open.ask {
-        Ask::Read { .. } => reads,
-        Ask::Write { .. } => !reads,
-        Ask::Flush => false,
+) -> Option<(Open, Piece)>
+    ensures is { IfSome result (λ it. open_at volume.now.lanes lane ≡ Some it.0) }
+    ensures has { IfSome result (λ it. HasPiece it.0) }
+    ensures held { IfSome result (λ it. Holds volume.now lane) }
+    ensures next { IfSome result (λ it. IsPieceOf volume.now.map it.0 it.1) }
+    ensures inside { IfSome result (λ it. it.1.first + it.1.count ≤ volume.now.map.blocks) }
+{
+    let Some(open) = open_in(volume, lane) else {
+        return None;
     };
-    if fits && !open.failed && open.next < open.range.end && is_held(volume, lane) {
-        Some(volume.map.next_piece(open.rest()))
-    } else {
-        None
+    if open.failed || open.next >= open.range.end || open.range.end > volume.map.blocks {
+        return None;
+    }
+    if !is_held(volume, lane) {
+        return None;
+    }
+    Some((open, volume.map.next_piece(open.rest())))
+}
+
+#[tactic(auto, unfolding(crate::specs::Steps::Meets))]
+fn can_settle<D: Disk, C: SectorCipher + Copy>(volume: &Volume<D, C>, lane: u32) -> bool
+    ensures { IsTrue result → Meets volume.now (settles lane) }
+{
+    let Some(open) = open_in(volume, lane) else {
+        return false;
+    };
+    match open.ask {
+        Ask::Read { .. } => false,
+        Ask::Write { length, fua, .. } => {
+            fua && length > 0 && open.next == open.range.end && !open.failed && !open.settled
+        }
+        Ask::Flush => true,
     }
 }
 
-fn can_settle<D: Disk, C: SectorCipher + Copy>(volume: &Volume<D, C>, lane: u32) -> bool {
-    match open_at(volume, lane) {
-        Some(open) => match open.ask {
-            Ask::Read { .. } => false,
-            Ask::Write { length, fua, .. } => {
-                fua && length > 0 && open.next == open.range.end && !open.failed && !open.settled
-            }
-            Ask::Flush => true,
-        },
-        None => false,
+#[tactic(auto, unfolding(crate::specs::Steps::Meets))]
+fn can_finish<D: Disk, C: SectorCipher + Copy>(volume: &Volume<D, C>, lane: u32) -> bool
+    ensures { IsTrue result → Meets volume.now (finishes lane) }
+{
+    let Some(open) = open_in(volume, lane) else {
+        return false;
+    };
+    if !is_held(volume, lane) {
+        return false;
     }
-}
-
-fn can_finish<D: Disk, C: SectorCipher + Copy>(volume: &Volume<D, C>, lane: u32) -> bool {
-    match open_at(volume, lane) {
-        Some(open) => match open.ask {
-            Ask::Read { .. } => {
-                (open.failed || open.next == open.range.end) && is_held(volume, lane)
-            }
-            Ask::Write { length, fua, .. } => {
-                let is_kept = !fua || length == 0 || open.settled;
-                (open.failed || open.next == open.range.end && is_kept) && is_held(volume, lane)
-            }
-            Ask::Flush => false,
-        },
-        None => false,
+    match open.ask {
+        Ask::Read { .. } => open.failed || open.next == open.range.end,
+        Ask::Write { length, fua, .. } => {
+            let is_kept = !fua || length == 0 || open.settled;
+            open.failed || open.next == open.range.end && is_kept
+        }
+        Ask::Flush => false,
     }
 }
 
@@ -104,8 +135,9 @@ fn admit<D: Disk, C: SectorCipher + Copy>(
     }
 }
 
+#[tactic(auto, unfolding(crate::specs::Steps::Meets))]
 fn ask<D: Disk, C: SectorCipher + Copy>(volume: &Volume<D, C>, lane: u32) -> Answer {
-    match open_at(volume, lane) {
+    match open_in(volume, lane) {
         Some(open) if open.ask.has_lock() => {}
         _ => return Answer::Unmet,
     }
@@ -115,48 +147,64 @@ fn ask<D: Disk, C: SectorCipher + Copy>(volume: &Volume<D, C>, lane: u32) -> Ans
     }
 }
 
+// The first and the last of some bytes.
+fn ends(bytes: &[u8]) -> Answer {
+    match (bytes.first(), bytes.last()) {
+        (Some(first), Some(last)) => Answer::Got(*first, *last),
+        _ => Answer::Unmet,
+    }
+}
+
+#[tactic(auto, unfolding(crate::specs::Steps::Meets))]
 fn read<D: Disk, C: SectorCipher + Copy>(
     volume: &mut Volume<D, C>,
     alloc: Global,
     lane: u32,
 ) -> Result<Answer, AllocError> {
-    let Some(piece) = next_piece(volume, lane, true) else {
+    let Some((open, piece)) = next_piece(volume, lane) else {
         return Ok(Answer::Unmet);
     };
-    let atom = volume.map.atom;
+    let Ask::Read { .. } = open.ask else {
+        return Ok(Answer::Unmet);
+    };
+    let atom = volume.map().atom;
     let keys = volume.keys();
     let size = piece.count as usize * atom as usize;
     let bytes = Bytes::new(vec![in alloc; 0u8; size]?);
-    Ok(match volume.piece_read(lane, bytes) {
+    match volume.piece_read(lane, bytes) {
         PieceRead::Got(bytes) => {
             let mut bytes = bytes.into_vec();
             keys.unseal(atom, piece, bytes.as_mut_slice());
-            Answer::Got(bytes[0], bytes[bytes.len() - 1])
+            Ok(ends(bytes.as_slice()))
         }
-        PieceRead::Device(_) => Answer::Device,
-        PieceRead::Broken(_) => Answer::Broken,
-    })
+        PieceRead::Device(_) => Ok(Answer::Device),
+        PieceRead::Broken(_) => Ok(Answer::Broken),
+    }
 }
 
+#[tactic(auto, unfolding(crate::specs::Steps::Meets))]
 fn write<D: Disk, C: SectorCipher + Copy>(
     volume: &mut Volume<D, C>,
     alloc: Global,
     lane: u32,
     byte: u8,
 ) -> Result<Answer, AllocError> {
-    let Some(piece) = next_piece(volume, lane, false) else {
+    let Some((open, piece)) = next_piece(volume, lane) else {
         return Ok(Answer::Unmet);
     };
-    let atom = volume.map.atom;
+    let Ask::Write { .. } = open.ask else {
+        return Ok(Answer::Unmet);
+    };
+    let atom = volume.map().atom;
     let keys = volume.keys();
     let size = piece.count as usize * atom as usize;
     let bytes = Bytes::new(vec![in alloc; byte; size]?);
     let prepared = Prepared::seal(&keys, atom, piece, bytes);
-    Ok(match volume.piece_write(lane, prepared) {
-        PieceWritten::Done(_) => Answer::Done,
-        PieceWritten::Device(_) => Answer::Device,
-        PieceWritten::Broken(_) => Answer::Broken,
-    })
+    match volume.piece_write(lane, prepared) {
+        PieceWritten::Done(_) => Ok(Answer::Done),
+        PieceWritten::Device(_) => Ok(Answer::Device),
+        PieceWritten::Broken(_) => Ok(Answer::Broken),
+    }
 }
 
 fn settle<D: Disk, C: SectorCipher + Copy>(volume: &mut Volume<D, C>, lane: u32) -> Answer {
@@ -193,15 +241,15 @@ fn read_of(block: u64, blocks: u32) -> Ask {
     }
 }
 
-fn small(alloc: Global, lanes: u32) -> Result<Volume<RamDisk, Context>, Fail> {
+fn small(alloc: Global, lanes: u32) -> Result<Volume<RamDisk, Context>, Fail>
+    requires { 0 < lanes }
+{
     volume_of(RamDisk::new(alloc, 512, 16)?, alloc, lanes)
 }
 
-fn volume_of<D: Disk + Drop>(
-    disk: D,
-    alloc: Global,
-    lanes: u32,
-) -> Result<Volume<D, Context>, Fail> {
+fn volume_of<D: Disk + Drop>(disk: D, alloc: Global, lanes: u32) -> Result<Volume<D, Context>, Fail>
+    requires { 0 < lanes }
+{
     match Volume::plain(alloc, disk, lanes) {
         Ok(volume) => Ok(volume),
         Err(_) => Err(AllocError)?,
@@ -263,26 +311,38 @@ fn written_twice(alloc: Global) -> Result<MemDisk, Fail> {
     Ok(volume.into_disk())
 }
 
+// What block 3 holds after a stop of that disk.
+fn read_after_a_stop(alloc: Global, choice: Choice) -> Result<Answer, Fail>
+    requires { IsChoice choice }
+{
+    let disk = written_twice(alloc)?.restart(alloc, choice)?;
+    let mut volume = volume_of(disk, alloc, 2)?;
+    admit(&mut volume, 0, read_of(3, 1));
+    Ok(read(&mut volume, alloc, 0)?)
+}
+
 #[test]
 fn a_stop_leaves_the_flushed_value_or_a_later_one(rt: HostRuntime) -> Result<(), Fail> {
     let alloc = rt.alloc();
-    let choices = [
-        (Choice::Newest, 2),
-        (Choice::Oldest, 1),
-        (Choice::Pick(Vec::from_slice(alloc, &[0])?), 1),
-        (Choice::Pick(Vec::from_slice(alloc, &[1])?), 2),
-    ];
-    for (choice, byte) in choices {
-        let disk = written_twice(alloc)?.restart(alloc, choice)?;
-        let mut volume = volume_of(disk, alloc, 2)?;
-        assert_eq!(rt; admit(&mut volume, 0, read_of(3, 1)), Answer::Held);
-        assert_eq!(rt; read(&mut volume, alloc, 0)?, Answer::Got(byte, byte));
-    }
+    let first = Choice::Pick(Vec::from_slice(alloc, &[0])?);
+    let second = Choice::Pick(Vec::from_slice(alloc, &[1])?);
+    let flushed = Answer::Got(1, 1);
+    let later = Answer::Got(2, 2);
+    assert_eq!(rt; read_after_a_stop(alloc, Choice::Newest)?, later);
+    assert_eq!(rt; read_after_a_stop(alloc, Choice::Oldest)?, flushed);
+    assert_eq!(rt; read_after_a_stop(alloc, first)?, flushed);
+    assert_eq!(rt; read_after_a_stop(alloc, second)?, later);
     Ok(())
 }
 
 // Eight blocks whose boundary is in the middle.
-fn eight_blocks(atom: u32, direction: Direction, zone: u64) -> Map {
+fn eight_blocks(atom: u32, direction: Direction, zone: u64) -> Map
+    requires atom { (atom ≡ 512) ⊎ (atom ≡ 4096) }
+    requires zone { zone ≤ 4 }
+    ensures atom { result.atom ≡ atom }
+    ensures blocks { result.blocks ≡ 8 }
+    ensures fits { MapFits result 16 }
+{
     Map {
         atom,
         blocks: 8,
@@ -299,14 +359,25 @@ fn half_converted(
     alloc: Global,
     map: Map,
     keys: Keys<Context>,
-) -> Result<Volume<RamDisk, Context>, Fail> {
-    match Volume::of(alloc, RamDisk::new(alloc, 512, 16)?, map, keys, 2) {
+) -> Result<Volume<RamDisk, Context>, Fail>
+    requires map { MapFits map 16 }
+    requires keys { KeysFit ⟦<Context as SectorCipher>⟧.sector keys map.atom map.blocks }
+{
+    match Volume::of(alloc, RamDisk::new(alloc, map.atom, 16)?, map, keys, 2) {
         Ok(volume) => Ok(volume),
         Err(_) => Err(AllocError)?,
     }
 }
 
-fn xts_keys(old_tweak: u64, new_tweak: u64, sector: u32) -> Result<Keys<Context>, Fail> {
+fn xts_keys(old_tweak: u64, new_tweak: u64, sector: u32) -> Result<Keys<Context>, Fail>
+    requires sector { (sector ≡ 512) ⊎ (sector ≡ 4096) }
+    requires old { old_tweak < 2 ^ 60 }
+    requires new { new_tweak < 2 ^ 60 }
+    ensures large { IfOk result (λ keys.
+        KeysFit ⟦<Context as SectorCipher>⟧.sector keys 4096 8) }
+    ensures small { IfOk result (λ keys. sector ≡ 512 →
+        KeysFit ⟦<Context as SectorCipher>⟧.sector keys 512 8) }
+{
     let key = [1, 2, 3, 4, 5, 6, 7, 8, 9, 10, 11, 12, 13, 14, 15, 16];
     let mut both = [0u8; 32];
     both[..16].copy_from_slice(&key);
@@ -358,7 +429,11 @@ fn pieces_of_a_write_end_at_the_boundary(rt: HostRuntime) -> Result<(), Fail> {
 }
 
 fn piece_of(grant: Grant, at: u64) -> Option<Piece> {
-    if at <= grant.range.end { grant.piece(at) } else { None }
+    if at <= grant.range.end {
+        grant.piece(at)
+    } else {
+        None
+    }
 }
 
 // The atoms of a disk hold these bytes, sealed by the context alone.
@@ -371,6 +446,10 @@ fn holds<D: Disk>(
     byte: u8,
 ) -> Result<bool, Fail> {
     let atom = disk.atom() as usize;
+    let is_whole = context.sector_size() > 0 && atom % context.sector_size() == 0;
+    if !is_whole || number > 1_000_000 || at >= disk.atoms() {
+        return Ok(false);
+    }
     let mut sealed = vec![in alloc; byte; atom]?;
     context.seal_atom(number, sealed.as_mut_slice());
     let mut found = vec![in alloc; 0u8; atom]?;
@@ -398,10 +477,7 @@ fn a_block_of_eight_units_has_eight_numbers(rt: HostRuntime) -> Result<(), Fail>
     for sector in [512, 4096] {
         let keys = xts_keys(1000, 7, sector)?;
         let map = eight_blocks(4096, Direction::Backward, 0);
-        let disk = RamDisk::new(alloc, 4096, 16)?;
-        let Ok(mut volume) = Volume::of(alloc, disk, map, keys, 2) else {
-            return Err(AllocError)?;
-        };
+        let mut volume = half_converted(alloc, map, keys)?;
         let ask = Ask::Write {
             offset: 5 * 4096,
             length: 4096,
@@ -422,12 +498,51 @@ fn a_block_of_eight_units_has_eight_numbers(rt: HostRuntime) -> Result<(), Fail>
 fn wrong_operations_are_refused_with_their_numbers(rt: HostRuntime) -> Result<(), Fail> {
     let mut volume = small(rt.alloc(), 2)?;
     let cases = [
-        (Ask::Read { offset: 1, length: 512 }, 22),
-        (Ask::Read { offset: 8192, length: 512 }, 22),
-        (Ask::Read { offset: 0, length: 33_554_944 }, 22),
-        (Ask::Write { offset: 0, length: 100, fua: true }, 22),
-        (Ask::Write { offset: 8193, length: 512, fua: true }, 22),
-        (Ask::Write { offset: 7680, length: 1024, fua: false }, 28),
+        (
+            Ask::Read {
+                offset: 1,
+                length: 512,
+            },
+            22,
+        ),
+        (
+            Ask::Read {
+                offset: 8192,
+                length: 512,
+            },
+            22,
+        ),
+        (
+            Ask::Read {
+                offset: 0,
+                length: 33_554_944,
+            },
+            22,
+        ),
+        (
+            Ask::Write {
+                offset: 0,
+                length: 100,
+                fua: true,
+            },
+            22,
+        ),
+        (
+            Ask::Write {
+                offset: 8193,
+                length: 512,
+                fua: true,
+            },
+            22,
+        ),
+        (
+            Ask::Write {
+                offset: 7680,
+                length: 1024,
+                fua: false,
+            },
+            28,
+        ),
     ];
     for (ask, number) in cases {
         assert_eq!(rt; admit(&mut volume, 0, ask), Answer::Refused(number));
@@ -456,7 +571,15 @@ fn answers(alloc: Global, fails: u64) -> Result<[Answer; 10], Fail> {
     finish(&mut volume, 0);
     answers[6] = admit(&mut volume, 0, Ask::Flush);
     answers[7] = settle(&mut volume, 0);
-    answers[8] = admit(&mut volume, 1, Ask::Write { offset: 1, length: 1, fua: false });
+    answers[8] = admit(
+        &mut volume,
+        1,
+        Ask::Write {
+            offset: 1,
+            length: 1,
+            fua: false,
+        },
+    );
     answers[9] = admit(&mut volume, 1, read_of(1, 1));
     Ok(answers)
 }
@@ -467,14 +590,64 @@ fn each_failure_has_its_answers(rt: HostRuntime) -> Result<(), Fail> {
     let wrong = Refused(22);
     let refused = Refused(5);
     let cases = [
-        [Held, Held, Device, Done, Done, Done, Held, Done, wrong, Held],
-        [Held, Held, Got(0, 0), Device, Unmet, Done, refused, Unmet, wrong, refused],
-        [Held, Held, Got(0, 0), Done, Device, Done, refused, Unmet, wrong, refused],
-        [Held, Held, Got(0, 0), Done, Done, Done, Held, Device, wrong, refused],
-        [Held, Held, Got(0, 0), Done, Done, Done, Held, Done, wrong, Held],
+        [
+            Held, Held, Device, Done, Done, Done, Held, Done, wrong, Held,
+        ],
+        [
+            Held,
+            Held,
+            Got(0, 0),
+            Device,
+            Unmet,
+            Done,
+            refused,
+            Unmet,
+            wrong,
+            refused,
+        ],
+        [
+            Held,
+            Held,
+            Got(0, 0),
+            Done,
+            Device,
+            Done,
+            refused,
+            Unmet,
+            wrong,
+            refused,
+        ],
+        [
+            Held,
+            Held,
+            Got(0, 0),
+            Done,
+            Done,
+            Done,
+            Held,
+            Device,
+            wrong,
+            refused,
+        ],
+        [
+            Held,
+            Held,
+            Got(0, 0),
+            Done,
+            Done,
+            Done,
+            Held,
+            Done,
+            wrong,
+            Held,
+        ],
     ];
     for (fails, case) in cases.iter().enumerate() {
-        assert_eq!(rt; answers(rt.alloc(), fails as u64)?, *case, "at call {fails}");
+        assert_eq!(rt;
+            answers(rt.alloc(), fails as u64)?,
+            *case,
+            "at call {fails}"
+        );
     }
     Ok(())
 }

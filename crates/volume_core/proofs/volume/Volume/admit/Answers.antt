@@ -33,40 +33,40 @@ pub invariant_of-self : goal.invariant_of-self
 invariant_of-self g c =
     let is = rw c.from.ensures at c.wrong.ensures in
     volume-kept g.C.SectorCipher.sector _ _ _ _ (admits c.args.lane c.args.ask) held c.self.invariant (rw (← c.self.view_is) at c.requires)
-        (admit-flush _ _ c.args.lane c.args.ask c.new-open.result (sym is ∙ none-of c.wrong.result c.in_default.not-Some) c.if-self.false
-        (sym c.if-not-has_lock.ensures) c.new-open.ensures refl
-        (record { map = refl; keys = refl; room = refl; entries_are = refl; lane_is = c.set_lane.ensures; broken_is = refl }) refl)
-        refl refl refl
+    (admit-flush _ _ c.args.lane c.args.ask c.new-open.result (sym is ∙ none-of c.wrong.result c.in_default.not-Some) c.if-self.false
+    (sym c.if-not-has_lock.ensures) c.new-open.ensures refl
+    (record { map = refl; keys = refl; room = refl; entries_are = refl; lane_is = c.set_lane.ensures; broken_is = refl }) refl)
+    refl refl refl
 
 pub returns-then-not-has_lock-clause-step : goal.returns-then-not-has_lock-clause-step
 returns-then-not-has_lock-clause-step g c =
     let is = rw c.from.ensures at c.wrong.ensures in
     rw (← c.self.view_is) (admit-flush _ _ c.args.lane c.args.ask c.new-open.result (sym is ∙ none-of c.wrong.result c.in_default.not-Some) c.if-self.false
-        (sym c.if-not-has_lock.ensures) c.new-open.ensures refl
-        (record { map = refl; keys = refl; room = refl; entries_are = refl; lane_is = c.set_lane.ensures; broken_is = refl }) refl)
+    (sym c.if-not-has_lock.ensures) c.new-open.ensures refl
+    (record { map = refl; keys = refl; room = refl; entries_are = refl; lane_is = c.set_lane.ensures; broken_is = refl }) refl)
 
 pub invariant_of-self-2 : goal.invariant_of-self-2
 invariant_of-self-2 g c =
     let is = rw c.from.ensures at c.wrong.ensures in
     volume-kept g.C.SectorCipher.sector _ _ _ _ (admits c.args.lane c.args.ask) (outcome_of_admitted c.match-enter.result) c.self.invariant (rw (← c.self.view_is) at c.requires)
-        (admit-entered _ _ c.args.lane c.args.ask c.new-open.result c.kind.result c.enter.result (outcome_of_admitted c.match-enter.result)
-        (sym is ∙ none-of c.wrong.result c.in_default.not-Some) c.if-self.false (sym c.if-not-has_lock.ensures) c.new-open.ensures c.kind.ensures
-        c.enter.ensures.entered c.enter.ensures.standing
-        (λ stands here. elim c.match-enter.branch [
-          | in-Held w ↦ rw w.result-is (rw w.in-Held.is at here)
-          | in-Waiting w ↦ rw w.result-is (rw w.in-Waiting.is at here)
-        ])
-        (record { map = refl; keys = refl; room = c.enter.ensures.room; entries_are = refl; lane_is = c.set_lane.ensures; broken_is = refl }) refl)
-        refl refl refl
+    (admit-entered _ _ c.args.lane c.args.ask c.new-open.result c.kind.result c.enter.result (outcome_of_admitted c.match-enter.result)
+    (sym is ∙ none-of c.wrong.result c.in_default.not-Some) c.if-self.false (sym c.if-not-has_lock.ensures) c.new-open.ensures c.kind.ensures
+    c.enter.ensures.entered c.enter.ensures.standing
+    (λ stands here. elim c.match-enter.branch [
+      | in-Held w ↦ rw w.result-is (rw w.in-Held.is at here)
+      | in-Waiting w ↦ rw w.result-is (rw w.in-Waiting.is at here)
+    ])
+    (record { map = refl; keys = refl; room = c.enter.ensures.room; entries_are = refl; lane_is = c.set_lane.ensures; broken_is = refl }) refl)
+    refl refl refl
 
 pub returns-clause-step : goal.returns-clause-step
 returns-clause-step g c =
     let is = rw c.from.ensures at c.wrong.ensures in
     rw (← c.self.view_is) (admit-entered _ _ c.args.lane c.args.ask c.new-open.result c.kind.result c.enter.result (outcome_of_admitted c.match-enter.result)
-        (sym is ∙ none-of c.wrong.result c.in_default.not-Some) c.if-self.false (sym c.if-not-has_lock.ensures) c.new-open.ensures c.kind.ensures
-        c.enter.ensures.entered c.enter.ensures.standing
-        (λ stands here. elim c.match-enter.branch [
-          | in-Held w ↦ rw w.result-is (rw w.in-Held.is at here)
-          | in-Waiting w ↦ rw w.result-is (rw w.in-Waiting.is at here)
-        ])
-        (record { map = refl; keys = refl; room = c.enter.ensures.room; entries_are = refl; lane_is = c.set_lane.ensures; broken_is = refl }) refl)
+    (sym is ∙ none-of c.wrong.result c.in_default.not-Some) c.if-self.false (sym c.if-not-has_lock.ensures) c.new-open.ensures c.kind.ensures
+    c.enter.ensures.entered c.enter.ensures.standing
+    (λ stands here. elim c.match-enter.branch [
+      | in-Held w ↦ rw w.result-is (rw w.in-Held.is at here)
+      | in-Waiting w ↦ rw w.result-is (rw w.in-Waiting.is at here)
+    ])
+    (record { map = refl; keys = refl; room = c.enter.ensures.room; entries_are = refl; lane_is = c.set_lane.ensures; broken_is = refl }) refl)

@@ -8,9 +8,9 @@ pub invariant_of-self : goal.invariant_of-self
 invariant_of-self g c =
     let is = rw c.deref.ensures.value at c.open_of-open.ensures in
     volume-kept g.C.SectorCipher.sector _ _ _ _ (reads c.args.lane) broken c.self.invariant (rw (← c.self.view_is) at c.requires.meets)
-        (read-broken _ _ c.args.lane c.open_of-open.result _ is c.if-self.true c.failing.ensures
-        (record { map = refl; keys = refl; room = refl; entries_are = refl; lane_is = c.set_lane.ensures; broken_is = c.if-self.true }) refl)
-        refl refl refl
+    (read-broken _ _ c.args.lane c.open_of-open.result _ is c.if-self.true c.failing.ensures
+    (record { map = refl; keys = refl; room = refl; entries_are = refl; lane_is = c.set_lane.ensures; broken_is = c.if-self.true }) refl)
+    refl refl refl
 
 pub returns-then-self-clause-step : goal.returns-then-self-clause-step
 returns-then-self-clause-step g c =
@@ -34,45 +34,45 @@ read_into-requires g c =
     let is = rw c.deref.ensures.value at c.open_of-open.ensures in
     let next = rw c.rest.ensures at c.next_piece-piece.ensures in
     piece-in-disk _ c.args.lane c.place-place.result _ _ c.open_of-open.result c.next_piece-piece.result c.self.invariant.sound is next
-        c.place-place.ensures c.self.invariant.atom
-        (read-size _ c.args.lane c.args.bytes c.open_of-open.result c.next_piece-piece.result (rw (← c.self.view_is) at c.requires.fits) is next)
+    c.place-place.ensures c.self.invariant.atom
+    (read-size _ c.args.lane c.args.bytes c.open_of-open.result c.next_piece-piece.result (rw (← c.self.view_is) at c.requires.fits) is next)
 
 pub invariant_of-self-in-Ok : goal.invariant_of-self-in-Ok
 invariant_of-self-in-Ok g c =
     let is = rw c.deref.ensures.value at c.open_of-open.ensures in
     let next = rw c.rest.ensures at c.next_piece-piece.ensures in
     volume-kept g.C.SectorCipher.sector _ _ _ _ (reads c.args.lane) (got c.in-Ok.bytes) c.self.invariant (rw (← c.self.view_is) at c.requires.meets)
-        (read-got _ _ c.args.lane c.place-place.result _ c.in-Ok.bytes c.open_of-open.result _ c.next_piece-piece.result is c.if-self.false next
-        c.place-place.ensures c.self.invariant.atom
-        (c.in-Ok.ensures.length ∙ read-size _ c.args.lane c.args.bytes c.open_of-open.result c.next_piece-piece.result (rw (← c.self.view_is) at c.requires.fits) is next)
-        c.in-Ok.ensures.bytes c.in-Ok.ensures.read c.moved.ensures
-        (record { map = refl; keys = refl; room = refl; entries_are = refl; lane_is = c.set_lane-in-Ok.ensures; broken_is = c.if-self.false }))
-        c.in-Ok.ensures.size refl refl
+    (read-got _ _ c.args.lane c.place-place.result _ c.in-Ok.bytes c.open_of-open.result _ c.next_piece-piece.result is c.if-self.false next
+    c.place-place.ensures c.self.invariant.atom
+    (c.in-Ok.ensures.length ∙ read-size _ c.args.lane c.args.bytes c.open_of-open.result c.next_piece-piece.result (rw (← c.self.view_is) at c.requires.fits) is next)
+    c.in-Ok.ensures.bytes c.in-Ok.ensures.read c.moved.ensures
+    (record { map = refl; keys = refl; room = refl; entries_are = refl; lane_is = c.set_lane-in-Ok.ensures; broken_is = c.if-self.false }))
+    c.in-Ok.ensures.size refl refl
 
 pub returns-in-Ok-clause-step : goal.returns-in-Ok-clause-step
 returns-in-Ok-clause-step g c =
     let is = rw c.deref.ensures.value at c.open_of-open.ensures in
     let next = rw c.rest.ensures at c.next_piece-piece.ensures in
     rw (← c.self.view_is) (read-got _ _ c.args.lane c.place-place.result _ c.in-Ok.bytes c.open_of-open.result _ c.next_piece-piece.result is c.if-self.false next
-        c.place-place.ensures c.self.invariant.atom
-        (c.in-Ok.ensures.length ∙ read-size _ c.args.lane c.args.bytes c.open_of-open.result c.next_piece-piece.result (rw (← c.self.view_is) at c.requires.fits) is next)
-        c.in-Ok.ensures.bytes c.in-Ok.ensures.read c.moved.ensures
-        (record { map = refl; keys = refl; room = refl; entries_are = refl; lane_is = c.set_lane-in-Ok.ensures; broken_is = c.if-self.false }))
+    c.place-place.ensures c.self.invariant.atom
+    (c.in-Ok.ensures.length ∙ read-size _ c.args.lane c.args.bytes c.open_of-open.result c.next_piece-piece.result (rw (← c.self.view_is) at c.requires.fits) is next)
+    c.in-Ok.ensures.bytes c.in-Ok.ensures.read c.moved.ensures
+    (record { map = refl; keys = refl; room = refl; entries_are = refl; lane_is = c.set_lane-in-Ok.ensures; broken_is = c.if-self.false }))
 
 pub invariant_of-self-in-Err : goal.invariant_of-self-in-Err
 invariant_of-self-in-Err g c =
     let is = rw c.deref.ensures.value at c.open_of-open.ensures in
     let next = rw c.rest.ensures at c.next_piece-piece.ensures in
     volume-kept g.C.SectorCipher.sector _ _ _ _ (reads c.args.lane) device c.self.invariant (rw (← c.self.view_is) at c.requires.meets)
-        (read-missed _ _ c.args.lane c.place-place.result _ c.in-Err.bytes c.open_of-open.result _ c.next_piece-piece.result is c.if-self.false next
-        c.place-place.ensures c.self.invariant.atom c.in-Err.ensures.missed c.failing-in-Err.ensures
-        (record { map = refl; keys = refl; room = refl; entries_are = refl; lane_is = c.set_lane-in-Err.ensures; broken_is = c.if-self.false }))
-        c.in-Err.ensures.size refl refl
+    (read-missed _ _ c.args.lane c.place-place.result _ c.in-Err.bytes c.open_of-open.result _ c.next_piece-piece.result is c.if-self.false next
+    c.place-place.ensures c.self.invariant.atom c.in-Err.ensures.missed c.failing-in-Err.ensures
+    (record { map = refl; keys = refl; room = refl; entries_are = refl; lane_is = c.set_lane-in-Err.ensures; broken_is = c.if-self.false }))
+    c.in-Err.ensures.size refl refl
 
 pub returns-in-Err-clause-step : goal.returns-in-Err-clause-step
 returns-in-Err-clause-step g c =
     let is = rw c.deref.ensures.value at c.open_of-open.ensures in
     let next = rw c.rest.ensures at c.next_piece-piece.ensures in
     rw (← c.self.view_is) (read-missed _ _ c.args.lane c.place-place.result _ c.in-Err.bytes c.open_of-open.result _ c.next_piece-piece.result is c.if-self.false next
-        c.place-place.ensures c.self.invariant.atom c.in-Err.ensures.missed c.failing-in-Err.ensures
-        (record { map = refl; keys = refl; room = refl; entries_are = refl; lane_is = c.set_lane-in-Err.ensures; broken_is = c.if-self.false }))
+    c.place-place.ensures c.self.invariant.atom c.in-Err.ensures.missed c.failing-in-Err.ensures
+    (record { map = refl; keys = refl; room = refl; entries_are = refl; lane_is = c.set_lane-in-Err.ensures; broken_is = c.if-self.false }))

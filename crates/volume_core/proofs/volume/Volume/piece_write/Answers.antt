@@ -14,9 +14,9 @@ pub invariant_of-self : goal.invariant_of-self
 invariant_of-self g c =
     let is = rw c.deref.ensures.value at c.open_of-open.ensures in
     volume-kept g.C.SectorCipher.sector _ _ _ _ (writes c.args.lane c.args.prepared.bytes) broken c.self.invariant (rw (← c.self.view_is) at c.requires)
-        (write-broken _ _ c.args.lane c.args.prepared.bytes c.open_of-open.result _ is c.if-self.true c.failing.ensures
-        (record { map = refl; keys = refl; room = refl; entries_are = refl; lane_is = c.set_lane.ensures; broken_is = c.if-self.true }) refl)
-        refl refl refl
+    (write-broken _ _ c.args.lane c.args.prepared.bytes c.open_of-open.result _ is c.if-self.true c.failing.ensures
+    (record { map = refl; keys = refl; room = refl; entries_are = refl; lane_is = c.set_lane.ensures; broken_is = c.if-self.true }) refl)
+    refl refl refl
 
 pub returns-then-self-clause-step : goal.returns-then-self-clause-step
 returns-then-self-clause-step g c =
@@ -46,7 +46,7 @@ write-requires g c =
     let next = rw c.rest.ensures at c.next_piece-piece.ensures in
     let are = write-bytes _ c.args.lane c.args.prepared.bytes c.open_of-open.result c.next_piece-piece.result (rw (← c.self.view_is) at c.requires) is next in
     piece-in-disk _ c.args.lane c.place-place.result _ _ c.open_of-open.result c.next_piece-piece.result c.self.invariant.sound is next
-        c.place-place.ensures c.self.invariant.atom (rw (c.as_slice.ensures, c.into_bytes-bytes.ensures) are.size)
+    c.place-place.ensures c.self.invariant.atom (rw (c.as_slice.ensures, c.into_bytes-bytes.ensures) are.size)
 
 pub invariant_of-self-in-Ok : goal.invariant_of-self-in-Ok
 invariant_of-self-in-Ok g c =
@@ -55,12 +55,12 @@ invariant_of-self-in-Ok g c =
     let meets = rw (← c.self.view_is) at c.requires in
     let bytes = c.as_slice.ensures ∙ c.into_bytes-bytes.ensures in
     volume-kept g.C.SectorCipher.sector _ _ _ _ (writes c.args.lane c.args.prepared.bytes) done c.self.invariant meets
-        (write-done _ _ c.args.lane c.place-place.result _ c.args.prepared.bytes c.open_of-open.result _ c.next_piece-piece.result is c.if-self.false next
-        c.place-place.ensures c.self.invariant.atom (write-bytes _ c.args.lane c.args.prepared.bytes c.open_of-open.result c.next_piece-piece.result meets is next)
-        (record { atoms = c.in-Ok.ensures.count; values = rw bytes at c.in-Ok.ensures.values; told = rw bytes at c.in-Ok.ensures.told; cause = c.in-Ok.ensures.cause })
-        c.moved.ensures
-        (record { map = refl; keys = refl; room = refl; entries_are = refl; lane_is = c.set_lane-in-Ok.ensures; broken_is = c.if-self.false }))
-        c.in-Ok.ensures.size refl refl
+    (write-done _ _ c.args.lane c.place-place.result _ c.args.prepared.bytes c.open_of-open.result _ c.next_piece-piece.result is c.if-self.false next
+    c.place-place.ensures c.self.invariant.atom (write-bytes _ c.args.lane c.args.prepared.bytes c.open_of-open.result c.next_piece-piece.result meets is next)
+    (record { atoms = c.in-Ok.ensures.count; values = rw bytes at c.in-Ok.ensures.values; told = rw bytes at c.in-Ok.ensures.told; cause = c.in-Ok.ensures.cause })
+    c.moved.ensures
+    (record { map = refl; keys = refl; room = refl; entries_are = refl; lane_is = c.set_lane-in-Ok.ensures; broken_is = c.if-self.false }))
+    c.in-Ok.ensures.size refl refl
 
 pub returns-in-Ok-clause-step : goal.returns-in-Ok-clause-step
 returns-in-Ok-clause-step g c =
@@ -69,10 +69,10 @@ returns-in-Ok-clause-step g c =
     let meets = rw (← c.self.view_is) at c.requires in
     let bytes = c.as_slice.ensures ∙ c.into_bytes-bytes.ensures in
     rw (← c.self.view_is) (write-done _ _ c.args.lane c.place-place.result _ c.args.prepared.bytes c.open_of-open.result _ c.next_piece-piece.result is c.if-self.false next
-        c.place-place.ensures c.self.invariant.atom (write-bytes _ c.args.lane c.args.prepared.bytes c.open_of-open.result c.next_piece-piece.result meets is next)
-        (record { atoms = c.in-Ok.ensures.count; values = rw bytes at c.in-Ok.ensures.values; told = rw bytes at c.in-Ok.ensures.told; cause = c.in-Ok.ensures.cause })
-        c.moved.ensures
-        (record { map = refl; keys = refl; room = refl; entries_are = refl; lane_is = c.set_lane-in-Ok.ensures; broken_is = c.if-self.false }))
+    c.place-place.ensures c.self.invariant.atom (write-bytes _ c.args.lane c.args.prepared.bytes c.open_of-open.result c.next_piece-piece.result meets is next)
+    (record { atoms = c.in-Ok.ensures.count; values = rw bytes at c.in-Ok.ensures.values; told = rw bytes at c.in-Ok.ensures.told; cause = c.in-Ok.ensures.cause })
+    c.moved.ensures
+    (record { map = refl; keys = refl; room = refl; entries_are = refl; lane_is = c.set_lane-in-Ok.ensures; broken_is = c.if-self.false }))
 
 pub invariant_of-self-in-Err : goal.invariant_of-self-in-Err
 invariant_of-self-in-Err g c =
@@ -81,12 +81,12 @@ invariant_of-self-in-Err g c =
     let meets = rw (← c.self.view_is) at c.requires in
     let bytes = c.as_slice.ensures ∙ c.into_bytes-bytes.ensures in
     volume-kept g.C.SectorCipher.sector _ _ _ _ (writes c.args.lane c.args.prepared.bytes) device c.self.invariant meets
-        (write-device _ _ c.args.lane c.place-place.result _ c.args.prepared.bytes c.open_of-open.result _ c.next_piece-piece.result is c.if-self.false next
-        c.place-place.ensures c.self.invariant.atom (write-bytes _ c.args.lane c.args.prepared.bytes c.open_of-open.result c.next_piece-piece.result meets is next)
-        (record { atoms = c.in-Err.ensures.count; values = rw bytes at c.in-Err.ensures.values; told = rw bytes at c.in-Err.ensures.told; cause = c.in-Err.ensures.cause })
-        c.failing-in-Err.ensures
-        (record { map = refl; keys = refl; room = refl; entries_are = refl; lane_is = c.set_lane-in-Err.ensures; broken_is = refl }))
-        c.in-Err.ensures.size refl refl
+    (write-device _ _ c.args.lane c.place-place.result _ c.args.prepared.bytes c.open_of-open.result _ c.next_piece-piece.result is c.if-self.false next
+    c.place-place.ensures c.self.invariant.atom (write-bytes _ c.args.lane c.args.prepared.bytes c.open_of-open.result c.next_piece-piece.result meets is next)
+    (record { atoms = c.in-Err.ensures.count; values = rw bytes at c.in-Err.ensures.values; told = rw bytes at c.in-Err.ensures.told; cause = c.in-Err.ensures.cause })
+    c.failing-in-Err.ensures
+    (record { map = refl; keys = refl; room = refl; entries_are = refl; lane_is = c.set_lane-in-Err.ensures; broken_is = refl }))
+    c.in-Err.ensures.size refl refl
 
 pub returns-in-Err-clause-step : goal.returns-in-Err-clause-step
 returns-in-Err-clause-step g c =
@@ -95,7 +95,7 @@ returns-in-Err-clause-step g c =
     let meets = rw (← c.self.view_is) at c.requires in
     let bytes = c.as_slice.ensures ∙ c.into_bytes-bytes.ensures in
     rw (← c.self.view_is) (write-device _ _ c.args.lane c.place-place.result _ c.args.prepared.bytes c.open_of-open.result _ c.next_piece-piece.result is c.if-self.false next
-        c.place-place.ensures c.self.invariant.atom (write-bytes _ c.args.lane c.args.prepared.bytes c.open_of-open.result c.next_piece-piece.result meets is next)
-        (record { atoms = c.in-Err.ensures.count; values = rw bytes at c.in-Err.ensures.values; told = rw bytes at c.in-Err.ensures.told; cause = c.in-Err.ensures.cause })
-        c.failing-in-Err.ensures
-        (record { map = refl; keys = refl; room = refl; entries_are = refl; lane_is = c.set_lane-in-Err.ensures; broken_is = refl }))
+    c.place-place.ensures c.self.invariant.atom (write-bytes _ c.args.lane c.args.prepared.bytes c.open_of-open.result c.next_piece-piece.result meets is next)
+    (record { atoms = c.in-Err.ensures.count; values = rw bytes at c.in-Err.ensures.values; told = rw bytes at c.in-Err.ensures.told; cause = c.in-Err.ensures.cause })
+    c.failing-in-Err.ensures
+    (record { map = refl; keys = refl; room = refl; entries_are = refl; lane_is = c.set_lane-in-Err.ensures; broken_is = refl }))
