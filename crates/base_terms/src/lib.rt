@@ -3,8 +3,10 @@
 //! lists of bytes and blocks of which disks, contents and messages are spelt.
 #![tactic(auto)]
 
+mod buffers;
 mod bytes;
 mod failed;
 
+pub use buffers::{paste, zeros};
 pub use bytes::Bytes;
 pub use failed::Failed;

@@ -1,5 +1,5 @@
 -- Operations that are refused, each with its number.
-use Rattle.std.specs.Prelude.{ℕ, ◌+◌, ◌%◌, not, ◌==◌, ◌||◌, nat_lt, if◌then◌else◌, length, Option, Some, None}
+use Rattle.std.specs.Prelude.{ℕ, ◌≡◌, ◌+◌, ◌%◌, ◌≤◌, not, ◌==◌, ◌||◌, nat_lt, if◌then◌else◌, length, Option, Some, None}
 use Rattle.plain_disk.specs.declared.operation.Op.{Op}
 use Rattle.plain_disk.specs.declared.operation.Op.TheVariants.{Read, Write, Flush}
 
@@ -15,3 +15,15 @@ wrong_of atom size (Read offset len) =
     if nat_lt 33554432 len then Some 22 else wrong_range_of atom size offset len 22
 wrong_of atom size (Write offset body fua) = wrong_range_of atom size offset (length body) 28
 wrong_of atom size Flush = None
+
+-- a range of whole blocks within a disk of `size` bytes
+pub record IsRange (atom size offset len : ℕ) : Type 0 where
+  pub start : offset % atom ≡ 0
+  pub whole : len % atom ≡ 0
+  pub within : offset + len ≤ size
+
+-- the operation takes memory: a read, for its content
+abbrev pub TakesMemory : Op → Type 0
+TakesMemory (Read offset len) = Unit {0}
+TakesMemory (Write offset body fua) = ⊥
+TakesMemory Flush = ⊥

@@ -2,9 +2,13 @@
 //! writes or flushes whole blocks, and has a reply; an operation that is wrong is refused with its
 //! number and does nothing. In `specs/` stand the definitions that every promise of the server
 //! cites: the content of a disk, which lists of operations and replies are those of one plain disk
-//! that is asked one operation after the other, and what may be found after a stop.
+//! that is asked one operation after the other, and what may be found after a stop. `PlainDisk` is
+//! such a disk in memory: it never fails, and answers each operation in the one way that is right.
+//! Tests compare with it what the server answers and what its disk holds in the end.
 #![tactic(auto)]
 
 mod operation;
+mod plain_disk;
 
 pub use operation::{MAX_READ, Op, Reply, wrong, wrong_range};
+pub use plain_disk::PlainDisk;

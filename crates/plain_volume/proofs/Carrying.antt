@@ -1,45 +1,24 @@
 -- Why an operation was carried out, from what its device calls did.
-use Rattle.std.proofs.Common.{◌≡◌, ℕ, ◌+◌, ◌*◌, ◌/◌, ◌%◌, ◌≤◌, ◌==◌, Bool, true, false, not, ◌&&◌, if◌then◌else◌, List, [], ◌∷◌, length, take, drop, map, replicate, Some, None, refl, sym, ◌∙◌, ap, ap₂, subst, arith, length-take-le}
-use Rattle.std.proofs.lemmas.Grind.{common_steps}
+use Rattle.std.proofs.Common.{◌≡◌, ℕ, ◌+◌, ◌*◌, ◌/◌, ◌≤◌, ◌==◌, Bool, true, false, not, ◌&&◌, List, [], ◌∷◌, length, take, drop, map, replicate, Some, refl, sym, ◌∙◌, ap, ap₂, subst, length-take-le}
 use Rattle.base_terms.specs.Blocks.{pasted, blocks_of, joined, lengths, changed}
 use Rattle.base_terms.specs.Causes.{HasCause}
 use Rattle.plain_disk.specs.declared.operation.Op.{Op}
 use Rattle.plain_disk.specs.declared.operation.Op.TheVariants.{Read, Write, Flush}
 use Rattle.plain_disk.specs.declared.operation.Reply.{Reply}
 use Rattle.plain_disk.specs.declared.operation.Reply.TheVariants.{Content, Done, Errno}
-use Rattle.plain_disk.specs.Operations.{wrong_of, wrong_range_of}
-use Rattle.plain_disk.specs.Plain.{Block, ProperStep, WriteStep, tried, written, written_for_good, flushed, newest_bytes}
+use Rattle.plain_disk.specs.Plain.{ProperStep, WriteStep, tried, flushed, newest_bytes}
+use Rattle.plain_disk.proofs.BlockFacts.{change, change_newest, change_sure, sure-take, sure-drop, sure-changed, newest-flushed, sure-flushed}
+use Rattle.plain_disk.proofs.RangeFacts.{range_of_proper, range_of_read, whole_blocks, blocks_within}
 use Rattle.sector_disk.specs.Geometry.{IsAtom}
 use Rattle.sector_disk.specs.Steps.{TellsSync}
-use Rattle.sector_disk.proofs.BlockLemmas.{even_changed, joined_changed}
+use Rattle.base_terms.proofs.BlockLemmas.{even_changed, joined_changed}
 use Rattle.plain_volume.specs.Calls.{Made, syncs, outcome, tried_of, ReadsPieces, WritesPieces, MakesOp, TellsCall, TellsCalls, CountsCalls}
 use Rattle.plain_volume.specs.Carried.{IsReadyFor, CarriedOut}
 use Rattle.plain_volume.specs.Pieces.{Ran}
 use Rattle.plain_volume.specs.Volume.{Volume}
-use Rattle.plain_volume.proofs.Places.{atoms_of_whole, atoms_within}
-use Rattle.plain_volume.proofs.Standing.{sure-take, sure-drop, sure-changed, newest-flushed, sure-flushed, blocks_of-take, stands-same}
+use Rattle.plain_volume.proofs.Places.{atom_some}
+use Rattle.plain_volume.proofs.Standing.{blocks_of-take, stands-same}
 use Rattle.plain_volume.proofs.Tried.{tried_within, tried_all}
-
--- a range of whole atoms within a disk of `size` bytes
-pub record IsRange (atom size offset len : ℕ) : Type 0 where
-  pub start : offset % atom ≡ 0
-  pub whole : len % atom ≡ 0
-  pub within : offset + len ≤ size
-
-pub range_of_proper : (atom size offset len past : ℕ) → wrong_range_of atom size offset len past ≡ None
-    → IsRange atom size offset len
-range_of_proper atom size offset len past proper =
-    record {
-      start = grind (arith, common_steps);
-      whole = grind (arith, common_steps);
-      within =
-          grind (arith, common_steps);
-    }
-
-range_of_read : (atom size offset len : ℕ) → wrong_of atom size (Read offset len) ≡ None
-    → IsRange atom size offset len
-range_of_read atom size offset len proper = range_of_proper atom size offset len 22
-    (grind (arith, common_steps))
 
 -- the geometry of the disk stays
 pub record IsSameDisk (old new : Volume) : Type 0 where
@@ -66,7 +45,7 @@ carried-read old new offset len at total buf bytes known ready same values broke
     long bytes_are content ran =
     let range = range_of_read old.atom (old.atoms * old.atom) offset len ready.proper in
     let place : at * old.atom ≡ offset = ap (λ n. n * old.atom) at_is
-    ∙ atoms_of_whole old.atom offset known range.start in
+    ∙ whole_blocks old.atom offset range.start in
     let reads = reads_at old.atom at total (offset / old.atom) len ran.calls at_is total_is ran.are
     in
     record {
@@ -125,20 +104,6 @@ carried-read-failed old new offset len at total ready same values broken at_is t
       counts = ran.counts;
     }
 
--- the change of a block by a write that succeeded
-abbrev change : Bool → Block → List ℕ → Block
-change fua = if fua then written_for_good else written
-
-change_newest : (fua : Bool) (block : Block) (value : List ℕ)
-    → (change fua block value).newest ≡ value
-change_newest true block value = refl
-change_newest false block value = refl
-
-change_sure : (fua : Bool) (block : Block) (value : List ℕ)
-    → (change fua block value).unsure ≡ false
-change_sure true block value = refl
-change_sure false block value = refl
-
 -- the volume writes the body from the block of the offset on, and syncs where it has to
 pub record WritesBody (atom offset : ℕ) (body : List ℕ) (fua : Bool) (at : ℕ) (text : List ℕ)
     (syncing : Bool) : Type 0 where
@@ -171,10 +136,9 @@ carried-write old new offset body fua at text syncing known ready same broken is
     let range = range_of_proper old.atom (old.atoms * old.atom) offset
     (length body) 28 ready.proper in
     let long : length body ≡ length body / old.atom * old.atom =
-    sym (atoms_of_whole old.atom (length body) known range.whole) in
+    sym (whole_blocks old.atom (length body) range.whole) in
     let inside : offset / old.atom + length body / old.atom ≤ old.atoms =
-    atoms_within old.atom old.atoms offset (length body) known range.start range.whole
-    range.within in
+    blocks_within old.atom old.atoms offset (length body) (atom_some old.atom known) range in
     record {
       tried = length body;
       atom = same.atom;
@@ -233,7 +197,7 @@ carried-write-failed old new offset body fua at text syncing known ready same br
     let n = tried_of ran.calls in
     let within = tried_within old.atom (offset / old.atom) body
     (fua && not (length body == 0)) ran.calls known range.whole writes in
-    let whole : n / old.atom * old.atom ≡ n = atoms_of_whole old.atom n known within.1 in
+    let whole : n / old.atom * old.atom ≡ n = whole_blocks old.atom n within.1 in
     let enough : n / old.atom * old.atom ≤ length body = rw whole within.0 in
     let front = take (n / old.atom * old.atom) body in
     let same_blocks : blocks_of old.atom (n / old.atom) front ≡ blocks_of old.atom

@@ -11,7 +11,8 @@ use Rattle.plain_volume.specs.Calls.{Call, reads, writes, syncs, Made, piece_of,
 use Rattle.plain_volume.specs.Histories.{makes-joined, tells-joined}
 use Rattle.plain_volume.specs.Outcomes.{IsError, AreErrors, IsWriting, IsSyncing, AreSettled, SettledBetween}
 use Rattle.plain_volume.specs.Volume.{Volume, Did}
-use Rattle.plain_volume.proofs.Faults.{refused, failing, carried, how_gone, wrong_is_no_fault, reply_is_number, failed_by}
+use Rattle.plain_disk.proofs.RangeFacts.{wrong_is_no_fault}
+use Rattle.plain_volume.proofs.Faults.{refused, failing, carried, how_gone, reply_is_number, failed_by}
 use Rattle.plain_volume.proofs.Tried.{match_cases, both_true}
 
 pub makes-split : (atom atoms : ℕ) (old new : Bool) (xs ys : List Exchange) (calls : List Made)

@@ -10,7 +10,7 @@ use Rattle.plain_disk.specs.declared.operation.Reply.TheVariants.{Errno}
 use Rattle.plain_disk.specs.Operations.{wrong_of}
 use Rattle.plain_disk.specs.Plain.{Block, Exchange, Step, ProperStep, WriteStep, Legal, tried}
 use Rattle.sector_disk.specs.Geometry.{IsAtom}
-use Rattle.sector_disk.proofs.BlockLemmas.{changed-nil}
+use Rattle.base_terms.proofs.BlockLemmas.{changed-nil}
 use Rattle.plain_volume.specs.Calls.{Made, Makes, MakesAll, TellsCalls, CountsCalls}
 use Rattle.plain_volume.specs.Carried.{IsReadyFor, CarriedOut}
 use Rattle.plain_volume.specs.Outcomes.{IsReplyTo}

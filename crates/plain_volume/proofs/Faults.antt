@@ -1,6 +1,5 @@
 -- What counts of faults say of operations: an error of the device has its cause, and without one all are served.
-use Rattle.std.proofs.Common.{◌≡◌, ◌≢◌, ℕ, ◌-◌, ◌*◌, ◌^◌, ◌<◌, ◌≤◌, ◌⊎◌, inl, inr, Bool, true, false, not, ◌&&◌, if◌then◌else◌, MatchBool, List, [], ◌∷◌, ◌++◌, Option, Some, None, MatchOption, refl, sym, ◌∙◌, ap, subst, arith}
-use Rattle.std.proofs.lemmas.Grind.{common_steps}
+use Rattle.std.proofs.Common.{◌≡◌, ℕ, ◌-◌, ◌*◌, ◌^◌, ◌<◌, ◌≤◌, ◌⊎◌, inl, inr, Bool, true, false, not, ◌&&◌, if◌then◌else◌, MatchBool, List, [], ◌∷◌, ◌++◌, Option, Some, None, MatchOption, refl, sym, ◌∙◌, ap, subst, arith}
 use Rattle.base_terms.specs.Causes.{Rose, HasCause}
 use Rattle.plain_disk.specs.declared.operation.Op.{Op}
 use Rattle.plain_disk.specs.declared.operation.Op.TheVariants.{Read, Write, Flush}
@@ -8,6 +7,7 @@ use Rattle.plain_disk.specs.declared.operation.Reply.{Reply}
 use Rattle.plain_disk.specs.declared.operation.Reply.TheVariants.{Content, Done, Errno}
 use Rattle.plain_disk.specs.Operations.{wrong_of}
 use Rattle.plain_disk.specs.Plain.{Exchange}
+use Rattle.plain_disk.proofs.RangeFacts.{wrong_is_no_fault}
 use Rattle.plain_volume.specs.Calls.{Made, outcome, all_succeeded, IsContent, MakesOp, Makes, MakesAll, CountsCalls}
 use Rattle.plain_volume.specs.Outcomes.{HasDeviceError, IsServed, AreServed, IsReplyTo}
 use Rattle.plain_volume.specs.Volume.{Volume, Did}
@@ -44,13 +44,6 @@ unfolding Makes
 how_gone atom atoms old exchange calls new makes =
     how_gone_by atom atoms old exchange calls new
     (wrong_of atom (atoms * atom) exchange.op) refl makes
-
--- an operation that is wrong is answered otherwise than by an error of the device
-pub wrong_is_no_fault : (atom size : ℕ) (op : Op) (number : ℕ)
-    → wrong_of atom size op ≡ Some number → number ≢ 5
-wrong_is_no_fault atom size (Read offset len) number wrong = grind (arith, common_steps)
-wrong_is_no_fault atom size (Write offset body fua) number wrong = grind (arith, common_steps)
-wrong_is_no_fault atom size Flush number wrong = absurd (cc)
 
 pub reply_is_number : (reply : Reply) (n m : ℕ) → reply ≡ Errno n → reply ≡ Errno m → n ≡ m
 reply_is_number reply n m is_n is_m = cc

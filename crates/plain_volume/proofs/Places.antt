@@ -1,5 +1,5 @@
 -- Lemmas on the places of pieces.
-use Rattle.std.proofs.Common.{◌≡◌, ℕ, ◌+◌, ◌-◌, ◌*◌, ◌/◌, ◌%◌, ◌≤◌, inl, inr, ap, ◌∙◌, subst, refl, add_assoc, arith}
+use Rattle.std.proofs.Common.{◌≡◌, ℕ, ◌+◌, ◌-◌, ◌*◌, ◌/◌, ◌%◌, ◌<◌, inl, inr, ap, ◌∙◌, subst, refl, add_assoc, arith}
 use Rattle.sector_disk.specs.Geometry.{IsAtom, IsInDisk}
 use Rattle.plain_volume.specs.Calls.{piece_of}
 
@@ -57,25 +57,9 @@ sum_whole atom a b (inr is) first rest = rw is (let first_4096 : a % 4096 ≡ 0 
     subst (λ n. a % n ≡ 0) is first in let rest_4096 : b % 4096 ≡ 0 =
     subst (λ n. b % n ≡ 0) is rest in omega arith)
 
--- whole atoms that lie within a disk, counted in atoms
-pub atoms_of_whole : (atom len : ℕ) → IsAtom atom → len % atom ≡ 0 → len / atom * atom ≡ len
-atoms_of_whole atom len (inl is) whole = rw is (let whole_512 : len % 512 ≡ 0 =
-    subst (λ a. len % a ≡ 0) is whole in omega arith)
-atoms_of_whole atom len (inr is) whole = rw is (let whole_4096 : len % 4096 ≡ 0 =
-    subst (λ a. len % a ≡ 0) is whole in omega arith)
-
-pub atoms_within : (atom atoms offset len : ℕ) → IsAtom atom → offset % atom ≡ 0 → len % atom ≡ 0
-    → offset + len ≤ atoms * atom → offset / atom + len / atom ≤ atoms
-atoms_within atom atoms offset len (inl is) start whole within =
-    rw is (let start_512 : offset % 512 ≡ 0 = subst (λ a. offset % a ≡ 0) is start in
-    let whole_512 : len % 512 ≡ 0 = subst (λ a. len % a ≡ 0) is whole in
-    let within_512 : offset + len ≤ atoms * 512 =
-    subst (λ a. offset + len ≤ atoms * a) is within in omega arith)
-atoms_within atom atoms offset len (inr is) start whole within =
-    rw is (let start_4096 : offset % 4096 ≡ 0 = subst (λ a. offset % a ≡ 0) is start in
-    let whole_4096 : len % 4096 ≡ 0 = subst (λ a. len % a ≡ 0) is whole in
-    let within_4096 : offset + len ≤ atoms * 4096 =
-    subst (λ a. offset + len ≤ atoms * a) is within in omega arith)
+pub atom_some : (atom : ℕ) → IsAtom atom → 0 < atom
+atom_some atom (inl is) = rw is (omega arith)
+atom_some atom (inr is) = rw is (omega arith)
 
 pub no_atoms : (atom : ℕ) → IsAtom atom → 0 / atom ≡ 0
 no_atoms atom (inl is) = rw is refl

@@ -1,8 +1,8 @@
 -- Lemmas on blocks: what writes and flushes keep of them, and when they stand for a volume.
-use Rattle.std.proofs.Common.{◌≡◌, ℕ, zero, suc, ◌+◌, ◌-◌, ◌*◌, ◌≤◌, false, List, [], ◌∷◌, length, take, drop, map, replicate, refl, sym, ◌∙◌, ap, ap₂, arith, length-drop}
+use Rattle.std.proofs.Common.{◌≡◌, ℕ, zero, suc, ◌+◌, ◌-◌, ◌*◌, ◌≤◌, false, List, ◌∷◌, length, take, drop, map, replicate, refl, sym, ◌∙◌, ap, ap₂, arith, length-drop}
 use Rattle.std.proofs.lemmas.List.{length-map, length-replicate, take-take, drop-take}
-use Rattle.base_terms.specs.Blocks.{blocks_of, lengths, changed}
-use Rattle.plain_disk.specs.Plain.{Block, AreSure, flushed}
+use Rattle.base_terms.specs.Blocks.{blocks_of, lengths}
+use Rattle.plain_disk.specs.Plain.{Block}
 use Rattle.plain_volume.specs.Volume.{Volume, StandsFor}
 
 -- as many blocks as atoms
@@ -13,42 +13,6 @@ count_of_blocks count size blocks even =
     sym (length-map blocks (λ block. block.newest))
     ∙ sym (length-map (map (λ block. block.newest) blocks) (λ block. length block))
     ∙ ap (λ sizes. length sizes) even ∙ length-replicate count size
-
-pub sure-take : (n : ℕ) (blocks : List Block) → AreSure blocks → AreSure (take n blocks)
-unfolding AreSure
-sure-take zero blocks sure = tt
-sure-take (suc n) [] sure = tt
-sure-take (suc n) (block ∷ blocks) sure = (sure.0, sure-take n blocks sure.1)
-
-pub sure-drop : (n : ℕ) (blocks : List Block) → AreSure blocks → AreSure (drop n blocks)
-unfolding AreSure
-sure-drop zero blocks sure = sure
-sure-drop (suc n) [] sure = tt
-sure-drop (suc n) (block ∷ blocks) sure = sure-drop n blocks sure.1
-
--- a change that leaves no doubt leaves none of the blocks in doubt
-pub sure-changed : (change : Block → List ℕ → Block)
-    → ((block : Block) (value : List ℕ) → (change block value).unsure ≡ false)
-    → (blocks : List Block) (at : ℕ) (values : List (List ℕ)) → AreSure blocks
-    → AreSure (changed change blocks at values)
-unfolding AreSure changed
-sure-changed change certain [] at values sure = tt
-sure-changed change certain (block ∷ blocks) at [] sure = sure
-sure-changed change certain (block ∷ blocks) zero (value ∷ values) sure =
-    (certain block value, sure-changed change certain blocks 0 values sure.1)
-sure-changed change certain (block ∷ blocks) (suc at) (value ∷ values) sure =
-    (sure.0, sure-changed change certain blocks at (value ∷ values) sure.1)
-
--- a flush keeps the newest values, and what is unsure
-pub newest-flushed : (blocks : List Block) → map (λ block. block.newest) (map flushed blocks) ≡ map
-    (λ block. block.newest) blocks
-newest-flushed [] = refl
-newest-flushed (block ∷ blocks) = ap (λ rest. block.newest ∷ rest) (newest-flushed blocks)
-
-pub sure-flushed : (blocks : List Block) → AreSure blocks → AreSure (map flushed blocks)
-unfolding AreSure
-sure-flushed [] sure = tt
-sure-flushed (block ∷ blocks) sure = (sure.0, sure-flushed blocks sure.1)
 
 -- the first blocks of a text are those of its front
 pub blocks_of-take : (size n : ℕ) (text : List ℕ) → n * size ≤ length text

@@ -10,10 +10,10 @@ use Rattle.plain_disk.specs.Plain.{Block, Exchange, Step, ProperStep, WriteStep,
 use Rattle.sector_disk.specs.Geometry.{IsAtom}
 use Rattle.sector_disk.specs.Cells.{Cell, synced}
 use Rattle.sector_disk.specs.Steps.{Told}
-use Rattle.sector_disk.proofs.BlockLemmas.{changed-nil}
+use Rattle.base_terms.proofs.BlockLemmas.{changed-nil}
 use Rattle.plain_volume.specs.Calls.{syncs, Made, all_succeeded, tried_of, MakesOp, Makes, TellsCall, TellsCalls}
 use Rattle.plain_volume.specs.Stops.{Covers, AllowsDuring, StopsDuring}
-use Rattle.plain_volume.proofs.Carrying.{range_of_proper}
+use Rattle.plain_disk.proofs.RangeFacts.{range_of_proper}
 use Rattle.plain_volume.proofs.Faults.{refused, failing, carried, how_gone}
 use Rattle.plain_volume.proofs.Places.{no_atoms, zero_whole}
 use Rattle.plain_volume.proofs.StopsCalls.{sync_leaves, failed_sync_leaves, tells_none, tells_first, last_stop, read_stops}

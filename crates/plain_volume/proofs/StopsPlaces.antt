@@ -4,7 +4,8 @@ use Rattle.std.proofs.lemmas.List.{append-nil, drop-drop}
 use Rattle.base_terms.specs.Blocks.{blocks_of, changed}
 use Rattle.sector_disk.specs.Geometry.{IsAtom}
 use Rattle.plain_volume.specs.Calls.{piece_of}
-use Rattle.plain_volume.proofs.Places.{atoms_of_whole}
+use Rattle.base_terms.proofs.BlockLemmas.{length-blocks_of}
+use Rattle.plain_disk.proofs.RangeFacts.{whole_blocks}
 
 pub changed-append : {C : Type 0} (change : C → List ℕ → C) (cells : List C) (at : ℕ)
     (xs ys : List (List ℕ))
@@ -39,12 +40,6 @@ blocks_of-append size (suc a) b text =
     ∙ ap (λ tail. blocks_of size a (drop size text) ++ blocks_of size b tail)
     (drop-drop (a * size) size text ∙ ap (λ n. drop n text) (let c : size + a * size ≡ suc a * size = grind arith in c))))
 
-length-blocks_of : (size n : ℕ) (text : List ℕ) → length (blocks_of size n text) ≡ n
-unfolding blocks_of
-length-blocks_of size zero text = refl
-length-blocks_of size (suc n) text =
-    let below = length-blocks_of size n (drop size text) in omega (arith, below)
-
 -- whole atoms, counted
 pub div_sum : (atom a b : ℕ) → IsAtom atom → a % atom ≡ 0 → b % atom ≡ 0
     → (a + b) / atom ≡ a / atom + b / atom
@@ -65,7 +60,7 @@ changed_on change cells atom at m p body known whole more =
     let front = blocks_of atom (m / atom) body in
     ap₂ (λ n tail. changed change (changed change cells at front) (at + n)
     (blocks_of atom (p / atom) (drop tail body)))
-    (sym (length-blocks_of atom (m / atom) body)) (sym (atoms_of_whole atom m known whole))
+    (sym (length-blocks_of atom (m / atom) body)) (sym (whole_blocks atom m whole))
     ∙ changed-append change cells at front (blocks_of atom (p / atom) (drop (m / atom * atom) body))
     ∙ ap (λ all. changed change cells at all)
     (sym (blocks_of-append atom (m / atom) (p / atom) body)

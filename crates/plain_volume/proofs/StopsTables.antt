@@ -12,7 +12,7 @@ use Rattle.sector_disk.specs.Geometry.{IsAtom}
 use Rattle.sector_disk.specs.Steps.{Told, Moves, MovesOrNot, then_table}
 use Rattle.plain_volume.specs.Calls.{Call, reads, writes, syncs, Made, piece_of, tried_in, tried_of, ReadsPieces, WritesPieces, MakesOp, Makes, TellsCall}
 use Rattle.plain_volume.specs.Stops.{AllowsDuring, StopsDuring, StopsAlong, StopAt}
-use Rattle.plain_volume.proofs.Carrying.{range_of_proper}
+use Rattle.plain_disk.proofs.RangeFacts.{range_of_proper}
 use Rattle.plain_volume.proofs.Faults.{refused, failing, carried, how_gone}
 use Rattle.plain_volume.proofs.Places.{piece_whole, rest_whole, sum_whole, zero_whole}
 use Rattle.plain_volume.proofs.StopsCalls.{same_told}

@@ -9,7 +9,8 @@ use Rattle.sector_disk.specs.Cells.{wrote, synced, IsTried, IsImage}
 use Rattle.sector_disk.specs.Steps.{Told}
 use Rattle.plain_volume.specs.Calls.{writes, syncs, Made, piece_of, tried_in, tried_of, all_succeeded, WritesPieces, TellsCall, TellsCalls}
 use Rattle.plain_volume.specs.Stops.{Covers, StopsDuring}
-use Rattle.plain_volume.proofs.Places.{atoms_of_whole, piece_whole, rest_whole, sum_whole}
+use Rattle.plain_disk.proofs.RangeFacts.{whole_blocks}
+use Rattle.plain_volume.proofs.Places.{piece_whole, rest_whole, sum_whole}
 use Rattle.plain_volume.proofs.Standing.{blocks_of-take}
 use Rattle.plain_volume.proofs.StopsCalls.{write_leaves, failed_write_leaves, sync_leaves, failed_sync_leaves, tells_none, tells_first, last_stop}
 use Rattle.plain_volume.proofs.StopsCover.{covers-allows, covers-wrote, covers-tried, covers-more, covers-untried, covers-synced, covers-for_good, covers-thinned}
@@ -38,7 +39,7 @@ piece_values atom body known whole =
     length-take 1048576 body
     ∙ (let e : min 1048576 (length body) ≡ min (length body) 1048576 = omega arith in e) in
     let atoms : p / atom * atom ≡ p =
-    atoms_of_whole atom p known (piece_whole atom (length body) known whole) in
+    whole_blocks atom p (piece_whole atom (length body) known whole) in
     let front : take 1048576 body ≡ take (p / atom * atom) body =
     sym (take_min 1048576 body)
     ∙ ap (λ n. take n body) ((let e : min 1048576 (length body) ≡ p = omega arith in e) ∙ sym atoms) in

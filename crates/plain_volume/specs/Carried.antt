@@ -1,7 +1,6 @@
 -- What carrying out one operation did, which is not wrong and finds an unbroken volume.
 use Rattle.std.specs.Prelude.{ℕ, ◌≡◌, ◌*◌, false, List, None}
 use Rattle.plain_disk.specs.declared.operation.Op.{Op}
-use Rattle.plain_disk.specs.declared.operation.Op.TheVariants.{Read, Write, Flush}
 use Rattle.plain_disk.specs.declared.operation.Reply.{Reply}
 use Rattle.plain_disk.specs.Operations.{wrong_of}
 use Rattle.plain_disk.specs.Plain.{Block, ProperStep}
@@ -12,12 +11,6 @@ use Rattle.plain_volume.specs.Volume.{Volume, StandsFor}
 pub record IsReadyFor (volume : Volume) (op : Op) : Type 0 where
   pub proper : wrong_of volume.atom (volume.atoms * volume.atom) op ≡ None
   pub unbroken : volume.broken ≡ false
-
--- the operation takes memory: a read, for its content
-abbrev pub TakesMemory : Op → Type 0
-TakesMemory (Read offset len) = Unit {0}
-TakesMemory (Write offset body fua) = ⊥
-TakesMemory Flush = ⊥
 
 -- the operation was carried out, and answered
 pub record CarriedOut (old new : Volume) (op : Op) (reply : Reply) : Type 0 where

@@ -1,9 +1,10 @@
 -- Histories of operations: the empty one, two one after the other, and where one starts.
-use Rattle.std.specs.Prelude.{ℕ, ◌≡◌, ◌*◌, Bool, List, [], ◌∷◌, ◌++◌, length, map, Option, Some}
+use Rattle.std.specs.Prelude.{ℕ, ◌≡◌, ◌*◌, Bool, List, [], ◌∷◌, ◌++◌, length, Option, Some}
 use Rattle.std.proofs.Common.{refl, sym, ◌∙◌, ap, subst, append_assoc}
 use Rattle.base_terms.specs.Blocks.{blocks_of, joined, lengths}
-use Rattle.plain_disk.specs.Plain.{Block, Exchange, AreSure, Legal, newest_bytes, settled_blocks}
-use Rattle.sector_disk.proofs.BlockLemmas.{lengths-blocks_of, joined-blocks_of}
+use Rattle.plain_disk.proofs.BlockFacts.{newest_of_settled, sure_of_settled}
+use Rattle.plain_disk.specs.Plain.{Block, Exchange, Legal, newest_bytes, settled_blocks}
+use Rattle.base_terms.proofs.BlockLemmas.{lengths-blocks_of, joined-blocks_of}
 use Rattle.sector_disk.specs.Steps.{Told}
 use Rattle.plain_volume.specs.Calls.{Made, MakesAll, TellsCalls, CountsCalls}
 use Rattle.plain_volume.specs.Volume.{Volume, StandsFor, Did}
@@ -85,17 +86,6 @@ did_joined old middle new xs ys first rest = record {
   counts = counts-joined old.faults middle.faults new.faults first.calls rest.calls first.counts
       rest.counts;
 }
-
-newest_of_settled : (values : List (List ℕ)) → map (λ block. block.newest)
-    (settled_blocks values) ≡ values
-unfolding settled_blocks
-newest_of_settled [] = refl
-newest_of_settled (value ∷ values) = ap (λ rest. value ∷ rest) (newest_of_settled values)
-
-sure_of_settled : (values : List (List ℕ)) → AreSure (settled_blocks values)
-unfolding settled_blocks AreSure
-sure_of_settled [] = tt
-sure_of_settled (value ∷ values) = (refl, sure_of_settled values)
 
 -- a volume that tells its bytes starts as the plain disk that holds them for certain
 pub stands_at_start : (volume : Volume) (bytes : List ℕ) → volume.values ≡ Some bytes

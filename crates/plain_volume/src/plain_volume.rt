@@ -1,6 +1,7 @@
 ghost use Rattle.std.specs.Prelude.{◌≡◌, ◌*◌, ◌^◌, ◌<◌, false, ℕ, IfOk, OnErr, List, [], ◌∷◌};
 ghost use Rattle.sector_disk.specs.Geometry.{IsAtom};
-ghost use Rattle.plain_volume.specs.Carried.{IsReadyFor, TakesMemory, CarriedOut};
+ghost use Rattle.plain_disk.specs.Operations.{TakesMemory};
+ghost use Rattle.plain_volume.specs.Carried.{IsReadyFor, CarriedOut};
 ghost use Rattle.plain_volume.specs.Outcomes.{IsReplyTo};
 ghost use Rattle.plain_volume.specs.Volume.{Volume, Did};
 

@@ -3,7 +3,7 @@ use Rattle.std.proofs.Common.{◌≡◌, ℕ, zero, suc, ◌+◌, ◌-◌, ◌*�
 use Rattle.std.proofs.lemmas.List.{take-replicate, drop-replicate}
 use Rattle.base_terms.specs.Blocks.{pasted, blocks_of, lengths, changed}
 use Rattle.sector_disk.specs.Cells.{Cell, sure, sures, wrote, tried, synced, currents, content}
-use Rattle.sector_disk.proofs.BlockLemmas.{even_changed, joined_changed}
+use Rattle.base_terms.proofs.BlockLemmas.{even_changed, joined_changed}
 
 -- atoms keep their size in a write
 pub even_wrote : (count size at n : ℕ) (cells : List Cell) (text : List ℕ)

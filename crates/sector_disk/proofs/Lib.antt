@@ -1,4 +1,3 @@
-pub mod BlockLemmas
 pub mod CellLemmas
 pub mod CallLemmas
 pub mod TableLemmas

@@ -2,7 +2,7 @@
 use Rattle.std.proofs.Common.{◌≡◌, ℕ, zero, suc, ◌+◌, ◌-◌, ◌*◌, ◌<◌, ◌≤◌, List, [], ◌∷◌, ◌++◌, length, take, drop, map, get_or, set, refl, sym, ◌∙◌, ap, ap₂, arith, append_assoc, inl, inr, length-drop, ◌⊎◌}
 use Rattle.std.proofs.lemmas.List.{drop_more, drop_all, append-nil, get_or_at, length-map, length-take-le, map_push, set_at, take_more}
 use Rattle.base_terms.specs.Blocks.{blocks_of, changed, joined}
-use Rattle.sector_disk.proofs.BlockLemmas.{changed-nil}
+use Rattle.base_terms.proofs.BlockLemmas.{changed-nil}
 use Rattle.sector_disk.specs.Calls.{last_table, table_after}
 use Rattle.sector_disk.specs.Cells.{Cell, sure, sures, synced}
 use Rattle.sector_disk.specs.Images.{chosen, image_from}

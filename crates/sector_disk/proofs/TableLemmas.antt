@@ -8,7 +8,7 @@ use Rattle.sector_disk.specs.Geometry.{is_atom-true, IsInDisk, is_atom}
 use Rattle.sector_disk.specs.Steps.{Told, fresh, then_table}
 use Rattle.sector_disk.specs.declared.call_record.Kind.{Kind}
 use Rattle.sector_disk.specs.declared.call_record.Kind.TheVariants.{Read, Write, FailedWrite, Sync}
-use Rattle.sector_disk.proofs.BlockLemmas.{joined-blocks_of, lengths-blocks_of}
+use Rattle.base_terms.proofs.BlockLemmas.{joined-blocks_of, lengths-blocks_of}
 use Rattle.sector_disk.proofs.CallLemmas.{last_table-push, tables_after-push, whole_atoms}
 use Rattle.sector_disk.proofs.CellLemmas.{currents_tried, currents_synced, currents_sures, sures-zeros, even_wrote, content_wrote}
 

@@ -8,7 +8,6 @@
 #![tactic(auto)]
 
 mod atom_values;
-mod buffers;
 mod call_record;
 mod device;
 mod images;

@@ -9,11 +9,10 @@ ghost use Rattle.sector_disk.specs.Images.{IsChoice, image_of};
 ghost use Rattle.sector_disk.specs.Steps.{fresh, then_table, then_tried, then_written, Marks, TellsRead, TellsSync, TellsWrite};
 ghost use Rattle.sector_disk.specs.Values.{Reads, Writes};
 
-use crate::buffers::{paste, zeros};
 use crate::call_record::{CallRecord, Kind};
 use crate::replay::{atoms_of_content, image_bytes};
 use crate::{Choice, Disk};
-use base_terms::Failed;
+use base_terms::{Failed, paste, zeros};
 use io_edge::FaultPlan;
 use std::alloc::{AllocError, AllocFailed, Global};
 

@@ -2,8 +2,7 @@ ghost use Rattle.std.specs.Prelude.{◌≡◌, ◌*◌, ◌^◌, ◌<◌, length
 ghost use Rattle.sector_disk.specs.Geometry.{is_atom, IsDisk};
 
 use crate::Disk;
-use crate::buffers::{paste, zeros};
-use base_terms::Failed;
+use base_terms::{Failed, paste, zeros};
 use std::alloc::{AllocError, Global};
 
 /// A disk in memory that never fails. It tells its current bytes alone.

@@ -21,6 +21,11 @@ block_within atom n k inside =
     let ends : suc k * atom ≤ n * atom = mul-le-mul_right atom inside in
     omega (arith, block_end atom k, ends)
 
+pub blocks_within : (atom count at n : ℕ) (bytes : List ℕ) → length bytes ≡ count * atom → at + n ≤ count
+    → (at + n) * atom ≤ length bytes
+blocks_within atom count at n bytes long within =
+    let ends : (at + n) * atom ≤ count * atom = mul-le-mul_right atom within in omega (arith, long)
+
 -- bytes stay bytes in parts and one after the other
 bytes_within : (xs : List ℕ) → ((k : ℕ) → k < length xs → get_or xs k 0 < 256) → AreBytes xs
 bytes_within xs within k =
@@ -51,6 +56,21 @@ pub length-block_at : (atom n : ℕ) (bytes : List ℕ) (k : ℕ) → k < n → 
 length-block_at atom n bytes k inside enough =
     length-take-le atom (drop (k * atom) bytes)
     (rw (length-drop (k * atom) bytes) (omega (arith, block_within atom n k inside)))
+
+-- a place at which a text has a whole block lies within it
+pub place_of_whole : (atom : ℕ) (bytes : List ℕ) (place : ℕ) → 0 < atom
+    → length (block_at atom bytes place) ≡ atom → suc place * atom ≤ length bytes
+place_of_whole atom bytes place some whole =
+    let taken = length-take atom (drop (place * atom) bytes) in
+    let left = length-drop (place * atom) bytes in
+    omega (arith, some, whole, taken, left, block_end atom place)
+
+pub blocks_of_whole : (atom at n : ℕ) (bytes : List ℕ) → 0 < atom → 0 < n
+    → ((k : ℕ) → k < n → length (block_at atom bytes (at + k)) ≡ atom) → (at + n) * atom ≤ length bytes
+blocks_of_whole atom at n bytes some more whole =
+    let last : suc (at + (n - 1)) ≡ at + n = omega arith in
+    subst (λ m. m * atom ≤ length bytes) last
+    (place_of_whole atom bytes (at + (n - 1)) some (whole (n - 1) (omega arith)))
 
 pub bytes-block_at : (atom : ℕ) (bytes : List ℕ) (k : ℕ) → AreBytes bytes → AreBytes (block_at atom bytes k)
 bytes-block_at atom bytes k are = bytes-take atom (drop (k * atom) bytes) (bytes-drop (k * atom) bytes are)
@@ -148,8 +168,7 @@ blocks_joined atom m n xs ys first rest = record {
 pub blocks_part : (atom count s n : ℕ) (bytes : List ℕ) → AreBlocks atom count bytes → s + n ≤ count
     → AreBlocks atom n (take (n * atom) (drop (s * atom) bytes))
 blocks_part atom count s n bytes are within = record {
-  size = length-part atom s n bytes
-      (let e : (s + n) * atom ≤ count * atom = mul-le-mul_right atom within in omega (arith, are.size));
+  size = length-part atom s n bytes (blocks_within atom count s n bytes are.size within);
   are_bytes = bytes-take (n * atom) (drop (s * atom) bytes) (bytes-drop (s * atom) bytes are.are_bytes);
 }
 

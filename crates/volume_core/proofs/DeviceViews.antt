@@ -1,6 +1,5 @@
 -- Lemmas on what device calls do to a disk as a run sees it.
-use Rattle.std.proofs.Common.{◌≡◌, ℕ, ◌+◌, ◌*◌, ◌/◌, ◌<◌, ◌≤◌, List, [], length, take, drop, map, Some, Result, Ok, Err, refl, sym, ◌∙◌, ap, subst, inl, inr, arith}
-use Rattle.std.specs.Prelude.{Contains}
+use Rattle.std.proofs.Common.{◌≡◌, ℕ, ◌+◌, ◌*◌, ◌/◌, ◌<◌, ◌≤◌, List, length, take, drop, map, Some, Result, Ok, Err, refl, sym, ◌∙◌, ap, subst, inl, inr, arith}
 use Rattle.std.proofs.lemmas.List.{length-map}
 use Rattle.std.proofs.Math.Nat.{mul-div_cancel}
 use Rattle.base_terms.specs.declared.failed.Failed.{Failed}
@@ -17,7 +16,7 @@ use Rattle.volume_core.specs.Views.{View, view_of_bytes, view_of_cells, IsUnchan
 use Rattle.volume_core.specs.Views as views
 use Rattle.volume_core.proofs.Blockwise.{length-pasted_blocks, block_at-pasted, block_at-pasted_outside, block_at-part}
 use Rattle.volume_core.proofs.Entries.{length-changed}
-use Rattle.volume_core.proofs.TableEntries.{kept_view, wrote_view, length-tried, tried_view, untried_view, synced_view, length-thinned, thinned_view, unthinned_view}
+use Rattle.volume_core.proofs.TableEntries.{none_contained, place_of_some, kept_view, wrote_view, length-tried, tried_view, untried_view, synced_view, length-thinned, thinned_view, unthinned_view}
 
 -- a call leaves other bytes that are told, as many, and by this step of what a run sees
 pub record TurnsBytes (atom : ℕ) (bytes : List ℕ) (new : Device) (Step : View → View → Type 0) : Type 0 where
@@ -95,9 +94,6 @@ bytes-tried atom at n text bytes old new call told long =
     }
 
 -- a sync, also one that fails
-none_contained : (P : Type 0) (value : List ℕ) → Contains [] value → P
-none_contained P value has = absurd (omega (arith, has.1))
-
 pub bytes-synced : (atom : ℕ) (bytes : List ℕ) (old new : Device) (result : Result (Unit {0}) Failed)
     → SyncCall old new result → old.values ≡ Some bytes → TurnsBytes atom bytes new IsSynced
 bytes-synced atom bytes old new result call told = record {
@@ -156,16 +152,28 @@ table-read atom at text old new (Err failed) now call told =
 count_of_blocks : (atom n : ℕ) (text : List ℕ) → 0 < atom → length text ≡ n * atom → length text / atom ≡ n
 count_of_blocks atom n text some long = ap (λ m. m / atom) long ∙ mul-div_cancel n some
 
--- the table had so many atoms before a call
-abbrev pub HadAtoms : Device → ℕ → Type 0
-HadAtoms old atoms = (before : Told) → old.told ≡ Some before → length before.now ≡ atoms
+-- the `n` atoms from `at` on are in the table before a call
+abbrev pub HasPlaces : Device → ℕ → ℕ → Type 0
+HasPlaces old at n = (before : Told) → old.told ≡ Some before → (k : ℕ) → k < n → at + k < length before.now
+
+pub places_of_atoms : (old : Device) (atoms at n : ℕ)
+    → ((before : Told) → old.told ≡ Some before → length before.now ≡ atoms) → at + n ≤ atoms
+    → HasPlaces old at n
+places_of_atoms old atoms at n had within before was k below = omega (arith, had before was, within, below)
+
+pub places_of_current : (old : Device) (atom at n : ℕ) → 0 < atom
+    → ((before : Told) → old.told ≡ Some before → (k : ℕ) → k < n
+    → length ((view_of_cells before.now).current (at + k)) ≡ atom)
+    → HasPlaces old at n
+places_of_current old atom at n some whole before was k below =
+    place_of_some before.now (at + k) (omega (arith, some, whole before was k below))
 
 -- a write
-pub table-written : (atom atoms at n : ℕ) (text : List ℕ) (old new : Device) (now : Told)
+pub table-written : (atom at n : ℕ) (text : List ℕ) (old new : Device) (now : Told)
     → WriteCall atom at text old new succeeded → new.told ≡ Some now
-    → 0 < atom → HadAtoms old atoms → at + n ≤ atoms → length text ≡ n * atom
+    → 0 < atom → length text ≡ n * atom → HasPlaces old at n
     → TurnsTable old now (IsWritten atom at n text)
-table-written atom atoms at n text old new now call told some had within long =
+table-written atom at n text old new now call told some long has =
     turns_by_move (λ cells next. next ≡ changed wrote cells at (blocks_of atom (length text / atom) text))
     (IsWritten atom at n text) old new now
     (λ before was is.
@@ -173,15 +181,15 @@ table-written atom atoms at n text old new now call told some had within long =
     is ∙ ap (λ m. changed wrote before.now at (blocks_of atom m text)) (count_of_blocks atom n text some long) in
     record {
       size = ap (λ cells. length cells) exact ∙ length-changed wrote before.now at (blocks_of atom n text);
-      step = wrote_view atom at n text before.now now.now (omega (arith, had before was, within)) exact;
+      step = wrote_view atom at n text before.now now.now (has before was) exact;
     }) call.told told
 
 -- a write that failed
-pub table-tried : (atom atoms at n : ℕ) (text : List ℕ) (old new : Device) (now : Told)
+pub table-tried : (atom at n : ℕ) (text : List ℕ) (old new : Device) (now : Told)
     → WriteCall atom at text old new failed_call → new.told ≡ Some now
-    → 0 < atom → HadAtoms old atoms → at + n ≤ atoms → length text ≡ n * atom
+    → 0 < atom → length text ≡ n * atom
     → TurnsTable old now (IsTried atom at n text)
-table-tried atom atoms at n text old new now call told some had within long =
+table-tried atom at n text old new now call told some long =
     turns_or_not (λ cells next. disk_cells.IsTried cells at (blocks_of atom (length text / atom) text) next)
     (IsTried atom at n text) old new now (λ cells. untried_view atom at n text cells cells refl)
     (λ before was is.
@@ -190,7 +198,7 @@ table-tried atom atoms at n text old new now call told some had within long =
     (count_of_blocks atom n text some long) is in
     record {
       size = length-tried before.now at (blocks_of atom n text) now.now exact;
-      step = tried_view atom at n text before.now now.now (omega (arith, had before was, within)) exact;
+      step = tried_view atom at n text before.now now.now exact;
     }) call.told told
 
 -- a sync

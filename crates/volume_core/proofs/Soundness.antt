@@ -275,7 +275,7 @@ sound_admitted old new lane ask outcome sound free proper is = elim (either (has
           (λ o same. let e : o ≡ begun old.map.atom ask = cc in rw e (begins old.map ask sound.fits.known proper)))
 ]
 
-admit_cases : {K : Type 0} (old new : State K) (lane : ℕ) (ask : Ask) (outcome : Outcome) (wrong : Option ℕ) → wrong_ask old.map.atom (size_of old.map) ask ≡ wrong →
+pub admit_cases : {K : Type 0} (old new : State K) (lane : ℕ) (ask : Ask) (outcome : Outcome) (wrong : Option ℕ) → wrong_ask old.map.atom (size_of old.map) ask ≡ wrong →
     AdmitStep old lane ask outcome new → (new ≡ old) ⊎ ((wrong ≡ None) × IsAdmitted old lane ask outcome new)
 admit_cases old new lane ask outcome (Some number) is step = (let refused_step = rw is at step in inl refused_step.1)
 admit_cases old new lane ask outcome None is step =

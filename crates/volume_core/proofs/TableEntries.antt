@@ -1,6 +1,8 @@
 -- Lemmas on what device calls do to tables, atom by atom.
 use Rattle.std.proofs.Common.{◌≡◌, ℕ, zero, suc, ◌+◌, ◌<◌, ◌≤◌, ◌⊎◌, List, [], ◌∷◌, ◌++◌, length, map, refl, sym, ◌∙◌, ap, subst, inl, inr, arith}
 use Rattle.std.specs.Prelude.{slice_index_or, Contains}
+use Rattle.std.proofs.lemmas.Bool.{cases_lt}
+use Rattle.std.proofs.lemmas.List.{get_or_past}
 use Rattle.std.proofs.lemmas.List.Elements.{Contains-push_cases, All-contains}
 use Rattle.base_terms.specs.Blocks.{blocks_of, changed}
 use Rattle.sector_disk.specs.Cells.{Cell, wrote, tried, synced, IsTriedAt, IsThinned}
@@ -15,7 +17,7 @@ use Rattle.volume_core.proofs.Entries.{length-blocks_of, blocks_of-at, changed_b
 abbrev no_cell : Cell
 no_cell = record { current = []; candidates = [] }
 
-none_contained : (P : Type 0) (value : List ℕ) → Contains [] value → P
+pub none_contained : (P : Type 0) (value : List ℕ) → Contains [] value → P
 none_contained P value has = absurd (omega (arith, has.1))
 
 one_contained : (x value : List ℕ) → Contains (x ∷ []) value → value ≡ x
@@ -46,13 +48,13 @@ wrote_contained : (cell new : Cell) (text value : List ℕ) → new ≡ wrote ce
 wrote_contained cell new text value is has =
     more_contained cell.candidates text value (subst (λ c. Contains c.candidates value) is has)
 
-pub wrote_view : (atom at n : ℕ) (text : List ℕ) (old new : List Cell) → at + n ≤ length old
-    → new ≡ changed wrote old at (blocks_of atom n text)
+pub wrote_view : (atom at n : ℕ) (text : List ℕ) (old new : List Cell)
+    → ((k : ℕ) → k < n → at + k < length old) → new ≡ changed wrote old at (blocks_of atom n text)
     → IsWritten atom at n text (view_of_cells old) (view_of_cells new)
 wrote_view atom at n text old new within is =
     let inside : (k : ℕ) → k < n → cell_in new (at + k) ≡ wrote (cell_in old (at + k)) (block_at atom text k) =
     λ k below. ap (λ cells. cell_in cells (at + k)) is
-    ∙ changed_blocks-inside wrote old atom at n text k no_cell below (omega (arith, below, within)) in
+    ∙ changed_blocks-inside wrote old atom at n text k no_cell below (within k below) in
     let outside : (place : ℕ) → IsOutside at n place → cell_in new place ≡ cell_in old place =
     λ place far. ap (λ cells. cell_in cells place) is
     ∙ changed_blocks-outside wrote old atom at n text place no_cell far in
@@ -127,16 +129,34 @@ outside_blocks : (atom at n : ℕ) (text : List ℕ) (place : ℕ) → IsOutside
 outside_blocks atom at n text place (inl before) = inl before
 outside_blocks atom at n text place (inr behind) = inr (rw (length-blocks_of atom n text) behind)
 
-pub tried_view : (atom at n : ℕ) (text : List ℕ) (old new : List Cell) → at + n ≤ length old
+tried_within : (atom at n : ℕ) (text : List ℕ) (old new : List Cell) (k : ℕ) (value : List ℕ)
+    → disk_cells.IsTried old at (blocks_of atom n text) new → k < n → at + k < length old
+    → Contains (cell_in new (at + k)).candidates value
+    → Contains (cell_in old (at + k)).candidates value ⊎ (value ≡ block_at atom text k)
+tried_within atom at n text old new k value is below within has =
+    tried_contained (cell_in old (at + k)) (cell_in new (at + k)) (block_at atom text k) value
+    (subst (λ block. IsTriedAt (cell_in old (at + k)) block (cell_in new (at + k)))
+    (blocks_of-at atom n text k [] below)
+    (tried-inside old at (blocks_of atom n text) new k (at + k) [] is refl
+    (rw (length-blocks_of atom n text) below) within)) has
+
+tried_past : (P : Type 0) (old : List Cell) (at : ℕ) (values : List (List ℕ)) (new : List Cell) (place : ℕ)
+    (value : List ℕ) → disk_cells.IsTried old at values new → length old ≤ place
+    → Contains (cell_in new place).candidates value → P
+tried_past P old at values new place value is past has =
+    none_contained P value (subst (λ cell. Contains cell.candidates value)
+    (get_or_past new place no_cell (omega (arith, length-tried old at values new is, past))) has)
+
+pub tried_view : (atom at n : ℕ) (text : List ℕ) (old new : List Cell)
     → disk_cells.IsTried old at (blocks_of atom n text) new
     → IsTried atom at n text (view_of_cells old) (view_of_cells new)
-tried_view atom at n text old new within is = record {
+tried_view atom at n text old new is = record {
   inside = λ k below value has.
-      tried_contained (cell_in old (at + k)) (cell_in new (at + k)) (block_at atom text k) value
-      (subst (λ block. IsTriedAt (cell_in old (at + k)) block (cell_in new (at + k)))
-      (blocks_of-at atom n text k [] below)
-      (tried-inside old at (blocks_of atom n text) new k (at + k) [] is refl
-      (rw (length-blocks_of atom n text) below) (omega (arith, below, within)))) has;
+      elim (cases_lt (at + k) (length old)) as
+      (λ _. Contains (cell_in old (at + k)).candidates value ⊎ (value ≡ block_at atom text k)) [
+        | inl within ↦ tried_within atom at n text old new k value is below within has
+        | inr past ↦ tried_past _ old at (blocks_of atom n text) new (at + k) value is past has
+      ];
   outside = λ place far value has. subst (λ cell. Contains cell.candidates value)
       (tried-outside old at (blocks_of atom n text) new place is (outside_blocks atom at n text place far)) has;
 }
@@ -187,3 +207,15 @@ thinned_view (cell ∷ old) (next ∷ new) is (suc place) value has = thinned_vi
 
 pub unthinned_view : (old new : List Cell) → new ≡ old → views.IsThinned (view_of_cells old) (view_of_cells new)
 unthinned_view old new is = (kept_view old new is).candidates
+
+-- an atom that holds some bytes is one of the table's
+pub place_of_some : (cells : List Cell) (place : ℕ) → 0 < length (cell_in cells place).current
+    → place < length cells
+place_of_some cells place some =
+    elim (cases_lt place (length cells)) as (λ _. place < length cells) [
+      | inl within ↦ within
+      | inr past ↦
+          let none : length (cell_in cells place).current ≡ 0 =
+          ap (λ cell. length cell.current) (get_or_past cells place no_cell past) in
+          absurd (omega (arith, none, some))
+    ]

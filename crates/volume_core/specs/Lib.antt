@@ -3,6 +3,7 @@ pub mod Asks
 pub mod Contents
 pub mod Devices
 pub mod Events
+pub mod Executing
 pub mod Pieces
 pub mod Promises
 pub mod Runs

@@ -87,3 +87,11 @@ breaks (finishes lane) outcome = false
 unfoldable pub breaks_in : {K : Type 0} → Bool → List (Happening K) → Bool
 breaks_in before [] = before
 breaks_in before (one ∷ rest) = breaks_in (before || breaks one.event one.outcome) rest
+
+-- An operation has failed exactly where one of its events did; the volume is broken exactly where a
+-- write or a sync failed; and sides, keys and places of all blocks stay.
+pub record GoesByEvents {K : Type 0} (start : State K) (run : List (Happening K)) : Type 0 where
+  pub fails : (lane : ℕ) (o : Open) → open_at (last_of start run).lanes lane ≡ Some o → o.failed ≡ fails_in lane false run
+  pub breaks : (last_of start run).broken ≡ breaks_in start.broken run
+  pub map : (last_of start run).map ≡ start.map
+  pub keys : (last_of start run).keys ≡ start.keys

@@ -11,6 +11,7 @@ mod answers;
 mod ask;
 mod buffers;
 mod keys;
+mod laws;
 mod open;
 mod prepared;
 mod volume;
@@ -18,5 +19,8 @@ mod volume;
 pub use answers::{Admitted, Asked, Grant, PieceRead, PieceWritten, Progress, Settled};
 pub use ask::Ask;
 pub use keys::Keys;
+pub use laws::{
+    every_run_is_served, failures_go_by_events, keys_seal_lawfully, volumes_stay_sound,
+};
 pub use prepared::Prepared;
 pub use volume::Volume;

@@ -1,5 +1,5 @@
 use Rattle.std.proofs.Common.{◌∙◌, sym}
-use Rattle.sector_disk.proofs.BlockLemmas.{pasted_whole}
+use Rattle.base_terms.proofs.BlockLemmas.{pasted_whole}
 use Rattle.sector_disk.proofs.TableLemmas.{even_start, content_start, told_start}
 use Rattle.sector_disk.proofs.mem_disk.MemDisk.begun_with.Goals as goal
 

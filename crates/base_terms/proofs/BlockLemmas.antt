@@ -1,6 +1,6 @@
 -- Lemmas on texts and their blocks.
-use Rattle.std.proofs.Common.{◌≡◌, ℕ, zero, suc, ◌+◌, ◌-◌, ◌*◌, ◌≤◌, List, [], ◌∷◌, ◌++◌, length, take, drop, map, replicate, refl, sym, ◌∙◌, ap, ap₂, arith, append_assoc, length-drop, add-zero, add_assoc}
-use Rattle.std.proofs.lemmas.List.{append-nil, take-append-drop, nil_from_length, drop_all, length-take-le}
+use Rattle.std.proofs.Common.{◌≡◌, ℕ, zero, suc, ◌+◌, ◌-◌, ◌*◌, ◌<◌, ◌≤◌, List, [], ◌∷◌, ◌++◌, length, take, drop, map, replicate, refl, sym, ◌∙◌, ap, ap₂, arith, append_assoc, slice_index_or, length-drop, add-zero, add_assoc}
+use Rattle.std.proofs.lemmas.List.{append-nil, take-append-drop, nil_from_length, drop_all, drop-drop, take_at, drop_at, take-replicate, drop-replicate, length-take-le}
 use Rattle.std.proofs.Math.Seq.{take-append-add, drop-append-add}
 use Rattle.base_terms.specs.Blocks.{pasted, blocks_of, joined, lengths, changed}
 
@@ -146,3 +146,98 @@ joined_changed held change holds (suc count) size (suc at) (suc n) (cell ∷ cel
     (even_rest held count size cell cells even) (omega arith) is)
     ∙ sym (rw place (pasted_behind (held cell) (joined (map held cells)) size (at * size) text
     (even_front held count size cell cells even)))
+
+-- what is held after a change that puts values in place
+pub held_changed : {C : Type 0} (held : C → List ℕ) (change : C → List ℕ → C)
+    → ((cell : C) (value : List ℕ) → held (change cell value) ≡ value)
+    → (cells : List C) (at : ℕ) (values : List (List ℕ))
+    → map held (changed change cells at values) ≡ changed (λ _ value. value) (map held cells) at values
+unfolding changed
+held_changed held change holds [] at values = refl
+held_changed held change holds (cell ∷ cells) at [] = refl
+held_changed held change holds (cell ∷ cells) zero (value ∷ values) =
+    ap₂ (λ x xs. x ∷ xs) (holds cell value) (held_changed held change holds cells 0 values)
+held_changed held change holds (cell ∷ cells) (suc at) (value ∷ values) =
+    ap (λ rest. held cell ∷ rest) (held_changed held change holds cells at (value ∷ values))
+
+-- as many blocks as were asked for
+pub length-blocks_of : (size n : ℕ) (text : List ℕ) → length (blocks_of size n text) ≡ n
+unfolding blocks_of
+length-blocks_of size zero text = refl
+length-blocks_of size (suc n) text = ap (λ k. suc k) (length-blocks_of size n (drop size text))
+
+-- the blocks of a block and what is behind it
+pub blocks_of-behind : (block rest : List ℕ) (size n : ℕ) → length block ≡ size
+    → blocks_of size (suc n) (block ++ rest) ≡ block ∷ blocks_of size n rest
+unfolding blocks_of
+blocks_of-behind block rest size n is =
+    ap₂ (λ x xs. x ∷ xs) (take_at block rest size is)
+    (ap (λ text. blocks_of size n text) (drop_at block rest size is))
+
+-- a text of blocks, cut behind its first
+cut : (count size : ℕ) (text : List ℕ) → length text ≡ suc count * size
+    → (length (take size text) ≡ size) × (length (drop size text) ≡ count * size)
+cut count size text is = (
+  length-take-le size text (let e : size ≤ length text = grind arith in e),
+  length-drop size text ∙ (let e : length text - size ≡ count * size = grind arith in e),
+)
+
+-- the blocks of a text into which blocks were put
+pub blocks_of-pasted : (count size at n : ℕ) (text body : List ℕ) → length text ≡ count * size
+    → at + n ≤ count → length body ≡ n * size
+    → blocks_of size count (pasted text (at * size) body)
+    ≡ changed (λ _ value. value) (blocks_of size count text) at (blocks_of size n body)
+unfolding blocks_of changed
+blocks_of-pasted zero size at n text body long in_disk is = refl
+blocks_of-pasted (suc count) size at zero text body long in_disk is =
+    let none : body ≡ [] = nil_from_length body (is ∙ omega arith) in
+    rw none (ap (λ all. blocks_of size (suc count) all) (pasted-nil text (at * size)))
+blocks_of-pasted (suc count) size zero (suc n) text body long in_disk is =
+    let (first, left) = cut count size text long in
+    let (next, more) = cut n size body is in
+    let enough : size ≤ length body = grind arith in
+    let place : 0 * size ≡ 0 = grind arith in
+    let below = rw place at (blocks_of-pasted count size 0 n (drop size text) (drop size body) left
+    (omega arith) more) in
+    rw place
+    (ap (λ all. blocks_of size (suc count) all)
+    (ap (λ all. pasted all 0 body) (sym (take-append-drop size text))
+    ∙ pasted_over (take size text) (drop size text) size body first enough)
+    ∙ blocks_of-behind (take size body) (pasted (drop size text) 0 (drop size body)) size count next
+    ∙ ap (λ xs. take size body ∷ xs) below)
+blocks_of-pasted (suc count) size (suc at) (suc n) text body long in_disk is =
+    let (first, left) = cut count size text long in
+    let place : suc at * size ≡ size + at * size = grind arith in
+    rw place
+    (ap (λ all. blocks_of size (suc count) all)
+    (ap (λ all. pasted all (size + at * size) body) (sym (take-append-drop size text))
+    ∙ pasted_behind (take size text) (drop size text) size (at * size) body first)
+    ∙ blocks_of-behind (take size text) (pasted (drop size text) (at * size) body) size count first
+    ∙ ap (λ xs. take size text ∷ xs)
+    (blocks_of-pasted count size at (suc n) (drop size text) body left (omega arith) is))
+
+-- a block of a text, by its number
+pub block_at : (size n k : ℕ) (text : List ℕ) → k < n
+    → slice_index_or (blocks_of size n text) k [] ≡ take size (drop (k * size) text)
+unfolding blocks_of
+block_at size zero k text inside = absurd (omega (arith, inside))
+block_at size (suc n) zero text inside =
+    let place : 0 * size ≡ 0 = grind arith in rw place refl
+block_at size (suc n) (suc k) text inside =
+    let place : k * size + size ≡ suc k * size = grind arith in
+    block_at size n k (drop size text) (omega (arith, inside))
+    ∙ ap (λ all. take size all) (drop-drop (k * size) size text
+    ∙ ap (λ m. drop m text) (let e : size + k * size ≡ suc k * size = grind arith in e))
+
+-- the blocks of so many equal bytes
+pub blocks_of-replicate : (size n : ℕ) (byte : ℕ)
+    → blocks_of size n (replicate (n * size) byte) ≡ replicate n (replicate size byte)
+unfolding blocks_of
+blocks_of-replicate size zero byte = refl
+blocks_of-replicate size (suc n) byte =
+    let front : size ≤ suc n * size = grind arith in
+    let rest : suc n * size - size ≡ n * size = grind arith in
+    ap₂ (λ x xs. x ∷ xs) (take-replicate {X = ℕ} size (suc n * size) byte front)
+    (ap (λ text. blocks_of size n text) (drop-replicate {X = ℕ} size (suc n * size) byte
+    ∙ ap (λ m. replicate m byte) rest)
+    ∙ blocks_of-replicate size n byte)

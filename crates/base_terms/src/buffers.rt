@@ -1,0 +1,46 @@
+ghost use Rattle.std.specs.Prelude.{◌≡◌, ◌+◌, ◌≤◌, length, replicate, IfOk};
+ghost use Rattle.base_terms.specs.Blocks.{pasted};
+
+use std::alloc::{AllocError, Global};
+
+/// So many zero bytes.
+pub fn zeros(alloc: Global, len: usize) -> Result<Vec<u8>, AllocError>
+    ensures { IfOk result (λ bytes. bytes.items ≡ replicate len 0) }
+{
+    let mut bytes = Vec::new(alloc);
+    bytes.resize(len, 0)?;
+    Ok(bytes)
+}
+
+/// Puts the bytes in place of as many of a vector's own from `from` on.
+#[tactic(auto, unfolding(crate::specs::Blocks::pasted))]
+pub fn paste(into: &mut Vec<u8>, from: usize, bytes: &[u8])
+    requires { from + length bytes.now ≤ length into.old.items }
+    ensures items { into.new.items ≡ pasted into.old.items from bytes.now }
+    ensures len { length into.new.items ≡ length into.old.items }
+{
+    into[from..from + bytes.len()].copy_from_slice(bytes);
+}
+
+#[cfg(test)]
+mod tests {
+    use super::*;
+    use std::test::Fail;
+
+    #[test]
+    fn zeros_are_as_many_as_asked_for(rt: HostRuntime) -> Result<(), Fail> {
+        assert_eq!(rt; zeros(rt.alloc(), 0)?.as_slice(), b"".as_slice());
+        assert_eq!(rt; zeros(rt.alloc(), 3)?.as_slice(), b"\0\0\0".as_slice());
+        Ok(())
+    }
+
+    #[test]
+    fn bytes_are_put_in_place(rt: HostRuntime) -> Result<(), Fail> {
+        for (from, text) in [(0, b"xyzdef"), (2, b"abxyzf"), (3, b"abcxyz")] {
+            let mut bytes = b"abcdef".to_vec(rt.alloc())?;
+            paste(&mut bytes, from, b"xyz");
+            assert_eq!(rt; bytes.as_slice(), text.as_slice());
+        }
+        Ok(())
+    }
+}
