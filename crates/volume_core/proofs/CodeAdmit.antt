@@ -1,11 +1,11 @@
 -- The steps of an admit.
-use Rattle.std.proofs.Common.{◌≡◌, ℕ, Bool, true, false, Option, Some, None, List, [], ◌∷◌, ◌++◌, refl, sym, ◌∙◌, ap, subst}
+use Rattle.std.proofs.Common.{◌≡◌, ℕ, Bool, true, false, Option, Some, None, [], ◌∷◌, ◌++◌, refl, sym, ◌∙◌, ap, subst}
 use Rattle.std.specs.Bool.{MatchBool}
 use Rattle.range_lock.specs.declared.Entry.{Entry}
 use Rattle.range_lock.specs.declared.Kind.{Kind}
 use Rattle.range_lock.specs.declared.Standing.{Standing}
 use Rattle.range_lock.specs.Locks.{IsStanding}
-use Rattle.volume_core.specs.Asks.{kind_of, range_of, has_lock, wrong_ask, entry_of}
+use Rattle.volume_core.specs.Asks.{kind_of, has_lock, wrong_ask, entry_of}
 use Rattle.volume_core.specs.Events.{admits, Outcome, held, refused}
 use Rattle.volume_core.specs.States.{State, size_of, begun}
 use Rattle.volume_core.specs.Steps.{Step, Goes, IsAdmitted, TellsStanding}

@@ -1,4 +1,4 @@
-use Rattle.std.proofs.Common.{◌≡◌, refl, sym, ◌∙◌}
+use Rattle.std.proofs.Common.{refl, sym}
 use Rattle.volume_core.specs.Answers.{outcome_of_admitted}
 use Rattle.volume_core.specs.Events.{admits, held}
 use Rattle.volume_core.proofs.CodeAdmit.{is-wrong, is-proper, admit-refused, admit-broken, admit-flush, admit-entered}
