@@ -1,11 +1,11 @@
 -- The steps of an admit.
-use Rattle.std.proofs.Common.{◌≡◌, ℕ, Bool, true, false, Option, Some, None, List, [], ◌∷◌, ◌++◌, refl, sym, ◌∙◌, ap, subst}
+use Rattle.std.proofs.Common.{◌≡◌, ℕ, Bool, true, false, Option, Some, None, [], ◌∷◌, ◌++◌, refl, sym, ◌∙◌, ap, subst}
 use Rattle.std.specs.Bool.{MatchBool}
 use Rattle.range_lock.specs.declared.Entry.{Entry}
 use Rattle.range_lock.specs.declared.Kind.{Kind}
 use Rattle.range_lock.specs.declared.Standing.{Standing}
 use Rattle.range_lock.specs.Locks.{IsStanding}
-use Rattle.volume_core.specs.Asks.{kind_of, range_of, has_lock, wrong_ask, entry_of}
+use Rattle.volume_core.specs.Asks.{kind_of, has_lock, wrong_ask, entry_of}
 use Rattle.volume_core.specs.Events.{admits, Outcome, held, refused}
 use Rattle.volume_core.specs.States.{State, size_of, begun}
 use Rattle.volume_core.specs.Steps.{Step, Goes, IsAdmitted, TellsStanding}
@@ -13,9 +13,18 @@ use Rattle.volume_core.specs.declared.ask.Ask.{Ask}
 use Rattle.volume_core.specs.declared.open.Open.{Open}
 use Rattle.volume_core.proofs.CodeSteps.{goes-to}
 
-pub none-of : (o : Option ℕ) → ((n : ℕ) → o ≡ Some n → ⊥) → o ≡ None
-none-of None none = refl
-none-of (Some n) none = absurd (none n refl)
+none_of : (o : Option ℕ) → ((n : ℕ) → o ≡ Some n → ⊥) → o ≡ None
+none_of None none = refl
+none_of (Some n) none = absurd (none n refl)
+
+-- what the operation's judge answered
+pub is-wrong : (atom size : ℕ) (ask : Ask) (answer : Option ℕ) (number : ℕ) → answer ≡ wrong_ask atom size ask → answer ≡ Some number →
+    wrong_ask atom size ask ≡ Some number
+is-wrong atom size ask answer number is some = sym is ∙ some
+
+pub is-proper : (atom size : ℕ) (ask : Ask) (answer : Option ℕ) → answer ≡ wrong_ask atom size ask → ((n : ℕ) → answer ≡ Some n → ⊥) →
+    wrong_ask atom size ask ≡ None
+is-proper atom size ask answer is none = sym is ∙ none_of answer none
 
 unbroken : (b : Bool) (A B : Type 0) → b ≡ false → B → MatchBool b A B
 unbroken true A B is case = absurd (cc)

@@ -1,11 +1,11 @@
 -- A volume that has begun is sound.
-use Rattle.std.proofs.Common.{◌≡◌, ℕ, zero, suc, ◌<◌, Bool, false, Option, Some, None, List, [], ◌∷◌, length, replicate, find, refl, sym, ◌∙◌, arith}
+use Rattle.std.proofs.Common.{◌≡◌, ℕ, zero, suc, ◌<◌, false, Option, None, List, [], replicate, refl, sym, ◌∙◌}
 use Rattle.std.proofs.lemmas.List.{length-replicate}
 use Rattle.range_lock.specs.Locks.{Locks}
 use Rattle.segment_map.specs.declared.map.Map.{Map}
-use Rattle.volume_core.specs.Sound.{IsSound, MapFits, count_locks, entry_in}
+use Rattle.volume_core.specs.Sound.{IsSound, MapFits, count_locks}
 use Rattle.volume_core.specs.Seals.{KeysFit}
-use Rattle.volume_core.specs.States.{State, Device, open_at}
+use Rattle.volume_core.specs.States.{Device, open_at}
 use Rattle.volume_core.specs.Volumes.{state_of, IsVolume}
 use Rattle.volume_core.specs.declared.keys.Keys.{Keys}
 use Rattle.volume_core.specs.declared.open.Open.{Open}

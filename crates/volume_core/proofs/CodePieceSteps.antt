@@ -1,5 +1,5 @@
 -- What the calls on a piece find, and the steps that they are.
-use Rattle.std.proofs.Common.{◌≡◌, ℕ, ◌+◌, ◌<◌, ◌≤◌, Bool, true, false, Option, Some, None, List, length, refl, sym, ◌∙◌, ap, subst, arith}
+use Rattle.std.proofs.Common.{◌≡◌, ℕ, ◌<◌, ◌≤◌, true, false, Some, List, length, ap, subst, arith}
 use Rattle.cipher_laws.specs.Bytes.{AreBytes}
 use Rattle.segment_map.specs.Maps.{place_at}
 use Rattle.segment_map.specs.declared.map.Piece.{Piece}
@@ -7,10 +7,10 @@ use Rattle.sector_disk.specs.Geometry.{IsInDisk}
 use Rattle.volume_core.specs.Answers.{FitsPiece}
 use Rattle.volume_core.specs.Devices.{ReadCall, WriteCall}
 use Rattle.volume_core.specs.Events.{reads, writes, got, done, device, broken}
-use Rattle.volume_core.specs.Pieces.{IsPieceOf, ArePieceBytes, place_of, size_of_piece, rest_of, moved, failing}
+use Rattle.volume_core.specs.Pieces.{IsPieceOf, ArePieceBytes, size_of_piece, rest_of, moved, failing}
 use Rattle.volume_core.specs.Sound.{IsSound}
 use Rattle.volume_core.specs.States.{State, open_at}
-use Rattle.volume_core.specs.Steps.{Step, Meets, Has, HasPiece, Goes, succeeded, failed_call}
+use Rattle.volume_core.specs.Steps.{Step, Meets, Goes, succeeded, failed_call}
 use Rattle.volume_core.specs.declared.open.Open.{Open}
 use Rattle.volume_core.proofs.CodePieces.{next_is_one, place-of, piece-on-disk}
 use Rattle.volume_core.proofs.CodeSteps.{open-is-one, goes-to}

@@ -1,5 +1,5 @@
 -- The next piece of an operation: there is only one, and it lies on the disk.
-use Rattle.std.proofs.Common.{◌≡◌, ◌≢◌, ◌⊎◌, inl, inr, ℕ, suc, ◌+◌, ◌*◌, ◌%◌, ◌<◌, ◌≤◌, Option, Some, None, List, length, refl, sym, ◌∙◌, ap, arith}
+use Rattle.std.proofs.Common.{◌≡◌, inl, inr, ℕ, suc, ◌+◌, ◌*◌, ◌<◌, ◌≤◌, Some, sym, ◌∙◌, ap, arith}
 use Rattle.std.proofs.Math.Nat.{mul-mod_left, mul-le-mul_right}
 use Rattle.std.proofs.lemmas.Bool.{cases_lt}
 use Rattle.block_range.specs.declared.BlockRange.{BlockRange}
@@ -8,7 +8,7 @@ use Rattle.segment_map.specs.declared.Side.{Side}
 use Rattle.segment_map.specs.declared.Side.TheVariants.{Old, New, Zone}
 use Rattle.segment_map.specs.declared.map.Map.{Map}
 use Rattle.segment_map.specs.declared.map.Piece.{Piece}
-use Rattle.segment_map.specs.Maps.{IsNextPiece, side_at, place_on, place_at, most_bytes}
+use Rattle.segment_map.specs.Maps.{IsNextPiece, side_at, place_on, place_at}
 use Rattle.volume_core.specs.Pieces.{IsPieceOf, place_of, size_of_piece}
 use Rattle.volume_core.specs.Sound.{MapFits}
 use Rattle.volume_core.specs.declared.open.Open.{Open}

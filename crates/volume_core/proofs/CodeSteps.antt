@@ -1,13 +1,12 @@
 -- What the calls on a volume find before they do a step, and what a step leaves.
-use Rattle.std.proofs.Common.{◌≡◌, ◌≢◌, ◌⊎◌, inl, inr, ℕ, zero, suc, ◌+◌, ◌<◌, ◌≤◌, Bool, true, false, Option, Some, None, List, [], ◌∷◌, length, find, refl, sym, ◌∙◌, ap, arith, slice_index_or}
+use Rattle.std.proofs.Common.{◌≡◌, ℕ, zero, suc, ◌<◌, Bool, true, false, Option, Some, None, List, [], ◌∷◌, length, refl, ◌∙◌, arith}
 use Rattle.range_lock.specs.declared.Entry.{Entry}
-use Rattle.range_lock.specs.Locks.{is_of, has_entry}
-use Rattle.volume_core.specs.Asks.{IsRead, IsWrite, has_lock, entry_of}
-use Rattle.volume_core.specs.Devices.{ReadCall, WriteCall, SyncCall}
-use Rattle.volume_core.specs.Events.{Event, Outcome, admits, asks, reads, writes, settles, finishes, got, done, device, broken}
-use Rattle.volume_core.specs.Pieces.{IsPieceOf, ArePieceBytes, place_of, size_of_piece, moved, failing, settling}
-use Rattle.volume_core.specs.Seals.{KeysFit}
-use Rattle.volume_core.specs.Sound.{IsSound, entry_in, count_locks, locks}
+use Rattle.range_lock.specs.Locks.{has_entry}
+use Rattle.volume_core.specs.Asks.{has_lock, entry_of}
+use Rattle.volume_core.specs.Devices.{SyncCall}
+use Rattle.volume_core.specs.Events.{Event, Outcome, admits, asks, reads, writes, settles, finishes, done, device, broken}
+use Rattle.volume_core.specs.Pieces.{failing, settling}
+use Rattle.volume_core.specs.Sound.{IsSound}
 use Rattle.volume_core.specs.States.{State, open_at}
 use Rattle.volume_core.specs.Steps.{Step, Meets, Has, HasPiece, Goes, after_settle, succeeded, failed_call}
 use Rattle.volume_core.specs.Volumes.{IsVolume}

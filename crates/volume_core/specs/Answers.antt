@@ -1,6 +1,5 @@
 -- The outcomes that the answers of calls tell, and what else they give.
-use Rattle.std.specs.Prelude.{ℕ, ◌≡◌, List, length, Option, Some, if◌then◌else◌, None, Bool, nat_eq}
-use Rattle.segment_map.specs.declared.Direction.{Direction}
+use Rattle.std.specs.Prelude.{ℕ, ◌≡◌, List, length, Some, Bool, nat_eq}
 use Rattle.segment_map.specs.declared.map.Map.{Map}
 use Rattle.segment_map.specs.declared.map.Piece.{Piece}
 use Rattle.segment_map.specs.Sides.{left_of}

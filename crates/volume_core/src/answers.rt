@@ -7,7 +7,7 @@ use base_terms::Bytes;
 use block_range::BlockRange;
 use segment_map::{Map, Piece};
 
-/// The blocks of an operation, and the map that they have until its finish.
+/// The blocks of an operation, which lie in the volume, and the map that they have until its finish.
 #[derive(Clone, Copy, Debug, PartialEq, Eq)]
 pub struct Grant {
     /// The map of the volume.

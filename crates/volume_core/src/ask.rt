@@ -27,7 +27,7 @@ impl Ask {
     /// read of more than `MAX_READ` bytes, then 22 for an offset or length that isn't a multiple of
     /// the block, then for a range past the end 22 for a read and 28 for a write. None of what isn't
     /// wrong; a flush never is.
-    pub fn wrong(self, atom: u32, size: u64) -> Option<u32>
+    pub(crate) fn wrong(self, atom: u32, size: u64) -> Option<u32>
         requires { 0 < atom }
         ensures { result ≡ wrong_ask atom size self }
     {
@@ -44,7 +44,7 @@ impl Ask {
     }
 
     /// The blocks of `atom` bytes that it reads or writes; of a flush none.
-    pub fn range(self, atom: u32) -> BlockRange
+    pub(crate) fn range(self, atom: u32) -> BlockRange
         requires { IsAtom atom }
         ensures { result ≡ range_of atom self }
     {
@@ -59,7 +59,7 @@ impl Ask {
     }
 
     /// How it has its blocks: a read with others, a write for itself.
-    pub fn kind(self) -> Kind
+    pub(crate) fn kind(self) -> Kind
         ensures { result ≡ kind_of self }
     {
         match self {
@@ -69,7 +69,7 @@ impl Ask {
     }
 
     /// Whether it locks its blocks; a flush has none.
-    pub fn has_lock(self) -> bool
+    pub(crate) fn has_lock(self) -> bool
         ensures { result ≡ has_lock self }
     {
         match self {

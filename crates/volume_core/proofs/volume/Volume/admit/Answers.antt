@@ -1,7 +1,7 @@
-use Rattle.std.proofs.Common.{◌≡◌, refl, sym, ◌∙◌}
+use Rattle.std.proofs.Common.{refl, sym}
 use Rattle.volume_core.specs.Answers.{outcome_of_admitted}
 use Rattle.volume_core.specs.Events.{admits, held}
-use Rattle.volume_core.proofs.CodeAdmit.{none-of, admit-refused, admit-broken, admit-flush, admit-entered}
+use Rattle.volume_core.proofs.CodeAdmit.{is-wrong, is-proper, admit-refused, admit-broken, admit-flush, admit-entered}
 use Rattle.volume_core.proofs.CodeSteps.{lane-admits, free-admits, free-place, free-entry, volume-kept}
 use Rattle.volume_core.proofs.volume.Volume.admit.Goals as goal
 use Rattle.volume_core.proofs.volume.Volume.admit.Goals.{in-Held, in-Waiting}
@@ -9,12 +9,12 @@ use Rattle.volume_core.proofs.volume.Volume.admit.Goals.{in-Held, in-Waiting}
 pub returns-in-Some-clause-step : goal.returns-in-Some-clause-step
 returns-in-Some-clause-step g c =
     let is = rw c.from.ensures at c.wrong.ensures in
-    rw (← c.self.view_is) (admit-refused _ c.args.lane c.args.ask c.in-Some.number (sym is ∙ c.in-Some.is))
+    rw (← c.self.view_is) (admit-refused _ c.args.lane c.args.ask c.in-Some.number (is-wrong _ _ c.args.ask c.wrong.result c.in-Some.number is c.in-Some.is))
 
 pub returns-then-self-clause-step : goal.returns-then-self-clause-step
 returns-then-self-clause-step g c =
     let is = rw c.from.ensures at c.wrong.ensures in
-    rw (← c.self.view_is) (admit-broken _ c.args.lane c.args.ask (sym is ∙ none-of c.wrong.result c.in_default.not-Some) c.if-self.true)
+    rw (← c.self.view_is) (admit-broken _ c.args.lane c.args.ask (is-proper _ _ c.args.ask c.wrong.result is c.in_default.not-Some) c.if-self.true)
 
 pub set_lane-requires : goal.set_lane-requires
 set_lane-requires g c = lane-admits _ c.args.lane c.args.ask (rw (← c.self.view_is) at c.requires)
@@ -33,7 +33,7 @@ pub invariant_of-self : goal.invariant_of-self
 invariant_of-self g c =
     let is = rw c.from.ensures at c.wrong.ensures in
     volume-kept g.C.SectorCipher.sector _ _ _ _ (admits c.args.lane c.args.ask) held c.self.invariant (rw (← c.self.view_is) at c.requires)
-    (admit-flush _ _ c.args.lane c.args.ask c.new-open.result (sym is ∙ none-of c.wrong.result c.in_default.not-Some) c.if-self.false
+    (admit-flush _ _ c.args.lane c.args.ask c.new-open.result (is-proper _ _ c.args.ask c.wrong.result is c.in_default.not-Some) c.if-self.false
     (sym c.if-not-has_lock.ensures) c.new-open.ensures refl
     (record { map = refl; keys = refl; room = refl; entries_are = refl; lane_is = c.set_lane.ensures; broken_is = refl }) refl)
     refl refl refl
@@ -41,7 +41,7 @@ invariant_of-self g c =
 pub returns-then-not-has_lock-clause-step : goal.returns-then-not-has_lock-clause-step
 returns-then-not-has_lock-clause-step g c =
     let is = rw c.from.ensures at c.wrong.ensures in
-    rw (← c.self.view_is) (admit-flush _ _ c.args.lane c.args.ask c.new-open.result (sym is ∙ none-of c.wrong.result c.in_default.not-Some) c.if-self.false
+    rw (← c.self.view_is) (admit-flush _ _ c.args.lane c.args.ask c.new-open.result (is-proper _ _ c.args.ask c.wrong.result is c.in_default.not-Some) c.if-self.false
     (sym c.if-not-has_lock.ensures) c.new-open.ensures refl
     (record { map = refl; keys = refl; room = refl; entries_are = refl; lane_is = c.set_lane.ensures; broken_is = refl }) refl)
 
@@ -50,7 +50,7 @@ invariant_of-self-2 g c =
     let is = rw c.from.ensures at c.wrong.ensures in
     volume-kept g.C.SectorCipher.sector _ _ _ _ (admits c.args.lane c.args.ask) (outcome_of_admitted c.match-enter.result) c.self.invariant (rw (← c.self.view_is) at c.requires)
     (admit-entered _ _ c.args.lane c.args.ask c.new-open.result c.kind.result c.enter.result (outcome_of_admitted c.match-enter.result)
-    (sym is ∙ none-of c.wrong.result c.in_default.not-Some) c.if-self.false (sym c.if-not-has_lock.ensures) c.new-open.ensures c.kind.ensures
+    (is-proper _ _ c.args.ask c.wrong.result is c.in_default.not-Some) c.if-self.false (sym c.if-not-has_lock.ensures) c.new-open.ensures c.kind.ensures
     c.enter.ensures.entered c.enter.ensures.standing
     (λ stands here. elim c.match-enter.branch [
       | in-Held w ↦ rw w.result-is (rw w.in-Held.is at here)
@@ -63,7 +63,7 @@ pub returns-clause-step : goal.returns-clause-step
 returns-clause-step g c =
     let is = rw c.from.ensures at c.wrong.ensures in
     rw (← c.self.view_is) (admit-entered _ _ c.args.lane c.args.ask c.new-open.result c.kind.result c.enter.result (outcome_of_admitted c.match-enter.result)
-    (sym is ∙ none-of c.wrong.result c.in_default.not-Some) c.if-self.false (sym c.if-not-has_lock.ensures) c.new-open.ensures c.kind.ensures
+    (is-proper _ _ c.args.ask c.wrong.result is c.in_default.not-Some) c.if-self.false (sym c.if-not-has_lock.ensures) c.new-open.ensures c.kind.ensures
     c.enter.ensures.entered c.enter.ensures.standing
     (λ stands here. elim c.match-enter.branch [
       | in-Held w ↦ rw w.result-is (rw w.in-Held.is at here)

@@ -1,4 +1,4 @@
-use Rattle.std.proofs.Common.{refl, ◌≤◌}
+use Rattle.std.proofs.Common.{refl}
 use Rattle.volume_core.specs.Steps.{Step}
 use Rattle.volume_core.proofs.CodePieceSteps.{ends-inside}
 use Rattle.volume_core.proofs.CodeSteps.{runs-asks, locked-entry}

@@ -1,6 +1,6 @@
 use Rattle.std.proofs.Common.{refl}
 use Rattle.volume_core.specs.Events.{settles, done, device, broken}
-use Rattle.volume_core.proofs.CodeSteps.{runs-settles, has-lane, volume-kept, settle-done, settle-device, settle-broken}
+use Rattle.volume_core.proofs.CodeSteps.{runs-settles, volume-kept, settle-done, settle-device, settle-broken}
 use Rattle.volume_core.proofs.volume.Volume.settle.Goals as goal
 
 pub open_of-open-requires : goal.open_of-open-requires
