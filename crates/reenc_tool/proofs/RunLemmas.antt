@@ -78,12 +78,13 @@ history_of start seals final run exchanges bytes laws starts did =
 may_stop : (start : State PlainKeys) (seals : Seals) (final : State PlainKeys) (run : List (Happening PlainKeys)) (exchanges : List Exchange) →
     VolumeLaws start seals run → DiskTells start.map.atom start.disk → IsWholeDisk start.map.atom start.disk.atoms start.map → ChangeNothing seals →
     ((bytes : List ℕ) → start.disk.values ≡ Some bytes → Starts start seals (plain_blocks start bytes) bytes) → Executes seals start final run exchanges → MayStop start seals run exchanges
-may_stop start seals final run exchanges laws tells whole nothing starts did = λ bytes before now values was settled told.
-    (laws.covered bytes whole nothing (tells.whole bytes values) (tells.are_bytes bytes values)
-    (λ other is. (let same : other ≡ before = cc in
-        (subst (λ t. AreSettled t.now) (sym same) settled, (let agrees = tells.agrees other is in cc), tells.even other is))),
-    laws.stops (plain_blocks start bytes) bytes exchanges (starts bytes values) did.is (did.answers no_plain),
-    laws.tables now did.is told)
+may_stop start seals final run exchanges laws tells whole nothing starts did = λ bytes before now values was settled told. (
+  laws.covered bytes whole nothing (tells.whole bytes values) (tells.are_bytes bytes values)
+      (λ other is. (let same : other ≡ before = cc in
+      (subst (λ t. AreSettled t.now) (sym same) settled, (let agrees = tells.agrees other is in cc), tells.even other is))),
+  laws.stops (plain_blocks start bytes) bytes exchanges (starts bytes values) did.is (did.answers no_plain),
+  laws.tables now did.is told,
+)
 
 pub ran_of : {D L E : Type 0} (atom : D → ℕ) (device : D → Device) (told : L → Option Story) (bound faults : L → ℕ) (items : E → List SessionEnd)
     (disk d : D) (begun : List L) (link : L) (links : List L) (ends : List E) (cause : Cause) (start : State PlainKeys) (seals : Seals) (final : State PlainKeys)
