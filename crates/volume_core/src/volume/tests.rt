@@ -178,7 +178,7 @@ fn finish<D: Disk, C: SectorCipher + Copy>(volume: &mut Volume<D, C>, lane: u32)
     Answer::Done
 }
 
-fn write_of(block: u64, blocks: u32) -> Ask {
+fn write_of(block: u64, blocks: u64) -> Ask {
     Ask::Write {
         offset: block % 65536 * 512,
         length: blocks % 65536 * 512,
