@@ -1,0 +1,4 @@
+pub mod LaneEnds
+pub mod LaneEvents
+pub mod LaneRuns
+pub mod LaneSeals
