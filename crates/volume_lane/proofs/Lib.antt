@@ -2,3 +2,4 @@ pub mod LaneEnds
 pub mod LaneEvents
 pub mod LaneRuns
 pub mod LaneSeals
+pub mod LaneSpares
