@@ -1,0 +1,75 @@
+-- The pieces of an operation, one after the other.
+use Rattle.std.proofs.Common.{◌≡◌, ◌≢◌, ◌⊎◌, inl, inr, ℕ, suc, ◌+◌, ◌-◌, ◌*◌, ◌/◌, ◌<◌, ◌≤◌, List, [], ◌∷◌, ◌++◌, length, take, drop, refl, sym, ◌∙◌, ap, subst, arith, length-append}
+use Rattle.std.proofs.Math.Nat.{mul-le-mul_right}
+use Rattle.block_range.specs.declared.BlockRange.{BlockRange}
+use Rattle.segment_map.specs.declared.map.Map.{Map}
+use Rattle.segment_map.specs.declared.map.Piece.{Piece}
+use Rattle.segment_map.specs.Maps.{IsNextPiece}
+use Rattle.volume_core.specs.Asks.{IsRead, IsWrite, range_of}
+use Rattle.volume_core.specs.Pieces.{size_of_piece}
+use Rattle.volume_core.specs.Seals.{Seals, seals_of}
+use Rattle.volume_core.specs.States.{State}
+use Rattle.volume_core.specs.declared.ask.Ask.{Ask}
+use Rattle.volume_core.specs.declared.ask.Ask.TheVariants.{Read, Write, Flush}
+use Rattle.volume_core.specs.declared.keys.Keys.{Keys}
+use Rattle.volume_core.proofs.CodePieces.{next_is_one}
+use Rattle.volume_lane.specs.Lane.{GoesOn, IsAlone, IsNext, going}
+use Rattle.volume_lane.specs.Spares.{IsOnePiece, IsPieceAt}
+use Rattle.volume_lane.proofs.LaneRuns.{goes-on}
+
+-- the blocks of an operation are in order
+pub ordered-read : (atom : ℕ) (ask : Ask) → IsRead ask → (range_of atom ask).start ≤ (range_of atom ask).end
+ordered-read atom (Read offset len) reading = omega arith
+ordered-read atom (Write offset len fua) reading = absurd reading
+ordered-read atom Flush reading = absurd reading
+
+pub ordered-write : (atom : ℕ) (ask : Ask) → IsWrite ask → (range_of atom ask).start ≤ (range_of atom ask).end
+ordered-write atom (Read offset len) writing = absurd writing
+ordered-write atom (Write offset len fua) writing = omega arith
+ordered-write atom Flush writing = absurd writing
+
+-- keys and blocks are those of the start
+same-seals : {C : Type 0} (seal unseal : C → ℕ → List ℕ → List ℕ) (old now : State (Keys C)) → now.map ≡ old.map → now.keys ≡ old.keys →
+    seals_of seal unseal now.map.atom now.keys ≡ seals_of seal unseal old.map.atom old.keys
+same-seals seal unseal old now map keys = rw (map, keys) refl
+
+-- a piece behind others
+pub piece-behind : {C : Type 0} (seal unseal : C → ℕ → List ℕ → List ℕ) (old now new : State (Keys C)) (first more : List ℕ) →
+    GoesOn (seals_of seal unseal old.map.atom old.keys) old now first → GoesOn (seals_of seal unseal now.map.atom now.keys) now new more →
+    GoesOn (seals_of seal unseal old.map.atom old.keys) old new (first ++ more)
+piece-behind seal unseal old now new first more one other =
+    goes-on (seals_of seal unseal old.map.atom old.keys) old now new first more one
+        (subst (λ s. GoesOn s now new more) (same-seals seal unseal old now one.map one.keys) other)
+
+pub alone-by : {K : Type 0} (old now new : State K) (ask : Ask) (at : ℕ) → now.map ≡ old.map → IsAlone new (going now.map.atom ask at) → IsAlone new (going old.map.atom ask at)
+alone-by old now new ask at same alone = rw same at alone
+
+-- sizes of pieces in a row
+pub size-more : (start at count next atom : ℕ) → start ≤ at → next ≡ at + count → (at - start) * atom + count * atom ≡ (next - start) * atom
+size-more start at count next atom order is = (let e : next - start ≡ (at - start) + count = omega (arith, order, is) in rw e (omega arith))
+
+pub size-within : (start next end atom : ℕ) → next ≤ end → (next - start) * atom ≤ (end - start) * atom
+size-within start next end atom within = mul-le-mul_right atom (omega (arith, within))
+
+pub size-none : (start atom : ℕ) → 0 ≡ (start - start) * atom
+size-none start atom = (let e : start - start ≡ 0 = omega arith in rw e (omega arith))
+
+-- where the blocks are one piece, no piece follows it
+pub one-ends : (map : Map) (range : BlockRange) (at : ℕ) (piece : Piece) → IsOnePiece map range → at ≡ range.start → IsPieceAt map range.end at piece →
+    piece.first + piece.count ≡ range.end
+one-ends map range at piece one is next =
+    let here : IsNextPiece map range piece = rw is at next in
+    let same = next_is_one map range piece one.piece here one.next in
+    let first = one.next.first in
+    rw same (let whole = one.whole in omega (arith, whole, first))
+
+pub never-one : (map : Map) (range : BlockRange) (at n : ℕ) (piece : Piece) → IsOnePiece map range → at ≡ range.start → IsPieceAt map range.end at piece →
+    n ≡ (at - range.start) * map.atom → (n ≡ 0 → piece.first + piece.count ≢ range.end) → ⊥
+never-one map range at n piece one is next size goes_on =
+    goes_on (size ∙ rw is (sym (size-none range.start map.atom))) (one-ends map range at piece one is next)
+
+pub stays-within : (start at count end atom : ℕ) → start ≤ at → at + count ≤ end → (at - start) * atom + count * atom ≤ (end - start) * atom
+stays-within start at count end atom order within =
+    let more = size-more start at count (at + count) atom order refl in
+    let most = size-within start (at + count) end atom within in
+    omega (arith, more, most)
