@@ -1,6 +1,8 @@
 -- The pieces of an operation, one after the other.
 use Rattle.std.proofs.Common.{◌≡◌, ◌≢◌, ◌⊎◌, inl, inr, ℕ, suc, ◌+◌, ◌-◌, ◌*◌, ◌/◌, ◌<◌, ◌≤◌, List, [], ◌∷◌, ◌++◌, length, take, drop, refl, sym, ◌∙◌, ap, subst, arith, length-append}
 use Rattle.std.proofs.Math.Nat.{mul-le-mul_right}
+use Rattle.std.proofs.Math.Seq.{take-add}
+use Rattle.std.proofs.lemmas.List.{take-take}
 use Rattle.block_range.specs.declared.BlockRange.{BlockRange}
 use Rattle.segment_map.specs.declared.map.Map.{Map}
 use Rattle.segment_map.specs.declared.map.Piece.{Piece}
@@ -13,7 +15,7 @@ use Rattle.volume_core.specs.declared.ask.Ask.{Ask}
 use Rattle.volume_core.specs.declared.ask.Ask.TheVariants.{Read, Write, Flush}
 use Rattle.volume_core.specs.declared.keys.Keys.{Keys}
 use Rattle.volume_core.proofs.CodePieces.{next_is_one}
-use Rattle.volume_lane.specs.Lane.{GoesOn, IsAlone, IsNext, going}
+use Rattle.volume_lane.specs.Lane.{GoesOn, HasTried, IsAlone, going}
 use Rattle.volume_lane.specs.Spares.{IsOnePiece, IsPieceAt}
 use Rattle.volume_lane.proofs.LaneRuns.{goes-on}
 
@@ -73,3 +75,36 @@ stays-within start at count end atom order within =
     let more = size-more start at count (at + count) atom order refl in
     let most = size-within start (at + count) end atom within in
     omega (arith, more, most)
+
+-- the bytes of a piece stand behind those before it in the body
+pub piece-of-body : (body : List ℕ) (from size to : ℕ) → to ≡ from + size → take from body ++ take size (drop from body) ≡ take to body
+piece-of-body body from size to is = rw is (sym (take-add from size body))
+
+-- what a failed piece tried of the body
+pub tried-behind : {C : Type 0} (seal unseal : C → ℕ → List ℕ → List ℕ) (old now new : State (Keys C)) (ask : Ask) (body piece : List ℕ) (from size : ℕ) →
+    GoesOn (seals_of seal unseal old.map.atom old.keys) old now (take from body) → HasTried (seals_of seal unseal now.map.atom now.keys) now new ask piece →
+    piece ≡ take size (drop from body) → from + size ≤ length body → length piece ≡ size → HasTried (seals_of seal unseal old.map.atom old.keys) old new ask body
+tried-behind seal unseal old now new ask body piece from size one tried is within long =
+    let seals = seals_of seal unseal old.map.atom old.keys in
+    let few = tried.within in
+    let some : tried.n ≤ size = omega (arith, few, long) in
+    record {
+      n = from + tried.n;
+      within = omega (arith, some, within);
+      goes_on = subst (λ xs. GoesOn seals old new xs)
+          (ap (λ xs. take from body ++ take tried.n xs) is ∙ ap (λ xs. take from body ++ xs) (take-take tried.n size (drop from body) some)
+          ∙ sym (take-add from tried.n body))
+          (piece-behind seal unseal old now new (take from body) (take tried.n piece) one tried.goes_on);
+      has_failed = tried.has_failed;
+    }
+
+-- the size of the only piece
+pub size-of-one : (map : Map) (range : BlockRange) (piece : Piece) (n : ℕ) → IsOnePiece map range → IsNextPiece map range piece → n ≡ (range.end - range.start) * map.atom →
+    n ≡ size_of_piece map piece
+size-of-one map range piece n one next size =
+    let ends = one-ends map range range.start piece one refl next in
+    let first = next.first in
+    size ∙ (let e : range.end - range.start ≡ piece.count = omega (arith, ends, first) in rw e refl)
+
+pub part-of-body : (body text : List ℕ) (from size : ℕ) → text ≡ body → take (from + size - from) (drop from text) ≡ take size (drop from body)
+part-of-body body text from size is = (let e : from + size - from ≡ size = omega arith in rw (is, e) refl)

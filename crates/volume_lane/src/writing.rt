@@ -136,8 +136,7 @@ fn write_pieces<D: Disk, C: SectorCipher + Copy>(
     let mut from = 0;
     'pieces: while let Some(piece) = grant.piece(at) {
         let size = piece.count as usize * grant.map.atom as usize;
-        let mut bytes = fitting(buffer, &mut spares, size).into_vec();
-        bytes.copy_from_slice(&body[from..from + size]);
+        let bytes = filled(fitting(buffer, &mut spares, size), &body[from..from + size]);
         buffer = match write_piece(volume, ask, piece, bytes) {
             Some(bytes) => bytes,
             None => return false,
@@ -177,6 +176,17 @@ fn write_piece<D: Disk, C: SectorCipher + Copy>(
         PieceWritten::Device(_) => None,
         PieceWritten::Broken(_) => None,
     }
+}
+
+/// A buffer with these bytes, as many as it has.
+fn filled(buffer: Bytes, bytes: &[u8]) -> Vec<u8>
+    requires { length buffer ≡ length bytes.now }
+    ensures is { result.items ≡ bytes.now }
+    ensures length { length result.items ≡ length buffer }
+{
+    let mut vec = buffer.into_vec();
+    vec.copy_from_slice(bytes);
+    vec
 }
 
 /// The bytes of a buffer, each below 256.
