@@ -1,6 +1,6 @@
 -- Operations from their admit to their end, as executions.
 use Rattle.std.proofs.Common.{◌≡◌, ◌≢◌, ◌⊎◌, inl, inr, ℕ, zero, suc, ◌+◌, ◌/◌, ◌<◌, ◌≤◌, Bool, true, false, List, [], ◌∷◌, ◌++◌, length, take, find, Option, Some, None, Contains, MatchOption, MatchBool, if◌then◌else◌, nat_eq, refl, sym, ◌∙◌, ap, subst, arith}
-use Rattle.std.proofs.lemmas.List.{append-nil}
+use Rattle.std.proofs.lemmas.List.{append-nil, length-take-le, take_all}
 use Rattle.plain_disk.specs.declared.operation.Op.{Op}
 use Rattle.plain_disk.specs.declared.operation.Op.TheVariants as Ops
 use Rattle.plain_disk.specs.declared.operation.Reply.{Reply}
@@ -15,19 +15,21 @@ use Rattle.volume_core.specs.Events.{Event, Outcome, admits, settles, finishes, 
 use Rattle.volume_core.specs.Executing.{Executes, IsIdle}
 use Rattle.volume_core.specs.Pieces.{IsComplete, failing, settling}
 use Rattle.volume_core.specs.Runs.{Answered, Happening, IsRun, last_of, answered_by, answered_in, plain_in, plain_after, with_plain, by_admit, by_finish, full_reply, flush_reply, AreExchanges, IsExchange, Asked, tried_by}
-use Rattle.volume_core.specs.Seals.{Seals}
+use Rattle.volume_core.specs.Seals.{Seals, seals_of}
 use Rattle.volume_core.specs.Sound.{IsSound}
 use Rattle.volume_core.specs.States.{State, open_at, size_of}
 use Rattle.volume_core.specs.Steps.{Step, Meets, IsAdmitted, AdmitStep, TellsStanding, Goes, Holds}
 use Rattle.volume_core.specs.declared.answers.Grant.{Grant}
 use Rattle.volume_core.specs.declared.ask.Ask.{Ask}
 use Rattle.volume_core.specs.declared.ask.Ask.TheVariants.{Read, Write, Flush}
+use Rattle.volume_core.specs.declared.keys.Keys.{Keys}
 use Rattle.volume_core.specs.declared.open.Open.{Open}
 use Rattle.volume_core.proofs.CodeSteps.{open-is-one}
 use Rattle.volume_core.proofs.Executions.{run-joined, last-joined, answered-joined}
 use Rattle.volume_core.proofs.Soundness.{match_true}
 use Rattle.volume_lane.specs.Lane.{GoesOn, HasAll, HasBegun, HasExecuted, HasFailed, IsAlone, IsReadyFor, going}
-use Rattle.volume_lane.proofs.LaneRuns.{plain-joined}
+use Rattle.volume_lane.proofs.LaneEvents.{meets-finishes}
+use Rattle.volume_lane.proofs.LanePieces.{same-seals}
 
 -- no entry in the table of a volume on which no operation is under way
 find-own : (e : Entry) (rest : List Entry) → find (is_of e.lane) (e ∷ rest) ≡ Some e
@@ -232,3 +234,33 @@ executed-flush seals old first new outcome reply meets begun step is =
       keys = goes.keys ∙ begun.keys;
       count = goes.lane_is.count ∙ begun.count;
     }
+
+-- an operation all of whose events succeeded, or one of whose failed, can end
+pub ends-whole : {K : Type 0} (state : State K) (ask : Ask) → HasAll state ask → has_lock ask ≡ true → Meets state (finishes 0)
+ends-whole state ask all has = meets-finishes state all.o all.alone (rw all.ask_is has) (inr all.complete)
+
+pub ends-failed : {K : Type 0} (state : State K) (ask : Ask) → HasFailed state ask → has_lock ask ≡ true → Meets state (finishes 0)
+ends-failed state ask failed has = meets-finishes state failed.o failed.alone (rw failed.ask_is has) (inl failed.failed)
+
+pub executed-whole : {C : Type 0} (seal unseal : C → ℕ → List ℕ → List ℕ) (old first last new : State (Keys C)) (op : Op) (ask : Ask) (reply : Reply) (more : List ℕ) →
+    Meets old (admits 0 ask) → HasBegun old first ask → GoesOn (seals_of seal unseal first.map.atom first.keys) first last more → HasAll last ask → has_lock ask ≡ true →
+    Step last (finishes 0) done new → Asked ask more op → reply ≡ full_reply ask more → HasExecuted (seals_of seal unseal old.map.atom old.keys) old new op reply
+executed-whole seal unseal old first last new op ask reply more meets begun on all has step asked is =
+    executed-ended (seals_of seal unseal old.map.atom old.keys) old first last new op ask reply all.o more meets begun
+        (subst (λ s. GoesOn s first last more) (same-seals seal unseal old first begun.map begun.keys) on) all.alone all.ask_is (ends-whole last ask all has) step asked
+        (rw all.whole is)
+
+pub executed-failed : {C : Type 0} (seal unseal : C → ℕ → List ℕ → List ℕ) (old first last new : State (Keys C)) (op : Op) (ask : Ask) (more : List ℕ) →
+    Meets old (admits 0 ask) → HasBegun old first ask → GoesOn (seals_of seal unseal first.map.atom first.keys) first last more → HasFailed last ask → has_lock ask ≡ true →
+    Step last (finishes 0) done new → Asked ask more op → HasExecuted (seals_of seal unseal old.map.atom old.keys) old new op (Errno 5)
+executed-failed seal unseal old first last new op ask more meets begun on failed has step asked =
+    executed-ended (seals_of seal unseal old.map.atom old.keys) old first last new op ask (Errno 5) failed.o more meets begun
+        (subst (λ s. GoesOn s first last more) (same-seals seal unseal old first begun.map begun.keys) on) failed.alone failed.ask_is (ends-failed last ask failed has) step asked
+        (rw failed.failed refl)
+
+-- what a write that tried these bytes asked for
+pub asked-write : (offset n : ℕ) (body : List ℕ) (fua : Bool) → n ≤ length body → Asked (Write offset (length body) fua) (take n body) (Ops.Write offset body fua)
+asked-write offset n body fua within = (body, refl, refl, ap (λ k. take k body) (length-take-le n body within))
+
+pub asked-whole : (offset : ℕ) (body : List ℕ) (fua : Bool) → Asked (Write offset (length body) fua) body (Ops.Write offset body fua)
+asked-whole offset body fua = (body, refl, refl, take_all (length body) body (omega arith))

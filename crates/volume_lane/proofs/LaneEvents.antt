@@ -7,21 +7,21 @@ use Rattle.segment_map.specs.declared.map.Map.{Map}
 use Rattle.segment_map.specs.declared.map.Piece.{Piece}
 use Rattle.volume_core.specs.Answers.{FitsPiece}
 use Rattle.volume_core.specs.Asks.{IsRead, IsWrite, IsForced, has_lock, range_of}
-use Rattle.volume_core.specs.Events.{reads, writes, settles, finishes, got, done, device, broken}
+use Rattle.volume_core.specs.Events.{Outcome, reads, writes, settles, finishes, got, done, device, broken}
 use Rattle.volume_core.specs.Pieces.{IsPieceOf, ArePieceBytes, IsComplete, known_side, side_in, size_of_piece, moved, failing, settling}
-use Rattle.volume_core.specs.Runs.{answered_by, plain_after, plain_piece, opened_by}
+use Rattle.volume_core.specs.Runs.{answered_by, by_settle, plain_after, plain_piece, opened_by}
 use Rattle.volume_core.specs.Seals.{Seals, KeysFit}
 use Rattle.volume_core.specs.Sound.{IsSound}
 use Rattle.volume_core.specs.declared.keys.Keys.{Keys}
 use Rattle.volume_core.specs.States.{State, open_at}
-use Rattle.volume_core.specs.Steps.{Step, Meets, Goes, HasPiece, Holds, CanSettle}
+use Rattle.volume_core.specs.Steps.{Step, Meets, Goes, HasPiece, Holds, CanSettle, after_settle}
 use Rattle.volume_core.specs.declared.ask.Ask.{Ask}
 use Rattle.volume_core.specs.declared.ask.Ask.TheVariants.{Read, Write, Flush}
 use Rattle.volume_core.specs.declared.open.Open.{Open}
 use Rattle.volume_core.proofs.CodePieces.{next_is_one}
 use Rattle.volume_core.proofs.CodeSeals.{fewer-blocks}
 use Rattle.volume_core.proofs.CodeSteps.{open-is-one}
-use Rattle.volume_lane.specs.Lane.{GoesOn, IsAlone, IsNext, HasFailed, HasTried, going}
+use Rattle.volume_lane.specs.Lane.{GoesOn, HasAll, HasFailed, HasTried, IsAlone, IsNext, going}
 use Rattle.volume_lane.proofs.LaneRuns.{one-event}
 
 -- what an event asks of the state
@@ -202,3 +202,66 @@ tried-none seals old new ask bytes (on, failed) = record {
   goes_on = on;
   has_failed = failed;
 }
+
+-- a forced write that is settled, and one whose sync failed
+locks-forced : (ask : Ask) → IsForced ask → has_lock ask ≡ true
+locks-forced (Read offset len) forced = absurd forced
+locks-forced (Write offset len fua) forced = refl
+locks-forced Flush forced = absurd forced
+
+pub ready-settles : {K : Type 0} (state : State K) (atom at : ℕ) (ask : Ask) → IsAlone state (going atom ask at) → IsForced ask → at ≡ (range_of atom ask).end →
+    Meets state (settles 0)
+ready-settles state atom at ask alone forced ends = meets-settles state (going atom ask at) alone (inr (forced, ends, refl, refl))
+
+settled-goes : {K : Type 0} (old new : State K) (o q now : Open) (b : Bool) → q ≡ o → has_lock o.ask ≡ true → Goes old new 0 old.entries (after_settle q now) b →
+    Goes old new 0 old.entries (Some now) b
+settled-goes old new o q now b same has goes = rw (same, has) at goes
+
+unanswered-settle : {K : Type 0} (old : State K) (o : Open) (outcome : Outcome) → open_at old.lanes 0 ≡ Some o → has_lock o.ask ≡ true →
+    by_settle (open_at old.lanes 0) outcome ≡ []
+unanswered-settle old o outcome own has = rw (own, has) refl
+
+pub settle-done : {K : Type 0} (seals : Seals) (old new : State K) (atom at : ℕ) (ask : Ask) → IsAlone old (going atom ask at) → IsForced ask →
+    at ≡ (range_of atom ask).end → Step old (settles 0) done new → GoesOn seals old new [] × HasAll new ask
+unfolding Step answered_by plain_after
+settle-done seals old new atom at ask alone forced ends step =
+    let o = going atom ask at in
+    let (q, own, syncs) = step in
+    let same : q ≡ o = open-is-one old 0 q o own alone.own in
+    let has = locks-forced ask forced in
+    let goes : Goes old new 0 old.entries (Some (settling o)) false = rw same at (settled-goes old new o q (settling q) false same has syncs.goes) in
+    (one-event seals old new (settles 0) done [] (ready-settles old atom at ask alone forced ends) step (λ plain. unanswered-settle old o done alone.own has)
+        (λ plain. sym (append-nil (plain 0))) goes.map goes.keys goes.lane_is.count,
+    record {
+      o = settling o;
+      alone = alone-goes old new o (settling o) false alone goes;
+      ask_is = refl;
+      whole = refl;
+      complete = record { pieces = ends; kept = λ asks. refl };
+    })
+
+pub settle-device : {K : Type 0} (seals : Seals) (old new : State K) (atom at : ℕ) (ask : Ask) → IsAlone old (going atom ask at) → IsForced ask →
+    at ≡ (range_of atom ask).end → Step old (settles 0) device new → GoesOn seals old new [] × HasFailed new ask
+unfolding Step answered_by plain_after
+settle-device seals old new atom at ask alone forced ends step =
+    let o = going atom ask at in
+    let (q, own, syncs) = step in
+    let same : q ≡ o = open-is-one old 0 q o own alone.own in
+    let has = locks-forced ask forced in
+    let goes : Goes old new 0 old.entries (Some (failing o)) true = rw same at (settled-goes old new o q (failing q) true same has syncs.goes) in
+    (one-event seals old new (settles 0) device [] (ready-settles old atom at ask alone forced ends) step (λ plain. unanswered-settle old o device alone.own has)
+        (λ plain. sym (append-nil (plain 0))) goes.map goes.keys goes.lane_is.count,
+    failed-event old new o true alone goes)
+
+pub settle-broken : {K : Type 0} (seals : Seals) (old new : State K) (atom at : ℕ) (ask : Ask) → IsAlone old (going atom ask at) → IsForced ask →
+    at ≡ (range_of atom ask).end → Step old (settles 0) broken new → GoesOn seals old new [] × HasFailed new ask
+unfolding Step answered_by plain_after
+settle-broken seals old new atom at ask alone forced ends step =
+    let o = going atom ask at in
+    let (q, own, finds) = step in
+    let same : q ≡ o = open-is-one old 0 q o own alone.own in
+    let has = locks-forced ask forced in
+    let goes : Goes old new 0 old.entries (Some (failing o)) true = rw same at (settled-goes old new o q (failing q) true same has finds.goes) in
+    (one-event seals old new (settles 0) broken [] (ready-settles old atom at ask alone forced ends) step (λ plain. unanswered-settle old o broken alone.own has)
+        (λ plain. sym (append-nil (plain 0))) goes.map goes.keys goes.lane_is.count,
+    failed-event old new o true alone goes)

@@ -2,7 +2,7 @@
 use Rattle.std.proofs.Common.{◌≡◌, ◌≢◌, ◌⊎◌, inl, inr, ℕ, suc, ◌+◌, ◌-◌, ◌*◌, ◌/◌, ◌<◌, ◌≤◌, List, [], ◌∷◌, ◌++◌, length, take, drop, refl, sym, ◌∙◌, ap, subst, arith, length-append}
 use Rattle.std.proofs.Math.Nat.{mul-le-mul_right}
 use Rattle.std.proofs.Math.Seq.{take-add}
-use Rattle.std.proofs.lemmas.List.{take-take}
+use Rattle.std.proofs.lemmas.List.{append-nil, take-take, take_all}
 use Rattle.block_range.specs.declared.BlockRange.{BlockRange}
 use Rattle.segment_map.specs.declared.map.Map.{Map}
 use Rattle.segment_map.specs.declared.map.Piece.{Piece}
@@ -15,7 +15,7 @@ use Rattle.volume_core.specs.declared.ask.Ask.{Ask}
 use Rattle.volume_core.specs.declared.ask.Ask.TheVariants.{Read, Write, Flush}
 use Rattle.volume_core.specs.declared.keys.Keys.{Keys}
 use Rattle.volume_core.proofs.CodePieces.{next_is_one}
-use Rattle.volume_lane.specs.Lane.{GoesOn, HasTried, IsAlone, going}
+use Rattle.volume_lane.specs.Lane.{GoesOn, HasFailed, HasTried, IsAlone, going}
 use Rattle.volume_lane.specs.Spares.{IsOnePiece, IsPieceAt}
 use Rattle.volume_lane.proofs.LaneRuns.{goes-on}
 
@@ -31,7 +31,7 @@ ordered-write atom (Write offset len fua) writing = omega arith
 ordered-write atom Flush writing = absurd writing
 
 -- keys and blocks are those of the start
-same-seals : {C : Type 0} (seal unseal : C → ℕ → List ℕ → List ℕ) (old now : State (Keys C)) → now.map ≡ old.map → now.keys ≡ old.keys →
+pub same-seals : {C : Type 0} (seal unseal : C → ℕ → List ℕ → List ℕ) (old now : State (Keys C)) → now.map ≡ old.map → now.keys ≡ old.keys →
     seals_of seal unseal now.map.atom now.keys ≡ seals_of seal unseal old.map.atom old.keys
 same-seals seal unseal old now map keys = rw (map, keys) refl
 
@@ -108,3 +108,23 @@ size-of-one map range piece n one next size =
 
 pub part-of-body : (body text : List ℕ) (from size : ℕ) → text ≡ body → take (from + size - from) (drop from text) ≡ take size (drop from body)
 part-of-body body text from size is = (let e : from + size - from ≡ size = omega arith in rw (is, e) refl)
+
+-- a write all of whose bytes were tried, and whose sync failed
+pub tried-whole : {C : Type 0} (seal unseal : C → ℕ → List ℕ → List ℕ) (old now new : State (Keys C)) (ask : Ask) (body text : List ℕ) → text ≡ body →
+    GoesOn (seals_of seal unseal old.map.atom old.keys) old now text →
+    GoesOn (seals_of seal unseal now.map.atom now.keys) now new [] × HasFailed new ask → HasTried (seals_of seal unseal old.map.atom old.keys) old new ask body
+tried-whole seal unseal old now new ask body text is one (other, failed) =
+    let seals = seals_of seal unseal old.map.atom old.keys in
+    record {
+      n = length body;
+      within = omega arith;
+      goes_on = subst (λ xs. GoesOn seals old new xs) (append-nil text ∙ is ∙ sym (take_all (length body) body (omega arith)))
+          (piece-behind seal unseal old now new text [] one other);
+      has_failed = failed;
+    }
+
+pub whole-behind : {C : Type 0} (seal unseal : C → ℕ → List ℕ → List ℕ) (old now new : State (Keys C)) (body text : List ℕ) → text ≡ body →
+    GoesOn (seals_of seal unseal old.map.atom old.keys) old now text → GoesOn (seals_of seal unseal now.map.atom now.keys) now new [] →
+    GoesOn (seals_of seal unseal old.map.atom old.keys) old new body
+whole-behind seal unseal old now new body text is one other =
+    subst (λ xs. GoesOn (seals_of seal unseal old.map.atom old.keys) old new xs) (append-nil text ∙ is) (piece-behind seal unseal old now new text [] one other)
