@@ -247,16 +247,16 @@ pub executed-whole : {C : Type 0} (seal unseal : C → ℕ → List ℕ → List
     Step last (finishes 0) done new → Asked ask more op → reply ≡ full_reply ask more → HasExecuted (seals_of seal unseal old.map.atom old.keys) old new op reply
 executed-whole seal unseal old first last new op ask reply more meets begun on all has step asked is =
     executed-ended (seals_of seal unseal old.map.atom old.keys) old first last new op ask reply all.o more meets begun
-        (subst (λ s. GoesOn s first last more) (same-seals seal unseal old first begun.map begun.keys) on) all.alone all.ask_is (ends-whole last ask all has) step asked
-        (rw all.whole is)
+    (subst (λ s. GoesOn s first last more) (same-seals seal unseal old first begun.map begun.keys) on) all.alone all.ask_is (ends-whole last ask all has) step asked
+    (rw all.whole is)
 
 pub executed-failed : {C : Type 0} (seal unseal : C → ℕ → List ℕ → List ℕ) (old first last new : State (Keys C)) (op : Op) (ask : Ask) (more : List ℕ) →
     Meets old (admits 0 ask) → HasBegun old first ask → GoesOn (seals_of seal unseal first.map.atom first.keys) first last more → HasFailed last ask → has_lock ask ≡ true →
     Step last (finishes 0) done new → Asked ask more op → HasExecuted (seals_of seal unseal old.map.atom old.keys) old new op (Errno 5)
 executed-failed seal unseal old first last new op ask more meets begun on failed has step asked =
     executed-ended (seals_of seal unseal old.map.atom old.keys) old first last new op ask (Errno 5) failed.o more meets begun
-        (subst (λ s. GoesOn s first last more) (same-seals seal unseal old first begun.map begun.keys) on) failed.alone failed.ask_is (ends-failed last ask failed has) step asked
-        (rw failed.failed refl)
+    (subst (λ s. GoesOn s first last more) (same-seals seal unseal old first begun.map begun.keys) on) failed.alone failed.ask_is (ends-failed last ask failed has) step asked
+    (rw failed.failed refl)
 
 -- what a write that tried these bytes asked for
 pub asked-write : (offset n : ℕ) (body : List ℕ) (fua : Bool) → n ≤ length body → Asked (Write offset (length body) fua) (take n body) (Ops.Write offset body fua)

@@ -110,10 +110,11 @@ read-got seals old new ask piece bytes is meets step =
     let (q, at, gets) = step in
     let same : q ≡ o = open-is-one old 0 q o at is.alone.own in
     let one : gets.piece ≡ piece = next_is_one old.map (record { start = piece.first; end = o.range.end }) gets.piece piece (rw same at gets.next) is.next in
-    let goes : Goes old new 0 old.entries (Some (moved o piece)) false = rw (same, one) at gets.goes in
-    (one-event seals old new (reads 0) (got bytes) (seals.opened piece.side piece.first bytes) meets step (λ plain. refl)
-        (λ plain. ap (λ xs. plain 0 ++ xs) (known-piece seals old o piece bytes is.alone.own is.next)) goes.map goes.keys goes.lane_is.count,
-    alone-goes old new o (moved o piece) false is.alone goes)
+    let goes : Goes old new 0 old.entries (Some (moved o piece)) false = rw (same, one) at gets.goes in (
+      one-event seals old new (reads 0) (got bytes) (seals.opened piece.side piece.first bytes) meets step (λ plain. refl)
+          (λ plain. ap (λ xs. plain 0 ++ xs) (known-piece seals old o piece bytes is.alone.own is.next)) goes.map goes.keys goes.lane_is.count,
+      alone-goes old new o (moved o piece) false is.alone goes,
+    )
 
 -- a read that failed
 failed-event : {K : Type 0} (old new : State K) (o : Open) (is_broken : Bool) → IsAlone old o → Goes old new 0 old.entries (Some (failing o)) is_broken →
@@ -132,9 +133,10 @@ read-device seals old new ask piece is meets step =
     let o = going old.map.atom ask piece.first in
     let (q, at, misses) = step in
     let same : q ≡ o = open-is-one old 0 q o at is.alone.own in
-    let goes : Goes old new 0 old.entries (Some (failing o)) false = rw same at misses.goes in
-    (one-event seals old new (reads 0) device [] meets step (λ plain. refl) (λ plain. sym (append-nil (plain 0))) goes.map goes.keys goes.lane_is.count,
-    failed-event old new o false is.alone goes)
+    let goes : Goes old new 0 old.entries (Some (failing o)) false = rw same at misses.goes in (
+      one-event seals old new (reads 0) device [] meets step (λ plain. refl) (λ plain. sym (append-nil (plain 0))) goes.map goes.keys goes.lane_is.count,
+      failed-event old new o false is.alone goes,
+    )
 
 pub read-broken : {K : Type 0} (seals : Seals) (old new : State K) (ask : Ask) (piece : Piece) → IsNext old ask piece → Meets old (reads 0) →
     Step old (reads 0) broken new → GoesOn seals old new [] × HasFailed new ask
@@ -143,9 +145,10 @@ read-broken seals old new ask piece is meets step =
     let o = going old.map.atom ask piece.first in
     let (q, at, finds) = step in
     let same : q ≡ o = open-is-one old 0 q o at is.alone.own in
-    let goes : Goes old new 0 old.entries (Some (failing o)) true = rw same at finds.goes in
-    (one-event seals old new (reads 0) broken [] meets step (λ plain. refl) (λ plain. sym (append-nil (plain 0))) goes.map goes.keys goes.lane_is.count,
-    failed-event old new o true is.alone goes)
+    let goes : Goes old new 0 old.entries (Some (failing o)) true = rw same at finds.goes in (
+      one-event seals old new (reads 0) broken [] meets step (λ plain. refl) (λ plain. sym (append-nil (plain 0))) goes.map goes.keys goes.lane_is.count,
+      failed-event old new o true is.alone goes,
+    )
 
 -- a piece that was written
 pub write-done : {K : Type 0} (seals : Seals) (old new : State K) (ask : Ask) (piece : Piece) (sealed : List ℕ) → IsNext old ask piece → Meets old (writes 0 sealed) →
@@ -157,10 +160,11 @@ write-done seals old new ask piece sealed is meets step =
     let (q, at, puts) = step in
     let same : q ≡ o = open-is-one old 0 q o at is.alone.own in
     let one : puts.piece ≡ piece = next_is_one old.map (record { start = piece.first; end = o.range.end }) puts.piece piece (rw same at puts.next) is.next in
-    let goes : Goes old new 0 old.entries (Some (moved o piece)) false = rw (same, one) at puts.goes in
-    (one-event seals old new (writes 0 sealed) done (seals.opened piece.side piece.first sealed) meets step (λ plain. refl)
-        (λ plain. ap (λ xs. plain 0 ++ xs) (known-piece seals old o piece sealed is.alone.own is.next)) goes.map goes.keys goes.lane_is.count,
-    alone-goes old new o (moved o piece) false is.alone goes)
+    let goes : Goes old new 0 old.entries (Some (moved o piece)) false = rw (same, one) at puts.goes in (
+      one-event seals old new (writes 0 sealed) done (seals.opened piece.side piece.first sealed) meets step (λ plain. refl)
+          (λ plain. ap (λ xs. plain 0 ++ xs) (known-piece seals old o piece sealed is.alone.own is.next)) goes.map goes.keys goes.lane_is.count,
+      alone-goes old new o (moved o piece) false is.alone goes,
+    )
 
 -- a write that failed: its bytes were tried where its device call was made
 pub write-device : {K : Type 0} (seals : Seals) (old new : State K) (ask : Ask) (piece : Piece) (sealed : List ℕ) → IsNext old ask piece → Meets old (writes 0 sealed) →
@@ -170,10 +174,11 @@ write-device seals old new ask piece sealed is meets step =
     let o = going old.map.atom ask piece.first in
     let (q, at, puts) = step in
     let same : q ≡ o = open-is-one old 0 q o at is.alone.own in
-    let goes : Goes old new 0 old.entries (Some (failing o)) true = rw same at puts.goes in
-    (one-event seals old new (writes 0 sealed) device (seals.opened piece.side piece.first sealed) meets step (λ plain. refl)
-        (λ plain. ap (λ xs. plain 0 ++ xs) (known-piece seals old o piece sealed is.alone.own is.next)) goes.map goes.keys goes.lane_is.count,
-    failed-event old new o true is.alone goes)
+    let goes : Goes old new 0 old.entries (Some (failing o)) true = rw same at puts.goes in (
+      one-event seals old new (writes 0 sealed) device (seals.opened piece.side piece.first sealed) meets step (λ plain. refl)
+          (λ plain. ap (λ xs. plain 0 ++ xs) (known-piece seals old o piece sealed is.alone.own is.next)) goes.map goes.keys goes.lane_is.count,
+      failed-event old new o true is.alone goes,
+    )
 
 pub write-broken : {K : Type 0} (seals : Seals) (old new : State K) (ask : Ask) (piece : Piece) (sealed : List ℕ) → IsNext old ask piece → Meets old (writes 0 sealed) →
     Step old (writes 0 sealed) broken new → GoesOn seals old new [] × HasFailed new ask
@@ -182,9 +187,10 @@ write-broken seals old new ask piece sealed is meets step =
     let o = going old.map.atom ask piece.first in
     let (q, at, finds) = step in
     let same : q ≡ o = open-is-one old 0 q o at is.alone.own in
-    let goes : Goes old new 0 old.entries (Some (failing o)) true = rw same at finds.goes in
-    (one-event seals old new (writes 0 sealed) broken [] meets step (λ plain. refl) (λ plain. sym (append-nil (plain 0))) goes.map goes.keys goes.lane_is.count,
-    failed-event old new o true is.alone goes)
+    let goes : Goes old new 0 old.entries (Some (failing o)) true = rw same at finds.goes in (
+      one-event seals old new (writes 0 sealed) broken [] meets step (λ plain. refl) (λ plain. sym (append-nil (plain 0))) goes.map goes.keys goes.lane_is.count,
+      failed-event old new o true is.alone goes,
+    )
 
 -- what failed writes of a piece tried of its bytes
 pub tried-all : {K : Type 0} (seals : Seals) (old new : State K) (ask : Ask) (bytes : List ℕ) → GoesOn seals old new bytes × HasFailed new ask → HasTried seals old new ask bytes
@@ -229,16 +235,17 @@ settle-done seals old new atom at ask alone forced ends step =
     let (q, own, syncs) = step in
     let same : q ≡ o = open-is-one old 0 q o own alone.own in
     let has = locks-forced ask forced in
-    let goes : Goes old new 0 old.entries (Some (settling o)) false = rw same at (settled-goes old new o q (settling q) false same has syncs.goes) in
-    (one-event seals old new (settles 0) done [] (ready-settles old atom at ask alone forced ends) step (λ plain. unanswered-settle old o done alone.own has)
-        (λ plain. sym (append-nil (plain 0))) goes.map goes.keys goes.lane_is.count,
-    record {
-      o = settling o;
-      alone = alone-goes old new o (settling o) false alone goes;
-      ask_is = refl;
-      whole = refl;
-      complete = record { pieces = ends; kept = λ asks. refl };
-    })
+    let goes : Goes old new 0 old.entries (Some (settling o)) false = rw same at (settled-goes old new o q (settling q) false same has syncs.goes) in (
+      one-event seals old new (settles 0) done [] (ready-settles old atom at ask alone forced ends) step (λ plain. unanswered-settle old o done alone.own has)
+          (λ plain. sym (append-nil (plain 0))) goes.map goes.keys goes.lane_is.count,
+      record {
+        o = settling o;
+        alone = alone-goes old new o (settling o) false alone goes;
+        ask_is = refl;
+        whole = refl;
+        complete = record { pieces = ends; kept = λ asks. refl };
+      },
+    )
 
 pub settle-device : {K : Type 0} (seals : Seals) (old new : State K) (atom at : ℕ) (ask : Ask) → IsAlone old (going atom ask at) → IsForced ask →
     at ≡ (range_of atom ask).end → Step old (settles 0) device new → GoesOn seals old new [] × HasFailed new ask
@@ -248,10 +255,11 @@ settle-device seals old new atom at ask alone forced ends step =
     let (q, own, syncs) = step in
     let same : q ≡ o = open-is-one old 0 q o own alone.own in
     let has = locks-forced ask forced in
-    let goes : Goes old new 0 old.entries (Some (failing o)) true = rw same at (settled-goes old new o q (failing q) true same has syncs.goes) in
-    (one-event seals old new (settles 0) device [] (ready-settles old atom at ask alone forced ends) step (λ plain. unanswered-settle old o device alone.own has)
-        (λ plain. sym (append-nil (plain 0))) goes.map goes.keys goes.lane_is.count,
-    failed-event old new o true alone goes)
+    let goes : Goes old new 0 old.entries (Some (failing o)) true = rw same at (settled-goes old new o q (failing q) true same has syncs.goes) in (
+      one-event seals old new (settles 0) device [] (ready-settles old atom at ask alone forced ends) step (λ plain. unanswered-settle old o device alone.own has)
+          (λ plain. sym (append-nil (plain 0))) goes.map goes.keys goes.lane_is.count,
+      failed-event old new o true alone goes,
+    )
 
 pub settle-broken : {K : Type 0} (seals : Seals) (old new : State K) (atom at : ℕ) (ask : Ask) → IsAlone old (going atom ask at) → IsForced ask →
     at ≡ (range_of atom ask).end → Step old (settles 0) broken new → GoesOn seals old new [] × HasFailed new ask
@@ -261,7 +269,8 @@ settle-broken seals old new atom at ask alone forced ends step =
     let (q, own, finds) = step in
     let same : q ≡ o = open-is-one old 0 q o own alone.own in
     let has = locks-forced ask forced in
-    let goes : Goes old new 0 old.entries (Some (failing o)) true = rw same at (settled-goes old new o q (failing q) true same has finds.goes) in
-    (one-event seals old new (settles 0) broken [] (ready-settles old atom at ask alone forced ends) step (λ plain. unanswered-settle old o broken alone.own has)
-        (λ plain. sym (append-nil (plain 0))) goes.map goes.keys goes.lane_is.count,
-    failed-event old new o true alone goes)
+    let goes : Goes old new 0 old.entries (Some (failing o)) true = rw same at (settled-goes old new o q (failing q) true same has finds.goes) in (
+      one-event seals old new (settles 0) broken [] (ready-settles old atom at ask alone forced ends) step (λ plain. unanswered-settle old o broken alone.own has)
+          (λ plain. sym (append-nil (plain 0))) goes.map goes.keys goes.lane_is.count,
+      failed-event old new o true alone goes,
+    )

@@ -41,7 +41,7 @@ pub piece-behind : {C : Type 0} (seal unseal : C → ℕ → List ℕ → List �
     GoesOn (seals_of seal unseal old.map.atom old.keys) old new (first ++ more)
 piece-behind seal unseal old now new first more one other =
     goes-on (seals_of seal unseal old.map.atom old.keys) old now new first more one
-        (subst (λ s. GoesOn s now new more) (same-seals seal unseal old now one.map one.keys) other)
+    (subst (λ s. GoesOn s now new more) (same-seals seal unseal old now one.map one.keys) other)
 
 pub alone-by : {K : Type 0} (old now new : State K) (ask : Ask) (at : ℕ) → now.map ≡ old.map → IsAlone new (going now.map.atom ask at) → IsAlone new (going old.map.atom ask at)
 alone-by old now new ask at same alone = rw same at alone

@@ -26,7 +26,7 @@ pub taken-more : (map : Map) (end start at len next size : ℕ) (spares now : Li
     AreTaken map end start next size now
 taken-more map end start at len next size spares now spare piece taken is size_is long fit now_is later = λ rest enough.
     rw (now_is, append_assoc spares (spare ∷ []) rest)
-        (taken (spare ∷ rest) (takes at len spare rest piece is (rw size_is at long) (rw size_is at fit) (rw (later, size_is) at enough)))
+    (taken (spare ∷ rest) (takes at len spare rest piece is (rw size_is at long) (rw size_is at fit) (rw (later, size_is) at enough)))
 
 pub taken-all : (map : Map) (end start at len : ℕ) (spares : List (List ℕ)) → AreTaken map end start at len spares → at ≡ end → AreEnough map end start 0 spares
 taken-all map end start at len spares taken is =

@@ -13,3 +13,5 @@ mod writing;
 
 pub use executing::execute;
 
+#[cfg(test)]
+mod tests;

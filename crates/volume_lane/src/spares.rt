@@ -19,11 +19,7 @@ pub(crate) fn is_one_piece(map: Map, range: BlockRange) -> bool
 }
 
 /// Room for the content of the blocks: it is taken where they are more than one piece.
-pub(crate) fn content_for(
-    alloc: Global,
-    map: Map,
-    range: BlockRange,
-) -> Result<Vec<u8>, AllocError>
+pub(crate) fn content_for(alloc: Global, map: Map, range: BlockRange) -> Result<Vec<u8>, AllocError>
     requires order { range.start ≤ range.end }
     requires inside { range.end ≤ map.blocks }
     requires small { map.blocks * map.atom < 2 ^ 63 }
@@ -35,7 +31,10 @@ pub(crate) fn content_for(
     if range.start == range.end || is_one_piece(map, range) {
         return Ok(Vec::new(alloc));
     }
-    Vec::with_capacity(alloc, (range.end - range.start) as usize * map.atom as usize)
+    Vec::with_capacity(
+        alloc,
+        (range.end - range.start) as usize * map.atom as usize,
+    )
 }
 
 /// Buffers for the pieces of the blocks, of which a piece keeps that of the piece before it where it

@@ -8,7 +8,7 @@ use Rattle.volume_lane.proofs.executing.flush.Goals as goal
 pub returns-in-Err : goal.returns-in-Err
 returns-in-Err g c =
     executed-refused _ c.args.volume.now _ Ops.Flush Flush c.in-Err.number (meets-admits c.args.volume.now Flush c.requires.lanes c.requires.idle)
-        c.in-Err.ensures.refused c.in-Err.ensures.err c.requires.idle refl
+    c.in-Err.ensures.refused c.in-Err.ensures.err c.requires.idle refl
 
 pub settle-requires : goal.settle-requires
 settle-requires g c = meets-flush c.args.volume.now _ c.in-Ok.ensures.begun

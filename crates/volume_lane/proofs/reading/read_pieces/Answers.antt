@@ -30,16 +30,17 @@ fitting-requires g c long =
     (serves.spare, serves.rest, serves.are, serves.fit)
 
 pub returns-in-None-clause-missed : goal.returns-in-None-clause-missed
-returns-in-None-clause-missed g c =
-    (c.pieces.content.items ++ [],
-    piece-behind g.C.SectorCipher.sealed g.C.SectorCipher.opened _ _ _ c.pieces.content.items [] c.pieces.invariant.goes_on c.in-None.ensures.missed)
+returns-in-None-clause-missed g c = (
+  c.pieces.content.items ++ [],
+  piece-behind g.C.SectorCipher.sealed g.C.SectorCipher.opened _ _ _ c.pieces.content.items [] c.pieces.invariant.goes_on c.in-None.ensures.missed,
+)
 
 pub returns-then-at-grant-clause-got : goal.returns-then-at-grant-clause-got
 returns-then-at-grant-clause-got g c =
     let none : c.pieces.content.items ≡ [] = (let k = c.pieces.content.ok in let b = c.if-is_empty.ensures in nil_from_length _ (grind (arith, k, b))) in
     subst (λ xs. GoesOn (seals_of g.C.SectorCipher.sealed g.C.SectorCipher.opened c.args.volume.now.map.atom c.args.volume.now.keys) c.args.volume.now
     c.read_piece.new.volume (xs ++ c.in-Some-read_piece.bytes)) none
-        (piece-behind g.C.SectorCipher.sealed g.C.SectorCipher.opened _ _ _ c.pieces.content.items _ c.pieces.invariant.goes_on c.in-Some-read_piece.ensures.got)
+    (piece-behind g.C.SectorCipher.sealed g.C.SectorCipher.opened _ _ _ c.pieces.content.items _ c.pieces.invariant.goes_on c.in-Some-read_piece.ensures.got)
 
 pub unreachable-requires : goal.unreachable-requires
 unreachable-requires g c =
@@ -52,12 +53,12 @@ unreachable-requires g c =
             | else-is_empty-via-else-is_empty w ↦ λ zero ends. (let e = w.if-is_empty.ensures in grind (arith, k, e, zero))
           ])
       | inr room ↦ (let long : length c.in-Some-read_piece.bytes ≡ c.in-Some.piece.count * c.args.held.grant.map.atom =
-              c.in-Some-read_piece.ensures.length ∙ ap (λ (m : Map). c.in-Some.piece.count * m.atom) (c.pieces.invariant.goes_on.map ∙ sym c.requires.map) in
+          c.in-Some-read_piece.ensures.length ∙ ap (λ (m : Map). c.in-Some.piece.count * m.atom) (c.pieces.invariant.goes_on.map ∙ sym c.requires.map) in
           let same : length c.as_slice.result.now ≡ length c.in-Some-read_piece.bytes = ap (λ xs. length xs) c.as_slice.ensures in
           let len : vec_len c.pieces.content ≡ length c.pieces.content.items = k.0 in
           let size = c.pieces.invariant.size in
           let most = stays-within c.args.held.grant.range.start c.pieces.at c.in-Some.piece.count c.args.held.grant.range.end c.args.held.grant.map.atom
-              c.pieces.invariant.starts c.in-Some.ensures.within in
+          c.pieces.invariant.starts c.in-Some.ensures.within in
           let full = c.in-Err.ensures.full in
           omega (arith, long, same, len, size, most, full, room))
     ]
@@ -65,9 +66,9 @@ unreachable-requires g c =
 pub pieces-preserved : goal.pieces-preserved
 pieces-preserved g c =
     let more : c.extend_from_slice.new.self.items ≡ c.pieces.content.items ++ c.in-Some-read_piece.bytes =
-        pushed c.as_slice.result.now refl c.in-Ok.is c.extend_from_slice.ensures.items ∙ ap (λ xs. c.pieces.content.items ++ xs) c.as_slice.ensures in
+    pushed c.as_slice.result.now refl c.in-Ok.is c.extend_from_slice.ensures.items ∙ ap (λ xs. c.pieces.content.items ++ xs) c.as_slice.ensures in
     let long : length c.in-Some-read_piece.bytes ≡ c.in-Some.piece.count * c.args.held.grant.map.atom =
-        c.in-Some-read_piece.ensures.length ∙ ap (λ (m : Map). c.in-Some.piece.count * m.atom) (c.pieces.invariant.goes_on.map ∙ sym c.requires.map) in
+    c.in-Some-read_piece.ensures.length ∙ ap (λ (m : Map). c.in-Some.piece.count * m.atom) (c.pieces.invariant.goes_on.map ∙ sym c.requires.map) in
     let k = c.pieces.content.ok in
     let first = c.in-Some.ensures.first in
     let within = c.in-Some.ensures.within in

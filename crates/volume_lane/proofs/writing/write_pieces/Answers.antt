@@ -9,9 +9,9 @@ use Rattle.volume_lane.proofs.LaneSpares.{next-spare, after-spare}
 use Rattle.volume_lane.proofs.writing.write_pieces.Goals as goal
 
 pub write_piece-requires-clause-size : goal.write_piece-requires-clause-size
-write_piece-requires-clause-size g c = 
+write_piece-requires-clause-size g c =
     size-of-one c.args.volume.now.map c.args.held.grant.range c.next_piece-piece.result _
-        (rw (← c.requires.map) (c.if-is_one_piece.ensures.0 refl)) (rw c.requires.map at c.next_piece-piece.ensures) (rw c.requires.map at c.requires.body)
+    (rw (← c.requires.map) (c.if-is_one_piece.ensures.0 refl)) (rw c.requires.map at c.next_piece-piece.ensures) (rw c.requires.map at c.requires.body)
 
 on-some : {X F : Type 0} (r : Option X) → is_some r ≡ true → OnSome r F → F
 on-some (Some x) is fact = fact
@@ -20,7 +20,7 @@ on-some None is fact = absurd (cc)
 pub returns-then-is_one_piece-clause-all : goal.returns-then-is_one_piece-clause-all
 returns-then-is_one_piece-clause-all g c is =
     let ends = one-ends c.args.held.grant.map c.args.held.grant.range c.args.held.grant.range.start c.next_piece-piece.result (c.if-is_one_piece.ensures.0 refl) refl
-        c.next_piece-piece.ensures in
+    c.next_piece-piece.ensures in
     rw (← ends) (on-some c.write_piece.result (sym c.is_some.ensures ∙ is) c.write_piece.ensures.goes_on)
 
 pub pieces-init : goal.pieces-init
@@ -43,7 +43,7 @@ fitting-requires g c long =
 pub slice_bounds-filled-end : goal.slice_bounds-filled-end
 slice_bounds-filled-end g c =
     let most = stays-within c.args.held.grant.range.start c.pieces.at c.in-Some.piece.count c.args.held.grant.range.end c.args.held.grant.map.atom
-        c.pieces.invariant.starts c.in-Some.ensures.within in
+    c.pieces.invariant.starts c.in-Some.ensures.within in
     let from = c.pieces.invariant.from in
     let body = c.requires.body in
     let len = c.deref.ensures.len in
@@ -53,18 +53,18 @@ pub returns-in-None-clause-failed : goal.returns-in-None-clause-failed
 returns-in-None-clause-failed g c is =
     let size = c.in-Some.piece.count * c.args.held.grant.map.atom in
     let most = stays-within c.args.held.grant.range.start c.pieces.at c.in-Some.piece.count c.args.held.grant.range.end c.args.held.grant.map.atom
-        c.pieces.invariant.starts c.in-Some.ensures.within in
+    c.pieces.invariant.starts c.in-Some.ensures.within in
     let from = c.pieces.invariant.from in
     let body = c.requires.body in
     tried-behind g.C.SectorCipher.sealed g.C.SectorCipher.opened _ _ _ c.args.held.ask c.args.body.items _ c.pieces.from size c.pieces.invariant.goes_on
-        c.in-None.ensures.tried (c.filled-bytes.ensures.is ∙ part-of-body c.args.body.items _ c.pieces.from size c.deref.ensures.value)
-        (omega (arith, most, from, body)) (c.filled-bytes.ensures.length ∙ c.fitting.ensures.size)
+    c.in-None.ensures.tried (c.filled-bytes.ensures.is ∙ part-of-body c.args.body.items _ c.pieces.from size c.deref.ensures.value)
+    (omega (arith, most, from, body)) (c.filled-bytes.ensures.length ∙ c.fitting.ensures.size)
 
 pub pieces-preserved : goal.pieces-preserved
 pieces-preserved g c =
     let size = c.in-Some.piece.count * c.args.held.grant.map.atom in
     let long : length c.in-Some-write_piece.bytes ≡ c.in-Some.piece.count * c.args.held.grant.map.atom =
-        c.in-Some-write_piece.ensures.length ∙ c.filled-bytes.ensures.length ∙ c.fitting.ensures.size in
+    c.in-Some-write_piece.ensures.length ∙ c.filled-bytes.ensures.length ∙ c.fitting.ensures.size in
     let first = c.in-Some.ensures.first in
     let within = c.in-Some.ensures.within in
     let starts = c.pieces.invariant.starts in
