@@ -7,6 +7,7 @@ use plain_disk::Op;
 use sector_disk::Disk;
 use std::alloc::{AllocError, Global};
 use volume_core::Volume;
+use volume_lane::execute;
 
 /// The port of sessions to a volume: it executes their operations on the volume's first lane, one
 /// after the other. It is never spent.
@@ -27,6 +28,9 @@ impl<D: Disk, C: SectorCipher + Copy> Port for VolumePort<D, C> {
     ghost did_more = { λ first second third xs ys. did_joined C.sealed C.opened first.volume second.volume third.volume xs ys };
 
     fn submit(&mut self, alloc: Global, op: Op) -> Result<Submitted, AllocError> {
-        Err(AllocError)
+        match execute(alloc, &mut self.volume, op) {
+            Ok(reply) => Ok(Submitted::Replied(reply)),
+            Err(refused) => Err(refused),
+        }
     }
 }

@@ -1,6 +1,6 @@
 // What operations ask for.
 
-ghost use Rattle.std.specs.Prelude.{◌≡◌, ◌<◌};
+ghost use Rattle.std.specs.Prelude.{◌≡◌, ◌+◌, ◌/◌, ◌<◌};
 ghost use Rattle.sector_disk.specs.Geometry.{IsAtom};
 
 use block_range::BlockRange;
@@ -16,7 +16,7 @@ const NO_SPACE: u32 = 28;
 #[derive(Clone, Copy, Debug, PartialEq, Eq)]
 pub enum Ask {
     Read { offset: u64, length: u32 },
-    Write { offset: u64, length: u32, fua: bool },
+    Write { offset: u64, length: u64, fua: bool },
     Flush,
 }
 
@@ -27,7 +27,7 @@ impl Ask {
     /// read of more than `MAX_READ` bytes, then 22 for an offset or length that isn't a multiple of
     /// the block, then for a range past the end 22 for a read and 28 for a write. None of what isn't
     /// wrong; a flush never is.
-    pub(crate) fn wrong(self, atom: u32, size: u64) -> Option<u32>
+    pub fn wrong(self, atom: u32, size: u64) -> Option<u32>
         requires { 0 < atom }
         ensures { result ≡ wrong_ask atom size self }
     {
@@ -37,23 +37,20 @@ impl Ask {
                 wrong_range(atom, size, offset, u64::from(length), INVALID)
             }
             Ask::Write { offset, length, .. } => {
-                wrong_range(atom, size, offset, u64::from(length), NO_SPACE)
+                wrong_range(atom, size, offset, length, NO_SPACE)
             }
             Ask::Flush => None,
         }
     }
 
     /// The blocks of `atom` bytes that it reads or writes; of a flush none.
-    pub(crate) fn range(self, atom: u32) -> BlockRange
+    pub fn range(self, atom: u32) -> BlockRange
         requires { IsAtom atom }
         ensures { result ≡ range_of atom self }
     {
         match self {
-            Ask::Read { offset, length } | Ask::Write { offset, length, .. } => {
-                let start = offset / u64::from(atom);
-                let end = start + u64::from(length) / u64::from(atom);
-                BlockRange { start, end }
-            }
+            Ask::Read { offset, length } => blocks(offset, u64::from(length), atom),
+            Ask::Write { offset, length, .. } => blocks(offset, length, atom),
             Ask::Flush => BlockRange { start: 0, end: 0 },
         }
     }
@@ -76,5 +73,17 @@ impl Ask {
             Ask::Read { .. } | Ask::Write { .. } => true,
             Ask::Flush => false,
         }
+    }
+}
+
+/// The blocks of `atom` bytes of a range of bytes.
+fn blocks(offset: u64, length: u64, atom: u32) -> BlockRange
+    requires { IsAtom atom }
+    ensures { result ≡ record { start = offset / atom; end = offset / atom + length / atom } }
+{
+    let start = offset / u64::from(atom);
+    BlockRange {
+        start,
+        end: start + length / u64::from(atom),
     }
 }

@@ -230,7 +230,7 @@ pub(super) fn finish<D: Disk, C: SectorCipher + Copy>(
     Answer::Done
 }
 
-pub(super) fn write_of(block: u64, blocks: u32) -> Ask {
+pub(super) fn write_of(block: u64, blocks: u64) -> Ask {
     Ask::Write {
         offset: block % 65536 * 512,
         length: blocks % 65536 * 512,

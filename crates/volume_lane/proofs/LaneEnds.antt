@@ -1,0 +1,266 @@
+-- Operations from their admit to their end, as executions.
+use Rattle.std.proofs.Common.{◌≡◌, ◌≢◌, ◌⊎◌, inl, inr, ℕ, zero, suc, ◌+◌, ◌/◌, ◌<◌, ◌≤◌, Bool, true, false, List, [], ◌∷◌, ◌++◌, length, take, find, Option, Some, None, Contains, MatchOption, MatchBool, if◌then◌else◌, nat_eq, refl, sym, ◌∙◌, ap, subst, arith}
+use Rattle.std.proofs.lemmas.List.{append-nil, length-take-le, take_all}
+use Rattle.plain_disk.specs.declared.operation.Op.{Op}
+use Rattle.plain_disk.specs.declared.operation.Op.TheVariants as Ops
+use Rattle.plain_disk.specs.declared.operation.Reply.{Reply}
+use Rattle.plain_disk.specs.declared.operation.Reply.TheVariants.{Content, Done, Errno}
+use Rattle.plain_disk.specs.Plain.{Exchange}
+use Rattle.range_lock.specs.declared.Entry.{Entry}
+use Rattle.range_lock.specs.declared.Standing.TheVariants.{Held, Waiting}
+use Rattle.range_lock.specs.Locks.{IsStanding, IsStandingOf, is_of, without}
+use Rattle.volume_core.specs.Answers.{IsGrant}
+use Rattle.volume_core.specs.Asks.{IsRead, IsWrite, IsForced, has_lock, range_of, entry_of, wrong_ask}
+use Rattle.volume_core.specs.Events.{Event, Outcome, admits, settles, finishes, held, waits, refused, got, done, device, broken}
+use Rattle.volume_core.specs.Executing.{Executes, IsIdle}
+use Rattle.volume_core.specs.Pieces.{IsComplete, failing, settling}
+use Rattle.volume_core.specs.Runs.{Answered, Happening, IsRun, last_of, answered_by, answered_in, plain_in, plain_after, with_plain, by_admit, by_finish, full_reply, flush_reply, AreExchanges, IsExchange, Asked, tried_by}
+use Rattle.volume_core.specs.Seals.{Seals, seals_of}
+use Rattle.volume_core.specs.Sound.{IsSound}
+use Rattle.volume_core.specs.States.{State, open_at, size_of}
+use Rattle.volume_core.specs.Steps.{Step, Meets, IsAdmitted, AdmitStep, TellsStanding, Goes, Holds}
+use Rattle.volume_core.specs.declared.answers.Grant.{Grant}
+use Rattle.volume_core.specs.declared.ask.Ask.{Ask}
+use Rattle.volume_core.specs.declared.ask.Ask.TheVariants.{Read, Write, Flush}
+use Rattle.volume_core.specs.declared.keys.Keys.{Keys}
+use Rattle.volume_core.specs.declared.open.Open.{Open}
+use Rattle.volume_core.proofs.CodeSteps.{open-is-one}
+use Rattle.volume_core.proofs.Executions.{run-joined, last-joined, answered-joined}
+use Rattle.volume_core.proofs.Soundness.{match_true}
+use Rattle.volume_lane.specs.Lane.{GoesOn, HasAll, HasBegun, HasExecuted, HasFailed, IsAlone, IsReadyFor, going}
+use Rattle.volume_lane.proofs.LaneEvents.{meets-finishes}
+use Rattle.volume_lane.proofs.LanePieces.{same-seals}
+
+-- no entry in the table of a volume on which no operation is under way
+find-own : (e : Entry) (rest : List Entry) → find (is_of e.lane) (e ∷ rest) ≡ Some e
+find-own e rest = (let same : nat_eq e.lane e.lane ≡ true = grind arith in rw same refl)
+
+empty : {K : Type 0} (state : State K) (entries : List Entry) → state.entries ≡ entries → IsSound state → IsIdle state → entries ≡ []
+empty state [] is sound idle = refl
+empty state (e ∷ rest) is sound idle =
+    let found = rw (is, idle e.lane) at (sound.entries e.lane) in
+    absurd (let own = find-own e rest in cc)
+
+contains-none : (e : Entry) → Contains [] e → ⊥
+contains-none e among = grind (arith, among)
+
+-- how an operation that isn't refused was admitted
+admitted : {K : Type 0} (old new : State K) (ask : Ask) (outcome : Outcome) (wrong : Option ℕ) (was : Bool) → ((n : ℕ) → outcome ≢ refused n) →
+    MatchOption wrong (MatchBool was ((outcome ≡ refused 5) × (new ≡ old)) (IsAdmitted old 0 ask outcome new)) (λ number. (outcome ≡ refused number) × (new ≡ old)) →
+    (wrong ≡ None) × (was ≡ false) × IsAdmitted old 0 ask outcome new
+admitted old new ask outcome None true not step = absurd (not 5 step.0)
+admitted old new ask outcome None false not step = (refl, refl, step)
+admitted old new ask outcome (Some n) was not step = absurd (not n step.0)
+
+held-not : (n : ℕ) → held ≢ refused n
+held-not n same = cc
+
+waits-not : (lane n : ℕ) → waits lane ≢ refused n
+waits-not lane n same = cc
+
+admitted-held : {K : Type 0} (old new : State K) (ask : Ask) → Step old (admits 0 ask) held new → IsReadyFor old ask × IsAdmitted old 0 ask held new
+unfolding Step
+admitted-held old new ask step =
+    let (proper, unbroken, is) = admitted old new ask held (wrong_ask old.map.atom (size_of old.map) ask) old.broken held-not step in
+    (record { proper = proper; unbroken = unbroken }, is)
+
+-- it holds its blocks
+standing-alone : (entries old : List Entry) (entry : Entry) → entry.lane ≡ 0 → old ≡ [] → entries ≡ old ++ entry ∷ [] → IsStandingOf 0 entries Held
+standing-alone entries old entry lane none are =
+    let is : is_of 0 entry ≡ true = rw lane refl in
+    rw (are, none, is) (λ k d below. absurd (omega (arith, below)))
+
+pub begun-alone : {K : Type 0} (old new : State K) (ask : Ask) → IsSound old → IsIdle old → Step old (admits 0 ask) held new → HasBegun old new ask
+begun-alone old new ask sound idle step =
+    let (ready, is) = admitted-held old new ask step in
+    record {
+      step = step;
+      ready = ready;
+      own = is.goes.lane_is.own;
+      others = λ lane other. is.goes.lane_is.others lane other ∙ idle lane;
+      alone = λ has. record {
+        own = is.goes.lane_is.own;
+        others = λ lane other. is.goes.lane_is.others lane other ∙ idle lane;
+        holds = standing-alone new.entries old.entries (entry_of old.map.atom 0 ask) refl (empty old old.entries refl sound idle) (match_true (has_lock ask) _ _ has is.enters).0;
+      };
+      map = is.goes.map;
+      keys = is.goes.keys;
+      count = is.goes.lane_is.count;
+    }
+
+waits-for : (old new : List Entry) (entry : Entry) (lane : ℕ) (has : Bool) → old ≡ [] →
+    MatchBool has ((new ≡ old ++ entry ∷ []) × TellsStanding (IsStanding old entry) (waits lane)) ((new ≡ old) × (waits lane ≡ held)) → ⊥
+waits-for old new entry lane true none enters = (let (e, (among, conflicts, at)) = rw none at enters.1 in contains-none e among)
+waits-for old new entry lane false none enters = (let same = enters.1 in cc)
+
+-- and never waits
+pub never-waits : {K : Type 0} (old new : State K) (ask : Ask) (lane : ℕ) → IsSound old → IsIdle old → Step old (admits 0 ask) (waits lane) new → ⊥
+unfolding Step
+never-waits old new ask lane sound idle step =
+    let (proper, unbroken, is) = admitted old new ask (waits lane) (wrong_ask old.map.atom (size_of old.map) ask) old.broken (waits-not lane) step in
+    waits-for old.entries new.entries (entry_of old.map.atom 0 ask) lane (has_lock ask) (empty old old.entries refl sound idle) is.enters
+
+-- its grant tells its blocks
+pub granted : {K : Type 0} (old new : State K) (ask : Ask) (grant : Grant) → HasBegun old new ask → IsGrant new 0 grant →
+    (grant.map ≡ old.map) × (grant.range ≡ range_of old.map.atom ask)
+granted old new ask grant begun is =
+    (is.map ∙ begun.map, is.range ∙ ap (λ (o : Open). o.range) (open-is-one new 0 is.o (going old.map.atom ask (range_of old.map.atom ask).start) is.is begun.own))
+
+pub meets-admits : {K : Type 0} (state : State K) (ask : Ask) → 1 < length state.lanes → IsIdle state → Meets state (admits 0 ask)
+unfolding Meets
+meets-admits state ask some idle = (omega (arith, some), idle 0)
+
+-- a refused operation leaves all as it was
+refused-same : {K : Type 0} (old new : State K) (ask : Ask) (number : ℕ) (wrong : Option ℕ) (was has : Bool) → has_lock ask ≡ has →
+    MatchOption wrong (MatchBool was ((refused number ≡ refused 5) × (new ≡ old)) (IsAdmitted old 0 ask (refused number) new)) (λ n. (refused number ≡ refused n) × (new ≡ old)) →
+    new ≡ old
+refused-same old new ask number None true has is step = step.1
+refused-same old new ask number None false true is step = absurd ((rw is at step.enters).1)
+refused-same old new ask number None false false is step = (let same = (rw is at step.enters).1 in absurd (cc))
+refused-same old new ask number (Some n) was has is step = step.1
+
+pub refused-leaves : {K : Type 0} (old new : State K) (ask : Ask) (number : ℕ) → Step old (admits 0 ask) (refused number) new → new ≡ old
+unfolding Step
+refused-leaves old new ask number step =
+    refused-same old new ask number (wrong_ask old.map.atom (size_of old.map) ask) old.broken (has_lock ask) refl step
+
+-- no exchange but this
+exchanged : (answered : Answered) (exchange : Exchange) → IsExchange answered exchange → AreExchanges (answered ∷ []) (exchange ∷ [])
+unfolding AreExchanges
+exchanged answered exchange is = (is, tt)
+
+-- a refused operation
+pub executed-refused : {K : Type 0} (seals : Seals) (old new : State K) (op : Op) (ask : Ask) (number : ℕ) → Meets old (admits 0 ask) →
+    Step old (admits 0 ask) (refused number) new → new ≡ old → IsIdle old → Asked ask [] op → HasExecuted seals old new op (Errno number)
+unfolding IsRun last_of answered_in plain_in answered_by
+executed-refused seals old new op ask number meets step same idle asked = record {
+  run = record { event = admits 0 ask; outcome = refused number; after = new } ∷ [];
+  n = tried_by ask [];
+  executes = record {
+    is = (meets, step, tt);
+    last = refl;
+    answers = λ plain. exchanged (record { ask = ask; plain = []; reply = Errno number }) (record { op = op; reply = Errno number; tried = tried_by ask [] })
+        (record { op = asked; reply = refl; tried = refl });
+  };
+  idle = rw same idle;
+  map = ap (λ s. s.map) same;
+  keys = ap (λ s. s.keys) same;
+  count = ap (λ s. length s.lanes) same;
+}
+
+-- no lane has an operation once this one has ended
+idle-after : {K : Type 0} (state new : State K) → open_at new.lanes 0 ≡ None → ((lane : ℕ) → lane ≢ 0 → open_at new.lanes lane ≡ None) → IsIdle new
+idle-after state new own others zero = own
+idle-after state new own others (suc lane) = others (suc lane) (λ same. cc)
+
+-- a read or a write that ended
+answered-ended : {K : Type 0} (seals : Seals) (old first last new : State K) (ask : Ask) (o : Open) (more : List ℕ) (on : GoesOn seals first last more) (plain : ℕ → List ℕ) →
+    open_at last.lanes 0 ≡ Some o →
+    answered_in seals old plain (record { event = admits 0 ask; outcome = held; after = first } ∷ (on.run ++ record { event = finishes 0; outcome = done; after = new } ∷ []))
+    ≡ record { ask = o.ask; plain = more; reply = if o.failed then Errno 5 else full_reply o.ask more } ∷ []
+unfolding answered_in plain_in answered_by plain_after
+answered-ended seals old first last new ask o more on plain own =
+    let p = with_plain plain 0 [] in
+    answered-joined seals first p on.run (record { event = finishes 0; outcome = done; after = new } ∷ [])
+    ∙ ap (λ xs. xs ++ (by_finish (open_at (last_of first on.run).lanes 0) (plain_in seals first p on.run 0) ++ [])) (on.silent p)
+    ∙ append-nil (by_finish (open_at (last_of first on.run).lanes 0) (plain_in seals first p on.run 0))
+    ∙ ap (λ s. by_finish (open_at s.lanes 0) (plain_in seals first p on.run 0)) on.last
+    ∙ ap (λ xs. by_finish (open_at last.lanes 0) xs) (on.knows p)
+    ∙ ap (λ (x : Option Open). by_finish x more) own
+
+pub executed-ended : {K : Type 0} (seals : Seals) (old first last new : State K) (op : Op) (ask : Ask) (reply : Reply) (o : Open) (more : List ℕ) →
+    Meets old (admits 0 ask) → HasBegun old first ask → GoesOn seals first last more → IsAlone last o → o.ask ≡ ask → Meets last (finishes 0) →
+    Step last (finishes 0) done new → Asked ask more op → reply ≡ (if o.failed then Errno 5 else full_reply ask more) → HasExecuted seals old new op reply
+unfolding IsRun last_of Step
+executed-ended seals old first last new op ask reply o more meets begun on alone same meets_end step asked reply_is =
+    let goes = step.goes in
+    let end : Happening _ = record { event = finishes 0; outcome = done; after = new } in
+    record {
+      run = record { event = admits 0 ask; outcome = held; after = first } ∷ (on.run ++ end ∷ []);
+      n = tried_by ask more;
+      executes = record {
+        is = (meets, begun.step, run-joined first on.run (end ∷ []) on.is (subst (λ s. IsRun s (end ∷ [])) (sym on.last) (meets_end, step, tt)));
+        last = last-joined first on.run (end ∷ []);
+        answers = λ plain. rw (answered-ended seals old first last new ask o more on plain alone.own)
+            (exchanged (record { ask = o.ask; plain = more; reply = if o.failed then Errno 5 else full_reply o.ask more })
+            (record { op = op; reply = reply; tried = tried_by ask more })
+            (rw same (record { op = asked; reply = reply_is; tried = refl })));
+      };
+      idle = idle-after last new goes.lane_is.own (λ lane other. goes.lane_is.others lane other ∙ alone.others lane other);
+      map = goes.map ∙ on.map ∙ begun.map;
+      keys = goes.keys ∙ on.keys ∙ begun.keys;
+      count = goes.lane_is.count ∙ on.count ∙ begun.count;
+    }
+
+-- a flush that ended
+pub meets-flush : {K : Type 0} (old state : State K) → HasBegun old state Flush → Meets state (settles 0)
+unfolding Meets
+meets-flush old state begun = (going old.map.atom Flush 0, begun.own, inl refl)
+
+record Ends {K : Type 0} (old new : State K) : Type 0 where
+  pub b : Bool
+  pub goes : Goes old new 0 old.entries None b
+
+flush-ends : {K : Type 0} (old first new : State K) (outcome : Outcome) → HasBegun old first Flush → Step first (settles 0) outcome new → Ends first new
+unfolding Step
+flush-ends old first new held begun (o, is, step) = absurd step
+flush-ends old first new (waits lane) begun (o, is, step) = absurd step
+flush-ends old first new (refused number) begun (o, is, step) = absurd step
+flush-ends old first new (got bytes) begun (o, is, step) = absurd step
+flush-ends old first new done begun (o, is, step) =
+    record { b = false; goes = (let same = open-is-one first 0 o (going old.map.atom Flush 0) is begun.own in rw same at step.goes) }
+flush-ends old first new device begun (o, is, step) =
+    record { b = true; goes = (let same = open-is-one first 0 o (going old.map.atom Flush 0) is begun.own in rw same at step.goes) }
+flush-ends old first new broken begun (o, is, step) =
+    record { b = true; goes = (let same = open-is-one first 0 o (going old.map.atom Flush 0) is begun.own in rw same at step.goes) }
+
+pub executed-flush : {K : Type 0} (seals : Seals) (old first new : State K) (outcome : Outcome) (reply : Reply) → Meets old (admits 0 Flush) → HasBegun old first Flush →
+    Step first (settles 0) outcome new → reply ≡ flush_reply outcome → HasExecuted seals old new Ops.Flush reply
+unfolding IsRun last_of answered_in plain_in answered_by
+executed-flush seals old first new outcome reply meets begun step is =
+    let ends = flush-ends old first new outcome begun step in
+    let goes = ends.goes in
+    record {
+      run = record { event = admits 0 Flush; outcome = held; after = first } ∷ record { event = settles 0; outcome = outcome; after = new } ∷ [];
+      n = 0;
+      executes = record {
+        is = (meets, begun.step, (meets-flush old first begun, step, tt));
+        last = refl;
+        answers = λ plain. rw begun.own (exchanged (record { ask = Flush; plain = []; reply = flush_reply outcome }) (record { op = Ops.Flush; reply = reply; tried = 0 })
+            (record { op = refl; reply = is; tried = refl }));
+      };
+      idle = idle-after first new goes.lane_is.own (λ lane other. goes.lane_is.others lane other ∙ begun.others lane other);
+      map = goes.map ∙ begun.map;
+      keys = goes.keys ∙ begun.keys;
+      count = goes.lane_is.count ∙ begun.count;
+    }
+
+-- an operation all of whose events succeeded, or one of whose failed, can end
+pub ends-whole : {K : Type 0} (state : State K) (ask : Ask) → HasAll state ask → has_lock ask ≡ true → Meets state (finishes 0)
+ends-whole state ask all has = meets-finishes state all.o all.alone (rw all.ask_is has) (inr all.complete)
+
+pub ends-failed : {K : Type 0} (state : State K) (ask : Ask) → HasFailed state ask → has_lock ask ≡ true → Meets state (finishes 0)
+ends-failed state ask failed has = meets-finishes state failed.o failed.alone (rw failed.ask_is has) (inl failed.failed)
+
+pub executed-whole : {C : Type 0} (seal unseal : C → ℕ → List ℕ → List ℕ) (old first last new : State (Keys C)) (op : Op) (ask : Ask) (reply : Reply) (more : List ℕ) →
+    Meets old (admits 0 ask) → HasBegun old first ask → GoesOn (seals_of seal unseal first.map.atom first.keys) first last more → HasAll last ask → has_lock ask ≡ true →
+    Step last (finishes 0) done new → Asked ask more op → reply ≡ full_reply ask more → HasExecuted (seals_of seal unseal old.map.atom old.keys) old new op reply
+executed-whole seal unseal old first last new op ask reply more meets begun on all has step asked is =
+    executed-ended (seals_of seal unseal old.map.atom old.keys) old first last new op ask reply all.o more meets begun
+    (subst (λ s. GoesOn s first last more) (same-seals seal unseal old first begun.map begun.keys) on) all.alone all.ask_is (ends-whole last ask all has) step asked
+    (rw all.whole is)
+
+pub executed-failed : {C : Type 0} (seal unseal : C → ℕ → List ℕ → List ℕ) (old first last new : State (Keys C)) (op : Op) (ask : Ask) (more : List ℕ) →
+    Meets old (admits 0 ask) → HasBegun old first ask → GoesOn (seals_of seal unseal first.map.atom first.keys) first last more → HasFailed last ask → has_lock ask ≡ true →
+    Step last (finishes 0) done new → Asked ask more op → HasExecuted (seals_of seal unseal old.map.atom old.keys) old new op (Errno 5)
+executed-failed seal unseal old first last new op ask more meets begun on failed has step asked =
+    executed-ended (seals_of seal unseal old.map.atom old.keys) old first last new op ask (Errno 5) failed.o more meets begun
+    (subst (λ s. GoesOn s first last more) (same-seals seal unseal old first begun.map begun.keys) on) failed.alone failed.ask_is (ends-failed last ask failed has) step asked
+    (rw failed.failed refl)
+
+-- what a write that tried these bytes asked for
+pub asked-write : (offset n : ℕ) (body : List ℕ) (fua : Bool) → n ≤ length body → Asked (Write offset (length body) fua) (take n body) (Ops.Write offset body fua)
+asked-write offset n body fua within = (body, refl, refl, ap (λ k. take k body) (length-take-le n body within))
+
+pub asked-whole : (offset : ℕ) (body : List ℕ) (fua : Bool) → Asked (Write offset (length body) fua) body (Ops.Write offset body fua)
+asked-whole offset body fua = (body, refl, refl, take_all (length body) body (omega arith))

@@ -1,0 +1,20 @@
+use Rattle.std.proofs.Common.{◌≡◌, ◌⊎◌, ◌-◌, ◌*◌, ◌≤◌, length, vec_capacity}
+use Rattle.volume_core.specs.Seals.{seals_of}
+use Rattle.volume_lane.specs.Lane.{GoesOn, IsAlone, going}
+use Rattle.volume_lane.specs.Spares.{AreEnough, IsOnePiece}
+use Rattle.volume_lane.proofs.reading.read_pieces.Given as goal
+
+abbrev pub invariant-pieces : goal.invariant-pieces
+invariant-pieces g l = record {
+  alone : IsAlone l.volume (going l.initial.volume.map.atom l.ask l.at);
+  goes_on : GoesOn (seals_of g.C.SectorCipher.sealed g.C.SectorCipher.opened l.initial.volume.map.atom l.initial.volume.keys) l.initial.volume l.volume l.content.items;
+  starts : l.grant.range.start ≤ l.at;
+  within : l.at ≤ l.grant.range.end;
+  size : length l.content.items ≡ (l.at - l.grant.range.start) * l.grant.map.atom;
+  room : (IsOnePiece l.grant.map l.grant.range × (l.at ≡ l.grant.range.start))
+      ⊎ ((l.grant.range.end - l.grant.range.start) * l.grant.map.atom ≤ vec_capacity l.content);
+  enough : AreEnough l.grant.map l.grant.range.end l.at (length l.buffer) l.spares.items;
+}
+
+abbrev pub decreases-pieces : goal.decreases-pieces
+decreases-pieces g l = l.grant.range.end - l.at

@@ -1,0 +1,105 @@
+-- An operation under way on the first lane of a volume, with none on any other.
+use Rattle.std.specs.Prelude.{ℕ, ◌≡◌, ◌≢◌, ◌++◌, ◌<◌, ◌≤◌, ◌⊎◌, Bool, true, false, List, [], ◌∷◌, length, take, Option, Some, None}
+use Rattle.block_range.specs.declared.BlockRange.{BlockRange}
+use Rattle.plain_disk.specs.declared.operation.Op.{Op}
+use Rattle.plain_disk.specs.declared.operation.Op.TheVariants as Ops
+use Rattle.plain_disk.specs.declared.operation.Reply.{Reply}
+use Rattle.plain_disk.specs.Plain.{Exchange}
+use Rattle.segment_map.specs.declared.map.Piece.{Piece}
+use Rattle.volume_core.specs.Asks.{range_of, has_lock, wrong_ask}
+use Rattle.volume_core.specs.Events.{admits, held}
+use Rattle.volume_core.specs.Executing.{Executes, IsIdle}
+use Rattle.volume_core.specs.Pieces.{IsComplete, IsPieceOf}
+use Rattle.volume_core.specs.Runs.{Happening, IsRun, last_of, answered_in, plain_in}
+use Rattle.volume_core.specs.Seals.{Seals}
+use Rattle.volume_core.specs.States.{State, open_at, size_of}
+use Rattle.volume_core.specs.Steps.{Step, Holds}
+use Rattle.volume_core.specs.declared.ask.Ask.{Ask}
+use Rattle.volume_core.specs.declared.ask.Ask.TheVariants.{Read, Write, Flush}
+use Rattle.volume_core.specs.declared.open.Open.{Open}
+
+-- what an operation asks for
+abbrev pub ask_of : Op → Ask
+ask_of (Ops.Read offset len) = Read offset len
+ask_of (Ops.Write offset body fua) = Write offset (length body) fua
+ask_of Ops.Flush = Flush
+
+-- the operation isn't wrong, and the volume isn't broken
+pub record IsReadyFor {K : Type 0} (state : State K) (ask : Ask) : Type 0 where
+  pub proper : wrong_ask state.map.atom (size_of state.map) ask ≡ None
+  pub unbroken : state.broken ≡ false
+
+-- an operation of which all pieces before block `at` were made, over blocks of `atom` bytes
+abbrev pub going : ℕ → Ask → ℕ → Open
+going atom ask at = record { ask = ask; range = range_of atom ask; next = at; settled = false; failed = false }
+
+-- an operation holds its blocks on the first lane, and no other lane has one
+pub record IsAlone {K : Type 0} (state : State K) (o : Open) : Type 0 where
+  pub own : open_at state.lanes 0 ≡ Some o
+  pub others : (lane : ℕ) → lane ≢ 0 → open_at state.lanes lane ≡ None
+  pub holds : Holds state 0
+
+-- an operation has some more of its events behind it, in which nothing was answered, and it has read,
+-- or tried to write, these bytes in them
+pub record GoesOn {K : Type 0} (seals : Seals) (old new : State K) (more : List ℕ) : Type 0 where
+  pub run : List (Happening K)
+  pub is : IsRun old run
+  pub last : last_of old run ≡ new
+  pub silent : (plain : ℕ → List ℕ) → answered_in seals old plain run ≡ []
+  pub knows : (plain : ℕ → List ℕ) → plain_in seals old plain run 0 ≡ plain 0 ++ more
+  pub map : new.map ≡ old.map
+  pub keys : new.keys ≡ old.keys
+  pub count : length new.lanes ≡ length old.lanes
+
+-- one of the operation's events has failed
+pub record HasFailed {K : Type 0} (state : State K) (ask : Ask) : Type 0 where
+  pub o : Open
+  pub alone : IsAlone state o
+  pub ask_is : o.ask ≡ ask
+  pub failed : o.failed ≡ true
+
+-- all pieces of a write came to the disk, or some front of the body was tried and a piece failed
+pub record HasTried {K : Type 0} (seals : Seals) (old new : State K) (ask : Ask) (body : List ℕ) : Type 0 where
+  pub n : ℕ
+  pub within : n ≤ length body
+  pub goes_on : GoesOn seals old new (take n body)
+  pub has_failed : HasFailed new ask
+
+-- an operation that isn't refused has begun
+pub record HasBegun {K : Type 0} (old new : State K) (ask : Ask) : Type 0 where
+  pub step : Step old (admits 0 ask) held new
+  pub ready : IsReadyFor old ask
+  pub own : open_at new.lanes 0 ≡ Some (going old.map.atom ask (range_of old.map.atom ask).start)
+  pub others : (lane : ℕ) → lane ≢ 0 → open_at new.lanes lane ≡ None
+  pub alone : has_lock ask ≡ true → IsAlone new (going old.map.atom ask (range_of old.map.atom ask).start)
+  pub map : new.map ≡ old.map
+  pub keys : new.keys ≡ old.keys
+  pub count : length new.lanes ≡ length old.lanes
+
+-- an operation was executed and answered so
+pub record HasExecuted {K : Type 0} (seals : Seals) (old new : State K) (op : Op) (reply : Reply) : Type 0 where
+  pub run : List (Happening K)
+  pub n : ℕ
+  pub executes : Executes seals old new run (record { op = op; reply = reply; tried = n } ∷ [])
+  pub idle : IsIdle new
+  pub map : new.map ≡ old.map
+  pub keys : new.keys ≡ old.keys
+  pub count : length new.lanes ≡ length old.lanes
+
+-- all events of the operation but its finish are behind it, and none has failed
+pub record HasAll {K : Type 0} (state : State K) (ask : Ask) : Type 0 where
+  pub o : Open
+  pub alone : IsAlone state o
+  pub ask_is : o.ask ≡ ask
+  pub whole : o.failed ≡ false
+  pub complete : IsComplete o
+
+-- the blocks of an operation where it isn't refused, and else none
+abbrev pub AreServed : {K : Type 0} → State K → Ask → BlockRange → Type 0
+AreServed state ask range = (IsReadyFor state ask × (range ≡ range_of state.map.atom ask))
+    ⊎ ((IsReadyFor state ask → ⊥) × (range ≡ record { start = 0; end = 0 }))
+
+-- a piece is the next of the operation under way
+pub record IsNext {K : Type 0} (state : State K) (ask : Ask) (piece : Piece) : Type 0 where
+  pub alone : IsAlone state (going state.map.atom ask piece.first)
+  pub next : IsPieceOf state.map (going state.map.atom ask piece.first) piece
