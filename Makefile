@@ -8,13 +8,13 @@ help:
 	@echo "make bench  rates of the ciphers and of key derivation"
 
 run:
-	cd crates/reencd && rt try -- serve disk --plain --atom 512 --listen stdio --sessions 1 </dev/null
+	cd crates/reencd && rt try -- serve data/disk.img --plain --atom 512 --listen stdio --sessions 1 </dev/null
 
 test:
 	rt ci
 
 build:
-	cd crates/reencd && rt run -- serve disk --plain --atom 512 --listen stdio --sessions 1 </dev/null
+	cd crates/reencd && rt run -- serve data/disk.img --plain --atom 512 --listen stdio --sessions 1 </dev/null
 
 bench:
 	cd crates/cipher_bench && rt run -- 64
