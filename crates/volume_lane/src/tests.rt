@@ -115,7 +115,7 @@ fn operation(
     atom: u64,
     blocks: u64,
 ) -> Result<(Op, Op), AllocError> {
-    let most = if numbers.below(64) == 0 { blocks } else { 40 };
+    let most = if numbers.below(50) == 0 { blocks } else { 16 };
     let mut offset = numbers.below(blocks + 1) % 1_000_000 * (atom % 65_536);
     if numbers.below(32) == 0 {
         offset += 1;
@@ -161,7 +161,7 @@ fn differs_from_a_plain_disk(
     let mut numbers = Numbers {
         state: u64::from(atom) + zone,
     };
-    for turn in 0..1500 {
+    for turn in 0..500 {
         let (op, same) = operation(alloc, &mut numbers, u64::from(atom), blocks)?;
         let wanted = plain.step(alloc, &same)?;
         let reply = volume.execute(alloc, op)?;
@@ -174,7 +174,7 @@ fn differs_from_a_plain_disk(
     if is_same(&reply, &wanted) {
         Ok(None)
     } else {
-        Ok(Some(1500))
+        Ok(Some(500))
     }
 }
 
