@@ -149,7 +149,7 @@ fn operation(
     blocks: u64,
 ) -> Result<(Op, Op), AllocError> {
     let most = if numbers.below(50) == 0 { blocks } else { 16 };
-    let mut offset = numbers.below(blocks + 1) % 1_000_000 * (atom % 65_536);
+    let mut offset = numbers.below(blocks.saturating_add(1)) % 1_000_000 * (atom % 65_536);
     if numbers.below(32) == 0 {
         offset += 1;
     }
@@ -159,10 +159,10 @@ fn operation(
         return Ok((Op::Flush, Op::Flush));
     }
     if kind < 4 {
-        let length = len as u32;
+        let length = u32::try_from(len).unwrap_or(0);
         return Ok((read(offset, length), read(offset, length)));
     }
-    let byte = numbers.below(256) as u8;
+    let byte = (numbers.below(256) % 256) as u8;
     let fua = kind == 7;
     Ok((
         write(alloc, offset, len as usize, byte, fua)?,
@@ -184,7 +184,7 @@ fn differs_from_a_plain_disk(
     let mut plain = PlainDisk::new(alloc, atom, blocks)?;
     volume.execute(alloc, write(alloc, 0, 3 * MIB, 0, false)?)?;
     let mut numbers = Numbers {
-        state: u64::from(atom) + zone,
+        state: u64::from(atom).wrapping_add(zone),
     };
     for turn in 0..500 {
         let (op, same) = operation(alloc, &mut numbers, u64::from(atom), blocks)?;
