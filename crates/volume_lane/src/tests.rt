@@ -1,5 +1,6 @@
-ghost use Rattle.std.specs.Prelude.{◌≡◌, ◌<◌, length};
+ghost use Rattle.std.specs.Prelude.{◌≡◌, ◌*◌, ◌<◌, ◌≤◌, length};
 ghost use Rattle.volume_core.specs.Executing.{IsIdle};
+ghost use Rattle.volume_core.specs.Sound.{MapFits};
 
 use crate::execute;
 use base_terms::Bytes;
@@ -35,8 +36,40 @@ fn plain<D: Disk + Drop>(alloc: Global, disk: D) -> Result<Idle<D>, AllocError> 
     }
 }
 
-/// A volume in conversion with XTS on both sides, whose boundary is in the middle.
-fn converted(alloc: Global, map: Map) -> Result<Idle<RamDisk>, Fail> {
+/// The map of a volume of 3 MiB in conversion, whose boundary is near its middle.
+fn half_way(is_large: bool, direction: Direction, zone: u64) -> Map
+    ensures fits { MapFits result (result.blocks * 2) }
+    ensures small { result.blocks * result.atom ≤ 3145728 }
+    ensures few { result.blocks ≤ 6144 }
+{
+    if is_large {
+        return Map {
+            atom: 4096,
+            blocks: 768,
+            boundary: 387,
+            direction,
+            zone: zone.min(300),
+            old_place: 768,
+            new_place: 0,
+        };
+    }
+    Map {
+        atom: 512,
+        blocks: 6144,
+        boundary: 3075,
+        direction,
+        zone: zone.min(3000),
+        old_place: 6144,
+        new_place: 0,
+    }
+}
+
+/// A volume with XTS on both sides.
+fn converted(alloc: Global, map: Map) -> Result<Idle<RamDisk>, Fail>
+    requires fits { MapFits map (map.blocks * 2) }
+    requires small { map.blocks * map.atom ≤ 3145728 }
+    requires few { map.blocks ≤ 6144 }
+{
     let mut both = [0x11u8; 32];
     both[16..].copy_from_slice(&[0x22; 16]);
     let old = Context::new(Spec::AesXtsPlain64, &both, 512)?;
@@ -115,8 +148,8 @@ fn operation(
     atom: u64,
     blocks: u64,
 ) -> Result<(Op, Op), AllocError> {
-    let most = if numbers.below(64) == 0 { blocks } else { 40 };
-    let mut offset = numbers.below(blocks + 1) % 1_000_000 * (atom % 65_536);
+    let most = if numbers.below(50) == 0 { blocks } else { 16 };
+    let mut offset = numbers.below(blocks.saturating_add(1)) % 1_000_000 * (atom % 65_536);
     if numbers.below(32) == 0 {
         offset += 1;
     }
@@ -126,10 +159,10 @@ fn operation(
         return Ok((Op::Flush, Op::Flush));
     }
     if kind < 4 {
-        let length = len as u32;
+        let length = u32::try_from(len).unwrap_or(0);
         return Ok((read(offset, length), read(offset, length)));
     }
-    let byte = numbers.below(256) as u8;
+    let byte = (numbers.below(256) % 256) as u8;
     let fua = kind == 7;
     Ok((
         write(alloc, offset, len as usize, byte, fua)?,
@@ -141,27 +174,19 @@ fn operation(
 /// than one plain disk answers it; a read of the whole comes last.
 fn differs_from_a_plain_disk(
     alloc: Global,
-    atom: u32,
+    is_large: bool,
     direction: Direction,
     zone: u64,
 ) -> Result<Option<u32>, Fail> {
-    let blocks = if atom == 512 { 6144 } else { 768 };
-    let map = Map {
-        atom,
-        blocks,
-        boundary: blocks / 2 + 3,
-        direction,
-        zone,
-        old_place: blocks,
-        new_place: 0,
-    };
+    let map = half_way(is_large, direction, zone);
+    let Map { atom, blocks, .. } = map;
     let mut volume = converted(alloc, map)?;
     let mut plain = PlainDisk::new(alloc, atom, blocks)?;
     volume.execute(alloc, write(alloc, 0, 3 * MIB, 0, false)?)?;
     let mut numbers = Numbers {
-        state: u64::from(atom) + zone,
+        state: u64::from(atom).wrapping_add(zone),
     };
-    for turn in 0..1500 {
+    for turn in 0..500 {
         let (op, same) = operation(alloc, &mut numbers, u64::from(atom), blocks)?;
         let wanted = plain.step(alloc, &same)?;
         let reply = volume.execute(alloc, op)?;
@@ -174,20 +199,20 @@ fn differs_from_a_plain_disk(
     if is_same(&reply, &wanted) {
         Ok(None)
     } else {
-        Ok(Some(1500))
+        Ok(Some(500))
     }
 }
 
 #[test]
 fn operations_are_those_of_one_plain_disk(rt: HostRuntime) -> Result<(), Fail> {
-    for (atom, direction, zone) in [
-        (512, Direction::Forward, 0),
-        (512, Direction::Backward, 700),
-        (4096, Direction::Forward, 5),
-        (4096, Direction::Backward, 0),
+    for (is_large, direction, zone) in [
+        (false, Direction::Forward, 0),
+        (false, Direction::Backward, 700),
+        (true, Direction::Forward, 5),
+        (true, Direction::Backward, 0),
     ] {
-        let found = differs_from_a_plain_disk(rt.alloc(), atom, direction, zone)?;
-        assert_eq!(rt; found, None, "blocks of {atom}, zone of {zone}");
+        let found = differs_from_a_plain_disk(rt.alloc(), is_large, direction, zone)?;
+        assert_eq!(rt; found, None, "zone of {zone}");
     }
     Ok(())
 }
