@@ -8,7 +8,7 @@ pub type Part = (&'static str, usize);
 
 pub const HELLO: Part = ("00000003", 1);
 
-const GO: Part = ("49484156454f50540000000700000006000000000000", 1);
+pub const GO: Part = ("49484156454f50540000000700000006000000000000", 1);
 
 pub const EXPORT_NAME: Part = ("49484156454f50540000000100000006766f6c756d65", 1);
 
@@ -45,6 +45,17 @@ pub const SIZE: Part = (
 /// Blocks of at least 512 bytes, best 4096, and 32 MiB at most.
 pub const BLOCK_SIZES: Part = (
     "0003e889045565a900000007000000030000000e0003000002000000100002000000",
+    1,
+);
+
+/// The same of an export of 65536 bytes in blocks of 4096.
+pub const WIDE_SIZE: Part = (
+    "0003e889045565a900000007000000030000000c00000000000000010000010d",
+    1,
+);
+
+pub const WIDE_BLOCK_SIZES: Part = (
+    "0003e889045565a900000007000000030000000e0003000010000000100002000000",
     1,
 );
 
