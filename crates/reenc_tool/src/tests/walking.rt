@@ -5,7 +5,7 @@ use super::messages::{
     bytes_of,
 };
 use super::{bay_around, end, end_of, put_of, run_in};
-use crate::{Cause, Ending};
+use crate::{Cause, Ended, Ending};
 use base_terms::Bytes;
 use io_edge::{ListSink, ListSource};
 use plain_disk::{Op, PlainDisk, Reply};
@@ -69,6 +69,12 @@ impl Draws {
         let place = usize::from(self.byte()) % choices.len().max(1);
         choices.get(place).copied().unwrap_or(other)
     }
+
+    /// How many bytes so many blocks have, at times with a few more.
+    fn bytes_of(&mut self, blocks: u64, atom: u32) -> u64 {
+        let more = self.of(&STRAYS, 0);
+        blocks.wrapping_mul(u64::from(atom)).wrapping_add(more)
+    }
 }
 
 /// A request, but for its data.
@@ -85,13 +91,14 @@ struct Request {
 /// begin or end at a block, that passes the end, or that lies far beyond it.
 fn draw_request(draws: &mut Draws, atom: u32) -> Request {
     let place = u64::from(draws.byte()) % (ATOMS + 2);
-    let near = place * u64::from(atom) + draws.of(&STRAYS, 0);
+    let near = draws.bytes_of(place, atom);
     let offset = if draws.byte() == 0 {
         u64::MAX - 4095
     } else {
         near
     };
-    let length = draws.of(&LENGTHS, 0) * u64::from(atom) + draws.of(&STRAYS, 0);
+    let blocks = draws.of(&LENGTHS, 0);
+    let length = draws.bytes_of(blocks, atom);
     Request {
         flags: draws.of(&FLAGS, 0),
         kind: draws.of(&TYPES, 0),
@@ -272,7 +279,8 @@ fn a_long_walk_is_answered_as_by_a_plain_disk(rt: HostRuntime) -> Result<(), Fai
             (0, Cause::Fine),
             "{atom} {piece}"
         );
-        let Some(mut disk) = ended.disk else {
+        let Ended { disk, .. } = ended;
+        let Some(mut disk) = disk else {
             panic!(rt; "no disk");
         };
         assert!(rt; holds(alloc, &mut disk, &walk.plain)?, "{atom} {piece}");
