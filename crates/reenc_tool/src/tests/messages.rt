@@ -49,17 +49,22 @@ pub const BLOCK_SIZES: Part = (
 );
 
 /// The same of an export of 65536 bytes in blocks of 4096.
-pub const WIDE_SIZE: Part = (
+const WIDE_SIZE: Part = (
     "0003e889045565a900000007000000030000000c00000000000000010000010d",
     1,
 );
 
-pub const WIDE_BLOCK_SIZES: Part = (
+const WIDE_BLOCK_SIZES: Part = (
     "0003e889045565a900000007000000030000000e0003000010000000100002000000",
     1,
 );
 
 pub const AGREED: Part = ("0003e889045565a9000000070000000100000000", 1);
+
+/// The answers to a client that chooses the export by GO, of blocks of 512 and of 4096 bytes.
+pub const AGREED_ON: &[Part] = &[GREETING, SIZE, BLOCK_SIZES, AGREED];
+
+pub const AGREED_ON_WIDE: &[Part] = &[GREETING, WIDE_SIZE, WIDE_BLOCK_SIZES, AGREED];
 
 pub const WRITTEN: Part = ("67446698000000000000000000000001", 1);
 

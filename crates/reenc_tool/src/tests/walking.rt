@@ -1,27 +1,28 @@
 // A long walk: a client's requests as they are drawn, and what a plain disk answers them.
 
-use super::messages::{
-    AGREED, BLOCK_SIZES, DISCONNECT, GO, GREETING, HELLO, Part, SIZE, WIDE_BLOCK_SIZES, WIDE_SIZE,
-    bytes_of,
-};
+use super::messages::{AGREED_ON, AGREED_ON_WIDE, DISCONNECT, GO, HELLO, Part, bytes_of};
 use super::{bay_around, end, end_of, put_of, run_in};
 use crate::{Cause, Ended, Ending};
 use base_terms::Bytes;
+use bays::MemLink;
 use io_edge::{ListSink, ListSource};
 use plain_disk::{Op, PlainDisk, Reply};
 use plain_volume::PlainVolume;
 use sector_disk::MemDisk;
 use std::alloc::Global;
 use std::process::Abort;
+use std::sync::Wait;
 use std::test::Fail;
+use std::thread::Threads;
 
 const ATOMS: u64 = 16;
 
 /// How many requests a walk has.
 const REQUESTS: u64 = 500;
 
-/// The most device calls, and atoms written, that a request makes.
-const CALLS_EACH: u64 = 6;
+/// The most device calls and written atoms of a walk, of at most 2 and 4 a request, and of the reads
+/// that look at each atom in the end.
+const ROOM: u64 = REQUESTS * 6 + ATOMS;
 
 const READ: u16 = 0;
 
@@ -240,35 +241,39 @@ fn holds(alloc: Global, disk: MemDisk, plain: &PlainDisk) -> Result<bool, Fail> 
     Ok(true)
 }
 
+/// Runs the command for one client, who sends what was walked.
+fn run_walk(
+    rt: &(impl Abort + Threads + Wait + Sync),
+    alloc: Global,
+    atom: u32,
+    walk: &Walk,
+    piece: usize,
+) -> Result<Ended<MemDisk, MemLink>, Fail> {
+    assert!(rt; (atom == 512 || atom == 4096) && piece > 0);
+    let disk = MemDisk::new(alloc, atom, ATOMS, ROOM, &[])?;
+    let mut scripts = Vec::new(alloc);
+    scripts.push((
+        ListSource::new(alloc, &walk.sent, piece, &[])?,
+        ListSink::new(alloc, walk.wanted.len(), &[])?,
+    ))?;
+    let mut bay = bay_around(alloc, disk, scripts, &[])?;
+    let mut out = ListSink::new(alloc, 100, &[])?;
+    let words = format!(in alloc; "serve x --plain --atom {atom} --listen A --sessions 1")?;
+    run_in(rt, alloc, words.as_str(), &mut bay, &mut out)
+}
+
 #[test]
 fn a_long_walk_is_answered_as_by_a_plain_disk(rt: HostRuntime) -> Result<(), Fail> {
-    let alloc = rt.alloc();
-    for (atom, size, block_sizes, piece) in [
-        (512, SIZE, BLOCK_SIZES, 1),
-        (512, SIZE, BLOCK_SIZES, 7),
-        (512, SIZE, BLOCK_SIZES, 4096),
-        (4096, WIDE_SIZE, WIDE_BLOCK_SIZES, 1),
-        (4096, WIDE_SIZE, WIDE_BLOCK_SIZES, 7),
-        (4096, WIDE_SIZE, WIDE_BLOCK_SIZES, 4096),
+    for (atom, answers, piece) in [
+        (512, AGREED_ON, 1),
+        (512, AGREED_ON, 7),
+        (512, AGREED_ON, 4096),
+        (4096, AGREED_ON_WIDE, 1),
+        (4096, AGREED_ON_WIDE, 7),
+        (4096, AGREED_ON_WIDE, 4096),
     ] {
-        let state = piece as u64;
-        let walk = walk_of(
-            &rt,
-            alloc,
-            atom,
-            &[GREETING, size, block_sizes, AGREED],
-            state,
-        )?;
-        let disk = MemDisk::new(alloc, atom, ATOMS, REQUESTS * CALLS_EACH + ATOMS, &[])?;
-        let mut scripts = Vec::new(alloc);
-        scripts.push((
-            ListSource::new(alloc, &walk.sent, piece, &[])?,
-            ListSink::new(alloc, walk.wanted.len(), &[])?,
-        ))?;
-        let mut bay = bay_around(alloc, disk, scripts, &[])?;
-        let mut out = ListSink::new(alloc, 100, &[])?;
-        let words = format!(in alloc; "serve x --plain --atom {atom} --listen A --sessions 1")?;
-        let ended = run_in(&rt, alloc, words.as_str(), &mut bay, &mut out)?;
+        let walk = walk_of(&rt, rt.alloc(), atom, answers, piece as u64)?;
+        let ended = run_walk(&rt, rt.alloc(), atom, &walk, piece)?;
         let (taken, put) = (walk.sent.len() as u64, walk.wanted.len() as u64);
         assert_eq!(rt;
             end_of(&ended, 0, 0),
@@ -283,11 +288,11 @@ fn a_long_walk_is_answered_as_by_a_plain_disk(rt: HostRuntime) -> Result<(), Fai
             (0, Cause::Fine),
             "{atom} {piece}"
         );
-        let Ended { disk, .. } = ended;
-        let Some(disk) = disk else {
-            panic!(rt; "no disk");
+        let held = match ended.disk {
+            Some(disk) => holds(rt.alloc(), disk, &walk.plain)?,
+            None => false,
         };
-        assert!(rt; holds(alloc, disk, &walk.plain)?, "{atom} {piece}");
+        assert!(rt; held, "{atom} {piece}");
     }
     Ok(())
 }
