@@ -288,11 +288,11 @@ fn a_long_walk_is_answered_as_by_a_plain_disk(rt: HostRuntime) -> Result<(), Fai
             (0, Cause::Fine),
             "{atom} {piece}"
         );
-        let held = match ended.disk {
-            Some(disk) => holds(rt.alloc(), disk, &walk.plain)?,
-            None => false,
+        let Ended { disk, .. } = ended;
+        let Some(disk) = disk else {
+            panic!(rt; "no disk");
         };
-        assert!(rt; held, "{atom} {piece}");
+        assert!(rt; holds(rt.alloc(), disk, &walk.plain)?, "{atom} {piece}");
     }
     Ok(())
 }
