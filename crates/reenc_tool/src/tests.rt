@@ -1,4 +1,5 @@
 mod messages;
+mod walking;
 
 use self::messages::{
     AGAIN, AGREED, BLOCK, BLOCK_SIZES, BRIEF, BRIEF_ANSWERS, CLIENT, CUT, FLUSHED, GREETING,
@@ -65,11 +66,7 @@ fn with_line_fails(line_fails: &'static [u64]) -> Outside<'static> {
 fn bay_of(rt: &impl Abort, alloc: Global, outside: &Outside<'_>) -> Result<MemBay, Fail> {
     let (atoms, piece) = (outside.atoms, outside.piece);
     assert!(rt; atoms <= 16 && piece > 0);
-    let mut disks = Vec::new(alloc);
-    disks.push((
-        String::from_str(alloc, "x")?,
-        MemDisk::new(alloc, 512, atoms, 100, outside.disk_fails)?,
-    ))?;
+    let disk = MemDisk::new(alloc, 512, atoms, 100, outside.disk_fails)?;
     let mut scripts = Vec::new(alloc);
     for client in outside.clients {
         let sent = bytes_of(alloc, client)?;
@@ -78,12 +75,24 @@ fn bay_of(rt: &impl Abort, alloc: Global, outside: &Outside<'_>) -> Result<MemBa
             ListSink::new(alloc, outside.room, &[])?,
         ))?;
     }
-    let mut fails = Vec::new(alloc);
-    for calls in outside.fails {
-        fails.push(calls.to_vec(alloc)?)?;
+    bay_around(alloc, disk, scripts, outside.fails)
+}
+
+/// The bay of this disk, by the name of `x`, and of these clients at the address `A`.
+fn bay_around(
+    alloc: Global,
+    disk: MemDisk,
+    scripts: Vec<(ListSource, ListSink)>,
+    fails: &[&[u64]],
+) -> Result<MemBay, Fail> {
+    let mut disks = Vec::new(alloc);
+    disks.push((String::from_str(alloc, "x")?, disk))?;
+    let mut lists = Vec::new(alloc);
+    for calls in fails {
+        lists.push(calls.to_vec(alloc)?)?;
     }
     let address = String::from_str(alloc, "A")?;
-    Ok(MemBay::new(alloc, disks, Vec::new(alloc), address, scripts, fails))
+    Ok(MemBay::new(alloc, disks, Vec::new(alloc), address, scripts, lists))
 }
 
 /// Runs the command of these words, and gives what came of it and the text that it printed.
@@ -93,17 +102,28 @@ fn command(
     words: &str,
     outside: &Outside<'_>,
 ) -> Result<(Ended<MemDisk, MemLink>, ListSink), Fail> {
+    let mut bay = bay_of(rt, alloc, outside)?;
+    let mut out = ListSink::new(alloc, outside.line, outside.line_fails)?;
+    let ended = run_in(rt, alloc, words, &mut bay, &mut out)?;
+    Ok((ended, out))
+}
+
+/// Runs the command of these words in a bay.
+fn run_in(
+    rt: &(impl Threads + Wait + Sync),
+    alloc: Global,
+    words: &str,
+    bay: &mut MemBay,
+    out: &mut ListSink,
+) -> Result<Ended<MemDisk, MemLink>, Fail> {
     let mut list = Vec::new(alloc);
     if !words.is_empty() {
         for word in words.split(' ') {
             list.push(String::from_str(alloc, word)?)?;
         }
     }
-    let mut bay = bay_of(rt, alloc, outside)?;
     let mut seeds = FixedSeeds::new(alloc, &[0], &[])?;
-    let mut out = ListSink::new(alloc, outside.line, outside.line_fails)?;
-    let ended = run(rt, alloc, &list, &mut bay, &mut seeds, &mut out, &OpenGate);
-    Ok((ended, out))
+    Ok(run(rt, alloc, &list, bay, &mut seeds, out, &OpenGate))
 }
 
 /// How the sessions of a link ended, by their order there.

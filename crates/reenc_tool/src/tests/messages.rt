@@ -8,7 +8,7 @@ pub type Part = (&'static str, usize);
 
 pub const HELLO: Part = ("00000003", 1);
 
-const GO: Part = ("49484156454f50540000000700000006000000000000", 1);
+pub const GO: Part = ("49484156454f50540000000700000006000000000000", 1);
 
 pub const EXPORT_NAME: Part = ("49484156454f50540000000100000006766f6c756d65", 1);
 
@@ -48,7 +48,23 @@ pub const BLOCK_SIZES: Part = (
     1,
 );
 
+/// The same of an export of 65536 bytes in blocks of 4096.
+const WIDE_SIZE: Part = (
+    "0003e889045565a900000007000000030000000c00000000000000010000010d",
+    1,
+);
+
+const WIDE_BLOCK_SIZES: Part = (
+    "0003e889045565a900000007000000030000000e0003000010000000100002000000",
+    1,
+);
+
 pub const AGREED: Part = ("0003e889045565a9000000070000000100000000", 1);
+
+/// The answers to a client that chooses the export by GO, of blocks of 512 and of 4096 bytes.
+pub const AGREED_ON: &[Part] = &[GREETING, SIZE, BLOCK_SIZES, AGREED];
+
+pub const AGREED_ON_WIDE: &[Part] = &[GREETING, WIDE_SIZE, WIDE_BLOCK_SIZES, AGREED];
 
 pub const WRITTEN: Part = ("67446698000000000000000000000001", 1);
 
