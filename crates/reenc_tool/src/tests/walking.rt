@@ -2,18 +2,20 @@
 
 use super::messages::{AGREED_ON, AGREED_ON_WIDE, DISCONNECT, GO, HELLO, Part, bytes_of};
 use super::{bay_around, end, end_of, put_of, run_in};
+use crate::port::VolumePort;
 use crate::{Cause, Ended, Ending};
 use base_terms::Bytes;
 use bays::MemLink;
 use io_edge::{ListSink, ListSource};
+use nbd_session::{Port, Submitted};
 use plain_disk::{Op, PlainDisk, Reply};
-use plain_volume::PlainVolume;
 use sector_disk::MemDisk;
-use std::alloc::Global;
+use std::alloc::{AllocError, Global};
 use std::process::Abort;
 use std::sync::Wait;
 use std::test::Fail;
 use std::thread::Threads;
+use volume_core::Volume;
 
 const ATOMS: u64 = 16;
 
@@ -226,12 +228,15 @@ fn walk_of(
 
 /// Whether each block of the disk holds what that of the plain disk does.
 fn holds(alloc: Global, disk: MemDisk, plain: &PlainDisk) -> Result<bool, Fail> {
-    let mut volume = PlainVolume::new(disk);
+    let Ok(volume) = Volume::plain(alloc, disk, 2) else {
+        return Err(AllocError.into());
+    };
+    let mut port = VolumePort { volume };
     let length = plain.atom();
     for block in 0..plain.blocks() {
         let offset = block.wrapping_mul(u64::from(length));
-        let reply = volume.perform(alloc, &Op::Read { offset, length })?;
-        let Reply::Content(bytes) = reply else {
+        let submitted = port.submit(alloc, Op::Read { offset, length })?;
+        let Submitted::Replied(Reply::Content(bytes)) = submitted else {
             return Ok(false);
         };
         if bytes.as_slice() != plain.newest(block) {
