@@ -1,5 +1,5 @@
 -- What a command did.
-use Rattle.std.specs.Prelude.{ℕ, ◌≡◌, ◌*◌, ◌-◌, ◌^◌, ◌<◌, ◌≤◌, ◌⊎◌, Bool, true, false, if◌then◌else◌, List, [], length, slice_index_or, Option, Some, None}
+use Rattle.std.specs.Prelude.{ℕ, ◌≡◌, ◌-◌, ◌^◌, ◌<◌, ◌≤◌, ◌⊎◌, Bool, true, if◌then◌else◌, List, [], length, slice_index_or, Option, Some, None}
 use Rattle.base_terms.specs.Causes.{Rose}
 use Rattle.bays.specs.Bays.{AreFresh}
 use Rattle.bays.specs.Stories.{Script, Story}

@@ -1,23 +1,20 @@
 -- Operations that begin, and those that wait: what holds between events goes on to hold.
-use Rattle.std.proofs.Common.{◌≡◌, ◌≢◌, inl, inr, ◌⊎◌, ℕ, suc, ◌+◌, ◌-◌, ◌*◌, ◌<◌, ◌≤◌, ◌==◌, Bool, true, false, if◌then◌else◌, List, [], ◌∷◌, ◌++◌, length, Option, Some, None, MatchOption, MatchBool, refl, sym, ◌∙◌, ap, subst, arith, slice_index, nat_eq}
-use Rattle.cipher_laws.specs.Bytes.{AreBytes}
-use Rattle.plain_disk.specs.Plain.{Block, Exchange, Legal}
+use Rattle.std.proofs.Common.{◌≡◌, ◌≢◌, inl, inr, ℕ, suc, ◌-◌, ◌*◌, ◌<◌, ◌≤◌, true, false, List, [], length, Option, Some, None, refl, sym, ◌∙◌, ap, subst, arith, nat_eq}
+use Rattle.plain_disk.specs.Plain.{Block}
 use Rattle.range_lock.specs.Locks.{IsStanding}
-use Rattle.sector_disk.specs.Geometry.{IsAtom}
 use Rattle.volume_core.specs.declared.ask.Ask.{Ask}
 use Rattle.volume_core.specs.declared.open.Open.{Open}
-use Rattle.volume_core.specs.Asks.{IsForced, range_of, has_lock, wrong_ask, entry_of}
+use Rattle.volume_core.specs.Asks.{has_lock, wrong_ask, entry_of}
 use Rattle.volume_core.specs.Contents.{IsTriedBy}
-use Rattle.volume_core.specs.Events.{Outcome, held, waits, refused, got, done, device, broken, admits}
-use Rattle.volume_core.specs.Runs.{with_plain, by_admit, refusal, AreExchanges}
+use Rattle.volume_core.specs.Events.{Outcome, held, waits, refused, got, done, device, broken}
+use Rattle.volume_core.specs.Runs.{with_plain, by_admit}
 use Rattle.volume_core.specs.Seals.{Seals, AreBlocks}
-use Rattle.volume_core.specs.Sound.{IsSound, IsUnderWay}
+use Rattle.volume_core.specs.Sound.{IsSound}
 use Rattle.volume_core.specs.States.{State, open_at, size_of, begun, LaneBecomes}
-use Rattle.volume_core.specs.Steps.{IsAdmitted, AdmitStep, TellsStanding, Holds}
+use Rattle.volume_core.specs.Steps.{IsAdmitted, TellsStanding, Holds}
 use Rattle.volume_core.specs.Views.{View, IsUnchanged}
-use Rattle.volume_core.proofs.Answering.{legal_none, legal_one, step_wrong, step_refused}
 use Rattle.volume_core.proofs.Invariant.{LaneKnows, Logic, Shown, KeepsWrites, writes_stay, shown_kept, lanes_still}
-use Rattle.volume_core.proofs.Locking.{either, same_or_not, holds-more}
+use Rattle.volume_core.proofs.Locking.{either, holds-more}
 use Rattle.volume_core.proofs.Soundness.{match_true, match_false, begins}
 
 -- what is known by other lanes, and by this one

@@ -1,10 +1,9 @@
 -- Lemmas on operations that were answered, as steps of the plain disk.
-use Rattle.std.proofs.Common.{◌≡◌, inl, inr, ◌⊎◌, ℕ, zero, suc, ◌+◌, ◌*◌, ◌/◌, ◌%◌, ◌<◌, ◌≤◌, ◌||◌, ◌==◌, not, Bool, true, false, if◌then◌else◌, nat_lt, List, [], ◌∷◌, length, take, drop, map, Option, Some, None, MatchOption, refl, sym, ◌∙◌, ap, subst, arith, length-take}
+use Rattle.std.proofs.Common.{◌≡◌, inl, inr, ◌⊎◌, ℕ, ◌*◌, ◌/◌, ◌%◌, ◌<◌, ◌≤◌, Bool, if◌then◌else◌, nat_lt, List, [], ◌∷◌, length, take, drop, map, Some, None, refl, sym, ◌∙◌, ap, subst, arith}
 use Rattle.std.proofs.lemmas.List.{ext_get_or}
 use Rattle.std.proofs.Math.Nat.{mul-div_cancel, mul-mod_left}
 use Rattle.base_terms.specs.Blocks.{blocks_of, changed}
 use Rattle.plain_disk.specs.declared.operation.Op.{Op}
-use Rattle.plain_disk.specs.declared.operation.Op.TheVariants as Ops
 use Rattle.plain_disk.specs.declared.operation.Reply.TheVariants.{Content, Done, Errno}
 use Rattle.plain_disk.specs.Operations.{wrong_of, wrong_range_of}
 use Rattle.sector_disk.specs.Geometry.{IsAtom}
@@ -13,7 +12,7 @@ use Rattle.base_terms.proofs.BlockLemmas.{changed-nil}
 use Rattle.volume_core.specs.declared.ask.Ask.{Ask}
 use Rattle.volume_core.specs.declared.ask.Ask.TheVariants.{Read, Write, Flush}
 use Rattle.volume_core.specs.Asks.{wrong_ask}
-use Rattle.volume_core.specs.Runs.{Answered, refusal, Asked, tried_by, IsExchange, AreExchanges}
+use Rattle.volume_core.specs.Runs.{Answered, refusal, Asked, IsExchange, AreExchanges}
 use Rattle.volume_core.proofs.Blockwise.{block_at-take}
 use Rattle.volume_core.proofs.Entries.{length-blocks_of, blocks_of-at}
 use Rattle.volume_core.proofs.Locking.{either}

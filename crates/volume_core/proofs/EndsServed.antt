@@ -1,5 +1,5 @@
 -- Operations that end: they are answered as the plain disk answers.
-use Rattle.std.proofs.Common.{◌≡◌, ◌≢◌, inl, inr, ◌⊎◌, ℕ, suc, ◌+◌, ◌-◌, ◌*◌, ◌/◌, ◌<◌, ◌≤◌, Bool, true, false, if◌then◌else◌, nat_lt, List, [], ◌∷◌, length, take, drop, Contains, Option, Some, None, refl, sym, ◌∙◌, ap, subst, arith}
+use Rattle.std.proofs.Common.{◌≡◌, inl, inr, ◌⊎◌, ℕ, ◌+◌, ◌-◌, ◌*◌, ◌/◌, ◌<◌, ◌≤◌, Bool, true, false, if◌then◌else◌, nat_lt, List, [], ◌∷◌, length, take, drop, Contains, Some, None, refl, sym, ◌∙◌, ap, subst, arith}
 use Rattle.base_terms.specs.Blocks.{blocks_of, changed}
 use Rattle.plain_disk.specs.declared.operation.Reply.TheVariants.{Content, Done, Errno}
 use Rattle.plain_disk.specs.Plain.{Block, Exchange, values_of, written, written_for_good, tried, newest_bytes, AreSure}
@@ -11,16 +11,16 @@ use Rattle.volume_core.specs.Asks.{IsRead, IsWrite, IsForced, range_of, has_lock
 use Rattle.volume_core.specs.Contents.{block_in}
 use Rattle.volume_core.specs.Pieces.{IsComplete}
 use Rattle.volume_core.specs.Runs.{Answered, by_finish, full_reply, AreExchanges}
-use Rattle.volume_core.specs.Seals.{Seals, block_at}
+use Rattle.volume_core.specs.Seals.{Seals}
 use Rattle.volume_core.specs.Sound.{IsSound}
 use Rattle.volume_core.specs.States.{State, open_at, size_of}
-use Rattle.volume_core.specs.Steps.{Holds, FinishStep}
+use Rattle.volume_core.specs.Steps.{Holds}
 use Rattle.volume_core.specs.Views.{IsUnchanged}
 use Rattle.volume_core.proofs.Answering.{legal_one, step_read, step_unread, step_written, step_unwritten, read_whole, write_whole, change_of}
 use Rattle.volume_core.proofs.EventsServed.{Served}
 use Rattle.volume_core.proofs.Finishing.{Ends, EndsWrite, ended_blocks, logic_ended, shown_read_ended, logic_write_ended, shown_write_ended}
 use Rattle.volume_core.proofs.Here.{Here, positive, here_after, moves_not}
-use Rattle.volume_core.proofs.Invariant.{LaneKnows, Logic}
+use Rattle.volume_core.proofs.Invariant.{Logic}
 use Rattle.volume_core.proofs.Locking.{either}
 use Rattle.volume_core.proofs.PlainBlocks.{AreSized, is_newest_part, sure_part, written_contained, written-keeps, tried_contained, tried-keeps, written_for_good_contained}
 

@@ -1,31 +1,29 @@
 -- Each event goes on from a moment of a run to another, and answers as the plain disk does.
-use Rattle.std.proofs.Common.{◌≡◌, ◌≢◌, inl, inr, ◌⊎◌, ℕ, suc, ◌+◌, ◌-◌, ◌*◌, ◌/◌, ◌<◌, ◌≤◌, Bool, true, false, if◌then◌else◌, List, [], ◌∷◌, ◌++◌, length, map, take, drop, Option, Some, None, MatchOption, MatchBool, refl, sym, ◌∙◌, ap, subst, arith}
-use Rattle.base_terms.specs.Blocks.{blocks_of, changed}
-use Rattle.plain_disk.specs.declared.operation.Reply.TheVariants.{Content, Done, Errno}
+use Rattle.std.proofs.Common.{◌≡◌, inl, inr, ℕ, Bool, true, false, List, [], ◌∷◌, ◌++◌, map, Option, Some, None, MatchOption, MatchBool, refl, sym, ◌∙◌, ap, subst, arith}
+use Rattle.plain_disk.specs.declared.operation.Reply.TheVariants.{Done, Errno}
 use Rattle.plain_disk.specs.Plain.{Block, Exchange, Legal, flushed, written, written_for_good, tried, newest_bytes}
-use Rattle.segment_map.specs.declared.map.Map.{Map}
 use Rattle.segment_map.specs.declared.map.Piece.{Piece}
 use Rattle.volume_core.specs.declared.ask.Ask.{Ask}
 use Rattle.volume_core.specs.declared.ask.Ask.TheVariants.{Read, Write, Flush}
 use Rattle.volume_core.specs.declared.open.Open.{Open}
-use Rattle.volume_core.specs.Asks.{IsRead, IsWrite, IsForced, range_of, has_lock, wrong_ask}
-use Rattle.volume_core.specs.Events.{Event, admits, asks, reads, writes, settles, finishes, Outcome, held, waits, refused, got, done, device, broken}
-use Rattle.volume_core.specs.Pieces.{IsPieceOf, place_of, ArePieceBytes, moved, failing, settling, IsComplete}
-use Rattle.volume_core.specs.Runs.{with_plain, plain_piece, plain_after, after_read, after_write, answered_by, by_admit, by_settle, by_finish, full_reply, flush_reply, refusal, IsExchange, AreExchanges}
-use Rattle.volume_core.specs.Seals.{Seals, AreLawful, block_at}
-use Rattle.volume_core.specs.Sound.{IsSound, AreApart, IsUnderWay}
-use Rattle.volume_core.specs.States.{State, open_at, size_of, begun}
-use Rattle.volume_core.specs.Steps.{Step, Meets, Has, Goes, Holds, HasPiece, CanSettle, AdmitStep, IsAdmitted, ReadStep, WriteStep, SettleStep, FinishStep, after_settle, TellsStanding, succeeded, failed_call}
+use Rattle.volume_core.specs.Asks.{IsRead, IsWrite, IsForced, has_lock, wrong_ask}
+use Rattle.volume_core.specs.Events.{Outcome, held, waits, refused, got, done, device, broken}
+use Rattle.volume_core.specs.Pieces.{IsPieceOf, place_of, ArePieceBytes, moved, failing, settling}
+use Rattle.volume_core.specs.Runs.{with_plain, plain_piece, after_read, after_write, by_admit, flush_reply, refusal, IsExchange, AreExchanges}
+use Rattle.volume_core.specs.Seals.{Seals}
+use Rattle.volume_core.specs.Sound.{IsSound}
+use Rattle.volume_core.specs.States.{State, open_at, size_of}
+use Rattle.volume_core.specs.Steps.{Goes, Holds, HasPiece, IsAdmitted, ReadStep, WriteStep, SettleStep, after_settle, succeeded, failed_call}
 use Rattle.volume_core.specs.Views.{view_of_bytes, IsUnchanged, IsWritten, IsTried, IsSynced, IsThinned}
 use Rattle.volume_core.proofs.Admits.{logic_forgets, shown_forgets, logic_admitted, shown_admitted, unanswered}
-use Rattle.volume_core.proofs.Answering.{legal_none, legal_one, step_wrong, step_refused, step_read, step_unread, step_written, step_unwritten, step_flushed, step_unflushed, read_whole, write_whole, change_of}
+use Rattle.volume_core.proofs.Answering.{legal_none, legal_one, step_wrong, step_refused, step_flushed, step_unflushed}
 use Rattle.volume_core.proofs.Here.{Here, Moves, positive, here_after, moves_not, moves_by_read, moves_by_written, moves_by_tried, moves_by_sync, moves_by_failed_sync, piece_in_bytes, piece_in_tables}
 use Rattle.volume_core.proofs.DeviceViews.{block-read}
-use Rattle.volume_core.proofs.Invariant.{LaneKnows, Logic, Shown, shown_kept}
+use Rattle.volume_core.proofs.Invariant.{shown_kept}
 use Rattle.volume_core.proofs.Locking.{either}
-use Rattle.volume_core.proofs.Reading.{logic_read, shown_read, logic_failed, failing_keeps, writes_lock, never_both}
+use Rattle.volume_core.proofs.Reading.{logic_read, shown_read, logic_failed, failing_keeps, never_both}
 use Rattle.volume_core.proofs.Settling.{logic_flushed, shown_flushed, logic_unflushed, shown_unflushed, logic_settled, shown_settled}
-use Rattle.volume_core.proofs.Soundness.{sound_kept, match_true, match_false}
+use Rattle.volume_core.proofs.Soundness.{match_true, match_false}
 use Rattle.volume_core.proofs.Writing.{TriesPiece, now_of, logic_tried, shown_written, shown_tried}
 
 -- the moment after an event, and what was answered

@@ -1,10 +1,7 @@
 -- Executions, one after the other, and stops within them.
-use Rattle.std.proofs.Common.{◌≡◌, inl, inr, ◌⊎◌, ℕ, suc, ◌+◌, ◌<◌, Bool, true, false, List, [], ◌∷◌, ◌++◌, length, All, Option, Some, None, refl, sym, ◌∙◌, ap, subst, arith, append_assoc}
-use Rattle.std.proofs.lemmas.List.Elements.{All-nil, All-cons, All-append}
-use Rattle.plain_disk.specs.Plain.{Block, Exchange, Legal}
-use Rattle.sector_disk.specs.Cells.{Cell}
-use Rattle.sector_disk.specs.Steps.{Told}
-use Rattle.volume_core.specs.Executing.{Executes, StopsAt, StopsAlong, WasTold, TellsRun}
+use Rattle.std.proofs.Common.{◌≡◌, ℕ, List, [], ◌∷◌, ◌++◌, refl, sym, ◌∙◌, ap, subst, append_assoc}
+use Rattle.plain_disk.specs.Plain.{Block, Exchange}
+use Rattle.volume_core.specs.Executing.{Executes, StopsAlong}
 use Rattle.volume_core.specs.Promises.{Starts}
 use Rattle.volume_core.specs.Runs.{Answered, Happening, IsRun, last_of, answered_by, answered_in, plain_in, plain_after, no_plain, AreExchanges}
 use Rattle.volume_core.specs.Seals.{Seals}

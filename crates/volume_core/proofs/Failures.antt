@@ -1,5 +1,5 @@
 -- When operations fail and volumes break.
-use Rattle.std.proofs.Common.{◌≡◌, ◌≢◌, inl, inr, ◌⊎◌, ℕ, suc, ◌==◌, ◌||◌, ◌&&◌, Bool, true, false, if◌then◌else◌, nat_eq, List, [], ◌∷◌, Option, Some, None, MatchOption, MatchBool, refl, sym, ◌∙◌, ap, subst, arith}
+use Rattle.std.proofs.Common.{◌≡◌, ◌≢◌, inl, inr, ℕ, ◌==◌, ◌||◌, ◌&&◌, Bool, true, false, if◌then◌else◌, nat_eq, List, [], ◌∷◌, Option, Some, None, refl, sym, ◌∙◌, ap, arith}
 use Rattle.range_lock.specs.declared.Entry.{Entry}
 use Rattle.volume_core.specs.declared.ask.Ask.{Ask}
 use Rattle.volume_core.specs.declared.open.Open.{Open}
@@ -10,7 +10,7 @@ use Rattle.volume_core.specs.Pieces.{moved, failing, settling}
 use Rattle.volume_core.specs.Promises.{fails, fails_in, breaks, breaks_in, is_failure, is_fault, GoesByEvents}
 use Rattle.volume_core.specs.Runs.{Happening, IsRun, last_of}
 use Rattle.volume_core.specs.States.{State, open_at, size_of, begun}
-use Rattle.volume_core.specs.Steps.{Step, Meets, Goes, AdmitStep, IsAdmitted, ReadStep, WriteStep, SettleStep, FinishStep, after_settle}
+use Rattle.volume_core.specs.Steps.{Step, Meets, Goes, AdmitStep, ReadStep, WriteStep, SettleStep, after_settle}
 use Rattle.volume_core.proofs.Locking.{either, same_or_not}
 use Rattle.volume_core.proofs.Soundness.{admit_cases}
 

@@ -1,12 +1,11 @@
 -- Runs in which no count of faults moves.
-use Rattle.std.proofs.Common.{◌≡◌, ◌≢◌, inl, inr, ◌⊎◌, ℕ, suc, ◌+◌, ◌-◌, ◌*◌, ◌/◌, ◌<◌, ◌≤◌, ◌^◌, Bool, true, false, if◌then◌else◌, List, [], ◌∷◌, ◌++◌, length, Option, Some, None, MatchOption, MatchBool, Result, refl, sym, ◌∙◌, ap, subst, arith, length-append}
-use Rattle.base_terms.specs.declared.failed.Failed.{Failed}
-use Rattle.base_terms.specs.Causes.{Rose, HasCause}
+use Rattle.std.proofs.Common.{◌≡◌, ◌≢◌, inl, inr, ◌⊎◌, ℕ, ◌+◌, ◌-◌, ◌*◌, ◌/◌, ◌<◌, ◌≤◌, ◌^◌, true, false, if◌then◌else◌, List, [], ◌∷◌, ◌++◌, length, Option, Some, None, MatchOption, MatchBool, refl, sym, ◌∙◌, ap, subst, arith, length-append}
+use Rattle.base_terms.specs.Causes.{Rose}
 use Rattle.std.proofs.lemmas.Bool.{cases_lt}
 use Rattle.plain_disk.specs.Operations.{wrong_of}
 use Rattle.plain_disk.specs.Outcomes.{IsServed, AreServed}
 use Rattle.plain_disk.specs.Plain.{Exchange}
-use Rattle.plain_disk.specs.declared.operation.Reply.TheVariants.{Content, Done, Errno}
+use Rattle.plain_disk.specs.declared.operation.Reply.TheVariants.{Done, Errno}
 use Rattle.range_lock.specs.declared.Entry.{Entry}
 use Rattle.range_lock.specs.Locks.{without}
 use Rattle.segment_map.specs.declared.map.Piece.{Piece}
@@ -18,17 +17,17 @@ use Rattle.volume_core.specs.Contents.{IsFresh}
 use Rattle.volume_core.specs.Events.{Event, admits, asks, reads, writes, settles, finishes, Outcome, held, waits, refused, got, done, device, broken}
 use Rattle.volume_core.specs.Executing.{AreFull, IsFull, ServesWithoutFaults, BreaksByFaults}
 use Rattle.volume_core.specs.Pieces.{side_in, IsPieceOf, ArePieceBytes, moved, settling, IsComplete}
-use Rattle.volume_core.specs.Runs.{Happening, IsRun, last_of, with_plain, plain_piece, after_read, after_write, plain_after, plain_in, no_plain, answered_by, answered_in, by_admit, by_settle, by_finish, full_reply, refusal, Answered, Asked, IsExchange, AreExchanges}
+use Rattle.volume_core.specs.Runs.{Happening, IsRun, last_of, with_plain, plain_piece, after_read, after_write, plain_after, no_plain, answered_by, answered_in, by_admit, by_settle, by_finish, full_reply, refusal, Answered, Asked, IsExchange, AreExchanges}
 use Rattle.volume_core.specs.Seals.{Seals, AreLawful}
 use Rattle.volume_core.specs.Sound.{IsSound}
 use Rattle.volume_core.specs.States.{State, open_at, size_of, begun}
-use Rattle.volume_core.specs.Steps.{Step, Meets, Goes, AdmitStep, IsAdmitted, ReadStep, WriteStep, SettleStep, FinishStep, after_settle, CanSettle}
+use Rattle.volume_core.specs.Steps.{Step, Meets, Goes, IsAdmitted, ReadStep, WriteStep, SettleStep, FinishStep, after_settle, CanSettle}
 use Rattle.volume_core.proofs.Admits.{plain-other, plain-own, unanswered}
 use Rattle.volume_core.proofs.Locking.{either, same_or_not}
 use Rattle.volume_core.proofs.Reading.{piece_blocks}
 use Rattle.volume_core.proofs.Answering.{read_whole, wrong_asked}
 use Rattle.volume_core.proofs.EventsServed.{forced_locks}
-use Rattle.volume_core.proofs.Soundness.{sound_kept, match_true, match_false, admit_cases}
+use Rattle.volume_core.proofs.Soundness.{sound_kept, match_false, admit_cases}
 use Rattle.volume_core.proofs.Failures.{whole_event}
 
 -- a count that rose didn't stay below its last value

@@ -1,13 +1,12 @@
 -- Operations that end: what holds between events goes on to hold.
-use Rattle.std.proofs.Common.{◌≡◌, ◌≢◌, inl, inr, ◌⊎◌, ℕ, suc, ◌+◌, ◌-◌, ◌*◌, ◌/◌, ◌<◌, ◌≤◌, Bool, true, false, List, [], ◌∷◌, length, Contains, Option, Some, None, refl, sym, ◌∙◌, ap, subst, arith}
+use Rattle.std.proofs.Common.{◌≡◌, ◌≢◌, inl, inr, ◌⊎◌, ℕ, suc, ◌+◌, ◌-◌, ◌*◌, ◌<◌, ◌≤◌, true, false, List, length, Contains, Some, None, refl, sym, ◌∙◌, ap, subst, arith}
 use Rattle.base_terms.specs.Blocks.{blocks_of, changed}
 use Rattle.plain_disk.specs.Plain.{Block, values_of}
 use Rattle.range_lock.specs.Locks.{without}
-use Rattle.volume_core.specs.declared.ask.Ask.{Ask}
 use Rattle.volume_core.specs.declared.open.Open.{Open}
-use Rattle.volume_core.specs.Asks.{IsRead, IsWrite, IsForced, has_lock}
+use Rattle.volume_core.specs.Asks.{IsRead, IsWrite, IsForced}
 use Rattle.volume_core.specs.Contents.{block_in, AreBlocksOf, IsTriedBy, IsNow, IsAllowedAt, IsSealed}
-use Rattle.volume_core.specs.Pieces.{side_in, place_in}
+use Rattle.volume_core.specs.Pieces.{place_in}
 use Rattle.volume_core.specs.Seals.{Seals, AreBlocks, block_at}
 use Rattle.volume_core.specs.Sound.{IsSound}
 use Rattle.volume_core.specs.States.{State, open_at}
@@ -16,12 +15,12 @@ use Rattle.volume_core.specs.Views.{View, IsOutside, IsUnchanged}
 use Rattle.volume_core.proofs.Admits.{idle}
 use Rattle.volume_core.proofs.Blockwise.{one_block}
 use Rattle.volume_core.proofs.Entries.{length-changed}
-use Rattle.volume_core.proofs.Invariant.{IsRight, LaneKnows, Logic, Shown, KeepsTried, KeepsWrites, tried_goes, tried_stay, writes_stay, shown_kept, lanes_still}
-use Rattle.volume_core.proofs.Locking.{either, same_or_not, holds-without}
+use Rattle.volume_core.proofs.Invariant.{LaneKnows, Logic, Shown, tried_goes, writes_stay, shown_kept, lanes_still}
+use Rattle.volume_core.proofs.Locking.{same_or_not, holds-without}
 use Rattle.volume_core.proofs.PlainBlocks.{block_in-changed_outside, block_in-changed_inside}
-use Rattle.volume_core.proofs.Reading.{writes_lock, reads_lock, never_both, forced_writes, tried_apart, read_untried}
+use Rattle.volume_core.proofs.Reading.{writes_lock, reads_lock, never_both, tried_apart, read_untried}
 use Rattle.volume_core.proofs.Settling.{own_value}
-use Rattle.volume_core.proofs.Writing.{in_piece, held_apart, settled_holds}
+use Rattle.volume_core.proofs.Writing.{in_piece, held_apart}
 
 -- a lane ended its operation
 abbrev pub Ends : {K : Type 0} → State K → State K → ℕ → Type 0

@@ -1,14 +1,13 @@
 -- A moment of a run: what holds of its operations and of its disk, and how a device call moves it on.
-use Rattle.std.proofs.Common.{◌≡◌, inl, inr, ◌⊎◌, ℕ, suc, ◌+◌, ◌*◌, ◌<◌, ◌≤◌, Bool, true, false, List, length, Option, Some, None, Result, refl, sym, ◌∙◌, ap, subst, arith}
+use Rattle.std.proofs.Common.{◌≡◌, inl, inr, ℕ, ◌+◌, ◌*◌, ◌<◌, ◌≤◌, false, List, length, Some, Result, refl, sym, ◌∙◌, ap, subst, arith}
 use Rattle.base_terms.specs.declared.failed.Failed.{Failed}
 use Rattle.plain_disk.specs.Plain.{Block}
 use Rattle.sector_disk.specs.Geometry.{IsAtom}
 use Rattle.sector_disk.specs.Steps.{Told}
-use Rattle.segment_map.specs.declared.map.Map.{Map}
 use Rattle.segment_map.specs.declared.map.Piece.{Piece}
 use Rattle.volume_core.specs.declared.open.Open.{Open}
 use Rattle.volume_core.specs.Devices.{ReadCall, WriteCall, SyncCall}
-use Rattle.volume_core.specs.Pieces.{place_in, place_of, IsPieceOf, ArePieceBytes}
+use Rattle.volume_core.specs.Pieces.{place_in, place_of, IsPieceOf}
 use Rattle.volume_core.specs.Seals.{Seals, AreLawful}
 use Rattle.volume_core.specs.Sound.{AreApart}
 use Rattle.volume_core.specs.States.{State, Device}

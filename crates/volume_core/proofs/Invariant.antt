@@ -1,17 +1,15 @@
 -- What holds between the events of a run: of the operations under way, and of what the disk holds.
-use Rattle.std.proofs.Common.{◌≡◌, ◌≢◌, inl, inr, ◌⊎◌, ℕ, suc, ◌+◌, ◌-◌, ◌*◌, ◌<◌, ◌≤◌, Bool, true, false, List, [], length, Contains, Option, Some, None, refl, sym, ◌∙◌, ap, subst, arith}
-use Rattle.plain_disk.specs.Plain.{Block, values_of}
-use Rattle.volume_core.specs.declared.ask.Ask.{Ask}
-use Rattle.volume_core.specs.declared.ask.Ask.TheVariants.{Read, Write, Flush}
+use Rattle.std.proofs.Common.{◌≡◌, ◌≢◌, inl, inr, ℕ, ◌+◌, ◌-◌, ◌<◌, ◌≤◌, true, false, List, Contains, Option, Some, refl, sym, ◌∙◌, ap, subst}
+use Rattle.plain_disk.specs.Plain.{Block}
 use Rattle.volume_core.specs.declared.open.Open.{Open}
 use Rattle.volume_core.specs.Asks.{IsRead, IsWrite, IsForced}
 use Rattle.volume_core.specs.Contents.{block_in, IsSealed, AreBlocksOf, IsTriedBy, IsNow, IsAllowedAt}
-use Rattle.volume_core.specs.Pieces.{place_in, side_in}
+use Rattle.volume_core.specs.Pieces.{place_in}
 use Rattle.volume_core.specs.Seals.{Seals, AreBlocks, block_at}
 use Rattle.volume_core.specs.Sound.{IsSound}
 use Rattle.volume_core.specs.States.{State, open_at, LaneBecomes}
 use Rattle.volume_core.specs.Steps.{Holds}
-use Rattle.volume_core.specs.Views.{View, HasNoMore, IsThinned}
+use Rattle.volume_core.specs.Views.{View, IsThinned}
 use Rattle.volume_core.proofs.Locking.{same_or_not}
 
 -- the value of a block that is certain

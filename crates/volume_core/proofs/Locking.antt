@@ -1,10 +1,9 @@
 -- Lemmas on the table of locks: who has an entry, who holds, and that holders don't conflict.
-use Rattle.std.proofs.Common.{◌≡◌, ◌≢◌, inl, inr, ◌⊎◌, ℕ, zero, suc, ◌+◌, ◌<◌, Bool, true, false, not, List, [], ◌∷◌, ◌++◌, length, take, drop, All, Contains, Option, Some, None, find, nat_eq, refl, sym, ◌∙◌, ap, subst, arith, slice_index_or, MatchOption, eqb→eq, eq-eqb}
+use Rattle.std.proofs.Common.{◌≡◌, ◌≢◌, inl, inr, ◌⊎◌, ℕ, suc, ◌+◌, Bool, true, false, not, List, [], ◌∷◌, ◌++◌, length, All, Option, Some, None, find, nat_eq, refl, sym, ◌∙◌, ap, subst, arith, MatchOption}
 use Rattle.std.specs.List.{before_first, after_first, prefix_len}
 use Rattle.std.proofs.lemmas.List.Elements.{All-nil, All-cons, All-head, All-tail}
-use Rattle.block_range.specs.Blocks.{SharesBlock}
 use Rattle.range_lock.specs.declared.Entry.{Entry}
-use Rattle.range_lock.specs.declared.Standing.TheVariants.{Held, Waiting}
+use Rattle.range_lock.specs.declared.Standing.TheVariants.{Held}
 use Rattle.range_lock.specs.Locks.{Conflicts, IsStanding, IsStandingOf, is_of, without}
 
 -- a test is one or the other

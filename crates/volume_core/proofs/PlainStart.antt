@@ -1,13 +1,13 @@
 -- The volume of a whole disk as it is: it stands for the disk's own atoms.
-use Rattle.std.proofs.Common.{◌≡◌, inl, inr, ◌⊎◌, ℕ, zero, suc, ◌+◌, ◌*◌, ◌<◌, ◌≤◌, true, false, List, [], ◌∷◌, length, map, replicate, Contains, Option, Some, None, refl, sym, ◌∙◌, ap, subst, arith, slice_index_or}
+use Rattle.std.proofs.Common.{◌≡◌, ℕ, zero, suc, ◌*◌, ◌<◌, List, [], ◌∷◌, length, replicate, Contains, Some, refl, sym, ◌∙◌, ap, subst, arith, slice_index_or}
 use Rattle.std.proofs.lemmas.List.{length-map}
 use Rattle.base_terms.specs.Blocks.{blocks_of, lengths}
 use Rattle.cipher_laws.specs.Bytes.{AreBytes}
-use Rattle.plain_disk.specs.Plain.{Block, AreSure, settled, settled_blocks, values_of}
+use Rattle.plain_disk.specs.Plain.{Block, settled, settled_blocks}
 use Rattle.sector_disk.specs.Cells.{Cell, AreSettled, content, currents}
 use Rattle.sector_disk.specs.Steps.{Told}
 use Rattle.sector_disk.proofs.ImageLemmas.{blocks_of-joined}
-use Rattle.volume_core.specs.Contents.{block_in, cell_in, AreBlocksOf, IsFresh, StandsFor, Covers, IsSealed}
+use Rattle.volume_core.specs.Contents.{block_in, cell_in, IsFresh, IsSealed}
 use Rattle.volume_core.specs.Pieces.{side_in, place_in}
 use Rattle.volume_core.specs.Promises.{Starts, StartsCovered}
 use Rattle.volume_core.specs.Sealing.{ChangeNothing}

@@ -1,9 +1,8 @@
 -- Pieces that are read, and reads that are answered: what holds between events goes on to hold.
-use Rattle.std.proofs.Common.{◌≡◌, ◌≢◌, inl, inr, ◌⊎◌, ℕ, suc, ◌+◌, ◌-◌, ◌*◌, ◌/◌, ◌<◌, ◌≤◌, Bool, true, false, List, [], ◌∷◌, ◌++◌, length, Option, Some, None, refl, sym, ◌∙◌, ap, subst, arith}
-use Rattle.block_range.specs.Blocks.{SharesBlock}
+use Rattle.std.proofs.Common.{◌≡◌, ◌≢◌, inl, inr, ℕ, ◌+◌, ◌-◌, ◌<◌, ◌≤◌, Bool, true, false, List, ◌++◌, Option, Some, refl, sym, ◌∙◌, ap, subst, arith}
 use Rattle.plain_disk.specs.Plain.{Block}
 use Rattle.range_lock.specs.declared.Entry.{Entry}
-use Rattle.range_lock.specs.declared.Kind.TheVariants.{Shared, Alone}
+use Rattle.range_lock.specs.declared.Kind.TheVariants.{Alone}
 use Rattle.segment_map.specs.declared.Side.TheVariants.{Old, New, Zone}
 use Rattle.segment_map.specs.Maps.{place_on}
 use Rattle.segment_map.specs.declared.map.Map.{Map}
@@ -12,16 +11,16 @@ use Rattle.volume_core.specs.declared.ask.Ask.{Ask}
 use Rattle.volume_core.specs.declared.ask.Ask.TheVariants.{Read, Write, Flush}
 use Rattle.volume_core.specs.declared.open.Open.{Open}
 use Rattle.volume_core.specs.Asks.{IsRead, IsWrite, IsForced, range_of, has_lock, kind_of, entry_of}
-use Rattle.volume_core.specs.Contents.{block_in, IsTriedBy, IsNow, IsSealed}
+use Rattle.volume_core.specs.Contents.{block_in, IsTriedBy}
 use Rattle.volume_core.specs.Pieces.{side_in, place_in, place_of, IsPieceOf, ArePieceBytes, moved, failing}
 use Rattle.volume_core.specs.Runs.{with_plain, plain_piece}
 use Rattle.volume_core.specs.Seals.{Seals, AreBlocks, AreLawful, block_at}
-use Rattle.volume_core.specs.Sound.{IsSound, entry_in}
+use Rattle.volume_core.specs.Sound.{IsSound}
 use Rattle.volume_core.specs.States.{State, open_at}
-use Rattle.volume_core.specs.Steps.{GetsPiece, MissesPiece, FindsBroken, HasPiece, Holds, Goes}
+use Rattle.volume_core.specs.Steps.{GetsPiece, HasPiece, Holds, Goes}
 use Rattle.volume_core.specs.Views.{View, IsUnchanged}
 use Rattle.volume_core.proofs.Admits.{plain-other, plain-own}
-use Rattle.volume_core.proofs.Blockwise.{block_at-front, block_at-behind, blocks_joined, one_block}
+use Rattle.volume_core.proofs.Blockwise.{block_at-front, block_at-behind, blocks_joined}
 use Rattle.volume_core.proofs.Invariant.{IsRight, LaneKnows, Logic, Shown, KeepsWrites, writes_stay, writes_go_on, shown_kept, knows_still, lanes_still}
 use Rattle.volume_core.proofs.Locking.{either, same_or_not, holders-apart}
 

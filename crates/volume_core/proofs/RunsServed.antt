@@ -1,29 +1,26 @@
 -- Runs of events: their operations are those of one plain disk, and a stop leaves what it allows.
-use Rattle.std.proofs.Common.{◌≡◌, inl, inr, ◌⊎◌, ℕ, suc, ◌+◌, ◌*◌, ◌<◌, ◌≤◌, Bool, true, false, List, [], ◌∷◌, ◌++◌, length, Contains, Option, Some, None, refl, sym, ◌∙◌, ap, subst, arith}
-use Rattle.plain_disk.specs.Plain.{Block, Exchange, Legal, AreSure, values_of}
-use Rattle.sector_disk.specs.Cells.{Cell, IsImage}
+use Rattle.std.proofs.Common.{◌≡◌, inl, inr, ℕ, true, List, [], ◌∷◌, ◌++◌, Some, refl, sym, ap, subst, arith}
+use Rattle.plain_disk.specs.Plain.{Block, Exchange, Legal}
 use Rattle.sector_disk.specs.Steps.{Told}
 use Rattle.volume_core.specs.declared.ask.Ask.{Ask}
 use Rattle.volume_core.specs.declared.ask.Ask.TheVariants.{Read, Write, Flush}
 use Rattle.volume_core.specs.declared.open.Open.{Open}
 use Rattle.volume_core.specs.Asks.{IsForced, has_lock}
-use Rattle.volume_core.specs.Contents.{block_in, cell_in, value_in, StandsFor, StandsNow, StopsAllowed, IsAllowedAt, IsSealed, Covers, IsTriedBy, IsNow}
+use Rattle.volume_core.specs.Contents.{block_in, cell_in, value_in, StopsAllowed, IsTriedBy}
 use Rattle.volume_core.specs.Events.{Event, admits, asks, reads, writes, settles, finishes, Outcome}
 use Rattle.volume_core.specs.Pieces.{place_in}
-use Rattle.volume_core.specs.Promises.{Starts, StartsCovered, IsServed, ServesEachRun}
+use Rattle.volume_core.specs.Promises.{Starts, StartsCovered, ServesEachRun}
 use Rattle.volume_core.specs.Runs.{Happening, IsRun, last_of, answered_in, answered_by, plain_in, plain_after, no_plain, AreExchanges, by_settle, by_finish, flush_reply}
-use Rattle.volume_core.specs.Seals.{Seals, block_at}
+use Rattle.volume_core.specs.Seals.{Seals}
 use Rattle.volume_core.specs.Sound.{IsSound}
 use Rattle.volume_core.specs.States.{State, open_at}
 use Rattle.volume_core.specs.Steps.{Step, Meets, SettleStep, CanSettle}
-use Rattle.volume_core.specs.Views.{view_of_bytes, view_of_cells, IsUnchanged}
 use Rattle.volume_core.proofs.Admits.{idle}
 use Rattle.volume_core.proofs.Answering.{legal_none}
 use Rattle.volume_core.proofs.Entries.{image_in}
 use Rattle.volume_core.proofs.EventsServed.{Served, goes_on, admit_by, read_served, write_served, flush_served, settle_served}
 use Rattle.volume_core.proofs.EndsServed.{finish_served}
 use Rattle.volume_core.proofs.Here.{Here, some_atom}
-use Rattle.volume_core.proofs.Invariant.{Logic, Shown}
 use Rattle.volume_core.proofs.PlainBlocks.{sure_in}
 use Rattle.volume_core.proofs.SealLemmas.{length-sealed}
 use Rattle.volume_core.proofs.Soundness.{sound_kept}

@@ -1,23 +1,21 @@
 -- Settles: what holds between events goes on to hold.
-use Rattle.std.proofs.Common.{◌≡◌, ◌≢◌, inl, inr, ◌⊎◌, ℕ, suc, ◌+◌, ◌-◌, ◌*◌, ◌<◌, ◌≤◌, Bool, true, false, List, [], ◌∷◌, length, map, Contains, Option, Some, None, refl, sym, ◌∙◌, ap, subst, arith}
+use Rattle.std.proofs.Common.{◌≡◌, inl, inr, ℕ, suc, ◌+◌, ◌-◌, ◌*◌, ◌<◌, ◌≤◌, Bool, true, false, List, length, map, Contains, Some, None, refl, sym, ◌∙◌, ap, subst, arith}
 use Rattle.std.proofs.lemmas.List.{length-map}
 use Rattle.plain_disk.specs.Plain.{Block, values_of, flushed}
-use Rattle.volume_core.specs.declared.ask.Ask.{Ask}
-use Rattle.volume_core.specs.declared.ask.Ask.TheVariants.{Read, Write, Flush}
 use Rattle.volume_core.specs.declared.open.Open.{Open}
-use Rattle.volume_core.specs.Asks.{IsRead, IsWrite, IsForced, has_lock}
+use Rattle.volume_core.specs.Asks.{IsWrite, IsForced, has_lock}
 use Rattle.volume_core.specs.Contents.{block_in, AreBlocksOf, IsTriedBy, IsNow, IsAllowedAt, IsSealed}
-use Rattle.volume_core.specs.Pieces.{side_in, place_in, settling, failing}
-use Rattle.volume_core.specs.Seals.{Seals, AreBlocks, block_at}
+use Rattle.volume_core.specs.Pieces.{place_in, settling}
+use Rattle.volume_core.specs.Seals.{Seals, block_at}
 use Rattle.volume_core.specs.Sound.{IsSound}
 use Rattle.volume_core.specs.States.{State, open_at}
-use Rattle.volume_core.specs.Steps.{Syncs, Goes, Holds, CanSettle}
+use Rattle.volume_core.specs.Steps.{Goes, Holds}
 use Rattle.volume_core.specs.Views.{View, IsSynced, IsThinned}
 use Rattle.volume_core.proofs.Admits.{idle}
-use Rattle.volume_core.proofs.Invariant.{IsRight, LaneKnows, Logic, Shown, KeepsTried, KeepsWrites, tried_go_on, tried_stay, writes_stay, now_kept, shown_kept, lanes_still}
-use Rattle.volume_core.proofs.Locking.{either, same_or_not}
-use Rattle.volume_core.proofs.PlainBlocks.{block_in-flushed, newest_contained, flushed_contained}
-use Rattle.volume_core.proofs.Reading.{writes_lock, forced_writes, knows_on, logic_goes_on, still_broken, tried_apart}
+use Rattle.volume_core.proofs.Invariant.{LaneKnows, Logic, Shown, KeepsTried, KeepsWrites, tried_go_on, tried_stay, writes_stay, now_kept, shown_kept}
+use Rattle.volume_core.proofs.Locking.{same_or_not}
+use Rattle.volume_core.proofs.PlainBlocks.{block_in-flushed, newest_contained}
+use Rattle.volume_core.proofs.Reading.{writes_lock, forced_writes, knows_on, logic_goes_on, tried_apart}
 
 -- what a write that made all its pieces has tried of a block is what the block holds
 pub own_tried : {K : Type 0} (state : State K) (plain : ℕ → List ℕ) (left : List Block) (lane b : ℕ) (o : Open) → Logic state plain left →

@@ -1,7 +1,5 @@
 -- Each event keeps what holds of a volume between events.
-use Rattle.std.proofs.Common.{◌≡◌, ◌≢◌, inl, inr, ◌⊎◌, ℕ, zero, suc, ◌+◌, ◌-◌, ◌*◌, ◌/◌, ◌%◌, ◌<◌, ◌≤◌, ◌^◌, ◌==◌, ◌||◌, not, Bool, true, false, if◌then◌else◌, nat_lt, List, [], ◌∷◌, ◌++◌, length, Option, Some, None, find, refl, sym, ◌∙◌, ap, subst, arith, slice_index_or, MatchOption, MatchBool, Result, length-append}
-use Rattle.std.specs.List.{after_first, list_any}
-use Rattle.base_terms.specs.declared.failed.Failed.{Failed}
+use Rattle.std.proofs.Common.{◌≡◌, ◌≢◌, inl, inr, ◌⊎◌, ℕ, zero, suc, ◌+◌, ◌*◌, ◌/◌, ◌<◌, ◌≤◌, Bool, true, false, if◌then◌else◌, nat_lt, List, [], ◌∷◌, ◌++◌, length, Option, Some, None, find, refl, sym, ◌∙◌, ap, subst, arith, MatchBool, length-append}
 use Rattle.plain_disk.specs.Operations.{wrong_range_of}
 use Rattle.range_lock.specs.declared.Entry.{Entry}
 use Rattle.range_lock.specs.Locks.{is_of, without, has_entry}
@@ -14,9 +12,9 @@ use Rattle.volume_core.specs.declared.open.Open.{Open}
 use Rattle.volume_core.specs.Asks.{range_of, has_lock, wrong_ask, entry_of}
 use Rattle.volume_core.specs.Events.{Event, admits, asks, reads, writes, settles, finishes, Outcome, held, waits, refused, got, done, device, broken}
 use Rattle.volume_core.specs.Pieces.{IsPieceOf, moved, failing, settling}
-use Rattle.volume_core.specs.Sound.{IsSound, IsUnderWay, MapFits, entry_in, locks, count_locks}
-use Rattle.volume_core.specs.States.{State, Device, open_at, size_of, begun, LaneBecomes}
-use Rattle.volume_core.specs.Steps.{Step, Meets, Goes, Has, Enters, IsAdmitted, AdmitStep, ReadStep, WriteStep, SettleStep, FinishStep, after_settle}
+use Rattle.volume_core.specs.Sound.{IsSound, IsUnderWay, entry_in, locks, count_locks}
+use Rattle.volume_core.specs.States.{State, open_at, size_of, begun}
+use Rattle.volume_core.specs.Steps.{Step, Meets, Goes, IsAdmitted, AdmitStep, ReadStep, WriteStep, SettleStep, after_settle}
 use Rattle.volume_core.proofs.Locking.{either, same_or_not, is_of-own, is_of-other, find-more, find-last, after-last, after-more, find-without, find-left, after-none, after-without, length-without}
 
 pub match_true : (b : Bool) (A B : Type 0) → b ≡ true → MatchBool b A B → A

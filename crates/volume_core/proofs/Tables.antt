@@ -1,19 +1,18 @@
 -- The tables of a disk along a run: each event adds at most one, the one after it.
-use Rattle.std.proofs.Common.{◌≡◌, inl, inr, ◌⊎◌, ℕ, suc, ◌<◌, Bool, true, false, List, [], ◌∷◌, ◌++◌, length, All, Option, Some, None, Result, Ok, Err, refl, sym, ◌∙◌, ap, subst, arith, append_assoc}
+use Rattle.std.proofs.Common.{◌≡◌, inl, inr, ◌⊎◌, ℕ, List, [], ◌∷◌, ◌++◌, All, Option, Some, Result, Ok, Err, refl, sym, ◌∙◌, ap, append_assoc}
 use Rattle.std.proofs.lemmas.List.{append-nil}
 use Rattle.std.proofs.lemmas.List.Elements.{All-nil, All-cons}
 use Rattle.base_terms.specs.declared.failed.Failed.{Failed}
-use Rattle.sector_disk.specs.Cells.{Cell, IsThinned, IsTried, wrote, synced}
+use Rattle.sector_disk.specs.Cells.{Cell}
 use Rattle.sector_disk.specs.Steps.{Told, Moves, MovesOrNot, then_table, TellsRead, TellsWrite, TellsSync}
-use Rattle.volume_core.specs.declared.ask.Ask.{Ask}
 use Rattle.volume_core.specs.declared.open.Open.{Open}
 use Rattle.volume_core.specs.Asks.{wrong_ask}
 use Rattle.volume_core.specs.Events.{Event, admits, asks, reads, writes, settles, finishes, Outcome, held, waits, refused, got, done, device, broken}
 use Rattle.volume_core.specs.Executing.{WasTold, TellsRun}
 use Rattle.volume_core.specs.Pieces.{place_of}
 use Rattle.volume_core.specs.Runs.{Happening, IsRun, last_of}
-use Rattle.volume_core.specs.States.{State, Device, size_of}
-use Rattle.volume_core.specs.Steps.{Step, AdmitStep, ReadStep, WriteStep, SettleStep, succeeded, failed_call}
+use Rattle.volume_core.specs.States.{State, size_of}
+use Rattle.volume_core.specs.Steps.{Step, ReadStep, WriteStep, SettleStep, succeeded, failed_call}
 use Rattle.volume_core.proofs.Soundness.{admit_cases}
 
 -- the tables stayed, or one came behind

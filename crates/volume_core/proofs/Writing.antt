@@ -1,20 +1,18 @@
 -- Pieces that are written: what holds between events goes on to hold.
-use Rattle.std.proofs.Common.{◌≡◌, ◌≢◌, inl, inr, ◌⊎◌, ℕ, suc, ◌+◌, ◌-◌, ◌*◌, ◌/◌, ◌<◌, ◌≤◌, Bool, true, false, List, [], ◌∷◌, ◌++◌, length, Contains, Option, Some, None, refl, sym, ◌∙◌, ap, subst, arith, nat_lt, Result, length-append}
-use Rattle.base_terms.specs.declared.failed.Failed.{Failed}
-use Rattle.plain_disk.specs.Plain.{Block, values_of}
+use Rattle.std.proofs.Common.{◌≡◌, ◌≢◌, inl, inr, ◌⊎◌, ℕ, suc, ◌+◌, ◌-◌, ◌*◌, ◌<◌, ◌≤◌, Bool, true, false, List, ◌++◌, length, Contains, Some, refl, sym, ◌∙◌, ap, subst, arith, nat_lt, length-append}
+use Rattle.plain_disk.specs.Plain.{Block}
 use Rattle.segment_map.specs.declared.map.Map.{Map}
 use Rattle.segment_map.specs.declared.map.Piece.{Piece}
-use Rattle.volume_core.specs.declared.ask.Ask.{Ask}
 use Rattle.volume_core.specs.declared.open.Open.{Open}
 use Rattle.volume_core.specs.Asks.{IsRead, IsWrite, IsForced, range_of, has_lock, entry_of}
-use Rattle.volume_core.specs.Contents.{block_in, IsTriedBy, IsNow, IsAllowedAt, IsSealed}
-use Rattle.volume_core.specs.Pieces.{side_in, place_in, place_of, IsPieceOf, ArePieceBytes, moved, failing}
+use Rattle.volume_core.specs.Contents.{IsTriedBy, IsNow, IsAllowedAt, IsSealed}
+use Rattle.volume_core.specs.Pieces.{side_in, place_in, place_of, IsPieceOf, ArePieceBytes}
 use Rattle.volume_core.specs.Runs.{with_plain, plain_piece}
 use Rattle.volume_core.specs.Seals.{Seals, AreBlocks, AreLawful, block_at}
 use Rattle.volume_core.specs.Sound.{IsSound, AreApart}
 use Rattle.volume_core.specs.States.{State, open_at}
-use Rattle.volume_core.specs.Steps.{PutsPiece, HasPiece, Holds, Goes}
-use Rattle.volume_core.specs.Views.{View, HasNoMore, IsOutside, IsTried, IsWritten}
+use Rattle.volume_core.specs.Steps.{HasPiece, Holds, Goes}
+use Rattle.volume_core.specs.Views.{View, IsOutside, IsTried, IsWritten}
 use Rattle.volume_core.proofs.Admits.{plain-other, plain-own}
 use Rattle.volume_core.proofs.Blockwise.{block_at-front, block_at-behind, blocks_joined, one_block}
 use Rattle.volume_core.proofs.Invariant.{LaneKnows, Logic, Shown, tried_goes, lanes_still}

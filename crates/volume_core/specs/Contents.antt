@@ -1,6 +1,6 @@
 -- What a volume holds in plain: the newest values of a plain disk's blocks, with the values of
 -- unfinished writes over them.
-use Rattle.std.specs.Prelude.{ℕ, suc, ◌≡◌, ◌-◌, ◌*◌, ◌<◌, ◌≤◌, ◌⊎◌, false, List, [], ◌∷◌, length, Option, Some, None, Contains, slice_index_or}
+use Rattle.std.specs.Prelude.{ℕ, suc, ◌≡◌, ◌-◌, ◌*◌, ◌<◌, ◌≤◌, ◌⊎◌, false, List, [], length, Some, None, Contains, slice_index_or}
 use Rattle.plain_disk.specs.Plain.{Block, values_of, settled}
 use Rattle.sector_disk.specs.Cells.{Cell, IsImage}
 use Rattle.segment_map.specs.declared.map.Map.{Map}

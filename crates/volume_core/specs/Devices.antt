@@ -1,5 +1,5 @@
 -- What one call does to a volume's disk.
-use Rattle.std.specs.Prelude.{ℕ, ◌≡◌, List, Result, Option}
+use Rattle.std.specs.Prelude.{ℕ, ◌≡◌, List, Result}
 use Rattle.base_terms.specs.declared.failed.Failed.{Failed}
 use Rattle.base_terms.specs.Causes.{HasCause}
 use Rattle.sector_disk.specs.Steps.{TellsRead, TellsWrite, TellsSync}

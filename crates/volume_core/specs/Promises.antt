@@ -1,5 +1,5 @@
 -- What is promised of every run of events.
-use Rattle.std.specs.Prelude.{ℕ, ◌≡◌, ◌⊎◌, Bool, true, false, ◌==◌, ◌||◌, ◌&&◌, if◌then◌else◌, List, [], ◌∷◌, Some}
+use Rattle.std.specs.Prelude.{ℕ, ◌≡◌, Bool, true, false, ◌==◌, ◌||◌, ◌&&◌, if◌then◌else◌, List, [], ◌∷◌, Some}
 use Rattle.plain_disk.specs.Plain.{Block, Exchange, AreSure, Legal}
 use Rattle.sector_disk.specs.Steps.{Told}
 use Rattle.volume_core.specs.Contents.{AreBlocksOf, IsFresh, StandsFor, StandsNow, StopsAllowed, Covers}

@@ -1,5 +1,5 @@
 -- What holds of a volume between any two events.
-use Rattle.std.specs.Prelude.{ℕ, ◌≡◌, ◌≢◌, suc, ◌+◌, ◌*◌, ◌<◌, ◌≤◌, ◌^◌, Bool, true, false, if◌then◌else◌, List, [], ◌∷◌, length, find, Option, Some, None, MatchOption}
+use Rattle.std.specs.Prelude.{ℕ, ◌≡◌, suc, ◌+◌, ◌*◌, ◌<◌, ◌≤◌, ◌^◌, Bool, false, if◌then◌else◌, List, [], ◌∷◌, length, find, Option, Some, None}
 use Rattle.std.specs.List.{after_first}
 use Rattle.range_lock.specs.declared.Entry.{Entry}
 use Rattle.range_lock.specs.Locks.{is_of}

@@ -6,15 +6,14 @@ use Rattle.range_lock.specs.declared.Entry.{Entry}
 use Rattle.range_lock.specs.declared.Standing.{Standing}
 use Rattle.range_lock.specs.declared.Standing.TheVariants.{Held, Waiting}
 use Rattle.range_lock.specs.Locks.{IsStanding, IsStandingOf, without}
-use Rattle.segment_map.specs.declared.map.Map.{Map}
 use Rattle.segment_map.specs.declared.map.Piece.{Piece}
 use Rattle.volume_core.specs.Asks.{IsRead, IsWrite, IsForced, has_lock, wrong_ask, entry_of}
 use Rattle.volume_core.specs.Devices.{ReadCall, WriteCall, SyncCall}
 use Rattle.volume_core.specs.Events.{Event, admits, asks, reads, writes, settles, finishes, Outcome, held, waits, refused, got, done, device, broken}
 use Rattle.volume_core.specs.Pieces.{IsPieceOf, place_of, ArePieceBytes, moved, failing, settling, IsComplete}
-use Rattle.volume_core.specs.States.{State, Device, open_at, size_of, begun, LaneBecomes}
+use Rattle.volume_core.specs.States.{State, open_at, size_of, begun, LaneBecomes}
 use Rattle.volume_core.specs.declared.ask.Ask.{Ask}
-use Rattle.volume_core.specs.declared.ask.Ask.TheVariants.{Read, Write, Flush}
+use Rattle.volume_core.specs.declared.ask.Ask.TheVariants.{Flush}
 use Rattle.volume_core.specs.declared.open.Open.{Open}
 
 -- a device call that succeeded, and one that failed

@@ -1,27 +1,26 @@
 -- Operations from their admit to their end, as executions.
-use Rattle.std.proofs.Common.{◌≡◌, ◌≢◌, ◌⊎◌, inl, inr, ℕ, zero, suc, ◌+◌, ◌/◌, ◌<◌, ◌≤◌, Bool, true, false, List, [], ◌∷◌, ◌++◌, length, take, find, Option, Some, None, Contains, MatchOption, MatchBool, if◌then◌else◌, nat_eq, refl, sym, ◌∙◌, ap, subst, arith}
+use Rattle.std.proofs.Common.{◌≡◌, ◌≢◌, inl, inr, ℕ, zero, suc, ◌<◌, ◌≤◌, Bool, true, false, List, [], ◌∷◌, ◌++◌, length, take, find, Option, Some, None, Contains, MatchOption, MatchBool, if◌then◌else◌, nat_eq, refl, sym, ◌∙◌, ap, subst, arith}
 use Rattle.std.proofs.lemmas.List.{append-nil, length-take-le, take_all}
 use Rattle.plain_disk.specs.declared.operation.Op.{Op}
 use Rattle.plain_disk.specs.declared.operation.Op.TheVariants as Ops
 use Rattle.plain_disk.specs.declared.operation.Reply.{Reply}
-use Rattle.plain_disk.specs.declared.operation.Reply.TheVariants.{Content, Done, Errno}
+use Rattle.plain_disk.specs.declared.operation.Reply.TheVariants.{Errno}
 use Rattle.plain_disk.specs.Plain.{Exchange}
 use Rattle.range_lock.specs.declared.Entry.{Entry}
-use Rattle.range_lock.specs.declared.Standing.TheVariants.{Held, Waiting}
-use Rattle.range_lock.specs.Locks.{IsStanding, IsStandingOf, is_of, without}
+use Rattle.range_lock.specs.declared.Standing.TheVariants.{Held}
+use Rattle.range_lock.specs.Locks.{IsStanding, IsStandingOf, is_of}
 use Rattle.volume_core.specs.Answers.{IsGrant}
-use Rattle.volume_core.specs.Asks.{IsRead, IsWrite, IsForced, has_lock, range_of, entry_of, wrong_ask}
-use Rattle.volume_core.specs.Events.{Event, Outcome, admits, settles, finishes, held, waits, refused, got, done, device, broken}
-use Rattle.volume_core.specs.Executing.{Executes, IsIdle}
-use Rattle.volume_core.specs.Pieces.{IsComplete, failing, settling}
-use Rattle.volume_core.specs.Runs.{Answered, Happening, IsRun, last_of, answered_by, answered_in, plain_in, plain_after, with_plain, by_admit, by_finish, full_reply, flush_reply, AreExchanges, IsExchange, Asked, tried_by}
+use Rattle.volume_core.specs.Asks.{has_lock, range_of, entry_of, wrong_ask}
+use Rattle.volume_core.specs.Events.{Outcome, admits, settles, finishes, held, waits, refused, got, done, device, broken}
+use Rattle.volume_core.specs.Executing.{IsIdle}
+use Rattle.volume_core.specs.Runs.{Answered, Happening, IsRun, last_of, answered_by, answered_in, plain_in, plain_after, with_plain, by_finish, full_reply, flush_reply, AreExchanges, IsExchange, Asked, tried_by}
 use Rattle.volume_core.specs.Seals.{Seals, seals_of}
 use Rattle.volume_core.specs.Sound.{IsSound}
 use Rattle.volume_core.specs.States.{State, open_at, size_of}
-use Rattle.volume_core.specs.Steps.{Step, Meets, IsAdmitted, AdmitStep, TellsStanding, Goes, Holds}
+use Rattle.volume_core.specs.Steps.{Step, Meets, IsAdmitted, TellsStanding, Goes}
 use Rattle.volume_core.specs.declared.answers.Grant.{Grant}
 use Rattle.volume_core.specs.declared.ask.Ask.{Ask}
-use Rattle.volume_core.specs.declared.ask.Ask.TheVariants.{Read, Write, Flush}
+use Rattle.volume_core.specs.declared.ask.Ask.TheVariants.{Write, Flush}
 use Rattle.volume_core.specs.declared.keys.Keys.{Keys}
 use Rattle.volume_core.specs.declared.open.Open.{Open}
 use Rattle.volume_core.proofs.CodeSteps.{open-is-one}

@@ -1,20 +1,19 @@
 -- What the pieces of the only operation under way leave.
-use Rattle.std.proofs.Common.{◌≡◌, ◌≢◌, ◌⊎◌, inl, inr, ℕ, ◌+◌, ◌<◌, ◌≤◌, Bool, true, false, List, [], ◌∷◌, ◌++◌, length, take, Option, Some, None, refl, sym, ◌∙◌, ap, subst, arith}
+use Rattle.std.proofs.Common.{◌≡◌, ◌⊎◌, inr, ℕ, ◌+◌, ◌≤◌, Bool, true, false, List, [], ◌++◌, length, Option, Some, refl, sym, ◌∙◌, ap, arith}
 use Rattle.std.proofs.lemmas.List.{append-nil, take_all}
-use Rattle.range_lock.specs.declared.Entry.{Entry}
 use Rattle.segment_map.specs.declared.Side.{Side}
 use Rattle.segment_map.specs.declared.map.Map.{Map}
 use Rattle.segment_map.specs.declared.map.Piece.{Piece}
 use Rattle.volume_core.specs.Answers.{FitsPiece}
 use Rattle.volume_core.specs.Asks.{IsRead, IsWrite, IsForced, has_lock, range_of}
 use Rattle.volume_core.specs.Events.{Outcome, reads, writes, settles, finishes, got, done, device, broken}
-use Rattle.volume_core.specs.Pieces.{IsPieceOf, ArePieceBytes, IsComplete, known_side, side_in, size_of_piece, moved, failing, settling}
+use Rattle.volume_core.specs.Pieces.{IsPieceOf, ArePieceBytes, IsComplete, known_side, size_of_piece, moved, failing, settling}
 use Rattle.volume_core.specs.Runs.{answered_by, by_settle, plain_after, plain_piece, opened_by}
 use Rattle.volume_core.specs.Seals.{Seals, KeysFit}
 use Rattle.volume_core.specs.Sound.{IsSound}
 use Rattle.volume_core.specs.declared.keys.Keys.{Keys}
 use Rattle.volume_core.specs.States.{State, open_at}
-use Rattle.volume_core.specs.Steps.{Step, Meets, Goes, HasPiece, Holds, CanSettle, after_settle}
+use Rattle.volume_core.specs.Steps.{Step, Meets, Goes, HasPiece, CanSettle, after_settle}
 use Rattle.volume_core.specs.declared.ask.Ask.{Ask}
 use Rattle.volume_core.specs.declared.ask.Ask.TheVariants.{Read, Write, Flush}
 use Rattle.volume_core.specs.declared.open.Open.{Open}

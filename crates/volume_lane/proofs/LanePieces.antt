@@ -1,5 +1,5 @@
 -- The pieces of an operation, one after the other.
-use Rattle.std.proofs.Common.{◌≡◌, ◌≢◌, ◌⊎◌, inl, inr, ℕ, suc, ◌+◌, ◌-◌, ◌*◌, ◌/◌, ◌<◌, ◌≤◌, List, [], ◌∷◌, ◌++◌, length, take, drop, refl, sym, ◌∙◌, ap, subst, arith, length-append}
+use Rattle.std.proofs.Common.{◌≡◌, ◌≢◌, ℕ, ◌+◌, ◌-◌, ◌*◌, ◌≤◌, List, [], ◌++◌, length, take, drop, refl, sym, ◌∙◌, ap, subst, arith}
 use Rattle.std.proofs.Math.Nat.{mul-le-mul_right}
 use Rattle.std.proofs.Math.Seq.{take-add}
 use Rattle.std.proofs.lemmas.List.{append-nil, take-take, take_all}
@@ -9,7 +9,7 @@ use Rattle.segment_map.specs.declared.map.Piece.{Piece}
 use Rattle.segment_map.specs.Maps.{IsNextPiece}
 use Rattle.volume_core.specs.Asks.{IsRead, IsWrite, range_of}
 use Rattle.volume_core.specs.Pieces.{size_of_piece}
-use Rattle.volume_core.specs.Seals.{Seals, seals_of}
+use Rattle.volume_core.specs.Seals.{seals_of}
 use Rattle.volume_core.specs.States.{State}
 use Rattle.volume_core.specs.declared.ask.Ask.{Ask}
 use Rattle.volume_core.specs.declared.ask.Ask.TheVariants.{Read, Write, Flush}

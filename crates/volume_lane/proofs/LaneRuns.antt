@@ -1,8 +1,8 @@
 -- Events of one lane, one after the other.
-use Rattle.std.proofs.Common.{◌≡◌, ◌≢◌, ℕ, List, [], ◌∷◌, ◌++◌, length, refl, sym, ◌∙◌, ap, subst, append_assoc}
+use Rattle.std.proofs.Common.{◌≡◌, ℕ, List, [], ◌∷◌, ◌++◌, length, refl, sym, ◌∙◌, ap, subst, append_assoc}
 use Rattle.std.proofs.lemmas.List.{append-nil}
 use Rattle.volume_core.specs.Events.{Event, Outcome}
-use Rattle.volume_core.specs.Runs.{Answered, Happening, IsRun, last_of, answered_by, answered_in, plain_in, plain_after}
+use Rattle.volume_core.specs.Runs.{Happening, IsRun, last_of, answered_by, answered_in, plain_in, plain_after}
 use Rattle.volume_core.specs.Seals.{Seals}
 use Rattle.volume_core.specs.States.{State}
 use Rattle.volume_core.specs.Steps.{Step, Meets}

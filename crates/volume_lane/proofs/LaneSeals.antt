@@ -1,5 +1,5 @@
 -- Keys open what they have sealed.
-use Rattle.std.proofs.Common.{◌≡◌, ℕ, ◌+◌, ◌*◌, ◌≤◌, List, length, ap, ◌∙◌}
+use Rattle.std.proofs.Common.{◌≡◌, ℕ, ◌*◌, List, length, ap, ◌∙◌}
 use Rattle.cipher_laws.specs.Bytes.{AreBytes}
 use Rattle.cipher_laws.specs.Laws.{UndoesSectors}
 use Rattle.segment_map.specs.declared.map.Map.{Map}

@@ -1,10 +1,9 @@
 -- An operation under way on the first lane of a volume, with none on any other.
-use Rattle.std.specs.Prelude.{ℕ, ◌≡◌, ◌≢◌, ◌++◌, ◌<◌, ◌≤◌, ◌⊎◌, Bool, true, false, List, [], ◌∷◌, length, take, Option, Some, None}
+use Rattle.std.specs.Prelude.{ℕ, ◌≡◌, ◌≢◌, ◌++◌, ◌≤◌, ◌⊎◌, true, false, List, [], ◌∷◌, length, take, Some, None}
 use Rattle.block_range.specs.declared.BlockRange.{BlockRange}
 use Rattle.plain_disk.specs.declared.operation.Op.{Op}
 use Rattle.plain_disk.specs.declared.operation.Op.TheVariants as Ops
 use Rattle.plain_disk.specs.declared.operation.Reply.{Reply}
-use Rattle.plain_disk.specs.Plain.{Exchange}
 use Rattle.segment_map.specs.declared.map.Piece.{Piece}
 use Rattle.volume_core.specs.Asks.{range_of, has_lock, wrong_ask}
 use Rattle.volume_core.specs.Events.{admits, held}

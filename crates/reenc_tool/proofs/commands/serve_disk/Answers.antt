@@ -1,8 +1,6 @@
-use Rattle.std.proofs.Common.{◌≡◌, ◌*◌, ◌∙◌, ap, refl, sym, subst, arith, inl}
-use Rattle.volume_core.specs.States.{size_of}
+use Rattle.std.proofs.Common.{◌*◌, ◌∙◌, ap, sym, subst, arith, inl}
 use Rattle.volume_core.specs.Volumes.{IsWholeDisk}
 use Rattle.reenc_tool.specs.Running.{cause_of}
-use Rattle.reenc_tool.specs.Playing.{operations_of}
 use Rattle.reenc_tool.proofs.RoundLemmas.{some_element}
 use Rattle.reenc_tool.proofs.RunLemmas.{ran_of, device_same}
 use Rattle.reenc_tool.proofs.commands.serve_disk.Goals as goal

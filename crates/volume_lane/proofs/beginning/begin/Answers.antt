@@ -1,4 +1,3 @@
-use Rattle.std.proofs.Common.{refl, ◌≡◌}
 use Rattle.volume_lane.proofs.LaneEnds.{meets-admits, begun-alone, never-waits, granted, refused-leaves}
 use Rattle.volume_lane.proofs.beginning.begin.Goals as goal
 

@@ -1,6 +1,5 @@
-use Rattle.std.proofs.Common.{◌≡◌, [], List, ℕ, length, take, refl, sym, ap, ◌∙◌}
+use Rattle.std.proofs.Common.{length, take, refl}
 use Rattle.plain_disk.specs.declared.operation.Op.TheVariants as Ops
-use Rattle.volume_core.specs.Seals.{seals_of}
 use Rattle.volume_core.specs.declared.ask.Ask.TheVariants.{Write}
 use Rattle.volume_lane.proofs.LaneEnds.{asked-whole, asked-write, ends-whole, ends-failed, executed-whole, executed-failed, executed-refused, meets-admits}
 use Rattle.volume_lane.proofs.writing.write.Goals as goal

@@ -1,4 +1,4 @@
-use Rattle.std.proofs.Common.{◌≡◌, true, false, refl, sym, ap, ◌∙◌, arith}
+use Rattle.std.proofs.Common.{refl, ap, arith}
 use Rattle.volume_core.specs.Asks.{IsForced}
 use Rattle.volume_core.specs.Seals.{seals_of}
 use Rattle.volume_lane.proofs.LaneEvents.{ready-settles, settle-done, settle-device, settle-broken}

@@ -1,4 +1,4 @@
-use Rattle.std.proofs.Common.{rules, ◌≡◌, List, ℕ, length, refl, sym, ap, ◌∙◌, subst}
+use Rattle.std.proofs.Common.{length, ap, ◌∙◌}
 use Rattle.volume_core.specs.Seals.{seals_of}
 use Rattle.volume_lane.proofs.LaneEvents.{next-writes, piece-keys, write-done, write-device, write-broken, tried-all, tried-none}
 use Rattle.volume_lane.proofs.LaneSeals.{opened-again}

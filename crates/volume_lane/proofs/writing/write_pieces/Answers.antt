@@ -1,5 +1,4 @@
-use Rattle.std.proofs.Common.{Option, Some, None, is_some, OnSome, ◌≡◌, ◌++◌, ◌+◌, ◌-◌, ◌*◌, ◌≤◌, [], List, ℕ, length, take, drop, true, false, refl, sym, ap, ◌∙◌, subst, arith}
-use Rattle.segment_map.specs.declared.map.Map.{Map}
+use Rattle.std.proofs.Common.{Option, Some, None, is_some, OnSome, ◌≡◌, ◌++◌, ◌+◌, ◌*◌, List, ℕ, length, take, true, refl, sym, ap, ◌∙◌, subst, arith}
 use Rattle.volume_core.specs.Seals.{seals_of}
 use Rattle.volume_lane.specs.Lane.{GoesOn}
 use Rattle.volume_lane.specs.Spares.{AreEnough}

@@ -1,4 +1,4 @@
-use Rattle.std.proofs.Common.{◌≡◌, sym, subst, List, []}
+use Rattle.std.proofs.Common.{sym, subst, []}
 use Rattle.reenc_tool.specs.Ports.{Did, did_none}
 use Rattle.reenc_tool.proofs.port.VolumePortPort.submit.Goals as goal
 
