@@ -14,6 +14,9 @@ use volume_core::{Keys, Volume};
 
 const MIB: usize = 1_048_576;
 
+/// How many random operations each volume executes.
+const TURNS: u32 = 120;
+
 /// A volume on which no operation is under way.
 #[derive(Drop)]
 struct Idle<D: Disk> {
@@ -186,7 +189,7 @@ fn differs_from_a_plain_disk(
     let mut numbers = Numbers {
         state: u64::from(atom).wrapping_add(zone),
     };
-    for turn in 0..500 {
+    for turn in 0..TURNS {
         let (op, same) = operation(alloc, &mut numbers, u64::from(atom), blocks)?;
         let wanted = plain.step(alloc, &same)?;
         let reply = volume.execute(alloc, op)?;
@@ -199,7 +202,7 @@ fn differs_from_a_plain_disk(
     if is_same(&reply, &wanted) {
         Ok(None)
     } else {
-        Ok(Some(500))
+        Ok(Some(TURNS))
     }
 }
 
