@@ -31,8 +31,9 @@ start_kit() {
 # Microseconds a request of the server on $port: DIRECTION SIZE.
 time_of() {
     fio --name=bench --ioengine=nbd --uri="nbd://127.0.0.1:$port" --rw="rand$1" --bs="$2" --size=$size --iodepth=1 \
-        --time_based --runtime="${SECONDS_EACH:-3}" --output-format=json >seen.json 2>seen.err || fail "fio: $(cat seen.err)"
-    python3 -c 'import json, sys; print("%.0f" % (json.load(open("seen.json"))["jobs"][0][sys.argv[1]]["lat_ns"]["mean"] / 1000))' "$1"
+        --time_based --runtime="${SECONDS_EACH:-3}" --output-format=json --output=seen.json >seen.err 2>&1 &&
+        python3 -c 'import json, sys; print("%.0f" % (json.load(open("seen.json"))["jobs"][0][sys.argv[1]]["lat_ns"]["mean"] / 1000))' "$1" ||
+        fail "fio: $(cat seen.err)" >&2
 }
 
 # Runs every job on the server that is up and keeps the figures in a file of this name.
