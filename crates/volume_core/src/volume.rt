@@ -177,6 +177,14 @@ impl<D: Disk, C: SectorCipher + Copy> Volume<D, C> {
         self.keys
     }
 
+    /// The keys, lent as long as nothing is done with the volume.
+    pub fn borrow_keys(&self) -> &Keys<C>
+        ensures is { result.now ≡ self.now.keys }
+        ensures fits { KeysFit C.sector result.now self.now.map.atom self.now.map.blocks }
+    {
+        &self.keys
+    }
+
     /// The disk.
     pub fn into_disk(self) -> D
         ensures size { D.size result ≡ self.map.atom }

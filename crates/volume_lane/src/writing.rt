@@ -169,8 +169,8 @@ fn write_piece<D: Disk, C: SectorCipher + Copy>(
     ensures length { IfSome result (λ buffer. length buffer ≡ length bytes.items) }
 {
     let map = volume.map();
-    let keys = volume.keys();
-    let prepared = Prepared::seal(&keys, map.atom, piece, bytes_of(bytes));
+    let keys = volume.borrow_keys();
+    let prepared = Prepared::seal(keys, map.atom, piece, bytes_of(bytes));
     match volume.piece_write(LANE, prepared) {
         PieceWritten::Done(bytes) => Some(bytes),
         PieceWritten::Device(_) => None,

@@ -7,7 +7,7 @@ use Rattle.volume_lane.proofs.writing.write_piece.Goals as goal
 pub seal-prepared-requires-clause-fits : goal.seal-prepared-requires-clause-fits
 seal-prepared-requires-clause-fits g c =
     piece-keys g.C.SectorCipher.sector c.args.volume.now _ c.map-map.result c.args.ask c.args.piece c.map-map.ensures.is c.map-map.ensures.sound c.requires.next
-    c.keys-keys.ensures.fits
+    c.borrow_keys-keys.ensures.fits
 
 pub piece_write-requires : goal.piece_write-requires
 piece_write-requires g c =
@@ -20,7 +20,7 @@ returns-in-Done-clause-done g c =
     let meets = next-writes _ c.args.ask c.args.piece _ c.requires.next c.requires.writes
     (record { size = c.seal-prepared.ensures.length ∙ ap (λ xs. length xs) c.bytes_of.ensures.is ∙ c.requires.size; are_bytes = c.seal-prepared.ensures.are_bytes }) in
     let is = opened-again g.C.SectorCipher.sector g.C.SectorCipher.sealed g.C.SectorCipher.opened c.args.volume.now _ _ c.args.piece c.args.bytes.items _ _
-    g.met.C.SectorCipher.unseal_undoes_seal c.keys-keys.ensures.is c.map-map.ensures.is c.keys-keys.ensures.fits c.bytes_of.ensures.is c.bytes_of.ensures.bytes
+    g.met.C.SectorCipher.unseal_undoes_seal c.borrow_keys-keys.ensures.is c.map-map.ensures.is c.borrow_keys-keys.ensures.fits c.bytes_of.ensures.is c.bytes_of.ensures.bytes
     c.requires.size c.seal-prepared.ensures.bytes in
     rw (← is) (write-done seals _ _ c.args.ask c.args.piece _ c.requires.next meets c.in-Done.ensures.step).0
 
@@ -37,7 +37,7 @@ returns-in-Device-clause-tried g c =
     let meets = next-writes _ c.args.ask c.args.piece _ c.requires.next c.requires.writes
     (record { size = c.seal-prepared.ensures.length ∙ ap (λ xs. length xs) c.bytes_of.ensures.is ∙ c.requires.size; are_bytes = c.seal-prepared.ensures.are_bytes }) in
     let is = opened-again g.C.SectorCipher.sector g.C.SectorCipher.sealed g.C.SectorCipher.opened c.args.volume.now _ _ c.args.piece c.args.bytes.items _ _
-    g.met.C.SectorCipher.unseal_undoes_seal c.keys-keys.ensures.is c.map-map.ensures.is c.keys-keys.ensures.fits c.bytes_of.ensures.is c.bytes_of.ensures.bytes
+    g.met.C.SectorCipher.unseal_undoes_seal c.borrow_keys-keys.ensures.is c.map-map.ensures.is c.borrow_keys-keys.ensures.fits c.bytes_of.ensures.is c.bytes_of.ensures.bytes
     c.requires.size c.seal-prepared.ensures.bytes in
     rw (← is) (tried-all seals _ _ c.args.ask _ (write-device seals _ _ c.args.ask c.args.piece _ c.requires.next meets c.in-Device.ensures.step))
 
