@@ -47,6 +47,11 @@ pub record Goes {K : Type 0} (old new : State K) (lane : ℕ) (entries : List En
 abbrev pub Rests : {K : Type 0} → State K → State K → Type 0
 Rests old new = new.disk ≡ old.disk
 
+-- the operation isn't wrong, and the volume isn't broken
+pub record IsReadyFor {K : Type 0} (state : State K) (ask : Ask) : Type 0 where
+  pub proper : wrong_ask state.map.atom (size_of state.map) ask ≡ None
+  pub unbroken : state.broken ≡ false
+
 -- an operation that isn't refused has its entry behind all others; a flush is held without one
 abbrev pub Enters : ℕ → ℕ → Ask → List Entry → List Entry → Outcome → Type 0
 Enters atom lane ask old new outcome =

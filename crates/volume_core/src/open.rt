@@ -1,7 +1,6 @@
 // Operations under way.
 
-ghost use Rattle.std.specs.Prelude.{◌≡◌, ◌+◌, ◌<◌, ◌^◌, Some, length};
-ghost use Rattle.sector_disk.specs.Geometry.{IsAtom};
+ghost use Rattle.std.specs.Prelude.{◌≡◌, ◌+◌, ◌<◌, ◌^◌, Some, false, length};
 
 use crate::Ask;
 use block_range::BlockRange;
@@ -20,15 +19,18 @@ pub struct Open {
 
 impl Open {
     ghost use Rattle.volume_core.specs.Pieces.{rest_of, moved, failing, settling};
-    ghost use Rattle.volume_core.specs.States.{begun};
     ghost use Rattle.volume_core.specs.Steps.{after_settle};
 
-    /// An operation that has just begun, over blocks of `atom` bytes.
-    pub(crate) fn new(ask: Ask, atom: u32) -> Open
-        requires { IsAtom atom }
-        ensures { result ≡ begun atom ask }
+    /// An operation on these blocks that has just begun.
+    pub(crate) fn new(ask: Ask, range: BlockRange) -> Open
+        ensures { result ≡ record {
+          ask = ask;
+          range = range;
+          next = range.start;
+          settled = false;
+          failed = false;
+        } }
     {
-        let range = ask.range(atom);
         Open {
             ask,
             range,

@@ -1,13 +1,14 @@
 // A volume: its disk, its map and keys, and the operations under way on it.
 
-ghost use Rattle.std.specs.Prelude.{◌≡◌, ◌<◌, false, [], length, None, replicate, IfOk, IfErr};
+ghost use Rattle.std.specs.Prelude.{◌≡◌, ◌<◌, false, [], length, ℕ, None, replicate, IfOk, IfErr, OnOk};
 ghost use Rattle.volume_core.specs.Answers.{outcome_of_admitted, outcome_of_asked, outcome_of_read, outcome_of_written, outcome_of_settled, GrantsAdmitted, GrantsAsked, buffer_of_read, buffer_of_written, FitsPiece, is_idle};
+ghost use Rattle.volume_core.specs.Asks.{range_of};
 ghost use Rattle.volume_core.specs.Contents.{IsFresh};
-ghost use Rattle.volume_core.specs.Events.{admits, asks, reads, writes, settles, finishes, done};
+ghost use Rattle.volume_core.specs.Events.{admits, asks, reads, writes, settles, finishes, done, refused};
 ghost use Rattle.volume_core.specs.Sealing.{ChangeNothing};
 ghost use Rattle.volume_core.specs.Seals.{KeysFit, seals_of};
 ghost use Rattle.volume_core.specs.Sound.{AreApart, IsSound, MapFits};
-ghost use Rattle.volume_core.specs.Steps.{Step, Meets};
+ghost use Rattle.volume_core.specs.Steps.{IsReadyFor, Step, Meets};
 ghost use Rattle.volume_core.specs.Volumes.{IsWholeDisk, device_of, new_volume};
 
 use crate::answers::{Admitted, Asked, Grant, PieceRead, PieceWritten, Progress, Settled};
@@ -15,6 +16,7 @@ use crate::buffers::read_into;
 use crate::open::{Open, open_of, set_lane};
 use crate::{Ask, Keys, Prepared};
 use base_terms::{Bytes, Failed};
+use block_range::BlockRange;
 use cipher_laws::SectorCipher;
 use range_lock::{Standing, Table};
 use sector_cipher::Context;
@@ -197,32 +199,58 @@ impl<D: Disk, C: SectorCipher + Copy> Volume<D, C> {
         disk
     }
 
-    /// Begins an operation on a lane that has none. A wrong operation is refused with its number, and
-    /// else one on a broken volume with 5; then nothing was done. A read or a write enters the table
-    /// of locks behind all others, and has its blocks where no earlier entry conflicts. A flush has
-    /// no blocks and never waits.
+    /// The blocks that an operation reads or writes, or the number with which it is refused now: a wrong
+    /// one with its own, and else one on a broken volume with 5.
+    pub fn judge(&self, ask: Ask) -> Result<BlockRange, u32>
+        ensures ready { OnOk result (IsReadyFor self.now ask) }
+        ensures blocks { IfOk result (λ range. range ≡ range_of self.now.map.atom ask) }
+        ensures refused { IfErr result (λ number. (lane : ℕ) →
+            Step self.now (admits lane ask) (refused number) self.now) }
+    {
+        let Map { atom, blocks, .. } = self.map;
+        if let Some(number) = ask.wrong(atom, blocks * u64::from(atom)) {
+            return Err(number);
+        }
+        if self.broken {
+            return Err(DEVICE_ERROR);
+        }
+        Ok(ask.range(atom))
+    }
+
+    /// Begins an operation on a lane that has none. One that `judge` refuses is refused with its
+    /// number, and nothing was done; any other begins as by `enter`.
     pub fn admit(&mut self, lane: u32, ask: Ask) -> Admitted
         requires { Meets self.old (admits lane ask) }
         ensures step { Step self.old (admits lane ask) (outcome_of_admitted result) self.new }
         ensures grant { GrantsAdmitted self.new lane result }
     {
-        let Map { atom, blocks, .. } = self.map;
-        if let Some(number) = ask.wrong(atom, blocks * u64::from(atom)) {
-            return Admitted::Refused(number);
+        match self.judge(ask) {
+            Ok(range) => match self.enter(lane, ask, range) {
+                Asked::Held(grant) => Admitted::Held(grant),
+                Asked::Waiting(other) => Admitted::Waiting(other),
+            },
+            Err(number) => Admitted::Refused(number),
         }
-        if self.broken {
-            return Admitted::Refused(DEVICE_ERROR);
-        }
-        let open = Open::new(ask, atom);
-        set_lane(&mut self.lanes, lane, Some(open));
+    }
+
+    /// Begins an operation that `judge` has given its blocks, on a lane that has none: the event of an
+    /// `admit` that refuses nothing. A read or a write enters the table of locks behind all others,
+    /// and has its blocks where no earlier entry conflicts. A flush has no blocks and never waits.
+    pub fn enter(&mut self, lane: u32, ask: Ask, range: BlockRange) -> Asked
+        requires meets { Meets self.old (admits lane ask) }
+        requires ready { IsReadyFor self.old ask }
+        requires blocks { range ≡ range_of self.old.map.atom ask }
+        ensures step { Step self.old (admits lane ask) (outcome_of_asked result) self.new }
+        ensures grant { GrantsAsked self.new lane result }
+    {
+        set_lane(&mut self.lanes, lane, Some(Open::new(ask, range)));
         let map = self.map;
-        let range = open.range;
         if !ask.has_lock() {
-            return Admitted::Held(Grant { map, range });
+            return Asked::Held(Grant { map, range });
         }
         match self.table.enter(lane, range, ask.kind()) {
-            Standing::Held => Admitted::Held(Grant { map, range }),
-            Standing::Waiting(other) => Admitted::Waiting(other),
+            Standing::Held => Asked::Held(Grant { map, range }),
+            Standing::Waiting(other) => Asked::Waiting(other),
         }
     }
 
