@@ -204,6 +204,7 @@ impl<D: Disk, C: SectorCipher + Copy> Volume<D, C> {
     pub fn judge(&self, ask: Ask) -> Result<BlockRange, u32>
         ensures ready { OnOk result (IsReadyFor self.now ask) }
         ensures blocks { IfOk result (λ range. range ≡ range_of self.now.map.atom ask) }
+        ensures sound { IsSound self.now }
         ensures refused { IfErr result (λ number. (lane : ℕ) →
             Step self.now (admits lane ask) (refused number) self.now) }
     {

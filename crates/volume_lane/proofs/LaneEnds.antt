@@ -14,21 +14,19 @@ use Rattle.volume_core.specs.Asks.{has_lock, range_of, entry_of, wrong_ask}
 use Rattle.volume_core.specs.Events.{Outcome, admits, settles, finishes, held, waits, refused, got, done, device, broken}
 use Rattle.volume_core.specs.Executing.{IsIdle}
 use Rattle.volume_core.specs.Runs.{Answered, Happening, IsRun, last_of, answered_by, answered_in, plain_in, plain_after, with_plain, by_finish, full_reply, flush_reply, AreExchanges, IsExchange, Asked, tried_by}
-use Rattle.volume_core.specs.Seals.{Seals, seals_of}
+use Rattle.volume_core.specs.Seals.{Seals}
 use Rattle.volume_core.specs.Sound.{IsSound}
 use Rattle.volume_core.specs.States.{State, open_at, size_of}
-use Rattle.volume_core.specs.Steps.{Step, Meets, IsAdmitted, TellsStanding, Goes}
+use Rattle.volume_core.specs.Steps.{Step, Meets, IsReadyFor, IsAdmitted, TellsStanding, Goes}
 use Rattle.volume_core.specs.declared.answers.Grant.{Grant}
 use Rattle.volume_core.specs.declared.ask.Ask.{Ask}
-use Rattle.volume_core.specs.declared.ask.Ask.TheVariants.{Write, Flush}
-use Rattle.volume_core.specs.declared.keys.Keys.{Keys}
+use Rattle.volume_core.specs.declared.ask.Ask.TheVariants.{Read, Write, Flush}
 use Rattle.volume_core.specs.declared.open.Open.{Open}
 use Rattle.volume_core.proofs.CodeSteps.{open-is-one}
 use Rattle.volume_core.proofs.Executions.{run-joined, last-joined, answered-joined}
 use Rattle.volume_core.proofs.Soundness.{match_true}
-use Rattle.volume_lane.specs.Lane.{GoesOn, HasAll, HasBegun, HasExecuted, HasFailed, IsAlone, IsReadyFor, going}
+use Rattle.volume_lane.specs.Lane.{GoesOn, HasAll, HasBegun, HasExecuted, HasFailed, HasMade, HasMissed, IsAlone, WasTried, going}
 use Rattle.volume_lane.proofs.LaneEvents.{meets-finishes}
-use Rattle.volume_lane.proofs.LanePieces.{same-seals}
 
 -- no entry in the table of a volume on which no operation is under way
 find-own : (e : Entry) (rest : List Entry) → find (is_of e.lane) (e ∷ rest) ≡ Some e
@@ -108,20 +106,6 @@ granted old new ask grant begun is =
 pub meets-admits : {K : Type 0} (state : State K) (ask : Ask) → 1 < length state.lanes → IsIdle state → Meets state (admits 0 ask)
 unfolding Meets
 meets-admits state ask some idle = (omega (arith, some), idle 0)
-
--- a refused operation leaves all as it was
-refused-same : {K : Type 0} (old new : State K) (ask : Ask) (number : ℕ) (wrong : Option ℕ) (was has : Bool) → has_lock ask ≡ has →
-    MatchOption wrong (MatchBool was ((refused number ≡ refused 5) × (new ≡ old)) (IsAdmitted old 0 ask (refused number) new)) (λ n. (refused number ≡ refused n) × (new ≡ old)) →
-    new ≡ old
-refused-same old new ask number None true has is step = step.1
-refused-same old new ask number None false true is step = absurd ((rw is at step.enters).1)
-refused-same old new ask number None false false is step = (let same = (rw is at step.enters).1 in absurd (cc))
-refused-same old new ask number (Some n) was has is step = step.1
-
-pub refused-leaves : {K : Type 0} (old new : State K) (ask : Ask) (number : ℕ) → Step old (admits 0 ask) (refused number) new → new ≡ old
-unfolding Step
-refused-leaves old new ask number step =
-    refused-same old new ask number (wrong_ask old.map.atom (size_of old.map) ask) old.broken (has_lock ask) refl step
 
 -- no exchange but this
 exchanged : (answered : Answered) (exchange : Exchange) → IsExchange answered exchange → AreExchanges (answered ∷ []) (exchange ∷ [])
@@ -234,6 +218,13 @@ executed-flush seals old first new outcome reply meets begun step is =
       count = goes.lane_is.count ∙ begun.count;
     }
 
+-- what a write that tried these bytes asked for
+pub asked-write : (offset n : ℕ) (body : List ℕ) (fua : Bool) → n ≤ length body → Asked (Write offset (length body) fua) (take n body) (Ops.Write offset body fua)
+asked-write offset n body fua within = (body, refl, refl, ap (λ k. take k body) (length-take-le n body within))
+
+pub asked-whole : (offset : ℕ) (body : List ℕ) (fua : Bool) → Asked (Write offset (length body) fua) body (Ops.Write offset body fua)
+asked-whole offset body fua = (body, refl, refl, take_all (length body) body (omega arith))
+
 -- an operation all of whose events succeeded, or one of whose failed, can end
 pub ends-whole : {K : Type 0} (state : State K) (ask : Ask) → HasAll state ask → has_lock ask ≡ true → Meets state (finishes 0)
 ends-whole state ask all has = meets-finishes state all.o all.alone (rw all.ask_is has) (inr all.complete)
@@ -241,25 +232,29 @@ ends-whole state ask all has = meets-finishes state all.o all.alone (rw all.ask_
 pub ends-failed : {K : Type 0} (state : State K) (ask : Ask) → HasFailed state ask → has_lock ask ≡ true → Meets state (finishes 0)
 ends-failed state ask failed has = meets-finishes state failed.o failed.alone (rw failed.ask_is has) (inl failed.failed)
 
-pub executed-whole : {C : Type 0} (seal unseal : C → ℕ → List ℕ → List ℕ) (old first last new : State (Keys C)) (op : Op) (ask : Ask) (reply : Reply) (more : List ℕ) →
-    Meets old (admits 0 ask) → HasBegun old first ask → GoesOn (seals_of seal unseal first.map.atom first.keys) first last more → HasAll last ask → has_lock ask ≡ true →
-    Step last (finishes 0) done new → Asked ask more op → reply ≡ full_reply ask more → HasExecuted (seals_of seal unseal old.map.atom old.keys) old new op reply
-executed-whole seal unseal old first last new op ask reply more meets begun on all has step asked is =
-    executed-ended (seals_of seal unseal old.map.atom old.keys) old first last new op ask reply all.o more meets begun
-    (subst (λ s. GoesOn s first last more) (same-seals seal unseal old first begun.map begun.keys) on) all.alone all.ask_is (ends-whole last ask all has) step asked
-    (rw all.whole is)
+pub executed-made : {K : Type 0} (seals : Seals) (old last new : State K) (op : Op) (ask : Ask) (reply : Reply) (bytes : List ℕ) → Meets old (admits 0 ask) →
+    HasMade seals old last ask bytes → has_lock ask ≡ true → Step last (finishes 0) done new → Asked ask bytes op → reply ≡ full_reply ask bytes →
+    HasExecuted seals old new op reply
+executed-made seals old last new op ask reply bytes meets made has step asked is =
+    executed-ended seals old made.first last new op ask reply made.all.o bytes meets made.begun made.goes_on made.all.alone made.all.ask_is
+    (ends-whole last ask made.all has) step asked (rw made.all.whole is)
 
-pub executed-failed : {C : Type 0} (seal unseal : C → ℕ → List ℕ → List ℕ) (old first last new : State (Keys C)) (op : Op) (ask : Ask) (more : List ℕ) →
-    Meets old (admits 0 ask) → HasBegun old first ask → GoesOn (seals_of seal unseal first.map.atom first.keys) first last more → HasFailed last ask → has_lock ask ≡ true →
-    Step last (finishes 0) done new → Asked ask more op → HasExecuted (seals_of seal unseal old.map.atom old.keys) old new op (Errno 5)
-executed-failed seal unseal old first last new op ask more meets begun on failed has step asked =
-    executed-ended (seals_of seal unseal old.map.atom old.keys) old first last new op ask (Errno 5) failed.o more meets begun
-    (subst (λ s. GoesOn s first last more) (same-seals seal unseal old first begun.map begun.keys) on) failed.alone failed.ask_is (ends-failed last ask failed has) step asked
+executed-failed : {K : Type 0} (seals : Seals) (old first last new : State K) (op : Op) (ask : Ask) (more : List ℕ) → Meets old (admits 0 ask) →
+    HasBegun old first ask → GoesOn seals first last more → HasFailed last ask → has_lock ask ≡ true → Step last (finishes 0) done new → Asked ask more op →
+    HasExecuted seals old new op (Errno 5)
+executed-failed seals old first last new op ask more meets begun on failed has step asked =
+    executed-ended seals old first last new op ask (Errno 5) failed.o more meets begun on failed.alone failed.ask_is (ends-failed last ask failed has) step asked
     (rw failed.failed refl)
 
--- what a write that tried these bytes asked for
-pub asked-write : (offset n : ℕ) (body : List ℕ) (fua : Bool) → n ≤ length body → Asked (Write offset (length body) fua) (take n body) (Ops.Write offset body fua)
-asked-write offset n body fua within = (body, refl, refl, ap (λ k. take k body) (length-take-le n body within))
+pub executed-missed : {K : Type 0} (seals : Seals) (old last new : State K) (offset len : ℕ) → Meets old (admits 0 (Read offset len)) →
+    HasMissed seals old last (Read offset len) → Step last (finishes 0) done new → HasExecuted seals old new (Ops.Read offset len) (Errno 5)
+executed-missed seals old last new offset len meets missed step =
+    executed-failed seals old missed.first last new (Ops.Read offset len) (Read offset len) missed.more meets missed.begun missed.goes_on missed.has_failed refl step refl
 
-pub asked-whole : (offset : ℕ) (body : List ℕ) (fua : Bool) → Asked (Write offset (length body) fua) body (Ops.Write offset body fua)
-asked-whole offset body fua = (body, refl, refl, take_all (length body) body (omega arith))
+pub executed-tried : {K : Type 0} (seals : Seals) (old last new : State K) (offset : ℕ) (body : List ℕ) (fua : Bool) →
+    Meets old (admits 0 (Write offset (length body) fua)) → WasTried seals old last (Write offset (length body) fua) body → Step last (finishes 0) done new →
+    HasExecuted seals old new (Ops.Write offset body fua) (Errno 5)
+executed-tried seals old last new offset body fua meets was step =
+    let tried = was.tried in
+    executed-failed seals old was.first last new (Ops.Write offset body fua) (Write offset (length body) fua) (take tried.n body) meets was.begun tried.goes_on
+    tried.has_failed refl step (asked-write offset tried.n body fua tried.within)

@@ -1,22 +1,15 @@
 -- The pieces of an operation, one after the other.
-use Rattle.std.proofs.Common.{◌≡◌, ◌≢◌, ℕ, ◌+◌, ◌-◌, ◌*◌, ◌≤◌, List, [], ◌++◌, length, take, drop, refl, sym, ◌∙◌, ap, subst, arith}
+use Rattle.std.proofs.Common.{◌≡◌, ℕ, ◌+◌, ◌-◌, ◌*◌, ◌≤◌, List, ◌++◌, length, take, drop, refl, sym, ◌∙◌, ap, subst, arith}
 use Rattle.std.proofs.Math.Nat.{mul-le-mul_right}
 use Rattle.std.proofs.Math.Seq.{take-add}
-use Rattle.std.proofs.lemmas.List.{append-nil, take-take, take_all}
-use Rattle.block_range.specs.declared.BlockRange.{BlockRange}
-use Rattle.segment_map.specs.declared.map.Map.{Map}
-use Rattle.segment_map.specs.declared.map.Piece.{Piece}
-use Rattle.segment_map.specs.Maps.{IsNextPiece}
+use Rattle.std.proofs.lemmas.List.{take-take}
 use Rattle.volume_core.specs.Asks.{IsRead, IsWrite, range_of}
-use Rattle.volume_core.specs.Pieces.{size_of_piece}
 use Rattle.volume_core.specs.Seals.{seals_of}
 use Rattle.volume_core.specs.States.{State}
 use Rattle.volume_core.specs.declared.ask.Ask.{Ask}
 use Rattle.volume_core.specs.declared.ask.Ask.TheVariants.{Read, Write, Flush}
 use Rattle.volume_core.specs.declared.keys.Keys.{Keys}
-use Rattle.volume_core.proofs.CodePieces.{next_is_one}
-use Rattle.volume_lane.specs.Lane.{GoesOn, HasFailed, HasTried, IsAlone, going}
-use Rattle.volume_lane.specs.Spares.{IsOnePiece, IsPieceAt}
+use Rattle.volume_lane.specs.Lane.{GoesOn, HasTried, IsAlone, going}
 use Rattle.volume_lane.proofs.LaneRuns.{goes-on}
 
 -- the blocks of an operation are in order
@@ -56,20 +49,6 @@ size-within start next end atom within = mul-le-mul_right atom (omega (arith, wi
 pub size-none : (start atom : ℕ) → 0 ≡ (start - start) * atom
 size-none start atom = (let e : start - start ≡ 0 = omega arith in rw e (omega arith))
 
--- where the blocks are one piece, no piece follows it
-pub one-ends : (map : Map) (range : BlockRange) (at : ℕ) (piece : Piece) → IsOnePiece map range → at ≡ range.start → IsPieceAt map range.end at piece →
-    piece.first + piece.count ≡ range.end
-one-ends map range at piece one is next =
-    let here : IsNextPiece map range piece = rw is at next in
-    let same = next_is_one map range piece one.piece here one.next in
-    let first = one.next.first in
-    rw same (let whole = one.whole in omega (arith, whole, first))
-
-pub never-one : (map : Map) (range : BlockRange) (at n : ℕ) (piece : Piece) → IsOnePiece map range → at ≡ range.start → IsPieceAt map range.end at piece →
-    n ≡ (at - range.start) * map.atom → (n ≡ 0 → piece.first + piece.count ≢ range.end) → ⊥
-never-one map range at n piece one is next size goes_on =
-    goes_on (size ∙ rw is (sym (size-none range.start map.atom))) (one-ends map range at piece one is next)
-
 pub stays-within : (start at count end atom : ℕ) → start ≤ at → at + count ≤ end → (at - start) * atom + count * atom ≤ (end - start) * atom
 stays-within start at count end atom order within =
     let more = size-more start at count (at + count) atom order refl in
@@ -98,33 +77,5 @@ tried-behind seal unseal old now new ask body piece from size one tried is withi
       has_failed = tried.has_failed;
     }
 
--- the size of the only piece
-pub size-of-one : (map : Map) (range : BlockRange) (piece : Piece) (n : ℕ) → IsOnePiece map range → IsNextPiece map range piece → n ≡ (range.end - range.start) * map.atom →
-    n ≡ size_of_piece map piece
-size-of-one map range piece n one next size =
-    let ends = one-ends map range range.start piece one refl next in
-    let first = next.first in
-    size ∙ (let e : range.end - range.start ≡ piece.count = omega (arith, ends, first) in rw e refl)
-
-pub part-of-body : (body text : List ℕ) (from size : ℕ) → text ≡ body → take (from + size - from) (drop from text) ≡ take size (drop from body)
-part-of-body body text from size is = (let e : from + size - from ≡ size = omega arith in rw (is, e) refl)
-
--- a write all of whose bytes were tried, and whose sync failed
-pub tried-whole : {C : Type 0} (seal unseal : C → ℕ → List ℕ → List ℕ) (old now new : State (Keys C)) (ask : Ask) (body text : List ℕ) → text ≡ body →
-    GoesOn (seals_of seal unseal old.map.atom old.keys) old now text →
-    GoesOn (seals_of seal unseal now.map.atom now.keys) now new [] × HasFailed new ask → HasTried (seals_of seal unseal old.map.atom old.keys) old new ask body
-tried-whole seal unseal old now new ask body text is one (other, failed) =
-    let seals = seals_of seal unseal old.map.atom old.keys in
-    record {
-      n = length body;
-      within = omega arith;
-      goes_on = subst (λ xs. GoesOn seals old new xs) (append-nil text ∙ is ∙ sym (take_all (length body) body (omega arith)))
-          (piece-behind seal unseal old now new text [] one other);
-      has_failed = failed;
-    }
-
-pub whole-behind : {C : Type 0} (seal unseal : C → ℕ → List ℕ → List ℕ) (old now new : State (Keys C)) (body text : List ℕ) → text ≡ body →
-    GoesOn (seals_of seal unseal old.map.atom old.keys) old now text → GoesOn (seals_of seal unseal now.map.atom now.keys) now new [] →
-    GoesOn (seals_of seal unseal old.map.atom old.keys) old new body
-whole-behind seal unseal old now new body text is one other =
-    subst (λ xs. GoesOn (seals_of seal unseal old.map.atom old.keys) old new xs) (append-nil text ∙ is) (piece-behind seal unseal old now new text [] one other)
+pub part-of-body : (body : List ℕ) (from size : ℕ) → take (from + size - from) (drop from body) ≡ take size (drop from body)
+part-of-body body from size = (let e : from + size - from ≡ size = omega arith in rw e refl)

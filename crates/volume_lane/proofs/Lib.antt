@@ -1,3 +1,4 @@
+pub mod LaneBegun
 pub mod LaneEnds
 pub mod LaneEvents
 pub mod LanePieces

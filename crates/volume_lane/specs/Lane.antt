@@ -1,18 +1,17 @@
 -- An operation under way on the first lane of a volume, with none on any other.
-use Rattle.std.specs.Prelude.{ℕ, ◌≡◌, ◌≢◌, ◌++◌, ◌≤◌, ◌⊎◌, true, false, List, [], ◌∷◌, length, take, Some, None}
-use Rattle.block_range.specs.declared.BlockRange.{BlockRange}
+use Rattle.std.specs.Prelude.{ℕ, ◌≡◌, ◌≢◌, ◌++◌, ◌≤◌, true, false, List, [], ◌∷◌, length, take, Some, None}
 use Rattle.plain_disk.specs.declared.operation.Op.{Op}
 use Rattle.plain_disk.specs.declared.operation.Op.TheVariants as Ops
 use Rattle.plain_disk.specs.declared.operation.Reply.{Reply}
 use Rattle.segment_map.specs.declared.map.Piece.{Piece}
-use Rattle.volume_core.specs.Asks.{range_of, has_lock, wrong_ask}
+use Rattle.volume_core.specs.Asks.{range_of, has_lock}
 use Rattle.volume_core.specs.Events.{admits, held}
 use Rattle.volume_core.specs.Executing.{Executes, IsIdle}
 use Rattle.volume_core.specs.Pieces.{IsComplete, IsPieceOf}
 use Rattle.volume_core.specs.Runs.{Happening, IsRun, last_of, answered_in, plain_in}
 use Rattle.volume_core.specs.Seals.{Seals}
-use Rattle.volume_core.specs.States.{State, open_at, size_of}
-use Rattle.volume_core.specs.Steps.{Step, Holds}
+use Rattle.volume_core.specs.States.{State, open_at}
+use Rattle.volume_core.specs.Steps.{Step, Holds, IsReadyFor}
 use Rattle.volume_core.specs.declared.ask.Ask.{Ask}
 use Rattle.volume_core.specs.declared.ask.Ask.TheVariants.{Read, Write, Flush}
 use Rattle.volume_core.specs.declared.open.Open.{Open}
@@ -22,11 +21,6 @@ abbrev pub ask_of : Op → Ask
 ask_of (Ops.Read offset len) = Read offset len
 ask_of (Ops.Write offset body fua) = Write offset (length body) fua
 ask_of Ops.Flush = Flush
-
--- the operation isn't wrong, and the volume isn't broken
-pub record IsReadyFor {K : Type 0} (state : State K) (ask : Ask) : Type 0 where
-  pub proper : wrong_ask state.map.atom (size_of state.map) ask ≡ None
-  pub unbroken : state.broken ≡ false
 
 -- an operation of which all pieces before block `at` were made, over blocks of `atom` bytes
 abbrev pub going : ℕ → Ask → ℕ → Open
@@ -57,7 +51,7 @@ pub record HasFailed {K : Type 0} (state : State K) (ask : Ask) : Type 0 where
   pub ask_is : o.ask ≡ ask
   pub failed : o.failed ≡ true
 
--- all pieces of a write came to the disk, or some front of the body was tried and a piece failed
+-- a front of a write's body was tried, perhaps all of it, and one of its events failed
 pub record HasTried {K : Type 0} (seals : Seals) (old new : State K) (ask : Ask) (body : List ℕ) : Type 0 where
   pub n : ℕ
   pub within : n ≤ length body
@@ -93,10 +87,34 @@ pub record HasAll {K : Type 0} (state : State K) (ask : Ask) : Type 0 where
   pub whole : o.failed ≡ false
   pub complete : IsComplete o
 
--- the blocks of an operation where it isn't refused, and else none
-abbrev pub AreServed : {K : Type 0} → State K → Ask → BlockRange → Type 0
-AreServed state ask range = (IsReadyFor state ask × (range ≡ range_of state.map.atom ask))
-    ⊎ ((IsReadyFor state ask → ⊥) × (range ≡ record { start = 0; end = 0 }))
+-- an operation has begun, and all its events but its finish are behind it, in which it has read or
+-- written these bytes
+pub record HasMade {K : Type 0} (seals : Seals) (old new : State K) (ask : Ask) (bytes : List ℕ) : Type 0 where
+  pub first : State K
+  pub begun : HasBegun old first ask
+  pub goes_on : GoesOn seals first new bytes
+  pub all : HasAll new ask
+
+-- an operation has begun, and one of its events has failed
+pub record HasMissed {K : Type 0} (seals : Seals) (old new : State K) (ask : Ask) : Type 0 where
+  pub first : State K
+  pub begun : HasBegun old first ask
+  pub more : List ℕ
+  pub goes_on : GoesOn seals first new more
+  pub has_failed : HasFailed new ask
+
+-- a write has begun, and all its pieces were written
+pub record HasWritten {K : Type 0} (seals : Seals) (old new : State K) (ask : Ask) (body : List ℕ) : Type 0 where
+  pub first : State K
+  pub begun : HasBegun old first ask
+  pub goes_on : GoesOn seals first new body
+  pub alone : IsAlone new (going old.map.atom ask (range_of old.map.atom ask).end)
+
+-- a write has begun, and one of its events has failed
+pub record WasTried {K : Type 0} (seals : Seals) (old new : State K) (ask : Ask) (body : List ℕ) : Type 0 where
+  pub first : State K
+  pub begun : HasBegun old first ask
+  pub tried : HasTried seals first new ask body
 
 -- a piece is the next of the operation under way
 pub record IsNext {K : Type 0} (state : State K) (ask : Ask) (piece : Piece) : Type 0 where

@@ -1,7 +1,6 @@
 -- Buffers for the pieces of an operation, taken before it begins. A piece has the buffer of the piece
 -- before it where that is long enough, cut to its size, and else the next of those taken.
 use Rattle.std.specs.Prelude.{ℕ, ◌≡◌, ◌+◌, ◌<◌, ◌≤◌, List, ◌∷◌, length}
-use Rattle.block_range.specs.declared.BlockRange.{BlockRange}
 use Rattle.segment_map.specs.declared.map.Map.{Map}
 use Rattle.segment_map.specs.declared.map.Piece.{Piece}
 use Rattle.segment_map.specs.Maps.{IsNextPiece}
@@ -10,12 +9,6 @@ use Rattle.volume_core.specs.Pieces.{size_of_piece}
 -- the next piece from block `at` on
 abbrev pub IsPieceAt : Map → ℕ → ℕ → Piece → Type 0
 IsPieceAt map end at piece = IsNextPiece map (record { start = at; end = end }) piece
-
--- the blocks are one piece
-pub record IsOnePiece (map : Map) (range : BlockRange) : Type 0 where
-  pub piece : Piece
-  pub next : IsNextPiece map range piece
-  pub whole : range.start + piece.count ≡ range.end
 
 -- with a buffer of so many bytes at hand, these serve all pieces from block `at` on to block `end`
 pub data AreEnough (map : Map) (end : ℕ) : ℕ → ℕ → List (List ℕ) → Type 0 where

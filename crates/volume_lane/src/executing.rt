@@ -6,7 +6,8 @@ ghost use Rattle.volume_core.specs.Executing.{IsIdle, Executes};
 ghost use Rattle.volume_core.specs.Runs.{Happening};
 ghost use Rattle.volume_core.specs.Seals.{seals_of};
 ghost use Rattle.volume_core.specs.declared.keys.Keys.{Keys};
-ghost use Rattle.volume_lane.specs.Lane.{HasExecuted, IsReadyFor, ask_of};
+ghost use Rattle.volume_core.specs.Steps.{IsReadyFor};
+ghost use Rattle.volume_lane.specs.Lane.{HasExecuted, ask_of};
 
 use crate::beginning::{DEVICE_ERROR, LANE, begin};
 use crate::reading::read;
@@ -58,10 +59,10 @@ fn flush<D: Disk, C: SectorCipher + Copy>(volume: &mut Volume<D, C>) -> Reply
     ensures { HasExecuted (seals_of C.sealed C.opened volume.old.map.atom volume.old.keys)
         volume.old volume.new Ops.Flush result }
 {
-    match begin(volume, Ask::Flush) {
-        Ok(_) => {}
+    match volume.judge(Ask::Flush) {
+        Ok(blocks) => begin(volume, Ask::Flush, blocks),
         Err(number) => return Reply::Errno(number),
-    }
+    };
     match volume.settle(LANE) {
         Settled::Done => Reply::Done,
         Settled::Device => Reply::Errno(DEVICE_ERROR),

@@ -1,25 +1,27 @@
 // Reads.
 
-ghost use Rattle.std.specs.Prelude.{◌≡◌, ◌+◌, ◌-◌, ◌*◌, ◌<◌, ◌≤◌, ◌⊎◌, List, [], ℕ, length, IfOk, OnErr, OnSome, IfSome, IfNone, vec_capacity};
+ghost use Rattle.std.specs.Prelude.{◌≡◌, ◌+◌, ◌-◌, ◌*◌, ◌<◌, ◌≤◌, List, [], ℕ, length, IfOk, OnErr, OnSome, IfSome, IfNone, vec_capacity};
 ghost use Rattle.plain_disk.specs.declared.operation.Op.TheVariants as Ops;
 ghost use Rattle.volume_core.specs.Asks.{IsRead, range_of};
 ghost use Rattle.volume_core.specs.Executing.{IsIdle};
-ghost use Rattle.volume_core.specs.Pieces.{failing, size_of_piece};
+ghost use Rattle.volume_core.specs.Pieces.{size_of_piece};
 ghost use Rattle.volume_core.specs.Seals.{seals_of};
+ghost use Rattle.volume_core.specs.Steps.{IsReadyFor};
 ghost use Rattle.volume_core.specs.declared.ask.Ask.TheVariants as Asks;
-ghost use Rattle.volume_lane.specs.Lane.{GoesOn, HasAll, HasExecuted, HasFailed, IsAlone, IsNext, IsReadyFor, going};
-ghost use Rattle.volume_lane.specs.Spares.{AreEnough, IsOnePiece};
+ghost use Rattle.volume_lane.specs.Lane.{GoesOn, HasAll, HasExecuted, HasFailed, HasMade, HasMissed, IsAlone, IsNext, going};
+ghost use Rattle.volume_lane.specs.Spares.{AreEnough};
 
-use crate::beginning::{DEVICE_ERROR, Held, LANE, begin, served_blocks};
-use crate::spares::{content_for, fitting, spares_for};
+use crate::beginning::{DEVICE_ERROR, LANE, begin};
+use crate::spares::{fitting, only_piece, spares_for};
 use base_terms::Bytes;
+use block_range::BlockRange;
 use cipher_laws::SectorCipher;
 use plain_disk::{Op, Reply};
 use sector_disk::Disk;
 use segment_map::Piece;
 use std::alloc::{AllocError, Global};
 use std::collections::VecDeque;
-use volume_core::{Ask, PieceRead, Volume};
+use volume_core::{Ask, Grant, PieceRead, Volume};
 
 /// Executes a read.
 pub(crate) fn read<D: Disk, C: SectorCipher + Copy>(
@@ -40,15 +42,11 @@ pub(crate) fn read<D: Disk, C: SectorCipher + Copy>(
         offset,
         length: len,
     };
-    let map = volume.map();
-    let blocks = served_blocks(volume, ask);
-    let content = content_for(alloc, map, blocks)?;
-    let spares = spares_for(alloc, map, blocks)?;
-    let held = match begin(volume, ask) {
-        Ok(held) => held,
+    let blocks = match volume.judge(ask) {
+        Ok(blocks) => blocks,
         Err(number) => return Ok(Reply::Errno(number)),
     };
-    match read_pieces(alloc, volume, held, content, spares) {
+    match read_blocks(alloc, volume, ask, blocks)? {
         Some(bytes) => {
             volume.finish(LANE);
             Ok(Reply::Content(bytes))
@@ -60,33 +58,66 @@ pub(crate) fn read<D: Disk, C: SectorCipher + Copy>(
     }
 }
 
-/// Reads all pieces of a read that has begun, up to the first that fails. Where there is only one, its
-/// buffer is the content.
+/// Begins a read of these blocks and reads their pieces, up to the first that fails. The buffer of an
+/// only piece is the content.
+fn read_blocks<D: Disk, C: SectorCipher + Copy>(
+    alloc: Global,
+    volume: &mut Volume<D, C>,
+    ask: Ask,
+    blocks: BlockRange,
+) -> Result<Option<Bytes>, AllocError>
+    requires lanes { 1 < length volume.old.lanes }
+    requires idle { IsIdle volume.old }
+    requires reads { IsRead ask }
+    requires ready { IsReadyFor volume.old ask }
+    requires blocks { blocks ≡ range_of volume.old.map.atom ask }
+    ensures made { IfOk result (λ content. IfSome content (HasMade
+        (seals_of C.sealed C.opened volume.old.map.atom volume.old.keys)
+        volume.old volume.new ask)) }
+    ensures missed { IfOk result (λ content. IfNone content (HasMissed
+        (seals_of C.sealed C.opened volume.old.map.atom volume.old.keys)
+        volume.old volume.new ask)) }
+    ensures err { OnErr result (volume.new ≡ volume.old) }
+{
+    let map = volume.map();
+    if let Some(piece) = only_piece(map, blocks) {
+        let size = piece.count as usize * map.atom as usize;
+        let buffer = Bytes::new(vec![in alloc; 0u8; size]?);
+        begin(volume, ask, blocks);
+        return Ok(read_piece(volume, ask, piece, buffer));
+    }
+    let size = (blocks.end - blocks.start) as usize * map.atom as usize;
+    let content = Vec::with_capacity(alloc, size)?;
+    let spares = spares_for(alloc, map, blocks)?;
+    let grant = begin(volume, ask, blocks);
+    Ok(read_pieces(alloc, volume, ask, grant, content, spares))
+}
+
+/// Reads all pieces of a read that has begun into the content, up to the first that fails.
 fn read_pieces<D: Disk, C: SectorCipher + Copy>(
     alloc: Global,
     volume: &mut Volume<D, C>,
-    held: Held,
+    ask: Ask,
+    grant: Grant,
     mut content: Vec<u8>,
     mut spares: VecDeque<Bytes>,
 ) -> Option<Bytes>
-    requires reads { IsRead held.ask }
-    requires alone { IsAlone volume.old (going volume.old.map.atom held.ask held.grant.range.start) }
-    requires range { held.grant.range ≡ range_of volume.old.map.atom held.ask }
-    requires map { held.grant.map ≡ volume.old.map }
+    requires reads { IsRead ask }
+    requires alone { IsAlone volume.old (going volume.old.map.atom ask grant.range.start) }
+    requires range { grant.range ≡ range_of volume.old.map.atom ask }
+    requires map { grant.map ≡ volume.old.map }
     requires none { content.items ≡ [] }
-    requires room { IsOnePiece held.grant.map held.grant.range
-        ⊎ ((held.grant.range.end - held.grant.range.start) * held.grant.map.atom ≤ vec_capacity content) }
-    requires spares { AreEnough held.grant.map held.grant.range.end held.grant.range.start 0 spares.items }
+    requires room { (grant.range.end - grant.range.start) * grant.map.atom ≤ vec_capacity content }
+    requires spares { AreEnough grant.map grant.range.end grant.range.start 0 spares.items }
     ensures got { IfSome result (λ bytes. GoesOn
         (seals_of C.sealed C.opened volume.old.map.atom volume.old.keys)
         volume.old volume.new bytes) }
     ensures missed { IfNone result ((more : List ℕ) × GoesOn
         (seals_of C.sealed C.opened volume.old.map.atom volume.old.keys)
         volume.old volume.new more) }
-    ensures all { OnSome result (HasAll volume.new held.ask) }
-    ensures failed { IfNone result (HasFailed volume.new held.ask) }
+    ensures all { OnSome result (HasAll volume.new ask) }
+    ensures failed { IfNone result (HasFailed volume.new ask) }
 {
-    let Held { ask, grant } = held;
     let mut buffer = Bytes::new(Vec::new(alloc));
     let mut at = grant.range.start;
     'pieces: while let Some(piece) = grant.piece(at) {
@@ -95,14 +126,11 @@ fn read_pieces<D: Disk, C: SectorCipher + Copy>(
             Some(bytes) => bytes,
             None => return None,
         };
-        at = piece.first + piece.count;
-        if content.is_empty() && at == grant.range.end {
-            return Some(bytes);
-        }
         match content.extend_from_slice(bytes.as_slice()) {
             Ok(()) => {}
             Err(AllocError) => unreachable!(),
         }
+        at = piece.first + piece.count;
         buffer = bytes;
     }
     Some(Bytes::new(content))
@@ -130,10 +158,10 @@ fn read_piece<D: Disk, C: SectorCipher + Copy>(
     ensures length { IfSome result (λ bytes. length bytes ≡ size_of_piece volume.old.map piece) }
 {
     let map = volume.map();
-    let keys = volume.keys();
     match volume.piece_read(LANE, buffer) {
         PieceRead::Got(bytes) => {
             let mut bytes = bytes.into_vec();
+            let keys = volume.borrow_keys();
             keys.unseal(map.atom, piece, bytes.as_mut_slice());
             Some(Bytes::new(bytes))
         }

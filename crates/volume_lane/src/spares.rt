@@ -1,40 +1,30 @@
 // Buffers for the pieces of an operation.
 
-ghost use Rattle.std.specs.Prelude.{◌≡◌, ◌-◌, ◌*◌, ◌<◌, ◌≤◌, ◌⊎◌, ◌^◌, [], length, drop, IfOk, OnErr, vec_capacity, nat_lt, IsTrue, ◌↔◌, ◌∷◌, List, ℕ, if◌then◌else◌};
-ghost use Rattle.volume_core.specs.Sound.{MapFits};
-ghost use Rattle.volume_lane.specs.Spares.{AreEnough, IsOnePiece};
+ghost use Rattle.std.specs.Prelude.{◌≡◌, ◌+◌, ◌*◌, ◌<◌, ◌≤◌, length, drop, IfOk, OnErr, IfSome, IfNone, nat_lt, ◌∷◌, List, ℕ, if◌then◌else◌};
+ghost use Rattle.segment_map.specs.Maps.{IsNextPiece};
+ghost use Rattle.volume_lane.specs.Spares.{AreEnough};
 
 use base_terms::Bytes;
 use block_range::BlockRange;
-use segment_map::Map;
+use segment_map::{Map, Piece};
 use std::alloc::{AllocError, Global};
 use std::collections::VecDeque;
 
-/// Whether blocks are one piece.
-pub(crate) fn is_one_piece(map: Map, range: BlockRange) -> bool
-    requires { range.end ≤ map.blocks }
-    ensures { IsTrue result ↔ IsOnePiece map range }
-{
-    range.start < range.end && map.next_piece(range).count == range.end - range.start
-}
-
-/// Room for the content of the blocks: it is taken where they are more than one piece.
-pub(crate) fn content_for(alloc: Global, map: Map, range: BlockRange) -> Result<Vec<u8>, AllocError>
+/// The only piece of blocks that are one piece.
+pub(crate) fn only_piece(map: Map, range: BlockRange) -> Option<Piece>
     requires order { range.start ≤ range.end }
     requires inside { range.end ≤ map.blocks }
-    requires small { map.blocks * map.atom < 2 ^ 63 }
-    ensures none { IfOk result (λ content. content.items ≡ []) }
-    ensures room { IfOk result (λ content. IsOnePiece map range
-        ⊎ ((range.end - range.start) * map.atom ≤ vec_capacity content)) }
-    ensures err { OnErr result (range.start < range.end) }
+    ensures next { IfSome result (IsNextPiece map range) }
+    ensures whole { IfSome result (λ piece. piece.first + piece.count ≡ range.end) }
 {
-    if range.start == range.end || is_one_piece(map, range) {
-        return Ok(Vec::new(alloc));
+    if range.start == range.end {
+        return None;
     }
-    Vec::with_capacity(
-        alloc,
-        (range.end - range.start) as usize * map.atom as usize,
-    )
+    let piece = map.next_piece(range);
+    if piece.count < range.end - range.start {
+        return None;
+    }
+    Some(piece)
 }
 
 /// Buffers for the pieces of the blocks, of which a piece keeps that of the piece before it where it

@@ -1,26 +1,28 @@
 // Writes.
 
-ghost use Rattle.std.specs.Prelude.{◌≡◌, ◌+◌, ◌-◌, ◌*◌, ◌<◌, ◌≤◌, ◌⊎◌, true, false, List, [], ℕ, length, take, IfOk, OnErr, OnSome, IfSome, IfNone, ◌↔◌};
+ghost use Rattle.std.specs.Prelude.{◌≡◌, ◌+◌, ◌-◌, ◌*◌, ◌<◌, true, false, length, IfOk, OnErr, OnSome, IfSome, IfNone, ◌↔◌};
 ghost use Rattle.cipher_laws.specs.Bytes.{AreBytes};
 ghost use Rattle.plain_disk.specs.declared.operation.Op.TheVariants as Ops;
 ghost use Rattle.volume_core.specs.Asks.{IsForced, IsWrite, range_of};
 ghost use Rattle.volume_core.specs.Executing.{IsIdle};
 ghost use Rattle.volume_core.specs.Pieces.{size_of_piece};
 ghost use Rattle.volume_core.specs.Seals.{seals_of};
+ghost use Rattle.volume_core.specs.Steps.{IsReadyFor};
 ghost use Rattle.volume_core.specs.declared.ask.Ask.TheVariants as Asks;
-ghost use Rattle.volume_lane.specs.Lane.{GoesOn, HasAll, HasExecuted, HasFailed, HasTried, IsAlone, IsNext, IsReadyFor, going};
-ghost use Rattle.volume_lane.specs.Spares.{AreEnough, IsOnePiece};
+ghost use Rattle.volume_lane.specs.Lane.{GoesOn, HasExecuted, HasMade, HasTried, HasWritten, IsAlone, IsNext, WasTried, going};
+ghost use Rattle.volume_lane.specs.Spares.{AreEnough};
 
-use crate::beginning::{DEVICE_ERROR, Held, LANE, begin, served_blocks};
-use crate::spares::{fitting, is_one_piece, spares_for};
+use crate::beginning::{DEVICE_ERROR, LANE, begin};
+use crate::spares::{fitting, only_piece, spares_for};
 use base_terms::Bytes;
+use block_range::BlockRange;
 use cipher_laws::SectorCipher;
 use plain_disk::{Op, Reply};
 use sector_disk::Disk;
 use segment_map::Piece;
 use std::alloc::{AllocError, Global};
 use std::collections::VecDeque;
-use volume_core::{Ask, PieceWritten, Prepared, Settled, Volume};
+use volume_core::{Ask, Grant, PieceWritten, Prepared, Settled, Volume};
 
 /// Executes a write.
 pub(crate) fn write<D: Disk, C: SectorCipher + Copy>(
@@ -43,19 +45,12 @@ pub(crate) fn write<D: Disk, C: SectorCipher + Copy>(
         length: body.len() as u64,
         fua,
     };
-    let map = volume.map();
-    let blocks = served_blocks(volume, ask);
-    let spares = if is_one_piece(map, blocks) {
-        VecDeque::new(alloc)
-    } else {
-        spares_for(alloc, map, blocks)?
-    };
-    let held = match begin(volume, ask) {
-        Ok(held) => held,
+    let blocks = match volume.judge(ask) {
+        Ok(blocks) => blocks,
         Err(number) => return Ok(Reply::Errno(number)),
     };
     let is_forced = fua && !body.is_empty();
-    if write_for_good(alloc, volume, held, body, spares, is_forced) {
+    if write_for_good(alloc, volume, ask, blocks, body, is_forced)? {
         volume.finish(LANE);
         return Ok(Reply::Done);
     }
@@ -63,74 +58,101 @@ pub(crate) fn write<D: Disk, C: SectorCipher + Copy>(
     Ok(Reply::Errno(DEVICE_ERROR))
 }
 
-/// Writes all pieces of a write that has begun and, where it is forced, waits until they are certain
-/// to be kept. False where one of these failed.
+/// Begins a write of these blocks and writes their pieces and, where it is forced, waits until they
+/// are certain to be kept. False where one of these failed.
 fn write_for_good<D: Disk, C: SectorCipher + Copy>(
     alloc: Global,
     volume: &mut Volume<D, C>,
-    held: Held,
+    ask: Ask,
+    blocks: BlockRange,
     body: Bytes,
-    spares: VecDeque<Bytes>,
     is_forced: bool,
-) -> bool
-    requires writes { IsWrite held.ask }
-    requires forced { (is_forced ≡ true) ↔ IsForced held.ask }
-    requires alone { IsAlone volume.old (going volume.old.map.atom held.ask held.grant.range.start) }
-    requires range { held.grant.range ≡ range_of volume.old.map.atom held.ask }
-    requires map { held.grant.map ≡ volume.old.map }
-    requires body { length body ≡ (held.grant.range.end - held.grant.range.start) * held.grant.map.atom }
-    requires spares { (IsOnePiece held.grant.map held.grant.range → ⊥)
-        → AreEnough held.grant.map held.grant.range.end held.grant.range.start 0 spares.items }
-    ensures done { result ≡ true → GoesOn
+) -> Result<bool, AllocError>
+    requires lanes { 1 < length volume.old.lanes }
+    requires idle { IsIdle volume.old }
+    requires writes { IsWrite ask }
+    requires forced { (is_forced ≡ true) ↔ IsForced ask }
+    requires ready { IsReadyFor volume.old ask }
+    requires blocks { blocks ≡ range_of volume.old.map.atom ask }
+    requires body { length body ≡ (blocks.end - blocks.start) * volume.old.map.atom }
+    ensures made { IfOk result (λ done. done ≡ true → HasMade
         (seals_of C.sealed C.opened volume.old.map.atom volume.old.keys)
-        volume.old volume.new body }
-    ensures all { result ≡ true → HasAll volume.new held.ask }
-    ensures failed { result ≡ false → HasTried
+        volume.old volume.new ask body) }
+    ensures tried { IfOk result (λ done. done ≡ false → WasTried
         (seals_of C.sealed C.opened volume.old.map.atom volume.old.keys)
-        volume.old volume.new held.ask body }
+        volume.old volume.new ask body) }
+    ensures err { OnErr result (volume.new ≡ volume.old) }
 {
-    if !write_pieces(alloc, volume, held, body.into_vec(), spares) {
-        return false;
+    if !write_blocks(alloc, volume, ask, blocks, body.into_vec())? {
+        return Ok(false);
     }
     if !is_forced {
-        return true;
+        return Ok(true);
     }
     match volume.settle(LANE) {
-        Settled::Done => true,
-        Settled::Device => false,
-        Settled::Broken => false,
+        Settled::Done => Ok(true),
+        Settled::Device => Ok(false),
+        Settled::Broken => Ok(false),
     }
 }
 
+/// Begins a write of these blocks and writes their pieces, up to the first that fails, and tells
+/// whether none did. The body is the buffer of an only piece.
+fn write_blocks<D: Disk, C: SectorCipher + Copy>(
+    alloc: Global,
+    volume: &mut Volume<D, C>,
+    ask: Ask,
+    blocks: BlockRange,
+    body: Vec<u8>,
+) -> Result<bool, AllocError>
+    requires lanes { 1 < length volume.old.lanes }
+    requires idle { IsIdle volume.old }
+    requires writes { IsWrite ask }
+    requires ready { IsReadyFor volume.old ask }
+    requires blocks { blocks ≡ range_of volume.old.map.atom ask }
+    requires body { length body.items ≡ (blocks.end - blocks.start) * volume.old.map.atom }
+    ensures written { IfOk result (λ done. done ≡ true → HasWritten
+        (seals_of C.sealed C.opened volume.old.map.atom volume.old.keys)
+        volume.old volume.new ask body.items) }
+    ensures tried { IfOk result (λ done. done ≡ false → WasTried
+        (seals_of C.sealed C.opened volume.old.map.atom volume.old.keys)
+        volume.old volume.new ask body.items) }
+    ensures err { OnErr result (volume.new ≡ volume.old) }
+{
+    let map = volume.map();
+    if let Some(piece) = only_piece(map, blocks) {
+        begin(volume, ask, blocks);
+        return Ok(write_piece(volume, ask, piece, body).is_some());
+    }
+    let spares = spares_for(alloc, map, blocks)?;
+    let grant = begin(volume, ask, blocks);
+    Ok(write_pieces(alloc, volume, ask, grant, body.as_slice(), spares))
+}
+
 /// Writes all pieces of a write that has begun, up to the first that fails, and tells whether none
-/// did. Where there is only one, the body is its buffer.
+/// did.
 fn write_pieces<D: Disk, C: SectorCipher + Copy>(
     alloc: Global,
     volume: &mut Volume<D, C>,
-    held: Held,
-    body: Vec<u8>,
+    ask: Ask,
+    grant: Grant,
+    body: &[u8],
     mut spares: VecDeque<Bytes>,
 ) -> bool
-    requires writes { IsWrite held.ask }
-    requires alone { IsAlone volume.old (going volume.old.map.atom held.ask held.grant.range.start) }
-    requires range { held.grant.range ≡ range_of volume.old.map.atom held.ask }
-    requires map { held.grant.map ≡ volume.old.map }
-    requires body { length body.items ≡ (held.grant.range.end - held.grant.range.start) * held.grant.map.atom }
-    requires spares { (IsOnePiece held.grant.map held.grant.range → ⊥)
-        → AreEnough held.grant.map held.grant.range.end held.grant.range.start 0 spares.items }
+    requires writes { IsWrite ask }
+    requires alone { IsAlone volume.old (going volume.old.map.atom ask grant.range.start) }
+    requires range { grant.range ≡ range_of volume.old.map.atom ask }
+    requires map { grant.map ≡ volume.old.map }
+    requires body { length body.now ≡ (grant.range.end - grant.range.start) * grant.map.atom }
+    requires spares { AreEnough grant.map grant.range.end grant.range.start 0 spares.items }
     ensures done { result ≡ true → GoesOn
         (seals_of C.sealed C.opened volume.old.map.atom volume.old.keys)
-        volume.old volume.new body.items }
-    ensures all { result ≡ true → IsAlone volume.new (going volume.old.map.atom held.ask held.grant.range.end) }
+        volume.old volume.new body.now }
+    ensures all { result ≡ true → IsAlone volume.new (going volume.old.map.atom ask grant.range.end) }
     ensures failed { result ≡ false → HasTried
         (seals_of C.sealed C.opened volume.old.map.atom volume.old.keys)
-        volume.old volume.new held.ask body.items }
+        volume.old volume.new ask body.now }
 {
-    let Held { ask, grant } = held;
-    if is_one_piece(grant.map, grant.range) {
-        let piece = grant.map.next_piece(grant.range);
-        return write_piece(volume, ask, piece, body).is_some();
-    }
     let mut buffer = Bytes::new(Vec::new(alloc));
     let mut at = grant.range.start;
     let mut from = 0;

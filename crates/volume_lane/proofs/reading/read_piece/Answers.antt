@@ -9,17 +9,21 @@ piece_read-requires-clause-meets g c = next-reads _ c.args.ask c.args.piece c.re
 
 pub unseal-requires-clause-fits : goal.unseal-requires-clause-fits
 unseal-requires-clause-fits g c =
+    let seals = seals_of g.C.SectorCipher.sealed g.C.SectorCipher.opened c.args.volume.now.map.atom c.args.volume.now.keys in
+    let meets = next-reads _ c.args.ask c.args.piece c.requires.next c.requires.reads in
+    let on = (read-got seals _ _ c.args.ask c.args.piece c.in-Got.bytes c.requires.next meets c.in-Got.ensures.step).0 in
     piece-keys g.C.SectorCipher.sector c.args.volume.now _ c.map-map.result c.args.ask c.args.piece c.map-map.ensures.is c.map-map.ensures.sound c.requires.next
-    c.keys-keys.ensures.fits
+    (rw on.map at c.borrow_keys-keys.ensures.fits)
 
 pub returns-in-Got-clause-got : goal.returns-in-Got-clause-got
 returns-in-Got-clause-got g c =
     let seals = seals_of g.C.SectorCipher.sealed g.C.SectorCipher.opened c.args.volume.now.map.atom c.args.volume.now.keys in
     let meets = next-reads _ c.args.ask c.args.piece c.requires.next c.requires.reads in
+    let on = (read-got seals _ _ c.args.ask c.args.piece c.in-Got.bytes c.requires.next meets c.in-Got.ensures.step).0 in
     let is : c.new.result ≡ seals.opened c.args.piece.side c.args.piece.first c.in-Got.bytes =
     c.new.ensures ∙ take_at c.unseal.new.bytes _ c.into_vec-bytes.result.len (c.unseal.auto.bytes ∙ c.as_mut_slice.ensures.len)
-    ∙ rw (c.keys-keys.ensures.is, c.map-map.ensures.is, c.as_mut_slice.ensures.value, c.into_vec-bytes.ensures) at c.unseal.ensures in
-    rw is (read-got seals _ _ c.args.ask c.args.piece c.in-Got.bytes c.requires.next meets c.in-Got.ensures.step).0
+    ∙ rw (c.borrow_keys-keys.ensures.is, on.keys, c.map-map.ensures.is, c.as_mut_slice.ensures.value, c.into_vec-bytes.ensures) at c.unseal.ensures in
+    rw is on
 
 pub returns-in-Got-clause-goes_on : goal.returns-in-Got-clause-goes_on
 returns-in-Got-clause-goes_on g c =

@@ -1,7 +1,7 @@
-use Rattle.std.proofs.Common.{◌≡◌, ◌⊎◌, ◌-◌, ◌*◌, ◌≤◌, length, vec_capacity}
+use Rattle.std.proofs.Common.{◌≡◌, ◌-◌, ◌*◌, ◌≤◌, length, vec_capacity}
 use Rattle.volume_core.specs.Seals.{seals_of}
 use Rattle.volume_lane.specs.Lane.{GoesOn, IsAlone, going}
-use Rattle.volume_lane.specs.Spares.{AreEnough, IsOnePiece}
+use Rattle.volume_lane.specs.Spares.{AreEnough}
 use Rattle.volume_lane.proofs.reading.read_pieces.Given as goal
 
 abbrev pub invariant-pieces : goal.invariant-pieces
@@ -11,8 +11,7 @@ invariant-pieces g l = record {
   starts : l.grant.range.start ≤ l.at;
   within : l.at ≤ l.grant.range.end;
   size : length l.content.items ≡ (l.at - l.grant.range.start) * l.grant.map.atom;
-  room : (IsOnePiece l.grant.map l.grant.range × (l.at ≡ l.grant.range.start))
-      ⊎ ((l.grant.range.end - l.grant.range.start) * l.grant.map.atom ≤ vec_capacity l.content);
+  room : (l.grant.range.end - l.grant.range.start) * l.grant.map.atom ≤ vec_capacity l.content;
   enough : AreEnough l.grant.map l.grant.range.end l.at (length l.buffer) l.spares.items;
 }
 

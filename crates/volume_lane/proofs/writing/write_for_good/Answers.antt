@@ -1,40 +1,40 @@
-use Rattle.std.proofs.Common.{refl, ap, arith}
-use Rattle.volume_core.specs.Asks.{IsForced}
-use Rattle.volume_core.specs.Seals.{seals_of}
+use Rattle.std.proofs.Common.{refl}
+use Rattle.volume_core.specs.Asks.{IsForced, range_of}
+use Rattle.volume_lane.proofs.LaneBegun.{made-written, made-settled, tried-settled}
 use Rattle.volume_lane.proofs.LaneEvents.{ready-settles, settle-done, settle-device, settle-broken}
-use Rattle.volume_lane.proofs.LanePieces.{tried-whole, whole-behind}
 use Rattle.volume_lane.proofs.writing.write_for_good.Goals as goal
+
+pub returns-then-not-branch-clause-tried : goal.returns-then-not-branch-clause-tried
+returns-then-not-branch-clause-tried g c is = rw c.into_vec.ensures at c.in_ok-write_blocks.ensures.tried c.if-not-branch.true
+
+pub returns-then-not-is_forced-clause-made : goal.returns-then-not-is_forced-clause-made
+returns-then-not-is_forced-clause-made g c is =
+    made-written _ _ _ c.args.ask _ (rw c.into_vec.ensures at c.in_ok-write_blocks.ensures.written c.if-not-branch.false)
+    (λ forced. let must = c.requires.forced.1 forced in let not = c.if-not-is_forced.true in absurd (cc))
 
 pub settle-requires : goal.settle-requires
 settle-requires g c =
-    let forced : IsForced c.args.held.ask = c.requires.forced.0 (let no = c.if-not-is_forced.false in grind (arith, no)) in
-    ready-settles _ c.args.volume.now.map.atom c.args.held.grant.range.end c.args.held.ask (c.if-not-write_pieces.ensures.all refl) forced
-    (ap (λ r. r.end) c.requires.range)
+    let forced : IsForced c.args.ask = c.requires.forced.0 c.if-not-is_forced.false in
+    let written = c.in_ok-write_blocks.ensures.written c.if-not-branch.false in
+    ready-settles _ c.args.volume.now.map.atom (range_of c.args.volume.now.map.atom c.args.ask).end c.args.ask written.alone forced refl
 
-pub returns-in-Done-clause-done : goal.returns-in-Done-clause-done
-returns-in-Done-clause-done g c is =
-    let forced : IsForced c.args.held.ask = c.requires.forced.0 (let no = c.if-not-is_forced.false in grind (arith, no)) in
-    whole-behind g.C.SectorCipher.sealed g.C.SectorCipher.opened _ _ _ c.args.body _ c.into_vec.ensures (c.if-not-write_pieces.ensures.done refl)
-    (settle-done _ _ _ c.args.volume.now.map.atom c.args.held.grant.range.end c.args.held.ask (c.if-not-write_pieces.ensures.all refl) forced
-    (ap (λ r. r.end) c.requires.range) c.in-Done.ensures).0
+pub returns-in-Done-clause-made : goal.returns-in-Done-clause-made
+returns-in-Done-clause-made g c is =
+    let forced : IsForced c.args.ask = c.requires.forced.0 c.if-not-is_forced.false in
+    let written = rw c.into_vec.ensures at c.in_ok-write_blocks.ensures.written c.if-not-branch.false in
+    made-settled g.C.SectorCipher.sealed g.C.SectorCipher.opened c.args.volume.now _ _ c.args.ask c.args.body written
+    (settle-done _ _ _ c.args.volume.now.map.atom (range_of c.args.volume.now.map.atom c.args.ask).end c.args.ask written.alone forced refl c.in-Done.ensures)
 
-pub returns-in-Done-clause-all : goal.returns-in-Done-clause-all
-returns-in-Done-clause-all g c is =
-    let forced : IsForced c.args.held.ask = c.requires.forced.0 (let no = c.if-not-is_forced.false in grind (arith, no)) in
-    let seals = seals_of g.C.SectorCipher.sealed g.C.SectorCipher.opened c.args.volume.now.map.atom c.args.volume.now.keys in
-    (settle-done seals _ _ c.args.volume.now.map.atom c.args.held.grant.range.end c.args.held.ask (c.if-not-write_pieces.ensures.all refl) forced
-    (ap (λ r. r.end) c.requires.range) c.in-Done.ensures).1
+pub returns-in-Device-clause-tried : goal.returns-in-Device-clause-tried
+returns-in-Device-clause-tried g c is =
+    let forced : IsForced c.args.ask = c.requires.forced.0 c.if-not-is_forced.false in
+    let written = rw c.into_vec.ensures at c.in_ok-write_blocks.ensures.written c.if-not-branch.false in
+    tried-settled g.C.SectorCipher.sealed g.C.SectorCipher.opened c.args.volume.now _ _ c.args.ask c.args.body written
+    (settle-device _ _ _ c.args.volume.now.map.atom (range_of c.args.volume.now.map.atom c.args.ask).end c.args.ask written.alone forced refl c.in-Device.ensures)
 
-pub returns-in-Device-clause-failed : goal.returns-in-Device-clause-failed
-returns-in-Device-clause-failed g c is =
-    let forced : IsForced c.args.held.ask = c.requires.forced.0 (let no = c.if-not-is_forced.false in grind (arith, no)) in
-    tried-whole g.C.SectorCipher.sealed g.C.SectorCipher.opened _ _ _ c.args.held.ask c.args.body _ c.into_vec.ensures (c.if-not-write_pieces.ensures.done refl)
-    (settle-device _ _ _ c.args.volume.now.map.atom c.args.held.grant.range.end c.args.held.ask (c.if-not-write_pieces.ensures.all refl) forced
-    (ap (λ r. r.end) c.requires.range) c.in-Device.ensures)
-
-pub returns-in-Broken-clause-failed : goal.returns-in-Broken-clause-failed
-returns-in-Broken-clause-failed g c is =
-    let forced : IsForced c.args.held.ask = c.requires.forced.0 (let no = c.if-not-is_forced.false in grind (arith, no)) in
-    tried-whole g.C.SectorCipher.sealed g.C.SectorCipher.opened _ _ _ c.args.held.ask c.args.body _ c.into_vec.ensures (c.if-not-write_pieces.ensures.done refl)
-    (settle-broken _ _ _ c.args.volume.now.map.atom c.args.held.grant.range.end c.args.held.ask (c.if-not-write_pieces.ensures.all refl) forced
-    (ap (λ r. r.end) c.requires.range) c.in-Broken.ensures)
+pub returns-in-Broken-clause-tried : goal.returns-in-Broken-clause-tried
+returns-in-Broken-clause-tried g c is =
+    let forced : IsForced c.args.ask = c.requires.forced.0 c.if-not-is_forced.false in
+    let written = rw c.into_vec.ensures at c.in_ok-write_blocks.ensures.written c.if-not-branch.false in
+    tried-settled g.C.SectorCipher.sealed g.C.SectorCipher.opened c.args.volume.now _ _ c.args.ask c.args.body written
+    (settle-broken _ _ _ c.args.volume.now.map.atom (range_of c.args.volume.now.map.atom c.args.ask).end c.args.ask written.alone forced refl c.in-Broken.ensures)

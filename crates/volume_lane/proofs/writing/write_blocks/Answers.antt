@@ -1,0 +1,23 @@
+use Rattle.std.proofs.Common.{sym, ◌∙◌}
+use Rattle.volume_lane.proofs.LaneBegun.{written-piece, tried-piece, written-pieces, tried-first}
+use Rattle.volume_lane.proofs.writing.write_blocks.Goals as goal
+
+pub returns-in-Some-clause-written : goal.returns-in-Some-clause-written
+returns-in-Some-clause-written g c is =
+    written-piece g.C.SectorCipher.sealed g.C.SectorCipher.opened c.args.volume.now _ _ c.args.ask c.args.blocks c.in-Some.piece _ c.write_piece.result
+    c.begin.ensures.begun c.requires.blocks c.in-Some.ensures.whole c.write_piece.ensures.done c.write_piece.ensures.goes_on (sym c.is_some.ensures ∙ is)
+
+pub returns-in-Some-clause-tried : goal.returns-in-Some-clause-tried
+returns-in-Some-clause-tried g c is =
+    tried-piece g.C.SectorCipher.sealed g.C.SectorCipher.opened c.args.volume.now _ _ c.args.ask _ c.write_piece.result c.begin.ensures.begun
+    c.write_piece.ensures.tried (sym c.is_some.ensures ∙ is)
+
+pub returns-clause-written : goal.returns-clause-written
+returns-clause-written g c is =
+    written-pieces g.C.SectorCipher.sealed g.C.SectorCipher.opened c.args.volume.now _ _ c.args.ask c.args.blocks _ c.begin-grant.ensures.begun c.requires.blocks
+    (rw c.as_slice.ensures.value at c.write_pieces.ensures.done is) (rw c.begin-grant.ensures.range at c.write_pieces.ensures.all is)
+
+pub returns-clause-tried : goal.returns-clause-tried
+returns-clause-tried g c is =
+    tried-first g.C.SectorCipher.sealed g.C.SectorCipher.opened c.args.volume.now _ _ c.args.ask _ c.begin-grant.ensures.begun
+    (rw c.as_slice.ensures.value at c.write_pieces.ensures.failed is)
