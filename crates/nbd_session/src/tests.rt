@@ -184,7 +184,7 @@ fn each_request_is_answered_however_the_bytes_come(rt: HostRuntime) -> Result<()
         assert_eq!(rt; ended, end(Ending::Disconnected, 650, 664), "{piece}");
         assert_eq!(rt; sink.inner.as_slice(), wanted.as_slice(), "{piece}");
         assert_eq!(rt; (sink.times, sink.out), (5, 664), "each message is let out");
-        assert_eq!(rt; sink.puts, 5, "each message is one piece");
+        assert_eq!(rt; sink.puts, 6, "a read's data is a piece of its own");
         assert_eq!(rt; port.bytes, [0xa5; 512], "{piece}");
     }
     Ok(())
@@ -424,7 +424,9 @@ fn a_session_ends_by_a_fault(rt: HostRuntime) -> Result<(), Fail> {
     for (room, take, call, ending, taken, put) in [
         (17, 99, 99, Ending::WriteFault, 0, 0),
         (103, 99, 99, Ending::WriteFault, 26, 18),
-        (647, 99, 99, Ending::WriteFault, 594, 120),
+        (135, 99, 99, Ending::WriteFault, 594, 120),
+        (136, 99, 99, Ending::WriteFault, 594, 136),
+        (647, 99, 99, Ending::WriteFault, 594, 136),
         (663, 99, 99, Ending::WriteFault, 622, 648),
         (664, 99, 1, Ending::WriteFault, 0, 18),
         (664, 0, 99, Ending::ReadFault, 0, 18),
