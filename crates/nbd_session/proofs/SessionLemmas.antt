@@ -1,10 +1,9 @@
 -- A whole session of its parts.
-use Rattle.std.proofs.Common.{◌≡◌, ℕ, ◌+◌, ◌^◌, ◌<◌, Bool, true, false, List, [], ◌∷◌, ◌++◌, Option, Some, None, Ok, Err, length, ap, ◌∙◌, refl, sym, subst, arith, append_assoc, append-nil}
+use Rattle.std.proofs.Common.{◌≡◌, ℕ, ◌^◌, ◌<◌, Bool, List, [], ◌∷◌, ◌++◌, Option, Some, Ok, Err, ap, ◌∙◌, refl, sym, subst, arith, append_assoc, append-nil}
 use Rattle.nbd_session.specs.declared.ending.Ending.{Ending}
 use Rattle.nbd_session.specs.declared.ending.SessionEnd.{SessionEnd}
 use Rattle.nbd_session.specs.declared.export.Export.{Export}
-use Rattle.nbd_session.specs.declared.options.Course.TheVariants.{Begins}
-use Rattle.nbd_session.specs.Grammar.{AreOptions, AreRequests, answers_to, last_answer}
+use Rattle.nbd_session.specs.Grammar.{AreRequests, answers_to, last_answer}
 use Rattle.nbd_session.specs.Moments.{Moment, Talks, moment}
 use Rattle.nbd_session.specs.Negotiation.{Negotiates}
 use Rattle.nbd_session.specs.Serving.{Serves}
