@@ -27,10 +27,8 @@ pub fn put_message<K: Sink>(sink: &mut K, bytes: &[u8], put: &mut u64) -> Result
     ensures { (whole : List ℕ) × (front : List ℕ) × Puts (K.had sink.old) (K.had sink.new) (K.faults sink.old)
         (K.faults sink.new) put.old put.new bytes.now result whole front }
 {
-    match put_piece(sink, bytes, put) {
-        Ok(()) => sink.push_out(),
-        Err(failed) => Err(failed),
-    }
+    put_piece(sink, bytes, put)?;
+    sink.push_out()
 }
 
 /// Puts a simple reply, its head and the data of a read behind it as a second piece, and lets it go
