@@ -5,7 +5,7 @@ ghost use Rattle.std.specs.Io.KnownBytes.{Keeps, WriteAppends, append_known};
 use std::alloc::Global;
 use std::io::{self, ErrorKind, Write};
 
-/// A writer that can write two pieces, one behind the other, by one call.
+/// A writer that can be given two pieces at once, one behind the other.
 pub trait WritePair: Write {
     /// Writes a front of the two pieces together, and says how many bytes. A call that fails writes
     /// nothing.
@@ -15,8 +15,8 @@ pub trait WritePair: Write {
 }
 
 /// A writer that holds back short pieces until they are flushed or a longer one follows, and writes
-/// them together with that one. So the head of a reply leaves with its data, by one call and without
-/// a copy of the data. What is held back when it is dropped is written then.
+/// them together with that one. So the head of a reply and its data leave together: a short piece is
+/// copied, a long one is not. What is held back when it is dropped is written then.
 pub struct GatheringWriter<W: WritePair + Drop> {
     writer: W,
     held: Vec<u8>,

@@ -1,11 +1,11 @@
 -- What is to be said of an input where an option is to come, as a function of the input.
-use Rattle.std.proofs.Common.{◌≡◌, ◌≢◌, ℕ, ◌+◌, ◌^◌, ◌<◌, ◌≤◌, ◌==◌, Bool, true, false, nat_lt, List, [], ◌∷◌, ◌++◌, Option, Some, None, length, take, drop, ap, ◌∙◌, refl, sym, subst, arith, take_at, append_assoc, append-nil, length-append, ⊎_elim, inl, inr}
-use Rattle.std.proofs.lemmas.List.{drop_at, take-append-le}
+use Rattle.std.proofs.Common.{◌≡◌, ℕ, ◌+◌, ◌<◌, ◌≤◌, ◌==◌, Bool, true, false, nat_lt, List, [], ◌∷◌, ◌++◌, Option, Some, None, length, take, drop, ap, ◌∙◌, refl, sym, subst, arith, take_at, append_assoc, append-nil, length-append, ⊎_elim}
+use Rattle.std.proofs.lemmas.List.{drop_at}
 use Rattle.std.proofs.lemmas.Bool.{lt-ltb, le-ltb, eq-eqb, ne_eqb}
 use Rattle.std.proofs.lemmas.Nat.{from_be_bytes-to_be_bytes_4, from_be_bytes-to_be_bytes_8}
-use Rattle.std.specs.Int.{w32, w64, from_be_bytes, to_be_bytes}
+use Rattle.std.specs.Int.{w32, w64, from_be_bytes}
 use Rattle.nbd_session.specs.declared.ending.Ending.{Ending}
-use Rattle.nbd_session.specs.declared.ending.Ending.TheVariants.{Disconnected, Aborted, Closed, Truncated, BadFlags, BadMagic, TooLong, UnknownExport, TooMany, PortSpent, ReadFault, WriteFault, Memory}
+use Rattle.nbd_session.specs.declared.ending.Ending.TheVariants.{Closed, Truncated, BadMagic, TooLong, TooMany, PortSpent, ReadFault, WriteFault, Memory}
 use Rattle.nbd_session.specs.declared.options.ClientOption.{ClientOption}
 use Rattle.nbd_session.specs.declared.options.Course.{Course}
 use Rattle.nbd_session.specs.declared.options.Course.TheVariants.{GoesOn, Begins, Ends}

@@ -1,12 +1,12 @@
 -- What is to be said of an input where a request is to come, as a function of the input.
-use Rattle.std.proofs.Common.{◌≡◌, ◌≢◌, ℕ, ◌+◌, ◌^◌, ◌<◌, ◌≤◌, ◌==◌, Bool, true, false, nat_lt, List, [], ◌∷◌, ◌++◌, Option, Some, None, length, take, drop, ap, ◌∙◌, refl, sym, subst, arith, take_at, append_assoc, append-nil, length-append, ⊎_elim}
-use Rattle.std.proofs.lemmas.List.{drop_at, take-append-le}
+use Rattle.std.proofs.Common.{◌≡◌, ℕ, ◌+◌, ◌^◌, ◌<◌, ◌≤◌, ◌==◌, Bool, true, false, nat_lt, List, [], ◌++◌, Option, Some, None, length, take, drop, ap, ◌∙◌, sym, subst, arith, take_at, append_assoc, append-nil, length-append, ⊎_elim}
+use Rattle.std.proofs.lemmas.List.{drop_at}
 use Rattle.std.proofs.lemmas.Bool.{lt-ltb, le-ltb, eq-eqb, ne_eqb}
 use Rattle.std.proofs.lemmas.Nat.{from_be_bytes-to_be_bytes_2, from_be_bytes-to_be_bytes_4, from_be_bytes-to_be_bytes_8}
 use Rattle.std.specs.Int.{w16, w32, w64, from_be_bytes}
 use Rattle.plain_disk.specs.declared.operation.Op.{Op}
 use Rattle.nbd_session.specs.declared.ending.Ending.{Ending}
-use Rattle.nbd_session.specs.declared.ending.Ending.TheVariants.{Disconnected, Aborted, Closed, Truncated, BadFlags, BadMagic, TooLong, UnknownExport, TooMany, PortSpent, ReadFault, WriteFault, Memory}
+use Rattle.nbd_session.specs.declared.ending.Ending.TheVariants.{Disconnected, Closed, Truncated, BadMagic, TooLong, TooMany, PortSpent, ReadFault, WriteFault, Memory}
 use Rattle.nbd_session.specs.Grammar.{EndsRequests, IsCount}
 use Rattle.nbd_session.specs.Reading.{Asked, IsByInput}
 use Rattle.nbd_session.specs.Requests.{ending_of, data_length, operation_of, IsMessage, IsCutRequest, IsLastHead}

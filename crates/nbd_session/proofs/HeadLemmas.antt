@@ -1,5 +1,5 @@
 -- A message of which head and data were taken one after the other.
-use Rattle.std.proofs.Common.{◌≡◌, ℕ, ◌+◌, ◌^◌, ◌<◌, ◌≤◌, Bool, true, false, nat_lt, if◌then◌else◌, List, [], ◌++◌, Option, Some, None, Result, Ok, Err, length, ap, ◌∙◌, refl, sym, subst, arith, inl, inr, append-nil, length-append}
+use Rattle.std.proofs.Common.{◌≡◌, ℕ, ◌+◌, ◌<◌, ◌≤◌, Bool, true, false, nat_lt, if◌then◌else◌, List, [], ◌++◌, Option, Some, None, Result, Ok, Err, length, ap, ◌∙◌, refl, sym, subst, arith, inr, append-nil, length-append}
 use Rattle.std.proofs.lemmas.Bool.{lt-ltb, le-ltb}
 use Rattle.base_terms.specs.Causes.{Rose}
 use Rattle.plain_disk.specs.declared.operation.Op.{Op}
@@ -13,14 +13,13 @@ use Rattle.nbd_session.specs.declared.filling.Filled.TheVariants as Fillings
 use Rattle.nbd_session.specs.declared.taking.Data.{Data}
 use Rattle.nbd_session.specs.declared.taking.Data.TheVariants.{Whole, NoMemory, Ended, Fault}
 use Rattle.nbd_session.specs.Counts.{capped}
-use Rattle.nbd_session.specs.Grammar.{IsOption, head_with, StopsOptions, StopsRequests}
+use Rattle.nbd_session.specs.Grammar.{head_with, StopsRequests}
 use Rattle.nbd_session.specs.Moments.{calm, trouble_of}
 use Rattle.nbd_session.specs.Requests.{ending_by, ending_of, data_length, data_length_by, operation_of, operation_by, IsMessage, IsLastHead, IsRefusal}
 use Rattle.nbd_session.specs.Taking.{HeadIs, DataIs, OptionIs, NextCase, NextIs, BehindHead, StopsBy, TakesUpTo}
 use Rattle.nbd_session.specs.Traffic.{Intake, Takes, HasEnded}
 use Rattle.nbd_session.proofs.TrafficLemmas.{took_none, took_more, ended_later, rose_earlier}
 use Rattle.nbd_wire.specs.declared.options.OptionHead.{OptionHead}
-use Rattle.nbd_wire.specs.declared.options.OptionType.{OptionType}
 use Rattle.nbd_wire.specs.declared.requests.CommandType.{CommandType}
 use Rattle.nbd_wire.specs.declared.requests.CommandType.TheVariants.{Read, Write, Disc, Flush}
 use Rattle.nbd_wire.specs.declared.requests.RequestHead.{RequestHead}

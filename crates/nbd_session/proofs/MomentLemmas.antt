@@ -1,10 +1,10 @@
 -- What went between two moments, joined.
-use Rattle.std.proofs.Common.{◌≡◌, ℕ, ◌+◌, ◌≤◌, List, [], ◌++◌, Option, Result, length, ap, sym, subst, arith, append_assoc, append-nil, length-append}
+use Rattle.std.proofs.Common.{ℕ, List, [], ◌++◌, Option, Result, ap, sym, subst, arith, append_assoc, append-nil, length-append}
 use Rattle.base_terms.specs.declared.failed.Failed.{Failed}
 use Rattle.nbd_session.specs.Counts.{capped}
 use Rattle.nbd_session.specs.Moments.{Moment, Traffic, moment}
 use Rattle.nbd_session.specs.Putting.{Puts}
-use Rattle.nbd_session.specs.Traffic.{Intake, intake, Takes, Sent}
+use Rattle.nbd_session.specs.Traffic.{Intake, Takes, Sent}
 use Rattle.nbd_session.proofs.TrafficLemmas.{took_none, took_more, sent_none, sent_more}
 
 -- nothing went

@@ -1,5 +1,5 @@
 -- The exits of a negotiation.
-use Rattle.std.proofs.Common.{◌≡◌, ◌≢◌, ℕ, ◌+◌, ◌<◌, Bool, true, false, not, ◌==◌, IsTrue, ◌↔◌, List, [], ◌∷◌, ◌++◌, Option, Some, None, Result, Ok, Err, length, ap, ◌∙◌, refl, sym, subst, arith, inl, inr, append_assoc, append-nil, ⊎_elim}
+use Rattle.std.proofs.Common.{◌≡◌, ◌≢◌, ℕ, ◌+◌, ◌<◌, Bool, true, false, not, ◌==◌, IsTrue, ◌↔◌, List, [], ◌∷◌, ◌++◌, Option, Some, None, Result, Ok, Err, length, ap, ◌∙◌, refl, sym, subst, arith, inl, inr, append-nil, ⊎_elim}
 use Rattle.std.proofs.lemmas.Bool.{ne_eqb}
 use Rattle.std.proofs.lemmas.Bool.Decides.{eqb_tells}
 use Rattle.base_terms.specs.declared.failed.Failed.{Failed}
@@ -11,7 +11,7 @@ use Rattle.nbd_session.specs.declared.options.Course.TheVariants.{Begins, Ends}
 use Rattle.nbd_session.specs.Grammar.{AreOptions, answers_to, last_answer}
 use Rattle.nbd_session.specs.Moments.{Moment, Talks}
 use Rattle.nbd_session.specs.Negotiation.{FlagsAre, Answers, Negotiates, ending_in, course_to}
-use Rattle.nbd_session.specs.Session.{Log, greeted, negotiating, served, greeting, messages_of, no_zeroes, HasFlags, IsBegun, IsUnserved}
+use Rattle.nbd_session.specs.Session.{Log, greeted, negotiating, greeting, messages_of, no_zeroes, IsBegun, IsUnserved}
 use Rattle.std.specs.Prelude.{MatchResult}
 use Rattle.nbd_session.specs.Traffic.{Intake}
 use Rattle.nbd_session.specs.Turns.{replies_to}

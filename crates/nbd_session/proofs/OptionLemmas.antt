@@ -1,5 +1,5 @@
 -- Options that were answered, joined.
-use Rattle.std.proofs.Common.{◌≡◌, ℕ, ◌+◌, ◌^◌, ◌<◌, ◌≤◌, Bool, true, false, List, [], ◌∷◌, ◌++◌, map, Option, Some, None, Result, Ok, Err, length, ap, ◌∙◌, refl, sym, subst, arith, inl, inr, append_assoc, append-nil, length-append}
+use Rattle.std.proofs.Common.{◌≡◌, ℕ, ◌+◌, ◌<◌, Bool, true, false, List, [], ◌∷◌, ◌++◌, Option, Some, None, Ok, Err, length, ap, ◌∙◌, refl, sym, subst, arith, inl, inr, append_assoc, append-nil, length-append}
 use Rattle.base_terms.specs.declared.failed.Failed.{Failed}
 use Rattle.nbd_session.specs.declared.ending.Ending.{Ending}
 use Rattle.nbd_session.specs.declared.ending.Ending.TheVariants.{Aborted, UnknownExport, TooMany, WriteFault}
@@ -9,12 +9,12 @@ use Rattle.nbd_session.specs.declared.options.Course.{Course}
 use Rattle.nbd_session.specs.declared.options.Course.TheVariants.{GoesOn, Begins, Ends}
 use Rattle.nbd_session.specs.declared.options.Verdict.{Verdict}
 use Rattle.nbd_session.specs.declared.options.Verdict.TheVariants as Verdicts
-use Rattle.nbd_session.specs.Grammar.{IsOption, StopsOptions, EndsOptions, IsCount, EndsBy, SpellsOptions, CourseIs, AreOptions, course_after, answers_to, last_answer}
-use Rattle.nbd_session.specs.Moments.{Moment, Talks, moment, trouble_of, calm}
+use Rattle.nbd_session.specs.Grammar.{IsOption, StopsOptions, EndsOptions, IsCount, SpellsOptions, CourseIs, course_after, answers_to, last_answer}
+use Rattle.nbd_session.specs.Moments.{Moment, Talks, trouble_of, calm}
 use Rattle.nbd_session.specs.Negotiation.{Answers, ending_in}
 use Rattle.nbd_session.specs.Options.{verdict_of, course_of, answer_of}
-use Rattle.nbd_session.specs.Taking.{OptionIs, StopsBy}
-use Rattle.nbd_session.specs.Traffic.{Intake, Takes, HasEnded}
+use Rattle.nbd_session.specs.Taking.{OptionIs}
+use Rattle.nbd_session.specs.Traffic.{Intake}
 use Rattle.nbd_session.proofs.MomentLemmas.{with_sink}
 use Rattle.nbd_session.proofs.TalkLemmas.{HasPut, talks-none, talks-took, talks-stopped, talks-put, talks-unput, talks-more, talks-answered, talks-on, talks-enough}
 

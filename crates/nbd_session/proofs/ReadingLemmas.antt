@@ -1,13 +1,13 @@
 -- An input is read in one way.
-use Rattle.std.proofs.Common.{◌≡◌, ℕ, ◌+◌, ◌^◌, ◌≤◌, ◌<◌, ◌==◌, nat_lt, Bool, true, false, List, [], ◌∷◌, ◌++◌, Option, Some, None, length, take, drop, ap, ◌∙◌, refl, sym, subst, arith, take_at, append_assoc, append-nil, length-append, ⊎_elim}
+use Rattle.std.proofs.Common.{◌≡◌, ℕ, ◌+◌, ◌^◌, ◌<◌, nat_lt, Bool, true, false, List, [], ◌∷◌, ◌++◌, Option, Some, None, length, take, ap, ◌∙◌, refl, sym, subst, arith, append_assoc, append-nil, length-append, ⊎_elim}
 use Rattle.std.proofs.lemmas.Bool.{lt-ltb, le-ltb}
 use Rattle.std.proofs.lemmas.Nat.{from_be_bytes-to_be_bytes_4}
 use Rattle.std.specs.Int.{w32, from_be_bytes}
 use Rattle.nbd_session.specs.declared.ending.Ending.{Ending}
-use Rattle.nbd_session.specs.declared.ending.Ending.TheVariants.{Disconnected, Aborted, Closed, Truncated, BadFlags, BadMagic, TooLong, UnknownExport, TooMany, PortSpent, ReadFault, WriteFault, Memory}
+use Rattle.nbd_session.specs.declared.ending.Ending.TheVariants.{Closed, Truncated, BadFlags, ReadFault}
 use Rattle.nbd_session.specs.declared.options.ClientOption.{ClientOption}
 use Rattle.nbd_session.specs.declared.options.Course.{Course}
-use Rattle.nbd_session.specs.declared.options.Course.TheVariants.{GoesOn, Begins, Ends}
+use Rattle.nbd_session.specs.declared.options.Course.TheVariants.{Begins, Ends}
 use Rattle.nbd_session.specs.Grammar.{StopsFlags, SpellsOptions, AreOptions, AreRequests}
 use Rattle.nbd_session.specs.Reading.{Asked, asked_of, IsByInput, Reads, AreOneReading, ReadsOnce}
 use Rattle.nbd_session.specs.Session.{Stage, greeted, negotiating, served, Log, HasFlags, IsInput}

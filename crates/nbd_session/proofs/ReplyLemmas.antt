@@ -1,5 +1,5 @@
 -- A text that is put in pieces.
-use Rattle.std.proofs.Common.{◌≡◌, ℕ, ◌+◌, ◌^◌, ◌≤◌, ◌<◌, List, [], ◌++◌, Option, Some, None, Result, Ok, Err, length, take, drop, ap, ◌∙◌, refl, sym, subst, arith, append_assoc, append-nil, length-append}
+use Rattle.std.proofs.Common.{◌≡◌, ℕ, ◌^◌, ◌≤◌, ◌<◌, List, [], ◌++◌, Option, Some, None, Result, Ok, Err, length, take, drop, ap, ◌∙◌, refl, sym, subst, arith, append_assoc, append-nil, length-append}
 use Rattle.std.proofs.lemmas.List.{take-append-drop, nil_from_length}
 use Rattle.std.specs.Prelude.{MatchResult}
 use Rattle.base_terms.specs.declared.failed.Failed.{Failed}
@@ -108,11 +108,6 @@ pub reply-bare : (cookie error : ℕ) (reply : Reply) (head body : List ℕ) →
     head ≡ simple_reply_text (record { error = error; cookie = cookie }) → body ≡ data_of reply → length body ≡ 0 → head ≡ reply_text cookie reply
 reply-bare cookie error reply head body number written data_is none =
     sym (ap (λ b. head ++ b) (nil_from_length body none) ∙ append-nil head) ∙ reply-parts cookie error reply head body number written data_is
-
--- a text of two parts that were written one behind the other
-pub pasted-both : (middle after head body : List ℕ) → 16 ≡ 0 + length head → take (0 + length head) middle ≡ head →
-    take (16 + length body) after ≡ take 16 middle ++ body → take (16 + length body) after ≡ head ++ body
-pasted-both middle after head body size first second = second ∙ ap (λ h. h ++ body) (ap (λ n. take n middle) size ∙ first)
 
 -- nothing was put
 pub puts-nothing : (h : Option (List ℕ)) (f p : ℕ) →

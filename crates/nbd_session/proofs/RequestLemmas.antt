@@ -1,14 +1,12 @@
 -- Requests that were served, joined.
-use Rattle.std.proofs.Common.{◌≡◌, ℕ, ◌+◌, ◌^◌, ◌<◌, ◌≤◌, Bool, true, false, List, [], ◌∷◌, ◌++◌, Option, Some, None, Ok, Err, length, ap, ◌∙◌, refl, sym, subst, arith, append_assoc, append-nil, length-append}
-use Rattle.base_terms.specs.declared.failed.Failed.{Failed}
+use Rattle.std.proofs.Common.{◌≡◌, ℕ, ◌+◌, ◌^◌, ◌<◌, Bool, false, List, [], ◌∷◌, ◌++◌, Option, Some, None, length, ap, ◌∙◌, refl, sym, subst, arith, append_assoc, append-nil, length-append}
 use Rattle.plain_disk.specs.declared.operation.Op.{Op}
-use Rattle.plain_disk.specs.Plain.{Exchange}
 use Rattle.plain_disk.specs.declared.operation.Reply.TheVariants.{Errno}
 use Rattle.nbd_session.specs.declared.ending.Ending.{Ending}
 use Rattle.nbd_session.specs.declared.ending.Ending.TheVariants.{TooMany, PortSpent, WriteFault}
-use Rattle.nbd_session.specs.declared.requests.Next.TheVariants.{Ask, Refuse, Stop}
-use Rattle.nbd_session.specs.Grammar.{StopsRequests, EndsRequests, IsCount, RequestsEnd, AreRequests}
-use Rattle.nbd_session.specs.Moments.{Moment, Talks, calm, trouble_of}
+use Rattle.nbd_session.specs.declared.requests.Next.TheVariants.{Ask, Stop}
+use Rattle.nbd_session.specs.Grammar.{StopsRequests, EndsRequests, IsCount, RequestsEnd}
+use Rattle.nbd_session.specs.Moments.{Moment, Talks}
 use Rattle.nbd_session.specs.Putting.{Replies}
 use Rattle.nbd_session.specs.Replies.{reply_text}
 use Rattle.nbd_session.specs.Requests.{IsMessage, IsRefusal}

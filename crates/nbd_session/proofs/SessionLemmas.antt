@@ -1,11 +1,9 @@
 -- A whole session of its parts.
-use Rattle.std.proofs.Common.{◌≡◌, ℕ, ◌+◌, ◌^◌, ◌<◌, Bool, true, false, List, [], ◌∷◌, ◌++◌, Option, Some, None, Ok, Err, length, ap, ◌∙◌, refl, sym, subst, arith, append_assoc, append-nil}
+use Rattle.std.proofs.Common.{◌≡◌, ℕ, ◌^◌, ◌<◌, Bool, List, [], ◌∷◌, ◌++◌, Some, Ok, Err, ap, ◌∙◌, refl, subst, arith, append_assoc, append-nil}
 use Rattle.nbd_session.specs.declared.ending.Ending.{Ending}
-use Rattle.nbd_session.specs.declared.ending.SessionEnd.{SessionEnd}
 use Rattle.nbd_session.specs.declared.export.Export.{Export}
-use Rattle.nbd_session.specs.declared.options.Course.TheVariants.{Begins}
-use Rattle.nbd_session.specs.Grammar.{AreOptions, AreRequests, answers_to, last_answer}
-use Rattle.nbd_session.specs.Moments.{Moment, Talks, moment}
+use Rattle.nbd_session.specs.Grammar.{AreRequests, answers_to, last_answer}
+use Rattle.nbd_session.specs.Moments.{Moment, Talks}
 use Rattle.nbd_session.specs.Negotiation.{Negotiates}
 use Rattle.nbd_session.specs.Serving.{Serves}
 use Rattle.nbd_session.specs.Session.{Stage, greeted, negotiating, served, Log, IsInput, IsUnserved, IsSession, greeting, messages_of, no_zeroes}
@@ -78,11 +76,3 @@ session-served export a b c ending log turns taken whole front ended none_taken 
       taken = omega (arith, talks.traffic.counted_in);
       put = omega (arith, talks.traffic.counted_out);
     }
-
--- a session told of the end that was made
-pub session-told : (export : Export) (a : Moment) (g l h : Option (List ℕ)) (f k t p : ℕ) (ending : Ending) (end : SessionEnd) (log : Log) →
-    end ≡ record { number = export.number; ending = ending; taken = t; put = p } →
-    IsSession export (record { number = export.number; ending = ending; taken = t; put = p }) a (moment g l h f k t p) log →
-    IsSession export end a (moment g l h f k end.taken end.put) log
-session-told export a g l h f k t p ending end log is session =
-    subst (λ (e : SessionEnd). IsSession export e a (moment g l h f k e.taken e.put) log) (sym is) session

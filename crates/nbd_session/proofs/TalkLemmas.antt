@@ -1,13 +1,12 @@
 -- What was taken and answered between two moments, joined.
-use Rattle.std.proofs.Common.{◌≡◌, ℕ, ◌+◌, ◌≤◌, Bool, true, false, List, [], ◌∷◌, ◌++◌, Option, Some, None, Result, Ok, Err, length, ap, ◌∙◌, refl, sym, subst, arith, append_assoc, append-nil, length-append}
+use Rattle.std.proofs.Common.{◌≡◌, ℕ, ◌≤◌, Bool, true, false, List, [], ◌∷◌, ◌++◌, Option, Some, None, Result, Ok, Err, length, ap, ◌∙◌, refl, sym, subst, arith, append_assoc, append-nil, length-append}
 use Rattle.std.specs.Prelude.{MatchOption}
 use Rattle.base_terms.specs.declared.failed.Failed.{Failed}
 use Rattle.base_terms.specs.Blocks.{joined}
-use Rattle.base_terms.specs.Causes.{Rose}
 use Rattle.nbd_session.specs.declared.ending.Ending.{Ending}
 use Rattle.nbd_session.specs.declared.ending.Ending.TheVariants.{WriteFault}
-use Rattle.nbd_session.specs.Moments.{Moment, Traffic, Talks, Trouble, calm, source_failed, sink_failed, trouble_of, NoneRose, RoseBy, HasCauses, GoesOut, GoesOutBy, last_of, moment}
-use Rattle.nbd_session.specs.Putting.{Puts, Replies}
+use Rattle.nbd_session.specs.Moments.{Moment, Traffic, Talks, Trouble, calm, source_failed, sink_failed, trouble_of, NoneRose, RoseBy, HasCauses, GoesOut, GoesOutBy, last_of}
+use Rattle.nbd_session.specs.Putting.{Puts}
 use Rattle.nbd_session.specs.Taking.{StopsBy}
 use Rattle.nbd_session.specs.Traffic.{Intake, Takes, HasEnded}
 use Rattle.nbd_session.proofs.TrafficLemmas.{rose_earlier, ended_later}

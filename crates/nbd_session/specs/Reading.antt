@@ -1,5 +1,5 @@
 -- An input is read in one way.
-use Rattle.std.specs.Prelude.{ℕ, ◌≡◌, Bool, true, List, [], ◌∷◌, ◌++◌, map, Option}
+use Rattle.std.specs.Prelude.{ℕ, ◌≡◌, true, List, [], ◌++◌, map, Option}
 use Rattle.plain_disk.specs.declared.operation.Op.{Op}
 use Rattle.nbd_session.specs.declared.ending.Ending.{Ending}
 use Rattle.nbd_session.specs.declared.ending.Ending.TheVariants.{PortSpent, ReadFault, WriteFault, Memory}

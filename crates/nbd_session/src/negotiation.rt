@@ -59,10 +59,7 @@ fn take_flags<S: Source>(source: &mut S, taken: &mut u64) -> Result<ClientFlags,
         result bytes ended }
 {
     let mut bytes = [0u8; 4];
-    match take_head(source, &mut bytes, taken) {
-        Ok(()) => {}
-        Err(ending) => return Err(ending),
-    }
+    take_head(source, &mut bytes, taken)?;
     let flags = ClientFlags::read(&bytes);
     if flags.has_other() {
         return Err(Ending::BadFlags(flags.bits));

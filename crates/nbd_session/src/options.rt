@@ -78,10 +78,7 @@ pub fn next_option<S: Source>(
         result bytes ended }
 {
     let mut bytes = [0u8; HEAD];
-    match take_head(source, &mut bytes, taken) {
-        Ok(()) => {}
-        Err(ending) => return Err(ending),
-    }
+    take_head(source, &mut bytes, taken)?;
     let head = match OptionHead::read(&bytes) {
         Ok(head) => head,
         Err(bad) => return Err(Ending::BadMagic(bad.number)),

@@ -1,4 +1,4 @@
-ghost use Rattle.std.specs.Prelude.{◌≡◌, ◌+◌, ◌≤◌, ℕ, List, ◌++◌, length, take};
+ghost use Rattle.std.specs.Prelude.{◌≡◌, ℕ, List};
 ghost use Rattle.nbd_session.specs.Putting.{Puts};
 ghost use Rattle.nbd_session.specs.Replies.{reply_text, errno_of, data_of};
 
@@ -6,12 +6,6 @@ use base_terms::Failed;
 use io_edge::Sink;
 use nbd_wire::SimpleReplyHead;
 use plain_disk::Reply;
-
-/// How many bytes the head of a simple reply has.
-const HEAD: usize = 16;
-
-/// The most bytes of data that are put in one piece with their head.
-const MAX_JOINED: usize = 8192;
 
 /// Puts one piece, and counts its bytes where it was put whole.
 fn put_piece<K: Sink>(sink: &mut K, bytes: &[u8], put: &mut u64) -> Result<(), Failed>
@@ -33,14 +27,12 @@ pub fn put_message<K: Sink>(sink: &mut K, bytes: &[u8], put: &mut u64) -> Result
     ensures { (whole : List ℕ) × (front : List ℕ) × Puts (K.had sink.old) (K.had sink.new) (K.faults sink.old)
         (K.faults sink.new) put.old put.new bytes.now result whole front }
 {
-    match put_piece(sink, bytes, put) {
-        Ok(()) => sink.push_out(),
-        Err(failed) => Err(failed),
-    }
+    put_piece(sink, bytes, put)?;
+    sink.push_out()
 }
 
-/// Puts a simple reply, its head and the data of a read behind it: as one piece where there are at
-/// most `MAX_JOINED` bytes of data, else as two.
+/// Puts a simple reply, its head and the data of a read behind it as a second piece, and lets it go
+/// out.
 pub fn put_reply<K: Sink>(
     sink: &mut K,
     cookie: u64,
@@ -59,38 +51,10 @@ pub fn put_reply<K: Sink>(
     if body.is_empty() {
         return put_message(sink, &head, put);
     }
-    if body.len() <= MAX_JOINED {
-        return put_joined(sink, &head, body, put);
-    }
     match put_piece(sink, &head, put) {
         Ok(()) => put_message(sink, body, put),
         Err(failed) => Err(failed),
     }
-}
-
-/// Puts a head and its data as one piece.
-fn put_joined<K: Sink>(
-    sink: &mut K,
-    head: &[u8; HEAD],
-    body: &[u8],
-    put: &mut u64,
-) -> Result<(), Failed>
-    requires { length body.now ≤ 8192 }
-    ensures { (whole : List ℕ) × (front : List ℕ) × Puts (K.had sink.old) (K.had sink.new) (K.faults sink.old)
-        (K.faults sink.new) put.old put.new (head.now ++ body.now) result whole front }
-{
-    let mut piece = [0u8; HEAD + MAX_JOINED];
-    paste(&mut piece, 0, head);
-    paste(&mut piece, HEAD, body);
-    put_message(sink, &piece[..HEAD + body.len()], put)
-}
-
-/// Writes a part of a text behind its first `at` bytes.
-fn paste(bytes: &mut [u8], at: usize, part: &[u8])
-    requires { at + length part.now ≤ length bytes.old }
-    ensures { take (at + length part.now) bytes.new ≡ take at bytes.old ++ part.now }
-{
-    bytes[at..at + part.len()].copy_from_slice(part);
 }
 
 /// The error number of a reply, 0 of one without error.

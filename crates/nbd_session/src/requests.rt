@@ -19,7 +19,8 @@ const HEAD: usize = 28;
 /// The most bytes of data that a write may have.
 const MAX_WRITE: u32 = MAX_READ;
 
-const NO_MEMORY: u32 = 12;
+/// The number of the error by which a request is answered for want of memory.
+pub const NO_MEMORY: u32 = 12;
 
 const INVALID: u32 = 22;
 
@@ -113,13 +114,7 @@ fn ending(head: &RequestHead) -> Option<Ending>
 {
     match head.command {
         CommandType::Disc => Some(Ending::Disconnected),
-        CommandType::Write => {
-            if head.length > MAX_WRITE {
-                Some(Ending::TooLong(head.length))
-            } else {
-                None
-            }
-        }
+        CommandType::Write if head.length > MAX_WRITE => Some(Ending::TooLong(head.length)),
         _ => None,
     }
 }
@@ -149,7 +144,7 @@ fn operation(head: &RequestHead, body: Bytes) -> Option<Op>
         }),
         CommandType::Write => Some(Op::Write {
             offset: head.offset,
-            body: body,
+            body,
             fua: head.flags.bits == CommandFlags::FUA.bits,
         }),
         CommandType::Flush => Some(Op::Flush),

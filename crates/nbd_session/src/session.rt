@@ -8,7 +8,7 @@ ghost use Rattle.nbd_session.specs.Turns.{Turn, exchanges_of};
 
 use crate::negotiation::negotiate;
 use crate::replies::put_reply;
-use crate::requests::{Next, next_request};
+use crate::requests::{NO_MEMORY, Next, next_request};
 use crate::tally::Tally;
 use crate::{Ending, Export, Port, SessionEnd, Submitted};
 use io_edge::{Sink, Source};
@@ -17,8 +17,6 @@ use std::alloc::Global;
 
 /// The most requests that one session may have.
 const MAX_REQUESTS: u64 = 1 << 32;
-
-const NO_MEMORY: u32 = 12;
 
 /// Serves one client to its end. What was put is the greeting, the answers to the options and a
 /// simple reply for each request, in order; what the port was asked are the operations of the
@@ -42,11 +40,10 @@ pub fn serve_session<S: Source, K: Sink, P: Port>(
         log }
 {
     let mut tally = Tally { taken: 0, put: 0 };
-    match negotiate(alloc, source, sink, export, &mut tally) {
-        Ok(()) => {}
-        Err(ending) => return end_of(export, ending, tally),
-    }
-    let ending = serve_requests(alloc, source, sink, port, &mut tally);
+    let ending = match negotiate(alloc, source, sink, export, &mut tally) {
+        Ok(()) => serve_requests(alloc, source, sink, port, &mut tally),
+        Err(ending) => ending,
+    };
     end_of(export, ending, tally)
 }
 

@@ -341,7 +341,7 @@ fn a_client_that_takes_no_more_ends_its_session(rt: HostRuntime) -> Result<(), F
         rt.alloc(),
         &[GREETING, SIZE, BLOCK_SIZES, AGREED, WRITTEN, HAS_READ],
     )?;
-    for (room, taken, put) in [(17, 0, 0), (103, 26, 18), (647, 594, 120)] {
+    for (room, taken, put) in [(17, 0, 0), (103, 26, 18), (647, 594, 136)] {
         let (ended, out) = command(&rt, rt.alloc(), WORDS, &Outside { room, ..SMALL })?;
         assert_eq!(rt;
             end_of(&ended, 0, 0),

@@ -19,7 +19,8 @@ const ROOM: usize = 8192;
 pub type HostSource = StdSource<BufReader<HostReader>>;
 
 /// The sink of a connection. It holds short pieces back until they are pushed out or a long one
-/// follows, so that a reply and its data leave by one call of the system.
+/// follows, so that the head of a reply and its data leave together: a short piece is copied, a long
+/// one is not.
 pub type HostSink = StdSink<GatheringWriter<HostWriter>>;
 
 /// A source and a sink over the two ends of a connection. It fails only where memory is wanted.

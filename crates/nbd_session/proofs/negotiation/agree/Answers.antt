@@ -1,4 +1,4 @@
-use Rattle.std.proofs.Common.{List, [], ◌++◌, false, refl, None, Some, arith, length, length-append}
+use Rattle.std.proofs.Common.{[], ◌++◌, false, refl, None, arith, length, length-append}
 use Rattle.nbd_session.specs.declared.options.Course.TheVariants.{GoesOn, Begins, Ends}
 use Rattle.nbd_session.proofs.OptionLemmas.{answers-none, answers-more, answers-on, answers-too_many}
 use Rattle.nbd_session.proofs.negotiation.agree.Goals as goal

@@ -1,4 +1,4 @@
-use Rattle.std.proofs.Common.{refl, sym, ◌∙◌, ap, subst}
+use Rattle.std.proofs.Common.{◌∙◌, ap}
 use Rattle.nbd_session.specs.Options.{verdict_of}
 use Rattle.nbd_session.proofs.OptionLemmas.{answers-stop, answered, unanswered}
 use Rattle.nbd_session.proofs.negotiation.answer_next.Goals as goal

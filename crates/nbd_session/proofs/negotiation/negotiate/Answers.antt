@@ -1,6 +1,5 @@
-use Rattle.std.proofs.Common.{◌∙◌, ap, sym, refl}
 use Rattle.nbd_session.specs.Session.{no_zeroes}
-use Rattle.nbd_session.proofs.NegotiationLemmas.{greeting-is, stops-silent, stops-greeted, goes-agreed, zeroes-left, greeting-put}
+use Rattle.nbd_session.proofs.NegotiationLemmas.{stops-silent, stops-greeted, goes-agreed, zeroes-left, greeting-put}
 use Rattle.nbd_session.proofs.negotiation.negotiate.Goals as goal
 
 pub returns-in-Err : goal.returns-in-Err

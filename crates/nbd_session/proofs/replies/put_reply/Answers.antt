@@ -1,4 +1,4 @@
-use Rattle.std.proofs.Common.{sym, ◌∙◌, ap}
+use Rattle.std.proofs.Common.{sym, ◌∙◌}
 use Rattle.std.proofs.lemmas.Bool.{eqb-true}
 use Rattle.nbd_session.proofs.ReplyLemmas.{puts-more, puts-less, puts-as, reply-parts, reply-bare}
 use Rattle.nbd_session.proofs.replies.put_reply.Goals as goal
@@ -7,10 +7,6 @@ pub returns-then-is_empty : goal.returns-then-is_empty
 returns-then-is_empty g c =
     puts-as _ _ _ _ _ _ _ _ _ (reply-bare c.args.cookie c.errno.result c.args.reply.now _ _ c.errno.ensures c.write-head.ensures c.data-body.ensures
     (eqb-true _ 0 (sym c.is_empty.ensures ∙ c.if-is_empty.true))) c.put_message.ensures
-
-pub returns-then-body-le-MAX_JOINED : goal.returns-then-body-le-MAX_JOINED
-returns-then-body-le-MAX_JOINED g c =
-    puts-as _ _ _ _ _ _ _ _ _ (reply-parts c.args.cookie c.errno.result c.args.reply.now _ _ c.errno.ensures c.write-head.ensures c.data-body.ensures) c.put_joined.ensures
 
 pub returns-in-Ok : goal.returns-in-Ok
 returns-in-Ok g c =

@@ -1,4 +1,4 @@
-use Rattle.std.proofs.Common.{arith, subst, sym, ◌∙◌}
+use Rattle.std.proofs.Common.{arith}
 use Rattle.nbd_session.proofs.HeadLemmas.{behind-asks, behind-refuses, behind-cut, behind-fault, data-as, flags-refused, memory-refused}
 use Rattle.nbd_session.proofs.requests.behind_head.Goals as goal
 

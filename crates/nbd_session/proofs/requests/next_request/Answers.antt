@@ -1,4 +1,4 @@
-use Rattle.std.proofs.Common.{sym, ◌∙◌}
+use Rattle.std.proofs.Common.{sym}
 use Rattle.nbd_session.proofs.HeadLemmas.{head-taken, next-joined, next-last}
 use Rattle.nbd_session.proofs.requests.next_request.Goals as goal
 

@@ -1,4 +1,4 @@
-use Rattle.std.proofs.Common.{arith, subst, sym, ◌∙◌}
+use Rattle.std.proofs.Common.{arith}
 use Rattle.nbd_session.proofs.HeadLemmas.{behind-cut, behind-fault, behind-dropped, dropped-as}
 use Rattle.nbd_session.proofs.requests.refuse.Goals as goal
 

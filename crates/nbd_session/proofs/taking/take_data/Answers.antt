@@ -1,4 +1,4 @@
-use Rattle.std.proofs.Common.{arith, [], refl, sym, ◌∙◌}
+use Rattle.std.proofs.Common.{arith, [], refl, ◌∙◌}
 use Rattle.nbd_session.proofs.HeadLemmas.{takes_none}
 use Rattle.nbd_session.proofs.taking.take_data.Goals as goal
 
