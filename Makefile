@@ -2,7 +2,7 @@
 .PHONY: help run test build bench
 
 help:
-	@echo "make run    the main job, unproved, within a minute"
+	@echo "make run    the main job, unproved, within two minutes"
 	@echo "make test   every proof, must-fail edit, test and program"
 	@echo "make build  prove the program and leave it at crates/reencd/out/reencd"
 	@echo "make bench  rates of the ciphers and of key derivation"

@@ -4,6 +4,8 @@ set -u
 
 here=$(cd "$(dirname "${BASH_SOURCE[0]}")" && pwd)
 reencd=${REENCD:-$here/../../crates/reencd/out/reencd}
+# what the server is run under: nothing, or a tracer with its words
+tracer=()
 room=$(mktemp -d)
 : >"$room/stdout"
 : >"$room/stderr"
@@ -44,7 +46,7 @@ expect() {
 # Starts a server of DISK in atoms of ATOM bytes for so many SESSIONS on a free port. Its process is
 # $server, its port $port, and what it prints is in $room/stdout and $room/stderr.
 serve() {
-    "$reencd" serve "$1" --plain --atom "$2" --listen 127.0.0.1:0 --sessions "$3" \
+    "${tracer[@]}" "$reencd" serve "$1" --plain --atom "$2" --listen 127.0.0.1:0 --sessions "$3" \
         >"$room/stdout" 2>"$room/stderr" </dev/null &
     server=$!
     for _ in $(seq 200); do

@@ -1,23 +1,47 @@
-# A server that is killed after a flush keeps what was flushed: a second one on the same file reads it.
+# A flush is answered once the file was synced, which is seen where strace is there; and what was written
+# outlives a kill of the server: a second one on the same file reads it.
 . "$(dirname "$0")/common.sh"
 needs python3 cmp
+calls=$room/calls
+if strace -D -o "$room/probe" true 2>/dev/null; then
+    # -D leaves the server the child of this script, so that it is the server that is killed
+    tracer=(strace -D -f -e "trace=fdatasync,fsync" -o "$calls")
+else
+    echo "no strace: that a flush syncs isn't looked at"
+    calls=
+fi
 truncate -s 8M "$room/disk.img"
 head -c 8388608 /dev/urandom >"$room/wanted"
 serve "$room/disk.img" 512 9
-python3 - "$port" "$room/wanted" "$here" <<'PYTHON' || fail "the client"
+python3 - "$port" "$room/wanted" "$here" "$calls" <<'PYTHON' || fail "the client"
 import sys
 
 sys.path.insert(0, sys.argv[3])
 from client import Client
 
+calls = sys.argv[4]
+
+
+def syncs():
+    """How many syncs have succeeded so far."""
+    with open(calls) as lines:
+        return sum("sync" in line and line.endswith(" = 0\n") for line in lines)
+
+
 client = Client(int(sys.argv[1]))
 wanted = open(sys.argv[2], "rb").read()
 for at in range(0, len(wanted), 65536):
     assert client.write(at, wanted[at : at + 65536]) == 0
+before = syncs() if calls else 0
 assert client.flush() == 0
 print("wrote and flushed", len(wanted), "bytes")
+if calls:
+    made = syncs() - before
+    assert made > 0, "the flush is answered without a sync"
+    print("syncs before the flush was answered:", made)
 PYTHON
 stop KILL
+tracer=()
 echo "killed the server"
 cmp "$room/disk.img" "$room/wanted" || fail "the file has other content"
 serve "$room/disk.img" 4096 1

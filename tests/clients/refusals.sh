@@ -15,15 +15,18 @@ plain() {
     echo "serve $1 --plain --atom 512 --listen $2 --sessions 1"
 }
 
+usage="reencd: usage: reencd serve DISK --plain --atom 512|4096 --listen HOST:PORT|stdio --sessions N"
 truncate -s 1M disk.img
 truncate -s 511 small.img
 mkdir folder
 # shellcheck disable=SC2046
 {
-    refuses 1 "fault 1 Usage" "" serve
+    refuses 1 "fault 1 Usage" "$usage"
+    refuses 1 "fault 1 Usage" "$usage" serve
+    refuses 1 "fault 1 Usage" "$usage" --help
     refuses 2 "fault 2 Device" "reencd: missing.img: No such file or directory" $(plain missing.img stdio)
     refuses 2 "fault 2 Device" "reencd: folder: Is a directory" $(plain folder stdio)
-    refuses 8 "fault 8 NoFit" "" $(plain small.img stdio)
+    refuses 8 "fault 8 NoFit" "reencd: the disk is smaller than one block" $(plain small.img stdio)
     refuses 2 "fault 2 Device" "reencd: nowhere: invalid socket address" $(plain disk.img nowhere)
     refuses 2 "fault 2 Device" "reencd: 127.0.0.1:65536: invalid port value" $(plain disk.img 127.0.0.1:65536)
     refuses 2 "fault 2 Device" "reencd: 192.0.2.1:10809: Cannot assign requested address" $(plain disk.img 192.0.2.1:10809)
@@ -32,6 +35,8 @@ mkdir folder
     cp disk.img other.img
     refuses 2 "fault 2 Device" "reencd: 127.0.0.1:$port: Address already in use" $(plain other.img "127.0.0.1:$port")
 }
+"$reencd" serve $'\377' >out 2>err </dev/null
+expect "a word that isn't UTF-8" "$? $(cat out) $(cat err)" "1 fault 1 Usage $usage"
 if [ "$(id -u)" != 0 ]; then
     chmod 0 other.img
     # shellcheck disable=SC2046

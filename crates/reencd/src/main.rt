@@ -16,19 +16,20 @@ use host_bay::HostBay;
 use host_file::HostFile;
 use host_link::HostLink;
 use io_edge::{OpenGate, OsSeeds, StdSink};
+use notices::explain;
 use reenc_tool::{Cause, Ended, run};
 use std::env;
-use std::io::ErrorKind;
+use std::io::{ErrorKind, Stderr};
 use std::process::ExitCode;
 
 fn main(rt: HostRuntime) -> ExitCode {
     let mut out = StdSink::new(rt.stdout());
     let words = match env::args(&rt) {
         Ok(words) => words,
-        Err(error) => return ended_early(&rt, error.kind()),
+        Err(error) => return ended_early(&rt, rt.stderr(), error.kind()),
     };
     let Ok(words) = words.skip(1).collect::<Vec<String>>(rt.alloc()) else {
-        return ended_early(&rt, ErrorKind::OutOfMemory);
+        return ended_early(&rt, rt.stderr(), ErrorKind::OutOfMemory);
     };
     let mut bay = HostBay::new(rt, rt.stdin(), rt.stdout(), rt.stderr());
     let mut seeds = OsSeeds::new(rt);
@@ -41,16 +42,18 @@ fn main(rt: HostRuntime) -> ExitCode {
         &mut out,
         &OpenGate,
     );
+    explain(rt.stderr(), ended.cause);
     ExitCode::from(ended.status)
 }
 
 /// Ends before any word was seen: a word that isn't text is a faulty command line.
-fn ended_early(rt: &impl Print, kind: ErrorKind) -> ExitCode {
+fn ended_early(rt: &impl Print, errors: Stderr, kind: ErrorKind) -> ExitCode {
     let cause = if kind == ErrorKind::OutOfMemory {
         Cause::Memory
     } else {
         Cause::Usage
     };
     let _ = rt.print(cause.line());
+    explain(errors, cause);
     ExitCode::from(cause.status())
 }

@@ -1,6 +1,11 @@
+use reenc_tool::{Cause, Fit};
 use std::alloc::Global;
 use std::io::{self, Stderr};
 use std::net::OpenListener;
+
+/// How the program is called.
+const USAGE: &str =
+    "usage: reencd serve DISK --plain --atom 512|4096 --listen HOST:PORT|stdio --sessions N";
 
 /// Says in one line on standard error what the system refused and why, as `reencd: disk.img: No such
 /// file or directory`. Where that line can't be put, nobody is told.
@@ -23,6 +28,26 @@ fn without_number(text: &str) -> &str {
 pub fn announce(errors: Stderr, listener: &impl OpenListener) {
     if let Ok(address) = listener.local_addr() {
         let _ = eprintln!(errors; "reencd: listening on {address}");
+    }
+}
+
+/// Says in one line on standard error what was wrong with the words of a command, or with its disk. What
+/// the system refused was told when it did.
+pub fn explain(errors: Stderr, cause: Cause) {
+    if let Some(reason) = reason_of(cause) {
+        let _ = eprintln!(errors; "reencd: {reason}");
+    }
+}
+
+/// What was wrong, where nothing else has told it.
+fn reason_of(cause: Cause) -> Option<&'static str> {
+    match cause {
+        Cause::Usage => Some(USAGE),
+        Cause::NoFit {
+            what: Fit::Blocks,
+            ..
+        } => Some("the disk is smaller than one block"),
+        Cause::Fine | Cause::Device | Cause::Link | Cause::Output | Cause::Memory => None,
     }
 }
 
