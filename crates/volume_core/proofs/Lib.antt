@@ -16,6 +16,7 @@ pub mod EventsServed
 pub mod Executions
 pub mod Failures
 pub mod Faultless
+pub mod Faults
 pub mod Finishing
 pub mod Here
 pub mod Invariant

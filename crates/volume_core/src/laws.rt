@@ -90,9 +90,8 @@ pub fn runs_fail_by_faults<C: SectorCipher>()
     ensures served { (start : State (Keys C)) (seals : Seals) (run : List (Happening (Keys C))) →
         IsSound start → IsFresh start → AreLawful start.map.atom seals → IsRun start run →
         ServesWithoutFaults start seals run }
-    ensures broken { (start : State (Keys C)) (seals : Seals) (run : List (Happening (Keys C))) →
-        IsSound start → IsFresh start → AreLawful start.map.atom seals → IsRun start run →
-        BreaksByFaults start run }
+    ensures broken { (start : State (Keys C)) (run : List (Happening (Keys C))) →
+        IsFresh start → IsRun start run → BreaksByFaults start run }
 {}
 
 /// The volume of a whole disk as it is stands for the plain disk that holds the disk's own atoms for
