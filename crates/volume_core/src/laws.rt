@@ -38,10 +38,13 @@ pub fn every_run_is_served<C: SectorCipher>()
 
 /// An operation has failed exactly where one of its events answered that the device failed or the
 /// volume is broken. A volume is broken exactly where a write or a sync failed in an earlier event.
-/// Sides, keys and places of all blocks are the same after each event.
+/// Sides, keys and places of all blocks stay. This holds at the end of a run, and along it: after
+/// each of its events.
 pub fn failures_go_by_events<C: SectorCipher>()
-    ensures { (start : State (Keys C)) (run : List (Happening (Keys C))) →
+    ensures at_the_end { (start : State (Keys C)) (run : List (Happening (Keys C))) →
         IsFresh start → IsRun start run → GoesByEvents start run }
+    ensures along { (start : State (Keys C)) (earlier later : List (Happening (Keys C))) →
+        IsFresh start → IsRun start (earlier ++ later) → GoesByEvents start earlier }
 {}
 
 /// What holds of a volume between events holds after each event that meets its conditions.
