@@ -7,6 +7,7 @@ pub mod CodePieceSteps
 pub mod CodePieces
 pub mod CodeSeals
 pub mod CodeSteps
+pub mod DeviceErrors
 pub mod DeviceViews
 pub mod RunsServed
 pub mod SealLemmas

@@ -1,13 +1,15 @@
 -- What is promised of every run of events.
-use Rattle.std.specs.Prelude.{ℕ, ◌≡◌, Bool, true, false, ◌==◌, ◌||◌, ◌&&◌, if◌then◌else◌, List, [], ◌∷◌, Some}
+use Rattle.std.specs.Prelude.{ℕ, ◌≡◌, ◌↔◌, Bool, true, false, ◌==◌, ◌||◌, ◌&&◌, if◌then◌else◌, List, [], ◌∷◌, Some, None}
 use Rattle.plain_disk.specs.Plain.{Block, Exchange, AreSure, Legal}
+use Rattle.plain_disk.specs.declared.operation.Reply.TheVariants.{Errno}
 use Rattle.sector_disk.specs.Steps.{Told}
+use Rattle.volume_core.specs.Asks.{wrong_ask}
 use Rattle.volume_core.specs.Contents.{AreBlocksOf, IsFresh, StandsFor, StandsNow, StopsAllowed, Covers}
 use Rattle.volume_core.specs.Events.{Event, admits, asks, reads, writes, settles, finishes, Outcome, held, waits, refused, got, done, device, broken}
-use Rattle.volume_core.specs.Runs.{Happening, IsRun, last_of, answered_in, plain_in, no_plain, AreExchanges}
+use Rattle.volume_core.specs.Runs.{Answered, Happening, IsRun, last_of, answered_by, answered_in, plain_in, no_plain, AreExchanges}
 use Rattle.volume_core.specs.Seals.{Seals, AreLawful}
 use Rattle.volume_core.specs.Sound.{IsSound, AreApart}
-use Rattle.volume_core.specs.States.{State, open_at}
+use Rattle.volume_core.specs.States.{State, open_at, size_of}
 use Rattle.volume_core.specs.declared.open.Open.{Open}
 
 -- a volume from which runs start: no operation is under way, and its disk stands for these blocks
@@ -97,3 +99,21 @@ pub record GoesByEvents {K : Type 0} (start : State K) (run : List (Happening K)
   pub breaks : (last_of start run).broken ≡ breaks_in start.broken run
   pub map : (last_of start run).map ≡ start.map
   pub keys : (last_of start run).keys ≡ start.keys
+
+-- whether the operation that an event answers has failed: at its admit, where the volume was found
+-- broken; at the settle of a flush, where that failed; at its finish, where one of its events since
+-- its admit failed
+abbrev pub has_failed : {K : Type 0} → State K → List (Happening K) → Event → Outcome → Bool
+has_failed start earlier (admits lane ask) outcome = (last_of start earlier).broken
+has_failed start earlier (asks lane) outcome = false
+has_failed start earlier (reads lane) outcome = false
+has_failed start earlier (writes lane sealed) outcome = false
+has_failed start earlier (settles lane) outcome = is_failure outcome
+has_failed start earlier (finishes lane) outcome = fails_in lane false earlier
+
+-- an operation that isn't wrong and is answered by this event is answered 5 exactly where it has failed
+abbrev pub DeviceErrorsAreExact : {K : Type 0} → Seals → State K → List (Happening K) → Happening K → Type 0
+DeviceErrorsAreExact seals start earlier one = (answered : Answered) →
+    answered_by (last_of start earlier) one.event one.outcome (plain_in seals start no_plain earlier) ≡ answered ∷ [] →
+    wrong_ask start.map.atom (size_of start.map) answered.ask ≡ None →
+    (answered.reply ≡ Errno 5) ↔ (has_failed start earlier one.event one.outcome ≡ true)

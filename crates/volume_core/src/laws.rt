@@ -1,7 +1,7 @@
 //! What follows for every run of events. Each law is the contract of a function that does nothing. A
 //! proof above cites it by its call.
 
-ghost use Rattle.std.specs.Prelude.{◌≡◌, ◌%◌, ◌*◌, ◌++◌, [], ℕ, List, length, replicate, Some};
+ghost use Rattle.std.specs.Prelude.{◌≡◌, ◌%◌, ◌*◌, ◌++◌, ◌∷◌, [], ℕ, List, length, replicate, Some};
 ghost use Rattle.base_terms.specs.Blocks.{lengths};
 ghost use Rattle.cipher_laws.specs.Bytes.{AreBytes};
 ghost use Rattle.plain_disk.specs.Plain.{Block, Exchange};
@@ -11,7 +11,7 @@ ghost use Rattle.sector_disk.specs.Steps.{Told};
 ghost use Rattle.volume_core.specs.Contents.{IsFresh};
 ghost use Rattle.volume_core.specs.Events.{Event, Outcome};
 ghost use Rattle.volume_core.specs.Executing.{Executes, StopsAlong, TellsRun, ServesWithoutFaults, BreaksByFaults};
-ghost use Rattle.volume_core.specs.Promises.{Starts, StartsCovered, ServesEachRun, GoesByEvents};
+ghost use Rattle.volume_core.specs.Promises.{Starts, StartsCovered, ServesEachRun, GoesByEvents, DeviceErrorsAreExact};
 ghost use Rattle.volume_core.specs.Runs.{Happening, IsRun, last_of, answered_in, no_plain, AreExchanges};
 ghost use Rattle.volume_core.specs.Sealing.{ChangeNothing};
 ghost use Rattle.volume_core.specs.Seals.{Seals, AreLawful, seals_of};
@@ -45,6 +45,15 @@ pub fn failures_go_by_events<C: SectorCipher>()
         IsFresh start → IsRun start run → GoesByEvents start run }
     ensures along { (start : State (Keys C)) (earlier later : List (Happening (Keys C))) →
         IsFresh start → IsRun start (earlier ++ later) → GoesByEvents start earlier }
+{}
+
+/// A read, a write or a flush that isn't wrong is answered 5 exactly where its admit found the volume
+/// broken, or one of its pieces or its settle answered that the device failed or the volume is broken.
+/// So it is for each event of a run that answers an operation.
+pub fn device_errors_are_exact<C: SectorCipher>()
+    ensures { (start : State (Keys C)) (seals : Seals) (earlier later : List (Happening (Keys C)))
+        (one : Happening (Keys C)) → IsFresh start → IsRun start (earlier ++ one ∷ later) →
+        DeviceErrorsAreExact seals start earlier one }
 {}
 
 /// What holds of a volume between events holds after each event that meets its conditions.
