@@ -90,7 +90,7 @@ knows_nothing state plain left lane o none first ordered unsettled unfailed = re
 }
 
 -- which entries hold stays when another enters
-holds_admitted : {K : Type 0} (old new : State K) (lane : ℕ) (ask : Ask) (outcome : Outcome) → IsAdmitted old lane ask outcome new →
+pub holds_admitted : {K : Type 0} (old new : State K) (lane : ℕ) (ask : Ask) (outcome : Outcome) → IsAdmitted old lane ask outcome new →
     (k : ℕ) → k ≢ lane → Holds old k → Holds new k
 holds_admitted old new lane ask outcome is k other holds = elim (either (has_lock ask)) [
   | inl has ↦ (let enters = match_true (has_lock ask) _ _ has is.enters in

@@ -22,6 +22,7 @@ pub mod Finishing
 pub mod Here
 pub mod Invariant
 pub mod Locking
+pub mod OtherLanes
 pub mod PlainBlocks
 pub mod PlainStart
 pub mod Reading

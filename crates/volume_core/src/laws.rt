@@ -1,7 +1,7 @@
 //! What follows for every run of events. Each law is the contract of a function that does nothing. A
 //! proof above cites it by its call.
 
-ghost use Rattle.std.specs.Prelude.{◌≡◌, ◌%◌, ◌*◌, ◌++◌, ◌∷◌, [], ℕ, List, length, replicate, Some};
+ghost use Rattle.std.specs.Prelude.{◌≡◌, ◌≢◌, ◌%◌, ◌*◌, ◌++◌, ◌∷◌, [], ℕ, List, length, replicate, Some};
 ghost use Rattle.base_terms.specs.Blocks.{lengths};
 ghost use Rattle.cipher_laws.specs.Bytes.{AreBytes};
 ghost use Rattle.plain_disk.specs.Plain.{Block, Exchange};
@@ -9,15 +9,15 @@ ghost use Rattle.sector_disk.specs.Cells.{AreSettled, content, currents};
 ghost use Rattle.sector_disk.specs.Geometry.{IsAtom};
 ghost use Rattle.sector_disk.specs.Steps.{Told};
 ghost use Rattle.volume_core.specs.Contents.{IsFresh};
-ghost use Rattle.volume_core.specs.Events.{Event, Outcome};
+ghost use Rattle.volume_core.specs.Events.{Event, Outcome, lane_of};
 ghost use Rattle.volume_core.specs.Executing.{Executes, StopsAlong, TellsRun, ServesWithoutFaults, BreaksByFaults};
 ghost use Rattle.volume_core.specs.Promises.{Starts, StartsCovered, ServesEachRun, GoesByEvents, DeviceErrorsAreExact};
 ghost use Rattle.volume_core.specs.Runs.{Happening, IsRun, last_of, answered_in, no_plain, AreExchanges};
 ghost use Rattle.volume_core.specs.Sealing.{ChangeNothing};
 ghost use Rattle.volume_core.specs.Seals.{Seals, AreLawful, seals_of};
 ghost use Rattle.volume_core.specs.Sound.{IsSound, AreApart};
-ghost use Rattle.volume_core.specs.States.{State};
-ghost use Rattle.volume_core.specs.Steps.{Step, Meets};
+ghost use Rattle.volume_core.specs.States.{State, open_at};
+ghost use Rattle.volume_core.specs.Steps.{Step, Meets, Holds};
 ghost use Rattle.volume_core.specs.Volumes.{IsWholeDisk, plain_blocks};
 ghost use Rattle.volume_core.specs.declared.keys.Keys.{Keys};
 
@@ -60,6 +60,17 @@ pub fn device_errors_are_exact<C: SectorCipher>()
 pub fn volumes_stay_sound<C: SectorCipher>()
     ensures { (old new : State (Keys C)) (event : Event) (outcome : Outcome) →
         IsSound old → Meets old event → Step old event outcome new → IsSound new }
+{}
+
+/// An event of one lane leaves every other lane's operation as it was, and what another lane holds it
+/// goes on to hold. So a call whose conditions are met is one whose conditions are met after the events
+/// of other lanes too.
+pub fn events_leave_other_lanes<C: SectorCipher>()
+    ensures stays { (old new : State (Keys C)) (event : Event) (outcome : Outcome) (lane : ℕ) →
+        Step old event outcome new → lane ≢ lane_of event →
+        (open_at new.lanes lane ≡ open_at old.lanes lane) × (Holds old lane → Holds new lane) }
+    ensures meets { (old new : State (Keys C)) (event next : Event) (outcome : Outcome) →
+        Step old event outcome new → lane_of next ≢ lane_of event → Meets old next → Meets new next }
 {}
 
 /// The keys of a volume whose sectors divide its blocks seal and open block by block, and each undoes
