@@ -1,7 +1,9 @@
 -- What is promised of every run of events.
-use Rattle.std.specs.Prelude.{ℕ, ◌≡◌, ◌↔◌, Bool, true, false, ◌==◌, ◌||◌, ◌&&◌, if◌then◌else◌, List, [], ◌∷◌, Some, None}
+use Rattle.std.specs.Prelude.{ℕ, ◌≡◌, ◌↔◌, Bool, true, false, ◌==◌, ◌||◌, ◌&&◌, if◌then◌else◌, List, [], ◌∷◌, replicate, Some, None}
+use Rattle.base_terms.specs.Blocks.{lengths}
 use Rattle.plain_disk.specs.Plain.{Block, Exchange, AreSure, Legal}
 use Rattle.plain_disk.specs.declared.operation.Reply.TheVariants.{Errno}
+use Rattle.sector_disk.specs.Cells.{AreSettled, content, currents}
 use Rattle.sector_disk.specs.Steps.{Told}
 use Rattle.volume_core.specs.Asks.{wrong_ask}
 use Rattle.volume_core.specs.Contents.{AreBlocksOf, IsFresh, StandsFor, StandsNow, StopsAllowed, Covers}
@@ -26,6 +28,11 @@ pub record Starts {K : Type 0} (start : State K) (seals : Seals) (blocks : List 
 -- where the disk tells its tables, each image of it stands for values of these blocks too
 abbrev pub StartsCovered : {K : Type 0} → State K → Seals → List Block → Type 0
 StartsCovered start seals blocks = (told : Told) → start.disk.told ≡ Some told → Covers start.map seals blocks told.now
+
+-- where the disk tells its tables, each atom holds its value for certain, and these are its bytes
+abbrev pub TellsSettled : {K : Type 0} → State K → List ℕ → Type 0
+TellsSettled start bytes = (told : Told) → start.disk.told ≡ Some told → AreSettled told.now
+    × (bytes ≡ content told.now) × (lengths (currents told.now) ≡ replicate start.disk.atoms start.map.atom)
 
 -- The operations of a run are those of one plain disk: their history is legal; while nothing has
 -- failed the disk stands for the newest values with those of unfinished writes over them; and a stop

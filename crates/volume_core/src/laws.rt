@@ -1,17 +1,15 @@
 //! What follows for every run of events. Each law is the contract of a function that does nothing. A
 //! proof above cites it by its call.
 
-ghost use Rattle.std.specs.Prelude.{◌≡◌, ◌≢◌, ◌%◌, ◌*◌, ◌++◌, ◌∷◌, [], ℕ, List, length, replicate, Some};
-ghost use Rattle.base_terms.specs.Blocks.{lengths};
+ghost use Rattle.std.specs.Prelude.{◌≡◌, ◌≢◌, ◌%◌, ◌*◌, ◌++◌, ◌∷◌, [], ℕ, List, length, Some};
 ghost use Rattle.cipher_laws.specs.Bytes.{AreBytes};
 ghost use Rattle.plain_disk.specs.Plain.{Block, Exchange};
-ghost use Rattle.sector_disk.specs.Cells.{AreSettled, content, currents};
 ghost use Rattle.sector_disk.specs.Geometry.{IsAtom};
 ghost use Rattle.sector_disk.specs.Steps.{Told};
 ghost use Rattle.volume_core.specs.Contents.{IsFresh};
 ghost use Rattle.volume_core.specs.Events.{Event, Outcome, lane_of};
 ghost use Rattle.volume_core.specs.Executing.{Executes, StopsAlong, TellsRun, ServesWithoutFaults, BreaksByFaults};
-ghost use Rattle.volume_core.specs.Promises.{Starts, StartsCovered, ServesEachRun, GoesByEvents, DeviceErrorsAreExact};
+ghost use Rattle.volume_core.specs.Promises.{Starts, StartsCovered, TellsSettled, ServesEachRun, GoesByEvents, DeviceErrorsAreExact};
 ghost use Rattle.volume_core.specs.Runs.{Happening, IsRun, last_of, answered_in, no_plain, AreExchanges};
 ghost use Rattle.volume_core.specs.Sealing.{ChangeNothing};
 ghost use Rattle.volume_core.specs.Seals.{Seals, AreLawful, seals_of};
@@ -117,6 +115,13 @@ pub fn runs_fail_by_faults<C: SectorCipher>()
         IsFresh start → IsRun start run → BreaksByFaults start run }
 {}
 
+/// Where each atom of a disk that tells its tables held its value for certain, each of its images stands
+/// for the blocks that its bytes stand for, under any map and any keys.
+pub fn settled_volumes_are_covered<C: SectorCipher>()
+    ensures { (start : State (Keys C)) (seals : Seals) (blocks : List Block) (bytes : List ℕ) →
+        Starts start seals blocks bytes → TellsSettled start bytes → StartsCovered start seals blocks }
+{}
+
 /// The volume of a whole disk as it is stands for the plain disk that holds the disk's own atoms for
 /// certain. Where each atom of a disk that tells its tables held its value for certain, so does each
 /// image.
@@ -130,8 +135,5 @@ pub fn plain_volumes_start<C: SectorCipher>()
     ensures covered { (start : State (Keys C)) (seals : Seals) (bytes : List ℕ) →
         IsWholeDisk start.map.atom start.disk.atoms start.map → ChangeNothing seals →
         length bytes ≡ start.disk.atoms * start.map.atom → AreBytes bytes →
-        ((told : Told) → start.disk.told ≡ Some told → AreSettled told.now
-        × (bytes ≡ content told.now)
-        × (lengths (currents told.now) ≡ replicate start.disk.atoms start.map.atom)) →
-        StartsCovered start seals (plain_blocks start bytes) }
+        TellsSettled start bytes → StartsCovered start seals (plain_blocks start bytes) }
 {}
