@@ -23,6 +23,7 @@ pub mod Here
 pub mod Invariant
 pub mod Locking
 pub mod OtherLanes
+pub mod Places
 pub mod PlainBlocks
 pub mod PlainStart
 pub mod Reading

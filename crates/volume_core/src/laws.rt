@@ -1,11 +1,13 @@
 //! What follows for every run of events. Each law is the contract of a function that does nothing. A
 //! proof above cites it by its call.
 
-ghost use Rattle.std.specs.Prelude.{◌≡◌, ◌≢◌, ◌%◌, ◌*◌, ◌++◌, ◌∷◌, [], ℕ, List, length, Some};
+ghost use Rattle.std.specs.Prelude.{◌≡◌, ◌≢◌, ◌≤◌, ◌⊎◌, ◌%◌, ◌+◌, ◌*◌, ◌++◌, ◌∷◌, [], ℕ, List, length, Some};
 ghost use Rattle.cipher_laws.specs.Bytes.{AreBytes};
 ghost use Rattle.plain_disk.specs.Plain.{Block, Exchange};
 ghost use Rattle.sector_disk.specs.Geometry.{IsAtom};
 ghost use Rattle.sector_disk.specs.Steps.{Told};
+ghost use Rattle.segment_map.specs.declared.Direction.TheVariants.{Forward, Backward};
+ghost use Rattle.segment_map.specs.declared.map.Map.{Map};
 ghost use Rattle.volume_core.specs.Contents.{IsFresh};
 ghost use Rattle.volume_core.specs.Events.{Event, Outcome, lane_of};
 ghost use Rattle.volume_core.specs.Executing.{Executes, StopsAlong, TellsRun, ServesWithoutFaults, BreaksByFaults};
@@ -113,6 +115,17 @@ pub fn runs_fail_by_faults<C: SectorCipher>()
         ServesWithoutFaults start seals run }
     ensures broken { (start : State (Keys C)) (run : List (Happening (Keys C))) →
         IsFresh start → IsRun start run → BreaksByFaults start run }
+{}
+
+/// Each block of a volume has a place of its own where its two segments don't meet. They may meet where
+/// a conversion forward moves each block to a place no later than its old one, and where one backward
+/// moves each to a place no earlier. With an open zone or without, since a zone is still in the old
+/// segment.
+pub fn maps_are_apart()
+    ensures forward { (map : Map) → map.direction ≡ Forward →
+        (map.new_place ≤ map.old_place) ⊎ (map.old_place + map.blocks ≤ map.new_place) → AreApart map }
+    ensures backward { (map : Map) → map.direction ≡ Backward →
+        (map.old_place ≤ map.new_place) ⊎ (map.new_place + map.blocks ≤ map.old_place) → AreApart map }
 {}
 
 /// Where each atom of a disk that tells its tables held its value for certain, each of its images stands
