@@ -12,7 +12,7 @@ use Rattle.volume_core.specs.Seals.{Seals, AreBlocks}
 use Rattle.volume_core.specs.Sound.{IsSound}
 use Rattle.volume_core.specs.States.{State, open_at, size_of, begun, LaneBecomes}
 use Rattle.volume_core.specs.Steps.{IsAdmitted, TellsStanding, Holds}
-use Rattle.volume_core.specs.Views.{View, IsUnchanged}
+use Rattle.volume_core.proofs.Views.{View, IsUnchanged}
 use Rattle.volume_core.proofs.Invariant.{LaneKnows, Logic, Shown, KeepsWrites, writes_stay, shown_kept, lanes_still}
 use Rattle.volume_core.proofs.Locking.{either, holds-more}
 use Rattle.volume_core.proofs.Soundness.{match_true, match_false, begins}

@@ -14,7 +14,7 @@ use Rattle.volume_core.specs.Seals.{Seals}
 use Rattle.volume_core.specs.Sound.{IsSound}
 use Rattle.volume_core.specs.States.{State, open_at, size_of}
 use Rattle.volume_core.specs.Steps.{Goes, Holds, HasPiece, IsAdmitted, ReadStep, WriteStep, SettleStep, after_settle, succeeded, failed_call}
-use Rattle.volume_core.specs.Views.{view_of_bytes, IsUnchanged, IsWritten, IsTried, IsSynced, IsThinned}
+use Rattle.volume_core.proofs.Views.{view_of_bytes, IsUnchanged, IsWritten, IsTried, IsSynced, IsThinned}
 use Rattle.volume_core.proofs.Admits.{logic_forgets, shown_forgets, logic_admitted, shown_admitted, unanswered}
 use Rattle.volume_core.proofs.Answering.{legal_none, legal_one, step_wrong, step_refused, step_flushed, step_unflushed}
 use Rattle.volume_core.proofs.Here.{Here, Moves, positive, here_after, moves_not, moves_by_read, moves_by_written, moves_by_tried, moves_by_sync, moves_by_failed_sync, piece_in_bytes, piece_in_tables}

@@ -4,7 +4,7 @@ use Rattle.base_terms.specs.Causes.{Rose}
 use Rattle.plain_disk.specs.Operations.{wrong_of}
 use Rattle.plain_disk.specs.Outcomes.{IsServed, AreServed}
 use Rattle.plain_disk.specs.Plain.{Exchange}
-use Rattle.plain_disk.specs.declared.operation.Reply.TheVariants.{Done, Errno}
+use Rattle.plain_disk.specs.declared.operation.Reply.TheVariants.{Content, Done, Errno}
 use Rattle.range_lock.specs.declared.Entry.{Entry}
 use Rattle.range_lock.specs.Locks.{without}
 use Rattle.segment_map.specs.declared.map.Piece.{Piece}
@@ -14,7 +14,7 @@ use Rattle.volume_core.specs.declared.open.Open.{Open}
 use Rattle.volume_core.specs.Asks.{IsRead, IsWrite, range_of, has_lock, wrong_ask}
 use Rattle.volume_core.specs.Contents.{IsFresh}
 use Rattle.volume_core.specs.Events.{Event, admits, asks, reads, writes, settles, finishes, Outcome, held, waits, refused, got, done, device, broken}
-use Rattle.volume_core.specs.Executing.{AreFull, IsFull, ServesWithoutFaults}
+use Rattle.volume_core.specs.Executing.{ServesWithoutFaults}
 use Rattle.volume_core.specs.Pieces.{side_in, IsPieceOf, ArePieceBytes, moved, settling, IsComplete}
 use Rattle.volume_core.specs.Runs.{Happening, IsRun, last_of, with_plain, plain_piece, after_read, after_write, plain_after, no_plain, answered_by, answered_in, by_admit, by_settle, by_finish, full_reply, refusal, Answered, Asked, IsExchange, AreExchanges}
 use Rattle.volume_core.specs.Seals.{Seals, AreLawful}
@@ -34,6 +34,18 @@ use Rattle.volume_core.proofs.Faults.{faults_event, faults_run}
 rose_not : (before now : ℕ) → Rose before now → now ≡ before → before < 2 ^ 64 - 1 → ⊥
 rose_not before now (inl less) same below = omega (arith, less, same)
 rose_not before now (inr last) same below = omega (arith, last, same, below)
+
+-- an operation that isn't wrong got all its bytes, or is done; a wrong one is refused with its number
+abbrev IsFull : Answered → Ask → Type 0
+IsFull answered (Read offset len) = (answered.reply ≡ Content answered.plain) × (length answered.plain ≡ len)
+IsFull answered (Write offset len fua) = answered.reply ≡ Done
+IsFull answered Flush = answered.reply ≡ Done
+
+unfoldable AreFull : ℕ → ℕ → List Answered → Type 0
+AreFull atom size [] = Unit {0}
+AreFull atom size (answered ∷ rest) =
+    MatchOption (wrong_ask atom size answered.ask) (IsFull answered answered.ask) (λ number. answered.reply ≡ Errno number)
+    × AreFull atom size rest
 
 -- nothing has failed, and each operation knows what its pieces hold
 record IsFine {K : Type 0} (state : State K) (seals : Seals) (plain : ℕ → List ℕ) : Type 0 where

@@ -31,4 +31,5 @@ pub mod Settling
 pub mod Soundness
 pub mod TableEntries
 pub mod Tables
+pub mod Views
 pub mod Writing
