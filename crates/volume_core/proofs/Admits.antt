@@ -6,7 +6,7 @@ use Rattle.volume_core.specs.declared.ask.Ask.{Ask}
 use Rattle.volume_core.specs.declared.open.Open.{Open}
 use Rattle.volume_core.specs.Asks.{has_lock, wrong_ask, entry_of}
 use Rattle.volume_core.specs.Contents.{IsTriedBy}
-use Rattle.volume_core.specs.Events.{Outcome, held, waits, refused, got, done, device, broken}
+use Rattle.volume_core.specs.Events.{Outcome, held, waits}
 use Rattle.volume_core.specs.Runs.{with_plain, by_admit}
 use Rattle.volume_core.specs.Seals.{Seals, AreBlocks}
 use Rattle.volume_core.specs.Sound.{IsSound}
@@ -135,8 +135,4 @@ unanswered old new lane ask outcome is = elim (either (has_lock ask)) [
     standing_tells : (ask : Ask) (outcome : Outcome) (stands : _) → TellsStanding stands outcome → by_admit ask outcome ≡ []
     standing_tells ask held stands tells = refl
     standing_tells ask (waits other) stands tells = refl
-    standing_tells ask (refused number) stands tells = absurd tells
-    standing_tells ask (got sealed) stands tells = absurd tells
-    standing_tells ask done stands tells = absurd tells
-    standing_tells ask device stands tells = absurd tells
-    standing_tells ask broken stands tells = absurd tells
+    standing_tells ask _ stands tells = absurd tells

@@ -6,7 +6,7 @@ use Rattle.volume_core.specs.declared.ask.Ask.TheVariants.{Read, Write, Flush}
 use Rattle.volume_core.specs.declared.open.Open.{Open}
 use Rattle.volume_core.specs.Asks.{has_lock, wrong_ask}
 use Rattle.volume_core.specs.Contents.{IsFresh}
-use Rattle.volume_core.specs.Events.{Event, admits, asks, reads, writes, settles, finishes, Outcome, held, waits, refused, got, done, device, broken}
+use Rattle.volume_core.specs.Events.{Event, admits, asks, reads, writes, settles, finishes, Outcome, refused, done, device, broken}
 use Rattle.volume_core.specs.Promises.{fails_in, is_failure, has_failed, GoesByEvents, DeviceErrorsAreExact}
 use Rattle.volume_core.specs.Runs.{Answered, Happening, IsRun, last_of, answered_by, by_admit, by_settle, by_finish, flush_reply, full_reply, plain_in, no_plain}
 use Rattle.volume_core.specs.Seals.{Seals}
@@ -30,13 +30,8 @@ one_answered : (x y : Answered) → x ∷ [] ≡ y ∷ [] → y ≡ x
 one_answered x y same = cc
 
 refused_by : (ask : Ask) (outcome : Outcome) (answered : Answered) → by_admit ask outcome ≡ answered ∷ [] → answered.ask ≡ ask
-refused_by ask held answered is = absurd (cc)
-refused_by ask (waits other) answered is = absurd (cc)
 refused_by ask (refused number) answered is = ap (λ a. a.ask) (one_answered _ answered is)
-refused_by ask (got sealed) answered is = absurd (cc)
-refused_by ask done answered is = absurd (cc)
-refused_by ask device answered is = absurd (cc)
-refused_by ask broken answered is = absurd (cc)
+refused_by ask _ answered is = absurd (cc)
 
 admit_exact : {K : Type 0} (old new : State K) (lane : ℕ) (ask : Ask) (outcome : Outcome) (answered : Answered) → AdmitStep old lane ask outcome new → by_admit ask outcome ≡ answered ∷ [] →
     wrong_ask old.map.atom (size_of old.map) answered.ask ≡ None → (answered.reply ≡ Errno 5) ↔ (old.broken ≡ true)
@@ -53,13 +48,10 @@ admit_exact old new lane ask outcome answered step is proper =
 
 -- a flush that is answered by its settle
 settle_exact : {K : Type 0} (old new : State K) (lane : ℕ) (o : Open) (outcome : Outcome) → SettleStep old lane o outcome new → (flush_reply outcome ≡ Errno 5) ↔ (is_failure outcome ≡ true)
-settle_exact old new lane o held step = absurd step
-settle_exact old new lane o (waits other) step = absurd step
-settle_exact old new lane o (refused number) step = absurd step
-settle_exact old new lane o (got sealed) step = absurd step
 settle_exact old new lane o done step = (λ five. absurd (cc), λ failed. absurd (cc))
 settle_exact old new lane o device step = (λ five. refl, λ failed. refl)
 settle_exact old new lane o broken step = (λ five. refl, λ failed. refl)
+settle_exact old new lane o _ step = absurd step
 
 by_settle_is : (o : Open) (outcome : Outcome) (answered : Answered) → by_settle (Some o) outcome ≡ answered ∷ [] → answered.reply ≡ flush_reply outcome
 by_settle_is o outcome answered is = elim (either (has_lock o.ask)) [

@@ -13,7 +13,7 @@ use Rattle.volume_core.specs.declared.ask.Ask.TheVariants.{Read, Write, Flush}
 use Rattle.volume_core.specs.declared.open.Open.{Open}
 use Rattle.volume_core.specs.Asks.{IsRead, IsWrite, range_of, has_lock, wrong_ask}
 use Rattle.volume_core.specs.Contents.{IsFresh}
-use Rattle.volume_core.specs.Events.{Event, admits, asks, reads, writes, settles, finishes, Outcome, held, waits, refused, got, done, device, broken}
+use Rattle.volume_core.specs.Events.{Event, admits, asks, reads, writes, settles, finishes, Outcome, refused, got, done, device, broken}
 use Rattle.volume_core.specs.Executing.{ServesWithoutFaults}
 use Rattle.volume_core.specs.Pieces.{side_in, IsPieceOf, ArePieceBytes, moved, settling, IsComplete}
 use Rattle.volume_core.specs.Runs.{Happening, IsRun, last_of, with_plain, plain_piece, after_read, after_write, plain_after, no_plain, answered_by, answered_in, by_admit, by_settle, by_finish, full_reply, refusal, Answered, Asked, IsExchange, AreExchanges}
@@ -107,24 +107,17 @@ piece_length old seals plain lane o piece bytes fine at has next are =
 
 fine_read : {K : Type 0} (old new : State K) (seals : Seals) (plain : ℕ → List ℕ) (lane : ℕ) (o : Open) (outcome : Outcome) → IsFine old seals plain → IsSound new → open_at old.lanes lane ≡ Some o → IsRead o.ask →
     new.disk.faults ≡ old.disk.faults → old.disk.faults < 2 ^ 64 - 1 → ReadStep old lane o outcome new → IsFine new seals (after_read seals old lane outcome plain)
-fine_read old new seals plain lane o held fine sound at reading same below step = absurd step
-fine_read old new seals plain lane o (waits other) fine sound at reading same below step = absurd step
-fine_read old new seals plain lane o (refused number) fine sound at reading same below step = absurd step
 fine_read old new seals plain lane o (got bytes) fine sound at reading same below step =
     fine_after old new seals plain (with_plain plain lane (plain lane ++ plain_piece seals old lane bytes)) lane old.entries (Some (moved o step.piece)) fine sound step.goes
     (plain-other plain lane (plain lane ++ plain_piece seals old lane bytes))
     (λ p is. let e : p ≡ moved o step.piece = cc in
     rw e ((fine.lanes lane o at).0, λ has. piece_length old seals plain lane o step.piece bytes fine at has step.next step.are))
-fine_read old new seals plain lane o done fine sound at reading same below step = absurd step
 fine_read old new seals plain lane o device fine sound at reading same below step = absurd (rose_not old.disk.faults new.disk.faults (step.call.cause.failed refl) same below)
 fine_read old new seals plain lane o broken fine sound at reading same below step = absurd (let was = step.was in let whole = fine.unbroken in cc)
+fine_read old new seals plain lane o _ fine sound at reading same below step = absurd step
 
 fine_write : {K : Type 0} (old new : State K) (seals : Seals) (plain : ℕ → List ℕ) (lane : ℕ) (o : Open) (bytes : List ℕ) (outcome : Outcome) → IsFine old seals plain → IsSound new → open_at old.lanes lane ≡ Some o →
     IsWrite o.ask → new.disk.faults ≡ old.disk.faults → old.disk.faults < 2 ^ 64 - 1 → WriteStep old lane o bytes outcome new → IsFine new seals (after_write seals old lane bytes outcome plain)
-fine_write old new seals plain lane o bytes held fine sound at writing same below step = absurd step
-fine_write old new seals plain lane o bytes (waits other) fine sound at writing same below step = absurd step
-fine_write old new seals plain lane o bytes (refused number) fine sound at writing same below step = absurd step
-fine_write old new seals plain lane o bytes (got sealed) fine sound at writing same below step = absurd step
 fine_write old new seals plain lane o bytes done fine sound at writing same below step =
     fine_after old new seals plain (with_plain plain lane (plain lane ++ plain_piece seals old lane bytes)) lane old.entries (Some (moved o step.piece)) fine sound step.goes
     (plain-other plain lane (plain lane ++ plain_piece seals old lane bytes))
@@ -132,6 +125,7 @@ fine_write old new seals plain lane o bytes done fine sound at writing same belo
     rw e ((fine.lanes lane o at).0, λ has. piece_length old seals plain lane o step.piece bytes fine at has step.next step.are))
 fine_write old new seals plain lane o bytes device fine sound at writing same below step = absurd (rose_not old.disk.faults new.disk.faults (step.call.cause.failed refl) same below)
 fine_write old new seals plain lane o bytes broken fine sound at writing same below step = absurd (let was = step.was in let whole = fine.unbroken in cc)
+fine_write old new seals plain lane o bytes _ fine sound at writing same below step = absurd step
 
 -- a settle
 ends_or_settled : (o p : Open) → after_settle o (settling o) ≡ Some p → p ≡ settling o
@@ -150,10 +144,6 @@ settle_full old o proper (inr (forced, ended, unfailed, unsettled)) =
 
 fine_settle : {K : Type 0} (old new : State K) (seals : Seals) (plain : ℕ → List ℕ) (lane : ℕ) (o : Open) (outcome : Outcome) → IsFine old seals plain → IsSound new → open_at old.lanes lane ≡ Some o → CanSettle o →
     new.disk.faults ≡ old.disk.faults → old.disk.faults < 2 ^ 64 - 1 → SettleStep old lane o outcome new → FineAfter old new seals plain (by_settle (Some o) outcome)
-fine_settle old new seals plain lane o held fine sound at can same below step = absurd step
-fine_settle old new seals plain lane o (waits other) fine sound at can same below step = absurd step
-fine_settle old new seals plain lane o (refused number) fine sound at can same below step = absurd step
-fine_settle old new seals plain lane o (got sealed) fine sound at can same below step = absurd step
 fine_settle old new seals plain lane o done fine sound at can same below step = record {
   fine = fine_after old new seals plain plain lane old.entries (after_settle o (settling o)) fine sound step.goes (λ k other. refl)
       (λ p is. let e : p ≡ settling o = ends_or_settled o p is in rw e (fine.lanes lane o at));
@@ -161,6 +151,7 @@ fine_settle old new seals plain lane o done fine sound at can same below step = 
 }
 fine_settle old new seals plain lane o device fine sound at can same below step = absurd (rose_not old.disk.faults new.disk.faults (step.call.cause.failed refl) same below)
 fine_settle old new seals plain lane o broken fine sound at can same below step = absurd (let was = step.was in let whole = fine.unbroken in cc)
+fine_settle old new seals plain lane o _ fine sound at can same below step = absurd step
 
 -- an operation that ends
 finish_full : {K : Type 0} (old : State K) (seals : Seals) (plain : ℕ → List ℕ) (lane : ℕ) (o : Open) (ask : Ask) → IsFine old seals plain → open_at old.lanes lane ≡ Some o → o.ask ≡ ask → has_lock o.ask ≡ true →

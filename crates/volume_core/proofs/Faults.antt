@@ -4,7 +4,7 @@ use Rattle.base_terms.specs.Causes.{Rose}
 use Rattle.volume_core.specs.declared.open.Open.{Open}
 use Rattle.volume_core.specs.Asks.{wrong_ask}
 use Rattle.volume_core.specs.Contents.{IsFresh}
-use Rattle.volume_core.specs.Events.{Event, admits, asks, reads, writes, settles, finishes, Outcome, held, waits, refused, got, done, device, broken}
+use Rattle.volume_core.specs.Events.{Event, admits, asks, reads, writes, settles, finishes, Outcome, got, done, device, broken}
 use Rattle.volume_core.specs.Executing.{BreaksByFaults}
 use Rattle.volume_core.specs.Promises.{breaks, is_fault}
 use Rattle.volume_core.specs.Runs.{Happening, IsRun, last_of}
@@ -16,31 +16,22 @@ use Rattle.volume_core.proofs.Soundness.{admit_cases}
 
 -- the count of faults doesn't fall
 faults_read : {K : Type 0} (old new : State K) (lane : ℕ) (o : Open) (outcome : Outcome) → ReadStep old lane o outcome new → old.disk.faults ≤ new.disk.faults
-faults_read old new lane o held step = absurd step
-faults_read old new lane o (waits other) step = absurd step
-faults_read old new lane o (refused number) step = absurd step
 faults_read old new lane o (got bytes) step = step.call.cause.later
-faults_read old new lane o done step = absurd step
 faults_read old new lane o device step = step.call.cause.later
 faults_read old new lane o broken step = rw step.rests (omega arith)
+faults_read old new lane o _ step = absurd step
 
 faults_write : {K : Type 0} (old new : State K) (lane : ℕ) (o : Open) (bytes : List ℕ) (outcome : Outcome) → WriteStep old lane o bytes outcome new → old.disk.faults ≤ new.disk.faults
-faults_write old new lane o bytes held step = absurd step
-faults_write old new lane o bytes (waits other) step = absurd step
-faults_write old new lane o bytes (refused number) step = absurd step
-faults_write old new lane o bytes (got sealed) step = absurd step
 faults_write old new lane o bytes done step = step.call.cause.later
 faults_write old new lane o bytes device step = step.call.cause.later
 faults_write old new lane o bytes broken step = rw step.rests (omega arith)
+faults_write old new lane o bytes _ step = absurd step
 
 faults_settle : {K : Type 0} (old new : State K) (lane : ℕ) (o : Open) (outcome : Outcome) → SettleStep old lane o outcome new → old.disk.faults ≤ new.disk.faults
-faults_settle old new lane o held step = absurd step
-faults_settle old new lane o (waits other) step = absurd step
-faults_settle old new lane o (refused number) step = absurd step
-faults_settle old new lane o (got sealed) step = absurd step
 faults_settle old new lane o done step = step.call.cause.later
 faults_settle old new lane o device step = step.call.cause.later
 faults_settle old new lane o broken step = rw step.rests (omega arith)
+faults_settle old new lane o _ step = absurd step
 
 pub faults_event : {K : Type 0} (old new : State K) (event : Event) (outcome : Outcome) → Step old event outcome new → old.disk.faults ≤ new.disk.faults
 unfolding Step
@@ -64,22 +55,16 @@ faults_run start (one ∷ rest) (meets, step, is) =
 -- a write or a sync that failed is a fault
 rose_write : {K : Type 0} (old new : State K) (lane : ℕ) (o : Open) (bytes : List ℕ) (outcome : Outcome) → WriteStep old lane o bytes outcome new → is_fault outcome ≡ true →
     Rose old.disk.faults new.disk.faults
-rose_write old new lane o bytes held step fault = absurd step
-rose_write old new lane o bytes (waits other) step fault = absurd step
-rose_write old new lane o bytes (refused number) step fault = absurd step
-rose_write old new lane o bytes (got sealed) step fault = absurd step
 rose_write old new lane o bytes done step fault = absurd (cc)
 rose_write old new lane o bytes device step fault = step.call.cause.failed refl
 rose_write old new lane o bytes broken step fault = absurd (cc)
+rose_write old new lane o bytes _ step fault = absurd step
 
 rose_settle : {K : Type 0} (old new : State K) (lane : ℕ) (o : Open) (outcome : Outcome) → SettleStep old lane o outcome new → is_fault outcome ≡ true → Rose old.disk.faults new.disk.faults
-rose_settle old new lane o held step fault = absurd step
-rose_settle old new lane o (waits other) step fault = absurd step
-rose_settle old new lane o (refused number) step fault = absurd step
-rose_settle old new lane o (got sealed) step fault = absurd step
 rose_settle old new lane o done step fault = absurd (cc)
 rose_settle old new lane o device step fault = step.call.cause.failed refl
 rose_settle old new lane o broken step fault = absurd (cc)
+rose_settle old new lane o _ step fault = absurd step
 
 rose_event : {K : Type 0} (old new : State K) (event : Event) (outcome : Outcome) → Step old event outcome new → breaks event outcome ≡ true → Rose old.disk.faults new.disk.faults
 unfolding Step

@@ -3,7 +3,7 @@ use Rattle.std.proofs.Common.{◌≡◌, ◌≢◌, inl, inr, ℕ, Bool, List, l
 use Rattle.segment_map.specs.declared.map.Piece.{Piece}
 use Rattle.volume_core.specs.declared.open.Open.{Open}
 use Rattle.volume_core.specs.Asks.{IsWrite, wrong_ask}
-use Rattle.volume_core.specs.Events.{Event, admits, asks, reads, writes, settles, finishes, Outcome, held, waits, refused, got, done, device, broken, lane_of}
+use Rattle.volume_core.specs.Events.{Event, admits, asks, reads, writes, settles, finishes, Outcome, got, done, device, broken, lane_of}
 use Rattle.volume_core.specs.Pieces.{IsPieceOf, ArePieceBytes}
 use Rattle.volume_core.specs.States.{State, open_at, size_of}
 use Rattle.volume_core.specs.Steps.{Step, Meets, Goes, ReadStep, WriteStep, SettleStep, Has, Holds, HasPiece}
@@ -26,31 +26,22 @@ left_by : {K : Type 0} (old new : State K) (lane other : ℕ) (now : Option Open
 left_by old new lane other now is_broken differ goes = record { count = goes.lane_is.count; own = goes.lane_is.others lane differ; holds = λ holds. rw goes.entries_are holds }
 
 read_left : {K : Type 0} (old new : State K) (lane other : ℕ) (o : Open) (outcome : Outcome) → lane ≢ other → ReadStep old other o outcome new → IsLeft old new lane
-read_left old new lane other o held differ step = absurd step
-read_left old new lane other o (waits third) differ step = absurd step
-read_left old new lane other o (refused number) differ step = absurd step
 read_left old new lane other o (got bytes) differ step = left_by old new lane other _ _ differ step.goes
-read_left old new lane other o done differ step = absurd step
 read_left old new lane other o device differ step = left_by old new lane other _ _ differ step.goes
 read_left old new lane other o broken differ step = left_by old new lane other _ _ differ step.goes
+read_left old new lane other o _ differ step = absurd step
 
 write_left : {K : Type 0} (old new : State K) (lane other : ℕ) (o : Open) (bytes : List ℕ) (outcome : Outcome) → lane ≢ other → WriteStep old other o bytes outcome new → IsLeft old new lane
-write_left old new lane other o bytes held differ step = absurd step
-write_left old new lane other o bytes (waits third) differ step = absurd step
-write_left old new lane other o bytes (refused number) differ step = absurd step
-write_left old new lane other o bytes (got sealed) differ step = absurd step
 write_left old new lane other o bytes done differ step = left_by old new lane other _ _ differ step.goes
 write_left old new lane other o bytes device differ step = left_by old new lane other _ _ differ step.goes
 write_left old new lane other o bytes broken differ step = left_by old new lane other _ _ differ step.goes
+write_left old new lane other o bytes _ differ step = absurd step
 
 settle_left : {K : Type 0} (old new : State K) (lane other : ℕ) (o : Open) (outcome : Outcome) → lane ≢ other → SettleStep old other o outcome new → IsLeft old new lane
-settle_left old new lane other o held differ step = absurd step
-settle_left old new lane other o (waits third) differ step = absurd step
-settle_left old new lane other o (refused number) differ step = absurd step
-settle_left old new lane other o (got sealed) differ step = absurd step
 settle_left old new lane other o done differ step = left_by old new lane other _ _ differ step.goes
 settle_left old new lane other o device differ step = left_by old new lane other _ _ differ step.goes
 settle_left old new lane other o broken differ step = left_by old new lane other _ _ differ step.goes
+settle_left old new lane other o _ differ step = absurd step
 
 event_left : {K : Type 0} (old new : State K) (event : Event) (outcome : Outcome) (lane : ℕ) → Step old event outcome new → lane ≢ lane_of event → IsLeft old new lane
 unfolding Step

@@ -7,7 +7,7 @@ use Rattle.sector_disk.specs.Cells.{AreSettled, content, currents}
 use Rattle.sector_disk.specs.Steps.{Told}
 use Rattle.volume_core.specs.Asks.{wrong_ask}
 use Rattle.volume_core.specs.Contents.{AreBlocksOf, IsFresh, StandsFor, StandsNow, StopsAllowed, Covers}
-use Rattle.volume_core.specs.Events.{Event, admits, asks, reads, writes, settles, finishes, Outcome, held, waits, refused, got, done, device, broken}
+use Rattle.volume_core.specs.Events.{Event, admits, asks, reads, writes, settles, finishes, Outcome, device, broken}
 use Rattle.volume_core.specs.Runs.{Answered, Happening, IsRun, last_of, answered_by, answered_in, plain_in, no_plain, AreExchanges}
 use Rattle.volume_core.specs.Seals.{Seals, AreLawful}
 use Rattle.volume_core.specs.Sound.{IsSound, AreApart}
@@ -55,23 +55,14 @@ ServesEachRun {K} start seals = (blocks : List Block) (bytes : List ℕ) (run : 
 
 -- the outcome is that the device failed, or that the volume was broken
 abbrev pub is_failure : Outcome → Bool
-is_failure held = false
-is_failure (waits lane) = false
-is_failure (refused number) = false
-is_failure (got sealed) = false
-is_failure done = false
 is_failure device = true
 is_failure broken = true
+is_failure _ = false
 
 -- the outcome is that the device failed
 abbrev pub is_fault : Outcome → Bool
-is_fault held = false
-is_fault (waits lane) = false
-is_fault (refused number) = false
-is_fault (got sealed) = false
-is_fault done = false
 is_fault device = true
-is_fault broken = false
+is_fault _ = false
 
 -- whether an event of the lane's operation failed, given whether an earlier one had
 abbrev pub fails : ℕ → Event → Outcome → Bool → Bool
@@ -88,12 +79,9 @@ fails_in lane before (one ∷ rest) = fails_in lane (fails lane one.event one.ou
 
 -- whether the event is a write or a sync that failed
 abbrev pub breaks : Event → Outcome → Bool
-breaks (admits lane ask) outcome = false
-breaks (asks lane) outcome = false
-breaks (reads lane) outcome = false
 breaks (writes lane sealed) outcome = is_fault outcome
 breaks (settles lane) outcome = is_fault outcome
-breaks (finishes lane) outcome = false
+breaks _ outcome = false
 
 unfoldable pub breaks_in : {K : Type 0} → Bool → List (Happening K) → Bool
 breaks_in before [] = before
@@ -112,11 +100,9 @@ pub record GoesByEvents {K : Type 0} (start : State K) (run : List (Happening K)
 -- its admit failed
 abbrev pub has_failed : {K : Type 0} → State K → List (Happening K) → Event → Outcome → Bool
 has_failed start earlier (admits lane ask) outcome = (last_of start earlier).broken
-has_failed start earlier (asks lane) outcome = false
-has_failed start earlier (reads lane) outcome = false
-has_failed start earlier (writes lane sealed) outcome = false
 has_failed start earlier (settles lane) outcome = is_failure outcome
 has_failed start earlier (finishes lane) outcome = fails_in lane false earlier
+has_failed start earlier _ outcome = false
 
 -- an operation that isn't wrong and is answered by this event is answered 5 exactly where it has failed
 abbrev pub DeviceErrorsAreExact : {K : Type 0} → Seals → State K → List (Happening K) → Happening K → Type 0
