@@ -6,13 +6,13 @@ use Rattle.volume_core.specs.declared.ask.Ask.{Ask}
 use Rattle.volume_core.specs.declared.open.Open.{Open}
 use Rattle.volume_core.specs.Asks.{has_lock, wrong_ask, entry_of}
 use Rattle.volume_core.specs.Contents.{IsTriedBy}
-use Rattle.volume_core.specs.Events.{Outcome, held, waits, refused, got, done, device, broken}
+use Rattle.volume_core.specs.Events.{Outcome, held, waits}
 use Rattle.volume_core.specs.Runs.{with_plain, by_admit}
 use Rattle.volume_core.specs.Seals.{Seals, AreBlocks}
 use Rattle.volume_core.specs.Sound.{IsSound}
 use Rattle.volume_core.specs.States.{State, open_at, size_of, begun, LaneBecomes}
 use Rattle.volume_core.specs.Steps.{IsAdmitted, TellsStanding, Holds}
-use Rattle.volume_core.specs.Views.{View, IsUnchanged}
+use Rattle.volume_core.proofs.Views.{View, IsUnchanged}
 use Rattle.volume_core.proofs.Invariant.{LaneKnows, Logic, Shown, KeepsWrites, writes_stay, shown_kept, lanes_still}
 use Rattle.volume_core.proofs.Locking.{either, holds-more}
 use Rattle.volume_core.proofs.Soundness.{match_true, match_false, begins}
@@ -90,7 +90,7 @@ knows_nothing state plain left lane o none first ordered unsettled unfailed = re
 }
 
 -- which entries hold stays when another enters
-holds_admitted : {K : Type 0} (old new : State K) (lane : ℕ) (ask : Ask) (outcome : Outcome) → IsAdmitted old lane ask outcome new →
+pub holds_admitted : {K : Type 0} (old new : State K) (lane : ℕ) (ask : Ask) (outcome : Outcome) → IsAdmitted old lane ask outcome new →
     (k : ℕ) → k ≢ lane → Holds old k → Holds new k
 holds_admitted old new lane ask outcome is k other holds = elim (either (has_lock ask)) [
   | inl has ↦ (let enters = match_true (has_lock ask) _ _ has is.enters in
@@ -135,8 +135,4 @@ unanswered old new lane ask outcome is = elim (either (has_lock ask)) [
     standing_tells : (ask : Ask) (outcome : Outcome) (stands : _) → TellsStanding stands outcome → by_admit ask outcome ≡ []
     standing_tells ask held stands tells = refl
     standing_tells ask (waits other) stands tells = refl
-    standing_tells ask (refused number) stands tells = absurd tells
-    standing_tells ask (got sealed) stands tells = absurd tells
-    standing_tells ask done stands tells = absurd tells
-    standing_tells ask device stands tells = absurd tells
-    standing_tells ask broken stands tells = absurd tells
+    standing_tells ask _ stands tells = absurd tells

@@ -7,7 +7,7 @@ use Rattle.std.proofs.Math.Seq.{drop-append-add}
 use Rattle.base_terms.specs.Blocks.{pasted}
 use Rattle.cipher_laws.specs.Bytes.{AreBytes}
 use Rattle.volume_core.specs.Seals.{AreBlocks, block_at}
-use Rattle.volume_core.specs.Views.{IsOutside}
+use Rattle.volume_core.proofs.Views.{IsOutside}
 
 -- where blocks begin and end
 pub block_end : (atom k : ℕ) → suc k * atom ≡ atom + k * atom

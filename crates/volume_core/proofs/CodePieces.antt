@@ -60,7 +60,7 @@ place-of m o piece place next is =
     place_found m piece.first place piece.side (rw next.first (first_side m _ piece next)) is
 
 -- it lies on the disk
-on_disk : (map : Map) (atoms first count : ℕ) (side : Side) → MapFits map atoms → first + count ≤ map.blocks → place_on map first side + count ≤ atoms
+pub on_disk : (map : Map) (atoms first count : ℕ) (side : Side) → MapFits map atoms → first + count ≤ map.blocks → place_on map first side + count ≤ atoms
 on_disk map atoms first count Old fits within = (let places = fits.old_places in omega (arith, places, within))
 on_disk map atoms first count Zone fits within = (let places = fits.old_places in omega (arith, places, within))
 on_disk map atoms first count New fits within = (let places = fits.new_places in omega (arith, places, within))

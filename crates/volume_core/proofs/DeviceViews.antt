@@ -12,8 +12,8 @@ use Rattle.volume_core.specs.Devices.{ReadCall, WriteCall, SyncCall}
 use Rattle.volume_core.specs.Seals.{block_at}
 use Rattle.volume_core.specs.States.{Device}
 use Rattle.volume_core.specs.Steps.{succeeded, failed_call}
-use Rattle.volume_core.specs.Views.{View, view_of_bytes, view_of_cells, IsUnchanged, IsTried, IsWritten, IsSynced}
-use Rattle.volume_core.specs.Views as views
+use Rattle.volume_core.proofs.Views.{View, view_of_bytes, view_of_cells, IsUnchanged, IsTried, IsWritten, IsSynced}
+use Rattle.volume_core.proofs.Views as views
 use Rattle.volume_core.proofs.Blockwise.{length-pasted_blocks, block_at-pasted, block_at-pasted_outside, block_at-part}
 use Rattle.volume_core.proofs.Entries.{length-changed}
 use Rattle.volume_core.proofs.TableEntries.{none_contained, place_of_some, kept_view, wrote_view, length-tried, tried_view, untried_view, synced_view, length-thinned, thinned_view, unthinned_view}

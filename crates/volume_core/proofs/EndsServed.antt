@@ -15,7 +15,7 @@ use Rattle.volume_core.specs.Seals.{Seals}
 use Rattle.volume_core.specs.Sound.{IsSound}
 use Rattle.volume_core.specs.States.{State, open_at, size_of}
 use Rattle.volume_core.specs.Steps.{Holds}
-use Rattle.volume_core.specs.Views.{IsUnchanged}
+use Rattle.volume_core.proofs.Views.{IsUnchanged}
 use Rattle.volume_core.proofs.Answering.{legal_one, step_read, step_unread, step_written, step_unwritten, read_whole, write_whole, change_of}
 use Rattle.volume_core.proofs.EventsServed.{Served}
 use Rattle.volume_core.proofs.Finishing.{Ends, EndsWrite, ended_blocks, logic_ended, shown_read_ended, logic_write_ended, shown_write_ended}

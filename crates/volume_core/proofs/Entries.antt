@@ -5,7 +5,7 @@ use Rattle.base_terms.specs.Blocks.{blocks_of, changed}
 use Rattle.sector_disk.specs.Cells.{Cell, IsImage}
 use Rattle.volume_core.specs.Contents.{cell_in, value_in}
 use Rattle.volume_core.specs.Seals.{block_at}
-use Rattle.volume_core.specs.Views.{IsOutside}
+use Rattle.volume_core.proofs.Views.{IsOutside}
 use Rattle.volume_core.proofs.Blockwise.{block_at-first, block_at-next}
 
 -- a change keeps how many there are

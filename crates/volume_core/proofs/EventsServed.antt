@@ -7,14 +7,14 @@ use Rattle.volume_core.specs.declared.ask.Ask.{Ask}
 use Rattle.volume_core.specs.declared.ask.Ask.TheVariants.{Read, Write, Flush}
 use Rattle.volume_core.specs.declared.open.Open.{Open}
 use Rattle.volume_core.specs.Asks.{IsRead, IsWrite, IsForced, has_lock, wrong_ask}
-use Rattle.volume_core.specs.Events.{Outcome, held, waits, refused, got, done, device, broken}
+use Rattle.volume_core.specs.Events.{Outcome, refused, got, done, device, broken}
 use Rattle.volume_core.specs.Pieces.{IsPieceOf, place_of, ArePieceBytes, moved, failing, settling}
 use Rattle.volume_core.specs.Runs.{with_plain, plain_piece, after_read, after_write, by_admit, flush_reply, refusal, IsExchange, AreExchanges}
 use Rattle.volume_core.specs.Seals.{Seals}
 use Rattle.volume_core.specs.Sound.{IsSound}
 use Rattle.volume_core.specs.States.{State, open_at, size_of}
 use Rattle.volume_core.specs.Steps.{Goes, Holds, HasPiece, IsAdmitted, ReadStep, WriteStep, SettleStep, after_settle, succeeded, failed_call}
-use Rattle.volume_core.specs.Views.{view_of_bytes, IsUnchanged, IsWritten, IsTried, IsSynced, IsThinned}
+use Rattle.volume_core.proofs.Views.{view_of_bytes, IsUnchanged, IsWritten, IsTried, IsSynced, IsThinned}
 use Rattle.volume_core.proofs.Admits.{logic_forgets, shown_forgets, logic_admitted, shown_admitted, unanswered}
 use Rattle.volume_core.proofs.Answering.{legal_none, legal_one, step_wrong, step_refused, step_flushed, step_unflushed}
 use Rattle.volume_core.proofs.Here.{Here, Moves, positive, here_after, moves_not, moves_by_read, moves_by_written, moves_by_tried, moves_by_sync, moves_by_failed_sync, piece_in_bytes, piece_in_tables}
@@ -97,9 +97,6 @@ failed_here seals old new plain left lane o is_broken here sound at goes unbroke
 pub read_served : {K P : Type 0} (seals : Seals) (old new : State K) (plain : ℕ → List ℕ) (left : List Block) (lane : ℕ) (o : Open) (outcome : Outcome) (exchanges : List Exchange) →
     Here P old seals plain left → IsSound new → open_at old.lanes lane ≡ Some o → IsRead o.ask → HasPiece o → Holds old lane → ReadStep old lane o outcome new →
     AreExchanges [] exchanges → Served P seals old new (after_read seals old lane outcome plain) left exchanges
-read_served seals old new plain left lane o held exchanges here sound at reading has holds step are = absurd step
-read_served seals old new plain left lane o (waits other) exchanges here sound at reading has holds step are = absurd step
-read_served seals old new plain left lane o (refused number) exchanges here sound at reading has holds step are = absurd step
 read_served seals old new plain left lane o (got bytes) exchanges here sound at reading has holds step are =
     goes_on seals old new (with_plain plain lane (plain lane ++ plain_piece seals old lane bytes)) left exchanges are
     (here_after old new seals plain (with_plain plain lane (plain lane ++ plain_piece seals old lane bytes)) left left IsUnchanged here step.goes.map
@@ -108,7 +105,6 @@ read_served seals old new plain left lane o (got bytes) exchanges here sound at 
     (moves_by_read old.map.atom (place_of old.map step.piece) bytes here.bytes old.disk new.disk succeeded step.call here.values)
     (λ view after unchanged shown. shown_read old new seals plain left view after lane o bytes at reading step unchanged shown))
     step.goes.map
-read_served seals old new plain left lane o done exchanges here sound at reading has holds step are = absurd step
 read_served seals old new plain left lane o device exchanges here sound at reading has holds step are =
     goes_on seals old new plain left exchanges are
     (failed_here seals old new plain left lane o false here sound at step.goes (λ whole. step.was) (λ writing. absurd (never_both o.ask reading writing))
@@ -118,6 +114,7 @@ read_served seals old new plain left lane o broken exchanges here sound at readi
     goes_on seals old new plain left exchanges are
     (failed_here seals old new plain left lane o true here sound at step.goes (λ whole. absurd (cc)) (λ writing. refl) (moves_not old.map.atom here.bytes old.disk new.disk step.rests here.values))
     step.goes.map
+read_served seals old new plain left lane o _ exchanges here sound at reading has holds step are = absurd step
 
 -- a piece is written
 tries : {K P : Type 0} (seals : Seals) (old new : State K) (plain : ℕ → List ℕ) (left : List Block) (lane : ℕ) (o next : Open) (piece : Piece) (bytes : List ℕ) (is_broken : Bool) →
@@ -145,10 +142,6 @@ pub write_served : {K P : Type 0} (seals : Seals) (old new : State K) (plain : �
     Here P old seals plain left → IsSound new → open_at old.lanes lane ≡ Some o → IsWrite o.ask → HasPiece o → Holds old lane → WriteStep old lane o bytes outcome new →
     AreExchanges [] exchanges → Served P seals old new (after_write seals old lane bytes outcome plain) left exchanges
 unfolding tries
-write_served seals old new plain left lane o bytes held exchanges here sound at writing has holds step are = absurd step
-write_served seals old new plain left lane o bytes (waits other) exchanges here sound at writing has holds step are = absurd step
-write_served seals old new plain left lane o bytes (refused number) exchanges here sound at writing has holds step are = absurd step
-write_served seals old new plain left lane o bytes (got sealed) exchanges here sound at writing has holds step are = absurd step
 write_served seals old new plain left lane o bytes done exchanges here sound at writing has holds step are =
     let some = positive old seals plain left here in
     let inside = (here.logic.sound.under_way lane o at).inside in
@@ -175,15 +168,12 @@ write_served seals old new plain left lane o bytes broken exchanges here sound a
     goes_on seals old new plain left exchanges are
     (failed_here seals old new plain left lane o true here sound at step.goes (λ whole. absurd (cc)) (λ is. refl) (moves_not old.map.atom here.bytes old.disk new.disk step.rests here.values))
     step.goes.map
+write_served seals old new plain left lane o bytes _ exchanges here sound at writing has holds step are = absurd step
 
 -- a flush that ends
 pub flush_served : {K P : Type 0} (seals : Seals) (old new : State K) (plain : ℕ → List ℕ) (left : List Block) (lane : ℕ) (o : Open) (outcome : Outcome) (exchanges : List Exchange) →
     Here P old seals plain left → IsSound new → open_at old.lanes lane ≡ Some o → o.ask ≡ Flush → SettleStep old lane o outcome new →
     AreExchanges (record { ask = Flush; plain = []; reply = flush_reply outcome } ∷ []) exchanges → Served P seals old new plain left exchanges
-flush_served seals old new plain left lane o held exchanges here sound at is step are = absurd step
-flush_served seals old new plain left lane o (waits other) exchanges here sound at is step are = absurd step
-flush_served seals old new plain left lane o (refused number) exchanges here sound at is step are = absurd step
-flush_served seals old new plain left lane o (got sealed) exchanges here sound at is step are = absurd step
 flush_served seals old new plain left lane o done exchanges here sound at is step are =
     let free : has_lock o.ask ≡ false = rw is refl in
     let goes = subst (λ x. Goes old new lane old.entries x false) (let e : after_settle o (settling o) ≡ None = rw free refl in e) step.goes in record {
@@ -217,6 +207,7 @@ flush_served seals old new plain left lane o broken exchanges here sound at is s
           (λ view after unchanged shown. shown_unflushed old new plain seals left lane o view after at free goes unchanged.candidates shown);
       map = step.goes.map;
     }
+flush_served seals old new plain left lane o _ exchanges here sound at is step are = absurd step
 
 -- a write that is settled
 pub forced_locks : (ask : Ask) → IsForced ask → has_lock ask ≡ true
@@ -227,10 +218,6 @@ forced_locks Flush forced = absurd forced
 pub settle_served : {K P : Type 0} (seals : Seals) (old new : State K) (plain : ℕ → List ℕ) (left : List Block) (lane : ℕ) (o : Open) (outcome : Outcome) (exchanges : List Exchange) →
     Here P old seals plain left → IsSound new → open_at old.lanes lane ≡ Some o → IsForced o.ask → o.next ≡ o.range.end → SettleStep old lane o outcome new →
     AreExchanges [] exchanges → Served P seals old new plain left exchanges
-settle_served seals old new plain left lane o held exchanges here sound at forced whole step are = absurd step
-settle_served seals old new plain left lane o (waits other) exchanges here sound at forced whole step are = absurd step
-settle_served seals old new plain left lane o (refused number) exchanges here sound at forced whole step are = absurd step
-settle_served seals old new plain left lane o (got sealed) exchanges here sound at forced whole step are = absurd step
 settle_served seals old new plain left lane o done exchanges here sound at forced whole step are =
     let has = forced_locks o.ask forced in
     let goes = subst (λ x. Goes old new lane old.entries x false) (let e : after_settle o (settling o) ≡ Some (settling o) = rw has refl in e) step.goes in
@@ -254,3 +241,4 @@ settle_served seals old new plain left lane o broken exchanges here sound at for
     goes_on seals old new plain left exchanges are
     (failed_here seals old new plain left lane o true here sound at goes (λ stays. absurd (cc)) (λ writing. refl) (moves_not old.map.atom here.bytes old.disk new.disk step.rests here.values))
     step.goes.map
+settle_served seals old new plain left lane o _ exchanges here sound at forced whole step are = absurd step

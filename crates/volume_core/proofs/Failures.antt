@@ -5,7 +5,7 @@ use Rattle.volume_core.specs.declared.ask.Ask.{Ask}
 use Rattle.volume_core.specs.declared.open.Open.{Open}
 use Rattle.volume_core.specs.Asks.{has_lock, wrong_ask}
 use Rattle.volume_core.specs.Contents.{IsFresh}
-use Rattle.volume_core.specs.Events.{Event, admits, asks, reads, writes, settles, finishes, Outcome, held, waits, refused, got, done, device, broken}
+use Rattle.volume_core.specs.Events.{Event, admits, asks, reads, writes, settles, finishes, Outcome, got, done, device, broken}
 use Rattle.volume_core.specs.Pieces.{moved, failing, settling}
 use Rattle.volume_core.specs.Promises.{fails, fails_in, breaks, breaks_in, is_failure, is_fault, GoesByEvents}
 use Rattle.volume_core.specs.Runs.{Happening, IsRun, last_of}
@@ -52,26 +52,19 @@ had_failed old lane other o before at was same = was o (ap (λ n. open_at old.la
 
 read_fails : {K : Type 0} (old new : State K) (lane other : ℕ) (q : Open) (outcome : Outcome) (before : Bool) → open_at old.lanes other ≡ Some q → ReadStep old other q outcome new →
     ((p : Open) → open_at old.lanes lane ≡ Some p → p.failed ≡ before) → (o : Open) → open_at new.lanes lane ≡ Some o → o.failed ≡ (before || ((other == lane) && is_failure outcome))
-read_fails old new lane other q held before at step was o is = absurd step
-read_fails old new lane other q (waits third) before at step was o is = absurd step
-read_fails old new lane other q (refused number) before at step was o is = absurd step
 read_fails old new lane other q (got bytes) before at step was o is =
     of_lane old new lane other old.entries (Some (moved q step.piece)) false false before o step.goes was
     (λ p same own. let e : p ≡ moved q step.piece = cc in ap (λ x. x.failed) e ∙ had_failed old lane other q before at was own ∙ sym (or_false before)) is
-read_fails old new lane other q done before at step was o is = absurd step
 read_fails old new lane other q device before at step was o is =
     of_lane old new lane other old.entries (Some (failing q)) false true before o step.goes was
     (λ p same own. let e : p ≡ failing q = cc in ap (λ x. x.failed) e ∙ sym (or_true before)) is
 read_fails old new lane other q broken before at step was o is =
     of_lane old new lane other old.entries (Some (failing q)) true true before o step.goes was
     (λ p same own. let e : p ≡ failing q = cc in ap (λ x. x.failed) e ∙ sym (or_true before)) is
+read_fails old new lane other q _ before at step was o is = absurd step
 
 write_fails : {K : Type 0} (old new : State K) (lane other : ℕ) (q : Open) (bytes : List ℕ) (outcome : Outcome) (before : Bool) → open_at old.lanes other ≡ Some q → WriteStep old other q bytes outcome new →
     ((p : Open) → open_at old.lanes lane ≡ Some p → p.failed ≡ before) → (o : Open) → open_at new.lanes lane ≡ Some o → o.failed ≡ (before || ((other == lane) && is_failure outcome))
-write_fails old new lane other q bytes held before at step was o is = absurd step
-write_fails old new lane other q bytes (waits third) before at step was o is = absurd step
-write_fails old new lane other q bytes (refused number) before at step was o is = absurd step
-write_fails old new lane other q bytes (got sealed) before at step was o is = absurd step
 write_fails old new lane other q bytes done before at step was o is =
     of_lane old new lane other old.entries (Some (moved q step.piece)) false false before o step.goes was
     (λ p same own. let e : p ≡ moved q step.piece = cc in ap (λ x. x.failed) e ∙ had_failed old lane other q before at was own ∙ sym (or_false before)) is
@@ -81,6 +74,7 @@ write_fails old new lane other q bytes device before at step was o is =
 write_fails old new lane other q bytes broken before at step was o is =
     of_lane old new lane other old.entries (Some (failing q)) true true before o step.goes was
     (λ p same own. let e : p ≡ failing q = cc in ap (λ x. x.failed) e ∙ sym (or_true before)) is
+write_fails old new lane other q bytes _ before at step was o is = absurd step
 
 -- after a settle the operation has failed as its result says, if it is open still
 settled_is : (q now p : Open) → after_settle q now ≡ Some p → p ≡ now
@@ -91,10 +85,6 @@ settled_is q now p is = elim (either (has_lock q.ask)) [
 
 settle_fails : {K : Type 0} (old new : State K) (lane other : ℕ) (q : Open) (outcome : Outcome) (before : Bool) → open_at old.lanes other ≡ Some q → SettleStep old other q outcome new →
     ((p : Open) → open_at old.lanes lane ≡ Some p → p.failed ≡ before) → (o : Open) → open_at new.lanes lane ≡ Some o → o.failed ≡ (before || ((other == lane) && is_failure outcome))
-settle_fails old new lane other q held before at step was o is = absurd step
-settle_fails old new lane other q (waits third) before at step was o is = absurd step
-settle_fails old new lane other q (refused number) before at step was o is = absurd step
-settle_fails old new lane other q (got sealed) before at step was o is = absurd step
 settle_fails old new lane other q done before at step was o is =
     of_lane old new lane other old.entries (after_settle q (settling q)) false false before o step.goes was
     (λ p same own. ap (λ x. x.failed) (settled_is q (settling q) p same) ∙ had_failed old lane other q before at was own ∙ sym (or_false before)) is
@@ -104,6 +94,7 @@ settle_fails old new lane other q device before at step was o is =
 settle_fails old new lane other q broken before at step was o is =
     of_lane old new lane other old.entries (after_settle q (failing q)) true true before o step.goes was
     (λ p same own. ap (λ x. x.failed) (settled_is q (failing q) p same) ∙ sym (or_true before)) is
+settle_fails old new lane other q _ before at step was o is = absurd step
 
 -- a lane that begins has not failed, and what another begins or ends changes nothing
 admit_fails : {K : Type 0} (old new : State K) (lane other : ℕ) (ask : Ask) (outcome : Outcome) (before : Bool) → open_at old.lanes other ≡ None → AdmitStep old other ask outcome new →
@@ -152,31 +143,22 @@ whole_of : {K : Type 0} (old new : State K) (lane : ℕ) (entries : List Entry) 
 whole_of old new lane entries now is_broken failure goes is = record { broken_is = goes.broken_is ∙ is; map_is = goes.map; keys_are = goes.keys }
 
 whole_read : {K : Type 0} (old new : State K) (lane : ℕ) (q : Open) (outcome : Outcome) → ReadStep old lane q outcome new → Whole old new false
-whole_read old new lane q held step = absurd step
-whole_read old new lane q (waits third) step = absurd step
-whole_read old new lane q (refused number) step = absurd step
 whole_read old new lane q (got bytes) step = whole_of old new lane old.entries _ false false step.goes (sym (or_false old.broken ∙ step.was))
-whole_read old new lane q done step = absurd step
 whole_read old new lane q device step = whole_of old new lane old.entries _ false false step.goes (sym (or_false old.broken ∙ step.was))
 whole_read old new lane q broken step = whole_of old new lane old.entries _ true false step.goes (sym (or_false old.broken ∙ step.was))
+whole_read old new lane q _ step = absurd step
 
 whole_write : {K : Type 0} (old new : State K) (lane : ℕ) (q : Open) (bytes : List ℕ) (outcome : Outcome) → WriteStep old lane q bytes outcome new → Whole old new (is_fault outcome)
-whole_write old new lane q bytes held step = absurd step
-whole_write old new lane q bytes (waits third) step = absurd step
-whole_write old new lane q bytes (refused number) step = absurd step
-whole_write old new lane q bytes (got sealed) step = absurd step
 whole_write old new lane q bytes done step = whole_of old new lane old.entries _ false false step.goes (sym (or_false old.broken ∙ step.was))
 whole_write old new lane q bytes device step = whole_of old new lane old.entries _ true true step.goes (sym (or_true old.broken))
 whole_write old new lane q bytes broken step = whole_of old new lane old.entries _ true false step.goes (sym (or_false old.broken ∙ step.was))
+whole_write old new lane q bytes _ step = absurd step
 
 whole_settle : {K : Type 0} (old new : State K) (lane : ℕ) (q : Open) (outcome : Outcome) → SettleStep old lane q outcome new → Whole old new (is_fault outcome)
-whole_settle old new lane q held step = absurd step
-whole_settle old new lane q (waits third) step = absurd step
-whole_settle old new lane q (refused number) step = absurd step
-whole_settle old new lane q (got sealed) step = absurd step
 whole_settle old new lane q done step = whole_of old new lane old.entries _ false false step.goes (sym (or_false old.broken ∙ step.was))
 whole_settle old new lane q device step = whole_of old new lane old.entries _ true true step.goes (sym (or_true old.broken))
 whole_settle old new lane q broken step = whole_of old new lane old.entries _ true false step.goes (sym (or_false old.broken ∙ step.was))
+whole_settle old new lane q _ step = absurd step
 
 whole_same : {K : Type 0} (old new : State K) → new ≡ old → Whole old new false
 whole_same old new same = record { broken_is = ap (λ s. s.broken) same ∙ sym (or_false old.broken); map_is = ap (λ s. s.map) same; keys_are = ap (λ s. s.keys) same }

@@ -1,11 +1,10 @@
 -- Runs in which no count of faults moves.
-use Rattle.std.proofs.Common.{◌≡◌, ◌≢◌, inl, inr, ◌⊎◌, ℕ, ◌+◌, ◌-◌, ◌*◌, ◌/◌, ◌<◌, ◌≤◌, ◌^◌, true, false, if◌then◌else◌, List, [], ◌∷◌, ◌++◌, length, Option, Some, None, MatchOption, MatchBool, refl, sym, ◌∙◌, ap, subst, arith, length-append}
+use Rattle.std.proofs.Common.{◌≡◌, ◌≢◌, inl, inr, ◌⊎◌, ℕ, ◌+◌, ◌-◌, ◌*◌, ◌/◌, ◌<◌, ◌^◌, true, false, if◌then◌else◌, List, [], ◌∷◌, ◌++◌, length, Option, Some, None, MatchOption, MatchBool, refl, sym, ◌∙◌, ap, subst, arith, length-append}
 use Rattle.base_terms.specs.Causes.{Rose}
-use Rattle.std.proofs.lemmas.Bool.{cases_lt}
 use Rattle.plain_disk.specs.Operations.{wrong_of}
 use Rattle.plain_disk.specs.Outcomes.{IsServed, AreServed}
 use Rattle.plain_disk.specs.Plain.{Exchange}
-use Rattle.plain_disk.specs.declared.operation.Reply.TheVariants.{Done, Errno}
+use Rattle.plain_disk.specs.declared.operation.Reply.TheVariants.{Content, Done, Errno}
 use Rattle.range_lock.specs.declared.Entry.{Entry}
 use Rattle.range_lock.specs.Locks.{without}
 use Rattle.segment_map.specs.declared.map.Piece.{Piece}
@@ -14,8 +13,8 @@ use Rattle.volume_core.specs.declared.ask.Ask.TheVariants.{Read, Write, Flush}
 use Rattle.volume_core.specs.declared.open.Open.{Open}
 use Rattle.volume_core.specs.Asks.{IsRead, IsWrite, range_of, has_lock, wrong_ask}
 use Rattle.volume_core.specs.Contents.{IsFresh}
-use Rattle.volume_core.specs.Events.{Event, admits, asks, reads, writes, settles, finishes, Outcome, held, waits, refused, got, done, device, broken}
-use Rattle.volume_core.specs.Executing.{AreFull, IsFull, ServesWithoutFaults, BreaksByFaults}
+use Rattle.volume_core.specs.Events.{Event, admits, asks, reads, writes, settles, finishes, Outcome, refused, got, done, device, broken}
+use Rattle.volume_core.specs.Executing.{ServesWithoutFaults}
 use Rattle.volume_core.specs.Pieces.{side_in, IsPieceOf, ArePieceBytes, moved, settling, IsComplete}
 use Rattle.volume_core.specs.Runs.{Happening, IsRun, last_of, with_plain, plain_piece, after_read, after_write, plain_after, no_plain, answered_by, answered_in, by_admit, by_settle, by_finish, full_reply, refusal, Answered, Asked, IsExchange, AreExchanges}
 use Rattle.volume_core.specs.Seals.{Seals, AreLawful}
@@ -27,13 +26,26 @@ use Rattle.volume_core.proofs.Locking.{either, same_or_not}
 use Rattle.volume_core.proofs.Reading.{piece_blocks}
 use Rattle.volume_core.proofs.Answering.{read_whole, wrong_asked}
 use Rattle.volume_core.proofs.EventsServed.{forced_locks}
-use Rattle.volume_core.proofs.Soundness.{sound_kept, match_false, admit_cases}
+use Rattle.volume_core.proofs.Soundness.{sound_kept, match_false}
 use Rattle.volume_core.proofs.Failures.{whole_event}
+use Rattle.volume_core.proofs.Faults.{faults_event, faults_run}
 
 -- a count that rose didn't stay below its last value
 rose_not : (before now : ℕ) → Rose before now → now ≡ before → before < 2 ^ 64 - 1 → ⊥
 rose_not before now (inl less) same below = omega (arith, less, same)
 rose_not before now (inr last) same below = omega (arith, last, same, below)
+
+-- an operation that isn't wrong got all its bytes, or is done; a wrong one is refused with its number
+abbrev IsFull : Answered → Ask → Type 0
+IsFull answered (Read offset len) = (answered.reply ≡ Content answered.plain) × (length answered.plain ≡ len)
+IsFull answered (Write offset len fua) = answered.reply ≡ Done
+IsFull answered Flush = answered.reply ≡ Done
+
+unfoldable AreFull : ℕ → ℕ → List Answered → Type 0
+AreFull atom size [] = Unit {0}
+AreFull atom size (answered ∷ rest) =
+    MatchOption (wrong_ask atom size answered.ask) (IsFull answered answered.ask) (λ number. answered.reply ≡ Errno number)
+    × AreFull atom size rest
 
 -- nothing has failed, and each operation knows what its pieces hold
 record IsFine {K : Type 0} (state : State K) (seals : Seals) (plain : ℕ → List ℕ) : Type 0 where
@@ -95,24 +107,17 @@ piece_length old seals plain lane o piece bytes fine at has next are =
 
 fine_read : {K : Type 0} (old new : State K) (seals : Seals) (plain : ℕ → List ℕ) (lane : ℕ) (o : Open) (outcome : Outcome) → IsFine old seals plain → IsSound new → open_at old.lanes lane ≡ Some o → IsRead o.ask →
     new.disk.faults ≡ old.disk.faults → old.disk.faults < 2 ^ 64 - 1 → ReadStep old lane o outcome new → IsFine new seals (after_read seals old lane outcome plain)
-fine_read old new seals plain lane o held fine sound at reading same below step = absurd step
-fine_read old new seals plain lane o (waits other) fine sound at reading same below step = absurd step
-fine_read old new seals plain lane o (refused number) fine sound at reading same below step = absurd step
 fine_read old new seals plain lane o (got bytes) fine sound at reading same below step =
     fine_after old new seals plain (with_plain plain lane (plain lane ++ plain_piece seals old lane bytes)) lane old.entries (Some (moved o step.piece)) fine sound step.goes
     (plain-other plain lane (plain lane ++ plain_piece seals old lane bytes))
     (λ p is. let e : p ≡ moved o step.piece = cc in
     rw e ((fine.lanes lane o at).0, λ has. piece_length old seals plain lane o step.piece bytes fine at has step.next step.are))
-fine_read old new seals plain lane o done fine sound at reading same below step = absurd step
 fine_read old new seals plain lane o device fine sound at reading same below step = absurd (rose_not old.disk.faults new.disk.faults (step.call.cause.failed refl) same below)
 fine_read old new seals plain lane o broken fine sound at reading same below step = absurd (let was = step.was in let whole = fine.unbroken in cc)
+fine_read old new seals plain lane o _ fine sound at reading same below step = absurd step
 
 fine_write : {K : Type 0} (old new : State K) (seals : Seals) (plain : ℕ → List ℕ) (lane : ℕ) (o : Open) (bytes : List ℕ) (outcome : Outcome) → IsFine old seals plain → IsSound new → open_at old.lanes lane ≡ Some o →
     IsWrite o.ask → new.disk.faults ≡ old.disk.faults → old.disk.faults < 2 ^ 64 - 1 → WriteStep old lane o bytes outcome new → IsFine new seals (after_write seals old lane bytes outcome plain)
-fine_write old new seals plain lane o bytes held fine sound at writing same below step = absurd step
-fine_write old new seals plain lane o bytes (waits other) fine sound at writing same below step = absurd step
-fine_write old new seals plain lane o bytes (refused number) fine sound at writing same below step = absurd step
-fine_write old new seals plain lane o bytes (got sealed) fine sound at writing same below step = absurd step
 fine_write old new seals plain lane o bytes done fine sound at writing same below step =
     fine_after old new seals plain (with_plain plain lane (plain lane ++ plain_piece seals old lane bytes)) lane old.entries (Some (moved o step.piece)) fine sound step.goes
     (plain-other plain lane (plain lane ++ plain_piece seals old lane bytes))
@@ -120,6 +125,7 @@ fine_write old new seals plain lane o bytes done fine sound at writing same belo
     rw e ((fine.lanes lane o at).0, λ has. piece_length old seals plain lane o step.piece bytes fine at has step.next step.are))
 fine_write old new seals plain lane o bytes device fine sound at writing same below step = absurd (rose_not old.disk.faults new.disk.faults (step.call.cause.failed refl) same below)
 fine_write old new seals plain lane o bytes broken fine sound at writing same below step = absurd (let was = step.was in let whole = fine.unbroken in cc)
+fine_write old new seals plain lane o bytes _ fine sound at writing same below step = absurd step
 
 -- a settle
 ends_or_settled : (o p : Open) → after_settle o (settling o) ≡ Some p → p ≡ settling o
@@ -138,10 +144,6 @@ settle_full old o proper (inr (forced, ended, unfailed, unsettled)) =
 
 fine_settle : {K : Type 0} (old new : State K) (seals : Seals) (plain : ℕ → List ℕ) (lane : ℕ) (o : Open) (outcome : Outcome) → IsFine old seals plain → IsSound new → open_at old.lanes lane ≡ Some o → CanSettle o →
     new.disk.faults ≡ old.disk.faults → old.disk.faults < 2 ^ 64 - 1 → SettleStep old lane o outcome new → FineAfter old new seals plain (by_settle (Some o) outcome)
-fine_settle old new seals plain lane o held fine sound at can same below step = absurd step
-fine_settle old new seals plain lane o (waits other) fine sound at can same below step = absurd step
-fine_settle old new seals plain lane o (refused number) fine sound at can same below step = absurd step
-fine_settle old new seals plain lane o (got sealed) fine sound at can same below step = absurd step
 fine_settle old new seals plain lane o done fine sound at can same below step = record {
   fine = fine_after old new seals plain plain lane old.entries (after_settle o (settling o)) fine sound step.goes (λ k other. refl)
       (λ p is. let e : p ≡ settling o = ends_or_settled o p is in rw e (fine.lanes lane o at));
@@ -149,6 +151,7 @@ fine_settle old new seals plain lane o done fine sound at can same below step = 
 }
 fine_settle old new seals plain lane o device fine sound at can same below step = absurd (rose_not old.disk.faults new.disk.faults (step.call.cause.failed refl) same below)
 fine_settle old new seals plain lane o broken fine sound at can same below step = absurd (let was = step.was in let whole = fine.unbroken in cc)
+fine_settle old new seals plain lane o _ fine sound at can same below step = absurd step
 
 -- an operation that ends
 finish_full : {K : Type 0} (old : State K) (seals : Seals) (plain : ℕ → List ℕ) (lane : ℕ) (o : Open) (ask : Ask) → IsFine old seals plain → open_at old.lanes lane ≡ Some o → o.ask ≡ ask → has_lock o.ask ≡ true →
@@ -235,53 +238,6 @@ fine_event old new seals plain (finishes lane) outcome fine meets step same belo
     let after = fine_finish old new seals plain lane o outcome fine (sound_kept old new (finishes lane) outcome fine.sound meets step) at can.0 can.1 step in
     record { fine = after.fine; full = subst (λ x. AreFull old.map.atom (size_of old.map) (by_finish x (plain lane))) (sym at) after.full }
 
--- the count of faults doesn't fall
-faults_read : {K : Type 0} (old new : State K) (lane : ℕ) (o : Open) (outcome : Outcome) → ReadStep old lane o outcome new → old.disk.faults ≤ new.disk.faults
-faults_read old new lane o held step = absurd step
-faults_read old new lane o (waits other) step = absurd step
-faults_read old new lane o (refused number) step = absurd step
-faults_read old new lane o (got bytes) step = step.call.cause.later
-faults_read old new lane o done step = absurd step
-faults_read old new lane o device step = step.call.cause.later
-faults_read old new lane o broken step = rw step.rests (omega arith)
-
-faults_write : {K : Type 0} (old new : State K) (lane : ℕ) (o : Open) (bytes : List ℕ) (outcome : Outcome) → WriteStep old lane o bytes outcome new → old.disk.faults ≤ new.disk.faults
-faults_write old new lane o bytes held step = absurd step
-faults_write old new lane o bytes (waits other) step = absurd step
-faults_write old new lane o bytes (refused number) step = absurd step
-faults_write old new lane o bytes (got sealed) step = absurd step
-faults_write old new lane o bytes done step = step.call.cause.later
-faults_write old new lane o bytes device step = step.call.cause.later
-faults_write old new lane o bytes broken step = rw step.rests (omega arith)
-
-faults_settle : {K : Type 0} (old new : State K) (lane : ℕ) (o : Open) (outcome : Outcome) → SettleStep old lane o outcome new → old.disk.faults ≤ new.disk.faults
-faults_settle old new lane o held step = absurd step
-faults_settle old new lane o (waits other) step = absurd step
-faults_settle old new lane o (refused number) step = absurd step
-faults_settle old new lane o (got sealed) step = absurd step
-faults_settle old new lane o done step = step.call.cause.later
-faults_settle old new lane o device step = step.call.cause.later
-faults_settle old new lane o broken step = rw step.rests (omega arith)
-
-faults_event : {K : Type 0} (old new : State K) (event : Event) (outcome : Outcome) → Step old event outcome new → old.disk.faults ≤ new.disk.faults
-unfolding Step
-faults_event old new (admits lane ask) outcome step = elim (admit_cases old new lane ask outcome (wrong_ask old.map.atom (size_of old.map) ask) refl step) [
-  | inl same ↦ rw same (omega arith)
-  | inr admitted ↦ rw admitted.1.rests (omega arith)
-]
-faults_event old new (asks lane) outcome step = rw step.1 (omega arith)
-faults_event old new (reads lane) outcome (o, at, step) = faults_read old new lane o outcome step
-faults_event old new (writes lane bytes) outcome (o, at, step) = faults_write old new lane o bytes outcome step
-faults_event old new (settles lane) outcome (o, at, step) = faults_settle old new lane o outcome step
-faults_event old new (finishes lane) outcome step = rw step.rests (omega arith)
-
-pub faults_run : {K : Type 0} (start : State K) (run : List (Happening K)) → IsRun start run → start.disk.faults ≤ (last_of start run).disk.faults
-unfolding IsRun last_of
-faults_run start [] is = omega arith
-faults_run start (one ∷ rest) (meets, step, is) =
-    let first = faults_event start one.after one.event one.outcome step in
-    let behind = faults_run one.after rest is in omega (arith, first, behind)
-
 full_joined : (atom size : ℕ) (xs ys : List Answered) → AreFull atom size xs → AreFull atom size ys → AreFull atom size (xs ++ ys)
 unfolding AreFull
 full_joined atom size [] ys first rest = rest
@@ -347,15 +303,3 @@ pub serves_without_faults : {K : Type 0} (start : State K) (seals : Seals) (run 
 serves_without_faults start seals run sound fresh lawful is = λ exchanges are same below.
     let fine = fine_run start seals no_plain run (starts_fine start seals sound fresh lawful) is same below in
     (exchanges_served start.map.atom (size_of start.map) (answered_in seals start no_plain run) exchanges are fine.0, fine.1)
-
-pub breaks_by_faults : {K : Type 0} (start : State K) (seals : Seals) (run : List (Happening K)) → IsSound start → IsFresh start → AreLawful start.map.atom seals → IsRun start run →
-    BreaksByFaults start run
-breaks_by_faults start seals run sound fresh lawful is = λ broken.
-    let later = faults_run start run is in
-    elim (cases_lt start.disk.faults (last_of start run).disk.faults) [
-      | inl rose ↦ inl rose
-      | inr stood ↦ elim (cases_lt start.disk.faults (2 ^ 64 - 1)) [
-        | inl low ↦ absurd (let fine = fine_run start seals no_plain run (starts_fine start seals sound fresh lawful) is (omega (arith, later, stood)) low in let whole = fine.1 in cc)
-        | inr last ↦ inr (omega (arith, later, last))
-      ]
-    ]

@@ -11,7 +11,7 @@ use Rattle.volume_core.specs.Seals.{Seals, AreBlocks, block_at}
 use Rattle.volume_core.specs.Sound.{IsSound}
 use Rattle.volume_core.specs.States.{State, open_at}
 use Rattle.volume_core.specs.Steps.{Goes, Holds}
-use Rattle.volume_core.specs.Views.{View, IsOutside, IsUnchanged}
+use Rattle.volume_core.proofs.Views.{View, IsOutside, IsUnchanged}
 use Rattle.volume_core.proofs.Admits.{idle}
 use Rattle.volume_core.proofs.Blockwise.{one_block}
 use Rattle.volume_core.proofs.Entries.{length-changed}

@@ -12,7 +12,7 @@ use Rattle.volume_core.specs.Seals.{Seals, AreLawful}
 use Rattle.volume_core.specs.Sound.{AreApart}
 use Rattle.volume_core.specs.States.{State, Device}
 use Rattle.volume_core.specs.Steps.{succeeded, failed_call}
-use Rattle.volume_core.specs.Views.{View, view_of_bytes, view_of_cells, IsUnchanged, IsWritten, IsTried, IsSynced, IsThinned}
+use Rattle.volume_core.proofs.Views.{View, view_of_bytes, view_of_cells, IsUnchanged, IsWritten, IsTried, IsSynced, IsThinned}
 use Rattle.volume_core.proofs.Blockwise.{blocks_of_whole}
 use Rattle.volume_core.proofs.DeviceViews.{bytes-read, bytes-written, bytes-tried, bytes-synced, bytes-thinned, table-read, table-written, table-tried, table-synced, table-thinned, places_of_current, HasPlaces}
 use Rattle.volume_core.proofs.Invariant.{Logic, Shown}

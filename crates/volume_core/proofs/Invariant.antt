@@ -9,7 +9,7 @@ use Rattle.volume_core.specs.Seals.{Seals, AreBlocks, block_at}
 use Rattle.volume_core.specs.Sound.{IsSound}
 use Rattle.volume_core.specs.States.{State, open_at, LaneBecomes}
 use Rattle.volume_core.specs.Steps.{Holds}
-use Rattle.volume_core.specs.Views.{View, IsThinned}
+use Rattle.volume_core.proofs.Views.{View, IsThinned}
 use Rattle.volume_core.proofs.Locking.{same_or_not}
 
 -- the value of a block that is certain

@@ -7,6 +7,7 @@ pub mod CodePieceSteps
 pub mod CodePieces
 pub mod CodeSeals
 pub mod CodeSteps
+pub mod DeviceErrors
 pub mod DeviceViews
 pub mod RunsServed
 pub mod SealLemmas
@@ -16,10 +17,13 @@ pub mod EventsServed
 pub mod Executions
 pub mod Failures
 pub mod Faultless
+pub mod Faults
 pub mod Finishing
 pub mod Here
 pub mod Invariant
 pub mod Locking
+pub mod OtherLanes
+pub mod Places
 pub mod PlainBlocks
 pub mod PlainStart
 pub mod Reading
@@ -27,4 +31,5 @@ pub mod Settling
 pub mod Soundness
 pub mod TableEntries
 pub mod Tables
+pub mod Views
 pub mod Writing

@@ -7,7 +7,7 @@ use Rattle.base_terms.specs.Blocks.{blocks_of, changed, joined}
 use Rattle.plain_disk.specs.Plain.{Block, values_of, settled, written, tried, flushed, written_for_good, newest_bytes, AreSure}
 use Rattle.volume_core.specs.Contents.{block_in}
 use Rattle.volume_core.specs.Seals.{block_at}
-use Rattle.volume_core.specs.Views.{IsOutside}
+use Rattle.volume_core.proofs.Views.{IsOutside}
 use Rattle.volume_core.proofs.Blockwise.{block_end, block_at-first, block_at-next, block_at-part, length-part, same_blocks}
 use Rattle.volume_core.proofs.Entries.{changed_blocks-outside, changed_blocks-inside}
 

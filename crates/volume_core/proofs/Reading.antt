@@ -18,7 +18,7 @@ use Rattle.volume_core.specs.Seals.{Seals, AreBlocks, AreLawful, block_at}
 use Rattle.volume_core.specs.Sound.{IsSound}
 use Rattle.volume_core.specs.States.{State, open_at}
 use Rattle.volume_core.specs.Steps.{GetsPiece, HasPiece, Holds, Goes}
-use Rattle.volume_core.specs.Views.{View, IsUnchanged}
+use Rattle.volume_core.proofs.Views.{View, IsUnchanged}
 use Rattle.volume_core.proofs.Admits.{plain-other, plain-own}
 use Rattle.volume_core.proofs.Blockwise.{block_at-front, block_at-behind, blocks_joined}
 use Rattle.volume_core.proofs.Invariant.{IsRight, LaneKnows, Logic, Shown, KeepsWrites, writes_stay, writes_go_on, shown_kept, knows_still, lanes_still}

@@ -10,7 +10,7 @@ use Rattle.volume_core.specs.Seals.{Seals, block_at}
 use Rattle.volume_core.specs.Sound.{IsSound}
 use Rattle.volume_core.specs.States.{State, open_at}
 use Rattle.volume_core.specs.Steps.{Goes, Holds}
-use Rattle.volume_core.specs.Views.{View, IsSynced, IsThinned}
+use Rattle.volume_core.proofs.Views.{View, IsSynced, IsThinned}
 use Rattle.volume_core.proofs.Admits.{idle}
 use Rattle.volume_core.proofs.Invariant.{LaneKnows, Logic, Shown, KeepsTried, KeepsWrites, tried_go_on, tried_stay, writes_stay, now_kept, shown_kept}
 use Rattle.volume_core.proofs.Locking.{same_or_not}

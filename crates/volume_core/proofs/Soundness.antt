@@ -10,7 +10,7 @@ use Rattle.volume_core.specs.declared.ask.Ask.{Ask}
 use Rattle.volume_core.specs.declared.ask.Ask.TheVariants.{Read, Write, Flush}
 use Rattle.volume_core.specs.declared.open.Open.{Open}
 use Rattle.volume_core.specs.Asks.{range_of, has_lock, wrong_ask, entry_of}
-use Rattle.volume_core.specs.Events.{Event, admits, asks, reads, writes, settles, finishes, Outcome, held, waits, refused, got, done, device, broken}
+use Rattle.volume_core.specs.Events.{Event, admits, asks, reads, writes, settles, finishes, Outcome, refused, got, done, device, broken}
 use Rattle.volume_core.specs.Pieces.{IsPieceOf, moved, failing, settling}
 use Rattle.volume_core.specs.Sound.{IsSound, IsUnderWay, entry_in, locks, count_locks}
 use Rattle.volume_core.specs.States.{State, open_at, size_of, begun}
@@ -293,24 +293,17 @@ sound_admit old new lane ask outcome sound free step =
 
 sound_read : {K : Type 0} (old new : State K) (lane : ℕ) (o : Open) (outcome : Outcome) → IsSound old → open_at old.lanes lane ≡ Some o →
     ReadStep old lane o outcome new → IsSound new
-sound_read old new lane o held sound is step = absurd step
-sound_read old new lane o (waits other) sound is step = absurd step
-sound_read old new lane o (refused number) sound is step = absurd step
 sound_read old new lane o (got bytes) sound is step =
     sound_open old new lane o (moved o step.piece) false sound step.goes step.call.atoms is refl
     (goes-on old.map o step.piece (sound.under_way lane o is) step.next)
-sound_read old new lane o done sound is step = absurd step
 sound_read old new lane o device sound is step =
     sound_open old new lane o (failing o) false sound step.goes step.call.atoms is refl (goes-on-failing old.map o (sound.under_way lane o is))
 sound_read old new lane o broken sound is step =
     sound_open old new lane o (failing o) true sound step.goes (ap (λ d. d.atoms) step.rests) is refl (goes-on-failing old.map o (sound.under_way lane o is))
+sound_read old new lane o _ sound is step = absurd step
 
 sound_write : {K : Type 0} (old new : State K) (lane : ℕ) (o : Open) (bytes : List ℕ) (outcome : Outcome) → IsSound old → open_at old.lanes lane ≡ Some o →
     WriteStep old lane o bytes outcome new → IsSound new
-sound_write old new lane o bytes held sound is step = absurd step
-sound_write old new lane o bytes (waits other) sound is step = absurd step
-sound_write old new lane o bytes (refused number) sound is step = absurd step
-sound_write old new lane o bytes (got sealed) sound is step = absurd step
 sound_write old new lane o bytes done sound is step =
     sound_open old new lane o (moved o step.piece) false sound step.goes step.call.atoms is refl
     (goes-on old.map o step.piece (sound.under_way lane o is) step.next)
@@ -318,19 +311,17 @@ sound_write old new lane o bytes device sound is step =
     sound_open old new lane o (failing o) true sound step.goes step.call.atoms is refl (goes-on-failing old.map o (sound.under_way lane o is))
 sound_write old new lane o bytes broken sound is step =
     sound_open old new lane o (failing o) true sound step.goes (ap (λ d. d.atoms) step.rests) is refl (goes-on-failing old.map o (sound.under_way lane o is))
+sound_write old new lane o bytes _ sound is step = absurd step
 
 sound_settle : {K : Type 0} (old new : State K) (lane : ℕ) (o : Open) (outcome : Outcome) → IsSound old → open_at old.lanes lane ≡ Some o →
     SettleStep old lane o outcome new → IsSound new
-sound_settle old new lane o held sound is step = absurd step
-sound_settle old new lane o (waits other) sound is step = absurd step
-sound_settle old new lane o (refused number) sound is step = absurd step
-sound_settle old new lane o (got sealed) sound is step = absurd step
 sound_settle old new lane o done sound is step =
     sound_settled old new lane o (settling o) false sound step.goes step.call.atoms is refl (goes-on-settling old.map o (sound.under_way lane o is))
 sound_settle old new lane o device sound is step =
     sound_settled old new lane o (failing o) true sound step.goes step.call.atoms is refl (goes-on-failing old.map o (sound.under_way lane o is))
 sound_settle old new lane o broken sound is step =
     sound_settled old new lane o (failing o) true sound step.goes (ap (λ d. d.atoms) step.rests) is refl (goes-on-failing old.map o (sound.under_way lane o is))
+sound_settle old new lane o _ sound is step = absurd step
 
 -- every event of a sound volume leaves a sound one
 pub sound_kept : {K : Type 0} (old new : State K) (event : Event) (outcome : Outcome) → IsSound old → Meets old event → Step old event outcome new → IsSound new

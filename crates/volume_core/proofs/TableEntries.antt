@@ -9,8 +9,8 @@ use Rattle.sector_disk.specs.Cells.{Cell, wrote, tried, synced, IsTriedAt, IsThi
 use Rattle.sector_disk.specs.Cells as disk_cells
 use Rattle.volume_core.specs.Contents.{cell_in}
 use Rattle.volume_core.specs.Seals.{block_at}
-use Rattle.volume_core.specs.Views.{View, view_of_cells, HasNoMore, IsOutside, IsUnchanged, IsTried, IsWritten, IsSynced}
-use Rattle.volume_core.specs.Views as views
+use Rattle.volume_core.proofs.Views.{View, view_of_cells, HasNoMore, IsOutside, IsUnchanged, IsTried, IsWritten, IsSynced}
+use Rattle.volume_core.proofs.Views as views
 use Rattle.volume_core.proofs.Entries.{length-blocks_of, blocks_of-at, changed_blocks-outside, changed_blocks-inside}
 
 -- an atom past the table's end

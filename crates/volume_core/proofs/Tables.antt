@@ -7,7 +7,7 @@ use Rattle.sector_disk.specs.Cells.{Cell}
 use Rattle.sector_disk.specs.Steps.{Told, Moves, MovesOrNot, then_table, TellsRead, TellsWrite, TellsSync}
 use Rattle.volume_core.specs.declared.open.Open.{Open}
 use Rattle.volume_core.specs.Asks.{wrong_ask}
-use Rattle.volume_core.specs.Events.{Event, admits, asks, reads, writes, settles, finishes, Outcome, held, waits, refused, got, done, device, broken}
+use Rattle.volume_core.specs.Events.{Event, admits, asks, reads, writes, settles, finishes, Outcome, got, done, device, broken}
 use Rattle.volume_core.specs.Executing.{WasTold, TellsRun}
 use Rattle.volume_core.specs.Pieces.{place_of}
 use Rattle.volume_core.specs.Runs.{Happening, IsRun, last_of}
@@ -48,31 +48,22 @@ rests_grow : {K : Type 0} (old new : State K) → new.disk ≡ old.disk → Grow
 rests_grow old new rests = grows_same old.disk.told new.disk.told (ap (λ d. d.told) rests)
 
 grows_read : {K : Type 0} (old new : State K) (lane : ℕ) (o : Open) (outcome : Outcome) → ReadStep old lane o outcome new → Grows old.disk.told new.disk.told
-grows_read old new lane o held step = absurd step
-grows_read old new lane o (waits other) step = absurd step
-grows_read old new lane o (refused number) step = absurd step
 grows_read old new lane o (got bytes) step = read_grows old.disk.told new.disk.told succeeded step.call.told
-grows_read old new lane o done step = absurd step
 grows_read old new lane o device step = read_grows old.disk.told new.disk.told failed_call step.call.told
 grows_read old new lane o broken step = rests_grow old new step.rests
+grows_read old new lane o _ step = absurd step
 
 grows_write : {K : Type 0} (old new : State K) (lane : ℕ) (o : Open) (bytes : List ℕ) (outcome : Outcome) → WriteStep old lane o bytes outcome new → Grows old.disk.told new.disk.told
-grows_write old new lane o bytes held step = absurd step
-grows_write old new lane o bytes (waits other) step = absurd step
-grows_write old new lane o bytes (refused number) step = absurd step
-grows_write old new lane o bytes (got sealed) step = absurd step
 grows_write old new lane o bytes done step = write_grows old.map.atom (place_of old.map step.piece) bytes old.disk.told new.disk.told succeeded step.call.told
 grows_write old new lane o bytes device step = write_grows old.map.atom (place_of old.map step.piece) bytes old.disk.told new.disk.told failed_call step.call.told
 grows_write old new lane o bytes broken step = rests_grow old new step.rests
+grows_write old new lane o bytes _ step = absurd step
 
 grows_settle : {K : Type 0} (old new : State K) (lane : ℕ) (o : Open) (outcome : Outcome) → SettleStep old lane o outcome new → Grows old.disk.told new.disk.told
-grows_settle old new lane o held step = absurd step
-grows_settle old new lane o (waits other) step = absurd step
-grows_settle old new lane o (refused number) step = absurd step
-grows_settle old new lane o (got sealed) step = absurd step
 grows_settle old new lane o done step = sync_grows old.disk.told new.disk.told succeeded step.call.told
 grows_settle old new lane o device step = sync_grows old.disk.told new.disk.told failed_call step.call.told
 grows_settle old new lane o broken step = rests_grow old new step.rests
+grows_settle old new lane o _ step = absurd step
 
 grows_event : {K : Type 0} (old new : State K) (event : Event) (outcome : Outcome) → Step old event outcome new → Grows old.disk.told new.disk.told
 unfolding Step

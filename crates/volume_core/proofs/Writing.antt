@@ -12,7 +12,7 @@ use Rattle.volume_core.specs.Seals.{Seals, AreBlocks, AreLawful, block_at}
 use Rattle.volume_core.specs.Sound.{IsSound, AreApart}
 use Rattle.volume_core.specs.States.{State, open_at}
 use Rattle.volume_core.specs.Steps.{HasPiece, Holds, Goes}
-use Rattle.volume_core.specs.Views.{View, IsOutside, IsTried, IsWritten}
+use Rattle.volume_core.proofs.Views.{View, IsOutside, IsTried, IsWritten}
 use Rattle.volume_core.proofs.Admits.{plain-other, plain-own}
 use Rattle.volume_core.proofs.Blockwise.{block_at-front, block_at-behind, blocks_joined, one_block}
 use Rattle.volume_core.proofs.Invariant.{LaneKnows, Logic, Shown, tried_goes, lanes_still}

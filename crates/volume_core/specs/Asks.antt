@@ -35,19 +35,16 @@ wrong_ask atom size Flush = None
 
 abbrev pub IsRead : Ask → Type 0
 IsRead (Read offset len) = Unit {0}
-IsRead (Write offset len fua) = ⊥
-IsRead Flush = ⊥
+IsRead _ = ⊥
 
 abbrev pub IsWrite : Ask → Type 0
-IsWrite (Read offset len) = ⊥
 IsWrite (Write offset len fua) = Unit {0}
-IsWrite Flush = ⊥
+IsWrite _ = ⊥
 
 -- a write of some bytes that is done once they are certain to be kept
 abbrev pub IsForced : Ask → Type 0
-IsForced (Read offset len) = ⊥
 IsForced (Write offset len fua) = (fua ≡ true) × (0 < len)
-IsForced Flush = ⊥
+IsForced _ = ⊥
 
 -- a lane's entry in the table of locks
 abbrev pub entry_of : ℕ → ℕ → Ask → Entry

@@ -16,6 +16,15 @@ pub data Event : Type 0 where
   -- a lane ends its operation
   finishes : (lane : ℕ) → Event
 
+-- the lane whose event it is
+abbrev pub lane_of : Event → ℕ
+lane_of (admits lane ask) = lane
+lane_of (asks lane) = lane
+lane_of (reads lane) = lane
+lane_of (writes lane sealed) = lane
+lane_of (settles lane) = lane
+lane_of (finishes lane) = lane
+
 pub data Outcome : Type 0 where
   -- the range is held
   held : Outcome

@@ -1,19 +1,15 @@
 -- Operations that were executed, each to its end, by some run of events.
-use Rattle.std.specs.Prelude.{ℕ, ◌≡◌, ◌++◌, ◌<◌, ◌-◌, ◌^◌, true, false, List, [], ◌∷◌, length, All, Option, Some, None, MatchOption}
-use Rattle.plain_disk.specs.declared.operation.Reply.TheVariants.{Content, Done, Errno}
+use Rattle.std.specs.Prelude.{ℕ, ◌≡◌, ◌++◌, ◌<◌, ◌-◌, ◌^◌, true, false, List, All, Option, Some, None}
 use Rattle.base_terms.specs.Causes.{Rose}
 use Rattle.plain_disk.specs.Outcomes.{AreServed}
 use Rattle.plain_disk.specs.Plain.{Block, Exchange, Legal}
 use Rattle.sector_disk.specs.Cells.{Cell}
 use Rattle.sector_disk.specs.Steps.{Told}
-use Rattle.volume_core.specs.Asks.{wrong_ask}
 use Rattle.volume_core.specs.Contents.{StopsAllowed}
 use Rattle.volume_core.specs.Promises.{StartsCovered}
-use Rattle.volume_core.specs.Runs.{Happening, IsRun, last_of, answered_in, plain_in, no_plain, AreExchanges, Answered}
+use Rattle.volume_core.specs.Runs.{Happening, IsRun, last_of, answered_in, plain_in, no_plain, AreExchanges}
 use Rattle.volume_core.specs.Seals.{Seals}
 use Rattle.volume_core.specs.States.{State, open_at, size_of}
-use Rattle.volume_core.specs.declared.ask.Ask.{Ask}
-use Rattle.volume_core.specs.declared.ask.Ask.TheVariants.{Read, Write, Flush}
 
 -- From an old state to a new one these operations were executed, by this run of events. Whatever the
 -- lanes knew before, nothing of it is answered.
@@ -59,18 +55,6 @@ pub record TellsRun {K : Type 0} (start : State K) (run : List (Happening K)) (n
   pub tables : List (Option ℕ × List Cell)
   pub since : now.past ≡ before.past ++ tables
   pub each : All (λ table. WasTold start run table.1) tables
-
--- an operation that isn't wrong got all its bytes, or is done; a wrong one is refused with its number
-abbrev pub IsFull : Answered → Ask → Type 0
-IsFull answered (Read offset len) = (answered.reply ≡ Content answered.plain) × (length answered.plain ≡ len)
-IsFull answered (Write offset len fua) = answered.reply ≡ Done
-IsFull answered Flush = answered.reply ≡ Done
-
-unfoldable pub AreFull : ℕ → ℕ → List Answered → Type 0
-AreFull atom size [] = Unit {0}
-AreFull atom size (answered ∷ rest) =
-    MatchOption (wrong_ask atom size answered.ask) (IsFull answered answered.ask) (λ number. answered.reply ≡ Errno number)
-    × AreFull atom size rest
 
 -- where no count of faults moved, every operation was served or refused with its number, and nothing
 -- is broken

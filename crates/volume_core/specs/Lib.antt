@@ -12,5 +12,4 @@ pub mod Seals
 pub mod Sound
 pub mod States
 pub mod Steps
-pub mod Views
 pub mod Volumes

@@ -1,13 +1,17 @@
 -- What is promised of every run of events.
-use Rattle.std.specs.Prelude.{ℕ, ◌≡◌, Bool, true, false, ◌==◌, ◌||◌, ◌&&◌, if◌then◌else◌, List, [], ◌∷◌, Some}
+use Rattle.std.specs.Prelude.{ℕ, ◌≡◌, ◌↔◌, Bool, true, false, ◌==◌, ◌||◌, ◌&&◌, if◌then◌else◌, List, [], ◌∷◌, replicate, Some, None}
+use Rattle.base_terms.specs.Blocks.{lengths}
 use Rattle.plain_disk.specs.Plain.{Block, Exchange, AreSure, Legal}
+use Rattle.plain_disk.specs.declared.operation.Reply.TheVariants.{Errno}
+use Rattle.sector_disk.specs.Cells.{AreSettled, content, currents}
 use Rattle.sector_disk.specs.Steps.{Told}
+use Rattle.volume_core.specs.Asks.{wrong_ask}
 use Rattle.volume_core.specs.Contents.{AreBlocksOf, IsFresh, StandsFor, StandsNow, StopsAllowed, Covers}
-use Rattle.volume_core.specs.Events.{Event, admits, asks, reads, writes, settles, finishes, Outcome, held, waits, refused, got, done, device, broken}
-use Rattle.volume_core.specs.Runs.{Happening, IsRun, last_of, answered_in, plain_in, no_plain, AreExchanges}
+use Rattle.volume_core.specs.Events.{Event, admits, asks, reads, writes, settles, finishes, Outcome, device, broken}
+use Rattle.volume_core.specs.Runs.{Answered, Happening, IsRun, last_of, answered_by, answered_in, plain_in, no_plain, AreExchanges}
 use Rattle.volume_core.specs.Seals.{Seals, AreLawful}
 use Rattle.volume_core.specs.Sound.{IsSound, AreApart}
-use Rattle.volume_core.specs.States.{State, open_at}
+use Rattle.volume_core.specs.States.{State, open_at, size_of}
 use Rattle.volume_core.specs.declared.open.Open.{Open}
 
 -- a volume from which runs start: no operation is under way, and its disk stands for these blocks
@@ -24,6 +28,11 @@ pub record Starts {K : Type 0} (start : State K) (seals : Seals) (blocks : List 
 -- where the disk tells its tables, each image of it stands for values of these blocks too
 abbrev pub StartsCovered : {K : Type 0} → State K → Seals → List Block → Type 0
 StartsCovered start seals blocks = (told : Told) → start.disk.told ≡ Some told → Covers start.map seals blocks told.now
+
+-- where the disk tells its tables, each atom holds its value for certain, and these are its bytes
+abbrev pub TellsSettled : {K : Type 0} → State K → List ℕ → Type 0
+TellsSettled start bytes = (told : Told) → start.disk.told ≡ Some told → AreSettled told.now
+    × (bytes ≡ content told.now) × (lengths (currents told.now) ≡ replicate start.disk.atoms start.map.atom)
 
 -- The operations of a run are those of one plain disk: their history is legal; while nothing has
 -- failed the disk stands for the newest values with those of unfinished writes over them; and a stop
@@ -46,23 +55,14 @@ ServesEachRun {K} start seals = (blocks : List Block) (bytes : List ℕ) (run : 
 
 -- the outcome is that the device failed, or that the volume was broken
 abbrev pub is_failure : Outcome → Bool
-is_failure held = false
-is_failure (waits lane) = false
-is_failure (refused number) = false
-is_failure (got sealed) = false
-is_failure done = false
 is_failure device = true
 is_failure broken = true
+is_failure _ = false
 
 -- the outcome is that the device failed
 abbrev pub is_fault : Outcome → Bool
-is_fault held = false
-is_fault (waits lane) = false
-is_fault (refused number) = false
-is_fault (got sealed) = false
-is_fault done = false
 is_fault device = true
-is_fault broken = false
+is_fault _ = false
 
 -- whether an event of the lane's operation failed, given whether an earlier one had
 abbrev pub fails : ℕ → Event → Outcome → Bool → Bool
@@ -79,12 +79,9 @@ fails_in lane before (one ∷ rest) = fails_in lane (fails lane one.event one.ou
 
 -- whether the event is a write or a sync that failed
 abbrev pub breaks : Event → Outcome → Bool
-breaks (admits lane ask) outcome = false
-breaks (asks lane) outcome = false
-breaks (reads lane) outcome = false
 breaks (writes lane sealed) outcome = is_fault outcome
 breaks (settles lane) outcome = is_fault outcome
-breaks (finishes lane) outcome = false
+breaks _ outcome = false
 
 unfoldable pub breaks_in : {K : Type 0} → Bool → List (Happening K) → Bool
 breaks_in before [] = before
@@ -97,3 +94,19 @@ pub record GoesByEvents {K : Type 0} (start : State K) (run : List (Happening K)
   pub breaks : (last_of start run).broken ≡ breaks_in start.broken run
   pub map : (last_of start run).map ≡ start.map
   pub keys : (last_of start run).keys ≡ start.keys
+
+-- whether the operation that an event answers has failed: at its admit, where the volume was found
+-- broken; at the settle of a flush, where that failed; at its finish, where one of its events since
+-- its admit failed
+abbrev pub has_failed : {K : Type 0} → State K → List (Happening K) → Event → Outcome → Bool
+has_failed start earlier (admits lane ask) outcome = (last_of start earlier).broken
+has_failed start earlier (settles lane) outcome = is_failure outcome
+has_failed start earlier (finishes lane) outcome = fails_in lane false earlier
+has_failed start earlier _ outcome = false
+
+-- an operation that isn't wrong and is answered by this event is answered 5 exactly where it has failed
+abbrev pub DeviceErrorsAreExact : {K : Type 0} → Seals → State K → List (Happening K) → Happening K → Type 0
+DeviceErrorsAreExact seals start earlier one = (answered : Answered) →
+    answered_by (last_of start earlier) one.event one.outcome (plain_in seals start no_plain earlier) ≡ answered ∷ [] →
+    wrong_ask start.map.atom (size_of start.map) answered.ask ≡ None →
+    (answered.reply ≡ Errno 5) ↔ (has_failed start earlier one.event one.outcome ≡ true)

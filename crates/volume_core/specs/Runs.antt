@@ -7,7 +7,7 @@ use Rattle.plain_disk.specs.declared.operation.Reply.TheVariants.{Content, Done,
 use Rattle.plain_disk.specs.Plain.{Exchange}
 use Rattle.segment_map.specs.declared.map.Map.{Map}
 use Rattle.volume_core.specs.Asks.{has_lock}
-use Rattle.volume_core.specs.Events.{Event, admits, asks, reads, writes, settles, finishes, Outcome, held, waits, refused, got, done, device, broken}
+use Rattle.volume_core.specs.Events.{Event, admits, reads, writes, settles, finishes, Outcome, refused, got, done, device}
 use Rattle.volume_core.specs.Pieces.{side_in}
 use Rattle.volume_core.specs.Seals.{Seals}
 use Rattle.volume_core.specs.States.{State, open_at}
@@ -47,30 +47,19 @@ with_plain plain lane now k = if k == lane then now else plain k
 
 -- after a read of a piece, and after a write that came to the disk, whether it failed or not
 abbrev pub after_read : {K : Type 0} → Seals → State K → ℕ → Outcome → (ℕ → List ℕ) → ℕ → List ℕ
-after_read seals old lane held plain = plain
-after_read seals old lane (waits other) plain = plain
-after_read seals old lane (refused number) plain = plain
 after_read seals old lane (got sealed) plain = with_plain plain lane (plain lane ++ plain_piece seals old lane sealed)
-after_read seals old lane done plain = plain
-after_read seals old lane device plain = plain
-after_read seals old lane broken plain = plain
+after_read seals old lane _ plain = plain
 
 abbrev pub after_write : {K : Type 0} → Seals → State K → ℕ → List ℕ → Outcome → (ℕ → List ℕ) → ℕ → List ℕ
-after_write seals old lane sealed held plain = plain
-after_write seals old lane sealed (waits other) plain = plain
-after_write seals old lane sealed (refused number) plain = plain
-after_write seals old lane sealed (got bytes) plain = plain
 after_write seals old lane sealed done plain = with_plain plain lane (plain lane ++ plain_piece seals old lane sealed)
 after_write seals old lane sealed device plain = with_plain plain lane (plain lane ++ plain_piece seals old lane sealed)
-after_write seals old lane sealed broken plain = plain
+after_write seals old lane sealed _ plain = plain
 
 unfoldable pub plain_after : {K : Type 0} → Seals → State K → Event → Outcome → (ℕ → List ℕ) → ℕ → List ℕ
 plain_after seals old (admits lane ask) outcome plain = with_plain plain lane []
-plain_after seals old (asks lane) outcome plain = plain
 plain_after seals old (reads lane) outcome plain = after_read seals old lane outcome plain
 plain_after seals old (writes lane sealed) outcome plain = after_write seals old lane sealed outcome plain
-plain_after seals old (settles lane) outcome plain = plain
-plain_after seals old (finishes lane) outcome plain = plain
+plain_after seals old _ outcome plain = plain
 
 -- an operation that was answered: what it asked for, the bytes that it read or tried to write, and
 -- its reply
@@ -84,23 +73,13 @@ refusal ask number = record { ask = ask; plain = []; reply = Errno number }
 
 -- a refused operation is answered at its admit
 abbrev pub by_admit : Ask → Outcome → List Answered
-by_admit ask held = []
-by_admit ask (waits other) = []
 by_admit ask (refused number) = refusal ask number ∷ []
-by_admit ask (got sealed) = []
-by_admit ask done = []
-by_admit ask device = []
-by_admit ask broken = []
+by_admit ask _ = []
 
 -- a flush at its settle
 abbrev pub flush_reply : Outcome → Reply
-flush_reply held = Errno 5
-flush_reply (waits other) = Errno 5
-flush_reply (refused number) = Errno 5
-flush_reply (got sealed) = Errno 5
 flush_reply done = Done
-flush_reply device = Errno 5
-flush_reply broken = Errno 5
+flush_reply _ = Errno 5
 
 abbrev pub by_settle : Option Open → Outcome → List Answered
 by_settle None outcome = []
@@ -111,8 +90,7 @@ by_settle (Some o) outcome =
 -- volume is broken, a read else by its pieces joined
 abbrev pub full_reply : Ask → List ℕ → Reply
 full_reply (Read offset len) plain = Content plain
-full_reply (Write offset len fua) plain = Done
-full_reply Flush plain = Done
+full_reply _ plain = Done
 
 abbrev pub by_finish : Option Open → List ℕ → List Answered
 by_finish None plain = []
@@ -121,11 +99,9 @@ by_finish (Some o) plain =
 
 unfoldable pub answered_by : {K : Type 0} → State K → Event → Outcome → (ℕ → List ℕ) → List Answered
 answered_by old (admits lane ask) outcome plain = by_admit ask outcome
-answered_by old (asks lane) outcome plain = []
-answered_by old (reads lane) outcome plain = []
-answered_by old (writes lane sealed) outcome plain = []
 answered_by old (settles lane) outcome plain = by_settle (open_at old.lanes lane) outcome
 answered_by old (finishes lane) outcome plain = by_finish (open_at old.lanes lane) (plain lane)
+answered_by old _ outcome plain = []
 
 -- all operations that were answered in a run, in order, and the plain after it
 unfoldable pub answered_in : {K : Type 0} → Seals → State K → (ℕ → List ℕ) → List (Happening K) → List Answered
@@ -150,9 +126,8 @@ Asked Flush plain op = op ≡ Ops.Flush
 
 -- how many bytes of it were tried
 abbrev pub tried_by : Ask → List ℕ → ℕ
-tried_by (Read offset len) plain = 0
 tried_by (Write offset len fua) plain = length plain
-tried_by Flush plain = 0
+tried_by _ plain = 0
 
 pub record IsExchange (answered : Answered) (exchange : Exchange) : Type 0 where
   pub op : Asked answered.ask answered.plain exchange.op

@@ -27,11 +27,7 @@ failed_call = Err (record {})
 abbrev pub TellsStanding : (Standing → Type 0) → Outcome → Type 0
 TellsStanding stands held = stands Held
 TellsStanding stands (waits lane) = stands (Waiting lane)
-TellsStanding stands (refused number) = ⊥
-TellsStanding stands (got sealed) = ⊥
-TellsStanding stands done = ⊥
-TellsStanding stands device = ⊥
-TellsStanding stands broken = ⊥
+TellsStanding stands _ = ⊥
 
 -- all stays but the table of locks, the lane's operation, whether the volume is broken, and the disk
 pub record Goes {K : Type 0} (old new : State K) (lane : ℕ) (entries : List Entry) (now : Option Open)
@@ -96,13 +92,10 @@ pub record MissesPiece {K : Type 0} (old : State K) (lane : ℕ) (o : Open) (new
   pub goes : Goes old new lane old.entries (Some (failing o)) false
 
 abbrev pub ReadStep : {K : Type 0} → State K → ℕ → Open → Outcome → State K → Type 0
-ReadStep old lane o held new = ⊥
-ReadStep old lane o (waits other) new = ⊥
-ReadStep old lane o (refused number) new = ⊥
 ReadStep old lane o (got bytes) new = GetsPiece old lane o bytes new
-ReadStep old lane o done new = ⊥
 ReadStep old lane o device new = MissesPiece old lane o new
 ReadStep old lane o broken new = FindsBroken old lane (Some (failing o)) new
+ReadStep old lane o _ new = ⊥
 
 -- a piece was written, or a write of it failed, which breaks the volume
 pub record PutsPiece {K : Type 0} (old : State K) (lane : ℕ) (o : Open) (bytes : List ℕ)
@@ -115,13 +108,10 @@ pub record PutsPiece {K : Type 0} (old : State K) (lane : ℕ) (o : Open) (bytes
   pub goes : Goes old new lane old.entries (Some (after piece)) is_broken
 
 abbrev pub WriteStep : {K : Type 0} → State K → ℕ → Open → List ℕ → Outcome → State K → Type 0
-WriteStep old lane o bytes held new = ⊥
-WriteStep old lane o bytes (waits other) new = ⊥
-WriteStep old lane o bytes (refused number) new = ⊥
-WriteStep old lane o bytes (got sealed) new = ⊥
 WriteStep old lane o bytes done new = PutsPiece old lane o bytes succeeded (moved o) false new
 WriteStep old lane o bytes device new = PutsPiece old lane o bytes failed_call (λ piece. failing o) true new
 WriteStep old lane o bytes broken new = FindsBroken old lane (Some (failing o)) new
+WriteStep old lane o bytes _ new = ⊥
 
 -- after a settle a flush has ended; a write is settled, or has failed
 abbrev pub after_settle : Open → Open → Option Open
@@ -134,13 +124,10 @@ pub record Syncs {K : Type 0} (old : State K) (lane : ℕ) (result : Result (Uni
   pub goes : Goes old new lane old.entries now is_broken
 
 abbrev pub SettleStep : {K : Type 0} → State K → ℕ → Open → Outcome → State K → Type 0
-SettleStep old lane o held new = ⊥
-SettleStep old lane o (waits other) new = ⊥
-SettleStep old lane o (refused number) new = ⊥
-SettleStep old lane o (got sealed) new = ⊥
 SettleStep old lane o done new = Syncs old lane succeeded (after_settle o (settling o)) false new
 SettleStep old lane o device new = Syncs old lane failed_call (after_settle o (failing o)) true new
 SettleStep old lane o broken new = FindsBroken old lane (after_settle o (failing o)) new
+SettleStep old lane o _ new = ⊥
 
 -- the operation leaves the table
 pub record FinishStep {K : Type 0} (old : State K) (lane : ℕ) (outcome : Outcome) (new : State K) : Type 0 where

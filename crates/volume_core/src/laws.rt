@@ -1,23 +1,23 @@
 //! What follows for every run of events. Each law is the contract of a function that does nothing. A
 //! proof above cites it by its call.
 
-ghost use Rattle.std.specs.Prelude.{◌≡◌, ◌%◌, ◌*◌, ◌++◌, [], ℕ, List, length, replicate, Some};
-ghost use Rattle.base_terms.specs.Blocks.{lengths};
+ghost use Rattle.std.specs.Prelude.{◌≡◌, ◌≢◌, ◌≤◌, ◌⊎◌, ◌%◌, ◌+◌, ◌*◌, ◌++◌, ◌∷◌, [], ℕ, List, length, Some};
 ghost use Rattle.cipher_laws.specs.Bytes.{AreBytes};
 ghost use Rattle.plain_disk.specs.Plain.{Block, Exchange};
-ghost use Rattle.sector_disk.specs.Cells.{AreSettled, content, currents};
 ghost use Rattle.sector_disk.specs.Geometry.{IsAtom};
 ghost use Rattle.sector_disk.specs.Steps.{Told};
+ghost use Rattle.segment_map.specs.declared.Direction.TheVariants.{Forward, Backward};
+ghost use Rattle.segment_map.specs.declared.map.Map.{Map};
 ghost use Rattle.volume_core.specs.Contents.{IsFresh};
-ghost use Rattle.volume_core.specs.Events.{Event, Outcome};
+ghost use Rattle.volume_core.specs.Events.{Event, Outcome, lane_of};
 ghost use Rattle.volume_core.specs.Executing.{Executes, StopsAlong, TellsRun, ServesWithoutFaults, BreaksByFaults};
-ghost use Rattle.volume_core.specs.Promises.{Starts, StartsCovered, ServesEachRun, GoesByEvents};
+ghost use Rattle.volume_core.specs.Promises.{Starts, StartsCovered, TellsSettled, ServesEachRun, GoesByEvents, DeviceErrorsAreExact};
 ghost use Rattle.volume_core.specs.Runs.{Happening, IsRun, last_of, answered_in, no_plain, AreExchanges};
 ghost use Rattle.volume_core.specs.Sealing.{ChangeNothing};
 ghost use Rattle.volume_core.specs.Seals.{Seals, AreLawful, seals_of};
 ghost use Rattle.volume_core.specs.Sound.{IsSound, AreApart};
-ghost use Rattle.volume_core.specs.States.{State};
-ghost use Rattle.volume_core.specs.Steps.{Step, Meets};
+ghost use Rattle.volume_core.specs.States.{State, open_at};
+ghost use Rattle.volume_core.specs.Steps.{Step, Meets, Holds};
 ghost use Rattle.volume_core.specs.Volumes.{IsWholeDisk, plain_blocks};
 ghost use Rattle.volume_core.specs.declared.keys.Keys.{Keys};
 
@@ -38,16 +38,39 @@ pub fn every_run_is_served<C: SectorCipher>()
 
 /// An operation has failed exactly where one of its events answered that the device failed or the
 /// volume is broken. A volume is broken exactly where a write or a sync failed in an earlier event.
-/// Sides, keys and places of all blocks are the same after each event.
+/// Sides, keys and places of all blocks stay. This holds at the end of a run, and along it: after
+/// each of its events.
 pub fn failures_go_by_events<C: SectorCipher>()
-    ensures { (start : State (Keys C)) (run : List (Happening (Keys C))) →
+    ensures at_the_end { (start : State (Keys C)) (run : List (Happening (Keys C))) →
         IsFresh start → IsRun start run → GoesByEvents start run }
+    ensures along { (start : State (Keys C)) (earlier later : List (Happening (Keys C))) →
+        IsFresh start → IsRun start (earlier ++ later) → GoesByEvents start earlier }
+{}
+
+/// A read, a write or a flush that isn't wrong is answered 5 exactly where its admit found the volume
+/// broken, or one of its pieces or its settle answered that the device failed or the volume is broken.
+/// So it is for each event of a run that answers an operation.
+pub fn device_errors_are_exact<C: SectorCipher>()
+    ensures { (start : State (Keys C)) (seals : Seals) (earlier later : List (Happening (Keys C)))
+        (one : Happening (Keys C)) → IsFresh start → IsRun start (earlier ++ one ∷ later) →
+        DeviceErrorsAreExact seals start earlier one }
 {}
 
 /// What holds of a volume between events holds after each event that meets its conditions.
 pub fn volumes_stay_sound<C: SectorCipher>()
     ensures { (old new : State (Keys C)) (event : Event) (outcome : Outcome) →
         IsSound old → Meets old event → Step old event outcome new → IsSound new }
+{}
+
+/// An event of one lane leaves every other lane's operation as it was, and what another lane holds it
+/// goes on to hold. So a call whose conditions are met is one whose conditions are met after the events
+/// of other lanes too.
+pub fn events_leave_other_lanes<C: SectorCipher>()
+    ensures stays { (old new : State (Keys C)) (event : Event) (outcome : Outcome) (lane : ℕ) →
+        Step old event outcome new → lane ≢ lane_of event →
+        (open_at new.lanes lane ≡ open_at old.lanes lane) × (Holds old lane → Holds new lane) }
+    ensures meets { (old new : State (Keys C)) (event next : Event) (outcome : Outcome) →
+        Step old event outcome new → lane_of next ≢ lane_of event → Meets old next → Meets new next }
 {}
 
 /// The keys of a volume whose sectors divide its blocks seal and open block by block, and each undoes
@@ -90,9 +113,26 @@ pub fn runs_fail_by_faults<C: SectorCipher>()
     ensures served { (start : State (Keys C)) (seals : Seals) (run : List (Happening (Keys C))) →
         IsSound start → IsFresh start → AreLawful start.map.atom seals → IsRun start run →
         ServesWithoutFaults start seals run }
-    ensures broken { (start : State (Keys C)) (seals : Seals) (run : List (Happening (Keys C))) →
-        IsSound start → IsFresh start → AreLawful start.map.atom seals → IsRun start run →
-        BreaksByFaults start run }
+    ensures broken { (start : State (Keys C)) (run : List (Happening (Keys C))) →
+        IsFresh start → IsRun start run → BreaksByFaults start run }
+{}
+
+/// Each block of a volume has a place of its own where its two segments don't meet. They may meet where
+/// a conversion forward moves each block to a place no later than its old one, and where one backward
+/// moves each to a place no earlier. With an open zone or without, since a zone is still in the old
+/// segment.
+pub fn maps_are_apart()
+    ensures forward { (map : Map) → map.direction ≡ Forward →
+        (map.new_place ≤ map.old_place) ⊎ (map.old_place + map.blocks ≤ map.new_place) → AreApart map }
+    ensures backward { (map : Map) → map.direction ≡ Backward →
+        (map.old_place ≤ map.new_place) ⊎ (map.new_place + map.blocks ≤ map.old_place) → AreApart map }
+{}
+
+/// Where each atom of a disk that tells its tables held its value for certain, each of its images stands
+/// for the blocks that its bytes stand for, under any map and any keys.
+pub fn settled_volumes_are_covered<C: SectorCipher>()
+    ensures { (start : State (Keys C)) (seals : Seals) (blocks : List Block) (bytes : List ℕ) →
+        Starts start seals blocks bytes → TellsSettled start bytes → StartsCovered start seals blocks }
 {}
 
 /// The volume of a whole disk as it is stands for the plain disk that holds the disk's own atoms for
@@ -108,8 +148,5 @@ pub fn plain_volumes_start<C: SectorCipher>()
     ensures covered { (start : State (Keys C)) (seals : Seals) (bytes : List ℕ) →
         IsWholeDisk start.map.atom start.disk.atoms start.map → ChangeNothing seals →
         length bytes ≡ start.disk.atoms * start.map.atom → AreBytes bytes →
-        ((told : Told) → start.disk.told ≡ Some told → AreSettled told.now
-        × (bytes ≡ content told.now)
-        × (lengths (currents told.now) ≡ replicate start.disk.atoms start.map.atom)) →
-        StartsCovered start seals (plain_blocks start bytes) }
+        TellsSettled start bytes → StartsCovered start seals (plain_blocks start bytes) }
 {}

@@ -20,8 +20,9 @@ pub use answers::{Admitted, Asked, Grant, PieceRead, PieceWritten, Progress, Set
 pub use ask::Ask;
 pub use keys::Keys;
 pub use laws::{
-    every_run_is_served, executions_join, failures_go_by_events, keys_seal_lawfully,
-    plain_volumes_start, runs_fail_by_faults, runs_stop_anywhere, tables_are_of_events,
+    device_errors_are_exact, events_leave_other_lanes, every_run_is_served, executions_join,
+    failures_go_by_events, keys_seal_lawfully, maps_are_apart, plain_volumes_start,
+    runs_fail_by_faults, runs_stop_anywhere, settled_volumes_are_covered, tables_are_of_events,
     volumes_stay_sound,
 };
 pub use prepared::Prepared;

@@ -1,4 +1,5 @@
-use Rattle.volume_core.proofs.Faultless.{serves_without_faults, breaks_by_faults}
+use Rattle.volume_core.proofs.Faultless.{serves_without_faults}
+use Rattle.volume_core.proofs.Faults.{breaks_by_faults}
 use Rattle.volume_core.proofs.laws.runs_fail_by_faults.Goals as goal
 
 pub returns-clause-served : goal.returns-clause-served
