@@ -1,5 +1,5 @@
 -- A command of its parts.
-use Rattle.std.proofs.Common.{◌≡◌, ℕ, ◌*◌, ◌-◌, ◌^◌, ◌<◌, ◌⊎◌, ⊎_elim, Bool, true, false, List, length, replicate, Option, Some, ap, ◌∙◌, refl, sym, subst, arith}
+use Rattle.std.proofs.Common.{◌≡◌, ℕ, ◌*◌, ◌-◌, ◌^◌, ◌<◌, ◌⊎◌, ⊎_elim, Bool, true, false, List, ◌∷◌, ◌++◌, length, replicate, Option, Some, ap, ◌∙◌, refl, sym, subst, arith}
 use Rattle.std.proofs.lemmas.Bool.{cases_Bool}
 use Rattle.base_terms.specs.Blocks.{lengths}
 use Rattle.base_terms.specs.Causes.{Rose}
@@ -10,8 +10,8 @@ use Rattle.plain_disk.specs.Plain.{Block, Exchange, Legal}
 use Rattle.sector_disk.specs.Cells.{AreSettled, content, currents}
 use Rattle.sector_disk.specs.Steps.{Told}
 use Rattle.volume_core.specs.Contents.{IsFresh}
-use Rattle.volume_core.specs.Executing.{Executes, StopsAlong, TellsRun, ServesWithoutFaults, BreaksByFaults}
-use Rattle.volume_core.specs.Promises.{Starts, StartsCovered, ServesEachRun, GoesByEvents}
+use Rattle.volume_core.specs.Executing.{Executes, IsIdle, StopsAlong, TellsRun, ServesWithoutFaults, BreaksByFaults}
+use Rattle.volume_core.specs.Promises.{DeviceErrorsAreExact, Starts, StartsCovered, ServesEachRun, GoesByEvents}
 use Rattle.volume_core.specs.Runs.{Happening, IsRun, last_of, answered_in, no_plain, AreExchanges}
 use Rattle.volume_core.specs.Sealing.{ChangeNothing}
 use Rattle.volume_core.specs.Seals.{Seals, AreLawful}
@@ -54,12 +54,14 @@ tells_start atom device seals start volume tells = subst (λ a. DiskTells a star
 -- the laws of volumes that a command cites
 pub record VolumeLaws (start : State PlainKeys) (seals : Seals) (run : List (Happening PlainKeys)) : Type 0 where
   pub served : ServesEachRun start seals
-  pub events : IsFresh start → IsRun start run → GoesByEvents start run
+  pub events : (earlier later : List (Happening PlainKeys)) → IsFresh start → IsRun start (earlier ++ later) → GoesByEvents start earlier
+  pub errors : (earlier later : List (Happening PlainKeys)) (one : Happening PlainKeys) → IsFresh start → IsRun start (earlier ++ one ∷ later) →
+      DeviceErrorsAreExact seals start earlier one
   pub stops : (blocks : List Block) (bytes : List ℕ) (exchanges : List Exchange) → Starts start seals blocks bytes → IsRun start run →
       AreExchanges (answered_in seals start no_plain run) exchanges → StopsAlong start seals blocks run exchanges
   pub tables : (now : Told) → IsRun start run → (last_of start run).disk.told ≡ Some now → TellsRun start run now
   pub faultless : IsSound start → IsFresh start → AreLawful start.map.atom seals → IsRun start run → ServesWithoutFaults start seals run
-  pub breaks : IsSound start → IsFresh start → AreLawful start.map.atom seals → IsRun start run → BreaksByFaults start run
+  pub breaks : IsFresh start → IsRun start run → BreaksByFaults start run
   pub starts : (bytes : List ℕ) → IsSound start → IsFresh start → AreApart start.map → IsWholeDisk start.map.atom start.disk.atoms start.map →
       AreLawful start.map.atom seals → ChangeNothing seals → start.disk.values ≡ Some bytes → length bytes ≡ start.disk.atoms * start.map.atom → AreBytes bytes →
       Starts start seals (plain_blocks start bytes) bytes
@@ -78,22 +80,22 @@ history_of start seals final run exchanges bytes laws starts did =
 may_stop : (start : State PlainKeys) (seals : Seals) (final : State PlainKeys) (run : List (Happening PlainKeys)) (exchanges : List Exchange) →
     VolumeLaws start seals run → DiskTells start.map.atom start.disk → IsWholeDisk start.map.atom start.disk.atoms start.map → ChangeNothing seals →
     ((bytes : List ℕ) → start.disk.values ≡ Some bytes → Starts start seals (plain_blocks start bytes) bytes) → Executes seals start final run exchanges → MayStop start seals run exchanges
-may_stop start seals final run exchanges laws tells whole nothing starts did = λ bytes before now values was settled told. (
+may_stop start seals final run exchanges laws tells whole nothing starts did = λ bytes before values was settled. (
   laws.covered bytes whole nothing (tells.whole bytes values) (tells.are_bytes bytes values)
       (λ other is. (let same : other ≡ before = cc in
       (subst (λ t. AreSettled t.now) (sym same) settled, (let agrees = tells.agrees other is in cc), tells.even other is))),
   laws.stops (plain_blocks start bytes) bytes exchanges (starts bytes values) did.is (did.answers no_plain),
-  laws.tables now did.is told,
+  (λ now told. laws.tables now did.is told),
 )
 
 pub ran_of : {D L E : Type 0} (atom : D → ℕ) (device : D → Device) (told : L → Option Story) (bound faults : L → ℕ) (items : E → List SessionEnd)
     (disk d : D) (begun : List L) (link : L) (links : List L) (ends : List E) (cause : Cause) (start : State PlainKeys) (seals : Seals) (final : State PlainKeys)
     (run : List (Happening PlainKeys)) (failed memory : Bool) (played : List Played) (size atom_is : ℕ) → VolumeLaws start seals run → IsPlainVolume (atom disk) (device disk) seals start →
-    AreLawful start.map.atom seals → DiskTells (atom disk) (device disk) → Executes seals start final run (operations_of played) →
+    AreLawful start.map.atom seals → DiskTells (atom disk) (device disk) → Executes seals start final run (operations_of played) → IsIdle final →
     size ≡ size_of start.map → atom_is ≡ start.map.atom → AreSessions (record { number = 0; size = size; atom = atom_is }) played → NumbersRise 0 played →
     Served told bound faults items begun links ends failed memory played → device d ≡ final.disk → atom d ≡ atom disk → cause ≡ cause_of final.broken failed memory →
     Ran atom device told bound faults items disk begun cause (Some d) links ends
-ran_of atom device told bound faults items disk d begun link links ends cause start seals final run failed memory played size atom_is laws volume lawful tells did size_same atom_same
+ran_of atom device told bound faults items disk d begun link links ends cause start seals final run failed memory played size atom_is laws volume lawful tells did idle size_same atom_same
     sessions rise served back same_atom cause_is =
     let own = tells_start (atom disk) (device disk) seals start volume tells in
     let starts : (bytes : List ℕ) → start.disk.values ≡ Some bytes → Starts start seals (plain_blocks start bytes) bytes =
@@ -111,12 +113,14 @@ ran_of atom device told bound faults items disk d begun link links ends cause st
       rise = rise;
       served = served;
       did = did;
+      idle = idle;
       back_is = (d, refl, back, same_atom);
       history = λ bytes is. history_of start seals final run (operations_of played) bytes laws (starts bytes is) did;
       stops = may_stop start seals final run (operations_of played) laws own volume.whole volume.nothing starts did;
       cause_is = cause_is;
-      broke = subst (λ s. s.broken ≡ true → Rose start.disk.faults s.disk.faults) did.last (laws.breaks volume.sound volume.fresh lawful did.is);
-      fails = laws.events volume.fresh did.is;
+      broke = subst (λ s. s.broken ≡ true → Rose start.disk.faults s.disk.faults) did.last (laws.breaks volume.fresh did.is);
+      errors = λ earlier later one is. laws.errors earlier later one volume.fresh (subst (λ r. IsRun start r) is did.is);
+      fails = λ earlier later is. laws.events earlier later volume.fresh (subst (λ r. IsRun start r) is did.is);
       complete = λ stood low links_stood.
           let fine = laws.faultless volume.sound volume.fresh lawful did.is (operations_of played) (did.answers no_plain) (ap (λ s. s.disk.faults) did.last ∙ stood) (omega (arith, stood, low)) in
           let unbroken = ap (λ s. s.broken) (sym did.last) ∙ fine.1 in

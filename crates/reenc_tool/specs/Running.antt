@@ -1,5 +1,5 @@
 -- What a command did.
-use Rattle.std.specs.Prelude.{ℕ, ◌≡◌, ◌-◌, ◌^◌, ◌<◌, ◌≤◌, ◌⊎◌, Bool, true, if◌then◌else◌, List, [], length, slice_index_or, Option, Some, None}
+use Rattle.std.specs.Prelude.{ℕ, ◌≡◌, ◌-◌, ◌^◌, ◌<◌, ◌≤◌, ◌⊎◌, Bool, true, if◌then◌else◌, List, [], ◌∷◌, ◌++◌, length, slice_index_or, Option, Some, None}
 use Rattle.base_terms.specs.Causes.{Rose}
 use Rattle.bays.specs.Bays.{AreFresh}
 use Rattle.bays.specs.Stories.{Script, Story}
@@ -11,8 +11,8 @@ use Rattle.sector_cipher.specs.declared.disk.DiskCipher.{DiskCipher}
 use Rattle.sector_disk.specs.Cells.{AreSettled}
 use Rattle.sector_disk.specs.Steps.{Told}
 use Rattle.volume_core.specs.Contents.{IsFresh}
-use Rattle.volume_core.specs.Executing.{Executes, StopsAlong, TellsRun}
-use Rattle.volume_core.specs.Promises.{StartsCovered, GoesByEvents}
+use Rattle.volume_core.specs.Executing.{Executes, IsIdle, StopsAlong, TellsRun}
+use Rattle.volume_core.specs.Promises.{DeviceErrorsAreExact, StartsCovered, GoesByEvents}
 use Rattle.volume_core.specs.Runs.{Happening, last_of}
 use Rattle.volume_core.specs.Sealing.{ChangeNothing}
 use Rattle.volume_core.specs.Seals.{Seals}
@@ -48,13 +48,24 @@ abbrev pub cause_of : Bool → Bool → Bool → Cause
 cause_of broken failed memory = if broken then Device else (if failed then Link else (if memory then Memory else Fine))
 
 -- Where the disk told its bytes and tables, and each atom held its value for certain, a stop after
--- each event leaves only contents that the plain disk allows there; and each table of the disk since
--- then is one after some of the events.
+-- each event leaves only contents that the plain disk allows there; and each table that the disk tells
+-- in the end is one after some of the events.
 abbrev pub MayStop : State PlainKeys → Seals → List (Happening PlainKeys) → List Exchange → Type 0
-MayStop start seals run exchanges = (bytes : List ℕ) (before now : Told) → start.disk.values ≡ Some bytes →
-    start.disk.told ≡ Some before → AreSettled before.now → (last_of start run).disk.told ≡ Some now →
+MayStop start seals run exchanges = (bytes : List ℕ) (before : Told) → start.disk.values ≡ Some bytes →
+    start.disk.told ≡ Some before → AreSettled before.now →
     StartsCovered start seals (plain_blocks start bytes)
-    × StopsAlong start seals (plain_blocks start bytes) run exchanges × TellsRun start run now
+    × StopsAlong start seals (plain_blocks start bytes) run exchanges
+    × ((now : Told) → (last_of start run).disk.told ≡ Some now → TellsRun start run now)
+
+-- After each event of a run an operation has failed, and the volume is broken, exactly where events of
+-- theirs failed, and sides, keys and places are those of the start.
+abbrev pub GoesAlong : State PlainKeys → List (Happening PlainKeys) → Type 0
+GoesAlong start run = (earlier later : List (Happening PlainKeys)) → run ≡ earlier ++ later → GoesByEvents start earlier
+
+-- each operation that isn't wrong is answered 5 exactly where it has failed
+abbrev pub ErrorsAreExact : State PlainKeys → Seals → List (Happening PlainKeys) → Type 0
+ErrorsAreExact start seals run = (earlier later : List (Happening PlainKeys)) (one : Happening PlainKeys) → run ≡ earlier ++ one ∷ later →
+    DeviceErrorsAreExact seals start earlier one
 
 -- no link's count of faults moved, nor stands at its last value
 abbrev pub StoodStill : {L : Type 0} → (L → ℕ) → List L → List L → Type 0
@@ -80,6 +91,8 @@ pub record Ran {D L E : Type 0} (atom : D → ℕ) (device : D → DiskState) (t
   -- the run of events that executed the operations, each of which makes at most one call of the disk,
   -- and the disk, which is handed back as they left it
   pub did : Executes seals start final run (operations_of played)
+  -- none is under way at the end: each operation that began was answered, so it is a session's
+  pub idle : IsIdle final
   pub back_is : (d : D) × (back ≡ Some d) × (device d ≡ final.disk) × (atom d ≡ atom disk)
   -- one history: legal from what the disk told when it was handed in
   pub history : (bytes : List ℕ) → start.disk.values ≡ Some bytes →
@@ -89,8 +102,9 @@ pub record Ran {D L E : Type 0} (atom : D → ℕ) (device : D → DiskState) (t
   -- the cause, and when it may come
   pub cause_is : cause ≡ cause_of final.broken failed memory
   pub broke : final.broken ≡ true → Rose start.disk.faults final.disk.faults
-  -- an operation fails, and the volume breaks, exactly where events of theirs did
-  pub fails : GoesByEvents start run
+  -- error 5, and when an operation has failed and the volume is broken
+  pub errors : ErrorsAreExact start seals run
+  pub fails : GoesAlong start run
   -- where no count moved, each operation was served, and only want of memory ends it otherwise
   pub complete : final.disk.faults ≡ start.disk.faults → final.disk.faults < 2 ^ 64 - 1 → StoodStill faults begun links →
       AreServed start.map.atom (size_of start.map) (operations_of played) × (cause ≡ (if memory then Memory else Fine))

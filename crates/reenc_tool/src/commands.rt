@@ -21,8 +21,9 @@ use std::alloc::{AllocError, Global};
 use std::sync::Wait;
 use std::thread::Threads;
 use volume_core::{
-    Progress, Volume, every_run_is_served, failures_go_by_events, keys_seal_lawfully,
-    plain_volumes_start, runs_fail_by_faults, runs_stop_anywhere, tables_are_of_events,
+    Progress, Volume, device_errors_are_exact, every_run_is_served, failures_go_by_events,
+    keys_seal_lawfully, plain_volumes_start, runs_fail_by_faults, runs_stop_anywhere,
+    tables_are_of_events,
 };
 
 /// How many links serve a command.
@@ -54,6 +55,7 @@ fn serve_disk<D: Disk, L: Link>(alloc: Global, disk: D, links: Vec<L>) -> Ended<
     keys_seal_lawfully::<Context>();
     every_run_is_served::<Context>();
     failures_go_by_events::<Context>();
+    device_errors_are_exact::<Context>();
     runs_stop_anywhere::<Context>();
     tables_are_of_events::<Context>();
     runs_fail_by_faults::<Context>();

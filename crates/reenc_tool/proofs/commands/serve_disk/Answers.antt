@@ -19,11 +19,12 @@ returns-clause-ended g c =
     c.serve_links-trouble.result.failed c.serve_links-trouble.result.memory s.0 _ _
     (record {
       served = c.every_run_is_served.ensures start _;
-      events = c.failures_go_by_events.ensures start did.run;
+      events = c.failures_go_by_events.ensures.along start;
+      errors = c.device_errors_are_exact.ensures start _;
       stops = λ blocks bytes exchanges. c.runs_stop_anywhere.ensures start _ blocks bytes did.run exchanges;
       tables = λ now. c.tables_are_of_events.ensures start did.run now;
       faultless = c.runs_fail_by_faults.ensures.served start _ did.run;
-      breaks = c.runs_fail_by_faults.ensures.broken start _ did.run;
+      breaks = c.runs_fail_by_faults.ensures.broken start did.run;
       starts = λ bytes. c.plain_volumes_start.ensures.starts start _ bytes;
       covered = λ bytes. c.plain_volumes_start.ensures.covered start _ bytes;
     })
@@ -45,7 +46,7 @@ returns-clause-ended g c =
       agrees = λ told is. g.met.D.Disk.agrees c.args.disk told is;
       even = λ told is. g.met.D.Disk.even c.args.disk told is;
     })
-    did.executes
+    did.executes c.serve_links-trouble.new.port.idle
     (ap (λ p. p.blocks * c.from.result) c.progress-blocks.ensures ∙ ap (λ a. start.map.blocks * a) (c.from.ensures ∙ ap (λ p. p.atom) c.progress-blocks.ensures))
     (ap (λ p. p.atom) c.progress-blocks.ensures)
     s.2 s.3 s.4
