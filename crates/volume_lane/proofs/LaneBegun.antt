@@ -1,5 +1,5 @@
 -- Operations that have begun, with their pieces behind them.
-use Rattle.std.proofs.Common.{◌≡◌, ℕ, ◌+◌, true, false, List, [], length, Option, Some, None, IfSome, IfNone, OnSome, is_some, refl, sym, ◌∙◌, ap, subst, arith}
+use Rattle.std.proofs.Common.{◌≡◌, ℕ, ◌+◌, true, false, List, [], length, Option, Some, None, IfSome, IfNone, OnSome, refl, sym, ◌∙◌, ap, subst, arith}
 use Rattle.std.proofs.lemmas.List.{append-nil, take_all}
 use Rattle.block_range.specs.declared.BlockRange.{BlockRange}
 use Rattle.segment_map.specs.declared.map.Piece.{Piece}
@@ -141,10 +141,10 @@ missed-reads seal unseal old first new ask None begun (more, on) failed =
 pub written-piece : {C : Type 0} (seal unseal : C → ℕ → List ℕ → List ℕ) (old first new : State (Keys C)) (ask : Ask) (range : BlockRange) (piece : Piece) (body : List ℕ)
     (result : Option (List ℕ)) → HasBegun old first ask → range ≡ range_of old.map.atom ask → piece.first + piece.count ≡ range.end →
     OnSome result (GoesOn (seals_of seal unseal first.map.atom first.keys) first new body) →
-    OnSome result (IsAlone new (going first.map.atom ask (piece.first + piece.count))) → is_some result ≡ true →
-    HasWritten (seals_of seal unseal old.map.atom old.keys) old new ask body
-written-piece seal unseal old first new ask range piece body None begun blocks whole on alone is = absurd (cc)
-written-piece seal unseal old first new ask range piece body (Some bytes) begun blocks whole on alone is = record {
+    OnSome result (IsAlone new (going first.map.atom ask (piece.first + piece.count))) →
+    OnSome result (HasWritten (seals_of seal unseal old.map.atom old.keys) old new ask body)
+written-piece seal unseal old first new ask range piece body None begun blocks whole on alone = tt
+written-piece seal unseal old first new ask range piece body (Some bytes) begun blocks whole on alone = record {
   first = first;
   begun = begun;
   goes_on = goes-on-first seal unseal old first new ask body begun on;
@@ -152,10 +152,10 @@ written-piece seal unseal old first new ask range piece body (Some bytes) begun 
 }
 
 pub tried-piece : {C : Type 0} (seal unseal : C → ℕ → List ℕ → List ℕ) (old first new : State (Keys C)) (ask : Ask) (body : List ℕ) (result : Option (List ℕ)) →
-    HasBegun old first ask → IfNone result (HasTried (seals_of seal unseal first.map.atom first.keys) first new ask body) → is_some result ≡ false →
-    WasTried (seals_of seal unseal old.map.atom old.keys) old new ask body
-tried-piece seal unseal old first new ask body None begun tried is = tried-first seal unseal old first new ask body begun tried
-tried-piece seal unseal old first new ask body (Some bytes) begun tried is = absurd (cc)
+    HasBegun old first ask → IfNone result (HasTried (seals_of seal unseal first.map.atom first.keys) first new ask body) →
+    IfNone result (WasTried (seals_of seal unseal old.map.atom old.keys) old new ask body)
+tried-piece seal unseal old first new ask body None begun tried = tried-first seal unseal old first new ask body begun tried
+tried-piece seal unseal old first new ask body (Some bytes) begun tried = tt
 
 -- a write of more pieces, or none
 pub written-pieces : {C : Type 0} (seal unseal : C → ℕ → List ℕ → List ℕ) (old first new : State (Keys C)) (ask : Ask) (range : BlockRange) (body : List ℕ) →

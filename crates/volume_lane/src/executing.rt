@@ -12,6 +12,7 @@ ghost use Rattle.volume_lane.specs.Lane.{HasExecuted, ask_of};
 use crate::beginning::{DEVICE_ERROR, LANE, begin};
 use crate::reading::read;
 use crate::writing::write;
+use base_terms::Bytes;
 use cipher_laws::SectorCipher;
 use plain_disk::{Op, Reply};
 use sector_disk::Disk;
@@ -32,12 +33,12 @@ pub fn execute<D: Disk, C: SectorCipher + Copy>(
     alloc: Global,
     volume: &mut Volume<D, C>,
     op: Op,
-) -> Result<Reply, AllocError>
+) -> Result<(Reply, Bytes), AllocError>
     requires lanes { 1 < length volume.old.lanes }
     requires idle { IsIdle volume.old }
-    ensures executes { IfOk result (λ reply. (run : List (Happening (Keys C))) × (n : ℕ)
+    ensures executes { IfOk result (λ done. (run : List (Happening (Keys C))) × (n : ℕ)
         × Executes (seals_of C.sealed C.opened volume.old.map.atom volume.old.keys)
-        volume.old volume.new run (record { op = op; reply = reply; tried = n } ∷ [])) }
+        volume.old volume.new run (record { op = op; reply = done.0; tried = n } ∷ [])) }
     ensures idle { IsIdle volume.new }
     ensures map { volume.new.map ≡ volume.old.map }
     ensures keys { volume.new.keys ≡ volume.old.keys }
@@ -46,9 +47,12 @@ pub fn execute<D: Disk, C: SectorCipher + Copy>(
     ensures memory { OnErr result (IsReadyFor volume.old (ask_of op)) }
 {
     match op {
-        Op::Read { offset, length } => read(alloc, volume, offset, length),
+        Op::Read { offset, length } => {
+            let reply = read(alloc, volume, offset, length)?;
+            Ok((reply, Bytes::new(Vec::new(alloc))))
+        }
         Op::Write { offset, body, fua } => write(alloc, volume, offset, body, fua),
-        Op::Flush => Ok(flush(volume)),
+        Op::Flush => Ok((flush(volume), Bytes::new(Vec::new(alloc)))),
     }
 }
 

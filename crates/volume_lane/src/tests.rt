@@ -27,7 +27,8 @@ struct Idle<D: Disk> {
 
 impl<D: Disk> Idle<D> {
     fn execute(&mut self, alloc: Global, op: Op) -> Result<Reply, AllocError> {
-        execute(alloc, &mut self.volume, op)
+        let (reply, _buffer) = execute(alloc, &mut self.volume, op)?;
+        Ok(reply)
     }
 }
 

@@ -24,19 +24,19 @@ use std::alloc::{AllocError, Global};
 use std::collections::VecDeque;
 use volume_core::{Ask, Grant, PieceWritten, Prepared, Settled, Volume};
 
-/// Executes a write.
+/// Executes a write, and gives the buffer of its body back where it still has it, else an empty one.
 pub(crate) fn write<D: Disk, C: SectorCipher + Copy>(
     alloc: Global,
     volume: &mut Volume<D, C>,
     offset: u64,
     body: Bytes,
     fua: bool,
-) -> Result<Reply, AllocError>
+) -> Result<(Reply, Bytes), AllocError>
     requires lanes { 1 < length volume.old.lanes }
     requires idle { IsIdle volume.old }
-    ensures executed { IfOk result (HasExecuted
+    ensures executed { IfOk result (λ done. HasExecuted
         (seals_of C.sealed C.opened volume.old.map.atom volume.old.keys)
-        volume.old volume.new (Ops.Write offset body fua)) }
+        volume.old volume.new (Ops.Write offset body fua) done.0) }
     ensures err { OnErr result (volume.new ≡ volume.old) }
     ensures memory { OnErr result (IsReadyFor volume.old (Asks.Write offset (length body) fua)) }
 {
@@ -47,19 +47,23 @@ pub(crate) fn write<D: Disk, C: SectorCipher + Copy>(
     };
     let blocks = match volume.judge(ask) {
         Ok(blocks) => blocks,
-        Err(number) => return Ok(Reply::Errno(number)),
+        Err(number) => return Ok((Reply::Errno(number), body)),
     };
     let is_forced = fua && !body.is_empty();
-    if write_for_good(alloc, volume, ask, blocks, body, is_forced)? {
-        volume.finish(LANE);
-        return Ok(Reply::Done);
+    match write_for_good(alloc, volume, ask, blocks, body, is_forced)? {
+        Some(buffer) => {
+            volume.finish(LANE);
+            Ok((Reply::Done, buffer))
+        }
+        None => {
+            volume.finish(LANE);
+            Ok((Reply::Errno(DEVICE_ERROR), Bytes::new(Vec::new(alloc))))
+        }
     }
-    volume.finish(LANE);
-    Ok(Reply::Errno(DEVICE_ERROR))
 }
 
 /// Begins a write of these blocks and writes their pieces and, where it is forced, waits until they
-/// are certain to be kept. False where one of these failed.
+/// are certain to be kept. Where none of these failed the body's buffer comes back.
 fn write_for_good<D: Disk, C: SectorCipher + Copy>(
     alloc: Global,
     volume: &mut Volume<D, C>,
@@ -67,7 +71,7 @@ fn write_for_good<D: Disk, C: SectorCipher + Copy>(
     blocks: BlockRange,
     body: Bytes,
     is_forced: bool,
-) -> Result<bool, AllocError>
+) -> Result<Option<Bytes>, AllocError>
     requires lanes { 1 < length volume.old.lanes }
     requires idle { IsIdle volume.old }
     requires writes { IsWrite ask }
@@ -75,58 +79,61 @@ fn write_for_good<D: Disk, C: SectorCipher + Copy>(
     requires ready { IsReadyFor volume.old ask }
     requires blocks { blocks ≡ range_of volume.old.map.atom ask }
     requires body { length body ≡ (blocks.end - blocks.start) * volume.old.map.atom }
-    ensures made { IfOk result (λ done. done ≡ true → HasMade
+    ensures made { IfOk result (λ done. OnSome done (HasMade
         (seals_of C.sealed C.opened volume.old.map.atom volume.old.keys)
-        volume.old volume.new ask body) }
-    ensures tried { IfOk result (λ done. done ≡ false → WasTried
+        volume.old volume.new ask body)) }
+    ensures tried { IfOk result (λ done. IfNone done (WasTried
         (seals_of C.sealed C.opened volume.old.map.atom volume.old.keys)
-        volume.old volume.new ask body) }
+        volume.old volume.new ask body)) }
     ensures err { OnErr result (volume.new ≡ volume.old) }
 {
-    if !write_blocks(alloc, volume, ask, blocks, body.into_vec())? {
-        return Ok(false);
-    }
+    let Some(buffer) = write_blocks(alloc, volume, ask, blocks, body.into_vec())? else {
+        return Ok(None);
+    };
     if !is_forced {
-        return Ok(true);
+        return Ok(Some(buffer));
     }
     match volume.settle(LANE) {
-        Settled::Done => Ok(true),
-        Settled::Device => Ok(false),
-        Settled::Broken => Ok(false),
+        Settled::Done => Ok(Some(buffer)),
+        Settled::Device => Ok(None),
+        Settled::Broken => Ok(None),
     }
 }
 
-/// Begins a write of these blocks and writes their pieces, up to the first that fails, and tells
-/// whether none did. The body is the buffer of an only piece.
+/// Begins a write of these blocks and writes their pieces, up to the first that fails. Where none did
+/// the body's buffer comes back. It is that of an only piece.
 fn write_blocks<D: Disk, C: SectorCipher + Copy>(
     alloc: Global,
     volume: &mut Volume<D, C>,
     ask: Ask,
     blocks: BlockRange,
     body: Vec<u8>,
-) -> Result<bool, AllocError>
+) -> Result<Option<Bytes>, AllocError>
     requires lanes { 1 < length volume.old.lanes }
     requires idle { IsIdle volume.old }
     requires writes { IsWrite ask }
     requires ready { IsReadyFor volume.old ask }
     requires blocks { blocks ≡ range_of volume.old.map.atom ask }
     requires body { length body.items ≡ (blocks.end - blocks.start) * volume.old.map.atom }
-    ensures written { IfOk result (λ done. done ≡ true → HasWritten
+    ensures written { IfOk result (λ done. OnSome done (HasWritten
         (seals_of C.sealed C.opened volume.old.map.atom volume.old.keys)
-        volume.old volume.new ask body.items) }
-    ensures tried { IfOk result (λ done. done ≡ false → WasTried
+        volume.old volume.new ask body.items)) }
+    ensures tried { IfOk result (λ done. IfNone done (WasTried
         (seals_of C.sealed C.opened volume.old.map.atom volume.old.keys)
-        volume.old volume.new ask body.items) }
+        volume.old volume.new ask body.items)) }
     ensures err { OnErr result (volume.new ≡ volume.old) }
 {
     let map = volume.map();
     if let Some(piece) = only_piece(map, blocks) {
         begin(volume, ask, blocks);
-        return Ok(write_piece(volume, ask, piece, body).is_some());
+        return Ok(write_piece(volume, ask, piece, body));
     }
     let spares = spares_for(alloc, map, blocks)?;
     let grant = begin(volume, ask, blocks);
-    Ok(write_pieces(alloc, volume, ask, grant, body.as_slice(), spares))
+    if write_pieces(alloc, volume, ask, grant, body.as_slice(), spares) {
+        return Ok(Some(Bytes::new(body)));
+    }
+    Ok(None)
 }
 
 /// Writes all pieces of a write that has begun, up to the first that fails, and tells whether none

@@ -13,23 +13,23 @@ returns-in-Err-clause-executed g c =
 
 pub finish-requires : goal.finish-requires
 finish-requires g c =
-    let made = c.in_ok-write_for_good.ensures.made c.if-branch.true in
+    let made = rw c.in-Some.is at c.in_ok-buffer.ensures.made in
     ends-whole _ (Write c.args.offset c.len.result c.args.fua) made.all refl
 
-pub returns-then-branch-clause-executed : goal.returns-then-branch-clause-executed
-returns-then-branch-clause-executed g c =
+pub returns-in-Some-clause-executed : goal.returns-in-Some-clause-executed
+returns-in-Some-clause-executed g c =
     let ask = Write c.args.offset (length c.args.body) c.args.fua in
     executed-made _ c.args.volume.now _ _ (Ops.Write c.args.offset c.args.body c.args.fua) ask _ c.args.body
-    (meets-admits c.args.volume.now ask c.requires.lanes c.requires.idle) (rw c.len.ensures at c.in_ok-write_for_good.ensures.made c.if-branch.true) refl c.finish.ensures
+    (meets-admits c.args.volume.now ask c.requires.lanes c.requires.idle) (rw (c.in-Some.is, c.len.ensures) at c.in_ok-buffer.ensures.made) refl c.finish.ensures
     (asked-whole c.args.offset c.args.body c.args.fua) refl
 
-pub finish-requires-2 : goal.finish-requires-2
-finish-requires-2 g c =
-    let was = c.in_ok-write_for_good.ensures.tried c.if-branch.false in
+pub finish-requires-in-None : goal.finish-requires-in-None
+finish-requires-in-None g c =
+    let was = rw c.in-None.is at c.in_ok-buffer.ensures.tried in
     ends-failed _ (Write c.args.offset c.len.result c.args.fua) was.tried.has_failed refl
 
-pub returns-clause-executed : goal.returns-clause-executed
-returns-clause-executed g c =
+pub returns-in-None-clause-executed : goal.returns-in-None-clause-executed
+returns-in-None-clause-executed g c =
     executed-tried _ c.args.volume.now _ _ c.args.offset c.args.body c.args.fua
     (meets-admits c.args.volume.now (Write c.args.offset (length c.args.body) c.args.fua) c.requires.lanes c.requires.idle)
-    (rw c.len.ensures at c.in_ok-write_for_good.ensures.tried c.if-branch.false) c.finish-2.ensures
+    (rw (c.in-None.is, c.len.ensures) at c.in_ok-buffer.ensures.tried) c.finish-in-None.ensures
