@@ -10,6 +10,7 @@ use std::alloc::{AllocError, Global};
 use std::test::Fail;
 
 mod events;
+mod orders;
 mod sides;
 
 #[test]
