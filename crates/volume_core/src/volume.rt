@@ -301,9 +301,9 @@ impl<D: Disk, C: SectorCipher + Copy> Volume<D, C> {
     /// Writes the next piece of a lane's write, which holds its blocks. The bytes are sealed with the
     /// volume's keys as that piece. A write that fails breaks the volume.
     pub fn piece_write(&mut self, lane: u32, prepared: Prepared) -> PieceWritten
-        requires { Meets self.old (writes lane prepared.bytes) }
-        ensures step { Step self.old (writes lane prepared.bytes) (outcome_of_written result) self.new }
-        ensures buffer { buffer_of_written result ≡ prepared.bytes }
+        requires { Meets self.old (writes lane prepared) }
+        ensures step { Step self.old (writes lane prepared) (outcome_of_written result) self.new }
+        ensures buffer { buffer_of_written result ≡ prepared }
     {
         let open = open_of(&self.lanes, lane);
         let bytes = prepared.into_bytes();
