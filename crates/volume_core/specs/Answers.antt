@@ -70,6 +70,12 @@ buffer_of_written (Write.Done bytes) = bytes
 buffer_of_written (Write.Device bytes) = bytes
 buffer_of_written (Write.Broken bytes) = bytes
 
+-- a read that finds the volume broken gives its buffer back as it was
+abbrev pub KeepsBuffer : List ℕ → PieceRead → Type 0
+KeepsBuffer before (Read.Got bytes) = Unit {0}
+KeepsBuffer before (Read.Device bytes) = Unit {0}
+KeepsBuffer before (Read.Broken bytes) = bytes ≡ before
+
 -- a buffer for the next piece of the lane's operation
 pub record FitsPiece {K : Type 0} (state : State K) (lane : ℕ) (buffer : List ℕ) : Type 0 where
   pub o : Open

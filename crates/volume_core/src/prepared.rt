@@ -1,6 +1,6 @@
 // Pieces that are ready to be written.
 
-ghost use Rattle.std.specs.Prelude.{◌≡◌, ◌+◌, ◌*◌, length};
+ghost use Rattle.std.specs.Prelude.{◌≡◌, ◌+◌, ◌*◌, ℕ, List, length};
 ghost use Rattle.cipher_laws.specs.Bytes.{AreBytes};
 ghost use Rattle.sector_disk.specs.Geometry.{IsAtom};
 ghost use Rattle.volume_core.specs.Seals.{KeysFit, seals_of};
@@ -12,20 +12,17 @@ use cipher_laws::SectorCipher;
 use segment_map::Piece;
 use std::marker::Model;
 
-/// A piece of a write with its bytes, sealed. Sealing needs no volume, so that a lane may do it while
+/// The bytes of a piece of a write, sealed. Sealing needs no volume, so that a lane may do it while
 /// others use the volume.
 #[derive(Debug, Drop)]
 pub struct Prepared {
-    piece: Piece,
     bytes: Bytes,
 }
 
 impl Model for Prepared {
-    ghost use Rattle.volume_core.specs.Sealing.{SealedPiece};
+    ghost Value = { List ℕ };
 
-    ghost Value = { SealedPiece };
-
-    ghost view = { λ p. record { piece = p.piece; bytes = p.bytes } };
+    ghost view = { λ p. p.bytes };
 }
 
 impl Prepared {
@@ -35,39 +32,23 @@ impl Prepared {
         requires known { IsAtom atom }
         requires fits { KeysFit C.sector keys.now atom (piece.first + piece.count) }
         requires size { length bytes ≡ piece.count * atom }
-        ensures piece { result.piece ≡ piece }
-        ensures bytes { result.bytes
+        ensures bytes { result
             ≡ (seals_of C.sealed C.opened atom keys.now).sealed piece.side piece.first bytes }
-        ensures length { length result.bytes ≡ length bytes }
-        ensures are_bytes { AreBytes result.bytes }
+        ensures length { length result ≡ length bytes }
+        ensures are_bytes { AreBytes result }
     {
         let mut vec = bytes.into_vec();
         keys.seal(atom, piece, vec.as_mut_slice());
         Prepared {
-            piece,
             bytes: bytes_of(vec),
         }
     }
 
-    /// The piece.
-    pub fn piece(&self) -> Piece
-        ensures { result ≡ self.now.piece }
-    {
-        self.piece
-    }
-
-    /// The sealed bytes.
-    pub fn as_slice(&self) -> &[u8]
-        ensures { result.now ≡ self.now.bytes }
-    {
-        self.bytes.as_slice()
-    }
-
     /// The buffer, with the sealed bytes.
     pub fn into_bytes(self) -> Bytes
-        ensures { result ≡ self.bytes }
+        ensures { result ≡ self }
     {
-        let Prepared { bytes, .. } = self;
+        let Prepared { bytes } = self;
         bytes
     }
 }

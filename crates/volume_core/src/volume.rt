@@ -1,7 +1,7 @@
 // A volume: its disk, its map and keys, and the operations under way on it.
 
 ghost use Rattle.std.specs.Prelude.{◌≡◌, ◌<◌, false, [], length, ℕ, None, replicate, IfOk, IfErr, OnOk};
-ghost use Rattle.volume_core.specs.Answers.{outcome_of_admitted, outcome_of_asked, outcome_of_read, outcome_of_written, outcome_of_settled, GrantsAdmitted, GrantsAsked, buffer_of_read, buffer_of_written, FitsPiece, is_idle};
+ghost use Rattle.volume_core.specs.Answers.{outcome_of_admitted, outcome_of_asked, outcome_of_read, outcome_of_written, outcome_of_settled, GrantsAdmitted, GrantsAsked, buffer_of_read, buffer_of_written, KeepsBuffer, FitsPiece, is_idle};
 ghost use Rattle.volume_core.specs.Asks.{range_of};
 ghost use Rattle.volume_core.specs.Contents.{IsFresh};
 ghost use Rattle.volume_core.specs.Events.{admits, asks, reads, writes, settles, finishes, done, refused};
@@ -278,6 +278,7 @@ impl<D: Disk, C: SectorCipher + Copy> Volume<D, C> {
         requires fits { FitsPiece self.old lane bytes }
         ensures step { Step self.old (reads lane) (outcome_of_read result) self.new }
         ensures buffer { length (buffer_of_read result) ≡ length bytes }
+        ensures kept { KeepsBuffer bytes result }
     {
         let open = open_of(&self.lanes, lane);
         if self.broken {
@@ -301,9 +302,9 @@ impl<D: Disk, C: SectorCipher + Copy> Volume<D, C> {
     /// Writes the next piece of a lane's write, which holds its blocks. The bytes are sealed with the
     /// volume's keys as that piece. A write that fails breaks the volume.
     pub fn piece_write(&mut self, lane: u32, prepared: Prepared) -> PieceWritten
-        requires { Meets self.old (writes lane prepared.bytes) }
-        ensures step { Step self.old (writes lane prepared.bytes) (outcome_of_written result) self.new }
-        ensures buffer { buffer_of_written result ≡ prepared.bytes }
+        requires { Meets self.old (writes lane prepared) }
+        ensures step { Step self.old (writes lane prepared) (outcome_of_written result) self.new }
+        ensures buffer { buffer_of_written result ≡ prepared }
     {
         let open = open_of(&self.lanes, lane);
         let bytes = prepared.into_bytes();

@@ -1,6 +1,7 @@
 ghost use Rattle.sector_disk.specs.Images.{IsChoice};
 
 use crate::{Ask, Keys, Prepared, Volume};
+use block_range::BlockRange;
 use events::{
     Answer, admit, ask, finish, read, read_of, settle, small, volume_of, write, write_of,
 };
@@ -10,6 +11,7 @@ use std::alloc::{AllocError, Global};
 use std::test::Fail;
 
 mod events;
+mod orders;
 mod sides;
 
 #[test]
@@ -91,10 +93,9 @@ fn a_stop_leaves_the_flushed_value_or_a_later_one(rt: HostRuntime) -> Result<(),
     Ok(())
 }
 
-#[test]
-fn wrong_operations_are_refused_with_their_numbers(rt: HostRuntime) -> Result<(), Fail> {
-    let mut volume = small(rt.alloc(), 2)?;
-    let cases = [
+// Wrong operations on sixteen blocks of 512 bytes, and their numbers.
+fn wrong_asks() -> [(Ask, u32); 6] {
+    [
         (
             Ask::Read {
                 offset: 1,
@@ -140,8 +141,13 @@ fn wrong_operations_are_refused_with_their_numbers(rt: HostRuntime) -> Result<()
             },
             28,
         ),
-    ];
-    for (ask, number) in cases {
+    ]
+}
+
+#[test]
+fn wrong_operations_are_refused_with_their_numbers(rt: HostRuntime) -> Result<(), Fail> {
+    let mut volume = small(rt.alloc(), 2)?;
+    for (ask, number) in wrong_asks() {
         assert_eq!(rt; admit(&mut volume, 0, ask), Answer::Refused(number));
     }
     assert_eq!(rt; admit(&mut volume, 0, write_of(16, 0)), Answer::Held);
@@ -149,26 +155,52 @@ fn wrong_operations_are_refused_with_their_numbers(rt: HostRuntime) -> Result<()
     Ok(())
 }
 
+#[test]
+fn an_operation_is_judged_and_not_begun(rt: HostRuntime) -> Result<(), Fail> {
+    let alloc = rt.alloc();
+    let mut volume = volume_of(MemDisk::new(alloc, 512, 16, 100, &[0])?, alloc, 2)?;
+    let blocks = BlockRange { start: 2, end: 5 };
+    assert_eq!(rt; volume.judge(read_of(2, 3)), Ok(blocks));
+    assert_eq!(rt; volume.judge(write_of(2, 3)), Ok(blocks));
+    assert_eq!(rt;
+        volume.judge(Ask::Flush),
+        Ok(BlockRange { start: 0, end: 0 })
+    );
+    for (wrong, number) in wrong_asks() {
+        assert_eq!(rt; volume.judge(wrong), Err(number), "{wrong:?}");
+    }
+    assert_eq!(rt; ask(&volume, 0), Answer::Unmet);
+    assert_eq!(rt; admit(&mut volume, 0, write_of(2, 3)), Answer::Held);
+    assert_eq!(rt; write(&mut volume, alloc, 0, 1)?, Answer::Device);
+    for (wrong, number) in wrong_asks() {
+        assert_eq!(rt; volume.judge(wrong), Err(number), "{wrong:?} once broken");
+    }
+    for proper in [read_of(2, 3), write_of(2, 3), Ask::Flush] {
+        assert_eq!(rt; volume.judge(proper), Err(5), "{proper:?} once broken");
+    }
+    Ok(())
+}
+
 // The answers of two lanes on a disk whose device call of this number fails: lane 0 reads a block,
 // lane 1 writes it for certain, lane 0 flushes, and then lane 1 asks for a wrong write and for a block.
-fn answers(alloc: Global, fails: u64) -> Result<[Answer; 10], Fail> {
+fn answers(alloc: Global, fails: u64) -> Result<[Answer; 11], Fail> {
     let mut volume = volume_of(MemDisk::new(alloc, 512, 16, 100, &[fails])?, alloc, 3)?;
     let kept = Ask::Write {
         offset: 512,
         length: 512,
         fua: true,
     };
-    let mut answers = [Answer::Unmet; 10];
+    let mut answers = [Answer::Unmet; 11];
     answers[0] = admit(&mut volume, 0, read_of(3, 1));
     answers[1] = admit(&mut volume, 1, kept);
     answers[2] = read(&mut volume, alloc, 0)?;
     answers[3] = write(&mut volume, alloc, 1, 7)?;
     answers[4] = settle(&mut volume, 1);
     answers[5] = finish(&mut volume, 1);
-    finish(&mut volume, 0);
-    answers[6] = admit(&mut volume, 0, Ask::Flush);
-    answers[7] = settle(&mut volume, 0);
-    answers[8] = admit(
+    answers[6] = finish(&mut volume, 0);
+    answers[7] = admit(&mut volume, 0, Ask::Flush);
+    answers[8] = settle(&mut volume, 0);
+    answers[9] = admit(
         &mut volume,
         1,
         Ask::Write {
@@ -177,7 +209,7 @@ fn answers(alloc: Global, fails: u64) -> Result<[Answer; 10], Fail> {
             fua: false,
         },
     );
-    answers[9] = admit(&mut volume, 1, read_of(1, 1));
+    answers[10] = admit(&mut volume, 1, read_of(1, 1));
     Ok(answers)
 }
 
@@ -188,7 +220,7 @@ fn each_failure_has_its_answers(rt: HostRuntime) -> Result<(), Fail> {
     let refused = Refused(5);
     let cases = [
         [
-            Held, Held, Device, Done, Done, Done, Held, Done, wrong, Held,
+            Held, Held, Device, Done, Done, Done, Done, Held, Done, wrong, Held,
         ],
         [
             Held,
@@ -197,17 +229,6 @@ fn each_failure_has_its_answers(rt: HostRuntime) -> Result<(), Fail> {
             Device,
             Unmet,
             Done,
-            refused,
-            Unmet,
-            wrong,
-            refused,
-        ],
-        [
-            Held,
-            Held,
-            Got(0, 0),
-            Done,
-            Device,
             Done,
             refused,
             Unmet,
@@ -219,6 +240,20 @@ fn each_failure_has_its_answers(rt: HostRuntime) -> Result<(), Fail> {
             Held,
             Got(0, 0),
             Done,
+            Device,
+            Done,
+            Done,
+            refused,
+            Unmet,
+            wrong,
+            refused,
+        ],
+        [
+            Held,
+            Held,
+            Got(0, 0),
+            Done,
+            Done,
             Done,
             Done,
             Held,
@@ -230,6 +265,7 @@ fn each_failure_has_its_answers(rt: HostRuntime) -> Result<(), Fail> {
             Held,
             Held,
             Got(0, 0),
+            Done,
             Done,
             Done,
             Done,

@@ -153,17 +153,29 @@ fn ends(bytes: &[u8]) -> Answer {
     }
 }
 
-#[tactic(auto, unfolding(crate::specs::Steps::Meets))]
 pub(super) fn read<D: Disk, C: SectorCipher + Copy>(
     volume: &mut Volume<D, C>,
     alloc: Global,
     lane: u32,
 ) -> Result<Answer, AllocError> {
+    match read_bytes(volume, alloc, lane)? {
+        Ok(bytes) => Ok(ends(bytes.as_slice())),
+        Err(answer) => Ok(answer),
+    }
+}
+
+// All bytes of a piece, in plain, or what was answered in their place.
+#[tactic(auto, unfolding(crate::specs::Steps::Meets))]
+pub(super) fn read_bytes<D: Disk, C: SectorCipher + Copy>(
+    volume: &mut Volume<D, C>,
+    alloc: Global,
+    lane: u32,
+) -> Result<Result<Bytes, Answer>, AllocError> {
     let Some((open, piece)) = next_piece(volume, lane) else {
-        return Ok(Answer::Unmet);
+        return Ok(Err(Answer::Unmet));
     };
     let Ask::Read { .. } = open.ask else {
-        return Ok(Answer::Unmet);
+        return Ok(Err(Answer::Unmet));
     };
     let atom = volume.map().atom;
     let keys = volume.keys();
@@ -173,10 +185,10 @@ pub(super) fn read<D: Disk, C: SectorCipher + Copy>(
         PieceRead::Got(bytes) => {
             let mut bytes = bytes.into_vec();
             keys.unseal(atom, piece, bytes.as_mut_slice());
-            Ok(ends(bytes.as_slice()))
+            Ok(Ok(Bytes::new(bytes)))
         }
-        PieceRead::Device(_) => Ok(Answer::Device),
-        PieceRead::Broken(_) => Ok(Answer::Broken),
+        PieceRead::Device(_) => Ok(Err(Answer::Device)),
+        PieceRead::Broken(_) => Ok(Err(Answer::Broken)),
     }
 }
 

@@ -170,6 +170,13 @@ fn a_block_of_eight_units_has_eight_numbers(rt: HostRuntime) -> Result<(), Fail>
         assert_eq!(rt; finish(&mut volume, 0), Answer::Unmet);
         assert_eq!(rt; settle(&mut volume, 0), Answer::Done);
         assert_eq!(rt; finish(&mut volume, 0), Answer::Done);
+        let ask = Ask::Read {
+            offset: 5 * 4096,
+            length: 4096,
+        };
+        assert_eq!(rt; admit(&mut volume, 0, ask), Answer::Held);
+        assert_eq!(rt; read(&mut volume, alloc, 0)?, Answer::Got(9, 9));
+        assert_eq!(rt; finish(&mut volume, 0), Answer::Done);
         let mut disk = volume.into_disk();
         assert!(rt; holds(&mut disk, alloc, 5, &keys.new, 7 + 40, 9)?);
     }

@@ -1,0 +1,253 @@
+// Two lanes in every order of their events, beside one plain disk.
+
+use super::events::{
+    Answer, admit, ask, finish, read_bytes, read_of, settle, volume_of, write, write_of,
+};
+use crate::{Ask, Volume};
+use base_terms::Bytes;
+use plain_disk::{Op, PlainDisk, Reply};
+use sector_cipher::Context;
+use sector_disk::{Disk, RamDisk};
+use std::alloc::{AllocError, Global};
+use std::test::Fail;
+
+// The turns of each lane in an order. No plan has more events: an admit, a piece and a finish make a
+// read or a write, a settle is one more for a write that is to be kept for certain, and an admit and
+// a settle make a flush. A lane that waits asks again, and goes on in the same turn if it is held.
+const TURNS: u32 = 6;
+
+// The orders of so many turns of each of two lanes, 12 over 6 = 924, beside each of five plans.
+const ORDERS: u32 = 5 * 924;
+
+// What lanes do, on four blocks: one operation after the other.
+fn plans() -> [[Ask; 2]; 5] {
+    let kept = Ask::Write {
+        offset: 512,
+        length: 1024,
+        fua: true,
+    };
+    [
+        [write_of(0, 2), read_of(1, 2)],
+        [kept, Ask::Flush],
+        [read_of(0, 2), write_of(1, 1)],
+        [Ask::Flush, read_of(2, 2)],
+        [write_of(3, 2), read_of(0, 4)],
+    ]
+}
+
+#[derive(Clone, Copy, PartialEq, Eq)]
+enum Event {
+    Admit,
+    Ask,
+    Piece,
+    Settle,
+    Finish,
+}
+
+// A lane at its plan: each operation with the byte that it writes, if it is a write.
+#[derive(Drop)]
+struct Lane {
+    number: u32,
+    plan: [(Ask, u8); 2],
+    ended: usize,
+    next: Event,
+    reply: Reply,
+}
+
+impl Lane {
+    fn new(number: u32, asks: [Ask; 2], bytes: [u8; 2]) -> Lane {
+        Lane {
+            number,
+            plan: [(asks[0], bytes[0]), (asks[1], bytes[1])],
+            ended: 0,
+            next: Event::Admit,
+            reply: Reply::Done,
+        }
+    }
+
+    fn is_done(&self) -> bool {
+        self.ended == self.plan.len()
+    }
+
+    // Makes the next event, if one is left. False where it isn't answered as on a disk that never
+    // fails, or where its operation ends with another reply than the plain disk's.
+    fn turn(
+        &mut self,
+        alloc: Global,
+        volume: &mut Volume<RamDisk, Context>,
+        plain: &mut PlainDisk,
+    ) -> Result<bool, AllocError> {
+        let Some((asked, byte)) = self.plan.get(self.ended).copied() else {
+            return Ok(true);
+        };
+        if self.next == Event::Ask && ask(volume, self.number) == Answer::Held {
+            self.next = Event::Piece;
+        }
+        let event = self.next;
+        self.next = match self.answer(alloc, volume, asked, byte)? {
+            Answer::Held if asked == Ask::Flush => Event::Settle,
+            Answer::Held => Event::Piece,
+            Answer::Waiting(_) => Event::Ask,
+            Answer::Done if event == Event::Piece && is_kept(asked) => Event::Settle,
+            Answer::Done if event == Event::Piece => Event::Finish,
+            Answer::Done if event == Event::Settle && asked != Ask::Flush => Event::Finish,
+            Answer::Done | Answer::Refused(_) => {
+                self.ended += 1;
+                return Ok(self.stands(&plain.step(alloc, &op_of(alloc, asked, byte)?)?));
+            }
+            _ => return Ok(false),
+        };
+        Ok(true)
+    }
+
+    // What the next event is answered. What it tells of its operation's reply is kept.
+    fn answer(
+        &mut self,
+        alloc: Global,
+        volume: &mut Volume<RamDisk, Context>,
+        asked: Ask,
+        byte: u8,
+    ) -> Result<Answer, AllocError> {
+        let lane = self.number;
+        match (self.next, asked) {
+            (Event::Admit, _) => {
+                let answer = admit(volume, lane, asked);
+                if let Answer::Refused(number) = answer {
+                    self.reply = Reply::Errno(number);
+                }
+                Ok(answer)
+            }
+            (Event::Ask, _) => Ok(ask(volume, lane)),
+            (Event::Piece, Ask::Read { .. }) => match read_bytes(volume, alloc, lane)? {
+                Ok(bytes) => {
+                    self.reply = Reply::Content(bytes);
+                    Ok(Answer::Done)
+                }
+                Err(answer) => Ok(answer),
+            },
+            (Event::Piece, _) => write(volume, alloc, lane, byte),
+            (Event::Settle, _) => Ok(settle(volume, lane)),
+            (Event::Finish, _) => Ok(finish(volume, lane)),
+        }
+    }
+
+    // Whether an operation that enters the history here has the reply of the plain disk.
+    fn stands(&mut self, expected: &Reply) -> bool {
+        let is_same = match (&self.reply, expected) {
+            (Reply::Content(found), Reply::Content(bytes)) => found.as_slice() == bytes.as_slice(),
+            (Reply::Done, Reply::Done) => true,
+            (Reply::Errno(found), Reply::Errno(number)) => found == number,
+            _ => false,
+        };
+        self.next = Event::Admit;
+        self.reply = Reply::Done;
+        is_same
+    }
+}
+
+fn is_kept(ask: Ask) -> bool {
+    match ask {
+        Ask::Write { fua, .. } => fua,
+        _ => false,
+    }
+}
+
+// What an operation is to the plain disk.
+fn op_of(alloc: Global, ask: Ask, byte: u8) -> Result<Op, AllocError> {
+    Ok(match ask {
+        Ask::Read { offset, length } => Op::Read { offset, length },
+        Ask::Write {
+            offset,
+            length,
+            fua,
+        } => Op::Write {
+            offset,
+            body: Bytes::new(vec![in alloc; byte; length as usize]?),
+            fua,
+        },
+        Ask::Flush => Op::Flush,
+    })
+}
+
+// Whether two lanes that take their turns in this order, and then one after the other, have the
+// replies of one plain disk, end, and leave on the disk what the plain disk holds.
+fn is_served(alloc: Global, one: [Ask; 2], other: [Ask; 2], order: u32) -> Result<bool, Fail> {
+    let mut volume = volume_of(RamDisk::new(alloc, 512, 4)?, alloc, 3)?;
+    let mut plain = PlainDisk::new(alloc, 512, 4)?;
+    let mut first = Lane::new(0, one, [1, 2]);
+    let mut second = Lane::new(1, other, [3, 4]);
+    for turn in 0..6 * TURNS {
+        let is_second = if turn < 2 * TURNS {
+            (order >> turn) % 2 == 1
+        } else {
+            turn % 2 == 1
+        };
+        let lane = if is_second { &mut second } else { &mut first };
+        if !lane.turn(alloc, &mut volume, &mut plain)? {
+            return Ok(false);
+        }
+    }
+    if !first.is_done() || !second.is_done() {
+        return Ok(false);
+    }
+    holds_the_newest(volume.into_disk(), &plain)
+}
+
+// Whether the atoms of a disk are the newest values of a plain disk's blocks.
+fn holds_the_newest(mut disk: RamDisk, plain: &PlainDisk) -> Result<bool, Fail> {
+    let mut atom = [0u8; 512];
+    if disk.atom() != 512 || disk.atoms() != plain.blocks() {
+        return Ok(false);
+    }
+    for block in 0..plain.blocks() {
+        disk.read(block, &mut atom)?;
+        if atom.as_slice() != plain.newest(block) {
+            return Ok(false);
+        }
+    }
+    Ok(true)
+}
+
+// How many orders are served where the first lane has this plan, and the second each of them. The
+// bits of an order tell, from the lowest on, which turns are the second lane's.
+fn orders_served(alloc: Global, one: [Ask; 2]) -> Result<u32, Fail> {
+    let mut count = 0u32;
+    for other in plans() {
+        for order in 0..1u32 << (2 * TURNS) {
+            if u32::count_ones(order) == TURNS && is_served(alloc, one, other, order)? {
+                count = count.saturating_add(1);
+            }
+        }
+    }
+    Ok(count)
+}
+
+#[test]
+fn a_write_then_a_read_is_served_in_every_order(rt: HostRuntime) -> Result<(), Fail> {
+    assert_eq!(rt; orders_served(rt.alloc(), plans()[0])?, ORDERS);
+    Ok(())
+}
+
+#[test]
+fn a_kept_write_then_a_flush_is_served_in_every_order(rt: HostRuntime) -> Result<(), Fail> {
+    assert_eq!(rt; orders_served(rt.alloc(), plans()[1])?, ORDERS);
+    Ok(())
+}
+
+#[test]
+fn a_read_then_a_write_is_served_in_every_order(rt: HostRuntime) -> Result<(), Fail> {
+    assert_eq!(rt; orders_served(rt.alloc(), plans()[2])?, ORDERS);
+    Ok(())
+}
+
+#[test]
+fn a_flush_then_a_read_is_served_in_every_order(rt: HostRuntime) -> Result<(), Fail> {
+    assert_eq!(rt; orders_served(rt.alloc(), plans()[3])?, ORDERS);
+    Ok(())
+}
+
+#[test]
+fn a_refused_write_then_a_read_is_served_in_every_order(rt: HostRuntime) -> Result<(), Fail> {
+    assert_eq!(rt; orders_served(rt.alloc(), plans()[4])?, ORDERS);
+    Ok(())
+}
