@@ -7,5 +7,5 @@ use Rattle.nbd_session.specs.declared.port.Submitted.TheVariants.{Replied, Spent
 
 -- the operation, of which so many bytes were tried where it is a write, was answered; a spent port did nothing
 abbrev pub exchanges_by : Op → ℕ → Submitted → List Exchange
-exchanges_by op n (Replied reply) = record { op = op; reply = reply; tried = n } ∷ []
+exchanges_by op n (Replied reply buffer) = record { op = op; reply = reply; tried = n } ∷ []
 exchanges_by op n Spent = []

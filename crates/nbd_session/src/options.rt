@@ -86,7 +86,7 @@ pub fn next_option<S: Source>(
     if head.length > MAX_DATA {
         return Err(Ending::TooLong(head.length));
     }
-    match take_data(alloc, source, head.length, taken) {
+    match take_data(alloc, source, head.length, &mut Vec::new(alloc), taken) {
         Data::Whole(body) => Ok(ClientOption {
             option: head.option,
             body,

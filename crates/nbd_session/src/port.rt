@@ -2,6 +2,7 @@ ghost use Rattle.std.specs.Prelude.{◌≡◌, ℕ, IfOk, OnErr, List, [], ◌++
 ghost use Rattle.plain_disk.specs.Plain.{Exchange};
 ghost use Rattle.nbd_session.specs.Ports.{exchanges_by};
 
+use base_terms::Bytes;
 use plain_disk::{Op, Reply};
 use std::alloc::{AllocError, Global};
 
@@ -9,7 +10,9 @@ use std::alloc::{AllocError, Global};
 /// any more.
 #[derive(Debug, Drop)]
 pub enum Submitted {
-    Replied(Reply),
+    /// The reply, and a buffer that the port has no more use for: that of a write's body, say. What
+    /// is in it isn't to be used.
+    Replied(Reply, Bytes),
     Spent,
 }
 

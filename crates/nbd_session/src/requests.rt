@@ -33,8 +33,14 @@ pub enum Next {
     Stop(Ending),
 }
 
-/// Takes the next request from the source, and counts the bytes that it took.
-pub fn next_request<S: Source>(alloc: Global, source: &mut S, taken: &mut u64) -> Next
+/// Takes the next request from the source, a write's body into the spare buffer, and counts the bytes
+/// that it took.
+pub fn next_request<S: Source>(
+    alloc: Global,
+    source: &mut S,
+    spare: &mut Vec<u8>,
+    taken: &mut u64,
+) -> Next
     ensures { (bytes : List ℕ) × (ended : Bool) × NextIs
         (intake (S.given source.old) (S.left source.old) (S.faults source.old) taken.old)
         (intake (S.given source.new) (S.left source.new) (S.faults source.new) taken.new)
@@ -50,7 +56,7 @@ pub fn next_request<S: Source>(alloc: Global, source: &mut S, taken: &mut u64) -
         Err(bad) => return Next::Stop(Ending::BadMagic(bad.number)),
     };
     match ending(&head) {
-        None => behind_head(alloc, source, &head, taken),
+        None => behind_head(alloc, source, &head, spare, taken),
         Some(ending) => Next::Stop(ending),
     }
 }
@@ -60,6 +66,7 @@ fn behind_head<S: Source>(
     alloc: Global,
     source: &mut S,
     head: &RequestHead,
+    spare: &mut Vec<u8>,
     taken: &mut u64,
 ) -> Next
     requires head { IsRequestHead head.now }
@@ -73,7 +80,7 @@ fn behind_head<S: Source>(
     if head.flags.bits > CommandFlags::FUA.bits {
         return refuse(source, head, INVALID, taken);
     }
-    match take_data(alloc, source, data_length(head), taken) {
+    match take_data(alloc, source, data_length(head), spare, taken) {
         Data::Whole(body) => match operation(head, body) {
             Some(op) => Next::Ask { cookie, op },
             None => Next::Refuse {

@@ -1,4 +1,4 @@
-ghost use Rattle.std.specs.Prelude.{◌≡◌, ◌<◌, ◌^◌, ◌+◌, ℕ, Bool, List, length, Some, None};
+ghost use Rattle.std.specs.Prelude.{◌≡◌, ◌<◌, ◌≤◌, ◌^◌, ◌+◌, ℕ, Bool, List, length, Some, None};
 ghost use Rattle.nbd_session.specs.Moments.{moment};
 ghost use Rattle.nbd_session.specs.Putting.{Replies};
 ghost use Rattle.nbd_session.specs.Replies.{reply_text};
@@ -11,6 +11,7 @@ use crate::replies::put_reply;
 use crate::requests::{NO_MEMORY, Next, next_request};
 use crate::tally::Tally;
 use crate::{Ending, Export, Port, SessionEnd, Submitted};
+use base_terms::Bytes;
 use io_edge::{Sink, Source};
 use plain_disk::Reply;
 use std::alloc::Global;
@@ -26,7 +27,8 @@ const MAX_REQUESTS: u64 = 1 << 32;
 /// decides, and no more. It ends with `ReadFault` exactly where the source's count of faults rose, and
 /// with `WriteFault` exactly where the sink's did; then at most the last message, or a rear of it, is
 /// missing. With `TooMany` it ends exactly after the answer to the `65536`th option that goes on, or
-/// the reply to the `2^32`nd request.
+/// the reply to the `2^32`nd request. It keeps the buffer of the last body, of at most 32 MiB, for the
+/// next, as the port gives it back.
 pub fn serve_session<S: Source, K: Sink, P: Port>(
     alloc: Global,
     source: &mut S,
@@ -75,8 +77,9 @@ fn serve_requests<S: Source, K: Sink, P: Port>(
         (moment (S.given source.new) (S.left source.new) (K.had sink.new) (S.faults source.new) (K.faults sink.new) tally.new.taken tally.new.put)
         (Some result) turns taken whole front ended }
 {
+    let mut spare = Vec::new(alloc);
     for number in 0..MAX_REQUESTS {
-        match serve_request(alloc, source, sink, port, tally) {
+        match serve_request(alloc, source, sink, port, &mut spare, tally) {
             None => {}
             Some(ending) => return ending,
         }
@@ -90,6 +93,7 @@ fn serve_request<S: Source, K: Sink, P: Port>(
     source: &mut S,
     sink: &mut K,
     port: &mut P,
+    spare: &mut Vec<u8>,
     tally: &mut Tally,
 ) -> Option<Ending>
     ensures { (turns : List Turn) × (taken : List ℕ) × (whole : List ℕ) × (front : List ℕ) × (ended : Bool)
@@ -100,16 +104,30 @@ fn serve_request<S: Source, K: Sink, P: Port>(
         (moment (S.given source.new) (S.left source.new) (K.had sink.new) (S.faults source.new) (K.faults sink.new) tally.new.taken tally.new.put)
         result turns taken whole front ended) }
 {
-    match next_request(alloc, source, &mut tally.taken) {
+    match next_request(alloc, source, spare, &mut tally.taken) {
         Next::Stop(ending) => Some(ending),
         Next::Refuse { cookie, number } => {
             answer(sink, cookie, &Reply::Errno(number), &mut tally.put)
         }
         Next::Ask { cookie, op } => match port.submit(alloc, op) {
-            Ok(Submitted::Replied(reply)) => answer(sink, cookie, &reply, &mut tally.put),
+            Ok(Submitted::Replied(reply, buffer)) => {
+                keep(spare, buffer);
+                answer(sink, cookie, &reply, &mut tally.put)
+            }
             Ok(Submitted::Spent) => Some(Ending::PortSpent),
             Err(_) => answer(sink, cookie, &Reply::Errno(NO_MEMORY), &mut tally.put),
         },
+    }
+}
+
+/// Keeps the longer buffer: a port that answers a read has none to give back, and the one of the last
+/// body stays for the next.
+fn keep(spare: &mut Vec<u8>, buffer: Bytes)
+    ensures as_long { length buffer ≤ length spare.new.items }
+    ensures kept { length spare.old.items ≤ length spare.new.items }
+{
+    if spare.len() < buffer.len() {
+        *spare = buffer.into_vec();
     }
 }
 

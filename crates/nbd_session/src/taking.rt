@@ -1,4 +1,4 @@
-ghost use Rattle.std.specs.Prelude.{◌≡◌, ◌<◌, ◌≤◌, ◌+◌, ◌^◌, ℕ, Bool, List, length, take};
+ghost use Rattle.std.specs.Prelude.{◌≡◌, ◌<◌, ◌≤◌, ◌+◌, ◌^◌, ℕ, Bool, List, length, take, IfOk};
 ghost use Rattle.nbd_session.specs.Counts.{capped};
 ghost use Rattle.nbd_session.specs.Taking.{DataIs, HeadIs, TakesUpTo};
 ghost use Rattle.nbd_session.specs.Traffic.{filled_of, intake};
@@ -7,7 +7,8 @@ use crate::Ending;
 use crate::filling::{Filled, fill, skip};
 use base_terms::Bytes;
 use io_edge::Source;
-use std::alloc::Global;
+use std::alloc::{AllocError, Global};
+use std::mem;
 
 /// The data behind a head: whole, not taken for want of memory, or cut short after so many bytes by
 /// the end of the input, or by a fault of the source.
@@ -35,8 +36,15 @@ pub fn take_head<S: Source>(source: &mut S, head: &mut [u8], taken: &mut u64) ->
     }
 }
 
-/// Takes the data of so many bytes behind a head.
-pub fn take_data<S: Source>(alloc: Global, source: &mut S, length: u32, taken: &mut u64) -> Data
+/// Takes the data of so many bytes behind a head. Where there are any, they are put into the spare
+/// buffer, of which only what it grows by is zeroed before.
+pub fn take_data<S: Source>(
+    alloc: Global,
+    source: &mut S,
+    length: u32,
+    spare: &mut Vec<u8>,
+    taken: &mut u64,
+) -> Data
     ensures { (bytes : List ℕ) × DataIs
         (intake (S.given source.old) (S.left source.old) (S.faults source.old) taken.old)
         (intake (S.given source.new) (S.left source.new) (S.faults source.new) taken.new)
@@ -45,14 +53,22 @@ pub fn take_data<S: Source>(alloc: Global, source: &mut S, length: u32, taken: &
     if length == 0 {
         return Data::Whole(Bytes::new(Vec::new(alloc)));
     }
-    let Ok(mut body) = vec![in alloc; 0u8; length as usize] else {
+    if fit(spare, length as usize).is_err() {
         return Data::NoMemory;
-    };
-    match take_into(source, &mut body, taken) {
-        Filled::Whole => Data::Whole(Bytes::new(body)),
+    }
+    match take_into(source, spare, taken) {
+        Filled::Whole => Data::Whole(Bytes::new(mem::replace(spare, Vec::new(alloc)))),
         Filled::Ended(n) => Data::Ended(n),
         Filled::Fault(_) => Data::Fault,
     }
+}
+
+/// Makes a buffer so long, in a block of memory that is no longer than it must be.
+fn fit(buffer: &mut Vec<u8>, wanted: usize) -> Result<(), AllocError>
+    ensures { IfOk result (λ _. length buffer.new.items ≡ wanted) }
+{
+    buffer.reserve_exact(wanted.saturating_sub(buffer.len()))?;
+    buffer.resize(wanted, 0)
 }
 
 /// Fills a buffer, and counts the bytes that came.

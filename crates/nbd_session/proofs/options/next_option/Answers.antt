@@ -14,6 +14,6 @@ pub returns-in-NoMemory : goal.returns-in-NoMemory
 returns-in-NoMemory g c =
     option-memory _ _ _ c.in-Ok.head (head-taken _ _ 16 _ _ c.in-Ok.ensures.taken.1 c.in_ok-take_head.ensures) c.in-Ok.ensures.taken.0 (omega arith) c.in-NoMemory.ensures
 
-pub returns-in-Fault : goal.returns-in-Fault
-returns-in-Fault g c =
+pub returns : goal.returns
+returns g c =
     option-fault _ _ _ c.in-Ok.head (head-taken _ _ 16 _ _ c.in-Ok.ensures.taken.1 c.in_ok-take_head.ensures) c.in-Ok.ensures.taken.0 (omega arith) c.in-Fault.ensures

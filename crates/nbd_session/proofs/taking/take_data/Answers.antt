@@ -8,5 +8,5 @@ returns-then-length-eq0 g c = (
   record { takes = takes_none _; by_case = (c.new-then-length-eq0.ensures ∙ c.new.ensures.items, omega arith, refl) },
 )
 
-pub returns-in_default : goal.returns-in_default
-returns-in_default g c = ([], record { takes = takes_none _; by_case = (omega arith, refl, refl) })
+pub returns-then-is_err : goal.returns-then-is_err
+returns-then-is_err g c = ([], record { takes = takes_none _; by_case = (omega arith, refl, refl) })
