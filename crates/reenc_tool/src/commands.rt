@@ -34,7 +34,7 @@ const WORKERS: u32 = 4;
 const LANES: u32 = 2;
 
 /// Serves sessions over links on a disk that has a block, and hands both back.
-fn serve_disk<D: Disk, L: Link>(alloc: Global, disk: D, links: Vec<L>) -> Ended<D, L>
+fn serve_disk<D: Disk, L: Link>(alloc: Global, disk: D, mut links: Vec<L>) -> Ended<D, L>
     requires count { length links.items ≡ 4 }
     requires bound { (k : ℕ) (link : L) → k < length links.items → L.bound (slice_index_or links.items k link) ≤ 65535 }
     ensures status { result.status ≡ status_of result.cause }
@@ -43,13 +43,12 @@ fn serve_disk<D: Disk, L: Link>(alloc: Global, disk: D, links: Vec<L>) -> Ended<
         L.told L.bound L.faults (λ list. list.items) disk links.items result.cause result.disk result.links.items result.sessions.items)
         ⊎ ((result.cause ≡ Cause.Memory) × (result.disk ≡ Some disk) × (result.links.items ≡ links.items) × (result.sessions.items ≡ [])) }
 {
-    let mut links = links;
     let Ok(mut sessions) = empty_lists(alloc, links.len()) else {
-        return ended_by_memory(alloc, disk, links);
+        return unserved(alloc, Cause::Memory, Some(disk), links);
     };
     let volume = match Volume::plain(alloc, disk, LANES) {
         Ok(volume) => volume,
-        Err(disk) => return ended_by_memory(alloc, disk, links),
+        Err(disk) => return unserved(alloc, Cause::Memory, Some(disk), links),
     };
     let keys = volume.keys();
     keys_seal_lawfully::<Context>();
@@ -74,27 +73,6 @@ fn serve_disk<D: Disk, L: Link>(alloc: Global, disk: D, links: Vec<L>) -> Ended<
         pass: None,
         demo: None,
         sessions,
-        links,
-    }
-}
-
-/// Ends without a session for want of memory, and hands back the disk and the links.
-fn ended_by_memory<D, L>(alloc: Global, disk: D, links: Vec<L>) -> Ended<D, L>
-    ensures status { result.status ≡ status_of result.cause }
-    ensures other { HasNoOther result.header result.pass result.demo }
-    ensures cause { result.cause ≡ Cause.Memory }
-    ensures disk { result.disk ≡ Some disk }
-    ensures links { result.links.items ≡ links.items }
-    ensures sessions { result.sessions.items ≡ [] }
-{
-    Ended {
-        status: Cause::Memory.status(),
-        cause: Cause::Memory,
-        disk: Some(disk),
-        header: None,
-        pass: None,
-        demo: None,
-        sessions: Vec::new(alloc),
         links,
     }
 }
@@ -125,13 +103,13 @@ fn empty_lists(alloc: Global, count: usize) -> Result<Vec<Vec<SessionEnd>>, Allo
     Ok(lists)
 }
 
-/// Ends without a session.
-fn refused<D, L>(alloc: Global, cause: Cause, disk: Option<D>) -> Ended<D, L>
+/// Ends without a session, and hands back the disk and the links that the bay gave.
+fn unserved<D, L>(alloc: Global, cause: Cause, disk: Option<D>, links: Vec<L>) -> Ended<D, L>
     ensures status { result.status ≡ status_of cause }
     ensures other { HasNoOther result.header result.pass result.demo }
     ensures cause { result.cause ≡ cause }
     ensures disk { result.disk ≡ disk }
-    ensures links { result.links.items ≡ [] }
+    ensures links { result.links.items ≡ links.items }
     ensures sessions { result.sessions.items ≡ [] }
 {
     Ended {
@@ -142,7 +120,7 @@ fn refused<D, L>(alloc: Global, cause: Cause, disk: Option<D>) -> Ended<D, L>
         pass: None,
         demo: None,
         sessions: Vec::new(alloc),
-        links: Vec::new(alloc),
+        links,
     }
 }
 
@@ -168,12 +146,12 @@ fn serve_plain<B: Bay>(
             number: 0,
             limit: 1,
         };
-        return refused(alloc, cause, Some(disk));
+        return unserved(alloc, cause, Some(disk), Vec::new(alloc));
     }
     match bay.links(alloc, command.address, WORKERS, command.sessions) {
         Ok(links) => serve_disk(alloc, disk, links),
-        Err(BayFault::Failed) => refused(alloc, Cause::Device, Some(disk)),
-        Err(BayFault::Memory) => refused(alloc, Cause::Memory, Some(disk)),
+        Err(BayFault::Failed) => unserved(alloc, Cause::Device, Some(disk), Vec::new(alloc)),
+        Err(BayFault::Memory) => unserved(alloc, Cause::Memory, Some(disk), Vec::new(alloc)),
     }
 }
 
@@ -188,12 +166,12 @@ fn execute<B: Bay>(alloc: Global, words: &[String], bay: &mut B) -> Ended<B::Dis
     ensures unasked { NotServe (map string_bytes words.now) → bay.new ≡ bay.old }
 {
     let Some(command) = read_words(words) else {
-        return refused(alloc, Cause::Usage, None);
+        return unserved(alloc, Cause::Usage, None, Vec::new(alloc));
     };
     match bay.disk(alloc, command.disk, command.atom) {
         Ok(disk) => serve_plain(alloc, bay, disk, &command),
-        Err(BayFault::Failed) => refused(alloc, Cause::Device, None),
-        Err(BayFault::Memory) => refused(alloc, Cause::Memory, None),
+        Err(BayFault::Failed) => unserved(alloc, Cause::Device, None, Vec::new(alloc)),
+        Err(BayFault::Memory) => unserved(alloc, Cause::Memory, None, Vec::new(alloc)),
     }
 }
 

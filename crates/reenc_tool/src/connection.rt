@@ -34,9 +34,7 @@ pub fn serve_next<L: Link, P: Port>(
         return Asked::Memory;
     }
     match link.next() {
-        Ok(Some((source, sink))) => {
-            let mut source = source;
-            let mut sink = sink;
+        Ok(Some((mut source, mut sink))) => {
             let end = serve_session(alloc, &mut source, &mut sink, port, export);
             link.done(source, sink);
             let Ok(()) = ends.push(end) else {

@@ -29,7 +29,7 @@ impl<D: Disk, C: SectorCipher + Copy> Port for VolumePort<D, C> {
 
     fn submit(&mut self, alloc: Global, op: Op) -> Result<Submitted, AllocError> {
         match execute(alloc, &mut self.volume, op) {
-            Ok(reply) => Ok(Submitted::Replied(reply)),
+            Ok((reply, buffer)) => Ok(Submitted::Replied(reply, buffer)),
             Err(refused) => Err(refused),
         }
     }

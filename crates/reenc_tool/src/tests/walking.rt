@@ -236,7 +236,7 @@ fn holds(alloc: Global, disk: MemDisk, plain: &PlainDisk) -> Result<bool, Fail> 
     for block in 0..plain.blocks() {
         let offset = block.wrapping_mul(u64::from(length));
         let submitted = port.submit(alloc, Op::Read { offset, length })?;
-        let Submitted::Replied(Reply::Content(bytes)) = submitted else {
+        let Submitted::Replied(Reply::Content(bytes), _) = submitted else {
             return Ok(false);
         };
         if bytes.as_slice() != plain.newest(block) {

@@ -1,4 +1,4 @@
-use Rattle.std.proofs.Common.{ap, refl, sym, subst, inl, inr, Err}
+use Rattle.std.proofs.Common.{ap, refl, sym, ◌∙◌, subst, inl, inr, Err}
 use Rattle.reenc_tool.specs.declared.ended.Cause.{Cause}
 use Rattle.reenc_tool.specs.Running.{IsStopped}
 use Rattle.reenc_tool.proofs.RunLemmas.{ended_earlier}
@@ -24,10 +24,10 @@ returns-in-Err-Failed-clause-came g c =
       record { disk = c.in-Some.command.disk.now; atom = c.in-Some.command.atom; address = c.in-Some.command.address.now; sessions = c.in-Some.command.sessions },
       c.in-Some.ensures,
       inr (
-        c.refused-in-Err-Failed.ensures.disk,
-        c.refused-in-Err-Failed.ensures.links,
-        c.refused-in-Err-Failed.ensures.sessions,
-        subst (λ (cause : Cause). IsStopped 1 (g.B.Bay.faults c.args.bay.now) (g.B.Bay.faults c.disk.new.self) cause) (sym c.refused-in-Err-Failed.ensures.cause)
+        c.unserved-in-Err-Failed.ensures.disk,
+        c.unserved-in-Err-Failed.ensures.links ∙ c.new-in-Err-Failed.ensures.items,
+        c.unserved-in-Err-Failed.ensures.sessions,
+        subst (λ (cause : Cause). IsStopped 1 (g.B.Bay.faults c.args.bay.now) (g.B.Bay.faults c.disk.new.self) cause) (sym c.unserved-in-Err-Failed.ensures.cause)
             (c.in-Err-Failed.ensures.cause.failed (ap Err c.in-Err-Failed.field-0-is)),
       ),
     )
@@ -38,10 +38,10 @@ returns-in-Err-Memory-clause-came g c =
       record { disk = c.in-Some.command.disk.now; atom = c.in-Some.command.atom; address = c.in-Some.command.address.now; sessions = c.in-Some.command.sessions },
       c.in-Some.ensures,
       inr (
-        c.refused-in-Err-Memory.ensures.disk,
-        c.refused-in-Err-Memory.ensures.links,
-        c.refused-in-Err-Memory.ensures.sessions,
-        subst (λ (cause : Cause). IsStopped 1 (g.B.Bay.faults c.args.bay.now) (g.B.Bay.faults c.disk.new.self) cause) (sym c.refused-in-Err-Memory.ensures.cause) c.in-Err-Memory.ensures.cause.later,
+        c.unserved-in-Err-Memory.ensures.disk,
+        c.unserved-in-Err-Memory.ensures.links ∙ c.new-in-Err-Memory.ensures.items,
+        c.unserved-in-Err-Memory.ensures.sessions,
+        subst (λ (cause : Cause). IsStopped 1 (g.B.Bay.faults c.args.bay.now) (g.B.Bay.faults c.disk.new.self) cause) (sym c.unserved-in-Err-Memory.ensures.cause) c.in-Err-Memory.ensures.cause.later,
       ),
     )
 
