@@ -1,5 +1,5 @@
 -- Operations that have begun, with their pieces behind them.
-use Rattle.std.proofs.Common.{◌≡◌, ℕ, ◌+◌, true, false, List, [], length, Option, Some, None, IfSome, IfNone, OnSome, refl, sym, ◌∙◌, ap, subst, arith}
+use Rattle.std.proofs.Common.{◌≡◌, ℕ, ◌+◌, List, [], length, Option, Some, None, IfSome, IfNone, OnSome, refl, sym, ◌∙◌, ap, subst, arith}
 use Rattle.std.proofs.lemmas.List.{append-nil, take_all}
 use Rattle.block_range.specs.declared.BlockRange.{BlockRange}
 use Rattle.segment_map.specs.declared.map.Piece.{Piece}

@@ -6,7 +6,7 @@ use Rattle.segment_map.specs.declared.map.Map.{Map}
 use Rattle.segment_map.specs.declared.map.Piece.{Piece}
 use Rattle.volume_core.specs.Answers.{FitsPiece}
 use Rattle.volume_core.specs.Asks.{IsRead, IsWrite, IsForced, has_lock, range_of}
-use Rattle.volume_core.specs.Events.{Outcome, reads, writes, settles, finishes, got, done, device, broken}
+use Rattle.volume_core.specs.Events.{Event, Outcome, reads, writes, settles, finishes, got, done, device, broken}
 use Rattle.volume_core.specs.Pieces.{IsPieceOf, ArePieceBytes, IsComplete, known_side, size_of_piece, moved, failing, settling}
 use Rattle.volume_core.specs.Runs.{answered_by, by_settle, plain_after, plain_piece, opened_by}
 use Rattle.volume_core.specs.Seals.{Seals, KeysFit}
@@ -115,7 +115,7 @@ read-got seals old new ask piece bytes is meets step =
       alone-goes old new o (moved o piece) false is.alone goes,
     )
 
--- a read that failed
+-- an event of the operation that failed, and that neither answered it nor told of bytes
 failed-event : {K : Type 0} (old new : State K) (o : Open) (is_broken : Bool) → IsAlone old o → Goes old new 0 old.entries (Some (failing o)) is_broken →
     HasFailed new o.ask
 failed-event old new o is_broken alone goes = record {
@@ -125,29 +125,28 @@ failed-event old new o is_broken alone goes = record {
   failed = refl;
 }
 
+failed-silently : {K : Type 0} (seals : Seals) (old new : State K) (event : Event) (outcome : Outcome) (o q : Open) (is_broken : Bool) → IsAlone old o → Meets old event →
+    Step old event outcome new → ((plain : ℕ → List ℕ) → answered_by old event outcome plain ≡ []) →
+    ((plain : ℕ → List ℕ) → plain_after seals old event outcome plain 0 ≡ plain 0) → open_at old.lanes 0 ≡ Some q →
+    Goes old new 0 old.entries (Some (failing q)) is_broken → GoesOn seals old new [] × HasFailed new o.ask
+failed-silently seals old new event outcome o q is_broken alone meets step silent same_plain at goes =
+    let same : q ≡ o = open-is-one old 0 q o at alone.own in (
+      one-event seals old new event outcome [] meets step silent (λ plain. same_plain plain ∙ sym (append-nil (plain 0))) goes.map goes.keys goes.lane_is.count,
+      failed-event old new o is_broken alone (rw same at goes),
+    )
+
+-- a read that failed
 pub read-device : {K : Type 0} (seals : Seals) (old new : State K) (ask : Ask) (piece : Piece) → IsNext old ask piece → Meets old (reads 0) →
     Step old (reads 0) device new → GoesOn seals old new [] × HasFailed new ask
 unfolding Step answered_by plain_after
-read-device seals old new ask piece is meets step =
-    let o = going old.map.atom ask piece.first in
-    let (q, at, misses) = step in
-    let same : q ≡ o = open-is-one old 0 q o at is.alone.own in
-    let goes : Goes old new 0 old.entries (Some (failing o)) false = rw same at misses.goes in (
-      one-event seals old new (reads 0) device [] meets step (λ plain. refl) (λ plain. sym (append-nil (plain 0))) goes.map goes.keys goes.lane_is.count,
-      failed-event old new o false is.alone goes,
-    )
+read-device seals old new ask piece is meets step = (let (q, at, misses) = step in
+    failed-silently seals old new (reads 0) device (going old.map.atom ask piece.first) q false is.alone meets step (λ plain. refl) (λ plain. refl) at misses.goes)
 
 pub read-broken : {K : Type 0} (seals : Seals) (old new : State K) (ask : Ask) (piece : Piece) → IsNext old ask piece → Meets old (reads 0) →
     Step old (reads 0) broken new → GoesOn seals old new [] × HasFailed new ask
 unfolding Step answered_by plain_after
-read-broken seals old new ask piece is meets step =
-    let o = going old.map.atom ask piece.first in
-    let (q, at, finds) = step in
-    let same : q ≡ o = open-is-one old 0 q o at is.alone.own in
-    let goes : Goes old new 0 old.entries (Some (failing o)) true = rw same at finds.goes in (
-      one-event seals old new (reads 0) broken [] meets step (λ plain. refl) (λ plain. sym (append-nil (plain 0))) goes.map goes.keys goes.lane_is.count,
-      failed-event old new o true is.alone goes,
-    )
+read-broken seals old new ask piece is meets step = (let (q, at, finds) = step in
+    failed-silently seals old new (reads 0) broken (going old.map.atom ask piece.first) q true is.alone meets step (λ plain. refl) (λ plain. refl) at finds.goes)
 
 -- a piece that was written
 pub write-done : {K : Type 0} (seals : Seals) (old new : State K) (ask : Ask) (piece : Piece) (sealed : List ℕ) → IsNext old ask piece → Meets old (writes 0 sealed) →
@@ -182,14 +181,8 @@ write-device seals old new ask piece sealed is meets step =
 pub write-broken : {K : Type 0} (seals : Seals) (old new : State K) (ask : Ask) (piece : Piece) (sealed : List ℕ) → IsNext old ask piece → Meets old (writes 0 sealed) →
     Step old (writes 0 sealed) broken new → GoesOn seals old new [] × HasFailed new ask
 unfolding Step answered_by plain_after
-write-broken seals old new ask piece sealed is meets step =
-    let o = going old.map.atom ask piece.first in
-    let (q, at, finds) = step in
-    let same : q ≡ o = open-is-one old 0 q o at is.alone.own in
-    let goes : Goes old new 0 old.entries (Some (failing o)) true = rw same at finds.goes in (
-      one-event seals old new (writes 0 sealed) broken [] meets step (λ plain. refl) (λ plain. sym (append-nil (plain 0))) goes.map goes.keys goes.lane_is.count,
-      failed-event old new o true is.alone goes,
-    )
+write-broken seals old new ask piece sealed is meets step = (let (q, at, finds) = step in
+    failed-silently seals old new (writes 0 sealed) broken (going old.map.atom ask piece.first) q true is.alone meets step (λ plain. refl) (λ plain. refl) at finds.goes)
 
 -- what failed writes of a piece tried of its bytes
 pub tried-all : {K : Type 0} (seals : Seals) (old new : State K) (ask : Ask) (bytes : List ℕ) → GoesOn seals old new bytes × HasFailed new ask → HasTried seals old new ask bytes
@@ -246,30 +239,25 @@ settle-done seals old new atom at ask alone forced ends step =
       },
     )
 
-pub settle-device : {K : Type 0} (seals : Seals) (old new : State K) (atom at : ℕ) (ask : Ask) → IsAlone old (going atom ask at) → IsForced ask →
-    at ≡ (range_of atom ask).end → Step old (settles 0) device new → GoesOn seals old new [] × HasFailed new ask
-unfolding Step answered_by plain_after
-settle-device seals old new atom at ask alone forced ends step =
+settle-failed : {K : Type 0} (seals : Seals) (old new : State K) (atom at : ℕ) (ask : Ask) (outcome : Outcome) (q : Open) (is_broken : Bool) → IsAlone old (going atom ask at) →
+    IsForced ask → at ≡ (range_of atom ask).end → Step old (settles 0) outcome new → open_at old.lanes 0 ≡ Some q →
+    Goes old new 0 old.entries (after_settle q (failing q)) is_broken → GoesOn seals old new [] × HasFailed new ask
+unfolding answered_by plain_after
+settle-failed seals old new atom at ask outcome q is_broken alone forced ends step own goes =
     let o = going atom ask at in
-    let (q, own, syncs) = step in
     let same : q ≡ o = open-is-one old 0 q o own alone.own in
     let has = locks-forced ask forced in
-    let goes : Goes old new 0 old.entries (Some (failing o)) true = rw same at (settled-goes old new o q (failing q) true same has syncs.goes) in (
-      one-event seals old new (settles 0) device [] (ready-settles old atom at ask alone forced ends) step (λ plain. unanswered-settle old o device alone.own has)
-          (λ plain. sym (append-nil (plain 0))) goes.map goes.keys goes.lane_is.count,
-      failed-event old new o true alone goes,
-    )
+    failed-silently seals old new (settles 0) outcome o q is_broken alone (ready-settles old atom at ask alone forced ends) step
+    (λ plain. unanswered-settle old o outcome alone.own has) (λ plain. refl) own (settled-goes old new o q (failing q) is_broken same has goes)
+
+pub settle-device : {K : Type 0} (seals : Seals) (old new : State K) (atom at : ℕ) (ask : Ask) → IsAlone old (going atom ask at) → IsForced ask →
+    at ≡ (range_of atom ask).end → Step old (settles 0) device new → GoesOn seals old new [] × HasFailed new ask
+unfolding Step
+settle-device seals old new atom at ask alone forced ends step =
+    (let (q, own, syncs) = step in settle-failed seals old new atom at ask device q true alone forced ends step own syncs.goes)
 
 pub settle-broken : {K : Type 0} (seals : Seals) (old new : State K) (atom at : ℕ) (ask : Ask) → IsAlone old (going atom ask at) → IsForced ask →
     at ≡ (range_of atom ask).end → Step old (settles 0) broken new → GoesOn seals old new [] × HasFailed new ask
-unfolding Step answered_by plain_after
+unfolding Step
 settle-broken seals old new atom at ask alone forced ends step =
-    let o = going atom ask at in
-    let (q, own, finds) = step in
-    let same : q ≡ o = open-is-one old 0 q o own alone.own in
-    let has = locks-forced ask forced in
-    let goes : Goes old new 0 old.entries (Some (failing o)) true = rw same at (settled-goes old new o q (failing q) true same has finds.goes) in (
-      one-event seals old new (settles 0) broken [] (ready-settles old atom at ask alone forced ends) step (λ plain. unanswered-settle old o broken alone.own has)
-          (λ plain. sym (append-nil (plain 0))) goes.map goes.keys goes.lane_is.count,
-      failed-event old new o true alone goes,
-    )
+    (let (q, own, finds) = step in settle-failed seals old new atom at ask broken q true alone forced ends step own finds.goes)
