@@ -1,20 +1,22 @@
 ghost use Rattle.std.specs.Prelude.{Some};
 
+mod blocks;
 mod messages;
 mod options;
 
+use self::blocks::Blocks;
 use self::messages::{
     AGREED, BLOCK, BLOCK_SIZES, DISCONNECT, EXPORT_NAME, FLAGGED_DISCONNECT, FLAGGED_READ,
     FLAGGED_WRITE, FLAGS, FLUSH, FLUSH_WANTS_MEMORY, FLUSHED, FORCED_READ, FORCED_WRITE, GO,
-    GREETING, HAS_READ, LONG_READ, NO_SPACE, OTHER_MAGIC, PLAIN_FLUSH, Part, READ, READ_BEHIND,
-    READ_FAR, READ_INVALID, READ_OF_9216, READ_OF_NOTHING, READ_WANTS_MEMORY, SIZE, TOLD,
-    TOO_LONG_WRITE, TRIM, UNALIGNED_READ, UNKNOWN_TYPE, WRITE, WRITE_BEHIND, WRITE_INVALID,
+    GREETING, HAS_READ, LONG_READ, NO_SPACE, NOTHING, OTHER_MAGIC, PLAIN_FLUSH, Part, READ,
+    READ_BEHIND, READ_FAR, READ_INVALID, READ_OF_2048, READ_OF_9216, READ_OF_NOTHING,
+    READ_WANTS_MEMORY, SIZE, TOLD, TOO_LONG_WRITE, TRIM, UNALIGNED_READ, UNKNOWN_TYPE, WRITE,
+    WRITE_BEHIND, WRITE_INVALID, WRITE_OF_1024, WRITE_OF_2048, WRITE_OF_NOTHING,
     WRITE_WANTS_MEMORY, WRITE_ZEROES, WRITTEN, bytes_of,
 };
-use crate::{Ending, Export, Port, SessionEnd, Submitted, serve_session};
-use base_terms::{Bytes, Failed};
+use crate::{Ending, Export, SessionEnd, serve_session};
+use base_terms::Failed;
 use io_edge::{ListSink, ListSource, Sink};
-use plain_disk::{Op, Reply, wrong};
 use std::alloc::{AllocError, Global};
 use std::test::Fail;
 
@@ -38,67 +40,6 @@ const SERVER: &[Part] = &[
     BLOCK,
     FLUSHED,
 ];
-
-/// The first block of a small disk, which is written, read and flushed as long as there is memory
-/// and operations are left.
-#[derive(Drop)]
-struct Block {
-    bytes: [u8; 512],
-    has_memory: bool,
-    operations: u32,
-    forced: bool,
-}
-
-impl Block {
-    fn new() -> Block {
-        Block {
-            bytes: [0; 512],
-            has_memory: true,
-            operations: 99,
-            forced: false,
-        }
-    }
-}
-
-impl Port for Block {
-    ghost did = { λ _ _ _. Unit {0} };
-
-    fn submit(&mut self, alloc: Global, op: Op) -> Result<Submitted, AllocError> {
-        if !self.has_memory {
-            return Err(AllocError);
-        }
-        if self.operations == 0 {
-            return Ok(Submitted::Spent);
-        }
-        self.operations -= 1;
-        // reads of up to 9216 bytes are answered, to show what goes out
-        if let Some(number) = wrong(&op, 512, 8192) {
-            if !matches!(op, Op::Read { length: 9216, .. }) {
-                return Ok(Submitted::Replied(Reply::Errno(number)));
-            }
-        }
-        let reply = match op {
-            Op::Read { length, .. } => {
-                let mut content = vec![in alloc; 0u8; length as usize]?;
-                let n = content.len().min(512);
-                content[..n].copy_from_slice(&self.bytes[..n]);
-                Reply::Content(Bytes::new(content))
-            }
-            Op::Write { body, fua, .. } => {
-                let n = body.len().min(512);
-                self.bytes[..n].copy_from_slice(&body.as_slice()[..n]);
-                self.forced = fua;
-                Reply::Done
-            }
-            Op::Flush => Reply::Done,
-        };
-        Ok(Submitted::Replied(reply))
-    }
-
-    ghost did_none = { λ _. tt };
-
-    ghost did_more = { λ _ _ _ _ _ _ _. tt };
-}
 
 /// A sink that knows how often it was put to, and how often, and how much, was let out.
 #[derive(Drop)]
@@ -154,7 +95,7 @@ fn is_served(
     others: &[Part],
     ending: Ending,
     wanted: &[Part],
-    port: &mut Block,
+    port: &mut Blocks,
 ) -> Result<bool, AllocError> {
     let mut sent = bytes_of(alloc, taken)?;
     let wanted = bytes_of(alloc, wanted)?;
@@ -175,13 +116,13 @@ fn each_request_is_answered_however_the_bytes_come(rt: HostRuntime) -> Result<()
         assert!(rt; piece > 0);
         let mut source = ListSource::new(rt.alloc(), &sent, piece, &[])?;
         let mut sink = Door::new(rt.alloc(), 664)?;
-        let mut port = Block::new();
+        let mut port = Blocks::new();
         let ended = serve_session(rt.alloc(), &mut source, &mut sink, &mut port, &EXPORT);
         assert_eq!(rt; ended, end(Ending::Disconnected, 650, 664), "{piece}");
         assert_eq!(rt; sink.inner.as_slice(), wanted.as_slice(), "{piece}");
         assert_eq!(rt; (sink.times, sink.out), (5, 664), "each message is let out");
         assert_eq!(rt; sink.puts, 6, "a read's data is a piece of its own");
-        assert_eq!(rt; port.bytes, [0xa5; 512], "{piece}");
+        assert_eq!(rt; &port.bytes[..512], [0xa5; 512].as_slice(), "{piece}");
     }
     Ok(())
 }
@@ -191,7 +132,7 @@ fn much_data_goes_out_behind_its_head(rt: HostRuntime) -> Result<(), Fail> {
     let sent = bytes_of(rt.alloc(), &[FLAGS, GO, READ_OF_9216, DISCONNECT])?;
     let mut source = ListSource::new(rt.alloc(), &sent, 4096, &[])?;
     let mut sink = Door::new(rt.alloc(), 20000)?;
-    let mut port = Block::new();
+    let mut port = Blocks::new();
     let ended = serve_session(rt.alloc(), &mut source, &mut sink, &mut port, &EXPORT);
     assert_eq!(rt; ended, end(Ending::Disconnected, 82, 104 + 16 + 9216));
     assert_eq!(rt; (sink.puts, sink.times), (4, 3));
@@ -226,7 +167,7 @@ fn a_session_cut_short_ends_within_its_message(rt: HostRuntime) -> Result<(), Fa
         sent.truncate(length);
         let mut source = ListSource::new(rt.alloc(), &sent, 50, &[])?;
         let mut sink = ListSink::new(rt.alloc(), 664, &[])?;
-        let mut port = Block::new();
+        let mut port = Blocks::new();
         let ended = serve_session(rt.alloc(), &mut source, &mut sink, &mut port, &EXPORT);
         assert_eq!(rt; ended, end(ending, length, put), "{length}");
         assert_eq!(rt; Some(sink.as_slice()), wanted.get(..put), "{length}");
@@ -256,11 +197,11 @@ fn a_request_is_refused_and_the_next_one_served(rt: HostRuntime) -> Result<(), F
         }
         sent.extend_from_slice(&[FLUSH, FLAGGED_DISCONNECT])?;
         let wanted = [GREETING, TOLD, reply, FLUSHED];
-        let mut port = Block::new();
+        let mut port = Blocks::new();
         let ending = Ending::Disconnected;
         let served = is_served(rt.alloc(), &sent, &[WRITE], ending, &wanted, &mut port)?;
         assert!(rt; served, "{:?}", request.0);
-        assert_eq!(rt; port.bytes, [0; 512]);
+        assert_eq!(rt; port.bytes, [0; 2048]);
     }
     for (request, ending) in [
         (TOO_LONG_WRITE, Ending::TooLong(33_554_433)),
@@ -268,10 +209,55 @@ fn a_request_is_refused_and_the_next_one_served(rt: HostRuntime) -> Result<(), F
     ] {
         let sent = [FLAGS, EXPORT_NAME, request];
         let wanted = [GREETING, TOLD];
-        let mut port = Block::new();
+        let mut port = Blocks::new();
         let served = is_served(rt.alloc(), &sent, &[BLOCK], ending, &wanted, &mut port)?;
         assert!(rt; served, "{ending:?}");
     }
+    Ok(())
+}
+
+#[test]
+fn a_used_buffer_takes_each_body_as_it_is(rt: HostRuntime) -> Result<(), Fail> {
+    let sent = [
+        FLAGS,
+        EXPORT_NAME,
+        WRITE_OF_1024,
+        (b"a", 1024),
+        READ_OF_2048,
+        WRITE,
+        (b"b", 512),
+        READ_OF_2048,
+        WRITE_OF_2048,
+        (b"c", 2048),
+        READ_OF_2048,
+        WRITE_OF_NOTHING,
+        READ_OF_2048,
+        WRITE,
+        (b"d", 512),
+        READ_OF_2048,
+        DISCONNECT,
+    ];
+    let contents: [[Part; 3]; 5] = [
+        [(b"a", 1024), (b"\0", 1024), NOTHING],
+        [(b"b", 512), (b"a", 512), (b"\0", 1024)],
+        [(b"c", 2048), NOTHING, NOTHING],
+        [(b"c", 2048), NOTHING, NOTHING],
+        [(b"d", 512), (b"c", 1536), NOTHING],
+    ];
+    let mut wanted = Vec::new(rt.alloc());
+    wanted.extend_from_slice(&[GREETING, TOLD])?;
+    for content in contents {
+        wanted.extend_from_slice(&[WRITTEN, HAS_READ])?;
+        wanted.extend_from_slice(&content)?;
+    }
+    let mut port = Blocks::new();
+    let ending = Ending::Disconnected;
+    assert!(rt; is_served(rt.alloc(), &sent, &[], ending, &wanted, &mut port)?);
+    assert_eq!(rt;
+        port.capacity,
+        2048,
+        "the last body came into a used buffer"
+    );
     Ok(())
 }
 
@@ -280,7 +266,7 @@ fn a_forced_write_is_submitted_so(rt: HostRuntime) -> Result<(), Fail> {
     for (write, forced) in [(WRITE, false), (FORCED_WRITE, true)] {
         let sent = [FLAGS, EXPORT_NAME, write, BLOCK, FORCED_READ];
         let wanted = [GREETING, TOLD, WRITTEN, HAS_READ, BLOCK];
-        let mut port = Block::new();
+        let mut port = Blocks::new();
         let served = is_served(rt.alloc(), &sent, &[], Ending::Closed, &wanted, &mut port)?;
         assert!(rt; served, "{forced}");
         assert_eq!(rt; port.forced, forced);
@@ -290,7 +276,7 @@ fn a_forced_write_is_submitted_so(rt: HostRuntime) -> Result<(), Fail> {
 
 #[test]
 fn a_request_without_memory_is_answered_so(rt: HostRuntime) -> Result<(), Fail> {
-    let mut port = Block::new();
+    let mut port = Blocks::new();
     port.has_memory = false;
     let wanted = [
         GREETING,
@@ -308,7 +294,7 @@ fn a_request_without_memory_is_answered_so(rt: HostRuntime) -> Result<(), Fail> 
 
 #[test]
 fn a_spent_port_ends_the_session(rt: HostRuntime) -> Result<(), Fail> {
-    let mut port = Block::new();
+    let mut port = Blocks::new();
     port.operations = 1;
     let sent = [FLAGS, GO, WRITE, BLOCK, READ];
     let wanted = [GREETING, SIZE, BLOCK_SIZES, AGREED, WRITTEN];
@@ -339,7 +325,7 @@ fn a_session_ends_by_a_fault(rt: HostRuntime) -> Result<(), Fail> {
     ] {
         let mut source = ListSource::new(rt.alloc(), &sent, 4096, &[take])?;
         let mut sink = ListSink::new(rt.alloc(), room, &[call])?;
-        let mut port = Block::new();
+        let mut port = Blocks::new();
         let ended = serve_session(rt.alloc(), &mut source, &mut sink, &mut port, &EXPORT);
         assert_eq!(rt;
             ended,

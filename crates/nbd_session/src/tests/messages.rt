@@ -63,6 +63,22 @@ pub const WRITE: Part = (
     1,
 );
 
+/// Writes of 1024, 2048 and no bytes.
+pub const WRITE_OF_1024: Part = (
+    b"\x25\x60\x95\x13\0\0\0\x01\0\0\0\0\0\0\0\x01\0\0\0\0\0\0\0\0\0\0\x04\0",
+    1,
+);
+
+pub const WRITE_OF_2048: Part = (
+    b"\x25\x60\x95\x13\0\0\0\x01\0\0\0\0\0\0\0\x01\0\0\0\0\0\0\0\0\0\0\x08\0",
+    1,
+);
+
+pub const WRITE_OF_NOTHING: Part = (
+    b"\x25\x60\x95\x13\0\0\0\x01\0\0\0\0\0\0\0\x01\0\0\0\0\0\0\0\0\0\0\0\0",
+    1,
+);
+
 /// A write with "force unit access".
 pub const FORCED_WRITE: Part = (
     b"\x25\x60\x95\x13\0\x01\0\x01\0\0\0\0\0\0\0\x01\0\0\0\0\0\0\0\0\0\0\x02\0",
@@ -134,6 +150,12 @@ pub const FLAGGED_READ: Part = (
     1,
 );
 
+/// A read of 2048 bytes.
+pub const READ_OF_2048: Part = (
+    b"\x25\x60\x95\x13\0\0\0\0\0\0\0\0\0\0\0\x02\0\0\0\0\0\0\0\0\0\0\x08\0",
+    1,
+);
+
 /// A read of 9216 bytes.
 pub const READ_OF_9216: Part = (
     b"\x25\x60\x95\x13\0\0\0\0\0\0\0\0\0\0\0\x02\0\0\0\0\0\0\0\0\0\0\x24\0",
@@ -184,6 +206,9 @@ pub const OTHER_MAGIC: Part = (
 );
 
 pub const BLOCK: Part = (b"\xa5", 512);
+
+/// No bytes.
+pub const NOTHING: Part = (b"", 1);
 
 pub const GREETING: Part = (b"NBDMAGICIHAVEOPT\0\x03", 1);
 

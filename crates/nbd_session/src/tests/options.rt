@@ -6,7 +6,7 @@ use super::messages::{
     OTHER_MAGIC_OPTION, Part, SIZE, START_TLS, START_TLS_UNSUPPORTED, STRUCTURED_REPLY,
     STRUCTURED_REPLY_UNSUPPORTED, TOLD, TOO_LONG_OPTION, UNKNOWN_FLAGS, ZEROES, bytes_of,
 };
-use super::{Block, EXPORT, end, is_served};
+use super::{Blocks, EXPORT, end, is_served};
 use crate::{Ending, serve_session};
 use io_edge::{ListSink, ListSource};
 use std::test::Fail;
@@ -49,7 +49,7 @@ fn an_export_is_chosen_by_its_name(rt: HostRuntime) -> Result<(), Fail> {
             &[GREETING, ABORTED],
         ),
     ] {
-        let served = is_served(rt.alloc(), sent, others, ending, wanted, &mut Block::new())?;
+        let served = is_served(rt.alloc(), sent, others, ending, wanted, &mut Blocks::new())?;
         assert!(rt; served, "{ending:?} of {} parts", sent.len());
     }
     Ok(())
@@ -74,7 +74,7 @@ fn an_option_is_refused_and_the_next_one_served(rt: HostRuntime) -> Result<(), F
         sent.extend_from_slice(name)?;
         sent.push(EXPORT_NAME)?;
         let wanted = [GREETING, reply, TOLD];
-        let mut port = Block::new();
+        let mut port = Blocks::new();
         let served = is_served(rt.alloc(), &sent, &[], Ending::Closed, &wanted, &mut port)?;
         assert!(rt; served, "{:?}", option.0);
     }
@@ -83,7 +83,7 @@ fn an_option_is_refused_and_the_next_one_served(rt: HostRuntime) -> Result<(), F
         (OTHER_MAGIC_OPTION, Ending::BadMagic(0x4948_4156_454f_5055)),
     ] {
         let sent = [FLAGS, option];
-        let mut port = Block::new();
+        let mut port = Blocks::new();
         let served = is_served(rt.alloc(), &sent, &[GO], ending, &[GREETING], &mut port)?;
         assert!(rt; served, "{ending:?}");
     }
@@ -99,7 +99,7 @@ fn a_session_has_its_most_options(rt: HostRuntime) -> Result<(), Fail> {
     sent.extend_from_slice(GO.0)?;
     let mut source = ListSource::new(rt.alloc(), &sent, 65536, &[])?;
     let mut sink = ListSink::new(rt.alloc(), 18 + 20 * 65536, &[])?;
-    let mut port = Block::new();
+    let mut port = Blocks::new();
     let ended = serve_session(rt.alloc(), &mut source, &mut sink, &mut port, &EXPORT);
     let wanted = end(Ending::TooMany(65536), 4 + 16 * 65536, 18 + 20 * 65536);
     assert_eq!(rt; ended, wanted);

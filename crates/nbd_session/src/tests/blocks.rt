@@ -1,0 +1,80 @@
+use crate::{Port, Submitted};
+use base_terms::Bytes;
+use plain_disk::{Op, Reply, wrong};
+use std::alloc::{AllocError, Global};
+
+/// The first four blocks of a small disk, which are written, read and flushed as long as there is
+/// memory and operations are left. The buffer of each body is overwritten and given back.
+#[derive(Drop)]
+pub struct Blocks {
+    pub bytes: [u8; 2048],
+    pub has_memory: bool,
+    pub operations: u32,
+    pub forced: bool,
+    /// How many bytes the buffer of the last body could hold.
+    pub capacity: usize,
+}
+
+impl Blocks {
+    pub fn new() -> Blocks {
+        Blocks {
+            bytes: [0; 2048],
+            has_memory: true,
+            operations: 99,
+            forced: false,
+            capacity: 0,
+        }
+    }
+
+    /// The buffer of a write's body, overwritten; an empty one of another operation.
+    fn used_buffer(&mut self, alloc: Global, op: Op) -> Bytes {
+        let Op::Write { body, .. } = op else {
+            return Bytes::new(Vec::new(alloc));
+        };
+        let mut buffer = body.into_vec();
+        self.capacity = buffer.capacity();
+        buffer.fill(0xee);
+        Bytes::new(buffer)
+    }
+}
+
+impl Port for Blocks {
+    ghost did = { λ _ _ _. Unit {0} };
+
+    fn submit(&mut self, alloc: Global, op: Op) -> Result<Submitted, AllocError> {
+        if !self.has_memory {
+            return Err(AllocError);
+        }
+        if self.operations == 0 {
+            return Ok(Submitted::Spent);
+        }
+        self.operations -= 1;
+        // reads of up to 9216 bytes are answered, to show what goes out
+        if let Some(number) = wrong(&op, 512, 8192) {
+            if !matches!(op, Op::Read { length: 9216, .. }) {
+                let buffer = self.used_buffer(alloc, op);
+                return Ok(Submitted::Replied(Reply::Errno(number), buffer));
+            }
+        }
+        let reply = match &op {
+            Op::Read { length, .. } => {
+                let mut content = vec![in alloc; 0u8; *length as usize]?;
+                let n = content.len().min(2048);
+                content[..n].copy_from_slice(&self.bytes[..n]);
+                Reply::Content(Bytes::new(content))
+            }
+            Op::Write { body, fua, .. } => {
+                let n = body.len().min(2048);
+                self.bytes[..n].copy_from_slice(&body.as_slice()[..n]);
+                self.forced = *fua;
+                Reply::Done
+            }
+            Op::Flush => Reply::Done,
+        };
+        Ok(Submitted::Replied(reply, self.used_buffer(alloc, op)))
+    }
+
+    ghost did_none = { λ _. tt };
+
+    ghost did_more = { λ _ _ _ _ _ _ _. tt };
+}
