@@ -11,6 +11,9 @@ use sector_disk::{Disk, RamDisk};
 use std::alloc::{AllocError, Global};
 use std::test::Fail;
 
+// How many blocks the disks have.
+const BLOCKS: u64 = 4;
+
 // The turns of each lane in an order. No plan has more events: an admit, a piece and a finish make a
 // read or a write, a settle is one more for a write that is to be kept for certain, and an admit and
 // a settle make a flush. A lane that waits asks again, and goes on in the same turn if it is held.
@@ -77,7 +80,8 @@ impl Lane {
         volume: &mut Volume<RamDisk, Context>,
         plain: &mut PlainDisk,
     ) -> Result<bool, AllocError> {
-        let Some((asked, byte)) = self.plan.get(self.ended).copied() else {
+        let ended = self.ended;
+        let Some((asked, byte)) = self.plan.get(ended).copied() else {
             return Ok(true);
         };
         if self.next == Event::Ask && ask(volume, self.number) == Answer::Held {
@@ -92,7 +96,7 @@ impl Lane {
             Answer::Done if event == Event::Piece => Event::Finish,
             Answer::Done if event == Event::Settle && asked != Ask::Flush => Event::Finish,
             Answer::Done | Answer::Refused(_) => {
-                self.ended += 1;
+                self.ended = ended + 1;
                 return Ok(self.stands(&plain.step(alloc, &op_of(alloc, asked, byte)?)?));
             }
             _ => return Ok(false),
@@ -172,8 +176,8 @@ fn op_of(alloc: Global, ask: Ask, byte: u8) -> Result<Op, AllocError> {
 // Whether two lanes that take their turns in this order, and then one after the other, have the
 // replies of one plain disk, end, and leave on the disk what the plain disk holds.
 fn is_served(alloc: Global, one: [Ask; 2], other: [Ask; 2], order: u32) -> Result<bool, Fail> {
-    let mut volume = volume_of(RamDisk::new(alloc, 512, 4)?, alloc, 3)?;
-    let mut plain = PlainDisk::new(alloc, 512, 4)?;
+    let mut volume = volume_of(RamDisk::new(alloc, 512, BLOCKS)?, alloc, 3)?;
+    let mut plain = PlainDisk::new(alloc, 512, BLOCKS)?;
     let mut first = Lane::new(0, one, [1, 2]);
     let mut second = Lane::new(1, other, [3, 4]);
     for turn in 0..6 * TURNS {
@@ -190,22 +194,23 @@ fn is_served(alloc: Global, one: [Ask; 2], other: [Ask; 2], order: u32) -> Resul
     if !first.is_done() || !second.is_done() {
         return Ok(false);
     }
-    holds_the_newest(volume.into_disk(), &plain)
-}
-
-// Whether the atoms of a disk are the newest values of a plain disk's blocks.
-fn holds_the_newest(mut disk: RamDisk, plain: &PlainDisk) -> Result<bool, Fail> {
-    let mut atom = [0u8; 512];
-    if disk.atom() != 512 || disk.atoms() != plain.blocks() {
-        return Ok(false);
-    }
-    for block in 0..plain.blocks() {
-        disk.read(block, &mut atom)?;
-        if atom.as_slice() != plain.newest(block) {
+    let mut disk = volume.into_disk();
+    for block in 0..BLOCKS {
+        if !holds_the_newest(&mut disk, &plain, block)? {
             return Ok(false);
         }
     }
     Ok(true)
+}
+
+// Whether an atom of the disk is the newest value of the plain disk's block.
+fn holds_the_newest(disk: &mut RamDisk, plain: &PlainDisk, block: u64) -> Result<bool, Fail> {
+    if disk.atom() != 512 || block >= disk.atoms() || block >= plain.blocks() {
+        return Ok(false);
+    }
+    let mut atom = [0u8; 512];
+    disk.read(block, &mut atom)?;
+    Ok(atom.as_slice() == plain.newest(block))
 }
 
 // How many orders are served where the first lane has this plan, and the second each of them. The
