@@ -6,8 +6,8 @@
 //! ending. The layer above may rely on one clause of `serve_session`: the bytes that were put are the
 //! answers to the bytes that were taken and the port's replies, however the bytes came in pieces, and
 //! the operations that the port was asked are those of the bytes, in order. By `reading_is_unique` the
-//! bytes leave no choice in what was asked and how the session ended. A session keeps the buffer of
-//! the last body, of at most 32 MiB, for the next.
+//! bytes leave no choice in what was asked and how the session ended. A session keeps one
+//! buffer, of at most 32 MiB, for the bodies and contents of its operations.
 #![tactic(auto)]
 
 mod ending;

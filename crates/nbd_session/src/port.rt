@@ -21,9 +21,10 @@ pub trait Port {
     /// From an old state to a new one these operations were submitted and answered, and no others.
     ghost did: { Self → Self → List Exchange → Type 0 };
 
-    /// Executes an operation and answers it. Where memory is wanted, or the port is spent, nothing
-    /// was done.
-    fn submit(&mut self, alloc: Global, op: Op) -> Result<Submitted, AllocError>
+    /// Executes an operation and answers it. The spare buffer is for its use, as for the content of a
+    /// read; what is in it isn't to be used. Where memory is wanted, or the port is spent, nothing was
+    /// done.
+    fn submit(&mut self, alloc: Global, op: Op, spare: Bytes) -> Result<Submitted, AllocError>
         ensures ok { IfOk result (λ submitted. (n : ℕ) × did self.old self.new (exchanges_by op n submitted)) }
         ensures err { OnErr result (did self.old self.new []) };
 

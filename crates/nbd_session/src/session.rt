@@ -15,6 +15,7 @@ use base_terms::Bytes;
 use io_edge::{Sink, Source};
 use plain_disk::Reply;
 use std::alloc::Global;
+use std::mem;
 
 /// The most requests that one session may have.
 const MAX_REQUESTS: u64 = 1 << 32;
@@ -27,8 +28,8 @@ const MAX_REQUESTS: u64 = 1 << 32;
 /// decides, and no more. It ends with `ReadFault` exactly where the source's count of faults rose, and
 /// with `WriteFault` exactly where the sink's did; then at most the last message, or a rear of it, is
 /// missing. With `TooMany` it ends exactly after the answer to the `65536`th option that goes on, or
-/// the reply to the `2^32`nd request. It keeps the buffer of the last body, of at most 32 MiB, for the
-/// next, as the port gives it back.
+/// the reply to the `2^32`nd request. It keeps one buffer, of at most 32 MiB, for the bodies of writes and
+/// the contents of reads, one after the other.
 pub fn serve_session<S: Source, K: Sink, P: Port>(
     alloc: Global,
     source: &mut S,
@@ -109,10 +110,12 @@ fn serve_request<S: Source, K: Sink, P: Port>(
         Next::Refuse { cookie, number } => {
             answer(sink, cookie, &Reply::Errno(number), &mut tally.put)
         }
-        Next::Ask { cookie, op } => match port.submit(alloc, op) {
+        Next::Ask { cookie, op } => match port.submit(alloc, op, taken_from(alloc, spare)) {
             Ok(Submitted::Replied(reply, buffer)) => {
+                let ending = answer(sink, cookie, &reply, &mut tally.put);
                 keep(spare, buffer);
-                answer(sink, cookie, &reply, &mut tally.put)
+                keep_content(spare, reply);
+                ending
             }
             Ok(Submitted::Spent) => Some(Ending::PortSpent),
             Err(_) => answer(sink, cookie, &Reply::Errno(NO_MEMORY), &mut tally.put),
@@ -120,14 +123,28 @@ fn serve_request<S: Source, K: Sink, P: Port>(
     }
 }
 
-/// Keeps the longer buffer: a port that answers a read has none to give back, and the one of the last
-/// body stays for the next.
+/// Takes the spare buffer, and leaves an empty one, which has no memory.
+fn taken_from(alloc: Global, spare: &mut Vec<u8>) -> Bytes
+    ensures { result ≡ spare.old.items }
+{
+    Bytes::new(mem::replace(spare, Vec::new(alloc)))
+}
+
+/// Keeps the longer buffer for the next operation.
 fn keep(spare: &mut Vec<u8>, buffer: Bytes)
     ensures as_long { length buffer ≤ length spare.new.items }
     ensures kept { length spare.old.items ≤ length spare.new.items }
 {
     if spare.len() < buffer.len() {
         *spare = buffer.into_vec();
+    }
+}
+
+/// Keeps the buffer of a read's content, once it was put.
+fn keep_content(spare: &mut Vec<u8>, reply: Reply) {
+    match reply {
+        Reply::Content(bytes) => keep(spare, bytes),
+        Reply::Done | Reply::Errno(_) => {}
     }
 }
 

@@ -1,6 +1,7 @@
 ghost use Rattle.std.specs.Prelude.{◌≡◌, ◌<◌, length};
 ghost use Rattle.volume_core.specs.Executing.{IsIdle};
 
+use base_terms::Bytes;
 use cipher_laws::SectorCipher;
 use nbd_session::{Port, Submitted};
 use plain_disk::Op;
@@ -27,8 +28,8 @@ impl<D: Disk, C: SectorCipher + Copy> Port for VolumePort<D, C> {
 
     ghost did_more = { λ first second third xs ys. did_joined C.sealed C.opened first.volume second.volume third.volume xs ys };
 
-    fn submit(&mut self, alloc: Global, op: Op) -> Result<Submitted, AllocError> {
-        match execute(alloc, &mut self.volume, op) {
+    fn submit(&mut self, alloc: Global, op: Op, spare: Bytes) -> Result<Submitted, AllocError> {
+        match execute(alloc, &mut self.volume, op, spare) {
             Ok((reply, buffer)) => Ok(Submitted::Replied(reply, buffer)),
             Err(refused) => Err(refused),
         }

@@ -27,12 +27,17 @@ use volume_core::{Ask, Settled, Volume};
 /// `fua` of some bytes, and a flush, end in a sync. The reply is error 5 exactly where one of these
 /// calls failed, and a failed write or sync breaks the volume.
 ///
-/// A read takes memory for its content, and an operation of more than one piece for its pieces, all
-/// before its admit and only where it isn't refused. Where there is none, nothing was done.
+/// The spare buffer is for the content of a read; what is in it isn't used. Where it isn't long enough a
+/// read takes memory for its content, and an operation of more than one piece takes memory for its
+/// pieces, all before its admit and only where it isn't refused. Where there is none, nothing was done.
+///
+/// With the reply comes a buffer for another use, where the volume still has one: that of a write's body,
+/// or the spare one. Else an empty one comes.
 pub fn execute<D: Disk, C: SectorCipher + Copy>(
     alloc: Global,
     volume: &mut Volume<D, C>,
     op: Op,
+    spare: Bytes,
 ) -> Result<(Reply, Bytes), AllocError>
     requires lanes { 1 < length volume.old.lanes }
     requires idle { IsIdle volume.old }
@@ -47,12 +52,9 @@ pub fn execute<D: Disk, C: SectorCipher + Copy>(
     ensures memory { OnErr result (IsReadyFor volume.old (ask_of op)) }
 {
     match op {
-        Op::Read { offset, length } => {
-            let reply = read(alloc, volume, offset, length)?;
-            Ok((reply, Bytes::new(Vec::new(alloc))))
-        }
+        Op::Read { offset, length } => read(alloc, volume, offset, length, spare),
         Op::Write { offset, body, fua } => write(alloc, volume, offset, body, fua),
-        Op::Flush => Ok((flush(volume), Bytes::new(Vec::new(alloc)))),
+        Op::Flush => Ok((flush(volume), spare)),
     }
 }
 

@@ -12,7 +12,7 @@ ghost use Rattle.volume_lane.specs.Lane.{GoesOn, HasAll, HasExecuted, HasFailed,
 ghost use Rattle.volume_lane.specs.Spares.{AreEnough};
 
 use crate::beginning::{DEVICE_ERROR, LANE, begin};
-use crate::spares::{fitting, only_piece, spares_for};
+use crate::spares::{emptied, fitting, only_piece, resized, spares_for};
 use base_terms::Bytes;
 use block_range::BlockRange;
 use cipher_laws::SectorCipher;
@@ -23,18 +23,20 @@ use std::alloc::{AllocError, Global};
 use std::collections::VecDeque;
 use volume_core::{Ask, Grant, PieceRead, Volume};
 
-/// Executes a read.
+/// Executes a read. Its content comes in the spare buffer where that is long enough; where the read is
+/// refused the spare buffer is given back, else an empty one.
 pub(crate) fn read<D: Disk, C: SectorCipher + Copy>(
     alloc: Global,
     volume: &mut Volume<D, C>,
     offset: u64,
     len: u32,
-) -> Result<Reply, AllocError>
+    spare: Bytes,
+) -> Result<(Reply, Bytes), AllocError>
     requires lanes { 1 < length volume.old.lanes }
     requires idle { IsIdle volume.old }
-    ensures executed { IfOk result (HasExecuted
+    ensures executed { IfOk result (λ done. HasExecuted
         (seals_of C.sealed C.opened volume.old.map.atom volume.old.keys)
-        volume.old volume.new (Ops.Read offset len)) }
+        volume.old volume.new (Ops.Read offset len) done.0) }
     ensures err { OnErr result (volume.new ≡ volume.old) }
     ensures memory { OnErr result (IsReadyFor volume.old (Asks.Read offset len)) }
 {
@@ -44,27 +46,30 @@ pub(crate) fn read<D: Disk, C: SectorCipher + Copy>(
     };
     let blocks = match volume.judge(ask) {
         Ok(blocks) => blocks,
-        Err(number) => return Ok(Reply::Errno(number)),
+        Err(number) => return Ok((Reply::Errno(number), spare)),
     };
-    match read_blocks(alloc, volume, ask, blocks)? {
+    let content = read_blocks(alloc, volume, ask, blocks, spare)?;
+    let empty = Bytes::new(Vec::new(alloc));
+    match content {
         Some(bytes) => {
             volume.finish(LANE);
-            Ok(Reply::Content(bytes))
+            Ok((Reply::Content(bytes), empty))
         }
         None => {
             volume.finish(LANE);
-            Ok(Reply::Errno(DEVICE_ERROR))
+            Ok((Reply::Errno(DEVICE_ERROR), empty))
         }
     }
 }
 
-/// Begins a read of these blocks and reads their pieces, up to the first that fails. The buffer of an
-/// only piece is the content.
+/// Begins a read of these blocks and reads their pieces, up to the first that fails, into the spare
+/// buffer, which is made long enough. It is that of an only piece.
 fn read_blocks<D: Disk, C: SectorCipher + Copy>(
     alloc: Global,
     volume: &mut Volume<D, C>,
     ask: Ask,
     blocks: BlockRange,
+    spare: Bytes,
 ) -> Result<Option<Bytes>, AllocError>
     requires lanes { 1 < length volume.old.lanes }
     requires idle { IsIdle volume.old }
@@ -82,12 +87,12 @@ fn read_blocks<D: Disk, C: SectorCipher + Copy>(
     let map = volume.map();
     if let Some(piece) = only_piece(map, blocks) {
         let size = piece.count as usize * map.atom as usize;
-        let buffer = Bytes::new(vec![in alloc; 0u8; size]?);
+        let buffer = resized(spare, size)?;
         begin(volume, ask, blocks);
         return Ok(read_piece(volume, ask, piece, buffer));
     }
     let size = (blocks.end - blocks.start) as usize * map.atom as usize;
-    let content = Vec::with_capacity(alloc, size)?;
+    let content = emptied(spare, size)?;
     let spares = spares_for(alloc, map, blocks)?;
     let grant = begin(volume, ask, blocks);
     Ok(read_pieces(alloc, volume, ask, grant, content, spares))

@@ -1,6 +1,6 @@
 // Buffers for the pieces of an operation.
 
-ghost use Rattle.std.specs.Prelude.{◌≡◌, ◌+◌, ◌*◌, ◌<◌, ◌≤◌, length, drop, IfOk, OnErr, IfSome, IfNone, nat_lt, ◌∷◌, List, ℕ, if◌then◌else◌};
+ghost use Rattle.std.specs.Prelude.{◌≡◌, ◌+◌, ◌*◌, ◌<◌, ◌≤◌, [], length, drop, vec_capacity, IfOk, OnErr, IfSome, IfNone, nat_lt, ◌∷◌, List, ℕ, if◌then◌else◌};
 ghost use Rattle.segment_map.specs.Maps.{IsNextPiece};
 ghost use Rattle.volume_lane.specs.Spares.{AreEnough};
 
@@ -74,4 +74,25 @@ pub(crate) fn fitting(buffer: Bytes, spares: &mut VecDeque<Bytes>, size: usize) 
     let mut bytes = buffer.into_vec();
     bytes.truncate(size);
     Bytes::new(bytes)
+}
+
+/// The buffer made so long, in a block of memory that is no longer than it must be.
+pub(crate) fn resized(buffer: Bytes, size: usize) -> Result<Bytes, AllocError>
+    ensures { IfOk result (λ bytes. length bytes ≡ size) }
+{
+    let mut bytes = buffer.into_vec();
+    bytes.reserve_exact(size.saturating_sub(bytes.len()))?;
+    bytes.resize(size, 0)?;
+    Ok(Bytes::new(bytes))
+}
+
+/// The buffer's memory with room for so many bytes, and none in it.
+pub(crate) fn emptied(buffer: Bytes, room: usize) -> Result<Vec<u8>, AllocError>
+    ensures none { IfOk result (λ bytes. bytes.items ≡ []) }
+    ensures room { IfOk result (λ bytes. room ≤ vec_capacity bytes) }
+{
+    let mut bytes = buffer.into_vec();
+    bytes.truncate(0);
+    bytes.reserve_exact(room)?;
+    Ok(bytes)
 }

@@ -9,6 +9,7 @@ use sector_cipher::{Context, Spec};
 use sector_disk::{Disk, MemDisk, RamDisk};
 use segment_map::{Direction, Map};
 use std::alloc::{AllocError, Global};
+use std::mem;
 use std::test::Fail;
 use volume_core::{Keys, Volume};
 
@@ -17,17 +18,20 @@ const MIB: usize = 1_048_576;
 /// How many random operations each volume executes.
 const TURNS: u32 = 120;
 
-/// A volume on which no operation is under way.
+/// A volume on which no operation is under way, and the buffer that came with the last reply.
 #[derive(Drop)]
 struct Idle<D: Disk> {
     volume: Volume<D, Context>,
+    spare: Bytes,
     ghost idle: { IsIdle volume },
     ghost lanes: { 1 < length volume.lanes },
 }
 
 impl<D: Disk> Idle<D> {
     fn execute(&mut self, alloc: Global, op: Op) -> Result<Reply, AllocError> {
-        let (reply, _buffer) = execute(alloc, &mut self.volume, op)?;
+        let spare = mem::replace(&mut self.spare, Bytes::new(Vec::new(alloc)));
+        let (reply, buffer) = execute(alloc, &mut self.volume, op, spare)?;
+        self.spare = buffer;
         Ok(reply)
     }
 }
@@ -35,7 +39,10 @@ impl<D: Disk> Idle<D> {
 /// A volume of a whole disk, in plain.
 fn plain<D: Disk + Drop>(alloc: Global, disk: D) -> Result<Idle<D>, AllocError> {
     match Volume::plain(alloc, disk, 2) {
-        Ok(volume) => Ok(Idle { volume }),
+        Ok(volume) => Ok(Idle {
+            volume,
+            spare: Bytes::new(Vec::new(alloc)),
+        }),
         Err(_) => Err(AllocError),
     }
 }
@@ -86,7 +93,10 @@ fn converted(alloc: Global, map: Map) -> Result<Idle<RamDisk>, Fail>
     };
     let disk = RamDisk::new(alloc, map.atom, map.blocks * 2)?;
     match Volume::of(alloc, disk, map, keys, 2) {
-        Ok(volume) => Ok(Idle { volume }),
+        Ok(volume) => Ok(Idle {
+            volume,
+            spare: Bytes::new(Vec::new(alloc)),
+        }),
         Err(_) => Err(AllocError)?,
     }
 }

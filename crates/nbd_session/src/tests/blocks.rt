@@ -41,7 +41,7 @@ impl Blocks {
 impl Port for Blocks {
     ghost did = { λ _ _ _. Unit {0} };
 
-    fn submit(&mut self, alloc: Global, op: Op) -> Result<Submitted, AllocError> {
+    fn submit(&mut self, alloc: Global, op: Op, spare: Bytes) -> Result<Submitted, AllocError> {
         if !self.has_memory {
             return Err(AllocError);
         }

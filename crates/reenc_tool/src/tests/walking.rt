@@ -235,7 +235,8 @@ fn holds(alloc: Global, disk: MemDisk, plain: &PlainDisk) -> Result<bool, Fail> 
     let length = plain.atom();
     for block in 0..plain.blocks() {
         let offset = block.wrapping_mul(u64::from(length));
-        let submitted = port.submit(alloc, Op::Read { offset, length })?;
+        let spare = Bytes::new(Vec::new(alloc));
+        let submitted = port.submit(alloc, Op::Read { offset, length }, spare)?;
         let Submitted::Replied(Reply::Content(bytes), _) = submitted else {
             return Ok(false);
         };

@@ -40,7 +40,7 @@ returns-in-Ok-Replied g c =
     let next = c.in-Ask.ensures in
     let did = c.in-Ok-Replied.ensures.ok in
     let turn : Turn = record { cookie = c.in-Ask.cookie; asked = Some c.in-Ask.op; reply = c.in-Ok-Replied.reply; tried = did.0; submitted = true } in
-    let served = serves-turn _ _ _ _ _ _ _ _ turn next.0 c.answer-in-Ok-Replied.result next.2.takes next.2.by_case.1 next.2.by_case.0 tt c.answer-in-Ok-Replied.ensures in (
+    let served = serves-turn _ _ _ _ _ _ _ _ turn next.0 c.answer-ending.result next.2.takes next.2.by_case.1 next.2.by_case.0 tt c.answer-ending.ensures in (
       turn ∷ [],
       next.0,
       served.0,
