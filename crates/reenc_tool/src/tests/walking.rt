@@ -237,7 +237,10 @@ fn holds(alloc: Global, disk: MemDisk, plain: &PlainDisk) -> Result<bool, Fail> 
         let offset = block.wrapping_mul(u64::from(length));
         let spare = Bytes::new(Vec::new(alloc));
         let submitted = port.submit(alloc, Op::Read { offset, length }, spare)?;
-        let Submitted::Replied(Reply::Content(bytes), _) = submitted else {
+        let Submitted::Replied(reply, _) = submitted else {
+            return Ok(false);
+        };
+        let Reply::Content(bytes) = reply else {
             return Ok(false);
         };
         if bytes.as_slice() != plain.newest(block) {
