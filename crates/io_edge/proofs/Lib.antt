@@ -1,3 +1,5 @@
 mod Rounds
 mod Given
-mod GatheringLemmas
+pub mod Rears
+mod ReadLemmas
+mod WriteLemmas

@@ -2,8 +2,8 @@ use Rattle.std.proofs.Common.{◌≡◌, ℕ, ◌+◌, ◌<◌, ◌%◌, List, l
 use Rattle.std.proofs.lemmas.Grind.{common_steps}
 use Rattle.std.proofs.Math.Nat.{mod-add-mod}
 use Rattle.io_edge.specs.FaultPlan.{Plan}
-use Rattle.io_edge.specs.Memory.{Seedlings, round_from, round_ahead}
-use Rattle.io_edge.specs.Streams.{Draws}
+use Rattle.io_edge.specs.Memory.{Seedlings, round_from, supply_of}
+use Rattle.io_edge.specs.Supply.{Draws}
 
 -- going round from the place after n bytes is going round n bytes further
 pub round_from-next : (bytes : List ℕ) (at n next k : ℕ) → next ≡ (at + n) % length bytes →
@@ -29,7 +29,7 @@ some_same a b e = cc
 pub draws-round : (old : Seedlings) (plan plan' : Plan) (bytes slice after : List ℕ) (at next : ℕ) →
     old ≡ record { bytes = bytes; at = at; plan = plan } → slice ≡ bytes → next ≡ (at + length after) % length slice →
     ((k : ℕ) → k < length after → slice_index after k ≡ round_from slice at k) →
-    Draws {T = Unit {0}} (round_ahead old) (round_ahead (record { bytes = bytes; at = next; plan = plan' })) after (Ok tt)
+    Draws {T = Unit {0}} (supply_of old) (supply_of (record { bytes = bytes; at = next; plan = plan' })) after (Ok tt)
 draws-round old plan plan' bytes slice after at next e same e' round =
     rw e (record {
       drawn = λ k byte inside is. round k inside ∙ (ap (λ b. round_from b at k) same ∙ some_same _ _ is);

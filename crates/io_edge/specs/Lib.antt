@@ -1,3 +1,7 @@
+pub mod Calls
 pub mod FaultPlan
+pub mod Faults
+pub mod Intake
 pub mod Memory
-pub mod Streams
+pub mod Outlet
+pub mod Supply

@@ -1,31 +1,50 @@
-ghost use Rattle.std.specs.Prelude.{◌≡◌, ◌++◌, ◌≤◌, [], drop, length, OnOk, vec_len, vec_capacity};
+ghost use Rattle.std.specs.Prelude.{◌≡◌, ◌++◌, ◌-◌, ◌≤◌, ℕ, List, [], Bool, drop, length, is_ok, IfOk, OnOk, Result, true, false, MatchBool, ◌⊎◌, vec_capacity};
 ghost use Rattle.std.specs.Io.{WritesAtMost};
-ghost use Rattle.std.specs.Io.KnownBytes.{Keeps, WriteAppends, append_known};
+ghost use Rattle.std.specs.declared.io.Error.{Error};
+ghost use Rattle.io_edge.specs.Calls.{WritesSome, WritesThrough, FlushesThrough};
+ghost use Rattle.io_edge.specs.Outlet.{HoldsBackRear, IsRear};
 
+use crate::OutputStream;
+use crate::calls::is_interrupted;
 use std::alloc::Global;
-use std::io::{self, ErrorKind, Write};
+use std::io::{self, ErrorKind};
 
-/// A writer that can be given two pieces at once, one behind the other.
-pub trait WritePair: Write {
+/// A stream of the system that can be given two pieces at once, one behind the other. What its calls do
+/// is a matter of the stream.
+pub trait WritePair: Drop {
+    /// What a write does: from the stream before it, by the two pieces together and the answer, to the
+    /// stream after it.
+    ghost writes: { Self → List ℕ → Result ℕ Error → Self → Type 0 };
+
+    /// What a flush does, by whether it was done.
+    ghost flushes: { Self → Bool → Self → Type 0 };
+
     /// Writes a front of the two pieces together, and says how many bytes. A call that fails writes
-    /// nothing.
+    /// nothing. It may be interrupted.
     fn write_pair(&mut self, first: &[u8], second: &[u8]) -> io::Result<usize>
         ensures bound { WritesAtMost result (first.now ++ second.now) }
-        ensures bytes { WriteAppends (Self.contents self.old) (Self.contents self.new) result (first.now ++ second.now) };
+        ensures writes { writes self.old (first.now ++ second.now) result self.new };
+
+    /// Lets what was written go out.
+    fn flush(&mut self) -> io::Result<()>
+        ensures { flushes self.old (is_ok result) self.new };
 }
 
-/// A writer that holds back short pieces until they are flushed or a longer one follows, and writes
+/// A stream that holds back short pieces until they are flushed or a longer one follows, and writes
 /// them together with that one. So the head of a reply and its data leave together: a short piece is
 /// copied, a long one is not. What is held back when it is dropped is written then.
-pub struct GatheringWriter<W: WritePair + Drop> {
+pub struct GatheringWriter<W: WritePair> {
     writer: W,
     held: Vec<u8>,
 }
 
-impl<W: WritePair + Drop> GatheringWriter<W> {
-    /// A writer that holds back at most `capacity` bytes, whose memory it takes now. Its one error is
-    /// `OutOfMemory`, which drops the writer.
-    pub fn new(alloc: Global, capacity: usize, writer: W) -> io::Result<GatheringWriter<W>> {
+impl<W: WritePair> GatheringWriter<W> {
+    /// A stream that holds back at most `capacity` bytes, whose memory it takes now, and nothing yet. Its
+    /// one error is `OutOfMemory`, which drops the writer.
+    pub fn new(alloc: Global, capacity: usize, writer: W) -> io::Result<GatheringWriter<W>>
+        ensures writer { IfOk result (λ g. g.writer ≡ writer) }
+        ensures holds_nothing { IfOk result (λ g. g.held.items ≡ []) }
+    {
         let held = Vec::with_capacity(alloc, capacity)?;
         Ok(GatheringWriter { writer, held })
     }
@@ -37,54 +56,54 @@ impl<W: WritePair + Drop> GatheringWriter<W> {
         &self.writer
     }
 
-    /// Writes a front of what is held back, and says how many bytes.
-    fn write_some_held(&mut self) -> io::Result<usize>
-        ensures bytes { Keeps (append_known (W.contents self.old.writer) self.old.held.items)
-            (append_known (W.contents self.new.writer) self.new.held.items) }
-    {
-        let n = self.writer.write(self.held.as_slice())?;
-        remove_front(&mut self.held, n);
-        Ok(n)
-    }
-
-    /// Writes all that is held back. What a failure leaves unwritten stays held.
-    fn write_held(&mut self) -> io::Result<()>
+    /// Writes what is held back and the bytes behind it, all of it or up to where the writer refuses.
+    fn write_through(&mut self, bytes: &[u8]) -> io::Result<()>
+        ensures through { WritesThrough W.writes self.old.writer self.old.held.items bytes.now
+            (is_ok result) self.new.writer self.new.held.items }
         ensures empty { OnOk result (self.new.held.items ≡ []) }
-        ensures bytes { Keeps (append_known (W.contents self.old.writer) self.old.held.items)
-            (append_known (W.contents self.new.writer) self.new.held.items) }
     {
+        let mut at = 0;
         for _ in 0..u64::MAX {
-            if self.held.is_empty() {
+            if self.held.is_empty() && at == bytes.len() {
                 return Ok(());
             }
-            match self.write_some_held() {
-                Ok(0) => return Err(io::Error::from(ErrorKind::WriteZero)),
-                Ok(_) => {}
-                Err(error) => {
-                    if error.kind() != ErrorKind::Interrupted {
-                        return Err(error);
-                    }
-                }
+            match self.write_some(&bytes[at..]) {
+                Ok(n) => at += n,
+                Err(error) => return Err(error),
             }
         }
         Err(io::Error::from(ErrorKind::Other))
     }
 
-    /// Writes what is held back and a front of the piece.
-    fn write_with_held(&mut self, buf: &[u8]) -> io::Result<usize>
-        ensures bound { WritesAtMost result buf.now }
-        ensures bytes { WriteAppends (append_known (W.contents self.old.writer) self.old.held.items)
-            (append_known (W.contents self.new.writer) self.new.held.items) result buf.now }
+    /// Writes a front of what is held back and of the piece behind it, and says how many bytes of the
+    /// piece; none where a signal interrupts the write.
+    fn write_some(&mut self, piece: &[u8]) -> io::Result<usize>
+        ensures within { IfOk result (λ n. n ≤ length piece.now) }
+        ensures some { WritesSome W.writes self.old.writer self.old.held.items piece.now result
+            self.new.writer self.new.held.items }
+    {
+        match self.writer.write_pair(self.held.as_slice(), piece) {
+            Ok(0) => Err(io::Error::from(ErrorKind::WriteZero)),
+            Ok(n) => Ok(self.leave(n)),
+            Err(error) => {
+                if error.kind() == ErrorKind::Interrupted {
+                    return Ok(0);
+                }
+                Err(error)
+            }
+        }
+    }
+
+    /// Drops the first `n` bytes of what is held back, which were written, and says how many more were.
+    fn leave(&mut self, n: usize) -> usize
+        ensures writer { self.new.writer ≡ self.old.writer }
+        ensures held { self.new.held.items ≡ drop n self.old.held.items }
+        ensures more { result ≡ n - length self.old.held.items }
     {
         let held = self.held.len();
-        let n = self.writer.write_pair(self.held.as_slice(), buf)?;
-        if n > held {
-            self.held.clear();
-            return Ok(n - held);
-        }
-        remove_front(&mut self.held, n);
-        self.write_held()?;
-        self.writer.write(buf)
+        let len = n.min(held);
+        remove_front(&mut self.held, len);
+        n - len
     }
 }
 
@@ -99,26 +118,34 @@ fn remove_front(bytes: &mut Vec<u8>, n: usize)
     bytes.truncate(len - n);
 }
 
-impl<W: WritePair + Drop> Write for GatheringWriter<W> {
-    ghost contents = { λ g. append_known (W.contents g.writer) g.held.items };
+impl<W: WritePair> OutputStream for GatheringWriter<W> {
+    ghost held = { λ g. g.held.items };
 
-    fn write(&mut self, buf: &[u8]) -> io::Result<usize> {
-        if buf.len() <= self.held.capacity() - self.held.len() {
-            self.held.extend_from_slice(buf)?;
-            return Ok(buf.len());
+    ghost writes = { λ old bytes done new. WritesThrough W.writes old.writer old.held.items bytes done new.writer new.held.items };
+
+    ghost flushes = { λ old done new. FlushesThrough W.writes W.flushes old.writer old.held.items done new.writer new.held.items };
+
+    fn write_all(&mut self, bytes: &[u8]) -> io::Result<()> {
+        if bytes.len() <= self.held.capacity() - self.held.len() {
+            let Ok(()) = self.held.extend_from_slice(bytes) else {
+                unreachable!()
+            };
+            return Ok(());
         }
-        self.write_with_held(buf)
+        self.write_through(bytes)
     }
 
     fn flush(&mut self) -> io::Result<()> {
-        self.write_held()?;
-        self.writer.flush()
+        match self.write_through(&[]) {
+            Ok(()) => self.writer.flush(),
+            Err(error) => Err(error),
+        }
     }
 }
 
-impl<W: WritePair + Drop> Drop for GatheringWriter<W> {
+impl<W: WritePair> Drop for GatheringWriter<W> {
     fn drop(mut self) {
-        let _ = self.write_held();
+        let _ = self.write_through(&[]);
         let GatheringWriter {
             writer: _writer,
             held: _,

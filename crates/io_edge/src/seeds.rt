@@ -1,8 +1,8 @@
-ghost use Rattle.std.specs.Prelude.{◌≡◌, ℕ, ◌+◌, ◌%◌, ◌<◌, ◌↔◌, List, length, slice_index, Option, Some, true, false, IfOk, OnErr, OnOk, IsErr, Contains};
+ghost use Rattle.std.specs.Prelude.{◌≡◌, ℕ, ◌+◌, ◌%◌, ◌<◌, ◌↔◌, length, slice_index, true, false, IfOk, OnErr, OnOk, IsErr, Contains};
 ghost use Rattle.base_terms.specs.Causes.{HasCause};
 ghost use Rattle.io_edge.specs.FaultPlan.{fresh_plan, next_plan};
-ghost use Rattle.io_edge.specs.Memory.{Seedlings, round_from, round_ahead};
-ghost use Rattle.io_edge.specs.Streams.{Draws};
+ghost use Rattle.io_edge.specs.Memory.{Seedlings, round_from, supply_of};
+ghost use Rattle.io_edge.specs.Supply.{Supply, Draws};
 
 use crate::FaultPlan;
 use base_terms::Failed;
@@ -11,17 +11,14 @@ use std::marker::Model;
 
 /// Where random bytes come from.
 pub trait Seeds {
-    /// The byte to come at a place, counted from 0, where it is told.
-    ghost ahead: { Self → ℕ → Option ℕ };
-
-    /// How many calls failed.
-    ghost faults: { Self → ℕ };
+    /// The bytes to come, where they are told, and how many calls failed.
+    ghost supply: { Self → Supply };
 
     /// Fills the buffer with the next bytes. A fill that fails draws nothing, and the buffer's
     /// content isn't to be used.
     fn fill(&mut self, buf: &mut [u8]) -> Result<(), Failed>
-        ensures told { Draws (ahead self.old) (ahead self.new) buf.new result }
-        ensures cause { HasCause (faults self.old) (faults self.new) result };
+        ensures told { Draws (supply self.old) (supply self.new) buf.new result }
+        ensures cause { HasCause (supply self.old).faults (supply self.new).faults result };
 }
 
 /// Bytes in memory, given in order again and again.
@@ -58,19 +55,19 @@ impl FixedSeeds {
 }
 
 impl Seeds for FixedSeeds {
-    ghost ahead = { round_ahead };
-
-    ghost faults = { λ s. s.plan.faults };
+    ghost supply = { supply_of };
 
     fn fill(&mut self, buf: &mut [u8]) -> Result<(), Failed>
-        ensures told { Draws (round_ahead self.old) (round_ahead self.new) buf.new result }
+        ensures told { Draws (supply_of self.old) (supply_of self.new) buf.new result }
         ensures cause { HasCause self.old.plan.faults self.new.plan.faults result }
         ensures exact { IsErr result ↔ Contains self.old.plan.fails self.old.plan.calls }
         ensures fills { OnOk result (self.new ≡ record self.old {
           at = (self.old.at + length buf.new) % length self.old.bytes;
           plan = next_plan self.old.plan false;
         }) }
-        ensures fails { OnErr result (self.new ≡ record self.old { plan = next_plan self.old.plan true }) }
+        ensures fails { OnErr result (self.new ≡ record self.old {
+          plan = next_plan self.old.plan true;
+        }) }
         ensures buffer { OnErr result (buf.new ≡ buf.old) }
     {
         if self.plan.is_failing(false) {

@@ -1,8 +1,8 @@
-ghost use Rattle.std.specs.Prelude.{◌≡◌, ℕ, ◌+◌, ◌≤◌, ◌<◌, ◌⊎◌, ◌↔◌, List, [], ◌++◌, length, Option, Some, None, true, false, IfOk, OnOk, OnErr, is_err, IsErr, IsOk, Contains, vec_capacity};
+ghost use Rattle.std.specs.Prelude.{◌≡◌, ◌+◌, ◌≤◌, ◌<◌, ◌⊎◌, ◌↔◌, [], ◌++◌, length, drop, None, true, false, IfOk, OnOk, OnErr, IsErr, IsOk, Contains, vec_capacity};
 ghost use Rattle.base_terms.specs.Causes.{HasCause};
 ghost use Rattle.io_edge.specs.FaultPlan.{fresh_plan, next_plan};
-ghost use Rattle.io_edge.specs.Memory.{Output};
-ghost use Rattle.io_edge.specs.Streams.{Puts};
+ghost use Rattle.io_edge.specs.Memory.{Output, outlet_of};
+ghost use Rattle.io_edge.specs.Outlet.{Outlet, PutsPiece, HoldsBackRear, IsRear};
 
 use crate::FaultPlan;
 use base_terms::Failed;
@@ -11,27 +11,31 @@ use std::marker::Model;
 
 /// Where bytes go to.
 pub trait Sink: Drop {
-    /// All bytes that it was given, where they are told.
-    ghost had: { Self → Option (List ℕ) };
+    /// What it was put, where that is told, what of it was not let out yet, and how many calls failed.
+    ghost outlet: { Self → Outlet };
 
-    /// How many calls failed.
-    ghost faults: { Self → ℕ };
-
-    /// Puts all bytes, or fails; after a failure a front of them may have gone out.
+    /// Puts all bytes, or fails; after a failure a front of them may have been put. What was put may be
+    /// held back until it is pushed out.
     fn put(&mut self, bytes: &[u8]) -> Result<(), Failed>
-        ensures told { Puts (had self.old) (had self.new) bytes.now result }
-        ensures cause { HasCause (faults self.old) (faults self.new) result };
+        ensures told { PutsPiece (outlet self.old) (outlet self.new) bytes.now result }
+        ensures holds { HoldsBackRear (outlet self.old).held_back (outlet self.new).held_back
+            bytes.now result }
+        ensures cause { HasCause (outlet self.old).faults (outlet self.new).faults result };
 
-    /// Lets all bytes that were put go out.
+    /// Lets all bytes out that were put, so that nothing is held back, or fails.
     fn push_out(&mut self) -> Result<(), Failed>
-        ensures told { had self.new ≡ had self.old }
-        ensures cause { HasCause (faults self.old) (faults self.new) result };
+        ensures told { (outlet self.new).had ≡ (outlet self.old).had }
+        ensures out { OnOk result ((outlet self.new).held_back ≡ []) }
+        ensures holds { IsRear (outlet self.new).held_back (outlet self.old).held_back }
+        ensures cause { HasCause (outlet self.old).faults (outlet self.new).faults result };
 }
 
-/// A text in memory, which has room for so many bytes.
+/// A text in memory, which has room for so many bytes. What it is put it holds back until it is pushed
+/// out.
 #[derive(Debug, Drop)]
 pub struct ListSink {
     bytes: Vec<u8>,
+    out: usize,
     room: usize,
     plan: FaultPlan,
 }
@@ -39,9 +43,15 @@ pub struct ListSink {
 impl Model for ListSink {
     ghost Value = { Output };
 
-    ghost view = { λ s. record { had = s.bytes.items; room = s.room; plan = s.plan } };
+    ghost view = { λ s. record {
+      had = s.bytes.items;
+      held_back = drop s.out s.bytes.items;
+      room = s.room;
+      plan = s.plan;
+    } };
 
-    ghost invariant = { λ s. (length s.bytes.items ≤ s.room) × (s.room ≤ vec_capacity s.bytes) };
+    ghost invariant = { λ s. (s.out ≤ length s.bytes.items) × (length s.bytes.items ≤ s.room)
+        × (s.room ≤ vec_capacity s.bytes) };
 }
 
 impl ListSink {
@@ -49,40 +59,52 @@ impl ListSink {
     /// numbers in `fails`, counted from 0, fail.
     pub fn new(alloc: Global, room: usize, fails: &[u64]) -> Result<ListSink, AllocError>
         ensures had { IfOk result (λ s. s.had ≡ []) }
+        ensures held_back { IfOk result (λ s. s.held_back ≡ []) }
         ensures room { IfOk result (λ s. s.room ≡ room) }
         ensures plan { IfOk result (λ s. s.plan ≡ fresh_plan fails.now) }
     {
         Ok(ListSink {
             bytes: Vec::with_capacity(alloc, room)?,
+            out: 0,
             room,
             plan: FaultPlan::new(Vec::from_slice(alloc, fails)?),
         })
     }
 
-    /// What it was given.
+    /// What it was put.
     pub fn as_slice(&self) -> &[u8]
         ensures { result.now ≡ self.now.had }
     {
         self.bytes.as_slice()
     }
+
+    /// What it was put and still holds back.
+    pub fn held_back(&self) -> &[u8]
+        ensures { result.now ≡ self.now.held_back }
+    {
+        &self.bytes[self.out..]
+    }
 }
 
 impl Sink for ListSink {
-    ghost had = { λ s. Some s.had };
-
-    ghost faults = { λ s. s.plan.faults };
+    ghost outlet = { outlet_of };
 
     fn put(&mut self, bytes: &[u8]) -> Result<(), Failed>
-        ensures told { Puts (Some self.old.had) (Some self.new.had) bytes.now result }
+        ensures told { PutsPiece (outlet_of self.old) (outlet_of self.new) bytes.now result }
+        ensures holds { HoldsBackRear self.old.held_back self.new.held_back bytes.now result }
         ensures cause { HasCause self.old.plan.faults self.new.plan.faults result }
-        ensures exact { IsErr result ↔ ((self.old.room < length self.old.had + length bytes.now)
+        ensures exact { IsErr result
+            ↔ ((self.old.room < length self.old.had + length bytes.now)
             ⊎ Contains self.old.plan.fails self.old.plan.calls) }
         ensures room { self.new.room ≡ self.old.room }
         ensures puts { OnOk result (self.new ≡ record self.old {
           had = self.old.had ++ bytes.now;
+          held_back = self.old.held_back ++ bytes.now;
           plan = next_plan self.old.plan false;
         }) }
-        ensures fails { OnErr result (self.new ≡ record self.old { plan = next_plan self.old.plan true }) }
+        ensures fails { OnErr result (self.new ≡ record self.old {
+          plan = next_plan self.old.plan true;
+        }) }
     {
         let is_full = self.room - self.bytes.len() < bytes.len();
         if self.plan.is_failing(is_full) {
@@ -95,36 +117,46 @@ impl Sink for ListSink {
     }
 
     fn push_out(&mut self) -> Result<(), Failed>
-        ensures told { Some self.new.had ≡ Some self.old.had }
+        ensures told { (outlet_of self.new).had ≡ (outlet_of self.old).had }
+        ensures out { OnOk result (self.new.held_back ≡ []) }
+        ensures holds { IsRear self.new.held_back self.old.held_back }
         ensures cause { HasCause self.old.plan.faults self.new.plan.faults result }
         ensures exact { IsErr result ↔ Contains self.old.plan.fails self.old.plan.calls }
         ensures room { self.new.room ≡ self.old.room }
-        ensures counts { self.new ≡ record self.old { plan = next_plan self.old.plan (is_err result) } }
+        ensures pushes { OnOk result (self.new ≡ record self.old {
+          held_back = [];
+          plan = next_plan self.old.plan false;
+        }) }
+        ensures fails { OnErr result (self.new ≡ record self.old {
+          plan = next_plan self.old.plan true;
+        }) }
     {
         if self.plan.is_failing(false) {
             return Err(Failed);
         }
+        self.out = self.bytes.len();
         Ok(())
     }
 }
 
-/// A sink that drops what it gets. It never fails and tells nothing.
+/// A sink that drops what it gets. It never fails, holds nothing back and tells nothing.
 #[derive(Clone, Copy, Debug)]
 pub struct VoidSink;
 
 impl Sink for VoidSink {
-    ghost had = { λ _. None };
+    ghost outlet = { λ _. record { had = None; held_back = []; faults = 0 } };
 
-    ghost faults = { λ _. 0 };
-
-    fn put(&mut self, _bytes: &[u8]) -> Result<(), Failed>
+    #[tactic(auto, using(crate::proofs::Rears::holds_nothing))]
+    fn put(&mut self, bytes: &[u8]) -> Result<(), Failed>
         ensures never { IsOk result }
+        ensures holds { HoldsBackRear [] [] bytes.now result }
     {
         Ok(())
     }
 
     fn push_out(&mut self) -> Result<(), Failed>
         ensures never { IsOk result }
+        ensures holds { IsRear [] [] }
     {
         Ok(())
     }

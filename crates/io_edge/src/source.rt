@@ -1,8 +1,8 @@
-ghost use Rattle.std.specs.Prelude.{◌≡◌, ℕ, ◌≤◌, ◌<◌, ◌↔◌, List, [], length, take, drop, min, Option, Some, true, false, IfOk, OnOk, OnErr, IsErr, Contains};
+ghost use Rattle.std.specs.Prelude.{◌≡◌, ◌≤◌, ◌<◌, ◌↔◌, [], length, take, drop, min, true, false, IfOk, OnOk, OnErr, IsErr, Contains};
 ghost use Rattle.base_terms.specs.Causes.{HasCause};
 ghost use Rattle.io_edge.specs.FaultPlan.{fresh_plan, next_plan};
-ghost use Rattle.io_edge.specs.Memory.{Input};
-ghost use Rattle.io_edge.specs.Streams.{Takes, GaveMore};
+ghost use Rattle.io_edge.specs.Intake.{Intake, TakesLeft, GaveMore};
+ghost use Rattle.io_edge.specs.Memory.{Input, intake_of};
 
 use crate::FaultPlan;
 use base_terms::Failed;
@@ -11,22 +11,16 @@ use std::marker::Model;
 
 /// Where bytes come from.
 pub trait Source: Drop {
-    /// All bytes that it gave, where they are told.
-    ghost given: { Self → Option (List ℕ) };
-
-    /// What is left of the input, where it is told.
-    ghost left: { Self → Option (List ℕ) };
-
-    /// How many calls failed.
-    ghost faults: { Self → ℕ };
+    /// What it gave and has left, where these are told, and how many calls failed.
+    ghost intake: { Self → Intake };
 
     /// Takes some bytes to the front of the buffer and says how many; 0 for a buffer that isn't
     /// empty only at the end of the input. A take that fails takes nothing.
     fn take(&mut self, buf: &mut [u8]) -> Result<usize, Failed>
         ensures within { IfOk result (λ n. n ≤ length buf.old) }
-        ensures told { Takes (left self.old) (left self.new) buf.old buf.new result }
-        ensures given { GaveMore (given self.old) (given self.new) buf.new result }
-        ensures cause { HasCause (faults self.old) (faults self.new) result };
+        ensures told { TakesLeft (intake self.old) (intake self.new) buf.old buf.new result }
+        ensures given { GaveMore (intake self.old) (intake self.new) buf.new result }
+        ensures cause { HasCause (intake self.old).faults (intake self.new).faults result };
 }
 
 /// A text in memory, given in pieces.
@@ -41,7 +35,12 @@ pub struct ListSource {
 impl Model for ListSource {
     ghost Value = { Input };
 
-    ghost view = { λ s. record { given = take s.at s.bytes.items; left = drop s.at s.bytes.items; piece = s.piece; plan = s.plan } };
+    ghost view = { λ s. record {
+      given = take s.at s.bytes.items;
+      left = drop s.at s.bytes.items;
+      piece = s.piece;
+      plan = s.plan;
+    } };
 
     ghost invariant = { λ s. (s.at ≤ length s.bytes.items) × (0 < s.piece) };
 }
@@ -71,23 +70,22 @@ impl ListSource {
 }
 
 impl Source for ListSource {
-    ghost given = { λ s. Some s.given };
-
-    ghost left = { λ s. Some s.left };
-
-    ghost faults = { λ s. s.plan.faults };
+    ghost intake = { intake_of };
 
     fn take(&mut self, buf: &mut [u8]) -> Result<usize, Failed>
         ensures within { IfOk result (λ n. n ≤ length buf.old) }
-        ensures told { Takes (Some self.old.left) (Some self.new.left) buf.old buf.new result }
-        ensures given { GaveMore (Some self.old.given) (Some self.new.given) buf.new result }
+        ensures told { TakesLeft (intake_of self.old) (intake_of self.new) buf.old buf.new result }
+        ensures given { GaveMore (intake_of self.old) (intake_of self.new) buf.new result }
         ensures cause { HasCause self.old.plan.faults self.new.plan.faults result }
         ensures exact { IsErr result ↔ Contains self.old.plan.fails self.old.plan.calls }
-        ensures most { IfOk result (λ n. n ≡ min self.old.piece (min (length self.old.left) (length buf.old))) }
+        ensures most { IfOk result
+            (λ n. n ≡ min self.old.piece (min (length self.old.left) (length buf.old))) }
         ensures piece { self.new.piece ≡ self.old.piece }
         ensures gives { IfOk result (λ n. self.new.left ≡ drop n self.old.left) }
         ensures counts { OnOk result (self.new.plan ≡ next_plan self.old.plan false) }
-        ensures fails { OnErr result (self.new ≡ record self.old { plan = next_plan self.old.plan true }) }
+        ensures fails { OnErr result (self.new ≡ record self.old {
+          plan = next_plan self.old.plan true;
+        }) }
         ensures buffer { OnErr result (buf.new ≡ buf.old) }
     {
         if self.plan.is_failing(false) {

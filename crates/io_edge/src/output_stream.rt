@@ -1,0 +1,78 @@
+ghost use Rattle.std.specs.Prelude.{◌≡◌, ℕ, List, [], Bool, None, is_ok, IsErr, OnOk};
+ghost use Rattle.base_terms.specs.Causes.{HasCause};
+ghost use Rattle.io_edge.specs.Faults.{Counts};
+ghost use Rattle.io_edge.specs.Outlet.{HoldsBackRear, IsRear};
+
+use crate::{Counted, Sink, answered};
+use base_terms::Failed;
+use std::io::{self, Stdout, Write};
+
+/// A stream of the system that bytes are written to. What its calls do is a matter of the stream.
+pub trait OutputStream: Drop {
+    /// What was written to it and has not gone out to the system.
+    ghost held: { Self → List ℕ };
+
+    /// What a write does: from the stream before it, by the bytes and whether it was done, to the
+    /// stream after it.
+    ghost writes: { Self → List ℕ → Bool → Self → Type 0 };
+
+    /// What a flush does, by whether it was done.
+    ghost flushes: { Self → Bool → Self → Type 0 };
+
+    /// Writes all bytes, or fails; after a failure a front of them may have been written. The last of
+    /// what was written may be held back until it is flushed.
+    fn write_all(&mut self, bytes: &[u8]) -> io::Result<()>
+        ensures holds { HoldsBackRear (held self.old) (held self.new) bytes.now result }
+        ensures writes { writes self.old bytes.now (is_ok result) self.new };
+
+    /// Writes what is held back, and lets it go out.
+    fn flush(&mut self) -> io::Result<()>
+        ensures out { OnOk result (held self.new ≡ []) }
+        ensures holds { IsRear (held self.new) (held self.old) }
+        ensures flushes { flushes self.old (is_ok result) self.new };
+}
+
+/// Standard output, whose writes go out at once.
+impl OutputStream for Stdout {
+    ghost held = { λ _. [] };
+
+    ghost writes = { λ _ _ _ _. Unit {0} };
+
+    ghost flushes = { λ _ _ _. Unit {0} };
+
+    #[tactic(auto, using(crate::proofs::Rears::holds_nothing))]
+    fn write_all(&mut self, bytes: &[u8]) -> io::Result<()> {
+        Write::write_all(self, bytes)
+    }
+
+    fn flush(&mut self) -> io::Result<()> {
+        Write::flush(self)
+    }
+}
+
+/// A sink over a stream of the system, as standard output or a socket. It tells nothing of content, but
+/// what the stream holds back. It fails exactly where the stream does.
+pub type StdSink<W> = Counted<W>;
+
+impl<W: OutputStream> Sink for Counted<W> {
+    ghost outlet = { λ s. record { had = None; held_back = W.held s.inner; faults = s.faults } };
+
+    fn put(&mut self, bytes: &[u8]) -> Result<(), Failed>
+        ensures holds { HoldsBackRear (W.held self.old.inner) (W.held self.new.inner) bytes.now result }
+        ensures cause { HasCause self.old.faults self.new.faults result }
+        ensures counts { Counts self.old.faults self.new.faults result }
+        ensures writes { W.writes self.old.inner bytes.now (is_ok result) self.new.inner }
+    {
+        answered(self.inner.write_all(bytes), &mut self.faults)
+    }
+
+    fn push_out(&mut self) -> Result<(), Failed>
+        ensures out { OnOk result (W.held self.new.inner ≡ []) }
+        ensures holds { IsRear (W.held self.new.inner) (W.held self.old.inner) }
+        ensures cause { HasCause self.old.faults self.new.faults result }
+        ensures counts { Counts self.old.faults self.new.faults result }
+        ensures flushes { W.flushes self.old.inner (is_ok result) self.new.inner }
+    {
+        answered(self.inner.flush(), &mut self.faults)
+    }
+}
