@@ -13,7 +13,7 @@ use crate::state::{
     add_round_key, inverse_mix_columns, inverse_shift_rows, inverse_sub_bytes, mix_columns,
     shift_rows, sub_bytes,
 };
-use cipher_laws::BlockCipher;
+use cipher_laws::{BlockCipher, EightBlocks};
 use std::simd::prelude::*;
 use thiserror::Error;
 
@@ -53,6 +53,26 @@ impl Aes {
     }
 }
 
+impl Aes {
+    // One of eight blocks, sealed.
+    fn sealed_vector(&self, vector: u8x16) -> u8x16
+        ensures { result ≡ ⟦<Aes as BlockCipher>⟧.sealed self.now vector }
+    {
+        let mut block = vector.to_array();
+        self.seal(&mut block);
+        u8x16::from_array(block)
+    }
+
+    // One of eight blocks, unsealed.
+    fn opened_vector(&self, vector: u8x16) -> u8x16
+        ensures { result ≡ ⟦<Aes as BlockCipher>⟧.opened self.now vector }
+    {
+        let mut block = vector.to_array();
+        self.unseal(&mut block);
+        u8x16::from_array(block)
+    }
+}
+
 impl BlockCipher for Aes {
     ghost sealed = { λ a block. cipher a.rounds (key_at a.round_keys) block };
 
@@ -79,6 +99,32 @@ impl BlockCipher for Aes {
         }
         let first = inverse_sub_bytes(inverse_shift_rows(state));
         *block = add_round_key(first, self.round_keys[0].bytes).to_array();
+    }
+
+    fn seal_eight(&self, blocks: &mut EightBlocks) {
+        *blocks = EightBlocks {
+            b0: self.sealed_vector(blocks.b0),
+            b1: self.sealed_vector(blocks.b1),
+            b2: self.sealed_vector(blocks.b2),
+            b3: self.sealed_vector(blocks.b3),
+            b4: self.sealed_vector(blocks.b4),
+            b5: self.sealed_vector(blocks.b5),
+            b6: self.sealed_vector(blocks.b6),
+            b7: self.sealed_vector(blocks.b7),
+        };
+    }
+
+    fn unseal_eight(&self, blocks: &mut EightBlocks) {
+        *blocks = EightBlocks {
+            b0: self.opened_vector(blocks.b0),
+            b1: self.opened_vector(blocks.b1),
+            b2: self.opened_vector(blocks.b2),
+            b3: self.opened_vector(blocks.b3),
+            b4: self.opened_vector(blocks.b4),
+            b5: self.opened_vector(blocks.b5),
+            b6: self.opened_vector(blocks.b6),
+            b7: self.opened_vector(blocks.b7),
+        };
     }
 
     ghost sealed_block = { λ a. cipher_block a.rounds (key_at a.round_keys)

@@ -1,7 +1,10 @@
 // A cipher of blocks of 16 bytes, with its key.
 
-ghost use Rattle.std.specs.Prelude.{◌≡◌, ℕ, List};
+ghost use Rattle.std.specs.Prelude.{◌≡◌, ◌<◌, ℕ, List};
+ghost use Rattle.cipher_laws.specs.Eight.{block};
 ghost use Rattle.cipher_laws.specs.Laws.{KeepsBlocks, UndoesBlocks};
+
+use crate::EightBlocks;
 
 /// A block cipher with its key: a permutation of the blocks of 16 bytes, and its inverse.
 pub trait BlockCipher {
@@ -17,6 +20,14 @@ pub trait BlockCipher {
     /// Decrypts the block where it lies.
     fn unseal(&self, block: &mut [u8; 16])
         ensures { block.new ≡ opened self.now block.old };
+
+    /// Encrypts eight blocks where they lie, each as `seal` does.
+    fn seal_eight(&self, blocks: &mut EightBlocks)
+        ensures { (k : ℕ) → k < 8 → block k blocks.new ≡ sealed self.now (block k blocks.old) };
+
+    /// Decrypts eight blocks where they lie, each as `unseal` does.
+    fn unseal_eight(&self, blocks: &mut EightBlocks)
+        ensures { (k : ℕ) → k < 8 → block k blocks.new ≡ opened self.now (block k blocks.old) };
 
     ghost sealed_block: { (c : Self) → KeepsBlocks (sealed c) };
 

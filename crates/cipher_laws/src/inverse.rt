@@ -1,6 +1,6 @@
 // A cipher turned round.
 
-use crate::{BlockCipher, SectorMode};
+use crate::{BlockCipher, EightBlocks, SectorMode};
 
 /// The inverse of a cipher: what seals for the one unseals for the other. A mode or a loop that
 /// works alike in both directions is written once, and called with the cipher or its inverse.
@@ -18,6 +18,14 @@ impl<C: BlockCipher> BlockCipher for Inverse<'_, C> {
 
     fn unseal(&self, block: &mut [u8; 16]) {
         self.0.seal(block);
+    }
+
+    fn seal_eight(&self, blocks: &mut EightBlocks) {
+        self.0.unseal_eight(blocks);
+    }
+
+    fn unseal_eight(&self, blocks: &mut EightBlocks) {
+        self.0.seal_eight(blocks);
     }
 
     ghost sealed_block = { λ it. C.opened_block it.0.now };

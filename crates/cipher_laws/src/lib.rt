@@ -9,11 +9,13 @@
 #![tactic(auto)]
 
 pub use block::BlockCipher;
+pub use eight_blocks::EightBlocks;
 pub use inverse::Inverse;
 pub use sector::SectorCipher;
 pub use sector_mode::SectorMode;
 
 mod block;
+mod eight_blocks;
 mod inverse;
 mod sector;
 mod sector_mode;
