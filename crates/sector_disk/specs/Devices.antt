@@ -1,5 +1,5 @@
 -- A disk as the layers above see it, and what one call does to it.
-use Rattle.std.specs.Prelude.{ℕ, ◌≡◌, ◌+◌, ◌-◌, ◌^◌, ◌≤◌, ◌⊎◌, List, length, Option, Some, Result, IsSome, option_map}
+use Rattle.std.specs.Prelude.{ℕ, ◌≡◌, ◌⊎◌, List, Option, Some, None, Result, IsSome, option_map}
 use Rattle.base_terms.specs.declared.failed.Failed.{Failed}
 use Rattle.base_terms.specs.Causes.{HasCause}
 use Rattle.sector_disk.specs.Steps.{Told, remarked, TellsRead, TellsWrite, TellsSync}
@@ -14,11 +14,10 @@ pub record Device : Type 0 where
   pub told : Option Told
   pub faults : ℕ
 
--- A disk that told its tables before a call tells them after it too. A disk of two that counts its
--- calls may stop where its count is full: then it has told so many tables, or has failed so often.
+-- A disk that told its tables with marks before a call tells them after it too. Of one that keeps no
+-- marks, as two disks that are joined, its own clauses say how long it goes on.
 abbrev pub GoesOn : Device → Device → Type 0
-GoesOn old new = (before : Told) → old.told ≡ Some before →
-    IsSome new.told ⊎ (2 ^ 64 - 1 ≤ length before.past + 1 + new.faults)
+GoesOn old new = (before : Told) → old.told ≡ Some before → IsSome new.told ⊎ (before.mark ≡ None)
 
 -- After a mark no table is another. A disk that tells marks tells this one with each call from here on.
 abbrev pub marked : Device → ℕ → Device

@@ -86,6 +86,13 @@ impl MemDisk {
         self.stop = Some(k);
     }
 
+    /// How many device calls there were since the disk was made, those that failed among them.
+    pub fn calls(&self) -> u64
+        ensures { result ≡ (limits_of self.now).plan.calls }
+    {
+        self.plan.calls()
+    }
+
     /// The disk of one image, as it may be found after a stop: each atom holds the candidate that
     /// the choice takes, and that one alone. The room of its record is the same, unused; no call is
     /// to fail, and nothing is marked. Where there is no memory the disk is handed back.
