@@ -1,5 +1,6 @@
 pub mod Calls
 pub mod Cells
+pub mod Devices
 pub mod EachCell
 pub mod Faults
 pub mod Geometry

@@ -1,6 +1,7 @@
 -- What callers see of the disk in memory that tells its tables.
 use Rattle.std.specs.Prelude.{ℕ, ◌/◌, List, length, Some}
 use Rattle.sector_disk.specs.Calls.{table, tables}
+use Rattle.sector_disk.specs.Devices.{Device}
 use Rattle.sector_disk.specs.Faults.{Limits}
 use Rattle.sector_disk.specs.Steps.{Told}
 use Rattle.sector_disk.specs.declared.mem_disk.MemDisk.{MemDisk}
@@ -32,3 +33,13 @@ told_of disk = record {
 -- what decides whether its device calls fail
 abbrev pub limits_of : MemDisk → Limits
 limits_of disk = record { plan = disk.plan; stop = disk.stop; room = disk.calls.room; used = disk.calls.used }
+
+-- what the disk shows
+abbrev pub device_of : MemDisk → Device
+device_of disk = record {
+  size = disk.atom;
+  atoms = disk.atoms;
+  values = Some disk.bytes.items;
+  told = Some (told_of disk);
+  faults = disk.plan.faults;
+}

@@ -68,9 +68,3 @@ abbrev pub TellsSync : {T : Type 0} → Option Told → Option Told → Result T
 TellsSync old new result =
     MatchResult result (λ _. Moves (λ cells next. next ≡ map synced cells) old new)
     (λ _. MovesOrNot IsThinned old new)
-
--- a mark changes no table
-abbrev pub Marks : Option Told → Option Told → ℕ → Type 0
-Marks old new number =
-    (now : Told) → new ≡ Some now →
-    (before : Told) × (old ≡ Some before) × (now ≡ record before { mark = remarked before.mark number })

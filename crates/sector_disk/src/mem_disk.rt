@@ -1,13 +1,12 @@
 ghost use Rattle.std.specs.Prelude.{◌≡◌, ◌≢◌, ◌*◌, ◌%◌, ◌^◌, ◌<◌, ◌↔◌, ℕ, [], length, replicate, slice_index, Some, IfOk, IfErr, OnErr, IsErr, IsTrue, is_ok, is_err};
 ghost use Rattle.base_terms.specs.Blocks.{blocks_of, joined, lengths, pasted};
-ghost use Rattle.base_terms.specs.Causes.{HasCause};
 ghost use Rattle.sector_disk.specs.Calls.{table, changed_by};
 ghost use Rattle.sector_disk.specs.Cells.{content, currents, sure, sures, IsImage};
+ghost use Rattle.sector_disk.specs.Devices.{ReadCall, WriteCall, SyncCall, marked};
 ghost use Rattle.sector_disk.specs.Faults.{Fails, IsFull, IsStopped, fresh_limits, is_free, next_limits, recorded};
 ghost use Rattle.sector_disk.specs.Geometry.{is_atom, IsDisk, IsInDisk};
 ghost use Rattle.sector_disk.specs.Images.{IsChoice, image_of};
-ghost use Rattle.sector_disk.specs.Steps.{fresh, then_table, then_tried, then_written, Marks, TellsRead, TellsSync, TellsWrite};
-ghost use Rattle.sector_disk.specs.Values.{Reads, Writes};
+ghost use Rattle.sector_disk.specs.Steps.{fresh, then_table, then_tried, then_written};
 
 use crate::call_record::{CallRecord, Kind};
 use crate::replay::{atoms_of_content, image_bytes};
@@ -192,18 +191,10 @@ impl MemDisk {
 
 impl Disk for MemDisk {
     ghost use Rattle.std.specs.Prelude.{Some};
-    ghost use Rattle.sector_disk.specs.Mem.{atom_of, atoms_of, atoms_in, bytes_of, told_of, limits_of};
+    ghost use Rattle.sector_disk.specs.Mem.{atom_of, atoms_of, atoms_in, bytes_of, told_of, limits_of, device_of};
     ghost use Rattle.sector_disk.specs.MemLaws.{mem_geometry, mem_whole, mem_bytes, mem_agrees, mem_even, mem_held};
 
-    ghost size = { atom_of };
-
-    ghost count = { atoms_of };
-
-    ghost values = { λ d. Some (bytes_of d) };
-
-    ghost told = { λ d. Some (told_of d) };
-
-    ghost faults = { λ d. d.plan.faults };
+    ghost device = { device_of };
 
     ghost geometry = { mem_geometry };
 
@@ -229,13 +220,8 @@ impl Disk for MemDisk {
     /// the stop, and where the record is full; then nothing changes but the counts.
     fn read(&mut self, at: u64, buf: &mut [u8]) -> Result<(), Failed>
         requires { IsInDisk (atom_of self.old) (atoms_of self.old) at (length buf.old) }
-        ensures size { atom_of self.new ≡ atom_of self.old }
-        ensures count { atoms_of self.new ≡ atoms_of self.old }
-        ensures content { Reads (atom_of self.old) at (Some (bytes_of self.old)) buf.new result }
-        ensures values { Some (bytes_of self.new) ≡ Some (bytes_of self.old) }
-        ensures told { TellsRead (Some (told_of self.old)) (Some (told_of self.new)) result }
-        ensures cause { HasCause (limits_of self.old).plan.faults
-            (limits_of self.new).plan.faults result }
+        ensures call { ReadCall (atom_of self.old) at buf.new
+            (device_of self.old) (device_of self.new) result }
         ensures exact { IsErr result ↔ Fails (limits_of self.old) 0 }
         ensures limits { limits_of self.new
             ≡ next_limits (limits_of self.old) (is_err result) (is_ok result) 0 }
@@ -257,14 +243,8 @@ impl Disk for MemDisk {
     /// else a write that fails makes each new value a candidate, and the old one stays current.
     fn write(&mut self, at: u64, bytes: &[u8]) -> Result<(), Failed>
         requires { IsInDisk (atom_of self.old) (atoms_of self.old) at (length bytes.now) }
-        ensures size { atom_of self.new ≡ atom_of self.old }
-        ensures count { atoms_of self.new ≡ atoms_of self.old }
-        ensures values { Writes (atom_of self.old) at bytes.now
-            (Some (bytes_of self.old)) (Some (bytes_of self.new)) result }
-        ensures told { TellsWrite (atom_of self.old) at bytes.now
-            (Some (told_of self.old)) (Some (told_of self.new)) result }
-        ensures cause { HasCause (limits_of self.old).plan.faults
-            (limits_of self.new).plan.faults result }
+        ensures call { WriteCall (atom_of self.old) at bytes.now
+            (device_of self.old) (device_of self.new) result }
         ensures exact { IsErr result ↔ Fails (limits_of self.old) (atoms_in self.old bytes.now) }
         ensures limits { limits_of self.new ≡ next_limits (limits_of self.old) (is_err result)
             (is_free (limits_of self.old) (atoms_in self.old bytes.now))
@@ -292,12 +272,7 @@ impl Disk for MemDisk {
     /// Fails exactly where the call's number is one of those that are to fail, where it comes after
     /// the stop, and where the record is full; then nothing changes but the counts.
     fn sync(&mut self) -> Result<(), Failed>
-        ensures size { atom_of self.new ≡ atom_of self.old }
-        ensures count { atoms_of self.new ≡ atoms_of self.old }
-        ensures values { Some (bytes_of self.new) ≡ Some (bytes_of self.old) }
-        ensures told { TellsSync (Some (told_of self.old)) (Some (told_of self.new)) result }
-        ensures cause { HasCause (limits_of self.old).plan.faults
-            (limits_of self.new).plan.faults result }
+        ensures call { SyncCall (device_of self.old) (device_of self.new) result }
         ensures exact { IsErr result ↔ Fails (limits_of self.old) 0 }
         ensures limits { limits_of self.new
             ≡ next_limits (limits_of self.old) (is_err result) (is_ok result) 0 }
@@ -312,12 +287,7 @@ impl Disk for MemDisk {
     }
 
     fn mark(&mut self, number: u64)
-        ensures size { atom_of self.new ≡ atom_of self.old }
-        ensures count { atoms_of self.new ≡ atoms_of self.old }
-        ensures values { Some (bytes_of self.new) ≡ Some (bytes_of self.old) }
-        ensures told { Marks (Some (told_of self.old)) (Some (told_of self.new)) number }
-        ensures faults { (limits_of self.new).plan.faults ≡ (limits_of self.old).plan.faults }
-        ensures marked { told_of self.new ≡ record (told_of self.old) { mark = Some number } }
+        ensures marked { device_of self.new ≡ marked (device_of self.old) number }
         ensures limits { limits_of self.new ≡ limits_of self.old }
     {
         self.mark = number;

@@ -21,9 +21,9 @@ impl RamDisk {
     /// A disk of so many atoms of so many bytes, all zero.
     pub fn new(alloc: Global, atom: u32, atoms: u64) -> Result<RamDisk, AllocError>
         requires { IsDisk atom atoms }
-        ensures atom { IfOk result (λ disk. ⟦<RamDisk as Disk>⟧.size disk ≡ atom) }
-        ensures atoms { IfOk result (λ disk. ⟦<RamDisk as Disk>⟧.count disk ≡ atoms) }
-        ensures zeros { IfOk result (λ disk. ⟦<RamDisk as Disk>⟧.values disk
+        ensures atom { IfOk result (λ disk. (⟦<RamDisk as Disk>⟧.device disk).size ≡ atom) }
+        ensures atoms { IfOk result (λ disk. (⟦<RamDisk as Disk>⟧.device disk).atoms ≡ atoms) }
+        ensures zeros { IfOk result (λ disk. (⟦<RamDisk as Disk>⟧.device disk).values
             ≡ Some (replicate (atoms * atom) 0)) }
     {
         let len = atoms as usize * atom as usize;
@@ -37,15 +37,13 @@ impl Disk for RamDisk {
     ghost use Rattle.std.specs.Prelude.{Some, None};
     ghost use Rattle.sector_disk.specs.RamLaws.{ram_geometry, ram_whole, ram_bytes};
 
-    ghost size = { λ d. d.atom };
-
-    ghost count = { λ d. d.atoms };
-
-    ghost values = { λ d. Some d.bytes.items };
-
-    ghost told = { λ _. None };
-
-    ghost faults = { λ _. 0 };
+    ghost device = { λ d. record {
+      size = d.atom;
+      atoms = d.atoms;
+      values = Some d.bytes.items;
+      told = None;
+      faults = 0;
+    } };
 
     ghost geometry = { ram_geometry };
 

@@ -1,19 +1,11 @@
 -- A volume between two events.
 use Rattle.std.specs.Prelude.{ℕ, ◌≡◌, ◌≢◌, ◌*◌, Bool, false, List, length, Option, None, slice_index_or}
 use Rattle.range_lock.specs.declared.Entry.{Entry}
-use Rattle.sector_disk.specs.Steps.{Told}
+pub use Rattle.sector_disk.specs.Devices.{Device}
 use Rattle.segment_map.specs.declared.map.Map.{Map}
 use Rattle.volume_core.specs.Asks.{range_of}
 use Rattle.volume_core.specs.declared.ask.Ask.{Ask}
 use Rattle.volume_core.specs.declared.open.Open.{Open}
-
--- its disk: how many atoms it has; its current bytes and its tables, where they are told; and its
--- count of faults
-pub record Device : Type 0 where
-  pub atoms : ℕ
-  pub values : Option (List ℕ)
-  pub told : Option Told
-  pub faults : ℕ
 
 -- the map of its blocks, the keys of its sides, the table of locks and its room, the open operation
 -- of each lane, whether a write or a sync has failed, and its disk, whose atoms are the map's

@@ -3,7 +3,6 @@ use Rattle.std.specs.Prelude.{ℕ, ◌≡◌, ◌<◌, Bool, false, List, [], re
 use Rattle.base_terms.specs.Blocks.{blocks_of}
 use Rattle.plain_disk.specs.Plain.{Block, settled_blocks}
 use Rattle.range_lock.specs.Locks.{Locks}
-use Rattle.sector_disk.specs.Steps.{Told}
 use Rattle.segment_map.specs.declared.map.Map.{Map}
 use Rattle.segment_map.specs.declared.Side.TheVariants.{New}
 use Rattle.volume_core.specs.Pieces.{side_in, place_in}
@@ -12,15 +11,6 @@ use Rattle.volume_core.specs.Sound.{IsSound}
 use Rattle.volume_core.specs.States.{State, Device}
 use Rattle.volume_core.specs.declared.keys.Keys.{Keys}
 use Rattle.volume_core.specs.declared.open.Open.{Open}
-
--- a disk, by what it tells of itself
-abbrev pub device_of : {D : Type 0} → (D → ℕ) → (D → Option (List ℕ)) → (D → Option Told) → (D → ℕ) → D → Device
-device_of count values told faults disk = record {
-  atoms = count disk;
-  values = values disk;
-  told = told disk;
-  faults = faults disk;
-}
 
 abbrev pub state_of : {K : Type 0} → Map → K → Locks → List (Option Open) → Bool → Device → State K
 state_of map keys table lanes broken disk = record {

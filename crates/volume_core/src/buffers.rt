@@ -5,7 +5,6 @@ ghost use Rattle.cipher_laws.specs.Bytes.{AreBytes};
 ghost use Rattle.sector_disk.specs.Geometry.{IsInDisk};
 ghost use Rattle.volume_core.specs.Devices.{ReadCall};
 ghost use Rattle.volume_core.specs.Steps.{succeeded, failed_call};
-ghost use Rattle.volume_core.specs.Volumes.{device_of};
 
 use base_terms::{Bytes, Failed};
 use sector_disk::Disk;
@@ -20,14 +19,11 @@ pub(crate) fn bytes_of(vec: Vec<u8>) -> Bytes
 
 /// Reads whole atoms from atom `at` on, and gives the buffer back.
 pub(crate) fn read_into<D: Disk>(disk: &mut D, at: u64, bytes: Bytes) -> Result<Bytes, Bytes>
-    requires { IsInDisk (D.size disk.old) (D.count disk.old) at (length bytes) }
-    ensures size { D.size disk.new ≡ D.size disk.old }
-    ensures read { IfOk result (λ buffer. ReadCall (D.size disk.old) at buffer
-        (device_of D.count D.values D.told D.faults disk.old)
-        (device_of D.count D.values D.told D.faults disk.new) succeeded) }
-    ensures missed { IfErr result (λ buffer. ReadCall (D.size disk.old) at buffer
-        (device_of D.count D.values D.told D.faults disk.old)
-        (device_of D.count D.values D.told D.faults disk.new) failed_call) }
+    requires { IsInDisk (D.device disk.old).size (D.device disk.old).atoms at (length bytes) }
+    ensures read { IfOk result (λ buffer. ReadCall (D.device disk.old).size at buffer
+        (D.device disk.old) (D.device disk.new) succeeded) }
+    ensures missed { IfErr result (λ buffer. ReadCall (D.device disk.old).size at buffer
+        (D.device disk.old) (D.device disk.new) failed_call) }
     ensures length { IfOk result (λ buffer. length buffer ≡ length bytes) }
     ensures missed_length { IfErr result (λ buffer. length buffer ≡ length bytes) }
     ensures bytes { IfOk result AreBytes }

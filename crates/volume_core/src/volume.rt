@@ -9,7 +9,7 @@ ghost use Rattle.volume_core.specs.Sealing.{ChangeNothing};
 ghost use Rattle.volume_core.specs.Seals.{KeysFit, seals_of};
 ghost use Rattle.volume_core.specs.Sound.{AreApart, IsSound, MapFits};
 ghost use Rattle.volume_core.specs.Steps.{IsReadyFor, Step, Meets};
-ghost use Rattle.volume_core.specs.Volumes.{IsWholeDisk, device_of, new_volume};
+ghost use Rattle.volume_core.specs.Volumes.{IsWholeDisk, new_volume};
 
 use crate::answers::{Admitted, Asked, Grant, PieceRead, PieceWritten, Progress, Settled};
 use crate::buffers::read_into;
@@ -48,15 +48,15 @@ pub struct Volume<D: Disk, C: SectorCipher + Copy> {
 
 impl<D: Disk, C: SectorCipher + Copy> Model for Volume<D, C> {
     ghost use Rattle.volume_core.specs.States.{State};
-    ghost use Rattle.volume_core.specs.Volumes.{IsVolume, device_of, state_of};
+    ghost use Rattle.volume_core.specs.Volumes.{IsVolume, state_of};
     ghost use Rattle.volume_core.specs.declared.keys.Keys.{Keys};
 
     ghost Value = { State (Keys C) };
 
-    ghost view = { λ v. state_of v.map v.keys v.table v.lanes.items v.broken (device_of D.count D.values D.told D.faults v.disk) };
+    ghost view = { λ v. state_of v.map v.keys v.table v.lanes.items v.broken (D.device v.disk) };
 
-    ghost invariant = { λ v. IsVolume C.sector (D.size v.disk)
-        (state_of v.map v.keys v.table v.lanes.items v.broken (device_of D.count D.values D.told D.faults v.disk)) };
+    ghost invariant = { λ v. IsVolume C.sector (D.device v.disk).size
+        (state_of v.map v.keys v.table v.lanes.items v.broken (D.device v.disk)) };
 }
 
 impl<D: Disk> Volume<D, Context> {
@@ -65,7 +65,7 @@ impl<D: Disk> Volume<D, Context> {
     pub fn plain(alloc: Global, disk: D, lanes: u32) -> Result<Volume<D, Context>, D>
         requires { 0 < lanes }
         ensures map { IfOk result (λ volume.
-            IsWholeDisk (D.size disk) (D.count disk) volume.map) }
+            IsWholeDisk (D.device disk).size (D.device disk).atoms volume.map) }
         ensures apart { IfOk result (λ volume. AreApart volume.map) }
         ensures keys { IfOk result (λ volume. ChangeNothing
             (seals_of ⟦<Context as SectorCipher>⟧.sealed ⟦<Context as SectorCipher>⟧.opened
@@ -73,8 +73,7 @@ impl<D: Disk> Volume<D, Context> {
         ensures fresh { IfOk result IsFresh }
         ensures sound { IfOk result IsSound }
         ensures lanes { IfOk result (λ volume. volume.lanes ≡ replicate lanes None) }
-        ensures disk { IfOk result (λ volume. volume.disk
-            ≡ device_of D.count D.values D.told D.faults disk) }
+        ensures disk { IfOk result (λ volume. volume.disk ≡ D.device disk) }
         ensures refused { IfErr result (λ same. same ≡ disk) }
     {
         let blocks = disk.atoms();
@@ -111,11 +110,11 @@ impl<D: Disk, C: SectorCipher + Copy> Volume<D, C> {
         lanes: u32,
     ) -> Result<Volume<D, C>, D>
         requires lanes { 0 < lanes }
-        requires atom { map.atom ≡ D.size disk }
-        requires map { MapFits map (D.count disk) }
+        requires atom { map.atom ≡ (D.device disk).size }
+        requires map { MapFits map (D.device disk).atoms }
         requires keys { KeysFit C.sector keys map.atom map.blocks }
         ensures volume { IfOk result (λ volume. volume ≡ new_volume map keys lanes
-            (device_of D.count D.values D.told D.faults disk)) }
+            (D.device disk)) }
         ensures fresh { IfOk result IsFresh }
         ensures sound { IfOk result IsSound }
         ensures refused { IfErr result (λ same. same ≡ disk) }
@@ -189,11 +188,8 @@ impl<D: Disk, C: SectorCipher + Copy> Volume<D, C> {
 
     /// The disk.
     pub fn into_disk(self) -> D
-        ensures size { D.size result ≡ self.map.atom }
-        ensures count { D.count result ≡ self.disk.atoms }
-        ensures values { D.values result ≡ self.disk.values }
-        ensures told { D.told result ≡ self.disk.told }
-        ensures faults { D.faults result ≡ self.disk.faults }
+        ensures size { (D.device result).size ≡ self.map.atom }
+        ensures disk { D.device result ≡ self.disk }
     {
         let Volume { disk, .. } = self;
         disk

@@ -47,7 +47,7 @@ invariant_of-self-in-Ok g c =
     (c.in-Ok.ensures.length ∙ read-size _ c.args.lane c.args.bytes c.open_of-open.result c.next_piece-piece.result (rw (← c.self.view_is) at c.requires.fits) is next)
     c.in-Ok.ensures.bytes c.in-Ok.ensures.read c.moved.ensures
     (record { map = refl; keys = refl; room = refl; entries_are = refl; lane_is = c.set_lane-in-Ok.ensures; broken_is = c.if-self.false }))
-    c.in-Ok.ensures.size refl refl
+    c.in-Ok.ensures.read.size refl refl
 
 pub returns-in-Ok-clause-step : goal.returns-in-Ok-clause-step
 returns-in-Ok-clause-step g c =
@@ -67,7 +67,7 @@ invariant_of-self-in-Err g c =
     (read-missed _ _ c.args.lane c.place-place.result _ c.in-Err.bytes c.open_of-open.result _ c.next_piece-piece.result is c.if-self.false next
     c.place-place.ensures c.self.invariant.atom c.in-Err.ensures.missed c.failing-in-Err.ensures
     (record { map = refl; keys = refl; room = refl; entries_are = refl; lane_is = c.set_lane-in-Err.ensures; broken_is = c.if-self.false }))
-    c.in-Err.ensures.size refl refl
+    c.in-Err.ensures.missed.size refl refl
 
 pub returns-in-Err-clause-step : goal.returns-in-Err-clause-step
 returns-in-Err-clause-step g c =

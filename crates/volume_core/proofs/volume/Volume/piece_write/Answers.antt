@@ -57,10 +57,10 @@ invariant_of-self-in-Ok g c =
     volume-kept g.C.SectorCipher.sector _ _ _ _ (writes c.args.lane c.args.prepared) done c.self.invariant meets
     (write-done _ _ c.args.lane c.place-place.result _ c.args.prepared c.open_of-open.result _ c.next_piece-piece.result is c.if-self.false next
     c.place-place.ensures c.self.invariant.atom (write-bytes _ c.args.lane c.args.prepared c.open_of-open.result c.next_piece-piece.result meets is next)
-    (record { atoms = c.in-Ok.ensures.count; values = rw bytes at c.in-Ok.ensures.values; told = rw bytes at c.in-Ok.ensures.told; cause = c.in-Ok.ensures.cause })
+    (rw bytes at c.in-Ok.ensures.call)
     c.moved.ensures
     (record { map = refl; keys = refl; room = refl; entries_are = refl; lane_is = c.set_lane-in-Ok.ensures; broken_is = c.if-self.false }))
-    c.in-Ok.ensures.size refl refl
+    c.in-Ok.ensures.call.size refl refl
 
 pub returns-in-Ok-clause-step : goal.returns-in-Ok-clause-step
 returns-in-Ok-clause-step g c =
@@ -70,7 +70,7 @@ returns-in-Ok-clause-step g c =
     let bytes = c.as_slice.ensures ∙ c.into_bytes-bytes.ensures in
     rw (← c.self.view_is) (write-done _ _ c.args.lane c.place-place.result _ c.args.prepared c.open_of-open.result _ c.next_piece-piece.result is c.if-self.false next
     c.place-place.ensures c.self.invariant.atom (write-bytes _ c.args.lane c.args.prepared c.open_of-open.result c.next_piece-piece.result meets is next)
-    (record { atoms = c.in-Ok.ensures.count; values = rw bytes at c.in-Ok.ensures.values; told = rw bytes at c.in-Ok.ensures.told; cause = c.in-Ok.ensures.cause })
+    (rw bytes at c.in-Ok.ensures.call)
     c.moved.ensures
     (record { map = refl; keys = refl; room = refl; entries_are = refl; lane_is = c.set_lane-in-Ok.ensures; broken_is = c.if-self.false }))
 
@@ -83,10 +83,10 @@ invariant_of-self-in-Err g c =
     volume-kept g.C.SectorCipher.sector _ _ _ _ (writes c.args.lane c.args.prepared) device c.self.invariant meets
     (write-device _ _ c.args.lane c.place-place.result _ c.args.prepared c.open_of-open.result _ c.next_piece-piece.result is c.if-self.false next
     c.place-place.ensures c.self.invariant.atom (write-bytes _ c.args.lane c.args.prepared c.open_of-open.result c.next_piece-piece.result meets is next)
-    (record { atoms = c.in-Err.ensures.count; values = rw bytes at c.in-Err.ensures.values; told = rw bytes at c.in-Err.ensures.told; cause = c.in-Err.ensures.cause })
+    (rw bytes at c.in-Err.ensures.call)
     c.failing-in-Err.ensures
     (record { map = refl; keys = refl; room = refl; entries_are = refl; lane_is = c.set_lane-in-Err.ensures; broken_is = refl }))
-    c.in-Err.ensures.size refl refl
+    c.in-Err.ensures.call.size refl refl
 
 pub returns-in-Err-clause-step : goal.returns-in-Err-clause-step
 returns-in-Err-clause-step g c =
@@ -96,6 +96,6 @@ returns-in-Err-clause-step g c =
     let bytes = c.as_slice.ensures ∙ c.into_bytes-bytes.ensures in
     rw (← c.self.view_is) (write-device _ _ c.args.lane c.place-place.result _ c.args.prepared c.open_of-open.result _ c.next_piece-piece.result is c.if-self.false next
     c.place-place.ensures c.self.invariant.atom (write-bytes _ c.args.lane c.args.prepared c.open_of-open.result c.next_piece-piece.result meets is next)
-    (record { atoms = c.in-Err.ensures.count; values = rw bytes at c.in-Err.ensures.values; told = rw bytes at c.in-Err.ensures.told; cause = c.in-Err.ensures.cause })
+    (rw bytes at c.in-Err.ensures.call)
     c.failing-in-Err.ensures
     (record { map = refl; keys = refl; room = refl; entries_are = refl; lane_is = c.set_lane-in-Err.ensures; broken_is = refl }))

@@ -28,15 +28,15 @@ invariant_of-self-in-Ok g c =
     let is = rw c.deref.ensures.value at c.open_of-open.ensures in
     volume-kept g.C.SectorCipher.sector _ _ _ _ (settles c.args.lane) done c.self.invariant (rw (← c.self.view_is) at c.requires)
     (settle-done _ _ c.args.lane c.open_of-open.result _ _ is c.if-self.false c.settling.ensures c.after_settle-in-Ok.ensures
-    (record { atoms = c.in-Ok.ensures.count; values = c.in-Ok.ensures.values; told = c.in-Ok.ensures.told; cause = c.in-Ok.ensures.cause })
+    c.in-Ok.ensures.call
     (record { map = refl; keys = refl; room = refl; entries_are = refl; lane_is = c.set_lane-in-Ok.ensures; broken_is = c.if-self.false }))
-    c.in-Ok.ensures.size refl refl
+    c.in-Ok.ensures.call.size refl refl
 
 pub returns-in-Ok : goal.returns-in-Ok
 returns-in-Ok g c =
     let is = rw c.deref.ensures.value at c.open_of-open.ensures in
     rw (← c.self.view_is) (settle-done _ _ c.args.lane c.open_of-open.result _ _ is c.if-self.false c.settling.ensures c.after_settle-in-Ok.ensures
-    (record { atoms = c.in-Ok.ensures.count; values = c.in-Ok.ensures.values; told = c.in-Ok.ensures.told; cause = c.in-Ok.ensures.cause })
+    c.in-Ok.ensures.call
     (record { map = refl; keys = refl; room = refl; entries_are = refl; lane_is = c.set_lane-in-Ok.ensures; broken_is = c.if-self.false }))
 
 pub invariant_of-self-in-Err : goal.invariant_of-self-in-Err
@@ -44,13 +44,13 @@ invariant_of-self-in-Err g c =
     let is = rw c.deref.ensures.value at c.open_of-open.ensures in
     volume-kept g.C.SectorCipher.sector _ _ _ _ (settles c.args.lane) device c.self.invariant (rw (← c.self.view_is) at c.requires)
     (settle-device _ _ c.args.lane c.open_of-open.result _ _ is c.if-self.false c.failing-in-Err.ensures c.after_settle-in-Err.ensures
-    (record { atoms = c.in-Err.ensures.count; values = c.in-Err.ensures.values; told = c.in-Err.ensures.told; cause = c.in-Err.ensures.cause })
+    c.in-Err.ensures.call
     (record { map = refl; keys = refl; room = refl; entries_are = refl; lane_is = c.set_lane-in-Err.ensures; broken_is = refl }))
-    c.in-Err.ensures.size refl refl
+    c.in-Err.ensures.call.size refl refl
 
 pub returns-in-Err : goal.returns-in-Err
 returns-in-Err g c =
     let is = rw c.deref.ensures.value at c.open_of-open.ensures in
     rw (← c.self.view_is) (settle-device _ _ c.args.lane c.open_of-open.result _ _ is c.if-self.false c.failing-in-Err.ensures c.after_settle-in-Err.ensures
-    (record { atoms = c.in-Err.ensures.count; values = c.in-Err.ensures.values; told = c.in-Err.ensures.told; cause = c.in-Err.ensures.cause })
+    c.in-Err.ensures.call
     (record { map = refl; keys = refl; room = refl; entries_are = refl; lane_is = c.set_lane-in-Err.ensures; broken_is = refl }))

@@ -1,0 +1,58 @@
+-- A disk as the layers above see it, and what one call does to it.
+use Rattle.std.specs.Prelude.{ℕ, ◌≡◌, ◌+◌, ◌-◌, ◌^◌, ◌≤◌, ◌⊎◌, List, length, Option, Some, Result, IsSome, option_map}
+use Rattle.base_terms.specs.declared.failed.Failed.{Failed}
+use Rattle.base_terms.specs.Causes.{HasCause}
+use Rattle.sector_disk.specs.Steps.{Told, remarked, TellsRead, TellsWrite, TellsSync}
+use Rattle.sector_disk.specs.Values.{Reads, Writes}
+
+-- how many bytes an atom has and how many atoms there are; the current bytes and the tables after each
+-- device call, where they are told; and how many calls failed
+pub record Device : Type 0 where
+  pub size : ℕ
+  pub atoms : ℕ
+  pub values : Option (List ℕ)
+  pub told : Option Told
+  pub faults : ℕ
+
+-- A disk that told its tables before a call tells them after it too. A disk of two that counts its
+-- calls may stop where its count is full: then it has told so many tables, or has failed so often.
+abbrev pub GoesOn : Device → Device → Type 0
+GoesOn old new = (before : Told) → old.told ≡ Some before →
+    IsSome new.told ⊎ (2 ^ 64 - 1 ≤ length before.past + 1 + new.faults)
+
+-- After a mark no table is another. A disk that tells marks tells this one with each call from here on.
+abbrev pub marked : Device → ℕ → Device
+marked device number =
+    record device {
+      told = option_map {T = Told} (λ told. record told { mark = remarked told.mark number }) device.told;
+    }
+
+-- whole atoms are read from atom `at` on; these bytes came
+pub record ReadCall (atom at : ℕ) (bytes : List ℕ) (old new : Device)
+    (result : Result (Unit {0}) Failed) : Type 0 where
+  pub size : new.size ≡ old.size
+  pub atoms : new.atoms ≡ old.atoms
+  pub values : new.values ≡ old.values
+  pub content : Reads atom at old.values bytes result
+  pub told : TellsRead old.told new.told result
+  pub goes_on : GoesOn old new
+  pub cause : HasCause old.faults new.faults result
+
+-- whole atoms are written from atom `at` on
+pub record WriteCall (atom at : ℕ) (bytes : List ℕ) (old new : Device)
+    (result : Result (Unit {0}) Failed) : Type 0 where
+  pub size : new.size ≡ old.size
+  pub atoms : new.atoms ≡ old.atoms
+  pub values : Writes atom at bytes old.values new.values result
+  pub told : TellsWrite atom at bytes old.told new.told result
+  pub goes_on : GoesOn old new
+  pub cause : HasCause old.faults new.faults result
+
+-- every write so far is to be certain to be kept
+pub record SyncCall (old new : Device) (result : Result (Unit {0}) Failed) : Type 0 where
+  pub size : new.size ≡ old.size
+  pub atoms : new.atoms ≡ old.atoms
+  pub values : new.values ≡ old.values
+  pub told : TellsSync old.told new.told result
+  pub goes_on : GoesOn old new
+  pub cause : HasCause old.faults new.faults result
