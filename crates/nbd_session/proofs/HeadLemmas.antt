@@ -17,7 +17,7 @@ use Rattle.nbd_session.specs.Grammar.{head_with, StopsRequests}
 use Rattle.nbd_session.specs.Moments.{calm, trouble_of}
 use Rattle.nbd_session.specs.Requests.{ending_by, ending_of, data_length, data_length_by, operation_of, operation_by, IsMessage, IsLastHead, IsRefusal}
 use Rattle.nbd_session.specs.Taking.{HeadIs, DataIs, OptionIs, NextCase, NextIs, BehindHead, StopsBy, TakesUpTo}
-use Rattle.nbd_session.specs.Traffic.{Intake, Takes, HasEnded}
+use Rattle.nbd_session.specs.Traffic.{Reach, Takes, HasEnded}
 use Rattle.nbd_session.proofs.TrafficLemmas.{took_none, took_more, ended_later, rose_earlier}
 use Rattle.nbd_wire.specs.declared.options.OptionHead.{OptionHead}
 use Rattle.nbd_wire.specs.declared.requests.CommandType.{CommandType}
@@ -28,22 +28,22 @@ use Rattle.nbd_wire.specs.Requests.{IsRequestHead, request_text}
 use Rattle.nbd_wire.proofs.OptionLemmas.{option-size}
 use Rattle.nbd_wire.proofs.RequestLemmas.{request-size}
 
-pub takes_none : (a : Intake) → Takes a a []
-takes_none a = record { took = took_none a.given a.left; later = omega arith; counted = ap capped (omega arith) }
+pub takes_none : (a : Reach) → Takes a a []
+takes_none a = record { took = took_none a.source; later = omega arith; counted = ap capped (omega arith) }
 
-pub takes_more : (a b c : Intake) (xs ys : List ℕ) → Takes a b xs → Takes b c ys → Takes a c (xs ++ ys)
+pub takes_more : (a b c : Reach) (xs ys : List ℕ) → Takes a b xs → Takes b c ys → Takes a c (xs ++ ys)
 takes_more a b c xs ys first second = record {
-  took = took_more _ _ _ _ _ _ xs ys first.took second.took;
+  took = took_more _ _ _ xs ys first.took second.took;
   later = omega (arith, first.later, second.later);
   counted = omega (arith, first.counted, second.counted, length-append xs ys);
 }
 
 -- a head came whole
-pub record HeadTaken (a b : Intake) (text : List ℕ) : Type 0 where
+pub record HeadTaken (a b : Reach) (text : List ℕ) : Type 0 where
   pub takes : Takes a b text
-  pub held : b.faults ≡ a.faults
+  pub held : b.source.faults ≡ a.source.faults
 
-pub head-taken : (a b : Intake) (len : ℕ) (buf text : List ℕ) → text ≡ buf →
+pub head-taken : (a b : Reach) (len : ℕ) (buf text : List ℕ) → text ≡ buf →
     ((bytes : List ℕ) × (ended : Bool) × HeadIs a b len buf (Ok tt) bytes ended) → HeadTaken a b text
 head-taken a b len buf text is head = record {
   takes = subst (λ (bytes : List ℕ). Takes a b bytes) (head.2.by_case.0 ∙ sym is) head.2.takes;
@@ -51,17 +51,17 @@ head-taken a b len buf text is head = record {
 }
 
 -- what was taken behind a head
-rear-ended : (a b c : Intake) (text : List ℕ) → HeadTaken a b text → HasEnded b.left c.left → HasEnded a.left c.left
-rear-ended a b c text head ended = ended_later _ _ _ _ _ text head.takes.took ended
+rear-ended : (a b c : Reach) (text : List ℕ) → HeadTaken a b text → HasEnded b.source c.source → HasEnded a.source c.source
+rear-ended a b c text head ended = ended_later a.source b.source c.source text head.takes.took ended
 
-abbrev pub HasOption : Intake → Intake → Result ClientOption Ending → Type 0
+abbrev pub HasOption : Reach → Reach → Result ClientOption Ending → Type 0
 HasOption a c result = (bytes : List ℕ) × (ended : Bool) × OptionIs a c result bytes ended
 
-abbrev pub HasData : Intake → Intake → ℕ → Data → Type 0
+abbrev pub HasData : Reach → Reach → ℕ → Data → Type 0
 HasData b c len result = (bytes : List ℕ) × DataIs b c len result bytes
 
 -- an option came whole
-pub option-whole : (a b c : Intake) (head : OptionHead) (body : List ℕ) → HeadTaken a b (option_text head) → IsOptionHead head →
+pub option-whole : (a b c : Reach) (head : OptionHead) (body : List ℕ) → HeadTaken a b (option_text head) → IsOptionHead head →
     head.length ≤ 65536 → HasData b c head.length (Whole body) → HasOption a c (Ok (record { option = head.option; body = body }))
 option-whole a b c head body taken is fits more =
     let same : body ≡ more.0 = more.1.by_case.0 in
@@ -84,7 +84,7 @@ option-whole a b c head body taken is fits more =
     )
 
 -- memory was wanted for its data
-pub option-memory : (a b c : Intake) (head : OptionHead) → HeadTaken a b (option_text head) → IsOptionHead head →
+pub option-memory : (a b c : Reach) (head : OptionHead) → HeadTaken a b (option_text head) → IsOptionHead head →
     head.length ≤ 65536 → HasData b c head.length NoMemory → HasOption a c (Err Memory)
 option-memory a b c head taken is fits more =
     let same : option_text head ++ more.0 ≡ option_text head = ap (λ x. option_text head ++ x) more.1.by_case.1 ∙ append-nil (option_text head) in (
@@ -94,14 +94,14 @@ option-memory a b c head taken is fits more =
         takes = takes_more a b c (option_text head) more.0 taken.takes more.1.takes;
         at_end = λ e. absurd (cc);
         by_case = (
-          ap (λ (i : Intake). i.faults) more.1.by_case.2 ∙ taken.held,
+          ap (λ (i : Reach). i.source.faults) more.1.by_case.2 ∙ taken.held,
           (head, record { is_head = is; parts = same }, more.1.by_case.0, fits),
         );
       },
     )
 
 -- the input ended in its data
-pub option-ended : (a b c : Intake) (head : OptionHead) (n : ℕ) → HeadTaken a b (option_text head) → IsOptionHead head →
+pub option-ended : (a b c : Reach) (head : OptionHead) (n : ℕ) → HeadTaken a b (option_text head) → IsOptionHead head →
     head.length ≤ 65536 → HasData b c head.length (Ended n) → HasOption a c (Err (Truncated (16 + n)))
 option-ended a b c head n taken is fits more = (
   option_text head ++ more.0,
@@ -122,7 +122,7 @@ option-ended a b c head n taken is fits more = (
 )
 
 -- the source failed in its data
-pub option-fault : (a b c : Intake) (head : OptionHead) → HeadTaken a b (option_text head) → IsOptionHead head →
+pub option-fault : (a b c : Reach) (head : OptionHead) → HeadTaken a b (option_text head) → IsOptionHead head →
     head.length ≤ 65536 → HasData b c head.length Fault → HasOption a c (Err ReadFault)
 option-fault a b c head taken is fits more = (
   option_text head ++ more.0,
@@ -131,21 +131,21 @@ option-fault a b c head taken is fits more = (
     takes = takes_more a b c (option_text head) more.0 taken.takes more.1.takes;
     at_end = λ e. absurd (cc);
     by_case = (
-      rose_earlier a.faults b.faults c.faults taken.takes.later more.1.by_case.1,
+      rose_earlier a.source.faults b.source.faults c.source.faults taken.takes.later more.1.by_case.1,
       inr (record { head = head; body = more.0; is_head = is; fits = fits; parts = refl; fewer = more.1.by_case.0 }),
     );
   },
 )
 
-next-earlier : (a b c : Intake) (result : Next) (bytes : List ℕ) (ended : Bool) → b.faults ≡ a.faults →
+next-earlier : (a b c : Reach) (result : Next) (bytes : List ℕ) (ended : Bool) → b.source.faults ≡ a.source.faults →
     NextCase b c result bytes ended → NextCase a c result bytes ended
 next-earlier a b c (Ask cookie op) bytes ended held is = (is.0, is.1 ∙ held)
 next-earlier a b c (Refuse cookie number) bytes ended held is = (is.0, is.1, is.2, is.3 ∙ held)
 next-earlier a b c (Stop ending) bytes ended held is =
-    (subst (λ (f : ℕ). StopsBy f c.faults (trouble_of ending)) held is.0, is.1)
+    (subst (λ (f : ℕ). StopsBy f c.source.faults (trouble_of ending)) held is.0, is.1)
 
 -- a request's head, and then what is behind it
-pub next-joined : (a b c : Intake) (head : RequestHead) (result : Next) → HeadTaken a b (request_text head) →
+pub next-joined : (a b c : Reach) (head : RequestHead) (result : Next) → HeadTaken a b (request_text head) →
     ((body : List ℕ) × (ended : Bool) × BehindHead head b c result body ended) →
     (bytes : List ℕ) × (ended : Bool) × NextIs a c result bytes ended
 next-joined a b c head result taken more = (
@@ -179,7 +179,7 @@ unfolding ending_of
 last-stops head ending brings = last-stops_by head.command head.length ending brings
 
 -- a request's head brought an ending
-pub next-last : (a b : Intake) (head : RequestHead) (ending : Ending) → HeadTaken a b (request_text head) → IsRequestHead head →
+pub next-last : (a b : Reach) (head : RequestHead) (ending : Ending) → HeadTaken a b (request_text head) → IsRequestHead head →
     ending_of head ≡ Some ending → (bytes : List ℕ) × (ended : Bool) × NextIs a b (Stop ending) bytes ended
 next-last a b head ending taken is brings =
     let stops = last-stops head ending brings in (
@@ -188,11 +188,11 @@ next-last a b head ending taken is brings =
       record {
         takes = taken.takes;
         at_end = λ e. absurd (cc);
-        by_case = (subst (λ t. StopsBy a.faults b.faults t) (sym stops.0) taken.held, stops.1 (request_text head) (record { head = head; is_head = is; parts = refl; brings = brings }));
+        by_case = (subst (λ t. StopsBy a.source.faults b.source.faults t) (sym stops.0) taken.held, stops.1 (request_text head) (record { head = head; is_head = is; parts = refl; brings = brings }));
       },
     )
 
-abbrev pub HasBehind : RequestHead → Intake → Intake → Next → Type 0
+abbrev pub HasBehind : RequestHead → Reach → Reach → Next → Type 0
 HasBehind head b c result = (body : List ℕ) × (ended : Bool) × BehindHead head b c result body ended
 
 -- a request that is whole with its data
@@ -209,7 +209,7 @@ message-of head body asked is goes_on size asks = record {
   asks = asks;
 }
 
-pub behind-asks : (b c : Intake) (head : RequestHead) (body : List ℕ) (op : Op) → IsRequestHead head → ending_of head ≡ None →
+pub behind-asks : (b c : Reach) (head : RequestHead) (body : List ℕ) (op : Op) → IsRequestHead head → ending_of head ≡ None →
     Some op ≡ operation_of head body → HasData b c (data_length head) (Whole body) → HasBehind head b c (Ask head.cookie op)
 behind-asks b c head body op is goes_on asks more = (
   more.0,
@@ -224,7 +224,7 @@ behind-asks b c head body op is goes_on asks more = (
   },
 )
 
-pub behind-refuses : (b c : Intake) (head : RequestHead) (body : List ℕ) → IsRequestHead head → ending_of head ≡ None →
+pub behind-refuses : (b c : Reach) (head : RequestHead) (body : List ℕ) → IsRequestHead head → ending_of head ≡ None →
     None ≡ operation_of head body → HasData b c (data_length head) (Whole body) → HasBehind head b c (Refuse head.cookie 22)
 behind-refuses b c head body is goes_on asks more = (
   more.0,
@@ -242,8 +242,8 @@ behind-refuses b c head body is goes_on asks more = (
 )
 
 -- the input ended in a request's data
-pub behind-cut : (b c : Intake) (head : RequestHead) (n : ℕ) (bytes : List ℕ) → IsRequestHead head → ending_of head ≡ None →
-    Takes b c bytes → length bytes ≡ n → n < data_length head → HasEnded b.left c.left → c.faults ≡ b.faults →
+pub behind-cut : (b c : Reach) (head : RequestHead) (n : ℕ) (bytes : List ℕ) → IsRequestHead head → ending_of head ≡ None →
+    Takes b c bytes → length bytes ≡ n → n < data_length head → HasEnded b.source c.source → c.source.faults ≡ b.source.faults →
     HasBehind head b c (Stop (Truncated (28 + n)))
 behind-cut b c head n bytes is goes_on takes size fewer ended held = (
   bytes,
@@ -264,8 +264,8 @@ behind-cut b c head n bytes is goes_on takes size fewer ended held = (
 )
 
 -- the source failed in a request's data
-pub behind-fault : (b c : Intake) (head : RequestHead) (bytes : List ℕ) → IsRequestHead head → ending_of head ≡ None →
-    Takes b c bytes → length bytes < data_length head → Rose b.faults c.faults → HasBehind head b c (Stop ReadFault)
+pub behind-fault : (b c : Reach) (head : RequestHead) (bytes : List ℕ) → IsRequestHead head → ending_of head ≡ None →
+    Takes b c bytes → length bytes < data_length head → Rose b.source.faults c.source.faults → HasBehind head b c (Stop ReadFault)
 behind-fault b c head bytes is goes_on takes fewer rose = (
   bytes,
   false,
@@ -280,7 +280,7 @@ behind-fault b c head bytes is goes_on takes fewer rose = (
 )
 
 -- a request's data was dropped
-pub behind-dropped : (b c : Intake) (head : RequestHead) (number : ℕ) → IsRequestHead head → ending_of head ≡ None →
+pub behind-dropped : (b c : Reach) (head : RequestHead) (number : ℕ) → IsRequestHead head → ending_of head ≡ None →
     ((body : List ℕ) → length body ≡ data_length head → IsRefusal (operation_of head body) number) →
     ((bytes : List ℕ) × TakesUpTo b c (data_length head) Fillings.Whole bytes) → HasBehind head b c (Refuse head.cookie number)
 behind-dropped b c head number is goes_on refused more = (
@@ -317,9 +317,9 @@ memory-refused head body flags some =
     rw (le-ltb 1 head.flags.bits flags) (data-operation head.command head.flags.bits head.offset head.length body some)
 
 -- the length of the data, as it was told
-pub dropped-as : (b c : Intake) (len len' : ℕ) (result : Filled) → len ≡ len' → ((bytes : List ℕ) × TakesUpTo b c len result bytes) →
+pub dropped-as : (b c : Reach) (len len' : ℕ) (result : Filled) → len ≡ len' → ((bytes : List ℕ) × TakesUpTo b c len result bytes) →
     (bytes : List ℕ) × TakesUpTo b c len' result bytes
 dropped-as b c len len' result same more = subst (λ (n : ℕ). (bytes : List ℕ) × TakesUpTo b c n result bytes) same more
 
-pub data-as : (b c : Intake) (len len' : ℕ) (result : Data) → len ≡ len' → HasData b c len result → HasData b c len' result
+pub data-as : (b c : Reach) (len len' : ℕ) (result : Data) → len ≡ len' → HasData b c len result → HasData b c len' result
 data-as b c len len' result same more = subst (λ (n : ℕ). HasData b c n result) same more

@@ -1,17 +1,18 @@
 -- What went between two moments, joined.
 use Rattle.std.proofs.Common.{ℕ, List, [], ◌++◌, Option, Result, ap, sym, subst, arith, append_assoc, append-nil, length-append}
 use Rattle.base_terms.specs.declared.failed.Failed.{Failed}
+use Rattle.io_edge.specs.Outlet.{Outlet}
 use Rattle.nbd_session.specs.Counts.{capped}
 use Rattle.nbd_session.specs.Moments.{Moment, Traffic, moment}
 use Rattle.nbd_session.specs.Putting.{Puts}
-use Rattle.nbd_session.specs.Traffic.{Intake, Takes, Sent}
+use Rattle.nbd_session.specs.Traffic.{Reach, Takes, Sent}
 use Rattle.nbd_session.proofs.TrafficLemmas.{took_none, took_more, sent_none, sent_more}
 
 -- nothing went
 pub traffic_none : (m : Moment) → Traffic m m [] [] []
 traffic_none m = record {
-  took = took_none m.given m.left;
-  sent = sent_none m.had;
+  took = took_none m.source;
+  sent = sent_none m.sink;
   later_in = omega arith;
   later_out = omega arith;
   counted_in = ap capped (omega arith);
@@ -19,15 +20,15 @@ traffic_none m = record {
 }
 
 -- the moment of a source and a sink
-abbrev pub with_sink : Intake → Option (List ℕ) → ℕ → ℕ → Moment
-with_sink a h k p = moment a.given a.left h a.faults k a.taken p
+abbrev pub with_sink : Reach → Outlet → ℕ → Moment
+with_sink a s p = moment a.source s a.taken p
 
 -- bytes were taken
-pub traffic_took : (a b : Intake) (h : Option (List ℕ)) (k p : ℕ) (bytes : List ℕ) → Takes a b bytes →
-    Traffic (with_sink a h k p) (with_sink b h k p) bytes [] []
-traffic_took a b h k p bytes takes = record {
+pub traffic_took : (a b : Reach) (s : Outlet) (p : ℕ) (bytes : List ℕ) → Takes a b bytes →
+    Traffic (with_sink a s p) (with_sink b s p) bytes [] []
+traffic_took a b s p bytes takes = record {
   took = takes.took;
-  sent = sent_none h;
+  sent = sent_none s;
   later_in = takes.later;
   later_out = omega arith;
   counted_in = takes.counted;
@@ -35,11 +36,11 @@ traffic_took a b h k p bytes takes = record {
 }
 
 -- a text was put, or not
-pub traffic_puts : (a : Intake) (h h' : Option (List ℕ)) (k k' p p' : ℕ) (text whole front : List ℕ) (result : Result (Unit {0}) Failed) →
-    Puts h h' k k' p p' text result whole front →
-    Traffic (with_sink a h k p) (with_sink a h' k' p') [] whole front
-traffic_puts a h h' k k' p p' text whole front result puts = record {
-  took = took_none a.given a.left;
+pub traffic_puts : (a : Reach) (s s' : Outlet) (p p' : ℕ) (text whole front : List ℕ) (result : Result (Unit {0}) Failed) →
+    Puts s s' p p' text result whole front →
+    Traffic (with_sink a s p) (with_sink a s' p') [] whole front
+traffic_puts a s s' p p' text whole front result puts = record {
+  took = took_none a.source;
   sent = puts.sent;
   later_in = omega arith;
   later_out = puts.later;
@@ -51,10 +52,10 @@ traffic_puts a h h' k k' p p' text whole front result puts = record {
 pub traffic_more : (a b c : Moment) (xs ys vs ws front : List ℕ) → Traffic a b xs vs [] → Traffic b c ys ws front →
     Traffic a c (xs ++ ys) (vs ++ ws) front
 traffic_more a b c xs ys vs ws front first second =
-    let sent : Sent a.had b.had vs = subst (λ (bytes : List ℕ). Sent a.had b.had bytes) (append-nil vs) first.sent in
+    let sent : Sent a.sink b.sink vs = subst (λ (bytes : List ℕ). Sent a.sink b.sink bytes) (append-nil vs) first.sent in
     record {
-      took = took_more _ _ _ _ _ _ xs ys first.took second.took;
-      sent = subst (λ (bytes : List ℕ). Sent a.had c.had bytes) (sym (append_assoc vs ws front)) (sent_more _ _ _ vs (ws ++ front) sent second.sent);
+      took = took_more _ _ _ xs ys first.took second.took;
+      sent = subst (λ (bytes : List ℕ). Sent a.sink c.sink bytes) (sym (append_assoc vs ws front)) (sent_more a.sink b.sink c.sink vs (ws ++ front) sent second.sent);
       later_in = omega (arith, first.later_in, second.later_in);
       later_out = omega (arith, first.later_out, second.later_out);
       counted_in = omega (arith, first.counted_in, second.counted_in, length-append xs ys);

@@ -3,17 +3,21 @@ use Rattle.std.proofs.Common.{◌≡◌, ◌≢◌, ℕ, ◌+◌, ◌<◌, Bool,
 use Rattle.std.proofs.lemmas.Bool.{ne_eqb}
 use Rattle.std.proofs.lemmas.Bool.Decides.{eqb_tells}
 use Rattle.base_terms.specs.declared.failed.Failed.{Failed}
+use Rattle.io_edge.specs.Outlet.{Outlet}
 use Rattle.nbd_session.specs.declared.ending.Ending.{Ending}
-use Rattle.nbd_session.specs.declared.ending.Ending.TheVariants.{WriteFault}
+use Rattle.nbd_session.specs.declared.ending.Ending.TheVariants.{PortSpent, WriteFault}
 use Rattle.nbd_session.specs.declared.export.Export.{Export}
 use Rattle.nbd_session.specs.declared.options.ClientOption.{ClientOption}
 use Rattle.nbd_session.specs.declared.options.Course.TheVariants.{Begins, Ends}
+use Rattle.nbd_session.specs.declared.options.Verdict.{Verdict}
+use Rattle.nbd_session.specs.declared.options.Verdict.TheVariants.{Tell, Agree, Refuse, Abort, Unknown}
 use Rattle.nbd_session.specs.Grammar.{AreOptions, answers_to, last_answer}
 use Rattle.nbd_session.specs.Moments.{Moment, Talks}
 use Rattle.nbd_session.specs.Negotiation.{FlagsAre, Answers, Negotiates, ending_in, course_to}
-use Rattle.nbd_session.specs.Session.{Log, greeted, negotiating, greeting, messages_of, no_zeroes, IsBegun, IsUnserved}
+use Rattle.nbd_session.specs.Options.{course_of, verdict_of}
+use Rattle.nbd_session.specs.Session.{Log, Stage, served, greeted, negotiating, greeting, messages_of, no_zeroes, IsBegun, IsUnserved}
 use Rattle.std.specs.Prelude.{MatchResult}
-use Rattle.nbd_session.specs.Traffic.{Intake}
+use Rattle.nbd_session.specs.Traffic.{Reach}
 use Rattle.nbd_session.specs.Turns.{replies_to}
 use Rattle.nbd_session.proofs.MomentLemmas.{with_sink}
 use Rattle.nbd_session.proofs.TalkLemmas.{HasPut, talks-took, talks-stopped, talks-put, talks-unput, talks-more}
@@ -49,35 +53,35 @@ abbrev pub HasNegotiated : Export → Moment → Moment → Result (Unit {0}) En
 HasNegotiated export a b result = (log : Log) × Negotiates export a b result log
 
 -- the greeting didn't go out
-pub stops-silent : (export : Export) (a : Intake) (h h' : Option (List ℕ)) (k k' p p' : ℕ) (e : Failed) →
-    HasPut h h' k k' p p' greeting (Err e) → HasNegotiated export (with_sink a h k p) (with_sink a h' k' p') (Err WriteFault)
-stops-silent export a h h' k k' p p' e put = (
+pub stops-silent : (export : Export) (a : Reach) (s s' : Outlet) (p p' : ℕ) (e : Failed) →
+    HasPut s s' p p' greeting (Err e) → HasNegotiated export (with_sink a s p) (with_sink a s' p') (Err WriteFault)
+stops-silent export a s s' p p' e put = (
   early [] put.0 put.1 false,
   record {
-    talks = subst (λ ms. Talks (with_sink a h k p) (with_sink a h' k' p') (Some WriteFault) [] ms put.0 put.1 false)
-        (early-messages export [] put.0 put.1 false) (talks-unput a h h' k k' p p' greeting e put);
+    talks = subst (λ ms. Talks (with_sink a s p) (with_sink a s' p') (Some WriteFault) [] ms put.0 put.1 false)
+        (early-messages export [] put.0 put.1 false) (talks-unput a s s' p p' greeting e put);
     none_asked = refl;
     by_case = (refl, refl, refl, inl (refl, refl));
   },
 )
 
-abbrev pub HasFlagsOf : Intake → Intake → Result ClientFlags Ending → Type 0
+abbrev pub HasFlagsOf : Reach → Reach → Result ClientFlags Ending → Type 0
 HasFlagsOf a b result = (bytes : List ℕ) × (ended : Bool) × FlagsAre a b result bytes ended
 
 -- the client's flags didn't come
-pub stops-greeted : (export : Export) (a b : Intake) (h h' : Option (List ℕ)) (k k' p p' : ℕ) (ending : Ending) →
-    HasPut h h' k k' p p' greeting (Ok tt) → HasFlagsOf a b (Err ending) →
-    HasNegotiated export (with_sink a h k p) (with_sink b h' k' p') (Err ending)
-stops-greeted export a b h h' k k' p p' ending put flags =
+pub stops-greeted : (export : Export) (a b : Reach) (s s' : Outlet) (p p' : ℕ) (ending : Ending) →
+    HasPut s s' p p' greeting (Ok tt) → HasFlagsOf a b (Err ending) →
+    HasNegotiated export (with_sink a s p) (with_sink b s' p') (Err ending)
+stops-greeted export a b s s' p p' ending put flags =
     let bytes = flags.0 in
     let ended = flags.1 in (
       early bytes greeting [] ended,
       record {
-        talks = subst (λ ms. Talks (with_sink a h k p) (with_sink b h' k' p') (Some ending) bytes ms greeting [] ended)
+        talks = subst (λ ms. Talks (with_sink a s p) (with_sink b s' p') (Some ending) bytes ms greeting [] ended)
             (early-messages export bytes greeting [] ended)
-            (subst (λ (w : List ℕ). Talks (with_sink a h k p) (with_sink b h' k' p') (Some ending) bytes (greeting ∷ []) w [] ended) (append-nil greeting)
-            (talks-more _ _ _ (Some ending) [] bytes (greeting ∷ []) [] greeting [] [] ended (talks-put a h h' k k' p p' greeting put)
-            (talks-stopped a b h' k' p' ending bytes ended flags.2.takes flags.2.at_end flags.2.by_case.0)));
+            (subst (λ (w : List ℕ). Talks (with_sink a s p) (with_sink b s' p') (Some ending) bytes (greeting ∷ []) w [] ended) (append-nil greeting)
+            (talks-more _ _ _ (Some ending) [] bytes (greeting ∷ []) [] greeting [] [] ended (talks-put a s s' p p' greeting put)
+            (talks-stopped a b s' p' ending bytes ended flags.2.takes flags.2.at_end flags.2.by_case.0)));
         none_asked = refl;
         by_case = (refl, refl, refl, inr flags.2.by_case.1);
       },
@@ -146,10 +150,10 @@ agreed-case (Err ending) flags options last taken whole front ended fit are = (
 )
 
 -- the options were answered, up to the last one
-pub goes-agreed : (export : Export) (a b : Intake) (m : Moment) (h h' : Option (List ℕ)) (k k' p p' : ℕ) (flags : ClientFlags) (left_out : Bool)
-    (result : Result (Unit {0}) Ending) → HasPut h h' k k' p p' greeting (Ok tt) → HasFlagsOf a b (Ok flags) →
-    left_out ≡ no_zeroes flags.bits → HasAgreed export left_out (with_sink b h' k' p') m result → HasNegotiated export (with_sink a h k p) m result
-goes-agreed export a b m h h' k k' p p' flags left_out result put came is answered =
+pub goes-agreed : (export : Export) (a b : Reach) (m : Moment) (s s' : Outlet) (p p' : ℕ) (flags : ClientFlags) (left_out : Bool)
+    (result : Result (Unit {0}) Ending) → HasPut s s' p p' greeting (Ok tt) → HasFlagsOf a b (Ok flags) →
+    left_out ≡ no_zeroes flags.bits → HasAgreed export left_out (with_sink b s' p') m result → HasNegotiated export (with_sink a s p) m result
+goes-agreed export a b m s s' p p' flags left_out result put came is answered =
     let options = answered.0 in
     let last = answered.1 in
     let taken = answered.2 in
@@ -157,13 +161,13 @@ goes-agreed export a b m h h' k k' p p' flags left_out result put came is answer
     let front = answered.4 in
     let ended = answered.5 in
     let bits = flags.bits in
-    let answers = subst (λ z. Answers export z 0 (with_sink b h' k' p') m (course_to result) options last taken whole front ended) is answered.6 in
-    let before : Talks (with_sink a h k p) (with_sink b h' k' p') None (u32_text bits) (greeting ∷ []) greeting [] false =
-    subst (λ (w : List ℕ). Talks (with_sink a h k p) (with_sink b h' k' p') None (u32_text bits) (greeting ∷ []) w [] false) (append-nil greeting)
-    (subst (λ (t : List ℕ). Talks (with_sink a h k p) (with_sink b h' k' p') None t (greeting ∷ []) (greeting ++ []) [] false) came.2.by_case.0
-    (talks-more _ _ _ None [] came.0 (greeting ∷ []) [] greeting [] [] false (talks-put a h h' k k' p p' greeting put)
-    (talks-took a b h' k' p' came.0 came.2.takes came.2.by_case.2))) in
-    let talks = subst (λ ms. Talks (with_sink a h k p) m (ending_in (course_to result)) (u32_text bits ++ taken) ms (greeting ++ whole) front ended)
+    let answers = subst (λ z. Answers export z 0 (with_sink b s' p') m (course_to result) options last taken whole front ended) is answered.6 in
+    let before : Talks (with_sink a s p) (with_sink b s' p') None (u32_text bits) (greeting ∷ []) greeting [] false =
+    subst (λ (w : List ℕ). Talks (with_sink a s p) (with_sink b s' p') None (u32_text bits) (greeting ∷ []) w [] false) (append-nil greeting)
+    (subst (λ (t : List ℕ). Talks (with_sink a s p) (with_sink b s' p') None t (greeting ∷ []) (greeting ++ []) [] false) came.2.by_case.0
+    (talks-more _ _ _ None [] came.0 (greeting ∷ []) [] greeting [] [] false (talks-put a s s' p p' greeting put)
+    (talks-took a b s' p' came.0 came.2.takes came.2.by_case.2))) in
+    let talks = subst (λ ms. Talks (with_sink a s p) m (ending_in (course_to result)) (u32_text bits ++ taken) ms (greeting ++ whole) front ended)
     (agreed-messages export result bits options last taken whole front ended)
     (talks-more _ _ _ (ending_in (course_to result)) (u32_text bits) taken (greeting ∷ []) _ greeting whole front ended before answers.talks) in (
       agreed result bits options last taken whole front ended,
@@ -175,7 +179,26 @@ goes-agreed export a b m h h' k k' p p' flags left_out result put came is answer
     )
 
 -- the greeting that was put
-pub greeting-put : (h h' : Option (List ℕ)) (k k' p p' : ℕ) (bits : ℕ) (text : List ℕ) (result : Result (Unit {0}) Failed) → bits ≡ 3 →
-    text ≡ greeting_text (record { flags = record { bits = bits } }) → HasPut h h' k k' p p' text result → HasPut h h' k k' p p' greeting result
-greeting-put h h' k k' p p' bits text result is text_is put =
-    subst (λ (t : List ℕ). HasPut h h' k k' p p' t result) (text_is ∙ greeting-is bits is) put
+pub greeting-put : (s s' : Outlet) (p p' : ℕ) (bits : ℕ) (text : List ℕ) (result : Result (Unit {0}) Failed) → bits ≡ 3 →
+    text ≡ greeting_text (record { flags = record { bits = bits } }) → HasPut s s' p p' text result → HasPut s s' p p' greeting result
+greeting-put s s' p p' bits text result is text_is put =
+    subst (λ (t : List ℕ). HasPut s s' p p' t result) (text_is ∙ greeting-is bits is) put
+
+-- a verdict doesn't end a session since the port is spent
+verdict-spent : (verdict : Verdict) → course_of verdict ≡ Ends PortSpent → ⊥
+verdict-spent Tell is = cc
+verdict-spent Agree is = cc
+verdict-spent (Refuse reply) is = cc
+verdict-spent Abort is = cc
+verdict-spent Unknown is = cc
+
+-- a session that ended before its requests didn't ask the port
+pub unserved-unspent : (stage : Stage) (log : Log) → IsUnserved stage log PortSpent → ⊥
+unserved-unspent greeted log is = ⊎_elim (λ silent. absurd (cc)) (λ stops. stops) is.3
+unserved-unspent negotiating log is = options-unspent log.last is.2
+  where
+    options-unspent : (last : Option ClientOption) → AreOptions (Ends PortSpent) log.options last (length log.options) is.0 log.ended → ⊥
+    options-unspent None are = are.course_is.0
+    options-unspent (Some option) are =
+        ⊎_elim (λ by. verdict-spent (verdict_of option.option option.body) by) (λ sink. absurd (cc)) are.course_is.1
+unserved-unspent served log is = is

@@ -1,6 +1,7 @@
 -- Options that were answered, joined.
 use Rattle.std.proofs.Common.{◌≡◌, ℕ, ◌+◌, ◌<◌, Bool, true, false, List, [], ◌∷◌, ◌++◌, Option, Some, None, Ok, Err, length, ap, ◌∙◌, refl, sym, subst, arith, inl, inr, append_assoc, append-nil, length-append}
 use Rattle.base_terms.specs.declared.failed.Failed.{Failed}
+use Rattle.io_edge.specs.Outlet.{Outlet}
 use Rattle.nbd_session.specs.declared.ending.Ending.{Ending}
 use Rattle.nbd_session.specs.declared.ending.Ending.TheVariants.{Aborted, UnknownExport, TooMany, WriteFault}
 use Rattle.nbd_session.specs.declared.export.Export.{Export}
@@ -14,7 +15,7 @@ use Rattle.nbd_session.specs.Moments.{Moment, Talks, trouble_of, calm}
 use Rattle.nbd_session.specs.Negotiation.{Answers, ending_in}
 use Rattle.nbd_session.specs.Options.{verdict_of, course_of, answer_of}
 use Rattle.nbd_session.specs.Taking.{OptionIs}
-use Rattle.nbd_session.specs.Traffic.{Intake}
+use Rattle.nbd_session.specs.Traffic.{Reach}
 use Rattle.nbd_session.proofs.MomentLemmas.{with_sink}
 use Rattle.nbd_session.proofs.TalkLemmas.{HasPut, talks-none, talks-took, talks-stopped, talks-put, talks-unput, talks-more, talks-answered, talks-on, talks-enough}
 
@@ -36,11 +37,11 @@ HasAnswered export no_zeroes a b course =
     × ((n : ℕ) → n < 65536 → Answers export no_zeroes n a b course options last taken whole front ended)
 
 -- the session ended where an option was to come
-pub answers-stop : (export : Export) (no_zeroes : Bool) (a b : Intake) (h : Option (List ℕ)) (k p : ℕ) (ending : Ending) →
+pub answers-stop : (export : Export) (no_zeroes : Bool) (a b : Reach) (s : Outlet) (p : ℕ) (ending : Ending) →
     ((bytes : List ℕ) × (ended : Bool) × OptionIs a b (Err ending) bytes ended) →
-    HasAnswered export no_zeroes (with_sink a h k p) (with_sink b h k p) (Ends ending)
+    HasAnswered export no_zeroes (with_sink a s p) (with_sink b s p) (Ends ending)
 unfolding SpellsOptions answers_to
-answers-stop export no_zeroes a b h k p ending next = (
+answers-stop export no_zeroes a b s p ending next = (
   [],
   None,
   next.0,
@@ -49,7 +50,7 @@ answers-stop export no_zeroes a b h k p ending next = (
   next.1,
   (λ e. absurd (cc)),
   λ n fewer. record {
-    talks = talks-stopped a b h k p ending next.0 next.1 next.2.takes next.2.at_end next.2.by_case.0;
+    talks = talks-stopped a b s p ending next.0 next.1 next.2.takes next.2.at_end next.2.by_case.0;
     options_are = record {
       text = [];
       bytes = next.0;
@@ -196,44 +197,44 @@ unanswered-by export no_zeroes a b option Verdicts.Abort is known talk =
 unanswered-by export no_zeroes a b option Verdicts.Unknown is known talk = absurd (known refl)
 
 -- an option was taken
-option-took : (a b : Intake) (h : Option (List ℕ)) (k p : ℕ) (option : ClientOption) (bytes : List ℕ) (ended : Bool) →
-    OptionIs a b (Ok option) bytes ended → Talks (with_sink a h k p) (with_sink b h k p) None bytes [] [] [] false
-option-took a b h k p option bytes ended is = talks-took a b h k p bytes is.takes is.by_case.1
+option-took : (a b : Reach) (s : Outlet) (p : ℕ) (option : ClientOption) (bytes : List ℕ) (ended : Bool) →
+    OptionIs a b (Ok option) bytes ended → Talks (with_sink a s p) (with_sink b s p) None bytes [] [] [] false
+option-took a b s p option bytes ended is = talks-took a b s p bytes is.takes is.by_case.1
 
 differ : false ≡ true → ⊥
 differ is = absurd (cc)
 
-abbrev pub HasTaken : Intake → Intake → ClientOption → Type 0
+abbrev pub HasTaken : Reach → Reach → ClientOption → Type 0
 HasTaken a b option = (bytes : List ℕ) × (ended : Bool) × OptionIs a b (Ok option) bytes ended
 
-pub answered : (export : Export) (no_zeroes : Bool) (a b : Intake) (h h' : Option (List ℕ)) (k k' p p' : ℕ) (option : ClientOption) (verdict : Verdict) →
+pub answered : (export : Export) (no_zeroes : Bool) (a b : Reach) (s s' : Outlet) (p p' : ℕ) (option : ClientOption) (verdict : Verdict) →
     HasTaken a b option → verdict ≡ verdict_of option.option option.body →
-    HasPut h h' k k' p p' (answer_of export no_zeroes option.option verdict) (Ok tt) →
-    HasAnswered export no_zeroes (with_sink a h k p) (with_sink b h' k' p') (course_of verdict)
-answered export no_zeroes a b h h' k k' p p' option verdict next is put =
+    HasPut s s' p p' (answer_of export no_zeroes option.option verdict) (Ok tt) →
+    HasAnswered export no_zeroes (with_sink a s p) (with_sink b s' p') (course_of verdict)
+answered export no_zeroes a b s s' p p' option verdict next is put =
     answered-by export no_zeroes _ _ option verdict (ap course_of is) (record {
       taken = next.0;
       whole = answer_of export no_zeroes option.option verdict;
       front = [];
       is = next.2.by_case.0;
-      talks = subst (λ ms. Talks (with_sink a h k p) (with_sink b h' k' p') None next.0 ms (answer_of export no_zeroes option.option verdict) [] false)
+      talks = subst (λ ms. Talks (with_sink a s p) (with_sink b s' p') None next.0 ms (answer_of export no_zeroes option.option verdict) [] false)
           (answer-one export no_zeroes option verdict is)
-          (talks-answered _ _ _ None next.0 _ _ [] false (option-took a b h k p option next.0 next.1 next.2) (talks-put b h h' k k' p p' _ put));
+          (talks-answered _ _ _ None next.0 _ _ [] false (option-took a b s p option next.0 next.1 next.2) (talks-put b s s' p p' _ put));
     })
 
-pub unanswered : (export : Export) (no_zeroes : Bool) (a b : Intake) (h h' : Option (List ℕ)) (k k' p p' : ℕ) (option : ClientOption) (verdict : Verdict) (e : Failed) →
+pub unanswered : (export : Export) (no_zeroes : Bool) (a b : Reach) (s s' : Outlet) (p p' : ℕ) (option : ClientOption) (verdict : Verdict) (e : Failed) →
     HasTaken a b option → verdict ≡ verdict_of option.option option.body → (verdict ≡ Verdicts.Unknown → false ≡ true) →
-    HasPut h h' k k' p p' (answer_of export no_zeroes option.option verdict) (Err e) →
-    HasAnswered export no_zeroes (with_sink a h k p) (with_sink b h' k' p') (Ends WriteFault)
-unanswered export no_zeroes a b h h' k k' p p' option verdict e next is known put =
+    HasPut s s' p p' (answer_of export no_zeroes option.option verdict) (Err e) →
+    HasAnswered export no_zeroes (with_sink a s p) (with_sink b s' p') (Ends WriteFault)
+unanswered export no_zeroes a b s s' p p' option verdict e next is known put =
     unanswered-by export no_zeroes _ _ option verdict (ap course_of is) (λ u. differ (known u)) (record {
       taken = next.0;
       whole = put.0;
       front = put.1;
       is = next.2.by_case.0;
-      talks = subst (λ ms. Talks (with_sink a h k p) (with_sink b h' k' p') (Some WriteFault) next.0 ms put.0 put.1 false)
+      talks = subst (λ ms. Talks (with_sink a s p) (with_sink b s' p') (Some WriteFault) next.0 ms put.0 put.1 false)
           (answer-one export no_zeroes option verdict is)
-          (talks-answered _ _ _ (Some WriteFault) next.0 _ _ put.1 false (option-took a b h k p option next.0 next.1 next.2) (talks-unput b h h' k k' p p' _ e put));
+          (talks-answered _ _ _ (Some WriteFault) next.0 _ _ put.1 false (option-took a b s p option next.0 next.1 next.2) (talks-unput b s s' p p' _ e put));
     })
 
 answers_to-append : (export : Export) (no_zeroes : Bool) (xs ys : List ClientOption) →

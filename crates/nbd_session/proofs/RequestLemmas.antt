@@ -2,6 +2,7 @@
 use Rattle.std.proofs.Common.{◌≡◌, ℕ, ◌+◌, ◌^◌, ◌<◌, Bool, false, List, [], ◌∷◌, ◌++◌, Option, Some, None, length, ap, ◌∙◌, refl, sym, subst, arith, append_assoc, append-nil, length-append}
 use Rattle.plain_disk.specs.declared.operation.Op.{Op}
 use Rattle.plain_disk.specs.declared.operation.Reply.TheVariants.{Errno}
+use Rattle.io_edge.specs.Outlet.{Outlet}
 use Rattle.nbd_session.specs.declared.ending.Ending.{Ending}
 use Rattle.nbd_session.specs.declared.ending.Ending.TheVariants.{TooMany, PortSpent, WriteFault}
 use Rattle.nbd_session.specs.declared.requests.Next.TheVariants.{Ask, Stop}
@@ -12,7 +13,7 @@ use Rattle.nbd_session.specs.Replies.{reply_text}
 use Rattle.nbd_session.specs.Requests.{IsMessage, IsRefusal}
 use Rattle.nbd_session.specs.Serving.{Serves}
 use Rattle.nbd_session.specs.Taking.{NextIs}
-use Rattle.nbd_session.specs.Traffic.{Intake, Takes}
+use Rattle.nbd_session.specs.Traffic.{Reach, Takes}
 use Rattle.nbd_session.specs.Turns.{Turn, Spells, IsAnswered, exchange_of, exchanges_of, replies_to}
 use Rattle.nbd_session.proofs.MomentLemmas.{with_sink}
 use Rattle.nbd_session.proofs.TalkLemmas.{talks-none, talks-took, talks-stopped, talks-put, talks-unput, talks-more, talks-answered, talks-on, talks-enough}
@@ -78,12 +79,12 @@ stops-count WriteFault ended bytes n stops fewer = absurd stops
 stops-count _ ended bytes n stops fewer = fewer
 
 -- the session ended where a request was to come
-pub serves-stop : (a b : Intake) (h : Option (List ℕ)) (k p : ℕ) (ending : Ending) (bytes : List ℕ) (ended : Bool) (n : ℕ) →
+pub serves-stop : (a b : Reach) (s : Outlet) (p : ℕ) (ending : Ending) (bytes : List ℕ) (ended : Bool) (n : ℕ) →
     NextIs a b (Stop ending) bytes ended → n < 2 ^ 32 →
-    Serves n (with_sink a h k p) (with_sink b h k p) (Some ending) [] bytes [] [] ended
-serves-stop a b h k p ending bytes ended n next fewer = record {
-  talks = subst (λ ms. Talks (with_sink a h k p) (with_sink b h k p) (Some ending) bytes ms [] [] ended) (sym replies_to-none)
-      (talks-stopped a b h k p ending bytes ended next.takes next.at_end next.by_case.0);
+    Serves n (with_sink a s p) (with_sink b s p) (Some ending) [] bytes [] [] ended
+serves-stop a b s p ending bytes ended n next fewer = record {
+  talks = subst (λ ms. Talks (with_sink a s p) (with_sink b s p) (Some ending) bytes ms [] [] ended) (sym replies_to-none)
+      (talks-stopped a b s p ending bytes ended next.takes next.at_end next.by_case.0);
   requests_are = record {
     text = [];
     bytes = bytes;
@@ -94,12 +95,12 @@ serves-stop a b h k p ending bytes ended n next fewer = record {
 }
 
 -- the port was spent
-pub serves-spent : (a b : Intake) (h : Option (List ℕ)) (k p : ℕ) (cookie : ℕ) (op : Op) (bytes : List ℕ) (ended : Bool) (n : ℕ) →
+pub serves-spent : (a b : Reach) (s : Outlet) (p : ℕ) (cookie : ℕ) (op : Op) (bytes : List ℕ) (ended : Bool) (n : ℕ) →
     NextIs a b (Ask cookie op) bytes ended → n < 2 ^ 32 →
-    Serves n (with_sink a h k p) (with_sink b h k p) (Some PortSpent) [] bytes [] [] false
-serves-spent a b h k p cookie op bytes ended n next fewer = record {
-  talks = subst (λ ms. Talks (with_sink a h k p) (with_sink b h k p) (Some PortSpent) bytes ms [] [] false) (sym replies_to-none)
-      (talks-enough _ _ PortSpent bytes [] [] [] refl (talks-took a b h k p bytes next.takes next.by_case.1));
+    Serves n (with_sink a s p) (with_sink b s p) (Some PortSpent) [] bytes [] [] false
+serves-spent a b s p cookie op bytes ended n next fewer = record {
+  talks = subst (λ ms. Talks (with_sink a s p) (with_sink b s p) (Some PortSpent) bytes ms [] [] false) (sym replies_to-none)
+      (talks-enough _ _ PortSpent bytes [] [] [] refl (talks-took a b s p bytes next.takes next.by_case.1));
   requests_are = record {
     text = [];
     bytes = bytes;
@@ -110,17 +111,17 @@ serves-spent a b h k p cookie op bytes ended n next fewer = record {
 }
 
 -- a request was taken, and its reply put or not
-pub serves-turn : (a b : Intake) (h h' : Option (List ℕ)) (k k' p p' : ℕ) (turn : Turn) (bytes : List ℕ) (result : Option Ending) →
-    Takes a b bytes → b.faults ≡ a.faults → IsMessage bytes turn.cookie turn.asked → IsAnswered turn.asked turn.submitted turn.reply turn.tried →
-    ((whole : List ℕ) × (front : List ℕ) × Replies h h' k k' p p' (reply_text turn.cookie turn.reply) result whole front) →
-    (whole : List ℕ) × (front : List ℕ) × ((n : ℕ) → n < 2 ^ 32 → Serves n (with_sink a h k p) (with_sink b h' k' p') result (turn ∷ []) bytes whole front false)
-serves-turn a b h h' k k' p p' turn bytes None takes held message answered replies =
+pub serves-turn : (a b : Reach) (s s' : Outlet) (p p' : ℕ) (turn : Turn) (bytes : List ℕ) (result : Option Ending) →
+    Takes a b bytes → b.source.faults ≡ a.source.faults → IsMessage bytes turn.cookie turn.asked → IsAnswered turn.asked turn.submitted turn.reply turn.tried →
+    ((whole : List ℕ) × (front : List ℕ) × Replies s s' p p' (reply_text turn.cookie turn.reply) result whole front) →
+    (whole : List ℕ) × (front : List ℕ) × ((n : ℕ) → n < 2 ^ 32 → Serves n (with_sink a s p) (with_sink b s' p') result (turn ∷ []) bytes whole front false)
+serves-turn a b s s' p p' turn bytes None takes held message answered replies =
     let text = reply_text turn.cookie turn.reply in (
       text,
       [],
       λ n fewer. record {
-        talks = subst (λ ms. Talks (with_sink a h k p) (with_sink b h' k' p') None bytes ms text [] false) (replies_to-one turn)
-            (talks-answered _ _ _ None bytes _ _ [] false (talks-took a b h k p bytes takes held) (talks-put b h h' k k' p p' text replies));
+        talks = subst (λ ms. Talks (with_sink a s p) (with_sink b s' p') None bytes ms text [] false) (replies_to-one turn)
+            (talks-answered _ _ _ None bytes _ _ [] false (talks-took a b s p bytes takes held) (talks-put b s s' p p' text replies));
         requests_are = record {
           text = bytes;
           bytes = [];
@@ -130,15 +131,15 @@ serves-turn a b h h' k k' p p' turn bytes None takes held message answered repli
         };
       },
     )
-serves-turn a b h h' k k' p p' turn bytes (Some ending) takes held message answered replies =
+serves-turn a b s s' p p' turn bytes (Some ending) takes held message answered replies =
     let text = reply_text turn.cookie turn.reply in
     let fault = replies.2 in (
       replies.0,
       replies.1,
-      λ n fewer. subst (λ e. Serves n (with_sink a h k p) (with_sink b h' k' p') (Some e) (turn ∷ []) bytes replies.0 replies.1 false) (sym fault.0) (record {
-        talks = subst (λ ms. Talks (with_sink a h k p) (with_sink b h' k' p') (Some WriteFault) bytes ms replies.0 replies.1 false) (replies_to-one turn)
-            (talks-answered _ _ _ (Some WriteFault) bytes _ _ replies.1 false (talks-took a b h k p bytes takes held)
-            (talks-unput b h h' k k' p p' text fault.1.0 (replies.0, replies.1, fault.1.1)));
+      λ n fewer. subst (λ e. Serves n (with_sink a s p) (with_sink b s' p') (Some e) (turn ∷ []) bytes replies.0 replies.1 false) (sym fault.0) (record {
+        talks = subst (λ ms. Talks (with_sink a s p) (with_sink b s' p') (Some WriteFault) bytes ms replies.0 replies.1 false) (replies_to-one turn)
+            (talks-answered _ _ _ (Some WriteFault) bytes _ _ replies.1 false (talks-took a b s p bytes takes held)
+            (talks-unput b s s' p p' text fault.1.0 (replies.0, replies.1, fault.1.1)));
         requests_are = record {
           text = bytes;
           bytes = [];

@@ -3,12 +3,13 @@ use Rattle.std.proofs.Common.{◌≡◌, ℕ, ◌≤◌, Bool, true, false, List
 use Rattle.std.specs.Prelude.{MatchOption}
 use Rattle.base_terms.specs.declared.failed.Failed.{Failed}
 use Rattle.base_terms.specs.Blocks.{joined}
+use Rattle.io_edge.specs.Outlet.{Outlet}
 use Rattle.nbd_session.specs.declared.ending.Ending.{Ending}
 use Rattle.nbd_session.specs.declared.ending.Ending.TheVariants.{WriteFault}
 use Rattle.nbd_session.specs.Moments.{Moment, Traffic, Talks, Trouble, calm, source_failed, sink_failed, trouble_of, NoneRose, RoseBy, HasCauses, GoesOut, GoesOutBy, last_of}
 use Rattle.nbd_session.specs.Putting.{Puts}
 use Rattle.nbd_session.specs.Taking.{StopsBy}
-use Rattle.nbd_session.specs.Traffic.{Intake, Takes, HasEnded}
+use Rattle.nbd_session.specs.Traffic.{Reach, Takes, HasEnded}
 use Rattle.nbd_session.proofs.TrafficLemmas.{rose_earlier, ended_later}
 use Rattle.nbd_session.proofs.MomentLemmas.{with_sink, traffic_none, traffic_took, traffic_puts, traffic_more}
 
@@ -39,11 +40,11 @@ unfolding joined
 talks-none m = record { traffic = traffic_none m; at_end = λ e. absurd (cc); by_case = (refl, refl, (refl, refl)) }
 
 -- bytes were taken, and the talk goes on
-pub talks-took : (a b : Intake) (h : Option (List ℕ)) (k p : ℕ) (bytes : List ℕ) → Takes a b bytes → b.faults ≡ a.faults →
-    Talks (with_sink a h k p) (with_sink b h k p) None bytes [] [] [] false
+pub talks-took : (a b : Reach) (s : Outlet) (p : ℕ) (bytes : List ℕ) → Takes a b bytes → b.source.faults ≡ a.source.faults →
+    Talks (with_sink a s p) (with_sink b s p) None bytes [] [] [] false
 unfolding joined
-talks-took a b h k p bytes takes held = record {
-  traffic = traffic_took a b h k p bytes takes;
+talks-took a b s p bytes takes held = record {
+  traffic = traffic_took a b s p bytes takes;
   at_end = λ e. absurd (cc);
   by_case = (refl, refl, (held, refl));
 }
@@ -54,37 +55,37 @@ stops-out f f' calm stop = (refl, refl)
 stops-out f f' source_failed stop = (refl, refl)
 stops-out f f' sink_failed stop = absurd stop
 
-stops-rose : (a b : Moment) (trouble : Trouble) → b.out_faults ≡ a.out_faults → StopsBy a.in_faults b.in_faults trouble → RoseBy a b trouble
+stops-rose : (a b : Moment) (trouble : Trouble) → b.sink.faults ≡ a.sink.faults → StopsBy a.source.faults b.source.faults trouble → RoseBy a b trouble
 stops-rose a b calm out stop = (stop, out)
 stops-rose a b source_failed out stop = (stop, out)
 stops-rose a b sink_failed out stop = absurd stop
 
 -- bytes were taken, and the session ended by them
-pub talks-stopped : (a b : Intake) (h : Option (List ℕ)) (k p : ℕ) (ending : Ending) (bytes : List ℕ) (ended : Bool) → Takes a b bytes →
-    (ended ≡ true → HasEnded a.left b.left) → StopsBy a.faults b.faults (trouble_of ending) →
-    Talks (with_sink a h k p) (with_sink b h k p) (Some ending) bytes [] [] [] ended
-talks-stopped a b h k p ending bytes ended takes at_end stop = record {
-  traffic = traffic_took a b h k p bytes takes;
+pub talks-stopped : (a b : Reach) (s : Outlet) (p : ℕ) (ending : Ending) (bytes : List ℕ) (ended : Bool) → Takes a b bytes →
+    (ended ≡ true → HasEnded a.source b.source) → StopsBy a.source.faults b.source.faults (trouble_of ending) →
+    Talks (with_sink a s p) (with_sink b s p) (Some ending) bytes [] [] [] ended
+talks-stopped a b s p ending bytes ended takes at_end stop = record {
+  traffic = traffic_took a b s p bytes takes;
   at_end = at_end;
-  by_case = (stops-out a.faults b.faults (trouble_of ending) stop, stops-rose (with_sink a h k p) (with_sink b h k p) (trouble_of ending) refl stop);
+  by_case = (stops-out a.source.faults b.source.faults (trouble_of ending) stop, stops-rose (with_sink a s p) (with_sink b s p) (trouble_of ending) refl stop);
 }
 
-abbrev pub HasPut : Option (List ℕ) → Option (List ℕ) → ℕ → ℕ → ℕ → ℕ → List ℕ → Result (Unit {0}) Failed → Type 0
-HasPut h h' k k' p p' text result = (whole : List ℕ) × (front : List ℕ) × Puts {T = Unit {0}} h h' k k' p p' text result whole front
+abbrev pub HasPut : Outlet → Outlet → ℕ → ℕ → List ℕ → Result (Unit {0}) Failed → Type 0
+HasPut s s' p p' text result = (whole : List ℕ) × (front : List ℕ) × Puts {T = Unit {0}} s s' p p' text result whole front
 
 -- a text was put whole
-puts-whole : (h h' : Option (List ℕ)) (k k' p p' : ℕ) (text : List ℕ) → HasPut h h' k k' p p' text (Ok tt) →
-    Puts {T = Unit {0}} h h' k k' p p' text (Ok tt) text []
-puts-whole h h' k k' p p' text puts =
-    subst (λ (front : List ℕ). Puts {T = Unit {0}} h h' k k' p p' text (Ok tt) text front) puts.2.by_case.1
-    (subst (λ (whole : List ℕ). Puts {T = Unit {0}} h h' k k' p p' text (Ok tt) whole puts.1) puts.2.by_case.0 puts.2)
+puts-whole : (s s' : Outlet) (p p' : ℕ) (text : List ℕ) → HasPut s s' p p' text (Ok tt) →
+    Puts {T = Unit {0}} s s' p p' text (Ok tt) text []
+puts-whole s s' p p' text puts =
+    subst (λ (front : List ℕ). Puts {T = Unit {0}} s s' p p' text (Ok tt) text front) puts.2.by_case.1
+    (subst (λ (whole : List ℕ). Puts {T = Unit {0}} s s' p p' text (Ok tt) whole puts.1) puts.2.by_case.0 puts.2)
 
-pub talks-put : (a : Intake) (h h' : Option (List ℕ)) (k k' p p' : ℕ) (text : List ℕ) → HasPut h h' k k' p p' text (Ok tt) →
-    Talks (with_sink a h k p) (with_sink a h' k' p') None [] (text ∷ []) text [] false
-talks-put a h h' k k' p p' text put =
-    let puts = puts-whole h h' k k' p p' text put in
+pub talks-put : (a : Reach) (s s' : Outlet) (p p' : ℕ) (text : List ℕ) → HasPut s s' p p' text (Ok tt) →
+    Talks (with_sink a s p) (with_sink a s' p') None [] (text ∷ []) text [] false
+talks-put a s s' p p' text put =
+    let puts = puts-whole s s' p p' text put in
     record {
-      traffic = traffic_puts a h h' k k' p p' text text [] (Ok tt) puts;
+      traffic = traffic_puts a s s' p p' text text [] (Ok tt) puts;
       at_end = λ e. absurd (cc);
       by_case = (sym (joined-one text), refl, (refl, puts.by_case.2));
     }
@@ -94,12 +95,12 @@ rear-within : (front rear text : List ℕ) → text ≡ front ++ rear → length
 rear-within front rear text is = omega (arith, ap length is, length-append front rear)
 
 -- a text wasn't put whole, and the session ended
-pub talks-unput : (a : Intake) (h h' : Option (List ℕ)) (k k' p p' : ℕ) (text : List ℕ) (e : Failed) (put : HasPut h h' k k' p p' text (Err e)) →
-    Talks (with_sink a h k p) (with_sink a h' k' p') (Some WriteFault) [] (text ∷ []) put.0 put.1 false
-talks-unput a h h' k k' p p' text e put =
+pub talks-unput : (a : Reach) (s s' : Outlet) (p p' : ℕ) (text : List ℕ) (e : Failed) (put : HasPut s s' p p' text (Err e)) →
+    Talks (with_sink a s p) (with_sink a s' p') (Some WriteFault) [] (text ∷ []) put.0 put.1 false
+talks-unput a s s' p p' text e put =
     let rest = put.2.by_case.1 in
     record {
-      traffic = traffic_puts a h h' k k' p p' text put.0 put.1 (Err e) put.2;
+      traffic = traffic_puts a s s' p p' text put.0 put.1 (Err e) put.2;
       at_end = λ e. absurd (cc);
       by_case = (
         (
@@ -117,9 +118,9 @@ rose-none a b c first second = (omega (arith, first.0, second.0), omega (arith, 
 causes-earlier : (a b c : Moment) (trouble : Trouble) → NoneRose a b → RoseBy b c trouble → RoseBy a c trouble
 causes-earlier a b c calm none causes = rose-none a b c none causes
 causes-earlier a b c source_failed none causes =
-    (rose_earlier a.in_faults b.in_faults c.in_faults (omega (arith, none.0)) causes.0, omega (arith, none.1, causes.1))
+    (rose_earlier a.source.faults b.source.faults c.source.faults (omega (arith, none.0)) causes.0, omega (arith, none.1, causes.1))
 causes-earlier a b c sink_failed none causes =
-    (omega (arith, none.0, causes.0), rose_earlier a.out_faults b.out_faults c.out_faults (omega (arith, none.1)) causes.1)
+    (omega (arith, none.0, causes.0), rose_earlier a.sink.faults b.sink.faults c.sink.faults (omega (arith, none.1)) causes.1)
 
 out-more : (trouble : Trouble) (first messages : List (List ℕ)) (vs whole front : List ℕ) → vs ≡ joined first →
     GoesOutBy trouble messages whole front → GoesOutBy trouble (first ++ messages) (vs ++ whole) front
@@ -154,7 +155,7 @@ pub talks-more : (a b c : Moment) (result : Option Ending) (ts us : List ℕ) (m
     Talks a c result (ts ++ us) (ms ++ ns) (vs ++ ws) front ended
 talks-more a b c result ts us ms ns vs ws front ended first second = record {
   traffic = traffic_more a b c ts us vs ws front first.traffic second.traffic;
-  at_end = λ e. ended_later _ _ _ _ _ ts first.traffic.took (second.at_end e);
+  at_end = λ e. ended_later a.source b.source c.source ts first.traffic.took (second.at_end e);
   by_case = talks-case a b c result ts us ms ns vs ws front ended first second;
 }
 

@@ -2,38 +2,29 @@
 use Rattle.std.specs.Prelude.{ℕ, ◌≡◌, ◌+◌, ◌≤◌, Bool, true, List, [], ◌∷◌, ◌++◌, length, Option, MatchOption}
 use Rattle.base_terms.specs.Blocks.{joined}
 use Rattle.base_terms.specs.Causes.{Rose}
+use Rattle.io_edge.specs.Intake.{Intake}
+use Rattle.io_edge.specs.Outlet.{Outlet}
 use Rattle.nbd_session.specs.declared.ending.Ending.{Ending}
 use Rattle.nbd_session.specs.declared.ending.Ending.TheVariants.{ReadFault, WriteFault}
 use Rattle.nbd_session.specs.Counts.{capped}
 use Rattle.nbd_session.specs.Traffic.{Took, Sent, HasEnded}
 
--- what a source gave and has left, what a sink had, their counts of faults, and the counts of bytes
+-- the source and the sink, and the session's counts of the bytes that it took and put
 pub record Moment : Type 0 where
-  pub given : Option (List ℕ)
-  pub left : Option (List ℕ)
-  pub had : Option (List ℕ)
-  pub in_faults : ℕ
-  pub out_faults : ℕ
+  pub source : Intake
+  pub sink : Outlet
   pub taken : ℕ
   pub put : ℕ
 
-abbrev pub moment : (given left had : Option (List ℕ)) (in_faults out_faults taken put : ℕ) → Moment
-moment given left had in_faults out_faults taken put = record {
-  given = given;
-  left = left;
-  had = had;
-  in_faults = in_faults;
-  out_faults = out_faults;
-  taken = taken;
-  put = put;
-}
+abbrev pub moment : Intake → Outlet → (taken put : ℕ) → Moment
+moment source sink taken put = record { source = source; sink = sink; taken = taken; put = put }
 
 -- between two moments these bytes were taken, and these put whole, with this front of a piece that failed
 pub record Traffic (old new : Moment) (taken whole front : List ℕ) : Type 0 where
-  pub took : Took old.given new.given old.left new.left taken
-  pub sent : Sent old.had new.had (whole ++ front)
-  pub later_in : old.in_faults ≤ new.in_faults
-  pub later_out : old.out_faults ≤ new.out_faults
+  pub took : Took old.source new.source taken
+  pub sent : Sent old.sink new.sink (whole ++ front)
+  pub later_in : old.source.faults ≤ new.source.faults
+  pub later_out : old.sink.faults ≤ new.sink.faults
   pub counted_in : capped new.taken ≡ capped (old.taken + length taken)
   pub counted_out : capped new.put ≡ capped (old.put + length whole)
 
@@ -50,13 +41,13 @@ trouble_of _ = calm
 
 -- no count of faults rose between two moments
 abbrev pub NoneRose : Moment → Moment → Type 0
-NoneRose old new = (new.in_faults ≡ old.in_faults) × (new.out_faults ≡ old.out_faults)
+NoneRose old new = (new.source.faults ≡ old.source.faults) × (new.sink.faults ≡ old.sink.faults)
 
 -- the count of the one that failed rose
 abbrev pub RoseBy : Moment → Moment → Trouble → Type 0
 RoseBy old new calm = NoneRose old new
-RoseBy old new source_failed = Rose old.in_faults new.in_faults × (new.out_faults ≡ old.out_faults)
-RoseBy old new sink_failed = (new.in_faults ≡ old.in_faults) × Rose old.out_faults new.out_faults
+RoseBy old new source_failed = Rose old.source.faults new.source.faults × (new.sink.faults ≡ old.sink.faults)
+RoseBy old new sink_failed = (new.source.faults ≡ old.source.faults) × Rose old.sink.faults new.sink.faults
 
 -- a session ends by a fault of the source or the sink exactly where its count rose
 abbrev pub HasCauses : Moment → Moment → Ending → Type 0
@@ -83,6 +74,6 @@ GoesOut ending messages whole front = GoesOutBy (trouble_of ending) messages who
 pub record Talks (old new : Moment) (result : Option Ending) (taken : List ℕ) (messages : List (List ℕ))
     (whole front : List ℕ) (ended : Bool) : Type 0 where
   pub traffic : Traffic old new taken whole front
-  pub at_end : ended ≡ true → HasEnded old.left new.left
+  pub at_end : ended ≡ true → HasEnded old.source new.source
   pub by_case : MatchOption result ((whole ≡ joined messages) × (front ≡ []) × NoneRose old new)
       (λ ending. GoesOut ending messages whole front × HasCauses old new ending)

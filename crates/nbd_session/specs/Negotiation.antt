@@ -9,16 +9,16 @@ use Rattle.nbd_session.specs.Grammar.{StopsFlags, AreOptions, answers_to, last_a
 use Rattle.nbd_session.specs.Moments.{Moment, Talks, trouble_of}
 use Rattle.nbd_session.specs.Session.{Log, IsBegun, IsUnserved, messages_of}
 use Rattle.nbd_session.specs.Taking.{StopsBy}
-use Rattle.nbd_session.specs.Traffic.{Intake, Takes, HasEnded}
+use Rattle.nbd_session.specs.Traffic.{Reach, Takes, HasEnded}
 use Rattle.nbd_wire.specs.declared.handshake.ClientFlags.{ClientFlags}
 use Rattle.nbd_wire.specs.Fields.{u32_text}
 
 -- the client's flags were waited for, and these bytes were taken
-pub record FlagsAre (old new : Intake) (result : Result ClientFlags Ending) (bytes : List ℕ) (ended : Bool) : Type 0 where
+pub record FlagsAre (old new : Reach) (result : Result ClientFlags Ending) (bytes : List ℕ) (ended : Bool) : Type 0 where
   pub takes : Takes old new bytes
-  pub at_end : ended ≡ true → HasEnded old.left new.left
-  pub by_case : MatchResult result (λ flags. (bytes ≡ u32_text flags.bits) × (flags.bits < 4) × (new.faults ≡ old.faults))
-      (λ ending. StopsBy old.faults new.faults (trouble_of ending) × StopsFlags ending ended bytes)
+  pub at_end : ended ≡ true → HasEnded old.source new.source
+  pub by_case : MatchResult result (λ flags. (bytes ≡ u32_text flags.bits) × (flags.bits < 4) × (new.source.faults ≡ old.source.faults))
+      (λ ending. StopsBy old.source.faults new.source.faults (trouble_of ending) × StopsFlags ending ended bytes)
 
 -- the ending that a course brings
 abbrev pub ending_in : Course → Option Ending

@@ -9,3 +9,8 @@ use Rattle.nbd_session.specs.declared.port.Submitted.TheVariants.{Replied, Spent
 abbrev pub exchanges_by : Op → ℕ → Submitted → List Exchange
 exchanges_by op n (Replied reply buffer) = record { op = op; reply = reply; tried = n } ∷ []
 exchanges_by op n Spent = []
+
+-- what holds where nothing came of the operation, since the port is spent
+abbrev pub IfSpent : Submitted → Type 0 → Type 0
+IfSpent (Replied reply buffer) P = Unit {0}
+IfSpent Spent P = P

@@ -12,15 +12,15 @@ use Rattle.nbd_session.specs.declared.taking.Data.TheVariants.{Whole, NoMemory, 
 use Rattle.nbd_session.specs.Grammar.{IsOption, StopsOptions, StopsRequests}
 use Rattle.nbd_session.specs.Moments.{Trouble, calm, source_failed, sink_failed, trouble_of}
 use Rattle.nbd_session.specs.Requests.{IsMessage, IsRefusal}
-use Rattle.nbd_session.specs.Traffic.{Intake, Takes, FillsOr, HasEnded, filled_of}
+use Rattle.nbd_session.specs.Traffic.{Reach, Takes, FillsOr, HasEnded, filled_of}
 use Rattle.nbd_wire.specs.declared.requests.RequestHead.{RequestHead}
 use Rattle.nbd_wire.specs.Requests.{request_text}
 
 -- `len` bytes were wanted, and these were taken
-pub record TakesUpTo (old new : Intake) (len : ℕ) (result : Filled) (bytes : List ℕ) : Type 0 where
+pub record TakesUpTo (old new : Reach) (len : ℕ) (result : Filled) (bytes : List ℕ) : Type 0 where
   pub takes : Takes old new bytes
   pub count : length bytes ≡ filled_of len result
-  pub fewer : FillsOr len old.left new.left old.faults new.faults result
+  pub fewer : FillsOr len old.source new.source result
 
 -- what the source alone brings: its count rose exactly where it failed
 abbrev pub StopsBy : ℕ → ℕ → Trouble → Type 0
@@ -36,44 +36,44 @@ EndsHead len ReadFault ended bytes = length bytes < len
 EndsHead len _ ended bytes = ⊥
 
 -- a head was waited for, and these bytes were taken
-pub record HeadIs (old new : Intake) (len : ℕ) (head : List ℕ) (result : Result (Unit {0}) Ending) (bytes : List ℕ) (ended : Bool) : Type 0 where
+pub record HeadIs (old new : Reach) (len : ℕ) (head : List ℕ) (result : Result (Unit {0}) Ending) (bytes : List ℕ) (ended : Bool) : Type 0 where
   pub takes : Takes old new bytes
-  pub at_end : ended ≡ true → HasEnded old.left new.left
-  pub by_case : MatchResult result (λ _. (bytes ≡ head) × (length bytes ≡ len) × (new.faults ≡ old.faults))
-      (λ ending. StopsBy old.faults new.faults (trouble_of ending) × EndsHead len ending ended bytes)
+  pub at_end : ended ≡ true → HasEnded old.source new.source
+  pub by_case : MatchResult result (λ _. (bytes ≡ head) × (length bytes ≡ len) × (new.source.faults ≡ old.source.faults))
+      (λ ending. StopsBy old.source.faults new.source.faults (trouble_of ending) × EndsHead len ending ended bytes)
 
 -- the data behind a head, of which `len` bytes were wanted
-abbrev pub DataCase : Intake → Intake → ℕ → Data → List ℕ → Type 0
-DataCase old new len (Whole body) bytes = (body ≡ bytes) × (length bytes ≡ len) × (new.faults ≡ old.faults)
+abbrev pub DataCase : Reach → Reach → ℕ → Data → List ℕ → Type 0
+DataCase old new len (Whole body) bytes = (body ≡ bytes) × (length bytes ≡ len) × (new.source.faults ≡ old.source.faults)
 DataCase old new len NoMemory bytes = (0 < len) × (bytes ≡ []) × (new ≡ old)
-DataCase old new len (Ended n) bytes = (length bytes ≡ n) × (n < len) × HasEnded old.left new.left × (new.faults ≡ old.faults)
-DataCase old new len Fault bytes = (length bytes < len) × Rose old.faults new.faults
+DataCase old new len (Ended n) bytes = (length bytes ≡ n) × (n < len) × HasEnded old.source new.source × (new.source.faults ≡ old.source.faults)
+DataCase old new len Fault bytes = (length bytes < len) × Rose old.source.faults new.source.faults
 
-pub record DataIs (old new : Intake) (len : ℕ) (result : Data) (bytes : List ℕ) : Type 0 where
+pub record DataIs (old new : Reach) (len : ℕ) (result : Data) (bytes : List ℕ) : Type 0 where
   pub takes : Takes old new bytes
   pub by_case : DataCase old new len result bytes
 
 -- an option was waited for, and these bytes were taken
-pub record OptionIs (old new : Intake) (result : Result ClientOption Ending) (bytes : List ℕ) (ended : Bool) : Type 0 where
+pub record OptionIs (old new : Reach) (result : Result ClientOption Ending) (bytes : List ℕ) (ended : Bool) : Type 0 where
   pub takes : Takes old new bytes
-  pub at_end : ended ≡ true → HasEnded old.left new.left
-  pub by_case : MatchResult result (λ option. IsOption bytes option.option option.body × (new.faults ≡ old.faults))
-      (λ ending. StopsBy old.faults new.faults (trouble_of ending) × StopsOptions ending ended bytes)
+  pub at_end : ended ≡ true → HasEnded old.source new.source
+  pub by_case : MatchResult result (λ option. IsOption bytes option.option option.body × (new.source.faults ≡ old.source.faults))
+      (λ ending. StopsBy old.source.faults new.source.faults (trouble_of ending) × StopsOptions ending ended bytes)
 
 -- what came of a request that took these bytes
-abbrev pub NextCase : Intake → Intake → Next → List ℕ → Bool → Type 0
-NextCase old new (Ask cookie op) bytes ended = IsMessage bytes cookie (Some op) × (new.faults ≡ old.faults)
+abbrev pub NextCase : Reach → Reach → Next → List ℕ → Bool → Type 0
+NextCase old new (Ask cookie op) bytes ended = IsMessage bytes cookie (Some op) × (new.source.faults ≡ old.source.faults)
 NextCase old new (Refuse cookie number) bytes ended =
-    (asked : Option _) × IsMessage bytes cookie asked × IsRefusal asked number × (new.faults ≡ old.faults)
-NextCase old new (Stop ending) bytes ended = StopsBy old.faults new.faults (trouble_of ending) × StopsRequests ending ended bytes
+    (asked : Option _) × IsMessage bytes cookie asked × IsRefusal asked number × (new.source.faults ≡ old.source.faults)
+NextCase old new (Stop ending) bytes ended = StopsBy old.source.faults new.source.faults (trouble_of ending) × StopsRequests ending ended bytes
 
-pub record NextIs (old new : Intake) (result : Next) (bytes : List ℕ) (ended : Bool) : Type 0 where
+pub record NextIs (old new : Reach) (result : Next) (bytes : List ℕ) (ended : Bool) : Type 0 where
   pub takes : Takes old new bytes
-  pub at_end : ended ≡ true → HasEnded old.left new.left
+  pub at_end : ended ≡ true → HasEnded old.source new.source
   pub by_case : NextCase old new result bytes ended
 
 -- the same of the bytes behind its head
-pub record BehindHead (head : RequestHead) (old new : Intake) (result : Next) (body : List ℕ) (ended : Bool) : Type 0 where
+pub record BehindHead (head : RequestHead) (old new : Reach) (result : Next) (body : List ℕ) (ended : Bool) : Type 0 where
   pub takes : Takes old new body
-  pub at_end : ended ≡ true → HasEnded old.left new.left
+  pub at_end : ended ≡ true → HasEnded old.source new.source
   pub by_case : NextCase old new result (request_text head ++ body) ended

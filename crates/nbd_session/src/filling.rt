@@ -14,8 +14,7 @@ pub enum Filled {
 
 /// Fills a buffer from a source that gives its bytes in pieces.
 pub fn fill<S: Source>(source: &mut S, buf: &mut [u8]) -> Filled
-    ensures { Fills (S.given source.old) (S.given source.new) (S.left source.old) (S.left source.new)
-        (S.faults source.old) (S.faults source.new) (length buf.new) result
+    ensures { Fills (S.intake source.old) (S.intake source.new) (length buf.new) result
         (take (filled_of (length buf.new) result) buf.new) }
 {
     let mut count = 0;
@@ -31,8 +30,7 @@ pub fn fill<S: Source>(source: &mut S, buf: &mut [u8]) -> Filled
 
 /// Takes so many bytes from a source and drops them.
 pub fn skip<S: Source>(source: &mut S, length: usize) -> Filled
-    ensures { (bytes : List ℕ) × Fills (S.given source.old) (S.given source.new) (S.left source.old) (S.left source.new)
-        (S.faults source.old) (S.faults source.new) length result bytes }
+    ensures { (bytes : List ℕ) × Fills (S.intake source.old) (S.intake source.new) length result bytes }
 {
     let mut buf = [0u8; 4096];
     let mut count = 0;

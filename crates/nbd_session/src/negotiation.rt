@@ -1,11 +1,13 @@
-ghost use Rattle.std.specs.Prelude.{◌≡◌, ◌+◌, ◌<◌, ◌≤◌, ℕ, Bool, List, length, Option, IsOk};
+ghost use Rattle.std.specs.Prelude.{◌≡◌, ◌≢◌, ◌+◌, ◌<◌, ◌≤◌, ◌⊎◌, ℕ, Bool, List, length, Option, Err, IsOk, OnOk};
 ghost use Rattle.nbd_session.specs.Moments.{moment};
 ghost use Rattle.nbd_session.specs.Negotiation.{Agrees, Answers, FlagsAre, Negotiates};
 ghost use Rattle.nbd_session.specs.Options.{answer_of, verdict_of};
-ghost use Rattle.nbd_session.specs.Putting.{Puts};
+ghost use Rattle.nbd_session.specs.Putting.{IsOut, Puts};
 ghost use Rattle.nbd_session.specs.Session.{Log};
-ghost use Rattle.nbd_session.specs.Traffic.{intake};
+ghost use Rattle.nbd_session.specs.Traffic.{reach};
+ghost use Rattle.nbd_session.specs.declared.ending.Ending.{Ending};
 ghost use Rattle.nbd_session.specs.declared.options.ClientOption.{ClientOption};
+ghost use Rattle.nbd_session.specs.declared.options.Course.{Course};
 ghost use Rattle.nbd_wire.specs.InfoReplies.{reply_head};
 ghost use Rattle.nbd_wire.specs.OptionReplies.{option_reply_text};
 
@@ -33,9 +35,10 @@ pub fn negotiate<S: Source, K: Sink>(
     export: &Export,
     tally: &mut Tally,
 ) -> Result<(), Ending>
-    ensures { (log : Log) × Negotiates export.now
-        (moment (S.given source.old) (S.left source.old) (K.had sink.old) (S.faults source.old) (K.faults sink.old) tally.old.taken tally.old.put)
-        (moment (S.given source.new) (S.left source.new) (K.had sink.new) (S.faults source.new) (K.faults sink.new) tally.new.taken tally.new.put)
+    ensures out { (result ≡ Err Ending.WriteFault) ⊎ IsOut (K.outlet sink.new) }
+    ensures negotiates { (log : Log) × Negotiates export.now
+        (moment (S.intake source.old) (K.outlet sink.old) tally.old.taken tally.old.put)
+        (moment (S.intake source.new) (K.outlet sink.new) tally.new.taken tally.new.put)
         result log }
 {
     let greeting = Greeting {
@@ -54,8 +57,8 @@ pub fn negotiate<S: Source, K: Sink>(
 /// Takes the client's flags.
 fn take_flags<S: Source>(source: &mut S, taken: &mut u64) -> Result<ClientFlags, Ending>
     ensures { (bytes : List ℕ) × (ended : Bool) × FlagsAre
-        (intake (S.given source.old) (S.left source.old) (S.faults source.old) taken.old)
-        (intake (S.given source.new) (S.left source.new) (S.faults source.new) taken.new)
+        (reach (S.intake source.old) taken.old)
+        (reach (S.intake source.new) taken.new)
         result bytes ended }
 {
     let mut bytes = [0u8; 4];
@@ -76,10 +79,12 @@ fn agree<S: Source, K: Sink>(
     no_zeroes: bool,
     tally: &mut Tally,
 ) -> Result<(), Ending>
-    ensures { (options : List ClientOption) × (last : Option ClientOption) × (taken : List ℕ) × (whole : List ℕ) × (front : List ℕ) × (ended : Bool)
+    requires { IsOut (K.outlet sink.old) }
+    ensures out { (result ≡ Err Ending.WriteFault) ⊎ IsOut (K.outlet sink.new) }
+    ensures agrees { (options : List ClientOption) × (last : Option ClientOption) × (taken : List ℕ) × (whole : List ℕ) × (front : List ℕ) × (ended : Bool)
         × Agrees export.now no_zeroes
-        (moment (S.given source.old) (S.left source.old) (K.had sink.old) (S.faults source.old) (K.faults sink.old) tally.old.taken tally.old.put)
-        (moment (S.given source.new) (S.left source.new) (K.had sink.new) (S.faults source.new) (K.faults sink.new) tally.new.taken tally.new.put)
+        (moment (S.intake source.old) (K.outlet sink.old) tally.old.taken tally.old.put)
+        (moment (S.intake source.new) (K.outlet sink.new) tally.new.taken tally.new.put)
         result options last taken whole front ended }
 {
     for number in 0..MAX_OPTIONS {
@@ -101,11 +106,13 @@ fn answer_next<S: Source, K: Sink>(
     no_zeroes: bool,
     tally: &mut Tally,
 ) -> Course
-    ensures { (options : List ClientOption) × (last : Option ClientOption) × (taken : List ℕ) × (whole : List ℕ) × (front : List ℕ) × (ended : Bool)
+    requires { IsOut (K.outlet sink.old) }
+    ensures out { (result ≡ Course.Ends Ending.WriteFault) ⊎ IsOut (K.outlet sink.new) }
+    ensures answers { (options : List ClientOption) × (last : Option ClientOption) × (taken : List ℕ) × (whole : List ℕ) × (front : List ℕ) × (ended : Bool)
         × (result ≡ Course.GoesOn → length options ≡ 1)
         × ((n : ℕ) → n < 65536 → Answers export.now no_zeroes n
-        (moment (S.given source.old) (S.left source.old) (K.had sink.old) (S.faults source.old) (K.faults sink.old) tally.old.taken tally.old.put)
-        (moment (S.given source.new) (S.left source.new) (K.had sink.new) (S.faults source.new) (K.faults sink.new) tally.new.taken tally.new.put)
+        (moment (S.intake source.old) (K.outlet sink.old) tally.old.taken tally.old.put)
+        (moment (S.intake source.new) (K.outlet sink.new) tally.new.taken tally.new.put)
         result options last taken whole front ended) }
 {
     let option = match next_option(alloc, source, &mut tally.taken) {
@@ -135,8 +142,9 @@ fn put_answer<K: Sink>(
     verdict: Verdict,
     put: &mut u64,
 ) -> Result<(), Failed>
-    ensures answer { (whole : List ℕ) × (front : List ℕ) × Puts (K.had sink.old) (K.had sink.new) (K.faults sink.old)
-        (K.faults sink.new) put.old put.new (answer_of export.now no_zeroes option verdict) result whole front }
+    requires { IsOut (K.outlet sink.old) }
+    ensures out { OnOk result (IsOut (K.outlet sink.new)) }
+    ensures answer { (whole : List ℕ) × (front : List ℕ) × Puts (K.outlet sink.old) (K.outlet sink.new) put.old put.new (answer_of export.now no_zeroes option verdict) result whole front }
     ensures silent { verdict ≡ Verdict.Unknown → IsOk result }
 {
     match verdict {
@@ -168,8 +176,8 @@ fn put_option_reply<K: Sink>(
     reply: ReplyType,
     put: &mut u64,
 ) -> Result<(), Failed>
-    ensures { (whole : List ℕ) × (front : List ℕ) × Puts (K.had sink.old) (K.had sink.new) (K.faults sink.old)
-        (K.faults sink.new) put.old put.new (option_reply_text (reply_head option reply 0)) result whole front }
+    ensures out { OnOk result (IsOut (K.outlet sink.new)) }
+    ensures puts { (whole : List ℕ) × (front : List ℕ) × Puts (K.outlet sink.old) (K.outlet sink.new) put.old put.new (option_reply_text (reply_head option reply 0)) result whole front }
 {
     let head = OptionReplyHead {
         option,

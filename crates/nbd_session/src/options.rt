@@ -1,7 +1,7 @@
 ghost use Rattle.std.specs.Prelude.{◌≡◌, ◌≢◌, ℕ, Bool, List, IsTrue, false};
 ghost use Rattle.nbd_session.specs.Options.{course_of, is_ours, verdict_of, verdict_on_name};
 ghost use Rattle.nbd_session.specs.Taking.{OptionIs};
-ghost use Rattle.nbd_session.specs.Traffic.{intake};
+ghost use Rattle.nbd_session.specs.Traffic.{reach};
 
 use crate::Ending;
 use crate::info_data::info_name;
@@ -73,8 +73,8 @@ pub fn next_option<S: Source>(
     taken: &mut u64,
 ) -> Result<ClientOption, Ending>
     ensures { (bytes : List ℕ) × (ended : Bool) × OptionIs
-        (intake (S.given source.old) (S.left source.old) (S.faults source.old) taken.old)
-        (intake (S.given source.new) (S.left source.new) (S.faults source.new) taken.new)
+        (reach (S.intake source.old) taken.old)
+        (reach (S.intake source.new) taken.new)
         result bytes ended }
 {
     let mut bytes = [0u8; HEAD];

@@ -1,6 +1,6 @@
 ghost use Rattle.std.specs.Prelude.{◌≡◌, ℕ, IfOk, OnErr, List, [], ◌++◌};
 ghost use Rattle.plain_disk.specs.Plain.{Exchange};
-ghost use Rattle.nbd_session.specs.Ports.{exchanges_by};
+ghost use Rattle.nbd_session.specs.Ports.{exchanges_by, IfSpent};
 
 use base_terms::Bytes;
 use plain_disk::{Op, Reply};
@@ -21,11 +21,15 @@ pub trait Port {
     /// From an old state to a new one these operations were submitted and answered, and no others.
     ghost did: { Self → Self → List Exchange → Type 0 };
 
+    /// It has come to its end, and takes no operation any more.
+    ghost is_spent: { Self → Type 0 };
+
     /// Executes an operation and answers it. The spare buffer is for its use, as for the content of a
     /// read; what is in it isn't to be used. Where memory is wanted, or the port is spent, nothing was
     /// done.
     fn submit(&mut self, alloc: Global, op: Op, spare: Bytes) -> Result<Submitted, AllocError>
         ensures ok { IfOk result (λ submitted. (n : ℕ) × did self.old self.new (exchanges_by op n submitted)) }
+        ensures spent { IfOk result (λ submitted. IfSpent submitted (is_spent self.new)) }
         ensures err { OnErr result (did self.old self.new []) };
 
     ghost did_none: { (port : Self) → did port port [] };

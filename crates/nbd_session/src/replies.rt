@@ -1,5 +1,5 @@
-ghost use Rattle.std.specs.Prelude.{◌≡◌, ℕ, List};
-ghost use Rattle.nbd_session.specs.Putting.{Puts};
+ghost use Rattle.std.specs.Prelude.{◌≡◌, ℕ, List, OnOk};
+ghost use Rattle.nbd_session.specs.Putting.{IsOut, Puts};
 ghost use Rattle.nbd_session.specs.Replies.{reply_text, errno_of, data_of};
 
 use base_terms::Failed;
@@ -9,8 +9,7 @@ use plain_disk::Reply;
 
 /// Puts one piece, and counts its bytes where it was put whole.
 fn put_piece<K: Sink>(sink: &mut K, bytes: &[u8], put: &mut u64) -> Result<(), Failed>
-    ensures { (whole : List ℕ) × (front : List ℕ) × Puts (K.had sink.old) (K.had sink.new) (K.faults sink.old)
-        (K.faults sink.new) put.old put.new bytes.now result whole front }
+    ensures { (whole : List ℕ) × (front : List ℕ) × Puts (K.outlet sink.old) (K.outlet sink.new) put.old put.new bytes.now result whole front }
 {
     let before = *put;
     match sink.put(bytes) {
@@ -24,8 +23,8 @@ fn put_piece<K: Sink>(sink: &mut K, bytes: &[u8], put: &mut u64) -> Result<(), F
 
 /// Puts one piece as `put_piece` does, and lets it go out.
 pub fn put_message<K: Sink>(sink: &mut K, bytes: &[u8], put: &mut u64) -> Result<(), Failed>
-    ensures { (whole : List ℕ) × (front : List ℕ) × Puts (K.had sink.old) (K.had sink.new) (K.faults sink.old)
-        (K.faults sink.new) put.old put.new bytes.now result whole front }
+    ensures out { OnOk result (IsOut (K.outlet sink.new)) }
+    ensures puts { (whole : List ℕ) × (front : List ℕ) × Puts (K.outlet sink.old) (K.outlet sink.new) put.old put.new bytes.now result whole front }
 {
     put_piece(sink, bytes, put)?;
     sink.push_out()
@@ -39,8 +38,8 @@ pub fn put_reply<K: Sink>(
     reply: &Reply,
     put: &mut u64,
 ) -> Result<(), Failed>
-    ensures { (whole : List ℕ) × (front : List ℕ) × Puts (K.had sink.old) (K.had sink.new) (K.faults sink.old)
-        (K.faults sink.new) put.old put.new (reply_text cookie reply.now) result whole front }
+    ensures out { OnOk result (IsOut (K.outlet sink.new)) }
+    ensures puts { (whole : List ℕ) × (front : List ℕ) × Puts (K.outlet sink.old) (K.outlet sink.new) put.old put.new (reply_text cookie reply.now) result whole front }
 {
     let head = SimpleReplyHead {
         error: errno(reply),

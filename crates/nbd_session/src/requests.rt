@@ -1,7 +1,7 @@
 ghost use Rattle.std.specs.Prelude.{◌≡◌, ◌<◌, ◌≤◌, ◌+◌, ◌^◌, ℕ, Bool, List, length, None};
 ghost use Rattle.nbd_session.specs.Requests.{ending_of, data_length, operation_of, IsRefusal};
 ghost use Rattle.nbd_session.specs.Taking.{BehindHead, NextIs};
-ghost use Rattle.nbd_session.specs.Traffic.{intake};
+ghost use Rattle.nbd_session.specs.Traffic.{reach};
 ghost use Rattle.nbd_wire.specs.Requests.{IsRequestHead};
 
 use crate::Ending;
@@ -42,8 +42,8 @@ pub fn next_request<S: Source>(
     taken: &mut u64,
 ) -> Next
     ensures { (bytes : List ℕ) × (ended : Bool) × NextIs
-        (intake (S.given source.old) (S.left source.old) (S.faults source.old) taken.old)
-        (intake (S.given source.new) (S.left source.new) (S.faults source.new) taken.new)
+        (reach (S.intake source.old) taken.old)
+        (reach (S.intake source.new) taken.new)
         result bytes ended }
 {
     let mut bytes = [0u8; HEAD];
@@ -72,8 +72,8 @@ fn behind_head<S: Source>(
     requires head { IsRequestHead head.now }
     requires goes_on { ending_of head.now ≡ None }
     ensures { (body : List ℕ) × (ended : Bool) × BehindHead head.now
-        (intake (S.given source.old) (S.left source.old) (S.faults source.old) taken.old)
-        (intake (S.given source.new) (S.left source.new) (S.faults source.new) taken.new)
+        (reach (S.intake source.old) taken.old)
+        (reach (S.intake source.new) taken.new)
         result body ended }
 {
     let cookie = head.cookie;
@@ -100,8 +100,8 @@ fn refuse<S: Source>(source: &mut S, head: &RequestHead, number: u32, taken: &mu
     requires goes_on { ending_of head.now ≡ None }
     requires refused { (body : List ℕ) → length body ≡ data_length head.now → IsRefusal (operation_of head.now body) number }
     ensures { (body : List ℕ) × (ended : Bool) × BehindHead head.now
-        (intake (S.given source.old) (S.left source.old) (S.faults source.old) taken.old)
-        (intake (S.given source.new) (S.left source.new) (S.faults source.new) taken.new)
+        (reach (S.intake source.old) taken.old)
+        (reach (S.intake source.new) taken.new)
         result body ended }
 {
     match take_past(source, data_length(head) as usize, taken) {

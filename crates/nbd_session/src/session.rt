@@ -1,10 +1,11 @@
-ghost use Rattle.std.specs.Prelude.{◌≡◌, ◌<◌, ◌≤◌, ◌^◌, ◌+◌, ℕ, Bool, List, length, Some, None};
+ghost use Rattle.std.specs.Prelude.{◌≡◌, ◌<◌, ◌≤◌, ◌^◌, ◌+◌, ◌⊎◌, ℕ, Bool, List, length, Some, None};
 ghost use Rattle.nbd_session.specs.Moments.{moment};
-ghost use Rattle.nbd_session.specs.Putting.{Replies};
+ghost use Rattle.nbd_session.specs.Putting.{IsOut, Replies};
 ghost use Rattle.nbd_session.specs.Replies.{reply_text};
 ghost use Rattle.nbd_session.specs.Serving.{Serves};
 ghost use Rattle.nbd_session.specs.Session.{IsSession, Log};
 ghost use Rattle.nbd_session.specs.Turns.{Turn, exchanges_of};
+ghost use Rattle.nbd_session.specs.declared.ending.Ending.{Ending};
 
 use crate::negotiation::negotiate;
 use crate::replies::put_reply;
@@ -28,7 +29,9 @@ const MAX_REQUESTS: u64 = 1 << 32;
 /// decides, and no more. It ends with `ReadFault` exactly where the source's count of faults rose, and
 /// with `WriteFault` exactly where the sink's did; then at most the last message, or a rear of it, is
 /// missing. With `TooMany` it ends exactly after the answer to the `65536`th option that goes on, or
-/// the reply to the `2^32`nd request. It keeps one buffer, of at most 32 MiB, for the bodies of writes and
+/// the reply to the `2^32`nd request. Each message has gone out before the next one of the client is
+/// asked for, and all have at the end, unless the sink failed. With `PortSpent` it ends only where the
+/// port is spent. It keeps one buffer, of at most 32 MiB, for the bodies of writes and
 /// the contents of reads, one after the other.
 pub fn serve_session<S: Source, K: Sink, P: Port>(
     alloc: Global,
@@ -37,9 +40,11 @@ pub fn serve_session<S: Source, K: Sink, P: Port>(
     port: &mut P,
     export: &Export,
 ) -> SessionEnd
-    ensures { (log : Log) × P.did port.old port.new (exchanges_of log.turns) × IsSession export.now result
-        (moment (S.given source.old) (S.left source.old) (K.had sink.old) (S.faults source.old) (K.faults sink.old) 0 0)
-        (moment (S.given source.new) (S.left source.new) (K.had sink.new) (S.faults source.new) (K.faults sink.new) result.taken result.put)
+    ensures out { (result.ending ≡ Ending.WriteFault) ⊎ IsOut (K.outlet sink.new) }
+    ensures spent { result.ending ≡ Ending.PortSpent → P.is_spent port.new }
+    ensures session { (log : Log) × P.did port.old port.new (exchanges_of log.turns) × IsSession export.now result
+        (moment (S.intake source.old) (K.outlet sink.old) 0 0)
+        (moment (S.intake source.new) (K.outlet sink.new) result.taken result.put)
         log }
 {
     let mut tally = Tally { taken: 0, put: 0 };
@@ -71,11 +76,14 @@ fn serve_requests<S: Source, K: Sink, P: Port>(
     port: &mut P,
     tally: &mut Tally,
 ) -> Ending
-    ensures { (turns : List Turn) × (taken : List ℕ) × (whole : List ℕ) × (front : List ℕ) × (ended : Bool)
+    requires { IsOut (K.outlet sink.old) }
+    ensures out { (result ≡ Ending.WriteFault) ⊎ IsOut (K.outlet sink.new) }
+    ensures spent { result ≡ Ending.PortSpent → P.is_spent port.new }
+    ensures served { (turns : List Turn) × (taken : List ℕ) × (whole : List ℕ) × (front : List ℕ) × (ended : Bool)
         × P.did port.old port.new (exchanges_of turns)
         × Serves 0
-        (moment (S.given source.old) (S.left source.old) (K.had sink.old) (S.faults source.old) (K.faults sink.old) tally.old.taken tally.old.put)
-        (moment (S.given source.new) (S.left source.new) (K.had sink.new) (S.faults source.new) (K.faults sink.new) tally.new.taken tally.new.put)
+        (moment (S.intake source.old) (K.outlet sink.old) tally.old.taken tally.old.put)
+        (moment (S.intake source.new) (K.outlet sink.new) tally.new.taken tally.new.put)
         (Some result) turns taken whole front ended }
 {
     let mut spare = Vec::new(alloc);
@@ -88,7 +96,8 @@ fn serve_requests<S: Source, K: Sink, P: Port>(
     Ending::TooMany(MAX_REQUESTS)
 }
 
-/// Serves the next request, and says how the session ended where it did.
+/// Serves the next request, and says how the session ended where it did. All that was put before has
+/// gone out when the request is asked for, and so has its reply when the next one is.
 fn serve_request<S: Source, K: Sink, P: Port>(
     alloc: Global,
     source: &mut S,
@@ -97,12 +106,15 @@ fn serve_request<S: Source, K: Sink, P: Port>(
     spare: &mut Vec<u8>,
     tally: &mut Tally,
 ) -> Option<Ending>
-    ensures { (turns : List Turn) × (taken : List ℕ) × (whole : List ℕ) × (front : List ℕ) × (ended : Bool)
+    requires { IsOut (K.outlet sink.old) }
+    ensures out { (result ≡ Some Ending.WriteFault) ⊎ IsOut (K.outlet sink.new) }
+    ensures spent { result ≡ Some Ending.PortSpent → P.is_spent port.new }
+    ensures served { (turns : List Turn) × (taken : List ℕ) × (whole : List ℕ) × (front : List ℕ) × (ended : Bool)
         × (result ≡ None → length turns ≡ 1)
         × P.did port.old port.new (exchanges_of turns)
         × ((n : ℕ) → n < 2 ^ 32 → Serves n
-        (moment (S.given source.old) (S.left source.old) (K.had sink.old) (S.faults source.old) (K.faults sink.old) tally.old.taken tally.old.put)
-        (moment (S.given source.new) (S.left source.new) (K.had sink.new) (S.faults source.new) (K.faults sink.new) tally.new.taken tally.new.put)
+        (moment (S.intake source.old) (K.outlet sink.old) tally.old.taken tally.old.put)
+        (moment (S.intake source.new) (K.outlet sink.new) tally.new.taken tally.new.put)
         result turns taken whole front ended) }
 {
     match next_request(alloc, source, spare, &mut tally.taken) {
@@ -150,8 +162,8 @@ fn keep_content(spare: &mut Vec<u8>, reply: Reply) {
 
 /// Puts a reply, and says that the session ended where the sink failed.
 fn answer<K: Sink>(sink: &mut K, cookie: u64, reply: &Reply, put: &mut u64) -> Option<Ending>
-    ensures { (whole : List ℕ) × (front : List ℕ) × Replies (K.had sink.old) (K.had sink.new) (K.faults sink.old)
-        (K.faults sink.new) put.old put.new (reply_text cookie reply.now) result whole front }
+    ensures out { (result ≡ Some Ending.WriteFault) ⊎ ((result ≡ None) × IsOut (K.outlet sink.new)) }
+    ensures replies { (whole : List ℕ) × (front : List ℕ) × Replies (K.outlet sink.old) (K.outlet sink.new) put.old put.new (reply_text cookie reply.now) result whole front }
 {
     match put_reply(sink, cookie, reply, put) {
         Ok(()) => None,

@@ -1,7 +1,7 @@
 ghost use Rattle.std.specs.Prelude.{◌≡◌, ◌<◌, ◌≤◌, ◌+◌, ◌^◌, ℕ, Bool, List, length, take, IfOk};
 ghost use Rattle.nbd_session.specs.Counts.{capped};
 ghost use Rattle.nbd_session.specs.Taking.{DataIs, HeadIs, TakesUpTo};
-ghost use Rattle.nbd_session.specs.Traffic.{filled_of, intake};
+ghost use Rattle.nbd_session.specs.Traffic.{filled_of, reach};
 
 use crate::Ending;
 use crate::filling::{Filled, fill, skip};
@@ -24,8 +24,8 @@ pub enum Data {
 pub fn take_head<S: Source>(source: &mut S, head: &mut [u8], taken: &mut u64) -> Result<(), Ending>
     requires { 0 < length head.old }
     ensures { (bytes : List ℕ) × (ended : Bool) × HeadIs
-        (intake (S.given source.old) (S.left source.old) (S.faults source.old) taken.old)
-        (intake (S.given source.new) (S.left source.new) (S.faults source.new) taken.new)
+        (reach (S.intake source.old) taken.old)
+        (reach (S.intake source.new) taken.new)
         (length head.old) head.new result bytes ended }
 {
     match take_into(source, head, taken) {
@@ -46,8 +46,8 @@ pub fn take_data<S: Source>(
     taken: &mut u64,
 ) -> Data
     ensures { (bytes : List ℕ) × DataIs
-        (intake (S.given source.old) (S.left source.old) (S.faults source.old) taken.old)
-        (intake (S.given source.new) (S.left source.new) (S.faults source.new) taken.new)
+        (reach (S.intake source.old) taken.old)
+        (reach (S.intake source.new) taken.new)
         length result bytes }
 {
     if length == 0 {
@@ -74,8 +74,8 @@ fn fit(buffer: &mut Vec<u8>, wanted: usize) -> Result<(), AllocError>
 /// Fills a buffer, and counts the bytes that came.
 fn take_into<S: Source>(source: &mut S, buf: &mut [u8], taken: &mut u64) -> Filled
     ensures { TakesUpTo
-        (intake (S.given source.old) (S.left source.old) (S.faults source.old) taken.old)
-        (intake (S.given source.new) (S.left source.new) (S.faults source.new) taken.new)
+        (reach (S.intake source.old) taken.old)
+        (reach (S.intake source.new) taken.new)
         (length buf.new) result (take (filled_of (length buf.new) result) buf.new) }
 {
     let filled = fill(source, buf);
@@ -86,8 +86,8 @@ fn take_into<S: Source>(source: &mut S, buf: &mut [u8], taken: &mut u64) -> Fill
 /// Takes so many bytes and drops them, and counts those that came.
 pub fn take_past<S: Source>(source: &mut S, length: usize, taken: &mut u64) -> Filled
     ensures { (bytes : List ℕ) × TakesUpTo
-        (intake (S.given source.old) (S.left source.old) (S.faults source.old) taken.old)
-        (intake (S.given source.new) (S.left source.new) (S.faults source.new) taken.new)
+        (reach (S.intake source.old) taken.old)
+        (reach (S.intake source.new) taken.new)
         length result bytes }
 {
     let filled = skip(source, length);

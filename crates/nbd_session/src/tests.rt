@@ -1,4 +1,4 @@
-ghost use Rattle.std.specs.Prelude.{Some};
+ghost use Rattle.io_edge.specs.Memory.{outlet_of};
 
 mod blocks;
 mod messages;
@@ -62,9 +62,7 @@ impl Door {
 }
 
 impl Sink for Door {
-    ghost had = { λ s. Some s.inner.had };
-
-    ghost faults = { λ s. s.inner.plan.faults };
+    ghost outlet = { λ s. outlet_of s.inner };
 
     fn put(&mut self, bytes: &[u8]) -> Result<(), Failed> {
         self.puts = self.puts.saturating_add(1);

@@ -41,6 +41,8 @@ impl Blocks {
 impl Port for Blocks {
     ghost did = { λ _ _ _. Unit {0} };
 
+    ghost is_spent = { λ _. Unit {0} };
+
     fn submit(&mut self, alloc: Global, op: Op, spare: Bytes) -> Result<Submitted, AllocError> {
         if !self.has_memory {
             return Err(AllocError);

@@ -5,9 +5,8 @@ use Rattle.nbd_session.proofs.filling.fill.Given as goal
 abbrev pub invariant-loop-count : goal.invariant-loop-count
 invariant-loop-count g l = record {
   inside : l.count ≤ length l.buf;
-  took : Took (g.S.Source.given l.initial.source) (g.S.Source.given l.source) (g.S.Source.left l.initial.source)
-      (g.S.Source.left l.source) (take l.count l.buf);
-  held : g.S.Source.faults l.source ≡ g.S.Source.faults l.initial.source;
+  took : Took (g.S.Source.intake l.initial.source) (g.S.Source.intake l.source) (take l.count l.buf);
+  held : (g.S.Source.intake l.source).faults ≡ (g.S.Source.intake l.initial.source).faults;
 }
 
 abbrev pub decreases-loop-count : goal.decreases-loop-count

@@ -7,8 +7,8 @@ invariant-loop-count g l = record {
   inside : l.count ≤ l.length;
   buffer : length l.buf ≡ 4096;
   took : (bytes : List ℕ) × (length bytes ≡ l.count)
-      × Took (g.S.Source.given l.initial.source) (g.S.Source.given l.source) (g.S.Source.left l.initial.source) (g.S.Source.left l.source) bytes;
-  held : g.S.Source.faults l.source ≡ g.S.Source.faults l.initial.source;
+      × Took (g.S.Source.intake l.initial.source) (g.S.Source.intake l.source) bytes;
+  held : (g.S.Source.intake l.source).faults ≡ (g.S.Source.intake l.initial.source).faults;
 }
 
 abbrev pub decreases-loop-count : goal.decreases-loop-count

@@ -1,16 +1,20 @@
-use Rattle.std.proofs.Common.{[], ◌++◌, false, refl, None, arith, length, length-append}
+use Rattle.std.proofs.Common.{⊎_elim, [], ◌++◌, false, refl, None, arith, length, length-append}
 use Rattle.nbd_session.specs.declared.options.Course.TheVariants.{GoesOn, Begins, Ends}
 use Rattle.nbd_session.proofs.OptionLemmas.{answers-none, answers-more, answers-on, answers-too_many}
 use Rattle.nbd_session.proofs.negotiation.agree.Goals as goal
 
 pub loop-number-init : goal.loop-number-init
-loop-number-init g c = record { answered = ([], [], [], refl, answers-none c.args.export.now c.args.no_zeroes _) }
+loop-number-init g c = record {
+  out = c.requires;
+  answered = ([], [], [], refl, answers-none c.args.export.now c.args.no_zeroes _);
+}
 
 pub loop-number-preserved : goal.loop-number-preserved
 loop-number-preserved g c =
     let old = c.loop-number.invariant.answered in
-    let new = c.in-GoesOn.ensures in
+    let new = c.in-GoesOn.ensures.answers in
     record {
+      out = ⊎_elim (λ is. absurd (cc)) (λ out. out) c.in-GoesOn.ensures.out;
       answered = (
         old.0 ++ new.0,
         old.1 ++ new.2,
@@ -21,10 +25,10 @@ loop-number-preserved g c =
       );
     }
 
-pub returns-in-Begins : goal.returns-in-Begins
-returns-in-Begins g c =
+pub returns-in-Begins-clause-agrees : goal.returns-in-Begins-clause-agrees
+returns-in-Begins-clause-agrees g c =
     let old = c.loop-number.invariant.answered in
-    let new = c.in-Begins.ensures in (
+    let new = c.in-Begins.ensures.answers in (
       old.0 ++ new.0,
       new.1,
       old.1 ++ new.2,
@@ -35,10 +39,10 @@ returns-in-Begins g c =
           (new.7 (length old.0) (omega (arith, old.3))),
     )
 
-pub returns-in-Ends : goal.returns-in-Ends
-returns-in-Ends g c =
+pub returns-in-Ends-clause-agrees : goal.returns-in-Ends-clause-agrees
+returns-in-Ends-clause-agrees g c =
     let old = c.loop-number.invariant.answered in
-    let new = c.in-Ends.ensures in (
+    let new = c.in-Ends.ensures.answers in (
       old.0 ++ new.0,
       new.1,
       old.1 ++ new.2,
@@ -49,7 +53,7 @@ returns-in-Ends g c =
           (new.7 (length old.0) (omega (arith, old.3))),
     )
 
-pub returns : goal.returns
-returns g c =
+pub returns-clause-agrees : goal.returns-clause-agrees
+returns-clause-agrees g c =
     let all = c.loop-number.invariant.answered in
     (all.0, None, all.1, all.2, [], false, answers-too_many c.args.export.now c.args.no_zeroes _ _ all.0 all.1 all.2 all.4 (omega (arith, all.3)))

@@ -1,10 +1,11 @@
-use Rattle.std.proofs.Common.{List, [], ◌++◌, false, refl, sym, subst, None, Some, arith, length, length-append}
+use Rattle.std.proofs.Common.{⊎_elim, List, [], ◌++◌, false, refl, sym, subst, None, Some, arith, length, length-append}
 use Rattle.plain_disk.specs.Plain.{Exchange}
 use Rattle.nbd_session.proofs.RequestLemmas.{serves-none, serves-more, serves-on, serves-too_many, exchanges_of-append, exchanges_of-none}
 use Rattle.nbd_session.proofs.session.serve_requests.Goals as goal
 
 pub loop-number-init : goal.loop-number-init
 loop-number-init g c = record {
+  out = c.requires;
   served = (
     [],
     [],
@@ -15,10 +16,10 @@ loop-number-init g c = record {
   );
 }
 
-pub returns-in-Some : goal.returns-in-Some
-returns-in-Some g c =
+pub returns-in-Some-clause-served : goal.returns-in-Some-clause-served
+returns-in-Some-clause-served g c =
     let old = c.loop-number.invariant.served in
-    let new = c.in-Some.ensures in (
+    let new = c.in-Some.ensures.served in (
       old.0 ++ new.0,
       old.1 ++ new.1,
       old.2 ++ new.2,
@@ -32,8 +33,9 @@ returns-in-Some g c =
 pub loop-number-preserved : goal.loop-number-preserved
 loop-number-preserved g c =
     let old = c.loop-number.invariant.served in
-    let new = c.in-None.ensures in
+    let new = c.in-None.ensures.served in
     record {
+      out = ⊎_elim (λ is. absurd (cc)) (λ out. out) c.in-None.ensures.out;
       served = (
         old.0 ++ new.0,
         old.1 ++ new.1,
@@ -46,7 +48,7 @@ loop-number-preserved g c =
       );
     }
 
-pub returns : goal.returns
-returns g c =
+pub returns-clause-served : goal.returns-clause-served
+returns-clause-served g c =
     let all = c.loop-number.invariant.served in
     (all.0, all.1, all.2, [], false, all.4, serves-too_many _ _ all.0 all.1 all.2 all.5 (omega (arith, all.3)))

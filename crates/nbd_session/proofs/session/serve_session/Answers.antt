@@ -1,16 +1,19 @@
-use Rattle.std.proofs.Common.{List, refl, sym, subst, ◌∙◌, ap}
+use Rattle.std.proofs.Common.{List, refl, sym, subst, ◌∙◌, ap, inl, inr, ⊎_elim}
 use Rattle.plain_disk.specs.Plain.{Exchange}
+use Rattle.nbd_session.specs.declared.ending.Ending.{Ending}
+use Rattle.nbd_session.specs.Session.{IsUnserved}
 use Rattle.nbd_session.specs.Turns.{exchanges_of}
+use Rattle.nbd_session.proofs.NegotiationLemmas.{unserved-unspent}
 use Rattle.nbd_session.proofs.RequestLemmas.{exchanges_of-none}
 use Rattle.nbd_session.proofs.SessionLemmas.{session-early, session-served, served-log}
 use Rattle.nbd_session.proofs.session.serve_session.Goals as goal
 use Rattle.nbd_session.proofs.session.serve_session.Goals.{in-Ok, in-Err}
 
-pub returns : goal.returns
-returns g c = rw c.end_of.ensures.is (elim c.match-negotiate.branch [
+pub returns-clause-session : goal.returns-clause-session
+returns-clause-session g c = rw c.end_of.ensures.is (elim c.match-negotiate.branch [
   | in-Ok w ↦
-      let n = w.in-Ok.ensures in
-      let s = w.serve_requests-ending.ensures in
+      let n = w.in-Ok.ensures.negotiates in
+      let s = w.serve_requests-ending.ensures.served in
       rw (w.source-is, w.sink-is, w.port-is, w.tally-is, w.ending-is) (
         served-log n.0 s.0 s.1 s.2 s.3 s.4,
         s.5,
@@ -18,7 +21,7 @@ returns g c = rw c.end_of.ensures.is (elim c.match-negotiate.branch [
             (rw w.tally-is at c.end_of.ensures.taken_fits) (rw w.tally-is at c.end_of.ensures.put_fits) n.1 s.6,
       )
   | in-Err w ↦
-      let n = w.in-Err.ensures in
+      let n = w.in-Err.ensures.negotiates in
       rw (w.source-is, w.sink-is, w.port-is, w.tally-is, w.ending-is) (
         n.0,
         subst (λ (done : List Exchange). g.P.Port.did c.args.port.now c.args.port.now done) (sym (ap exchanges_of n.1.none_asked ∙ exchanges_of-none))
@@ -26,4 +29,18 @@ returns g c = rw c.end_of.ensures.is (elim c.match-negotiate.branch [
         session-early c.args.export.now _ _ w.in-Err.ending n.0 refl refl
             (rw w.tally-is at c.end_of.ensures.taken_fits) (rw w.tally-is at c.end_of.ensures.put_fits) n.1,
       )
+])
+
+pub returns-clause-spent : goal.returns-clause-spent
+returns-clause-spent g c = rw c.end_of.ensures.is (elim c.match-negotiate.branch [
+  | in-Ok w ↦ rw (w.port-is, w.ending-is) w.serve_requests-ending.ensures.spent
+  | in-Err w ↦
+      let n = w.in-Err.ensures.negotiates in
+      rw (w.port-is, w.ending-is) (λ is. absurd (unserved-unspent n.0.stage n.0 (subst (λ (e : Ending). IsUnserved n.0.stage n.0 e) is n.1.by_case)))
+])
+
+pub returns-clause-out : goal.returns-clause-out
+returns-clause-out g c = rw c.end_of.ensures.is (elim c.match-negotiate.branch [
+  | in-Ok w ↦ rw (w.sink-is, w.ending-is) w.serve_requests-ending.ensures.out
+  | in-Err w ↦ rw (w.sink-is, w.ending-is) (⊎_elim (λ is. inl (cc)) (λ out. inr out) w.in-Err.ensures.out)
 ])
