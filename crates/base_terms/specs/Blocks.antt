@@ -5,6 +5,10 @@ use Rattle.std.specs.Prelude.{ℕ, zero, suc, ◌+◌, List, [], ◌∷◌, ◌+
 unfoldable pub pasted : List ℕ → ℕ → List ℕ → List ℕ
 pasted old at bytes = take at old ++ bytes ++ drop (at + length bytes) old
 
+-- a text that keeps its length, with these bytes in place of its first ones
+abbrev pub rewritten : List ℕ → List ℕ → List ℕ
+rewritten old bytes = take (length old) (bytes ++ drop (length bytes) old)
+
 -- the first `n` blocks of a text, each of `size` bytes
 unfoldable pub blocks_of : ℕ → ℕ → List ℕ → List (List ℕ)
 blocks_of size zero bytes = []

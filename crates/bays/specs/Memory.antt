@@ -2,6 +2,7 @@
 use Rattle.std.specs.Prelude.{ℕ, ◌≡◌, ◌+◌, ◌<◌, ◌≤◌, ◌==◌, ◌&&◌, Bool, true, false, if◌then◌else◌, List, [], length, map, take, drop, slice_index_or, Option, Some, None, Result, Ok, Err}
 use Rattle.std.specs.List.{list_all}
 use Rattle.std.specs.Option.{option_map_or}
+use Rattle.std.specs.Str.{bytes_eq}
 use Rattle.std.specs.declared.alloc.Global.{Global}
 use Rattle.std.specs.declared.string.String.{String}
 use Rattle.io_edge.specs.FaultPlan.{Plan, fresh_plan}
@@ -10,9 +11,9 @@ use Rattle.sector_disk.specs.Mem.{atom_of}
 use Rattle.sector_disk.specs.declared.mem_disk.MemDisk.{MemDisk}
 use Rattle.bays.specs.declared.bay.BayFault.{BayFault}
 use Rattle.bays.specs.declared.bay.BayFault.TheVariants.{Failed, Memory}
-use Rattle.bays.specs.Bays.{share}
+use Rattle.bays.specs.Bays.{Holdings, share}
 use Rattle.bays.specs.Names.{named}
-use Rattle.bays.specs.Stories.{Script, Handed, Story}
+use Rattle.bays.specs.Stories.{Script, Handed, LinkState, Story}
 
 -- of a link: the connections ahead, how many it gave and didn't get back, those it got back, how
 -- many it has room for, and the plan of its faults
@@ -33,9 +34,10 @@ pub record Stock : Type 0 where
   pub link_fails : List (List ℕ)
   pub plan : Plan
 
--- whether nothing was taken from a connection's source and nothing was put to its sink
+-- whether nothing was taken from a connection's source, and nothing was put to its sink
 abbrev pub is_fresh : Input × Output → Bool
-is_fresh connection = (length connection.0.given == 0) && (length connection.1.had == 0)
+is_fresh connection =
+    (length connection.0.given == 0) && ((length connection.1.had == 0) && (length connection.1.held_back == 0))
 
 -- a connection as one to come
 abbrev pub script_of : Input × Output → Script
@@ -51,6 +53,7 @@ handed_of connection = record {
   given = connection.0.given;
   left = connection.0.left;
   had = connection.1.had;
+  held_back = connection.1.held_back;
   in_faults = connection.0.plan.faults;
   out_faults = connection.1.plan.faults;
 }
@@ -63,6 +66,19 @@ inputs_of stock = if list_all is_fresh stock.connections then Some (map script_o
 abbrev pub story_of : Line → Option Story
 story_of line =
     if list_all is_fresh line.ahead then Some (record { ahead = map script_of line.ahead; handed = map handed_of line.handed }) else None
+
+-- all that a link tells
+abbrev pub link_state : Line → LinkState
+link_state line = record { story = story_of line; bound = length line.ahead; lent = line.lent; faults = line.plan.faults }
+
+-- all that a bay tells
+abbrev pub holdings_of : Stock → Holdings MemDisk
+holdings_of stock = record {
+  shelf = λ name. named name stock.disks;
+  keyring = λ name. named name stock.keys;
+  inputs = λ address. if bytes_eq address stock.address then inputs_of stock else None;
+  faults = stock.plan.faults;
+}
 
 -- whether there is a disk of that name, with atoms of so many bytes
 abbrev pub has_disk : List ℕ → ℕ → List (String Global × MemDisk) → Bool

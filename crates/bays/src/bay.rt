@@ -1,7 +1,6 @@
-ghost use Rattle.std.specs.Prelude.{◌≡◌, ◌<◌, ◌≤◌, ℕ, List, Option, Some, IfOk, length, slice_index_or};
+ghost use Rattle.std.specs.Prelude.{◌≡◌, ◌<◌, ℕ, List, Some, IfOk, OnOk, length, take};
 ghost use Rattle.sector_disk.specs.Geometry.{IsAtom};
-ghost use Rattle.bays.specs.Bays.{HasBayCause, AreFresh};
-ghost use Rattle.bays.specs.Stories.{Script};
+ghost use Rattle.bays.specs.Bays.{AfterDisk, AfterLinks, AreBounded, AreFresh, HasBayCause, Holdings, LeavesAll};
 
 use crate::Link;
 use base_terms::Bytes;
@@ -15,36 +14,33 @@ pub enum BayFault {
     Memory,
 }
 
-/// Where a command's disks, keys and clients come from.
+/// Where a command's disks, keys and clients come from. A call that gives nothing leaves all as it
+/// was, but for the count of failures.
 pub trait Bay {
     type Disk: Disk;
 
     type Link: Link;
 
-    /// The disk of a name, where it is told.
-    ghost shelf: { Self → List ℕ → Option Self.Disk };
+    /// Its disks and key files by name and its clients by address, and how many calls failed.
+    ghost holdings: { Self → Holdings Self.Disk };
 
-    /// The inputs of the sessions to come, by session number, where they are told.
-    ghost inputs: { Self → Option (List Script) };
-
-    /// How many calls failed.
-    ghost faults: { Self → ℕ };
-
-    /// The disk of that name, with atoms of so many bytes.
+    /// The disk of that name, with atoms of so many bytes. All else in the bay stands.
     fn disk(&mut self, alloc: Global, name: &str, atom: u32) -> Result<Self::Disk, BayFault>
         requires { IsAtom atom }
-        ensures atom { IfOk result (λ disk. Self.Disk.size disk ≡ atom) }
-        ensures told { IfOk result (λ disk. (kept : Self.Disk) → shelf self.old name.now ≡ Some kept → disk ≡ kept) }
-        ensures inputs { inputs self.new ≡ inputs self.old }
-        ensures cause { HasBayCause (faults self.old) (faults self.new) result };
+        ensures atom { IfOk result (λ disk. (Self.Disk.device disk).size ≡ atom) }
+        ensures told { IfOk result (λ disk. (kept : Self.Disk) → (holdings self.old).shelf name.now ≡ Some kept → disk ≡ kept) }
+        ensures leaves { AfterDisk name.now (holdings self.old) (holdings self.new) result }
+        ensures cause { HasBayCause (holdings self.old).faults (holdings self.new).faults result };
 
-    /// The whole key file of that name, cut at 513 bytes.
+    /// The whole key file of that name, cut at 513 bytes. All in the bay stands.
     fn key(&mut self, alloc: Global, name: &str) -> Result<Bytes, BayFault>
-        ensures inputs { inputs self.new ≡ inputs self.old }
-        ensures cause { HasBayCause (faults self.old) (faults self.new) result };
+        ensures told { IfOk result (λ bytes. (whole : List ℕ) → (holdings self.old).keyring name.now ≡ Some whole → bytes ≡ take 513 whole) }
+        ensures leaves { LeavesAll (holdings self.old) (holdings self.new) }
+        ensures cause { HasBayCause (holdings self.old).faults (holdings self.new).faults result };
 
-    /// One link for each worker. Worker `i` of `workers`, counted from 0, serves the sessions `i`,
-    /// `i + workers`, `i + 2 * workers` and so on below `sessions`.
+    /// One link to the clients of that address for each worker. Worker `i` of `workers`, counted from
+    /// 0, serves the sessions `i`, `i + workers`, `i + 2 * workers` and so on below `sessions`. All
+    /// else in the bay stands.
     fn links(
         &mut self,
         alloc: Global,
@@ -54,7 +50,8 @@ pub trait Bay {
     ) -> Result<Vec<Self::Link>, BayFault>
         requires { 0 < workers }
         ensures count { IfOk result (λ links. length links.items ≡ workers) }
-        ensures fresh { IfOk result (λ links. AreFresh Self.Link.told (inputs self.old) workers sessions links.items) }
-        ensures bound { IfOk result (λ links. (k : ℕ) (d : Self.Link) → k < workers → Self.Link.bound (slice_index_or links.items k d) ≤ sessions) }
-        ensures cause { HasBayCause (faults self.old) (faults self.new) result };
+        ensures fresh { IfOk result (λ links. AreFresh Self.Link.state ((holdings self.old).inputs address.now) workers sessions links.items) }
+        ensures bound { IfOk result (λ links. AreBounded Self.Link.state workers sessions links.items) }
+        ensures leaves { AfterLinks address.now (holdings self.old) (holdings self.new) result }
+        ensures cause { HasBayCause (holdings self.old).faults (holdings self.new).faults result };
 }

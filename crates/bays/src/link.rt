@@ -1,6 +1,6 @@
-ghost use Rattle.std.specs.Prelude.{◌≡◌, ◌+◌, ℕ, ◌<◌, List, [], Option, Some, Result, IfOk, IfSome, IfNone, MatchResult, MatchOption};
+ghost use Rattle.std.specs.Prelude.{◌≡◌, ◌+◌, ◌<◌, IfOk, IfNone};
 ghost use Rattle.base_terms.specs.Causes.{HasCause};
-ghost use Rattle.bays.specs.Stories.{Story, Gives, TakesBack};
+ghost use Rattle.bays.specs.Stories.{CountsGiven, Gives, HasNoneAhead, LinkState, TakesBack};
 
 use base_terms::Failed;
 use io_edge::{Sink, Source};
@@ -11,32 +11,21 @@ pub trait Link {
 
     type Out: Sink;
 
-    /// What it has ahead and was handed back, where it is told.
-    ghost told: { Self → Option Story };
+    /// What it has ahead and was handed back, where it is told, and its counts.
+    ghost state: { Self → LinkState };
 
-    /// At most how many connections are still to come.
-    ghost bound: { Self → ℕ };
-
-    /// How many connections it gave that weren't handed back yet.
-    ghost lent: { Self → ℕ };
-
-    /// How many calls failed.
-    ghost faults: { Self → ℕ };
-
-    /// The next connection; None where there is no more.
+    /// The next connection; None exactly where there is no more to come.
     fn next(&mut self) -> Result<Option<(Self::In, Self::Out)>, Failed>
-        ensures told { Gives Self.In.given Self.In.left Self.In.faults Self.Out.had Self.Out.faults (told self.old) (told self.new) result }
-        ensures at_end { IfOk result (λ given. IfNone given ((story : Story) → told self.old ≡ Some story → story.ahead ≡ [])) }
-        ensures bound { MatchResult result (λ given. MatchOption given (bound self.new ≡ bound self.old) (λ _. bound self.new + 1 ≡ bound self.old))
-            (λ _. bound self.new ≡ bound self.old) }
-        ensures lent { IfOk result (λ given. IfSome given (λ _. lent self.new ≡ lent self.old + 1)) }
-        ensures cause { HasCause (faults self.old) (faults self.new) result };
+        ensures told { Gives Self.In.intake Self.Out.outlet (state self.old) (state self.new) result }
+        ensures at_end { IfOk result (λ given. IfNone given (HasNoneAhead (state self.new))) }
+        ensures counts { CountsGiven (state self.old) (state self.new) result }
+        ensures cause { HasCause (state self.old).faults (state self.new).faults result };
 
     /// Takes a connection back when its session has ended. It takes no memory.
     fn done(&mut self, source: Self::In, sink: Self::Out)
-        requires { 0 < lent self.old }
-        ensures told { TakesBack (Self.In.given source) (Self.In.left source) (Self.In.faults source) (Self.Out.had sink) (Self.Out.faults sink)
-            (told self.old) (told self.new) }
-        ensures bound { bound self.new ≡ bound self.old }
-        ensures faults { faults self.new ≡ faults self.old };
+        requires { 0 < (state self.old).lent }
+        ensures told { TakesBack (Self.In.intake source) (Self.Out.outlet sink) (state self.old) (state self.new) }
+        ensures bound { (state self.new).bound ≡ (state self.old).bound }
+        ensures lent { (state self.new).lent + 1 ≡ (state self.old).lent }
+        ensures faults { (state self.new).faults ≡ (state self.old).faults };
 }

@@ -1,11 +1,11 @@
-ghost use Rattle.std.specs.Prelude.{◌≡◌, ℕ, ◌<◌, ◌≤◌, ◌⊎◌, ◌↔◌, [], length, map, take, drop, slice_index_or, Some, true, false, not, is_some, IsTrue, IfOk, IfErr, IfSome, OnOk, OnErr, IsErr, IsErrOf, Contains, MatchOption};
+ghost use Rattle.std.specs.Prelude.{◌≡◌, ℕ, List, ◌<◌, ◌≤◌, ◌⊎◌, ◌↔◌, [], length, map, take, drop, slice_index_or, Some, true, false, not, is_some, IsTrue, IfOk, IfErr, IfSome, OnOk, OnErr, IsErr, IsErrOf, Contains, MatchOption};
 ghost use Rattle.std.specs.String.{string_bytes};
 ghost use Rattle.std.specs.Str.{bytes_eq};
 ghost use Rattle.io_edge.specs.FaultPlan.{fresh_plan, next_plan};
 ghost use Rattle.sector_disk.specs.Geometry.{IsAtom};
 ghost use Rattle.sector_disk.specs.Mem.{atom_of};
-ghost use Rattle.bays.specs.Bays.{HasBayCause, AreFresh, share};
-ghost use Rattle.bays.specs.Memory.{Line, AreDealt, HaveShares, IsIdle, fails_of, has_disk, inputs_of, is_failed, new_line, story_of};
+ghost use Rattle.bays.specs.Bays.{AfterDisk, AfterLinks, AreBounded, AreFresh, HasBayCause, LeavesAll, share};
+ghost use Rattle.bays.specs.Memory.{Line, AreDealt, HaveShares, IsIdle, fails_of, has_disk, holdings_of, inputs_of, is_failed, link_state, new_line};
 ghost use Rattle.bays.specs.Names.{StandsAt, named, without};
 ghost use Rattle.std.specs.declared.alloc.Global.{Global};
 ghost use Rattle.std.specs.declared.string.String.{String};
@@ -145,11 +145,7 @@ impl Bay for MemBay {
 
     type Link = MemLink;
 
-    ghost shelf = { λ b name. named name b.disks };
-
-    ghost inputs = { inputs_of };
-
-    ghost faults = { λ b. b.plan.faults };
+    ghost holdings = { holdings_of };
 
     /// Gives each disk out once. Fails exactly where the call's number is one of those that are to
     /// fail, where there is no disk of that name, or no more, and where it has another atom.
@@ -157,7 +153,7 @@ impl Bay for MemBay {
         requires { IsAtom atom }
         ensures atom { IfOk result (λ disk. atom_of disk ≡ atom) }
         ensures told { IfOk result (λ disk. (kept : MemDisk) → named name.now self.old.disks ≡ Some kept → disk ≡ kept) }
-        ensures inputs { inputs_of self.new ≡ inputs_of self.old }
+        ensures leaves { AfterDisk name.now (holdings_of self.old) (holdings_of self.new) result }
         ensures cause { HasBayCause self.old.plan.faults self.new.plan.faults result }
         ensures exact { IsErr result ↔ (IsTrue (not (has_disk name.now atom self.old.disks)) ⊎ Contains self.old.plan.fails self.old.plan.calls) }
         ensures is { IfOk result (λ disk. named name.now self.old.disks ≡ Some disk) }
@@ -177,7 +173,8 @@ impl Bay for MemBay {
     /// Fails exactly where the call's number is one of those that are to fail, and where there is no
     /// key file of that name.
     fn key(&mut self, alloc: Global, name: &str) -> Result<Bytes, BayFault>
-        ensures inputs { inputs_of self.new ≡ inputs_of self.old }
+        ensures told { IfOk result (λ bytes. (whole : List ℕ) → named name.now self.old.keys ≡ Some whole → bytes ≡ take 513 whole) }
+        ensures leaves { LeavesAll (holdings_of self.old) (holdings_of self.new) }
         ensures cause { HasBayCause self.old.plan.faults self.new.plan.faults result }
         ensures exact { IsErrOf result BayFault.Failed ↔ (IsTrue (not (is_some (named name.now self.old.keys))) ⊎ Contains self.old.plan.fails self.old.plan.calls) }
         ensures bytes { IfOk result (λ bytes. MatchOption (named name.now self.old.keys) ⊥ (λ whole. bytes ≡ take 513 whole)) }
@@ -206,8 +203,9 @@ impl Bay for MemBay {
     ) -> Result<Vec<MemLink>, BayFault>
         requires { 0 < workers }
         ensures count { IfOk result (λ links. length links.items ≡ workers) }
-        ensures fresh { IfOk result (λ links. AreFresh story_of (inputs_of self.old) workers sessions links.items) }
-        ensures bound { IfOk result (λ links. (k : ℕ) (link : _) → k < workers → length (slice_index_or links.items k link).ahead ≤ sessions) }
+        ensures fresh { IfOk result (λ links. AreFresh link_state ((holdings_of self.old).inputs address.now) workers sessions links.items) }
+        ensures bound { IfOk result (λ links. AreBounded link_state workers sessions links.items) }
+        ensures leaves { AfterLinks address.now (holdings_of self.old) (holdings_of self.new) result }
         ensures cause { HasBayCause self.old.plan.faults self.new.plan.faults result }
         ensures exact { IsErrOf result BayFault.Failed ↔ (IsTrue (not (bytes_eq address.now self.old.address)) ⊎ Contains self.old.plan.fails self.old.plan.calls) }
         ensures dealt { IfOk result (λ links. AreDealt self.old.connections self.old.link_fails workers sessions links.items) }

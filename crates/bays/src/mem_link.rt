@@ -1,8 +1,9 @@
 ghost use Rattle.std.specs.Prelude.{◌≡◌, ℕ, ◌+◌, ◌-◌, ◌<◌, ◌↔◌, [], ◌∷◌, ◌++◌, length, option_to_list, Some, false, true, IfNone, IfOk, IfSome, MatchResult, MatchOption, OnErr, IsErr, Contains};
 ghost use Rattle.base_terms.specs.Causes.{HasCause};
 ghost use Rattle.io_edge.specs.FaultPlan.{fresh_plan, next_plan};
-ghost use Rattle.bays.specs.Memory.{story_of};
-ghost use Rattle.bays.specs.Stories.{Gives, Story, TakesBack};
+ghost use Rattle.io_edge.specs.Memory.{intake_of, outlet_of};
+ghost use Rattle.bays.specs.Memory.{link_state};
+ghost use Rattle.bays.specs.Stories.{CountsGiven, Gives, HasNoneAhead, TakesBack};
 
 use crate::Link;
 use base_terms::Failed;
@@ -70,22 +71,14 @@ impl Link for MemLink {
 
     type Out = ListSink;
 
-    ghost told = { story_of };
-
-    ghost bound = { λ l. length l.ahead };
-
-    ghost lent = { λ l. l.lent };
-
-    ghost faults = { λ l. l.plan.faults };
+    ghost state = { link_state };
 
     /// Fails exactly where the call's number is one of those that are to fail; then nothing changes
     /// but the counts. There is no connection exactly where none is ahead.
     fn next(&mut self) -> Result<Option<(ListSource, ListSink)>, Failed>
-        ensures told { Gives (λ i. Some i.given) (λ i. Some i.left) (λ i. i.plan.faults) (λ o. Some o.had) (λ o. o.plan.faults) (story_of self.old) (story_of self.new) result }
-        ensures at_end { IfOk result (λ given. IfNone given ((story : Story) → story_of self.old ≡ Some story → story.ahead ≡ [])) }
-        ensures bound { MatchResult result (λ given. MatchOption given (length self.new.ahead ≡ length self.old.ahead) (λ _. length self.new.ahead + 1 ≡ length self.old.ahead))
-            (λ _. length self.new.ahead ≡ length self.old.ahead) }
-        ensures lent { IfOk result (λ given. IfSome given (λ _. self.new.lent ≡ self.old.lent + 1)) }
+        ensures told { Gives intake_of outlet_of (link_state self.old) (link_state self.new) result }
+        ensures at_end { IfOk result (λ given. IfNone given (HasNoneAhead (link_state self.new))) }
+        ensures counts { CountsGiven (link_state self.old) (link_state self.new) result }
         ensures cause { HasCause self.old.plan.faults self.new.plan.faults result }
         ensures exact { IsErr result ↔ Contains self.old.plan.fails self.old.plan.calls }
         ensures first { IfOk result (λ given. self.old.ahead ≡ option_to_list given ++ self.new.ahead) }
@@ -110,8 +103,9 @@ impl Link for MemLink {
     /// Keeps the connection behind those that were handed back before.
     fn done(&mut self, source: ListSource, sink: ListSink)
         requires { 0 < self.old.lent }
-        ensures told { TakesBack (Some source.given) (Some source.left) source.plan.faults (Some sink.had) sink.plan.faults (story_of self.old) (story_of self.new) }
+        ensures told { TakesBack (intake_of source) (outlet_of sink) (link_state self.old) (link_state self.new) }
         ensures bound { length self.new.ahead ≡ length self.old.ahead }
+        ensures lent { self.new.lent + 1 ≡ self.old.lent }
         ensures faults { self.new.plan.faults ≡ self.old.plan.faults }
         ensures takes { self.new ≡ record self.old { lent = self.old.lent - 1; handed = self.old.handed ++ (source, sink) ∷ [] } }
     {

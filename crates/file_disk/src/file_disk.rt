@@ -1,18 +1,16 @@
-ghost use Rattle.std.specs.Prelude.{◌≡◌, ◌*◌, ◌^◌, ◌<◌, ◌≤◌, length, IfOk, is_ok, IsTrue};
-ghost use Rattle.base_terms.specs.Causes.{HasCause};
-ghost use Rattle.file_disk.specs.Sizes.{whole_atoms};
-ghost use Rattle.io_edge.specs.Streams.{Counts};
+ghost use Rattle.std.specs.Prelude.{◌≡◌, ◌*◌, ◌^◌, ◌<◌, ◌≤◌, ℕ, length, Ok, Err, MatchResult, is_ok, IsTrue};
+ghost use Rattle.file_disk.specs.Opening.{OpensLocked};
+ghost use Rattle.file_disk.specs.Sizes.{untold_disk, whole_atoms};
+ghost use Rattle.io_edge.specs.Faults.{Counts};
+ghost use Rattle.sector_disk.specs.Devices.{ReadCall, WriteCall, SyncCall};
 ghost use Rattle.sector_disk.specs.Geometry.{is_atom, IsAtom, IsInDisk};
 
-use crate::PositionedFile;
+use crate::{FileSystem, LockableFile, PositionedFile, open_locked};
 use base_terms::Failed;
 use io_edge::answered;
 use sector_disk::Disk;
-use std::fs::{File, Files, TryLockError};
-use std::io::{self, ErrorKind, Seek, SeekFrom};
-
-#[cfg(test)]
-mod tests;
+use std::fs::File;
+use std::io;
 
 /// A disk on one file or block device, by positioned reads and writes. It tells nothing of content,
 /// and takes no memory after it was opened. Bytes behind its last whole atom are never touched.
@@ -30,7 +28,7 @@ pub struct FileDisk<F: PositionedFile = File> {
     ghost fits: { atoms * atom < 2 ^ 63 },
 }
 
-impl FileDisk<File> {
+impl<F: LockableFile> FileDisk<F> {
     /// A disk on the file of that name, in atoms of 512 or 4096 bytes, as many as are whole in it and
     /// lie below `2^63` bytes. The file is opened as by [`open_locked`], and locked until the disk is
     /// dropped.
@@ -38,39 +36,21 @@ impl FileDisk<File> {
     /// # Errors
     ///
     /// Those of [`open_locked`].
-    pub fn open<R: Files<File = File>>(rt: &R, path: &str, atom: u32) -> io::Result<FileDisk<File>>
+    pub fn open<S: FileSystem<File = F>>(
+        system: &S,
+        path: &str,
+        atom: u32,
+    ) -> io::Result<FileDisk<F>>
         requires { IsAtom atom }
-        ensures atom { IfOk result (λ disk. ⟦<FileDisk<File> as Disk>⟧.size disk ≡ atom) }
-        ensures faults { IfOk result (λ disk. ⟦<FileDisk<File> as Disk>⟧.faults disk ≡ 0) }
+        ensures { MatchResult result
+            (λ disk. (len : ℕ)
+            × OpensLocked (S.opens system.now path.now) F.locks F.measures (Ok (disk.file , len))
+            × (⟦<FileDisk<F> as Disk>⟧.device disk ≡ untold_disk atom (whole_atoms atom len) 0))
+            (λ error. OpensLocked (S.opens system.now path.now) F.locks F.measures (Err error)) }
     {
-        let (file, len) = open_locked(rt, path)?;
-        Ok(FileDisk::new(file, len, atom))
-    }
-}
-
-/// Opens the file or block device of that name for reading and writing, takes its exclusive advisory
-/// lock, which the open file keeps, and measures it in bytes.
-///
-/// # Errors
-///
-/// What the system said where it doesn't open, lock or measure the file, as `NotFound`; of the kind
-/// `WouldBlock` where another open of the file holds a lock. Of the kind `OutOfMemory` where the system
-/// wants memory; the call itself takes none. Nothing stays open or locked.
-pub fn open_locked<R: Files<File = File>>(rt: &R, path: &str) -> io::Result<(File, u64)> {
-    let mut file = File::options().read(true).write(true).open(rt, path)?;
-    lock(&file)?;
-    let len = file.seek(SeekFrom::End(0))?;
-    Ok((file, len))
-}
-
-/// Takes the file's exclusive advisory lock, or fails where another open of the file holds one.
-fn lock(file: &File) -> io::Result<()> {
-    match file.try_lock() {
-        Ok(()) => Ok(()),
-        Err(TryLockError::Error(error)) => Err(error),
-        Err(TryLockError::WouldBlock) => {
-            let message = "locked by another process";
-            Err(io::Error::new(ErrorKind::WouldBlock, message))
+        match open_locked(system, path) {
+            Ok((file, len)) => Ok(FileDisk::new(file, len, atom)),
+            Err(error) => Err(error),
         }
     }
 }
@@ -81,9 +61,8 @@ impl<F: PositionedFile> FileDisk<F> {
     /// Nobody else is to write there while it lives.
     pub fn new(file: F, len: u64, atom: u32) -> FileDisk<F>
         requires { IsAtom atom }
-        ensures atom { ⟦<FileDisk<F> as Disk>⟧.size result ≡ atom }
-        ensures atoms { ⟦<FileDisk<F> as Disk>⟧.count result ≡ whole_atoms atom len }
-        ensures faults { ⟦<FileDisk<F> as Disk>⟧.faults result ≡ 0 }
+        ensures device { ⟦<FileDisk<F> as Disk>⟧.device result
+            ≡ untold_disk atom (whole_atoms atom len) 0 }
         ensures file { result.file ≡ file }
     {
         let used = len.min(i64::MAX as u64);
@@ -105,18 +84,9 @@ impl<F: PositionedFile> FileDisk<F> {
 }
 
 impl<F: PositionedFile> Disk for FileDisk<F> {
-    ghost use Rattle.std.specs.Prelude.{None};
     ghost use Rattle.file_disk.specs.Sizes.{tested_disk};
 
-    ghost size = { λ d. d.atom };
-
-    ghost count = { λ d. d.atoms };
-
-    ghost values = { λ _. None };
-
-    ghost told = { λ _. None };
-
-    ghost faults = { λ d. d.faults };
+    ghost device = { λ d. untold_disk d.atom d.atoms d.faults };
 
     ghost geometry = { λ d. tested_disk d.atom d.atoms d.known d.fits };
 
@@ -140,9 +110,8 @@ impl<F: PositionedFile> Disk for FileDisk<F> {
 
     fn read(&mut self, at: u64, buf: &mut [u8]) -> Result<(), Failed>
         requires { IsInDisk self.old.atom self.old.atoms at (length buf.old) }
-        ensures atom { self.new.atom ≡ self.old.atom }
-        ensures atoms { self.new.atoms ≡ self.old.atoms }
-        ensures cause { HasCause self.old.faults self.new.faults result }
+        ensures call { ReadCall self.old.atom at buf.new (untold_disk self.old.atom self.old.atoms self.old.faults)
+            (untold_disk self.new.atom self.new.atoms self.new.faults) result }
         ensures counts { Counts self.old.faults self.new.faults result }
         ensures reads { F.reads self.old.file (at * self.old.atom) buf.new
             (is_ok result) self.new.file }
@@ -153,9 +122,8 @@ impl<F: PositionedFile> Disk for FileDisk<F> {
 
     fn write(&mut self, at: u64, bytes: &[u8]) -> Result<(), Failed>
         requires { IsInDisk self.old.atom self.old.atoms at (length bytes.now) }
-        ensures atom { self.new.atom ≡ self.old.atom }
-        ensures atoms { self.new.atoms ≡ self.old.atoms }
-        ensures cause { HasCause self.old.faults self.new.faults result }
+        ensures call { WriteCall self.old.atom at bytes.now (untold_disk self.old.atom self.old.atoms self.old.faults)
+            (untold_disk self.new.atom self.new.atoms self.new.faults) result }
         ensures counts { Counts self.old.faults self.new.faults result }
         ensures writes { F.writes self.old.file (at * self.old.atom) bytes.now
             (is_ok result) self.new.file }
@@ -165,9 +133,8 @@ impl<F: PositionedFile> Disk for FileDisk<F> {
     }
 
     fn sync(&mut self) -> Result<(), Failed>
-        ensures atom { self.new.atom ≡ self.old.atom }
-        ensures atoms { self.new.atoms ≡ self.old.atoms }
-        ensures cause { HasCause self.old.faults self.new.faults result }
+        ensures call { SyncCall (untold_disk self.old.atom self.old.atoms self.old.faults)
+            (untold_disk self.new.atom self.new.atoms self.new.faults) result }
         ensures counts { Counts self.old.faults self.new.faults result }
         ensures syncs { F.syncs self.old.file (is_ok result) self.new.file }
     {

@@ -1,9 +1,11 @@
+ghost use Rattle.std.specs.Prelude.{[]};
+
 use crate::{
-    FaultPlan, FixedSeeds, Gate, GatheringWriter, ListSink, ListSource, OpenGate, OsSeeds, Place,
-    Seeds, Sink, Source, StdSink, StdSource, VoidSink, WritePair,
+    FaultPlan, FixedSeeds, Gate, GatheringWriter, ListSink, ListSource, OpenGate, OsSeeds,
+    OutputStream, Place, Seeds, Sink, Source, StdSink, StdSource, VoidSink, WritePair,
 };
 use base_terms::Failed;
-use std::io::{self, ErrorKind, Read, Write};
+use std::io::{self, ErrorKind, PipeWriter, Read, Write};
 use std::random::RandomSource;
 use std::test::Fail;
 
@@ -45,8 +47,10 @@ fn a_list_sink_fails_by_number_and_past_its_room(rt: HostRuntime) -> Result<(), 
     assert_eq!(rt; sink.put(b"d"), Err(Failed), "by its number");
     assert_eq!(rt; sink.put(b"def"), Err(Failed), "past the room");
     assert_eq!(rt; sink.push_out(), Err(Failed), "by its number");
+    assert_eq!(rt; sink.held_back(), b"abc".as_slice());
     assert_eq!(rt; sink.push_out(), Ok(()));
     assert_eq!(rt; sink.put(b"de"), Ok(()));
+    assert_eq!(rt; sink.held_back(), b"de".as_slice());
     assert_eq!(rt; sink.as_slice(), b"abcde".as_slice());
     Ok(())
 }
@@ -71,6 +75,23 @@ fn what_never_fails_answers_ok(rt: HostRuntime) {
     assert_eq!(rt; VoidSink.put(b"abc"), Ok(()));
     assert_eq!(rt; VoidSink.push_out(), Ok(()));
     OpenGate.pause(Place::Work);
+}
+
+impl OutputStream for PipeWriter {
+    ghost held = { λ _. [] };
+
+    ghost writes = { λ _ _ _ _. Unit {0} };
+
+    ghost flushes = { λ _ _ _. Unit {0} };
+
+    #[tactic(auto, using(crate::proofs::Rears::holds_nothing))]
+    fn write_all(&mut self, bytes: &[u8]) -> io::Result<()> {
+        Write::write_all(self, bytes)
+    }
+
+    fn flush(&mut self) -> io::Result<()> {
+        Write::flush(self)
+    }
 }
 
 #[test]
@@ -118,66 +139,39 @@ fn a_source_reads_again_after_a_signal_and_fails_as_its_reader(rt: HostRuntime) 
     assert_eq!(rt; source.take(&mut buf), Ok(2), "the reader goes on");
 }
 
-/// A writer that takes two bytes a call as long as it has room, then nothing, and whose flush
-/// fails once it is full.
-#[derive(Drop)]
-struct Narrow {
-    room: usize,
-}
-
-impl Write for Narrow {
-    fn write(&mut self, buf: &[u8]) -> io::Result<usize> {
-        let n = buf.len().min(self.room).min(2);
-        self.room -= n;
-        Ok(n)
-    }
-
-    fn flush(&mut self) -> io::Result<()> {
-        if self.room == 0 {
-            return Err(io::Error::from(ErrorKind::BrokenPipe));
-        }
-        Ok(())
-    }
-}
-
-#[test]
-fn a_sink_fails_where_its_writer_takes_nothing_or_cannot_flush(rt: HostRuntime) {
-    let mut sink = StdSink::new(Narrow { room: 6 });
-    assert_eq!(rt; sink.put(b"abcde"), Ok(()), "in three pieces");
-    assert_eq!(rt; sink.push_out(), Ok(()));
-    assert_eq!(rt;
-        sink.put(b"fg"),
-        Err(Failed),
-        "nothing is taken of the second byte"
-    );
-    assert_eq!(rt; sink.push_out(), Err(Failed));
-    assert_eq!(rt; sink.put(b""), Ok(()), "a piece that is empty");
-}
-
-/// A text in memory that takes at most `most` bytes a call.
+/// A text in memory of at most `room` bytes, of which each call takes at most `most`; a signal
+/// interrupts every third call.
 #[derive(Drop)]
 struct Slow {
     text: Vec<u8>,
+    room: usize,
     most: usize,
-}
-
-impl Write for Slow {
-    fn write(&mut self, buf: &[u8]) -> io::Result<usize> {
-        self.write_pair(buf, &[])
-    }
-
-    fn flush(&mut self) -> io::Result<()> {
-        Ok(())
-    }
+    calls: u32,
 }
 
 impl WritePair for Slow {
+    ghost writes = { λ _ _ _ _. Unit {0} };
+
+    ghost flushes = { λ _ _ _. Unit {0} };
+
     fn write_pair(&mut self, first: &[u8], second: &[u8]) -> io::Result<usize> {
-        let of_first = first.len().min(self.most);
-        let of_second = second.len().min(self.most - of_first);
+        self.calls = self.calls.saturating_add(1);
+        if self.calls % 3 == 0 {
+            return Err(io::Error::from(ErrorKind::Interrupted));
+        }
+        let most = self.most.min(self.room.saturating_sub(self.text.len()));
+        let of_first = first.len().min(most);
+        let of_second = second.len().min(most - of_first);
         self.text.extend_from_slice(&first[..of_first])?;
         self.text.extend_from_slice(&second[..of_second])?;
         Ok(of_first + of_second)
+    }
+
+    fn flush(&mut self) -> io::Result<()> {
+        if self.text.len() < self.room {
+            return Ok(());
+        }
+        Err(io::Error::from(ErrorKind::BrokenPipe))
     }
 }
 
@@ -185,15 +179,43 @@ impl WritePair for Slow {
 fn a_gathering_writer_writes_all_in_order(rt: HostRuntime) -> Result<(), Fail> {
     let pieces: [&[u8]; 5] = [b"abc", b"defghijklmno", b"p", b"qr", b"stuvw"];
     for most in [1, 2, 3, 4, 7, 100] {
-        let text = Vec::new(rt.alloc());
-        let mut writer = GatheringWriter::new(rt.alloc(), 4, Slow { text, most })?;
+        let slow = Slow {
+            text: Vec::new(rt.alloc()),
+            room: 100,
+            most,
+            calls: 0,
+        };
+        let mut writer = GatheringWriter::new(rt.alloc(), 4, slow)?;
+        writer.write_all(b"ABC")?;
+        assert_eq!(rt; writer.writer().calls, 0, "a short piece is held back");
         for piece in pieces {
             writer.write_all(piece)?;
         }
         writer.flush()?;
         let seen = writer.writer().text.as_slice();
-        assert_eq!(rt; seen, b"abcdefghijklmnopqrstuvw".as_slice(), "{most}");
+        assert_eq!(rt; seen, b"ABCabcdefghijklmnopqrstuvw".as_slice(), "{most}");
     }
+    Ok(())
+}
+
+#[test]
+fn a_sink_fails_where_its_stream_takes_nothing_or_cannot_flush(
+    rt: HostRuntime,
+) -> Result<(), Fail> {
+    let slow = Slow {
+        text: Vec::new(rt.alloc()),
+        room: 6,
+        most: 2,
+        calls: 0,
+    };
+    let mut sink = StdSink::new(GatheringWriter::new(rt.alloc(), 2, slow)?);
+    assert_eq!(rt; sink.put(b"abcde"), Ok(()), "in three pieces");
+    assert_eq!(rt; sink.push_out(), Ok(()));
+    assert_eq!(rt; sink.put(b"f"), Ok(()), "it is held back");
+    assert_eq!(rt; sink.push_out(), Err(Failed), "the flush fails");
+    assert_eq!(rt; sink.put(b"gh"), Ok(()), "it is held back");
+    assert_eq!(rt; sink.push_out(), Err(Failed), "nothing is taken");
+    assert_eq!(rt; sink.put(b""), Ok(()), "a piece that is empty");
     Ok(())
 }
 

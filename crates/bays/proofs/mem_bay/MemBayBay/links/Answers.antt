@@ -1,11 +1,17 @@
-use Rattle.std.proofs.Common.{◌≡◌, length, take, drop, ◌++◌, not, refl, ap, arith, length-take}
+use Rattle.std.proofs.Common.{◌≡◌, ◌∙◌, ⊎_elim, inl, sym, Bool, true, false, length, take, drop, ◌++◌, not, refl, ap, arith, length-take}
 use Rattle.std.proofs.lemmas.List.{take_at}
 use Rattle.std.specs.Str.{bytes_eq}
 use Rattle.std.specs.String.{string_bytes}
 use Rattle.bays.proofs.DealLemmas.{dealt_from_shares}
+use Rattle.std.proofs.lemmas.Bool.{cases_Bool, true≢false}
+use Rattle.bays.proofs.NameLemmas.{others_untold}
 use Rattle.bays.proofs.ShareLemmas.{length-share}
 use Rattle.bays.proofs.TellLemmas.{fresh_from_dealt}
 use Rattle.bays.proofs.mem_bay.MemBayBay.links.Goals as goal
+
+not_false : (b : Bool) → not b ≡ false → b ≡ true
+not_false true is = refl
+not_false false is = sym is
 
 pub returns-then-is_failing-clause-exact : goal.returns-then-is_failing-clause-exact
 returns-then-is_failing-clause-exact c =
@@ -22,7 +28,7 @@ returns-in-Ok-clause-dealt c =
     (rw (c.deref_mut.ensures.value, c.truncate.ensures.items) at c.deal.ensures.dealt))
 
 pub returns-in-Ok-clause-fresh : goal.returns-in-Ok-clause-fresh
-returns-in-Ok-clause-fresh c = fresh_from_dealt c.args.self.now _ _ _ (returns-in-Ok-clause-dealt c)
+returns-in-Ok-clause-fresh c = fresh_from_dealt c.args.self.now c.args.address.now _ _ _ (returns-in-Ok-clause-dealt c)
 
 pub returns-in-Ok-clause-bound : goal.returns-in-Ok-clause-bound
 returns-in-Ok-clause-bound c = λ k link inside.
@@ -33,3 +39,18 @@ returns-in-Ok-clause-bound c = λ k link inside.
       length-share c.args.workers k 0 (take c.args.sessions c.args.self.now.connections),
       length-take c.args.sessions c.args.self.now.connections,
     )
+
+pub returns-in-Ok-clause-leaves : goal.returns-in-Ok-clause-leaves
+returns-in-Ok-clause-leaves c =
+    let here : c.ne.result ≡ false =
+    ⊎_elim (λ is. absurd (true≢false (sym (c.is_failing.ensures.exact.1 (inl is)) ∙ c.if-is_failing.false))) (λ is. is) (cases_Bool c.ne.result) in
+    let same : bytes_eq c.args.address.now (string_bytes c.self.inside.address) ≡ true =
+    not_false _ (rw (← c.as_str.ensures.value) (sym c.ne.ensures ∙ here)) in
+    rw (← c.self.view_is) (record {
+      disks = refl;
+      keys = refl;
+      clients = λ other differ. others_untold c.args.address.now (string_bytes c.self.inside.address) other _ _ same differ;
+    })
+
+pub returns-in-Err-clause-leaves : goal.returns-in-Err-clause-leaves
+returns-in-Err-clause-leaves c = rw (← c.self.view_is) (record { disks = refl; keys = refl; clients = refl })

@@ -1,5 +1,8 @@
-use super::*;
-use std::fs;
+use crate::{FileDisk, PositionedFile};
+use base_terms::Failed;
+use sector_disk::Disk;
+use std::fs::{self, File};
+use std::io::{self, ErrorKind};
 use std::test::Fail;
 
 /// Makes a file of so many zero bytes.
@@ -90,7 +93,6 @@ fn a_read_past_the_end_of_a_file_cut_short_fails(rt: HostRuntime) -> Result<(), 
         "its last bytes are gone"
     );
     assert_eq!(rt; disk.read(7, &mut buf), Err(Failed), "all is gone");
-    assert_eq!(rt; disk.faults, 2);
     Ok(fs::remove_file(&rt, path)?)
 }
 
@@ -131,12 +133,11 @@ impl PositionedFile for Refusing {
 
 #[test]
 fn what_the_file_refuses_fails(rt: HostRuntime) {
-    for (refuses, answer, faults) in [(true, Err(Failed), 3), (false, Ok(()), 0)] {
+    for (refuses, answer) in [(true, Err(Failed)), (false, Ok(()))] {
         let mut disk = FileDisk::new(Refusing { refuses }, 1024, 512);
         let mut buf = [0; 512];
         assert_eq!(rt; disk.read(1, &mut buf), answer);
         assert_eq!(rt; disk.write(0, &buf), answer);
         assert_eq!(rt; disk.sync(), answer);
-        assert_eq!(rt; disk.faults, faults);
     }
 }

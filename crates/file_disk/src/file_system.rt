@@ -1,0 +1,95 @@
+ghost use Rattle.std.specs.Prelude.{ℕ, List, Result};
+ghost use Rattle.std.specs.declared.io.Error.{Error};
+ghost use Rattle.file_disk.specs.Opening.{OpensLocked};
+
+use crate::PositionedFile;
+use std::fs::{File, Files, TryLockError};
+use std::io::{self, ErrorKind, Seek, SeekFrom};
+
+/// A file that can be locked and measured. What its calls do is a matter of the file.
+pub trait LockableFile: PositionedFile {
+    /// What taking the lock does: from the file before it, by what the system said, to the file after
+    /// it.
+    ghost locks: { Self → Result (Unit {0}) Error → Self → Type 0 };
+
+    /// What measuring does.
+    ghost measures: { Self → Result ℕ Error → Self → Type 0 };
+
+    /// Takes the exclusive advisory lock, which the open file keeps. An error of the kind `WouldBlock`
+    /// where another open of the file holds a lock.
+    fn lock(&mut self) -> io::Result<()>
+        ensures { locks self.old result self.new };
+
+    /// How many bytes the file or block device has.
+    fn measure(&mut self) -> io::Result<u64>
+        ensures { measures self.old result self.new };
+}
+
+/// Where files are opened by their names. What opening does is a matter of the system.
+pub trait FileSystem {
+    type File: LockableFile;
+
+    /// What opening the file of a name gives.
+    ghost opens: { Self → List ℕ → Result Self.File Error → Type 0 };
+
+    /// Opens the file or block device of that name for reading and writing.
+    fn open_file(&self, path: &str) -> io::Result<Self::File>
+        ensures { opens self.now path.now result };
+}
+
+impl LockableFile for File {
+    ghost locks = { λ _ _ _. Unit {0} };
+
+    ghost measures = { λ _ _ _. Unit {0} };
+
+    fn lock(&mut self) -> io::Result<()> {
+        match self.try_lock() {
+            Ok(()) => Ok(()),
+            Err(TryLockError::Error(error)) => Err(error),
+            Err(TryLockError::WouldBlock) => {
+                let message = "locked by another process";
+                Err(io::Error::new(ErrorKind::WouldBlock, message))
+            }
+        }
+    }
+
+    fn measure(&mut self) -> io::Result<u64> {
+        self.seek(SeekFrom::End(0))
+    }
+}
+
+/// The system's own files.
+impl<R: Files<File = File>> FileSystem for R {
+    type File = File;
+
+    ghost opens = { λ _ _ _. Unit {0} };
+
+    fn open_file(&self, path: &str) -> io::Result<File> {
+        File::options().read(true).write(true).open(self, path)
+    }
+}
+
+/// Opens the file or block device of that name for reading and writing, takes its exclusive advisory
+/// lock, which the open file keeps, and measures it in bytes.
+///
+/// # Errors
+///
+/// What the system said where it doesn't open, lock or measure the file, as `NotFound`; of the kind
+/// `WouldBlock` where another open of the file holds a lock. Of the kind `OutOfMemory` where the system
+/// wants memory; the call itself takes none. Nothing stays open or locked.
+pub fn open_locked<S: FileSystem>(system: &S, path: &str) -> io::Result<(S::File, u64)>
+    ensures { OpensLocked (S.opens system.now path.now) S.File.locks S.File.measures result }
+{
+    let mut file = match system.open_file(path) {
+        Ok(file) => file,
+        Err(error) => return Err(error),
+    };
+    match file.lock() {
+        Ok(()) => {}
+        Err(error) => return Err(error),
+    }
+    match file.measure() {
+        Ok(len) => Ok((file, len)),
+        Err(error) => Err(error),
+    }
+}
