@@ -1,4 +1,9 @@
 pub mod Tables
-pub mod Blocks
+pub mod BitLemmas
+pub mod ByteLemmas
+pub mod MoveLemmas
+pub mod ExchangeLemmas
+pub mod SquareLemmas
+pub mod TranslationLemmas
 pub mod Words
 pub mod Rounds

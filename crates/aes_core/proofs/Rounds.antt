@@ -1,15 +1,15 @@
 -- The rounds as the code runs them, and the keys that it keeps.
 use Rattle.std.proofs.Common.{◌≡◌, ◌≢◌, ℕ, zero, suc, ◌<◌, ◌≤◌, ◌+◌, ◌-◌, List, set, length, get_or-set_other, get_or-set_same, refl, ap, ap₂, ◌∙◌, arith}
-use Rattle.aes_core.specs.declared.key_schedule.RoundKey.{RoundKey}
-use Rattle.aes_core.specs.RoundKeys.{key_at}
+use Rattle.aes_core.specs.declared.planes.Planes.{Planes}
+use Rattle.aes_core.specs.RoundKeys.{planes_at}
 use Rattle.aes_core.specs.State.{sub_bytes, inverse_sub_bytes, add_round_key, shift_rows, inverse_shift_rows, mix_columns, inverse_mix_columns}
 use Rattle.aes_core.specs.Cipher.{after_rounds, cipher, before_rounds, inverse_cipher}
 
-pub key_at-set_other : (keys : List RoundKey) (i r : ℕ) (key : RoundKey) → r ≢ i → key_at (set keys i key) r ≡ key_at keys r
-key_at-set_other keys i r key other = ap (λ (k : RoundKey). k.bytes) (get_or-set_other keys i r key _ other)
+pub planes_at-set_other : (keys : List Planes) (i r : ℕ) (key : Planes) → r ≢ i → planes_at (set keys i key) r ≡ planes_at keys r
+planes_at-set_other keys i r key other = get_or-set_other keys i r key _ other
 
-pub key_at-set_same : (keys : List RoundKey) (i : ℕ) (key : RoundKey) → i < length keys → key_at (set keys i key) i ≡ key.bytes
-key_at-set_same keys i key within = ap (λ (k : RoundKey). k.bytes) (get_or-set_same keys i key _ within)
+pub planes_at-set_same : (keys : List Planes) (i : ℕ) (key : Planes) → i < length keys → planes_at (set keys i key) i ≡ key
+planes_at-set_same keys i key within = get_or-set_same keys i key _ within
 
 -- ---- one round more
 

@@ -5,3 +5,6 @@ pub mod KeySchedule
 pub mod Cipher
 pub mod Laws
 pub mod RoundKeys
+pub mod Planes
+pub mod Circuit
+pub mod Transposition

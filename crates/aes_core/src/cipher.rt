@@ -3,16 +3,16 @@
 ghost use Rattle.std.specs.Prelude.{◌≡◌, ◌<◌, ◌≤◌, ◌↔◌, ℕ, List, length, IsOk, IfOk, IfErr};
 ghost use Rattle.cipher_laws.specs.Bytes.{IsBlock};
 ghost use Rattle.aes_core.specs.KeySchedule.{IsKeyLength};
-ghost use Rattle.aes_core.specs.RoundKeys.{key_at};
+ghost use Rattle.aes_core.specs.RoundKeys.{key_at, AreAlike};
 ghost use Rattle.aes_core.specs.Cipher.{cipher, inverse_cipher, aes, inverse_aes};
 ghost use Rattle.aes_core.specs.Laws.{cipher_block, inverse_cipher_block};
 ghost use Rattle.aes_core.specs.Laws.{cipher_undone, inverse_cipher_undone, first_keys};
 
-use crate::key_schedule::{ROUND_KEYS, RoundKey, round_keys};
-use crate::state::{
-    add_round_key, inverse_mix_columns, inverse_shift_rows, inverse_sub_bytes, mix_columns,
-    shift_rows, sub_bytes,
-};
+use crate::columns::{inverse_mix_columns, mix_columns};
+use crate::key_schedule::{ROUND_KEYS, round_keys};
+use crate::planes::Planes;
+use crate::s_box::{inverse_sub_bytes, sub_bytes};
+use crate::transposition::{copies, to_blocks, to_planes};
 use cipher_laws::{BlockCipher, EightBlocks};
 use std::simd::prelude::*;
 use thiserror::Error;
@@ -25,9 +25,10 @@ pub struct KeyLength(pub usize);
 /// AES-128 or AES-256 under one key (FIPS 197).
 #[derive(Clone, Copy)]
 pub struct Aes {
-    round_keys: [RoundKey; ROUND_KEYS],
+    round_keys: [Planes; ROUND_KEYS],
     rounds: usize,
     ghost in_range: { (0 < rounds) × (rounds < 15) },
+    ghost alike: { AreAlike round_keys },
     ghost keys_are_blocks: { (r : ℕ) → r < 15 → IsBlock (key_at round_keys r) },
 }
 
@@ -53,78 +54,42 @@ impl Aes {
     }
 }
 
-impl Aes {
-    // One of eight blocks, sealed.
-    fn sealed_vector(&self, vector: u8x16) -> u8x16
-        ensures { result ≡ ⟦<Aes as BlockCipher>⟧.sealed self.now vector }
-    {
-        let mut block = vector.to_array();
-        self.seal(&mut block);
-        u8x16::from_array(block)
-    }
-
-    // One of eight blocks, unsealed.
-    fn opened_vector(&self, vector: u8x16) -> u8x16
-        ensures { result ≡ ⟦<Aes as BlockCipher>⟧.opened self.now vector }
-    {
-        let mut block = vector.to_array();
-        self.unseal(&mut block);
-        u8x16::from_array(block)
-    }
-}
-
 impl BlockCipher for Aes {
     ghost sealed = { λ a block. cipher a.rounds (key_at a.round_keys) block };
 
     ghost opened = { λ a block. inverse_cipher a.rounds (key_at a.round_keys) block };
 
+    // One block runs the circuit of eight.
     fn seal(&self, block: &mut [u8; 16]) {
-        let mut state = add_round_key(u8x16::from_array(*block), self.round_keys[0].bytes);
-        for round in 1..self.rounds {
-            let mixed = mix_columns(shift_rows(sub_bytes(state)));
-            state = add_round_key(mixed, self.round_keys[round].bytes);
-        }
-        let last = shift_rows(sub_bytes(state));
-        *block = add_round_key(last, self.round_keys[self.rounds].bytes).to_array();
+        let mut blocks = copies(u8x16::from_array(*block));
+        self.seal_eight(&mut blocks);
+        *block = blocks.b0.to_array();
     }
 
     fn unseal(&self, block: &mut [u8; 16]) {
-        let mut state = add_round_key(
-            u8x16::from_array(*block),
-            self.round_keys[self.rounds].bytes,
-        );
-        for round in (1..self.rounds).rev() {
-            let keyed = inverse_sub_bytes(inverse_shift_rows(state));
-            state = inverse_mix_columns(add_round_key(keyed, self.round_keys[round].bytes));
-        }
-        let first = inverse_sub_bytes(inverse_shift_rows(state));
-        *block = add_round_key(first, self.round_keys[0].bytes).to_array();
+        let mut blocks = copies(u8x16::from_array(*block));
+        self.unseal_eight(&mut blocks);
+        *block = blocks.b0.to_array();
     }
 
     fn seal_eight(&self, blocks: &mut EightBlocks) {
-        *blocks = EightBlocks {
-            b0: self.sealed_vector(blocks.b0),
-            b1: self.sealed_vector(blocks.b1),
-            b2: self.sealed_vector(blocks.b2),
-            b3: self.sealed_vector(blocks.b3),
-            b4: self.sealed_vector(blocks.b4),
-            b5: self.sealed_vector(blocks.b5),
-            b6: self.sealed_vector(blocks.b6),
-            b7: self.sealed_vector(blocks.b7),
-        };
+        let mut state = to_planes(*blocks) ^ self.round_keys[0];
+        for round in 1..self.rounds {
+            let mixed = mix_columns(sub_bytes(state).shift_rows());
+            state = mixed ^ self.round_keys[round];
+        }
+        let last = sub_bytes(state).shift_rows();
+        *blocks = to_blocks(last ^ self.round_keys[self.rounds]);
     }
 
     fn unseal_eight(&self, blocks: &mut EightBlocks) {
-        *blocks = EightBlocks {
-            b0: self.opened_vector(blocks.b0),
-            b1: self.opened_vector(blocks.b1),
-            b2: self.opened_vector(blocks.b2),
-            b3: self.opened_vector(blocks.b3),
-            b4: self.opened_vector(blocks.b4),
-            b5: self.opened_vector(blocks.b5),
-            b6: self.opened_vector(blocks.b6),
-            b7: self.opened_vector(blocks.b7),
-        };
+        let mut state = to_planes(*blocks) ^ self.round_keys[self.rounds];
+        for round in (1..self.rounds).rev() {
+            let boxed = inverse_sub_bytes(state.inverse_shift_rows());
+            state = inverse_mix_columns(boxed ^ self.round_keys[round]);
+        }
+        let first = inverse_sub_bytes(state.inverse_shift_rows());
+        *blocks = to_blocks(first ^ self.round_keys[0]);
     }
 
     ghost sealed_block = { λ a. cipher_block a.rounds (key_at a.round_keys)

@@ -4,10 +4,13 @@ ghost use Rattle.std.specs.Prelude.{◌≡◌, ℕ, [], ◌++◌, ◌+◌, ◌*�
 ghost use Rattle.aes_core.specs.KeySchedule.{IsKeyLength, IsWordCount, rounds_for, key_expansion};
 ghost use Rattle.aes_core.specs.KeySchedule.{next_word, addend, add_words, sub_word, rot_word, round_constant};
 ghost use Rattle.aes_core.specs.Cipher.{round_keys_of};
-ghost use Rattle.aes_core.specs.RoundKeys.{key_at};
+ghost use Rattle.aes_core.specs.Planes.{state_in};
+ghost use Rattle.aes_core.specs.RoundKeys.{key_at, carried, AreAlike};
 ghost use Rattle.cipher_laws.specs.Bytes.{IsBlock};
 
-use crate::boxes::s_box;
+use crate::planes::Planes;
+use crate::s_box::{CONSTANT, sub_block};
+use crate::transposition::{copies, to_planes};
 use std::simd::prelude::*;
 
 // The round keys of the longest key, and their words.
@@ -18,22 +21,15 @@ const WORDS: usize = 60;
 // x^0, x^1, .. x^9.
 const POWERS_OF_X: [u8; 10] = [0x01, 0x02, 0x04, 0x08, 0x10, 0x20, 0x40, 0x80, 0x1b, 0x36];
 
-// The key of one round, laid out as the state is.
-#[derive(Clone, Copy)]
-pub(crate) struct RoundKey {
-    pub(crate) bytes: u8x16,
-}
-
-// The keys of the rounds. Those past the last round of a short key are 0.
-pub(crate) fn round_keys(key: &[u8]) -> [RoundKey; ROUND_KEYS]
+// The keys of the rounds in planes. Those past the last round of a short key are of no use.
+pub(crate) fn round_keys(key: &[u8]) -> [Planes; ROUND_KEYS]
     requires { IsKeyLength (length key.now) }
     ensures keys { (r : ℕ) → r ≤ rounds_for key.now → key_at result r ≡ round_keys_of key.now r }
+    ensures alike { AreAlike result }
     ensures blocks { (r : ℕ) → r < 15 → IsBlock (key_at result r) }
 {
     let words = key_expansion(key);
-    let mut keys = [RoundKey {
-        bytes: u8x16::splat(0),
-    }; ROUND_KEYS];
+    let mut keys = [key_planes(u8x16::splat(0), 0); ROUND_KEYS];
     for round in 0..ROUND_KEYS {
         let bytes = joined(
             words[4 * round],
@@ -41,9 +37,20 @@ pub(crate) fn round_keys(key: &[u8]) -> [RoundKey; ROUND_KEYS]
             words[4 * round + 2],
             words[4 * round + 3],
         );
-        keys[round] = RoundKey { bytes };
+        keys[round] = key_planes(bytes, round);
     }
     keys
+}
+
+// The planes of the key of a round, for each of the eight blocks. Each key but the first carries
+// the constant that the S-box's circuit leaves out.
+fn key_planes(key: u8x16, round: usize) -> Planes
+    ensures { (k : ℕ) → k < 8 → state_in k result ≡ carried round key }
+{
+    if round == 0 {
+        return to_planes(copies(key));
+    }
+    to_planes(copies(key ^ u8x16::splat(CONSTANT)))
 }
 
 // A round key of four words.
@@ -108,7 +115,9 @@ fn sub_word(word: u8x4) -> u8x4
     ensures { result ≡ sub_word word }
 {
     let [a, b, c, d] = word.to_array();
-    u8x4::from_array([s_box(a), s_box(b), s_box(c), s_box(d)])
+    let block = u8x16::from_array([a, b, c, d, 0, 0, 0, 0, 0, 0, 0, 0, 0, 0, 0, 0]);
+    let boxed = sub_block(block).to_array();
+    u8x4::from_array([boxed[0], boxed[1], boxed[2], boxed[3]])
 }
 
 fn rot_word(word: u8x4) -> u8x4

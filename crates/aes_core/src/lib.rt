@@ -7,15 +7,22 @@
 //! the trait's laws, that unsealing undoes sealing and sealing undoes unsealing, are proved of it
 //! too. No call takes memory.
 //!
-//! The tables are read at places that depend on the key and the data, so the time that a call
-//! takes may tell of them to who shares the processor's caches.
+//! Eight blocks are worked on at once, in eight bit planes: plane i has bit i of each of their
+//! bytes. The S-box is a circuit of sums and products of planes, for the key expansion too, and a
+//! block alone runs the circuit of eight. So no table is read at a place, and no branch is taken,
+//! that depends on a key or on data, which can be read off the code: constant time is no part of
+//! what is proved, and rests on the compiler.
 #![tactic(auto)]
 
 pub use cipher::{Aes, KeyLength};
 
-mod boxes;
 mod cipher;
+mod columns;
+mod inversion;
 mod key_schedule;
-mod state;
+mod plane;
+mod planes;
+mod s_box;
 #[cfg(test)]
 mod tests;
+mod transposition;

@@ -1,5 +1,8 @@
+use crate::s_box::{CONSTANT, inverse_sub_bytes, sub_block};
+use crate::transposition::{copies, to_blocks, to_planes};
 use crate::{Aes, KeyLength};
-use cipher_laws::BlockCipher;
+use cipher_laws::{BlockCipher, EightBlocks};
+use std::simd::prelude::*;
 use std::test::Fail;
 
 // A key of 16 bytes, or of 32 whose second half stands in `more`, a block and what it is sealed to.
@@ -94,6 +97,85 @@ fn published_vectors(rt: HostRuntime) -> Result<(), Fail> {
         cipher.unseal(&mut block);
         assert_eq!(rt; u128::from_be_bytes(block), vector.plain, "unsealed");
     }
+    Ok(())
+}
+
+// FIPS 197, figure 7: row x has the S-box of the bytes x0, .., xf.
+const S_BOX: [u128; 16] = [
+    0x637c777b_f26b6fc5_3001672b_fed7ab76,
+    0xca82c97d_fa5947f0_add4a2af_9ca472c0,
+    0xb7fd9326_363ff7cc_34a5e5f1_71d83115,
+    0x04c723c3_1896059a_071280e2_eb27b275,
+    0x09832c1a_1b6e5aa0_523bd6b3_29e32f84,
+    0x53d100ed_20fcb15b_6acbbe39_4a4c58cf,
+    0xd0efaafb_434d3385_45f9027f_503c9fa8,
+    0x51a3408f_929d38f5_bcb6da21_10fff3d2,
+    0xcd0c13ec_5f974417_c4a77e3d_645d1973,
+    0x60814fdc_222a9088_46eeb814_de5e0bdb,
+    0xe0323a0a_4906245c_c2d3ac62_9195e479,
+    0xe7c8376d_8dd54ea9_6c56f4ea_657aae08,
+    0xba78252e_1ca6b4c6_e8dd741f_4bbd8b8a,
+    0x703eb566_4803f60e_613557b9_86c11d9e,
+    0xe1f89811_69d98e94_9b1e87e9_ce5528df,
+    0x8ca1890d_bfe64268_41992d0f_b054bb16,
+];
+
+#[test]
+fn s_box_of_each_byte(rt: HostRuntime) {
+    let mut bytes = u8x16::from_array([0, 1, 2, 3, 4, 5, 6, 7, 8, 9, 10, 11, 12, 13, 14, 15]);
+    for row in S_BOX {
+        let boxed = sub_block(bytes);
+        assert_eq!(rt; u128::from_be_bytes(boxed.to_array()), row);
+        let planes = to_planes(copies(boxed ^ u8x16::splat(CONSTANT)));
+        let back = to_blocks(inverse_sub_bytes(planes)).b7;
+        assert_eq!(rt; back.to_array(), bytes.to_array());
+        bytes = bytes + u8x16::splat(16);
+    }
+}
+
+fn vector_of(block: u128) -> u8x16 {
+    u8x16::from_array(block.to_be_bytes())
+}
+
+fn block_of(vector: u8x16) -> u128 {
+    u128::from_be_bytes(vector.to_array())
+}
+
+#[test]
+fn eight_blocks_are_sealed_and_unsealed_at_once(rt: HostRuntime) -> Result<(), Fail> {
+    let [.., first, second, third, fourth] = &PUBLISHED;
+    let mut key = [0; 32];
+    key[..16].copy_from_slice(&first.key.to_be_bytes());
+    key[16..].copy_from_slice(&first.more.unwrap_or(0).to_be_bytes());
+    let cipher = Aes::new(&key)?;
+    let mut blocks = EightBlocks {
+        b0: vector_of(first.plain),
+        b1: vector_of(second.plain),
+        b2: vector_of(third.plain),
+        b3: vector_of(fourth.plain),
+        b4: vector_of(fourth.plain),
+        b5: vector_of(third.plain),
+        b6: vector_of(second.plain),
+        b7: vector_of(first.plain),
+    };
+    cipher.seal_eight(&mut blocks);
+    assert_eq!(rt; block_of(blocks.b0), first.sealed);
+    assert_eq!(rt; block_of(blocks.b1), second.sealed);
+    assert_eq!(rt; block_of(blocks.b2), third.sealed);
+    assert_eq!(rt; block_of(blocks.b3), fourth.sealed);
+    assert_eq!(rt; block_of(blocks.b4), fourth.sealed);
+    assert_eq!(rt; block_of(blocks.b5), third.sealed);
+    assert_eq!(rt; block_of(blocks.b6), second.sealed);
+    assert_eq!(rt; block_of(blocks.b7), first.sealed);
+    cipher.unseal_eight(&mut blocks);
+    assert_eq!(rt; block_of(blocks.b0), first.plain);
+    assert_eq!(rt; block_of(blocks.b1), second.plain);
+    assert_eq!(rt; block_of(blocks.b2), third.plain);
+    assert_eq!(rt; block_of(blocks.b3), fourth.plain);
+    assert_eq!(rt; block_of(blocks.b4), fourth.plain);
+    assert_eq!(rt; block_of(blocks.b5), third.plain);
+    assert_eq!(rt; block_of(blocks.b6), second.plain);
+    assert_eq!(rt; block_of(blocks.b7), first.plain);
     Ok(())
 }
 

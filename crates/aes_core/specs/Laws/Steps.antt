@@ -1,13 +1,14 @@
 -- Each transformation of the state gives a block, and the inverse transformation undoes it.
 use Rattle.std.proofs.Common.{◌≡◌, ℕ, zero, suc, ◌<◌, ◌+◌, ◌-◌, ◌*◌, ◌%◌, List, [], ◌∷◌, length, slice_index, bit_xor, refl, ap, ap₂, ◌∙◌, arith}
 use Rattle.std.specs.Simd.Lanes.{Each1}
+use Rattle.std.specs.Int.Bits.{xor_zero_r}
 use Rattle.std.proofs.lemmas.Nat.{xor_of_8}
 use Rattle.cipher_laws.specs.Bytes.{IsBlock, AreBytes}
 use Rattle.aes_core.specs.Field.{times, sum_of_multiples}
 use Rattle.aes_core.specs.Boxes.{s_box, inverse_s_box}
 use Rattle.aes_core.specs.State.{byte_at, state_of, sub_bytes, inverse_sub_bytes, add_round_key, shift_rows, inverse_shift_rows, multiply_columns, mix_columns, inverse_mix_columns}
 use Rattle.aes_core.specs.Laws.Bytes.{agree_below, s_box_undone, inverse_s_box_undone, s_box_fits, inverse_s_box_fits}
-use Rattle.aes_core.specs.Laws.Sums.{sum4, sum4_fits, times_fits, sum_undone, AreInverse, computed_inverse, column_undone}
+use Rattle.aes_core.specs.Laws.Sums.{sum4, sum4_fits, times_fits, sum_undone, AreFactors, computed_factors, column_product}
 
 -- ---- states by row and column
 
@@ -27,7 +28,7 @@ bytes_from_each (b ∷ s) fits zero = fits.0
 bytes_from_each (b ∷ s) fits (suc k) = bytes_from_each s fits.1 k
 
 -- a state of bytes
-state_of_block : (f : ℕ → ℕ → ℕ) → ((r c : ℕ) → f r c < 256) → IsBlock (state_of f)
+pub state_of_block : (f : ℕ → ℕ → ℕ) → ((r c : ℕ) → f r c < 256) → IsBlock (state_of f)
 state_of_block f fits = record {
   length_is = refl;
   are_bytes = bytes_from_each (state_of f) (
@@ -58,7 +59,7 @@ state_of_block f fits = record {
 }
 
 -- two states that agree at each place
-same_states : (f g : ℕ → ℕ → ℕ) → ((r c : ℕ) → f r c ≡ g r c) → state_of f ≡ state_of g
+pub same_states : (f g : ℕ → ℕ → ℕ) → ((r c : ℕ) → f r c ≡ g r c) → state_of f ≡ state_of g
 same_states f g same =
     rw (
       same 0 0,
@@ -79,11 +80,11 @@ same_states f g same =
       same 3 3,
     ) refl
 
-state_of_its_bytes : (s : List ℕ) → length s ≡ 16 → state_of (byte_at s) ≡ s
+pub state_of_its_bytes : (s : List ℕ) → length s ≡ 16 → state_of (byte_at s) ≡ s
 state_of_its_bytes = sixteen _ (λ a0 a1 a2 a3 b0 b1 b2 b3 c0 c1 c2 c3 d0 d1 d2 d3. refl)
 
 -- a fact of each place of a row, and so of each place
-below_four : (P : ℕ → Type 0) → P 0 → P 1 → P 2 → P 3 → (j : ℕ) → j < 4 → P j
+pub below_four : (P : ℕ → Type 0) → P 0 → P 1 → P 2 → P 3 → (j : ℕ) → j < 4 → P j
 below_four P p0 p1 p2 p3 zero h = p0
 below_four P p0 p1 p2 p3 (suc zero) h = p1
 below_four P p0 p1 p2 p3 (suc (suc zero)) h = p2
@@ -189,33 +190,54 @@ product_at b0 b1 b2 b3 s r c i0 i1 i2 i3 is_0 is_1 is_2 is_3 =
     (byte_at-mod s i0 c _ _ (omega arith) (omega arith)) (byte_at-mod s i1 c _ _ (omega arith) (omega arith))
     (byte_at-mod s i2 c _ _ (omega arith) (omega arith)) (byte_at-mod s i3 c _ _ (omega arith) (omega arith))
 
-multiply_columns_undone : (a0 a1 a2 a3 b0 b1 b2 b3 : ℕ) → AreInverse a0 a3 a2 a1 b0 b3 b2 b1
-    → (s : List ℕ) → IsBlock s → multiply_columns a0 a1 a2 a3 (multiply_columns b0 b1 b2 b3 s) ≡ s
+pub multiply_columns_product : (a0 a1 a2 a3 b0 b1 b2 b3 w0 w1 w2 w3 : ℕ) → AreFactors a0 a3 a2 a1 b0 b3 b2 b1 w0 w3 w2 w1
+    → (s : List ℕ) → IsBlock s
+    → multiply_columns a0 a1 a2 a3 (multiply_columns b0 b1 b2 b3 s) ≡ multiply_columns w0 w1 w2 w3 s
 unfolding multiply_columns
-multiply_columns_undone a0 a1 a2 a3 b0 b1 b2 b3 inverse s block =
+multiply_columns_product a0 a1 a2 a3 b0 b1 b2 b3 w0 w1 w2 w3 factors s block =
     let product = multiply_columns b0 b1 b2 b3 s in
     same_states (λ r c. sum4 (times a0 (byte_at product r c)) (times a3 (byte_at product (r + 1) c))
-    (times a2 (byte_at product (r + 2) c)) (times a1 (byte_at product (r + 3) c))) (byte_at s)
+    (times a2 (byte_at product (r + 2) c)) (times a1 (byte_at product (r + 3) c)))
+    (λ r c. sum4 (times w0 (byte_at s r c)) (times w3 (byte_at s (r + 1) c))
+    (times w2 (byte_at s (r + 2) c)) (times w1 (byte_at s (r + 3) c)))
     (λ r c.
     same_column a0 a3 a2 a1 _ _ _ _ _ _ _ _
     (product_at b0 b1 b2 b3 s r c r (r + 1) (r + 2) (r + 3) (omega arith) (omega arith) (omega arith) (omega arith))
     (product_at b0 b1 b2 b3 s (r + 1) c (r + 1) (r + 2) (r + 3) r (omega arith) (omega arith) (omega arith) (omega arith))
     (product_at b0 b1 b2 b3 s (r + 2) c (r + 2) (r + 3) r (r + 1) (omega arith) (omega arith) (omega arith) (omega arith))
     (product_at b0 b1 b2 b3 s (r + 3) c (r + 3) r (r + 1) (r + 2) (omega arith) (omega arith) (omega arith) (omega arith))
-    ∙ column_undone a0 a3 a2 a1 b0 b3 b2 b1 inverse (byte_at s r c) (byte_at s (r + 1) c) (byte_at s (r + 2) c) (byte_at s (r + 3) c)
+    ∙ column_product a0 a3 a2 a1 b0 b3 b2 b1 w0 w3 w2 w1 factors (byte_at s r c) (byte_at s (r + 1) c) (byte_at s (r + 2) c) (byte_at s (r + 3) c)
     (block.are_bytes _) (block.are_bytes _) (block.are_bytes _) (block.are_bytes _))
-    ∙ state_of_its_bytes s block.length_is
 
-mix_columns_has_inverse : AreInverse 0x0e 0x0b 0x0d 0x09 0x02 0x03 0x01 0x01
-unfolding agree_below sum_of_multiples
-mix_columns_has_inverse = computed_inverse 0x0e 0x0b 0x0d 0x09 0x02 0x03 0x01 0x01 refl refl refl refl
+-- the word 1
+multiply_columns_by_1 : (s : List ℕ) → length s ≡ 16 → multiply_columns 0x01 0x00 0x00 0x00 s ≡ s
+unfolding multiply_columns sum_of_multiples
+multiply_columns_by_1 = sixteen _ (λ a0 a1 a2 a3 b0 b1 b2 b3 c0 c1 c2 c3 d0 d1 d2 d3. simp xor_zero_r)
 
-inverse_mix_columns_has_inverse : AreInverse 0x02 0x03 0x01 0x01 0x0e 0x0b 0x0d 0x09
+mix_columns_factors : AreFactors 0x0e 0x0b 0x0d 0x09 0x02 0x03 0x01 0x01 0x01 0x00 0x00 0x00
 unfolding agree_below sum_of_multiples
-inverse_mix_columns_has_inverse = computed_inverse 0x02 0x03 0x01 0x01 0x0e 0x0b 0x0d 0x09 refl refl refl refl
+mix_columns_factors = computed_factors 0x0e 0x0b 0x0d 0x09 0x02 0x03 0x01 0x01 0x01 0x00 0x00 0x00 refl refl refl refl
+
+inverse_mix_columns_factors : AreFactors 0x02 0x03 0x01 0x01 0x0e 0x0b 0x0d 0x09 0x01 0x00 0x00 0x00
+unfolding agree_below sum_of_multiples
+inverse_mix_columns_factors = computed_factors 0x02 0x03 0x01 0x01 0x0e 0x0b 0x0d 0x09 0x01 0x00 0x00 0x00 refl refl refl refl
 
 pub mix_columns_undone : (s : List ℕ) → IsBlock s → inverse_mix_columns (mix_columns s) ≡ s
-mix_columns_undone = multiply_columns_undone 0x0e 0x09 0x0d 0x0b 0x02 0x01 0x01 0x03 mix_columns_has_inverse
+mix_columns_undone s block =
+    multiply_columns_product 0x0e 0x09 0x0d 0x0b 0x02 0x01 0x01 0x03 0x01 0x00 0x00 0x00 mix_columns_factors s block
+    ∙ multiply_columns_by_1 s block.length_is
 
 pub inverse_mix_columns_undone : (s : List ℕ) → IsBlock s → mix_columns (inverse_mix_columns s) ≡ s
-inverse_mix_columns_undone = multiply_columns_undone 0x02 0x01 0x01 0x03 0x0e 0x09 0x0d 0x0b inverse_mix_columns_has_inverse
+inverse_mix_columns_undone s block =
+    multiply_columns_product 0x02 0x01 0x01 0x03 0x0e 0x09 0x0d 0x0b 0x01 0x00 0x00 0x00 inverse_mix_columns_factors s block
+    ∙ multiply_columns_by_1 s block.length_is
+
+-- InvMixColumns is MixColumns of the columns times the word 5, 0, 4, 0
+inverse_mix_columns_factors_forward : AreFactors 0x02 0x03 0x01 0x01 0x05 0x00 0x04 0x00 0x0e 0x0b 0x0d 0x09
+unfolding agree_below sum_of_multiples
+inverse_mix_columns_factors_forward = computed_factors 0x02 0x03 0x01 0x01 0x05 0x00 0x04 0x00 0x0e 0x0b 0x0d 0x09 refl refl refl refl
+
+pub inverse_mix_columns_is_product : (s : List ℕ) → IsBlock s
+    → mix_columns (multiply_columns 0x05 0x00 0x04 0x00 s) ≡ inverse_mix_columns s
+inverse_mix_columns_is_product =
+    multiply_columns_product 0x02 0x01 0x01 0x03 0x05 0x00 0x04 0x00 0x0e 0x09 0x0d 0x0b inverse_mix_columns_factors_forward

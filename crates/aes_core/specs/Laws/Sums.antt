@@ -28,7 +28,7 @@ turned a b c d =
     xor_comm (bit_xor a b) (bit_xor c d) ∙ ap (λ x. bit_xor x (bit_xor a b)) (xor_comm c d) ∙ swapped d c a b
     ∙ ap (bit_xor (bit_xor d a)) (xor_comm c b)
 
-paired : (a b c d a' b' c' d' : ℕ)
+pub paired : (a b c d a' b' c' d' : ℕ)
     → sum4 (bit_xor a a') (bit_xor b b') (bit_xor c c') (bit_xor d d') ≡ bit_xor (sum4 a b c d) (sum4 a' b' c' d')
 paired a b c d a' b' c' d' =
     rw (swapped a a' b b', swapped c c' d d') (swapped (bit_xor a b) (bit_xor a' b') (bit_xor c d) (bit_xor c' d'))
@@ -57,7 +57,7 @@ carried_sum (suc zero) (suc zero) p_lt q_lt = refl
 carried_sum (suc zero) (suc (suc q)) p_lt q_lt = absurd (omega arith)
 carried_sum (suc (suc p)) q p_lt q_lt = absurd (omega arith)
 
-times_x_sum : (a b : ℕ) → a < 256 → b < 256 → times_x (bit_xor a b) ≡ bit_xor (times_x a) (times_x b)
+pub times_x_sum : (a b : ℕ) → a < 256 → b < 256 → times_x (bit_xor a b) ≡ bit_xor (times_x a) (times_x b)
 times_x_sum a b a_fits b_fits =
     let carries : bit_xor a b / 128 ≡ bit_xor (a / 128) (b / 128) = xor_shr a b 7 in
     rw (
@@ -78,7 +78,7 @@ chosen_fits : (t : Bool) (x : ℕ) → x < 256 → cond t x 0 < 256
 chosen_fits true x lt = lt
 chosen_fits false x lt = omega arith
 
-sum_of_multiples_sum : (n a x y : ℕ) → x < 256 → y < 256
+pub sum_of_multiples_sum : (n a x y : ℕ) → x < 256 → y < 256
     → sum_of_multiples n a (bit_xor x y) ≡ bit_xor (sum_of_multiples n a x) (sum_of_multiples n a y)
 unfolding sum_of_multiples
 sum_of_multiples_sum zero a x y x_fits y_fits = refl
@@ -110,7 +110,7 @@ times_sum4 p a b c d a_fits b_fits c_fits d_fits =
     )
     refl
 
--- ---- two words that are each other's inverse under the product of columns (4.3)
+-- ---- the product of two words, as the product of columns has it (4.3)
 
 -- what the product of two words makes of a byte at its own place; with the word q turned by n, what
 -- it adds to the byte n places before
@@ -118,21 +118,21 @@ abbrev same_place : (p0 p1 p2 p3 q0 q1 q2 q3 x : ℕ) → ℕ
 same_place p0 p1 p2 p3 q0 q1 q2 q3 x =
     sum4 (times p0 (times q0 x)) (times p1 (times q3 x)) (times p2 (times q2 x)) (times p3 (times q1 x))
 
--- their products take each byte to its own place, and to no other
-pub record AreInverse (p0 p1 p2 p3 q0 q1 q2 q3 : ℕ) : Type 0 where
-  pub own : (x : ℕ) → x < 256 → same_place p0 p1 p2 p3 q0 q1 q2 q3 x ≡ x
-  pub first : (x : ℕ) → x < 256 → same_place p0 p1 p2 p3 q1 q2 q3 q0 x ≡ 0
-  pub second : (x : ℕ) → x < 256 → same_place p0 p1 p2 p3 q2 q3 q0 q1 x ≡ 0
-  pub third : (x : ℕ) → x < 256 → same_place p0 p1 p2 p3 q3 q0 q1 q2 x ≡ 0
+-- the word w is the product of the words p and q
+pub record AreFactors (p0 p1 p2 p3 q0 q1 q2 q3 w0 w1 w2 w3 : ℕ) : Type 0 where
+  pub own : (x : ℕ) → x < 256 → same_place p0 p1 p2 p3 q0 q1 q2 q3 x ≡ times w0 x
+  pub first : (x : ℕ) → x < 256 → same_place p0 p1 p2 p3 q1 q2 q3 q0 x ≡ times w1 x
+  pub second : (x : ℕ) → x < 256 → same_place p0 p1 p2 p3 q2 q3 q0 q1 x ≡ times w2 x
+  pub third : (x : ℕ) → x < 256 → same_place p0 p1 p2 p3 q3 q0 q1 q2 x ≡ times w3 x
 
 -- which is computed at each byte
-pub computed_inverse : (p0 p1 p2 p3 q0 q1 q2 q3 : ℕ)
-    → agree_below (same_place p0 p1 p2 p3 q0 q1 q2 q3) (λ x. x) 256 ≡ true
-    → agree_below (same_place p0 p1 p2 p3 q1 q2 q3 q0) (λ _. 0) 256 ≡ true
-    → agree_below (same_place p0 p1 p2 p3 q2 q3 q0 q1) (λ _. 0) 256 ≡ true
-    → agree_below (same_place p0 p1 p2 p3 q3 q0 q1 q2) (λ _. 0) 256 ≡ true
-    → AreInverse p0 p1 p2 p3 q0 q1 q2 q3
-computed_inverse p0 p1 p2 p3 q0 q1 q2 q3 own first second third = record {
+pub computed_factors : (p0 p1 p2 p3 q0 q1 q2 q3 w0 w1 w2 w3 : ℕ)
+    → agree_below (same_place p0 p1 p2 p3 q0 q1 q2 q3) (times w0) 256 ≡ true
+    → agree_below (same_place p0 p1 p2 p3 q1 q2 q3 q0) (times w1) 256 ≡ true
+    → agree_below (same_place p0 p1 p2 p3 q2 q3 q0 q1) (times w2) 256 ≡ true
+    → agree_below (same_place p0 p1 p2 p3 q3 q0 q1 q2) (times w3) 256 ≡ true
+    → AreFactors p0 p1 p2 p3 q0 q1 q2 q3 w0 w1 w2 w3
+computed_factors p0 p1 p2 p3 q0 q1 q2 q3 w0 w1 w2 w3 own first second third = record {
   own = at_each_byte _ _ own;
   first = at_each_byte _ _ first;
   second = at_each_byte _ _ second;
@@ -140,15 +140,15 @@ computed_inverse p0 p1 p2 p3 q0 q1 q2 q3 own first second third = record {
 }
 
 -- a byte of a column that was multiplied by the one and then by the other
-pub column_undone : (p0 p1 p2 p3 q0 q1 q2 q3 : ℕ) → AreInverse p0 p1 p2 p3 q0 q1 q2 q3
+pub column_product : (p0 p1 p2 p3 q0 q1 q2 q3 w0 w1 w2 w3 : ℕ) → AreFactors p0 p1 p2 p3 q0 q1 q2 q3 w0 w1 w2 w3
     → (a b c d : ℕ) → a < 256 → b < 256 → c < 256 → d < 256
     → sum4
     (times p0 (sum4 (times q0 a) (times q1 b) (times q2 c) (times q3 d)))
     (times p1 (sum4 (times q0 b) (times q1 c) (times q2 d) (times q3 a)))
     (times p2 (sum4 (times q0 c) (times q1 d) (times q2 a) (times q3 b)))
     (times p3 (sum4 (times q0 d) (times q1 a) (times q2 b) (times q3 c)))
-    ≡ a
-column_undone p0 p1 p2 p3 q0 q1 q2 q3 inverse a b c d a_fits b_fits c_fits d_fits =
+    ≡ sum4 (times w0 a) (times w1 b) (times w2 c) (times w3 d)
+column_product p0 p1 p2 p3 q0 q1 q2 q3 w0 w1 w2 w3 factors a b c d a_fits b_fits c_fits d_fits =
     let f : (q x : ℕ) → x < 256 → times q x < 256 = times_fits in
     rw (
       times_sum4 p0 (times q0 a) (times q1 b) (times q2 c) (times q3 d) (f q0 a a_fits) (f q1 b b_fits) (f q2 c c_fits) (f q3 d d_fits),
@@ -160,9 +160,9 @@ column_undone p0 p1 p2 p3 q0 q1 q2 q3 inverse a b c d a_fits b_fits c_fits d_fit
       turned (times p2 (times q3 b)) (times p2 (times q0 c)) (times p2 (times q1 d)) (times p2 (times q2 a)),
       ← turned (times p3 (times q1 a)) (times p3 (times q2 b)) (times p3 (times q3 c)) (times p3 (times q0 d)),
       transposed,
-      inverse.own a a_fits,
-      inverse.first b b_fits,
-      inverse.second c c_fits,
-      inverse.third d d_fits,
+      factors.own a a_fits,
+      factors.first b b_fits,
+      factors.second c c_fits,
+      factors.third d d_fits,
     )
-    (xor_zero_r (bit_xor a 0) ∙ xor_zero_r a)
+    refl
