@@ -1,0 +1,5 @@
+pub mod AreaLemmas
+pub mod FieldLemmas
+pub mod PieceLemmas
+pub mod ReadLemmas
+pub mod WriteLemmas

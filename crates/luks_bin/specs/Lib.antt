@@ -1,0 +1,4 @@
+pub mod Copies
+pub mod Fields
+pub mod Shares
+pub mod Writing
