@@ -9,15 +9,18 @@ use Rattle.cipher_laws.specs.Bytes.{AreBytes}
 use Rattle.plain_disk.specs.Plain.{Block, Exchange, Legal}
 use Rattle.sector_disk.specs.Cells.{AreSettled, content, currents}
 use Rattle.sector_disk.specs.Steps.{Told}
-use Rattle.volume_core.specs.Contents.{IsFresh}
-use Rattle.volume_core.specs.Executing.{Executes, IsIdle, StopsAlong, TellsRun, ServesWithoutFaults, BreaksByFaults}
-use Rattle.volume_core.specs.Promises.{DeviceErrorsAreExact, Starts, StartsCovered, ServesEachRun, GoesByEvents}
-use Rattle.volume_core.specs.Runs.{Happening, IsRun, last_of, answered_in, no_plain, AreExchanges}
-use Rattle.volume_core.specs.Sealing.{ChangeNothing}
-use Rattle.volume_core.specs.Seals.{Seals, AreLawful}
-use Rattle.volume_core.specs.Sound.{IsSound, AreApart}
-use Rattle.volume_core.specs.States.{State, Device, size_of}
-use Rattle.volume_core.specs.Volumes.{IsWholeDisk, plain_blocks}
+use Rattle.volume_machine.specs.Beginnings.{IsFresh}
+use Rattle.volume_laws.specs.Executing.{Executes, StopsAlong, TellsRun, ServesWithoutFaults, BreaksByFaults}
+use Rattle.volume_machine.specs.States.{IsIdle}
+use Rattle.volume_laws.specs.Promises.{DeviceErrorsAreExact, Starts, StartsCovered, ServesEachRun, GoesByEvents}
+use Rattle.volume_machine.specs.Runs.{Happening, IsRun, last_of, answered_in, no_plain, AreExchanges}
+use Rattle.volume_machine.specs.Beginnings.{ChangeNothing}
+use Rattle.volume_machine.specs.Seals.{Seals, AreLawful}
+use Rattle.volume_machine.specs.Sound.{IsSound, AreApart}
+use Rattle.volume_machine.specs.States.{State, size_of}
+use Rattle.sector_disk.specs.Devices.{Device}
+use Rattle.volume_machine.specs.Beginnings.{IsWholeDisk}
+use Rattle.volume_laws.specs.Contents.{plain_blocks}
 use Rattle.reenc_tool.specs.declared.ended.Cause.{Cause}
 use Rattle.reenc_tool.specs.Lanes.{Served}
 use Rattle.reenc_tool.specs.Playing.{Played, AreSessions, NumbersRise, operations_of}

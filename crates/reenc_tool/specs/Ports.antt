@@ -2,12 +2,12 @@
 use Rattle.std.specs.Prelude.{ℕ, ◌≡◌, List, [], ◌++◌}
 use Rattle.std.proofs.Common.{refl, ◌∙◌, ap, subst}
 use Rattle.plain_disk.specs.Plain.{Exchange}
-use Rattle.volume_core.specs.Executing.{Executes}
-use Rattle.volume_core.specs.Runs.{Happening}
-use Rattle.volume_core.specs.Seals.{Seals, seals_of}
-use Rattle.volume_core.specs.States.{State}
-use Rattle.volume_core.specs.declared.keys.Keys.{Keys}
-use Rattle.volume_core.proofs.Executions.{executes_none, executes_joined}
+use Rattle.volume_laws.specs.Executing.{Executes}
+use Rattle.volume_machine.specs.Runs.{Happening}
+use Rattle.volume_machine.specs.Seals.{Seals, seals_of}
+use Rattle.volume_machine.specs.States.{State}
+use Rattle.volume_machine.specs.declared.keys.Keys.{Keys}
+use Rattle.volume_laws.proofs.Executions.{executes_none, executes_joined}
 
 -- From an old state of the volume to a new one these operations were executed, by some run of events.
 -- The volume's map and keys are the same.

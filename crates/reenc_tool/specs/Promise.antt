@@ -10,17 +10,19 @@ use Rattle.aes_core.specs.declared.cipher.Aes.{Aes}
 use Rattle.sector_cipher.specs.declared.disk.DiskCipher.{DiskCipher}
 use Rattle.sector_disk.specs.Cells.{AreSettled}
 use Rattle.sector_disk.specs.Steps.{Told}
-use Rattle.volume_core.specs.Contents.{IsFresh}
-use Rattle.volume_core.specs.Executing.{Executes, IsIdle, StopsAlong, TellsRun}
-use Rattle.volume_core.specs.Promises.{DeviceErrorsAreExact, StartsCovered, GoesByEvents}
-use Rattle.volume_core.specs.Runs.{Happening, last_of}
-use Rattle.volume_core.specs.Sealing.{ChangeNothing}
-use Rattle.volume_core.specs.Seals.{Seals}
-use Rattle.volume_core.specs.Sound.{IsSound, AreApart}
-use Rattle.volume_core.specs.States.{State, size_of}
-use Rattle.volume_core.specs.States.{Device as DiskState}
-use Rattle.volume_core.specs.Volumes.{IsWholeDisk, plain_blocks}
-use Rattle.volume_core.specs.declared.keys.Keys.{Keys}
+use Rattle.volume_machine.specs.Beginnings.{IsFresh}
+use Rattle.volume_laws.specs.Executing.{Executes, StopsAlong, TellsRun}
+use Rattle.volume_machine.specs.States.{IsIdle}
+use Rattle.volume_laws.specs.Promises.{DeviceErrorsAreExact, StartsCovered, GoesByEvents}
+use Rattle.volume_machine.specs.Runs.{Happening, last_of}
+use Rattle.volume_machine.specs.Beginnings.{ChangeNothing}
+use Rattle.volume_machine.specs.Seals.{Seals}
+use Rattle.volume_machine.specs.Sound.{IsSound, AreApart}
+use Rattle.volume_machine.specs.States.{State, size_of}
+use Rattle.sector_disk.specs.Devices.{Device as DiskState}
+use Rattle.volume_machine.specs.Beginnings.{IsWholeDisk}
+use Rattle.volume_laws.specs.Contents.{plain_blocks}
+use Rattle.volume_machine.specs.declared.keys.Keys.{Keys}
 use Rattle.reenc_tool.specs.declared.ended.Cause.{Cause}
 use Rattle.reenc_tool.specs.declared.ended.Cause.TheVariants.{Fine, Usage, Device, NoFit, Link, Output, Memory}
 use Rattle.reenc_tool.specs.declared.ended.Fit.TheVariants.{Blocks}

@@ -1,5 +1,5 @@
 ghost use Rattle.std.specs.Prelude.{◌≡◌, ◌<◌, length};
-ghost use Rattle.volume_core.specs.Executing.{IsIdle};
+ghost use Rattle.volume_machine.specs.States.{IsIdle};
 
 use base_terms::Bytes;
 use cipher_laws::SectorCipher;

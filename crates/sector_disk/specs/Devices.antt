@@ -1,5 +1,5 @@
 -- A disk as the layers above see it, and what one call does to it.
-use Rattle.std.specs.Prelude.{ℕ, ◌≡◌, ◌⊎◌, List, Option, Some, None, Result, IsSome, option_map}
+use Rattle.std.specs.Prelude.{ℕ, ◌≡◌, ◌⊎◌, List, Option, Some, None, Result, Ok, Err, IsSome, option_map}
 use Rattle.base_terms.specs.declared.failed.Failed.{Failed}
 use Rattle.base_terms.specs.Causes.{HasCause}
 use Rattle.sector_disk.specs.Steps.{Told, remarked, TellsRead, TellsWrite, TellsSync}
@@ -55,3 +55,10 @@ pub record SyncCall (old new : Device) (result : Result (Unit {0}) Failed) : Typ
   pub told : TellsSync old.told new.told result
   pub goes_on : GoesOn old new
   pub cause : HasCause old.faults new.faults result
+
+-- a device call that succeeded, and one that failed
+abbrev pub succeeded : Result (Unit {0}) Failed
+succeeded = Ok tt
+
+abbrev pub failed_call : Result (Unit {0}) Failed
+failed_call = Err (record {})

@@ -6,12 +6,12 @@ use Rattle.range_lock.specs.declared.Entry.{Entry}
 use Rattle.range_lock.specs.declared.Kind.{Kind}
 use Rattle.range_lock.specs.declared.Standing.{Standing}
 use Rattle.range_lock.specs.Locks.{IsStanding}
-use Rattle.volume_core.specs.Asks.{range_of, kind_of, has_lock, wrong_ask, entry_of}
-use Rattle.volume_core.specs.Events.{admits, Outcome, held, refused}
-use Rattle.volume_core.specs.States.{State, size_of, begun}
-use Rattle.volume_core.specs.Steps.{Step, Goes, IsReadyFor, IsAdmitted, TellsStanding}
-use Rattle.volume_core.specs.declared.ask.Ask.{Ask}
-use Rattle.volume_core.specs.declared.open.Open.{Open}
+use Rattle.volume_machine.specs.Asks.{range_of, kind_of, has_lock, wrong_ask, entry_of}
+use Rattle.volume_machine.specs.Events.{admits, Outcome, held, refused}
+use Rattle.volume_machine.specs.States.{State, size_of, begun}
+use Rattle.volume_machine.specs.Steps.{Step, Goes, IsReadyFor, IsAdmitted, TellsStanding}
+use Rattle.volume_machine.specs.declared.ask.Ask.{Ask}
+use Rattle.volume_machine.specs.declared.open.Open.{Open}
 use Rattle.volume_core.proofs.CodeSteps.{goes-to}
 
 none_of : (o : Option ℕ) → ((n : ℕ) → o ≡ Some n → ⊥) → o ≡ None

@@ -3,12 +3,13 @@ use Rattle.std.proofs.Common.{◌≡◌, ℕ, zero, suc, ◌<◌, false, Option,
 use Rattle.std.proofs.lemmas.List.{length-replicate}
 use Rattle.range_lock.specs.Locks.{Locks}
 use Rattle.segment_map.specs.declared.map.Map.{Map}
-use Rattle.volume_core.specs.Sound.{IsSound, MapFits, count_locks}
-use Rattle.volume_core.specs.Seals.{KeysFit}
-use Rattle.volume_core.specs.States.{Device, open_at}
+use Rattle.volume_machine.specs.Sound.{IsSound, MapFits, count_locks}
+use Rattle.volume_machine.specs.Seals.{KeysFit}
+use Rattle.sector_disk.specs.Devices.{Device}
+use Rattle.volume_machine.specs.States.{open_at}
 use Rattle.volume_core.specs.Volumes.{state_of, IsVolume}
-use Rattle.volume_core.specs.declared.keys.Keys.{Keys}
-use Rattle.volume_core.specs.declared.open.Open.{Open}
+use Rattle.volume_machine.specs.declared.keys.Keys.{Keys}
+use Rattle.volume_machine.specs.declared.open.Open.{Open}
 
 no_open : (n lane : ℕ) → open_at (replicate n None) lane ≡ None
 no_open zero lane = refl

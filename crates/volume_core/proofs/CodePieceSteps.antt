@@ -5,14 +5,15 @@ use Rattle.segment_map.specs.Maps.{place_at}
 use Rattle.segment_map.specs.declared.map.Piece.{Piece}
 use Rattle.sector_disk.specs.Geometry.{IsInDisk}
 use Rattle.volume_core.specs.Answers.{FitsPiece}
-use Rattle.volume_core.specs.Devices.{ReadCall, WriteCall}
-use Rattle.volume_core.specs.Events.{reads, writes, got, done, device, broken}
-use Rattle.volume_core.specs.Pieces.{IsPieceOf, ArePieceBytes, size_of_piece, rest_of, moved, failing}
-use Rattle.volume_core.specs.Sound.{IsSound}
-use Rattle.volume_core.specs.States.{State, open_at}
-use Rattle.volume_core.specs.Steps.{Step, Meets, Goes, succeeded, failed_call}
-use Rattle.volume_core.specs.declared.open.Open.{Open}
-use Rattle.volume_core.proofs.CodePieces.{next_is_one, place-of, piece-on-disk}
+use Rattle.sector_disk.specs.Devices.{ReadCall, WriteCall}
+use Rattle.volume_machine.specs.Events.{reads, writes, got, done, device, broken}
+use Rattle.volume_machine.specs.Pieces.{IsPieceOf, ArePieceBytes, size_of_piece, rest_of, moved, failing}
+use Rattle.volume_machine.specs.Sound.{IsSound}
+use Rattle.volume_machine.specs.States.{State, open_at}
+use Rattle.volume_machine.specs.Steps.{Step, Meets, Goes}
+use Rattle.sector_disk.specs.Devices.{succeeded, failed_call}
+use Rattle.volume_machine.specs.declared.open.Open.{Open}
+use Rattle.volume_machine.proofs.NextPieces.{next_is_one, place-of, piece-on-disk}
 use Rattle.volume_core.proofs.CodeSteps.{open-is-one, goes-to}
 
 -- the operation has a block left, and ends within the volume

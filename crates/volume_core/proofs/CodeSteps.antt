@@ -2,18 +2,19 @@
 use Rattle.std.proofs.Common.{◌≡◌, ℕ, zero, suc, ◌<◌, Bool, true, false, Option, Some, None, List, [], ◌∷◌, length, refl, ◌∙◌, arith}
 use Rattle.range_lock.specs.declared.Entry.{Entry}
 use Rattle.range_lock.specs.Locks.{has_entry}
-use Rattle.volume_core.specs.Asks.{has_lock, entry_of}
-use Rattle.volume_core.specs.Devices.{SyncCall}
-use Rattle.volume_core.specs.Events.{Event, Outcome, admits, asks, reads, writes, settles, finishes, done, device, broken}
-use Rattle.volume_core.specs.Pieces.{failing, settling}
-use Rattle.volume_core.specs.Sound.{IsSound}
-use Rattle.volume_core.specs.States.{State, open_at}
-use Rattle.volume_core.specs.Steps.{Step, Meets, Has, HasPiece, Goes, after_settle, succeeded, failed_call}
+use Rattle.volume_machine.specs.Asks.{has_lock, entry_of}
+use Rattle.sector_disk.specs.Devices.{SyncCall}
+use Rattle.volume_machine.specs.Events.{Event, Outcome, admits, asks, reads, writes, settles, finishes, done, device, broken}
+use Rattle.volume_machine.specs.Pieces.{failing, settling}
+use Rattle.volume_machine.specs.Sound.{IsSound}
+use Rattle.volume_machine.specs.States.{State, open_at}
+use Rattle.volume_machine.specs.Steps.{Step, Meets, Has, HasPiece, Goes, after_settle}
+use Rattle.sector_disk.specs.Devices.{succeeded, failed_call}
 use Rattle.volume_core.specs.Volumes.{IsVolume}
-use Rattle.volume_core.specs.declared.ask.Ask.{Ask}
-use Rattle.volume_core.specs.declared.keys.Keys.{Keys}
-use Rattle.volume_core.specs.declared.open.Open.{Open}
-use Rattle.volume_core.proofs.Soundness.{sound_kept, has-entry, lacks-entry, free-room}
+use Rattle.volume_machine.specs.declared.ask.Ask.{Ask}
+use Rattle.volume_machine.specs.declared.keys.Keys.{Keys}
+use Rattle.volume_machine.specs.declared.open.Open.{Open}
+use Rattle.volume_machine.proofs.Soundness.{sound_kept, has-entry, lacks-entry, free-room}
 
 -- a lane that has an operation is one of the volume's
 pub has-lane : (lanes : List (Option Open)) (lane : ℕ) (o : Open) → open_at lanes lane ≡ Some o → lane < length lanes

@@ -3,9 +3,9 @@ use Rattle.std.specs.Prelude.{ℕ, ◌≡◌, List, length, Some, Bool, nat_eq}
 use Rattle.segment_map.specs.declared.map.Map.{Map}
 use Rattle.segment_map.specs.declared.map.Piece.{Piece}
 use Rattle.segment_map.specs.Sides.{left_of}
-use Rattle.volume_core.specs.Events.{Outcome, held, waits, refused, got, done, device, broken}
-use Rattle.volume_core.specs.Pieces.{IsPieceOf, size_of_piece}
-use Rattle.volume_core.specs.States.{State, open_at}
+use Rattle.volume_machine.specs.Events.{Outcome, held, waits, refused, got, done, device, broken}
+use Rattle.volume_machine.specs.Pieces.{IsPieceOf, size_of_piece}
+use Rattle.volume_machine.specs.States.{State, open_at}
 use Rattle.volume_core.specs.declared.answers.Grant.{Grant}
 use Rattle.volume_core.specs.declared.answers.Admitted.{Admitted}
 use Rattle.volume_core.specs.declared.answers.Admitted.TheVariants as Admit
@@ -17,7 +17,7 @@ use Rattle.volume_core.specs.declared.answers.PieceWritten.{PieceWritten}
 use Rattle.volume_core.specs.declared.answers.PieceWritten.TheVariants as Write
 use Rattle.volume_core.specs.declared.answers.Settled.{Settled}
 use Rattle.volume_core.specs.declared.answers.Settled.TheVariants as Settle
-use Rattle.volume_core.specs.declared.open.Open.{Open}
+use Rattle.volume_machine.specs.declared.open.Open.{Open}
 
 abbrev pub outcome_of_admitted : Admitted → Outcome
 outcome_of_admitted (Admit.Held grant) = held

@@ -1,15 +1,2 @@
 pub mod Answers
-pub mod Asks
-pub mod Contents
-pub mod Devices
-pub mod Events
-pub mod Executing
-pub mod Pieces
-pub mod Promises
-pub mod Runs
-pub mod Sealing
-pub mod Seals
-pub mod Sound
-pub mod States
-pub mod Steps
 pub mod Volumes

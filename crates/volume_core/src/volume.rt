@@ -2,28 +2,27 @@
 
 ghost use Rattle.std.specs.Prelude.{◌≡◌, ◌<◌, false, [], length, ℕ, None, replicate, IfOk, IfErr, OnOk};
 ghost use Rattle.volume_core.specs.Answers.{outcome_of_admitted, outcome_of_asked, outcome_of_read, outcome_of_written, outcome_of_settled, GrantsAdmitted, GrantsAsked, buffer_of_read, buffer_of_written, KeepsBuffer, FitsPiece, is_idle};
-ghost use Rattle.volume_core.specs.Asks.{range_of};
-ghost use Rattle.volume_core.specs.Contents.{IsFresh};
-ghost use Rattle.volume_core.specs.Events.{admits, asks, reads, writes, settles, finishes, done, refused};
-ghost use Rattle.volume_core.specs.Sealing.{ChangeNothing};
-ghost use Rattle.volume_core.specs.Seals.{KeysFit, seals_of};
-ghost use Rattle.volume_core.specs.Sound.{AreApart, IsSound, MapFits};
-ghost use Rattle.volume_core.specs.Steps.{IsReadyFor, Step, Meets};
-ghost use Rattle.volume_core.specs.Volumes.{IsWholeDisk, new_volume};
+ghost use Rattle.volume_machine.specs.Asks.{range_of};
+ghost use Rattle.volume_machine.specs.Beginnings.{IsFresh};
+ghost use Rattle.volume_machine.specs.Events.{admits, asks, reads, writes, settles, finishes, done, refused};
+ghost use Rattle.volume_machine.specs.Beginnings.{ChangeNothing};
+ghost use Rattle.volume_machine.specs.Seals.{KeysFit, seals_of};
+ghost use Rattle.volume_machine.specs.Sound.{AreApart, IsSound, MapFits};
+ghost use Rattle.volume_machine.specs.Steps.{IsReadyFor, Step, Meets};
+ghost use Rattle.volume_machine.specs.Beginnings.{IsWholeDisk, new_volume};
 
 use crate::answers::{Admitted, Asked, Grant, PieceRead, PieceWritten, Progress, Settled};
-use crate::buffers::read_into;
-use crate::open::{Open, open_of, set_lane};
-use crate::{Ask, Keys, Prepared};
 use base_terms::{Bytes, Failed};
 use block_range::BlockRange;
 use cipher_laws::SectorCipher;
+use disk_views::read_into;
 use range_lock::{Standing, Table};
 use sector_cipher::Context;
 use sector_disk::Disk;
 use segment_map::{Direction, Map};
 use std::alloc::{AllocError, Global};
 use std::marker::Model;
+use volume_machine::{Ask, Keys, Open, Prepared, open_of, set_lane};
 
 /// The number of an error of the device.
 const DEVICE_ERROR: u32 = 5;
@@ -47,9 +46,9 @@ pub struct Volume<D: Disk, C: SectorCipher + Copy> {
 }
 
 impl<D: Disk, C: SectorCipher + Copy> Model for Volume<D, C> {
-    ghost use Rattle.volume_core.specs.States.{State};
+    ghost use Rattle.volume_machine.specs.States.{State};
     ghost use Rattle.volume_core.specs.Volumes.{IsVolume, state_of};
-    ghost use Rattle.volume_core.specs.declared.keys.Keys.{Keys};
+    ghost use Rattle.volume_machine.specs.declared.keys.Keys.{Keys};
 
     ghost Value = { State (Keys C) };
 

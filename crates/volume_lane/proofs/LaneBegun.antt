@@ -3,12 +3,12 @@ use Rattle.std.proofs.Common.{◌≡◌, ℕ, ◌+◌, List, [], length, Option,
 use Rattle.std.proofs.lemmas.List.{append-nil, take_all}
 use Rattle.block_range.specs.declared.BlockRange.{BlockRange}
 use Rattle.segment_map.specs.declared.map.Piece.{Piece}
-use Rattle.volume_core.specs.Asks.{IsRead, IsForced, range_of}
-use Rattle.volume_core.specs.Seals.{Seals, seals_of}
-use Rattle.volume_core.specs.States.{State}
-use Rattle.volume_core.specs.declared.ask.Ask.{Ask}
-use Rattle.volume_core.specs.declared.ask.Ask.TheVariants.{Read, Write, Flush}
-use Rattle.volume_core.specs.declared.keys.Keys.{Keys}
+use Rattle.volume_machine.specs.Asks.{IsRead, IsForced, range_of}
+use Rattle.volume_machine.specs.Seals.{Seals, seals_of}
+use Rattle.volume_machine.specs.States.{State}
+use Rattle.volume_machine.specs.declared.ask.Ask.{Ask}
+use Rattle.volume_machine.specs.declared.ask.Ask.TheVariants.{Read, Write, Flush}
+use Rattle.volume_machine.specs.declared.keys.Keys.{Keys}
 use Rattle.volume_lane.specs.Lane.{GoesOn, HasAll, HasBegun, HasFailed, HasMade, HasMissed, HasTried, HasWritten, IsAlone, WasTried, going}
 use Rattle.volume_lane.proofs.LanePieces.{same-seals}
 use Rattle.volume_lane.proofs.LaneRuns.{goes-on}

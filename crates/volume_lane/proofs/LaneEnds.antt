@@ -10,21 +10,21 @@ use Rattle.range_lock.specs.declared.Entry.{Entry}
 use Rattle.range_lock.specs.declared.Standing.TheVariants.{Held}
 use Rattle.range_lock.specs.Locks.{IsStanding, IsStandingOf, is_of}
 use Rattle.volume_core.specs.Answers.{IsGrant}
-use Rattle.volume_core.specs.Asks.{has_lock, range_of, entry_of, wrong_ask}
-use Rattle.volume_core.specs.Events.{Outcome, admits, settles, finishes, held, waits, refused, got, done, device, broken}
-use Rattle.volume_core.specs.Executing.{IsIdle}
-use Rattle.volume_core.specs.Runs.{Answered, Happening, IsRun, last_of, answered_by, answered_in, plain_in, plain_after, with_plain, by_finish, full_reply, flush_reply, AreExchanges, IsExchange, Asked, tried_by}
-use Rattle.volume_core.specs.Seals.{Seals}
-use Rattle.volume_core.specs.Sound.{IsSound}
-use Rattle.volume_core.specs.States.{State, open_at, size_of}
-use Rattle.volume_core.specs.Steps.{Step, Meets, IsReadyFor, IsAdmitted, TellsStanding, Goes}
+use Rattle.volume_machine.specs.Asks.{has_lock, range_of, entry_of, wrong_ask}
+use Rattle.volume_machine.specs.Events.{Outcome, admits, settles, finishes, held, waits, refused, got, done, device, broken}
+use Rattle.volume_machine.specs.States.{IsIdle}
+use Rattle.volume_machine.specs.Runs.{Answered, Happening, IsRun, last_of, answered_by, answered_in, plain_in, plain_after, with_plain, by_finish, full_reply, flush_reply, AreExchanges, IsExchange, Asked, tried_by}
+use Rattle.volume_machine.specs.Seals.{Seals}
+use Rattle.volume_machine.specs.Sound.{IsSound}
+use Rattle.volume_machine.specs.States.{State, open_at, size_of}
+use Rattle.volume_machine.specs.Steps.{Step, Meets, IsReadyFor, IsAdmitted, TellsStanding, Goes}
 use Rattle.volume_core.specs.declared.answers.Grant.{Grant}
-use Rattle.volume_core.specs.declared.ask.Ask.{Ask}
-use Rattle.volume_core.specs.declared.ask.Ask.TheVariants.{Read, Write, Flush}
-use Rattle.volume_core.specs.declared.open.Open.{Open}
+use Rattle.volume_machine.specs.declared.ask.Ask.{Ask}
+use Rattle.volume_machine.specs.declared.ask.Ask.TheVariants.{Read, Write, Flush}
+use Rattle.volume_machine.specs.declared.open.Open.{Open}
 use Rattle.volume_core.proofs.CodeSteps.{open-is-one}
-use Rattle.volume_core.proofs.Executions.{run-joined, last-joined, answered-joined}
-use Rattle.volume_core.proofs.Soundness.{match_true}
+use Rattle.volume_laws.proofs.Executions.{run-joined, last-joined, answered-joined}
+use Rattle.volume_machine.proofs.Soundness.{match_true}
 use Rattle.volume_lane.specs.Lane.{GoesOn, HasAll, HasBegun, HasExecuted, HasFailed, HasMade, HasMissed, IsAlone, WasTried, going}
 use Rattle.volume_lane.proofs.LaneEvents.{meets-finishes}
 

@@ -5,20 +5,20 @@ use Rattle.segment_map.specs.declared.Side.{Side}
 use Rattle.segment_map.specs.declared.map.Map.{Map}
 use Rattle.segment_map.specs.declared.map.Piece.{Piece}
 use Rattle.volume_core.specs.Answers.{FitsPiece}
-use Rattle.volume_core.specs.Asks.{IsRead, IsWrite, IsForced, has_lock, range_of}
-use Rattle.volume_core.specs.Events.{Event, Outcome, reads, writes, settles, finishes, got, done, device, broken}
-use Rattle.volume_core.specs.Pieces.{IsPieceOf, ArePieceBytes, IsComplete, known_side, size_of_piece, moved, failing, settling}
-use Rattle.volume_core.specs.Runs.{answered_by, by_settle, plain_after, plain_piece, opened_by}
-use Rattle.volume_core.specs.Seals.{Seals, KeysFit}
-use Rattle.volume_core.specs.Sound.{IsSound}
-use Rattle.volume_core.specs.declared.keys.Keys.{Keys}
-use Rattle.volume_core.specs.States.{State, open_at}
-use Rattle.volume_core.specs.Steps.{Step, Meets, Goes, HasPiece, CanSettle, after_settle}
-use Rattle.volume_core.specs.declared.ask.Ask.{Ask}
-use Rattle.volume_core.specs.declared.ask.Ask.TheVariants.{Read, Write, Flush}
-use Rattle.volume_core.specs.declared.open.Open.{Open}
-use Rattle.volume_core.proofs.CodePieces.{next_is_one}
-use Rattle.volume_core.proofs.CodeSeals.{fewer-blocks}
+use Rattle.volume_machine.specs.Asks.{IsRead, IsWrite, IsForced, has_lock, range_of}
+use Rattle.volume_machine.specs.Events.{Event, Outcome, reads, writes, settles, finishes, got, done, device, broken}
+use Rattle.volume_machine.specs.Pieces.{IsPieceOf, ArePieceBytes, IsComplete, known_side, size_of_piece, moved, failing, settling}
+use Rattle.volume_machine.specs.Runs.{answered_by, by_settle, plain_after, plain_piece, opened_by}
+use Rattle.volume_machine.specs.Seals.{Seals, KeysFit}
+use Rattle.volume_machine.specs.Sound.{IsSound}
+use Rattle.volume_machine.specs.declared.keys.Keys.{Keys}
+use Rattle.volume_machine.specs.States.{State, open_at}
+use Rattle.volume_machine.specs.Steps.{Step, Meets, Goes, HasPiece, CanSettle, after_settle}
+use Rattle.volume_machine.specs.declared.ask.Ask.{Ask}
+use Rattle.volume_machine.specs.declared.ask.Ask.TheVariants.{Read, Write, Flush}
+use Rattle.volume_machine.specs.declared.open.Open.{Open}
+use Rattle.volume_machine.proofs.NextPieces.{next_is_one}
+use Rattle.volume_machine.proofs.KeyLemmas.{fewer-blocks}
 use Rattle.volume_core.proofs.CodeSteps.{open-is-one}
 use Rattle.volume_lane.specs.Lane.{GoesOn, HasAll, HasFailed, HasTried, IsAlone, IsNext, going}
 use Rattle.volume_lane.proofs.LaneRuns.{one-event}

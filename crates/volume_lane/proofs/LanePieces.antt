@@ -3,12 +3,12 @@ use Rattle.std.proofs.Common.{◌≡◌, ℕ, ◌+◌, ◌-◌, ◌*◌, ◌≤�
 use Rattle.std.proofs.Math.Nat.{mul-le-mul_right}
 use Rattle.std.proofs.Math.Seq.{take-add}
 use Rattle.std.proofs.lemmas.List.{take-take}
-use Rattle.volume_core.specs.Asks.{IsRead, IsWrite, range_of}
-use Rattle.volume_core.specs.Seals.{seals_of}
-use Rattle.volume_core.specs.States.{State}
-use Rattle.volume_core.specs.declared.ask.Ask.{Ask}
-use Rattle.volume_core.specs.declared.ask.Ask.TheVariants.{Read, Write, Flush}
-use Rattle.volume_core.specs.declared.keys.Keys.{Keys}
+use Rattle.volume_machine.specs.Asks.{IsRead, IsWrite, range_of}
+use Rattle.volume_machine.specs.Seals.{seals_of}
+use Rattle.volume_machine.specs.States.{State}
+use Rattle.volume_machine.specs.declared.ask.Ask.{Ask}
+use Rattle.volume_machine.specs.declared.ask.Ask.TheVariants.{Read, Write, Flush}
+use Rattle.volume_machine.specs.declared.keys.Keys.{Keys}
 use Rattle.volume_lane.specs.Lane.{GoesOn, HasTried, IsAlone, going}
 use Rattle.volume_lane.proofs.LaneRuns.{goes-on}
 

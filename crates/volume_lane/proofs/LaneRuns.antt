@@ -1,12 +1,12 @@
 -- Events of one lane, one after the other.
 use Rattle.std.proofs.Common.{◌≡◌, ℕ, List, [], ◌∷◌, ◌++◌, length, refl, sym, ◌∙◌, ap, subst, append_assoc}
 use Rattle.std.proofs.lemmas.List.{append-nil}
-use Rattle.volume_core.specs.Events.{Event, Outcome}
-use Rattle.volume_core.specs.Runs.{Happening, IsRun, last_of, answered_by, answered_in, plain_in, plain_after}
-use Rattle.volume_core.specs.Seals.{Seals}
-use Rattle.volume_core.specs.States.{State}
-use Rattle.volume_core.specs.Steps.{Step, Meets}
-use Rattle.volume_core.proofs.Executions.{run-joined, last-joined, answered-joined}
+use Rattle.volume_machine.specs.Events.{Event, Outcome}
+use Rattle.volume_machine.specs.Runs.{Happening, IsRun, last_of, answered_by, answered_in, plain_in, plain_after}
+use Rattle.volume_machine.specs.Seals.{Seals}
+use Rattle.volume_machine.specs.States.{State}
+use Rattle.volume_machine.specs.Steps.{Step, Meets}
+use Rattle.volume_laws.proofs.Executions.{run-joined, last-joined, answered-joined}
 use Rattle.volume_lane.specs.Lane.{GoesOn}
 
 pub plain-joined : {K : Type 0} (seals : Seals) (old : State K) (plain : ℕ → List ℕ) (xs ys : List (Happening K)) →

@@ -4,10 +4,10 @@ use Rattle.cipher_laws.specs.Bytes.{AreBytes}
 use Rattle.cipher_laws.specs.Laws.{UndoesSectors}
 use Rattle.segment_map.specs.declared.map.Map.{Map}
 use Rattle.segment_map.specs.declared.map.Piece.{Piece}
-use Rattle.volume_core.specs.Seals.{KeysFit, key_of, number_of, seals_of}
-use Rattle.volume_core.specs.States.{State}
-use Rattle.volume_core.specs.declared.keys.Keys.{Keys}
-use Rattle.volume_core.proofs.CodeSeals.{side-whole}
+use Rattle.volume_machine.specs.Seals.{KeysFit, key_of, number_of, seals_of}
+use Rattle.volume_machine.specs.States.{State}
+use Rattle.volume_machine.specs.declared.keys.Keys.{Keys}
+use Rattle.volume_machine.proofs.KeyLemmas.{side-whole}
 
 pub opens-sealed : {C : Type 0} (sector : C → ℕ) (seal unseal : C → ℕ → List ℕ → List ℕ) (keys : Keys C) (atom blocks : ℕ) (piece : Piece) (bytes : List ℕ) →
     ((c : C) → UndoesSectors (sector c) (unseal c) (seal c)) → KeysFit sector keys atom blocks → length bytes ≡ piece.count * atom → AreBytes bytes →

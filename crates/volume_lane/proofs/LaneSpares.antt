@@ -3,8 +3,8 @@ use Rattle.std.proofs.Common.{◌≡◌, ℕ, ◌+◌, ◌<◌, ◌≤◌, true,
 use Rattle.std.proofs.lemmas.List.{append-nil}
 use Rattle.segment_map.specs.declared.map.Map.{Map}
 use Rattle.segment_map.specs.declared.map.Piece.{Piece}
-use Rattle.volume_core.specs.Pieces.{size_of_piece}
-use Rattle.volume_core.proofs.CodePieces.{next_is_one}
+use Rattle.volume_machine.specs.Pieces.{size_of_piece}
+use Rattle.volume_machine.proofs.NextPieces.{next_is_one}
 use Rattle.volume_lane.specs.Spares.{AreEnough, none, fits, takes, IsPieceAt}
 
 -- the buffers so far, with those for the pieces that are left

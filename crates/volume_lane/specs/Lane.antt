@@ -4,17 +4,18 @@ use Rattle.plain_disk.specs.declared.operation.Op.{Op}
 use Rattle.plain_disk.specs.declared.operation.Op.TheVariants as Ops
 use Rattle.plain_disk.specs.declared.operation.Reply.{Reply}
 use Rattle.segment_map.specs.declared.map.Piece.{Piece}
-use Rattle.volume_core.specs.Asks.{range_of, has_lock}
-use Rattle.volume_core.specs.Events.{admits, held}
-use Rattle.volume_core.specs.Executing.{Executes, IsIdle}
-use Rattle.volume_core.specs.Pieces.{IsComplete, IsPieceOf}
-use Rattle.volume_core.specs.Runs.{Happening, IsRun, last_of, answered_in, plain_in}
-use Rattle.volume_core.specs.Seals.{Seals}
-use Rattle.volume_core.specs.States.{State, open_at}
-use Rattle.volume_core.specs.Steps.{Step, Holds, IsReadyFor}
-use Rattle.volume_core.specs.declared.ask.Ask.{Ask}
-use Rattle.volume_core.specs.declared.ask.Ask.TheVariants.{Read, Write, Flush}
-use Rattle.volume_core.specs.declared.open.Open.{Open}
+use Rattle.volume_machine.specs.Asks.{range_of, has_lock}
+use Rattle.volume_machine.specs.Events.{admits, held}
+use Rattle.volume_laws.specs.Executing.{Executes}
+use Rattle.volume_machine.specs.States.{IsIdle}
+use Rattle.volume_machine.specs.Pieces.{IsComplete, IsPieceOf}
+use Rattle.volume_machine.specs.Runs.{Happening, IsRun, last_of, answered_in, plain_in}
+use Rattle.volume_machine.specs.Seals.{Seals}
+use Rattle.volume_machine.specs.States.{State, open_at}
+use Rattle.volume_machine.specs.Steps.{Step, Holds, IsReadyFor}
+use Rattle.volume_machine.specs.declared.ask.Ask.{Ask}
+use Rattle.volume_machine.specs.declared.ask.Ask.TheVariants.{Read, Write, Flush}
+use Rattle.volume_machine.specs.declared.open.Open.{Open}
 
 -- what an operation asks for
 abbrev pub ask_of : Op → Ask

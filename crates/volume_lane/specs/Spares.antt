@@ -4,7 +4,7 @@ use Rattle.std.specs.Prelude.{ℕ, ◌≡◌, ◌+◌, ◌<◌, ◌≤◌, List,
 use Rattle.segment_map.specs.declared.map.Map.{Map}
 use Rattle.segment_map.specs.declared.map.Piece.{Piece}
 use Rattle.segment_map.specs.Maps.{IsNextPiece}
-use Rattle.volume_core.specs.Pieces.{size_of_piece}
+use Rattle.volume_machine.specs.Pieces.{size_of_piece}
 
 -- the next piece from block `at` on
 abbrev pub IsPieceAt : Map → ℕ → ℕ → Piece → Type 0

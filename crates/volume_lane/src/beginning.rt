@@ -1,16 +1,17 @@
 // Operations that begin, on a volume on which none is under way.
 
 ghost use Rattle.std.specs.Prelude.{◌≡◌, ◌<◌, length};
-ghost use Rattle.volume_core.specs.Asks.{range_of};
-ghost use Rattle.volume_core.specs.Executing.{IsIdle};
-ghost use Rattle.volume_core.specs.Sound.{IsSound};
-ghost use Rattle.volume_core.specs.Steps.{IsReadyFor};
+ghost use Rattle.volume_machine.specs.Asks.{range_of};
+ghost use Rattle.volume_machine.specs.States.{IsIdle};
+ghost use Rattle.volume_machine.specs.Sound.{IsSound};
+ghost use Rattle.volume_machine.specs.Steps.{IsReadyFor};
 ghost use Rattle.volume_lane.specs.Lane.{HasBegun};
 
 use block_range::BlockRange;
 use cipher_laws::SectorCipher;
 use sector_disk::Disk;
-use volume_core::{Ask, Asked, Grant, Volume};
+use volume_machine::{Ask};
+use volume_core::{Asked, Grant, Volume};
 
 /// The lane on which operations are executed.
 pub(crate) const LANE: u32 = 0;

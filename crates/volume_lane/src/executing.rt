@@ -2,11 +2,12 @@
 
 ghost use Rattle.std.specs.Prelude.{ℕ, ◌≡◌, ◌<◌, List, [], ◌∷◌, length, IfOk, OnErr};
 ghost use Rattle.plain_disk.specs.declared.operation.Op.TheVariants as Ops;
-ghost use Rattle.volume_core.specs.Executing.{IsIdle, Executes};
-ghost use Rattle.volume_core.specs.Runs.{Happening};
-ghost use Rattle.volume_core.specs.Seals.{seals_of};
-ghost use Rattle.volume_core.specs.declared.keys.Keys.{Keys};
-ghost use Rattle.volume_core.specs.Steps.{IsReadyFor};
+ghost use Rattle.volume_machine.specs.States.{IsIdle};
+ghost use Rattle.volume_laws.specs.Executing.{Executes};
+ghost use Rattle.volume_machine.specs.Runs.{Happening};
+ghost use Rattle.volume_machine.specs.Seals.{seals_of};
+ghost use Rattle.volume_machine.specs.declared.keys.Keys.{Keys};
+ghost use Rattle.volume_machine.specs.Steps.{IsReadyFor};
 ghost use Rattle.volume_lane.specs.Lane.{HasExecuted, ask_of};
 
 use crate::beginning::{DEVICE_ERROR, LANE, begin};
@@ -17,7 +18,8 @@ use cipher_laws::SectorCipher;
 use plain_disk::{Op, Reply};
 use sector_disk::Disk;
 use std::alloc::{AllocError, Global};
-use volume_core::{Ask, Settled, Volume};
+use volume_machine::{Ask};
+use volume_core::{Settled, Volume};
 
 /// Executes one operation on the first lane of a volume on which no operation is under way, and
 /// answers it.

@@ -2,12 +2,12 @@
 
 ghost use Rattle.std.specs.Prelude.{◌≡◌, ◌+◌, ◌-◌, ◌*◌, ◌<◌, ◌≤◌, List, [], ℕ, length, IfOk, OnErr, OnSome, IfSome, IfNone, vec_capacity};
 ghost use Rattle.plain_disk.specs.declared.operation.Op.TheVariants as Ops;
-ghost use Rattle.volume_core.specs.Asks.{IsRead, range_of};
-ghost use Rattle.volume_core.specs.Executing.{IsIdle};
-ghost use Rattle.volume_core.specs.Pieces.{size_of_piece};
-ghost use Rattle.volume_core.specs.Seals.{seals_of};
-ghost use Rattle.volume_core.specs.Steps.{IsReadyFor};
-ghost use Rattle.volume_core.specs.declared.ask.Ask.TheVariants as Asks;
+ghost use Rattle.volume_machine.specs.Asks.{IsRead, range_of};
+ghost use Rattle.volume_machine.specs.States.{IsIdle};
+ghost use Rattle.volume_machine.specs.Pieces.{size_of_piece};
+ghost use Rattle.volume_machine.specs.Seals.{seals_of};
+ghost use Rattle.volume_machine.specs.Steps.{IsReadyFor};
+ghost use Rattle.volume_machine.specs.declared.ask.Ask.TheVariants as Asks;
 ghost use Rattle.volume_lane.specs.Lane.{GoesOn, HasAll, HasExecuted, HasFailed, HasMade, HasMissed, IsAlone, IsNext, going};
 ghost use Rattle.volume_lane.specs.Spares.{AreEnough};
 
@@ -21,7 +21,8 @@ use sector_disk::Disk;
 use segment_map::Piece;
 use std::alloc::{AllocError, Global};
 use std::collections::VecDeque;
-use volume_core::{Ask, Grant, PieceRead, Volume};
+use volume_machine::{Ask};
+use volume_core::{Grant, PieceRead, Volume};
 
 /// Executes a read. Its content comes in the spare buffer where that is long enough; where the read is
 /// refused the spare buffer is given back, else an empty one.

@@ -1,6 +1,6 @@
 ghost use Rattle.std.specs.Prelude.{◌≡◌, ◌*◌, ◌<◌, ◌≤◌, length};
-ghost use Rattle.volume_core.specs.Executing.{IsIdle};
-ghost use Rattle.volume_core.specs.Sound.{MapFits};
+ghost use Rattle.volume_machine.specs.States.{IsIdle};
+ghost use Rattle.volume_machine.specs.Sound.{MapFits};
 
 use crate::execute;
 use base_terms::Bytes;
@@ -11,7 +11,8 @@ use segment_map::{Direction, Map};
 use std::alloc::{AllocError, Global};
 use std::mem;
 use std::test::Fail;
-use volume_core::{Keys, Volume};
+use volume_machine::{Keys};
+use volume_core::{Volume};
 
 const MIB: usize = 1_048_576;
 

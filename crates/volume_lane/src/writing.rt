@@ -3,12 +3,12 @@
 ghost use Rattle.std.specs.Prelude.{◌≡◌, ◌+◌, ◌-◌, ◌*◌, ◌<◌, true, false, length, IfOk, OnErr, OnSome, IfSome, IfNone, ◌↔◌};
 ghost use Rattle.cipher_laws.specs.Bytes.{AreBytes};
 ghost use Rattle.plain_disk.specs.declared.operation.Op.TheVariants as Ops;
-ghost use Rattle.volume_core.specs.Asks.{IsForced, IsWrite, range_of};
-ghost use Rattle.volume_core.specs.Executing.{IsIdle};
-ghost use Rattle.volume_core.specs.Pieces.{size_of_piece};
-ghost use Rattle.volume_core.specs.Seals.{seals_of};
-ghost use Rattle.volume_core.specs.Steps.{IsReadyFor};
-ghost use Rattle.volume_core.specs.declared.ask.Ask.TheVariants as Asks;
+ghost use Rattle.volume_machine.specs.Asks.{IsForced, IsWrite, range_of};
+ghost use Rattle.volume_machine.specs.States.{IsIdle};
+ghost use Rattle.volume_machine.specs.Pieces.{size_of_piece};
+ghost use Rattle.volume_machine.specs.Seals.{seals_of};
+ghost use Rattle.volume_machine.specs.Steps.{IsReadyFor};
+ghost use Rattle.volume_machine.specs.declared.ask.Ask.TheVariants as Asks;
 ghost use Rattle.volume_lane.specs.Lane.{GoesOn, HasExecuted, HasMade, HasTried, HasWritten, IsAlone, IsNext, WasTried, going};
 ghost use Rattle.volume_lane.specs.Spares.{AreEnough};
 
@@ -22,7 +22,8 @@ use sector_disk::Disk;
 use segment_map::Piece;
 use std::alloc::{AllocError, Global};
 use std::collections::VecDeque;
-use volume_core::{Ask, Grant, PieceWritten, Prepared, Settled, Volume};
+use volume_machine::{Ask, Prepared};
+use volume_core::{Grant, PieceWritten, Settled, Volume};
 
 /// Executes a write, and gives the buffer of its body back where it still has it, else an empty one.
 pub(crate) fn write<D: Disk, C: SectorCipher + Copy>(

@@ -1,6 +1,7 @@
 ghost use Rattle.sector_disk.specs.Images.{IsChoice};
 
-use crate::{Ask, Keys, Prepared, Volume};
+use crate::Volume;
+use volume_machine::{Ask, Keys, Prepared};
 use block_range::BlockRange;
 use events::{
     Answer, admit, ask, finish, read, read_of, settle, small, volume_of, write, write_of,

@@ -1,5 +1,5 @@
 use Rattle.std.proofs.Common.{◌*◌, ◌∙◌, ap, sym, subst, arith, inl}
-use Rattle.volume_core.specs.Volumes.{IsWholeDisk}
+use Rattle.volume_machine.specs.Beginnings.{IsWholeDisk}
 use Rattle.reenc_tool.specs.Running.{cause_of}
 use Rattle.reenc_tool.proofs.RoundLemmas.{some_element}
 use Rattle.reenc_tool.proofs.RunLemmas.{ran_of, device_same}

@@ -1,15 +1,16 @@
 // The events of lanes, each of which first tests its conditions.
 
 ghost use Rattle.std.specs.Prelude.{◌≡◌, ◌+◌, ◌<◌, ◌≤◌, IsTrue, IfSome, Some};
-ghost use Rattle.volume_core.specs.Events.{admits, settles, finishes};
-ghost use Rattle.volume_core.specs.Pieces.{IsPieceOf};
-ghost use Rattle.volume_core.specs.States.{open_at};
-ghost use Rattle.volume_core.specs.Steps.{Meets, Holds, HasPiece};
-ghost use Rattle.volume_core.specs.declared.ask.Ask.{Ask};
+ghost use Rattle.volume_machine.specs.Events.{admits, settles, finishes};
+ghost use Rattle.volume_machine.specs.Pieces.{IsPieceOf};
+ghost use Rattle.volume_machine.specs.States.{open_at};
+ghost use Rattle.volume_machine.specs.Steps.{Meets, Holds, HasPiece};
+ghost use Rattle.volume_machine.specs.declared.ask.Ask.{Ask};
 
 use crate::answers::{Admitted, Asked, PieceRead, PieceWritten, Settled};
-use crate::open::Open;
-use crate::{Ask, Prepared, Volume};
+use volume_machine::Open;
+use crate::Volume;
+use volume_machine::{Ask, Prepared};
 use base_terms::Bytes;
 use cipher_laws::SectorCipher;
 use range_lock::Standing;
@@ -35,7 +36,7 @@ pub(super) enum Answer {
 
 // What a lane's call asks of the volume.
 
-#[tactic(auto, unfolding(crate::specs::Steps::Meets))]
+#[tactic(auto, unfolding(volume_machine::specs::Steps::Meets))]
 pub(super) fn can_admit<D: Disk, C: SectorCipher + Copy>(volume: &Volume<D, C>, lane: u32) -> bool
     ensures { (ask : Ask) → IsTrue result → Meets volume.now (admits lane ask) }
 {
@@ -80,7 +81,7 @@ fn next_piece<D: Disk, C: SectorCipher + Copy>(
     Some((open, volume.map.next_piece(open.rest())))
 }
 
-#[tactic(auto, unfolding(crate::specs::Steps::Meets))]
+#[tactic(auto, unfolding(volume_machine::specs::Steps::Meets))]
 fn can_settle<D: Disk, C: SectorCipher + Copy>(volume: &Volume<D, C>, lane: u32) -> bool
     ensures { IsTrue result → Meets volume.now (settles lane) }
 {
@@ -96,7 +97,7 @@ fn can_settle<D: Disk, C: SectorCipher + Copy>(volume: &Volume<D, C>, lane: u32)
     }
 }
 
-#[tactic(auto, unfolding(crate::specs::Steps::Meets))]
+#[tactic(auto, unfolding(volume_machine::specs::Steps::Meets))]
 fn can_finish<D: Disk, C: SectorCipher + Copy>(volume: &Volume<D, C>, lane: u32) -> bool
     ensures { IsTrue result → Meets volume.now (finishes lane) }
 {
@@ -133,7 +134,7 @@ pub(super) fn admit<D: Disk, C: SectorCipher + Copy>(
     }
 }
 
-#[tactic(auto, unfolding(crate::specs::Steps::Meets))]
+#[tactic(auto, unfolding(volume_machine::specs::Steps::Meets))]
 pub(super) fn ask<D: Disk, C: SectorCipher + Copy>(volume: &Volume<D, C>, lane: u32) -> Answer {
     match open_in(volume, lane) {
         Some(open) if open.ask.has_lock() => {}
@@ -165,7 +166,7 @@ pub(super) fn read<D: Disk, C: SectorCipher + Copy>(
 }
 
 // All bytes of a piece, in plain, or what was answered in their place.
-#[tactic(auto, unfolding(crate::specs::Steps::Meets))]
+#[tactic(auto, unfolding(volume_machine::specs::Steps::Meets))]
 pub(super) fn read_bytes<D: Disk, C: SectorCipher + Copy>(
     volume: &mut Volume<D, C>,
     alloc: Global,
@@ -192,7 +193,7 @@ pub(super) fn read_bytes<D: Disk, C: SectorCipher + Copy>(
     }
 }
 
-#[tactic(auto, unfolding(crate::specs::Steps::Meets))]
+#[tactic(auto, unfolding(volume_machine::specs::Steps::Meets))]
 pub(super) fn write<D: Disk, C: SectorCipher + Copy>(
     volume: &mut Volume<D, C>,
     alloc: Global,

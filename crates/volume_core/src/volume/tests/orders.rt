@@ -3,7 +3,8 @@
 use super::events::{
     Answer, admit, ask, finish, read_bytes, read_of, settle, volume_of, write, write_of,
 };
-use crate::{Ask, Volume};
+use crate::Volume;
+use volume_machine::{Ask};
 use base_terms::Bytes;
 use plain_disk::{Op, PlainDisk, Reply};
 use sector_cipher::Context;

@@ -1,14 +1,15 @@
 // Volumes in the middle of a conversion, with a key on each side.
 
 ghost use Rattle.std.specs.Prelude.{◌≡◌, ◌^◌, ◌<◌, ◌≤◌, ◌⊎◌, IfOk};
-ghost use Rattle.volume_core.specs.Seals.{KeysFit};
-ghost use Rattle.volume_core.specs.Sound.{MapFits};
+ghost use Rattle.volume_machine.specs.Seals.{KeysFit};
+ghost use Rattle.volume_machine.specs.Sound.{MapFits};
 
 use super::events::{
     Answer, admit, can_admit, finish, read, read_of, settle, small, write, write_of,
 };
 use crate::answers::{Admitted, Grant, Progress};
-use crate::{Ask, Keys, Volume};
+use crate::Volume;
+use volume_machine::{Ask, Keys};
 use block_range::BlockRange;
 use cipher_laws::SectorCipher;
 use sector_cipher::{Context, Spec};

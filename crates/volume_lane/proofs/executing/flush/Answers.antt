@@ -1,7 +1,7 @@
 use Rattle.std.proofs.Common.{refl}
 use Rattle.plain_disk.specs.declared.operation.Op.TheVariants as Ops
-use Rattle.volume_core.specs.Events.{done, device, broken}
-use Rattle.volume_core.specs.declared.ask.Ask.TheVariants.{Flush}
+use Rattle.volume_machine.specs.Events.{done, device, broken}
+use Rattle.volume_machine.specs.declared.ask.Ask.TheVariants.{Flush}
 use Rattle.volume_lane.proofs.LaneEnds.{executed-flush, executed-refused, meets-admits, meets-flush}
 use Rattle.volume_lane.proofs.executing.flush.Goals as goal
 

@@ -1,6 +1,6 @@
 use Rattle.std.proofs.Common.{refl}
 use Rattle.plain_disk.specs.declared.operation.Op.TheVariants as Ops
-use Rattle.volume_core.specs.declared.ask.Ask.TheVariants.{Read}
+use Rattle.volume_machine.specs.declared.ask.Ask.TheVariants.{Read}
 use Rattle.volume_lane.proofs.LaneEnds.{ends-whole, ends-failed, executed-made, executed-missed, executed-refused, meets-admits}
 use Rattle.volume_lane.proofs.reading.read.Goals as goal
 

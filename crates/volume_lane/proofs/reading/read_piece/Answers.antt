@@ -1,6 +1,6 @@
 use Rattle.std.proofs.Common.{◌≡◌, ◌∙◌}
 use Rattle.std.proofs.lemmas.List.{take_at}
-use Rattle.volume_core.specs.Seals.{seals_of}
+use Rattle.volume_machine.specs.Seals.{seals_of}
 use Rattle.volume_lane.proofs.LaneEvents.{next-reads, piece-keys, read-got, read-device, read-broken}
 use Rattle.volume_lane.proofs.reading.read_piece.Goals as goal
 

@@ -1,7 +1,7 @@
 use Rattle.std.proofs.Common.{◌≡◌, ◌++◌, ◌+◌, ◌*◌, vec_len, [], List, ℕ, length, refl, sym, ap, ◌∙◌, subst, arith, length-append}
 use Rattle.std.proofs.lemmas.Slice.{pushed}
 use Rattle.segment_map.specs.declared.map.Map.{Map}
-use Rattle.volume_core.specs.Seals.{seals_of}
+use Rattle.volume_machine.specs.Seals.{seals_of}
 use Rattle.volume_lane.specs.Lane.{GoesOn}
 use Rattle.volume_lane.specs.Spares.{AreEnough}
 use Rattle.volume_lane.proofs.LanePieces.{ordered-read, piece-behind, size-more, size-none, stays-within}

@@ -1,5 +1,5 @@
 use Rattle.std.proofs.Common.{◌≡◌, ◌-◌, ◌*◌, ◌≤◌, length, vec_capacity}
-use Rattle.volume_core.specs.Seals.{seals_of}
+use Rattle.volume_machine.specs.Seals.{seals_of}
 use Rattle.volume_lane.specs.Lane.{GoesOn, IsAlone, going}
 use Rattle.volume_lane.specs.Spares.{AreEnough}
 use Rattle.volume_lane.proofs.reading.read_pieces.Given as goal

@@ -1,6 +1,6 @@
 use Rattle.std.proofs.Common.{length, refl}
 use Rattle.plain_disk.specs.declared.operation.Op.TheVariants as Ops
-use Rattle.volume_core.specs.declared.ask.Ask.TheVariants.{Write}
+use Rattle.volume_machine.specs.declared.ask.Ask.TheVariants.{Write}
 use Rattle.volume_lane.proofs.LaneEnds.{asked-whole, ends-whole, ends-failed, executed-made, executed-tried, executed-refused, meets-admits}
 use Rattle.volume_lane.proofs.writing.write.Goals as goal
 

@@ -1,5 +1,5 @@
 use Rattle.std.proofs.Common.{refl}
-use Rattle.volume_core.specs.Asks.{IsForced, range_of}
+use Rattle.volume_machine.specs.Asks.{IsForced, range_of}
 use Rattle.volume_lane.proofs.LaneBegun.{made-written, made-settled, tried-settled}
 use Rattle.volume_lane.proofs.LaneEvents.{ready-settles, settle-done, settle-device, settle-broken}
 use Rattle.volume_lane.proofs.writing.write_for_good.Goals as goal

@@ -1,5 +1,5 @@
 use Rattle.std.proofs.Common.{length, ap, ◌∙◌}
-use Rattle.volume_core.specs.Seals.{seals_of}
+use Rattle.volume_machine.specs.Seals.{seals_of}
 use Rattle.volume_lane.proofs.LaneEvents.{next-writes, piece-keys, write-done, write-device, write-broken, tried-all, tried-none}
 use Rattle.volume_lane.proofs.LaneSeals.{opened-again}
 use Rattle.volume_lane.proofs.writing.write_piece.Goals as goal

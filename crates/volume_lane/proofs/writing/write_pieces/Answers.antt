@@ -1,5 +1,5 @@
 use Rattle.std.proofs.Common.{◌≡◌, ◌++◌, ◌+◌, ◌*◌, List, ℕ, length, take, refl, sym, ap, ◌∙◌, subst, arith}
-use Rattle.volume_core.specs.Seals.{seals_of}
+use Rattle.volume_machine.specs.Seals.{seals_of}
 use Rattle.volume_lane.specs.Lane.{GoesOn}
 use Rattle.volume_lane.specs.Spares.{AreEnough}
 use Rattle.volume_lane.proofs.LanePieces.{ordered-write, piece-behind, size-more, size-none, part-of-body, piece-of-body, stays-within, tried-behind}

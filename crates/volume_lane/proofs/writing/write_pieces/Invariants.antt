@@ -1,5 +1,5 @@
 use Rattle.std.proofs.Common.{◌≡◌, ◌-◌, ◌*◌, ◌≤◌, length, take}
-use Rattle.volume_core.specs.Seals.{seals_of}
+use Rattle.volume_machine.specs.Seals.{seals_of}
 use Rattle.volume_lane.specs.Lane.{GoesOn, IsAlone, going}
 use Rattle.volume_lane.specs.Spares.{AreEnough}
 use Rattle.volume_lane.proofs.writing.write_pieces.Given as goal

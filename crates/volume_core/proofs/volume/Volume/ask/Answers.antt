@@ -1,5 +1,5 @@
 use Rattle.std.proofs.Common.{refl}
-use Rattle.volume_core.specs.Steps.{Step}
+use Rattle.volume_machine.specs.Steps.{Step}
 use Rattle.volume_core.proofs.CodePieceSteps.{ends-inside}
 use Rattle.volume_core.proofs.CodeSteps.{runs-asks, locked-entry}
 use Rattle.volume_core.proofs.volume.Volume.ask.Goals as goal

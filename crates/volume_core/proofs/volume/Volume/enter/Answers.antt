@@ -1,6 +1,6 @@
 use Rattle.std.proofs.Common.{refl, sym}
 use Rattle.volume_core.specs.Answers.{outcome_of_asked}
-use Rattle.volume_core.specs.Events.{admits, held}
+use Rattle.volume_machine.specs.Events.{admits, held}
 use Rattle.volume_core.proofs.CodeAdmit.{is-begun, admit-flush, admit-entered}
 use Rattle.volume_core.proofs.CodeSteps.{lane-admits, free-admits, free-place, free-entry, volume-kept}
 use Rattle.volume_core.proofs.volume.Volume.enter.Goals as goal

@@ -1,6 +1,6 @@
 use Rattle.std.proofs.Common.{refl}
-use Rattle.volume_core.specs.Events.{finishes, done}
-use Rattle.volume_core.specs.Steps.{Step}
+use Rattle.volume_machine.specs.Events.{finishes, done}
+use Rattle.volume_machine.specs.Steps.{Step}
 use Rattle.volume_core.proofs.CodeSteps.{runs-finishes, locked-entry, has-lane, volume-kept}
 use Rattle.volume_core.proofs.volume.Volume.finish.Goals as goal
 

@@ -1,5 +1,5 @@
 use Rattle.std.proofs.Common.{refl, ◌∙◌}
-use Rattle.volume_core.specs.Events.{reads, got, device, broken}
+use Rattle.volume_machine.specs.Events.{reads, got, device, broken}
 use Rattle.volume_core.proofs.CodePieceSteps.{ends-inside, first-inside, read-size, piece-in-disk, read-got, read-missed, read-broken}
 use Rattle.volume_core.proofs.CodeSteps.{volume-kept}
 use Rattle.volume_core.proofs.volume.Volume.piece_read.Goals as goal

@@ -1,5 +1,5 @@
 use Rattle.std.proofs.Common.{refl, ◌∙◌}
-use Rattle.volume_core.specs.Events.{writes, done, device, broken}
+use Rattle.volume_machine.specs.Events.{writes, done, device, broken}
 use Rattle.volume_core.proofs.CodePieceSteps.{writes-some, ends-inside, first-inside, write-bytes, piece-in-disk, write-done, write-device, write-broken}
 use Rattle.volume_core.proofs.CodeSteps.{runs-writes, volume-kept}
 use Rattle.volume_core.proofs.volume.Volume.piece_write.Goals as goal

@@ -1,5 +1,5 @@
 use Rattle.std.proofs.Common.{refl}
-use Rattle.volume_core.specs.Events.{settles, done, device, broken}
+use Rattle.volume_machine.specs.Events.{settles, done, device, broken}
 use Rattle.volume_core.proofs.CodeSteps.{runs-settles, volume-kept, settle-done, settle-device, settle-broken}
 use Rattle.volume_core.proofs.volume.Volume.settle.Goals as goal
 

@@ -1,0 +1,4 @@
+pub mod Blockwise
+pub mod DeviceViews
+pub mod Entries
+pub mod TableEntries

@@ -1,5 +1,0 @@
-use Rattle.volume_core.proofs.DeviceErrors.{device_errors_exact}
-use Rattle.volume_core.proofs.laws.device_errors_are_exact.Goals as goal
-
-pub returns : goal.returns
-returns c _ = device_errors_exact

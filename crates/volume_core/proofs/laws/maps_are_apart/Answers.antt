@@ -1,8 +1,0 @@
-use Rattle.volume_core.proofs.Places.{forward_apart, backward_apart}
-use Rattle.volume_core.proofs.laws.maps_are_apart.Goals as goal
-
-pub returns-clause-forward : goal.returns-clause-forward
-returns-clause-forward c = forward_apart
-
-pub returns-clause-backward : goal.returns-clause-backward
-returns-clause-backward c = backward_apart

@@ -1,5 +1,0 @@
-use Rattle.volume_core.proofs.Executions.{stops_along}
-use Rattle.volume_core.proofs.laws.runs_stop_anywhere.Goals as goal
-
-pub returns : goal.returns
-returns c _ = stops_along

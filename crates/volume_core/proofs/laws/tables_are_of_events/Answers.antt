@@ -1,5 +1,0 @@
-use Rattle.volume_core.proofs.Tables.{tells_run}
-use Rattle.volume_core.proofs.laws.tables_are_of_events.Goals as goal
-
-pub returns : goal.returns
-returns c _ = tells_run

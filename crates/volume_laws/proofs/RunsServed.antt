@@ -1,0 +1,161 @@
+-- Runs of events: their operations are those of one plain disk, and a stop leaves what it allows.
+use Rattle.std.proofs.Common.{◌≡◌, inl, inr, ℕ, true, List, [], ◌∷◌, ◌++◌, Some, refl, sym, ap, subst, arith}
+use Rattle.plain_disk.specs.Plain.{Block, Exchange, Legal}
+use Rattle.sector_disk.specs.Steps.{Told}
+use Rattle.volume_machine.specs.declared.ask.Ask.{Ask}
+use Rattle.volume_machine.specs.declared.ask.Ask.TheVariants.{Read, Write, Flush}
+use Rattle.volume_machine.specs.declared.open.Open.{Open}
+use Rattle.volume_machine.specs.Asks.{IsForced, has_lock}
+use Rattle.volume_laws.specs.Contents.{block_in, StopsAllowed, IsTriedBy}
+use Rattle.disk_views.specs.Parts.{cell_in, value_in}
+use Rattle.volume_machine.specs.Events.{Event, admits, asks, reads, writes, settles, finishes, Outcome}
+use Rattle.volume_machine.specs.Pieces.{place_in}
+use Rattle.volume_laws.specs.Promises.{Starts, StartsCovered, ServesEachRun}
+use Rattle.volume_machine.specs.Runs.{Happening, IsRun, last_of, answered_in, answered_by, plain_in, plain_after, no_plain, AreExchanges, by_settle, by_finish, flush_reply}
+use Rattle.volume_machine.specs.Seals.{Seals}
+use Rattle.volume_machine.specs.Sound.{IsSound}
+use Rattle.volume_machine.specs.States.{State, open_at}
+use Rattle.volume_machine.specs.Steps.{Step, Meets, SettleStep, CanSettle}
+use Rattle.volume_laws.proofs.Admits.{idle}
+use Rattle.volume_laws.proofs.Answering.{legal_none}
+use Rattle.disk_views.proofs.Entries.{image_in}
+use Rattle.volume_laws.proofs.EventsServed.{Served, goes_on, admit_by, read_served, write_served, flush_served, settle_served}
+use Rattle.volume_laws.proofs.EndsServed.{finish_served}
+use Rattle.volume_laws.proofs.Here.{Here, some_atom}
+use Rattle.volume_laws.proofs.PlainBlocks.{sure_in}
+use Rattle.volume_laws.proofs.SealLemmas.{length-sealed}
+use Rattle.volume_machine.proofs.Soundness.{sound_kept}
+use Rattle.disk_views.proofs.TableEntries.{place_of_some}
+
+settles_served : {K P : Type 0} (seals : Seals) (old new : State K) (plain : ℕ → List ℕ) (left : List Block) (lane : ℕ) (o : Open) (outcome : Outcome) (exchanges : List Exchange) →
+    Here P old seals plain left → IsSound new → open_at old.lanes lane ≡ Some o → CanSettle o → SettleStep old lane o outcome new →
+    AreExchanges (by_settle (Some o) outcome) exchanges → Served P seals old new plain left exchanges
+settles_served seals old new plain left lane o outcome exchanges here sound at (inl is) step are =
+    flush_served seals old new plain left lane o outcome exchanges here sound at is step
+    (subst (λ xs. AreExchanges xs exchanges) (let e : by_settle (Some o) outcome ≡ record { ask = Flush; plain = []; reply = flush_reply outcome } ∷ [] = rw is refl in e) are)
+settles_served seals old new plain left lane o outcome exchanges here sound at (inr (forced, whole, unfailed, unsettled)) step are =
+    settle_served seals old new plain left lane o outcome exchanges here sound at forced whole step
+    (subst (λ xs. AreExchanges xs exchanges) (let has = locks o.ask forced in let e : by_settle (Some o) outcome ≡ [] = rw has refl in e) are)
+  where
+    locks : (ask : Ask) → IsForced ask → has_lock ask ≡ true
+    locks (Read offset len) is = absurd is
+    locks (Write offset len fua) is = refl
+    locks Flush is = absurd is
+
+-- each event
+pub event_served : {K P : Type 0} (seals : Seals) (old new : State K) (plain : ℕ → List ℕ) (left : List Block) (event : Event) (outcome : Outcome) (exchanges : List Exchange) →
+    Here P old seals plain left → Meets old event → Step old event outcome new → AreExchanges (answered_by old event outcome plain) exchanges →
+    Served P seals old new (plain_after seals old event outcome plain) left exchanges
+unfolding Meets Step answered_by plain_after
+event_served seals old new plain left (admits lane ask) outcome exchanges here meets step are =
+    admit_by seals old new plain left lane ask outcome exchanges _ refl here (sound_kept old new (admits lane ask) outcome here.logic.sound meets step) meets.1 step are
+event_served {P = P} seals old new plain left (asks lane) outcome exchanges here meets step are =
+    goes_on seals old new plain left exchanges are (subst (λ s. Here P s seals plain left) (sym step.1) here) (ap (λ s. s.map) step.1)
+event_served seals old new plain left (reads lane) outcome exchanges here meets (o, at, step) are =
+    let (p, is, can) = meets.0 in
+    let same : p ≡ o = cc in
+    read_served seals old new plain left lane o outcome exchanges here (sound_kept old new (reads lane) outcome here.logic.sound meets (o, at, step)) at
+    (subst (λ q. Rattle.volume_machine.specs.Asks.IsRead q.ask) same can.0) (subst (λ q. Rattle.volume_machine.specs.Steps.HasPiece q) same can.1) meets.1 step are
+event_served seals old new plain left (writes lane bytes) outcome exchanges here meets (o, at, step) are =
+    let (p, is, can) = meets.0 in
+    let same : p ≡ o = cc in
+    write_served seals old new plain left lane o bytes outcome exchanges here (sound_kept old new (writes lane bytes) outcome here.logic.sound meets (o, at, step)) at
+    (subst (λ q. Rattle.volume_machine.specs.Asks.IsWrite q.ask) same can.0) (subst (λ q. Rattle.volume_machine.specs.Steps.HasPiece q) same can.1) meets.1 step are
+event_served seals old new plain left (settles lane) outcome exchanges here meets (o, at, step) are =
+    let (p, is, can) = meets in
+    let same : p ≡ o = cc in
+    settles_served seals old new plain left lane o outcome exchanges here (sound_kept old new (settles lane) outcome here.logic.sound meets (o, at, step)) at
+    (subst (λ q. CanSettle q) same can) step (subst (λ x. AreExchanges (by_settle x outcome) exchanges) at are)
+event_served seals old new plain left (finishes lane) outcome exchanges here meets step are =
+    let (o, at, can) = meets.0 in
+    finish_served seals old new plain left lane o exchanges here (sound_kept old new (finishes lane) outcome here.logic.sound meets step) at can.0 can.1 meets.1 step.goes step.rests
+    (subst (λ x. AreExchanges (by_finish x (plain lane)) exchanges) at are)
+
+-- exchanges of two lists of answers, one after the other
+record Parted (one rest : List Exchange) (all : List Exchange) : Type 0 where
+  whole : all ≡ one ++ rest
+
+pub split_exchanges : (xs ys : List _) (exchanges : List Exchange) → AreExchanges (xs ++ ys) exchanges →
+    (first : List Exchange) × (rest : List Exchange) × (exchanges ≡ first ++ rest) × AreExchanges xs first × AreExchanges ys rest
+unfolding AreExchanges
+split_exchanges [] ys exchanges are = ([], exchanges, refl, tt, are)
+split_exchanges (x ∷ xs) ys [] are = absurd are
+split_exchanges (x ∷ xs) ys (exchange ∷ exchanges) are =
+    let (first, rest, is, are_first, are_rest) = split_exchanges xs ys exchanges are.1 in
+    (exchange ∷ first, rest, ap (λ es. exchange ∷ es) is, (are.0, are_first), are_rest)
+
+legal_joined : (atom : ℕ) (old middle new : List Block) (xs ys : List Exchange) → Legal atom old xs middle → Legal atom middle ys new → Legal atom old (xs ++ ys) new
+unfolding Legal
+legal_joined atom old middle new [] ys first rest = rw (← first) rest
+legal_joined atom old middle new (exchange ∷ xs) ys (next, step, first) rest = (next, step, legal_joined atom next middle new xs ys first rest)
+
+-- a run goes on from a moment to another
+record Ran {K : Type 0} (P : Type 0) (seals : Seals) (old : State K) (plain : ℕ → List ℕ) (left : List Block) (run : List (Happening K)) (exchanges : List Exchange) : Type 0 where
+  next : List Block
+  legal : Legal old.map.atom left exchanges next
+  here : Here P (last_of old run) seals (plain_in seals old plain run) next
+
+run_served : {K P : Type 0} (seals : Seals) (old : State K) (plain : ℕ → List ℕ) (left : List Block) (run : List (Happening K)) (exchanges : List Exchange) →
+    Here P old seals plain left → IsRun old run → AreExchanges (answered_in seals old plain run) exchanges → Ran P seals old plain left run exchanges
+unfolding IsRun last_of answered_in plain_in
+run_served seals old plain left [] exchanges here is are = record { next = left; legal = legal_none old.map.atom left exchanges are; here = here }
+run_served seals old plain left (one ∷ rest) exchanges here (meets, step, is) are =
+    let (first, behind, parts, are_first, are_behind) = split_exchanges (answered_by old one.event one.outcome plain)
+    (answered_in seals one.after (plain_after seals old one.event one.outcome plain) rest) exchanges are in
+    let served = event_served seals old one.after plain left one.event one.outcome first here meets step are_first in
+    let ran = run_served seals one.after (plain_after seals old one.event one.outcome plain) served.next rest behind served.here is are_behind in
+    record {
+      next = ran.next;
+      legal = subst (λ es. Legal old.map.atom left es ran.next) (sym parts)
+          (legal_joined old.map.atom left served.next ran.next first behind served.legal (subst (λ m. Legal m.atom served.next behind ran.next) served.map ran.legal));
+      here = ran.here;
+    }
+
+-- a start is a moment
+starts_here : {K : Type 0} (start : State K) (seals : Seals) (blocks : List Block) (bytes : List ℕ) → Starts start seals blocks bytes →
+    Here (StartsCovered start seals blocks) start seals no_plain blocks
+starts_here start seals blocks bytes starts =
+    let none : (lane b : ℕ) (value : List ℕ) → IsTriedBy start no_plain lane b value → ⊥ = λ lane b value tried. idle start no_plain lane b value (starts.fresh.lanes lane) tried in record {
+      logic = record {
+        sound = starts.sound;
+        are = starts.are;
+        sure = λ whole b below. sure_in blocks b starts.sure (let count = starts.are.count in omega (arith, count, below));
+        lanes = λ lane o is. absurd (let free = starts.fresh.lanes lane in cc);
+      };
+      lawful = starts.lawful;
+      apart = starts.apart;
+      bytes = bytes;
+      values = starts.values;
+      shown = record {
+        current = λ whole b below. ((block_in blocks b).newest, inr (λ lane other tried. none lane b other tried, refl), starts.stands b below);
+        candidates = λ b below atom contains. absurd (omega (arith, contains.1));
+        settled = λ lane o is. absurd (let free = starts.fresh.lanes lane in cc);
+      };
+      places = λ covered told is b below.
+          place_of_some told.now (place_in start.map b) (let size = length-sealed start.map seals b (block_in blocks b).newest (cell_in told.now (place_in start.map b)).current starts.lawful
+          ((covered told is).current b below) in let some = some_atom start.map.atom starts.sound.fits.known in omega (arith, size, some));
+      tables = λ covered told is. (let covers = covered told is in record {
+        current = λ whole b below. ((block_in blocks b).newest, inr (λ lane other tried. none lane b other tried, refl), covers.current b below);
+        candidates = λ b below atom contains. (let (value, has, sealed) = covers.candidates b below atom contains in (value, inl has, sealed));
+        settled = λ lane o at. absurd (let free = starts.fresh.lanes lane in cc);
+      });
+    }
+
+-- a stop at a moment leaves what is allowed
+stops_here : {K P : Type 0} (state : State K) (seals : Seals) (plain : ℕ → List ℕ) (left : List Block) → Here P state seals plain left → P → (told : Told) → state.disk.told ≡ Some told →
+    StopsAllowed state seals plain left told.now
+stops_here state seals plain left here premise told is = λ image is_image b below.
+    (here.tables premise told is).candidates b below (value_in image (place_in state.map b)) (image_in told.now image (place_in state.map b) is_image (here.places premise told is b below))
+
+-- every run from a start
+pub serves_each_run : {K : Type 0} (start : State K) (seals : Seals) → ServesEachRun start seals
+serves_each_run start seals = λ blocks bytes run exchanges starts is are.
+    let ran = run_served seals start no_plain blocks run exchanges (starts_here start seals blocks bytes starts) is are in
+    let here = ran.here in record {
+      left = ran.next;
+      legal = ran.legal;
+      now = here.bytes;
+      values = here.values;
+      stands = here.shown.current;
+      stops = stops_here (last_of start run) seals (plain_in seals start no_plain run) ran.next here;
+    }

@@ -1,0 +1,113 @@
+-- What is promised of every run of events.
+use Rattle.std.specs.Prelude.{ℕ, ◌≡◌, ◌↔◌, Bool, true, false, ◌==◌, ◌||◌, ◌&&◌, if◌then◌else◌, List, [], ◌∷◌, replicate, Some, None}
+use Rattle.base_terms.specs.Blocks.{lengths}
+use Rattle.plain_disk.specs.Plain.{Block, Exchange, AreSure, Legal}
+use Rattle.plain_disk.specs.declared.operation.Reply.TheVariants.{Errno}
+use Rattle.sector_disk.specs.Cells.{AreSettled, content, currents}
+use Rattle.sector_disk.specs.Steps.{Told}
+use Rattle.volume_machine.specs.Asks.{wrong_ask}
+use Rattle.volume_laws.specs.Contents.{AreBlocksOf, StandsFor, StandsNow, StopsAllowed, Covers}
+use Rattle.volume_machine.specs.Beginnings.{IsFresh}
+use Rattle.volume_machine.specs.Events.{Event, admits, asks, reads, writes, settles, finishes, Outcome, device, broken}
+use Rattle.volume_machine.specs.Runs.{Answered, Happening, IsRun, last_of, answered_by, answered_in, plain_in, no_plain, AreExchanges}
+use Rattle.volume_machine.specs.Seals.{Seals, AreLawful}
+use Rattle.volume_machine.specs.Sound.{IsSound, AreApart}
+use Rattle.volume_machine.specs.States.{State, open_at, size_of}
+use Rattle.volume_machine.specs.declared.open.Open.{Open}
+
+-- a volume from which runs start: no operation is under way, and its disk stands for these blocks
+pub record Starts {K : Type 0} (start : State K) (seals : Seals) (blocks : List Block) (bytes : List ℕ) : Type 0 where
+  pub sound : IsSound start
+  pub fresh : IsFresh start
+  pub apart : AreApart start.map
+  pub lawful : AreLawful start.map.atom seals
+  pub are : AreBlocksOf start.map blocks
+  pub sure : AreSure blocks
+  pub values : start.disk.values ≡ Some bytes
+  pub stands : StandsFor start.map seals blocks bytes
+
+-- where the disk tells its tables, each image of it stands for values of these blocks too
+abbrev pub StartsCovered : {K : Type 0} → State K → Seals → List Block → Type 0
+StartsCovered start seals blocks = (told : Told) → start.disk.told ≡ Some told → Covers start.map seals blocks told.now
+
+-- where the disk tells its tables, each atom holds its value for certain, and these are its bytes
+abbrev pub TellsSettled : {K : Type 0} → State K → List ℕ → Type 0
+TellsSettled start bytes = (told : Told) → start.disk.told ≡ Some told → AreSettled told.now
+    × (bytes ≡ content told.now) × (lengths (currents told.now) ≡ replicate start.disk.atoms start.map.atom)
+
+-- The operations of a run are those of one plain disk: their history is legal; while nothing has
+-- failed the disk stands for the newest values with those of unfinished writes over them; and a stop
+-- leaves what is allowed. A run may end anywhere, so this holds after each event.
+pub record IsServed {K : Type 0} (start : State K) (seals : Seals) (blocks : List Block)
+    (run : List (Happening K)) (exchanges : List Exchange) : Type 0 where
+  pub left : List Block
+  pub legal : Legal start.map.atom blocks exchanges left
+  pub now : List ℕ
+  pub values : (last_of start run).disk.values ≡ Some now
+  pub stands : (last_of start run).broken ≡ false →
+      StandsNow (last_of start run) seals (plain_in seals start no_plain run) left now
+  pub stops : StartsCovered start seals blocks → (told : Told) → (last_of start run).disk.told ≡ Some told →
+      StopsAllowed (last_of start run) seals (plain_in seals start no_plain run) left told.now
+
+abbrev pub ServesEachRun : {K : Type 0} → State K → Seals → Type 0
+ServesEachRun {K} start seals = (blocks : List Block) (bytes : List ℕ) (run : List (Happening K))
+    (exchanges : List Exchange) → Starts start seals blocks bytes → IsRun start run →
+    AreExchanges (answered_in seals start no_plain run) exchanges → IsServed start seals blocks run exchanges
+
+-- the outcome is that the device failed, or that the volume was broken
+abbrev pub is_failure : Outcome → Bool
+is_failure device = true
+is_failure broken = true
+is_failure _ = false
+
+-- the outcome is that the device failed
+abbrev pub is_fault : Outcome → Bool
+is_fault device = true
+is_fault _ = false
+
+-- whether an event of the lane's operation failed, given whether an earlier one had
+abbrev pub fails : ℕ → Event → Outcome → Bool → Bool
+fails lane (admits other ask) outcome before = if other == lane then false else before
+fails lane (asks other) outcome before = before
+fails lane (reads other) outcome before = before || ((other == lane) && is_failure outcome)
+fails lane (writes other sealed) outcome before = before || ((other == lane) && is_failure outcome)
+fails lane (settles other) outcome before = before || ((other == lane) && is_failure outcome)
+fails lane (finishes other) outcome before = before
+
+unfoldable pub fails_in : {K : Type 0} → ℕ → Bool → List (Happening K) → Bool
+fails_in lane before [] = before
+fails_in lane before (one ∷ rest) = fails_in lane (fails lane one.event one.outcome before) rest
+
+-- whether the event is a write or a sync that failed
+abbrev pub breaks : Event → Outcome → Bool
+breaks (writes lane sealed) outcome = is_fault outcome
+breaks (settles lane) outcome = is_fault outcome
+breaks _ outcome = false
+
+unfoldable pub breaks_in : {K : Type 0} → Bool → List (Happening K) → Bool
+breaks_in before [] = before
+breaks_in before (one ∷ rest) = breaks_in (before || breaks one.event one.outcome) rest
+
+-- An operation has failed exactly where one of its events did; the volume is broken exactly where a
+-- write or a sync failed; and sides, keys and places of all blocks stay.
+pub record GoesByEvents {K : Type 0} (start : State K) (run : List (Happening K)) : Type 0 where
+  pub fails : (lane : ℕ) (o : Open) → open_at (last_of start run).lanes lane ≡ Some o → o.failed ≡ fails_in lane false run
+  pub breaks : (last_of start run).broken ≡ breaks_in start.broken run
+  pub map : (last_of start run).map ≡ start.map
+  pub keys : (last_of start run).keys ≡ start.keys
+
+-- whether the operation that an event answers has failed: at its admit, where the volume was found
+-- broken; at the settle of a flush, where that failed; at its finish, where one of its events since
+-- its admit failed
+abbrev pub has_failed : {K : Type 0} → State K → List (Happening K) → Event → Outcome → Bool
+has_failed start earlier (admits lane ask) outcome = (last_of start earlier).broken
+has_failed start earlier (settles lane) outcome = is_failure outcome
+has_failed start earlier (finishes lane) outcome = fails_in lane false earlier
+has_failed start earlier _ outcome = false
+
+-- an operation that isn't wrong and is answered by this event is answered 5 exactly where it has failed
+abbrev pub DeviceErrorsAreExact : {K : Type 0} → Seals → State K → List (Happening K) → Happening K → Type 0
+DeviceErrorsAreExact seals start earlier one = (answered : Answered) →
+    answered_by (last_of start earlier) one.event one.outcome (plain_in seals start no_plain earlier) ≡ answered ∷ [] →
+    wrong_ask start.map.atom (size_of start.map) answered.ask ≡ None →
+    (answered.reply ≡ Errno 5) ↔ (has_failed start earlier one.event one.outcome ≡ true)

@@ -1,0 +1,147 @@
+//! What follows for every run of events. Each law is the contract of a function that does nothing. A
+//! proof above cites it by its call.
+
+ghost use Rattle.std.specs.Prelude.{◌≡◌, ◌≢◌, ◌≤◌, ◌⊎◌, ◌%◌, ◌+◌, ◌*◌, ◌++◌, ◌∷◌, [], ℕ, List, length, Some};
+ghost use Rattle.cipher_laws.specs.Bytes.{AreBytes};
+ghost use Rattle.plain_disk.specs.Plain.{Block, Exchange};
+ghost use Rattle.sector_disk.specs.Geometry.{IsAtom};
+ghost use Rattle.sector_disk.specs.Steps.{Told};
+ghost use Rattle.segment_map.specs.declared.Direction.TheVariants.{Forward, Backward};
+ghost use Rattle.segment_map.specs.declared.map.Map.{Map};
+ghost use Rattle.volume_machine.specs.Beginnings.{IsFresh};
+ghost use Rattle.volume_machine.specs.Events.{Event, Outcome, lane_of};
+ghost use Rattle.volume_laws.specs.Executing.{Executes, StopsAlong, TellsRun, ServesWithoutFaults, BreaksByFaults};
+ghost use Rattle.volume_laws.specs.Promises.{Starts, StartsCovered, TellsSettled, ServesEachRun, GoesByEvents, DeviceErrorsAreExact};
+ghost use Rattle.volume_machine.specs.Runs.{Happening, IsRun, last_of, answered_in, no_plain, AreExchanges};
+ghost use Rattle.volume_machine.specs.Beginnings.{ChangeNothing};
+ghost use Rattle.volume_machine.specs.Seals.{Seals, AreLawful, seals_of};
+ghost use Rattle.volume_machine.specs.Sound.{IsSound, AreApart};
+ghost use Rattle.volume_machine.specs.States.{State, open_at};
+ghost use Rattle.volume_machine.specs.Steps.{Step, Meets, Holds};
+ghost use Rattle.volume_machine.specs.Beginnings.{IsWholeDisk};
+ghost use Rattle.volume_laws.specs.Contents.{plain_blocks};
+ghost use Rattle.volume_machine.specs.declared.keys.Keys.{Keys};
+
+use cipher_laws::SectorCipher;
+
+/// The operations of every run of events, on whatever lanes and in whatever order, are those of one
+/// plain disk that was asked one history. While no write or sync has failed the disk's current bytes
+/// stand for the newest values, with the values of unfinished writes over them. Where the disk tells
+/// its tables, and each of its images stood for values of the blocks at the start, then wherever the
+/// run stops each image stands for a content in which each block holds its last flushed value, one
+/// written since, or one that an unfinished write has tried.
+///
+/// It speaks of a volume on which no operation is under way, whose blocks have places of their own,
+/// and whose disk tells its bytes and stands for the given blocks.
+pub fn every_run_is_served<C: SectorCipher>()
+    ensures { (start : State (Keys C)) (seals : Seals) → ServesEachRun start seals }
+{}
+
+/// An operation has failed exactly where one of its events answered that the device failed or the
+/// volume is broken. A volume is broken exactly where a write or a sync failed in an earlier event.
+/// Sides, keys and places of all blocks stay. This holds at the end of a run, and along it: after
+/// each of its events.
+pub fn failures_go_by_events<C: SectorCipher>()
+    ensures at_the_end { (start : State (Keys C)) (run : List (Happening (Keys C))) →
+        IsFresh start → IsRun start run → GoesByEvents start run }
+    ensures along { (start : State (Keys C)) (earlier later : List (Happening (Keys C))) →
+        IsFresh start → IsRun start (earlier ++ later) → GoesByEvents start earlier }
+{}
+
+/// A read, a write or a flush that isn't wrong is answered 5 exactly where its admit found the volume
+/// broken, or one of its pieces or its settle answered that the device failed or the volume is broken.
+/// So it is for each event of a run that answers an operation.
+pub fn device_errors_are_exact<C: SectorCipher>()
+    ensures { (start : State (Keys C)) (seals : Seals) (earlier later : List (Happening (Keys C)))
+        (one : Happening (Keys C)) → IsFresh start → IsRun start (earlier ++ one ∷ later) →
+        DeviceErrorsAreExact seals start earlier one }
+{}
+
+/// An event of one lane leaves every other lane's operation as it was, and what another lane holds it
+/// goes on to hold. So a call whose conditions are met is one whose conditions are met after the events
+/// of other lanes too.
+pub fn events_leave_other_lanes<C: SectorCipher>()
+    ensures stays { (old new : State (Keys C)) (event : Event) (outcome : Outcome) (lane : ℕ) →
+        Step old event outcome new → lane ≢ lane_of event →
+        (open_at new.lanes lane ≡ open_at old.lanes lane) × (Holds old lane → Holds new lane) }
+    ensures meets { (old new : State (Keys C)) (event next : Event) (outcome : Outcome) →
+        Step old event outcome new → lane_of next ≢ lane_of event → Meets old next → Meets new next }
+{}
+
+/// The keys of a volume whose sectors divide its blocks seal and open block by block, and each undoes
+/// the other.
+pub fn keys_seal_lawfully<C: SectorCipher>()
+    ensures { (keys : Keys C) (atom : ℕ) → IsAtom atom →
+        atom % C.sector keys.old ≡ 0 → atom % C.sector keys.new ≡ 0 →
+        AreLawful atom (seals_of C.sealed C.opened atom keys) }
+{}
+
+/// Where nothing was executed nothing was done, and two executions, one after the other, are one.
+pub fn executions_join<C: SectorCipher>()
+    ensures none { (seals : Seals) (state : State (Keys C)) → Executes seals state state [] [] }
+    ensures joined { (seals : Seals) (old middle new : State (Keys C))
+        (xs ys : List (Happening (Keys C))) (first rest : List Exchange) →
+        Executes seals old middle xs first → Executes seals middle new ys rest →
+        Executes seals old new (xs ++ ys) (first ++ rest) }
+{}
+
+/// A run may stop after each of its events: the operations answered by then are a front of the
+/// history, and what the disk may hold is allowed there.
+pub fn runs_stop_anywhere<C: SectorCipher>()
+    ensures { (start : State (Keys C)) (seals : Seals) (blocks : List Block) (bytes : List ℕ)
+        (run : List (Happening (Keys C))) (exchanges : List Exchange) →
+        Starts start seals blocks bytes → IsRun start run →
+        AreExchanges (answered_in seals start no_plain run) exchanges →
+        StopsAlong start seals blocks run exchanges }
+{}
+
+/// Each table that a disk has had since the start of a run is the one after some of its events.
+pub fn tables_are_of_events<C: SectorCipher>()
+    ensures { (start : State (Keys C)) (run : List (Happening (Keys C))) (now : Told) →
+        IsRun start run → (last_of start run).disk.told ≡ Some now → TellsRun start run now }
+{}
+
+/// Where the count of faults stood, each operation of a run got its content or is done, or was
+/// refused with its number where it is wrong; and a volume breaks only where the count rose. This
+/// holds for disks that tell nothing too.
+pub fn runs_fail_by_faults<C: SectorCipher>()
+    ensures served { (start : State (Keys C)) (seals : Seals) (run : List (Happening (Keys C))) →
+        IsSound start → IsFresh start → AreLawful start.map.atom seals → IsRun start run →
+        ServesWithoutFaults start seals run }
+    ensures broken { (start : State (Keys C)) (run : List (Happening (Keys C))) →
+        IsFresh start → IsRun start run → BreaksByFaults start run }
+{}
+
+/// Each block of a volume has a place of its own where its two segments don't meet. They may meet where
+/// a conversion forward moves each block to a place no later than its old one, and where one backward
+/// moves each to a place no earlier. With an open zone or without, since a zone is still in the old
+/// segment.
+pub fn maps_are_apart()
+    ensures forward { (map : Map) → map.direction ≡ Forward →
+        (map.new_place ≤ map.old_place) ⊎ (map.old_place + map.blocks ≤ map.new_place) → AreApart map }
+    ensures backward { (map : Map) → map.direction ≡ Backward →
+        (map.old_place ≤ map.new_place) ⊎ (map.new_place + map.blocks ≤ map.old_place) → AreApart map }
+{}
+
+/// Where each atom of a disk that tells its tables held its value for certain, each of its images stands
+/// for the blocks that its bytes stand for, under any map and any keys.
+pub fn settled_volumes_are_covered<C: SectorCipher>()
+    ensures { (start : State (Keys C)) (seals : Seals) (blocks : List Block) (bytes : List ℕ) →
+        Starts start seals blocks bytes → TellsSettled start bytes → StartsCovered start seals blocks }
+{}
+
+/// The volume of a whole disk as it is stands for the plain disk that holds the disk's own atoms for
+/// certain. Where each atom of a disk that tells its tables held its value for certain, so does each
+/// image.
+pub fn plain_volumes_start<C: SectorCipher>()
+    ensures starts { (start : State (Keys C)) (seals : Seals) (bytes : List ℕ) →
+        IsSound start → IsFresh start → AreApart start.map →
+        IsWholeDisk start.map.atom start.disk.atoms start.map →
+        AreLawful start.map.atom seals → ChangeNothing seals → start.disk.values ≡ Some bytes →
+        length bytes ≡ start.disk.atoms * start.map.atom → AreBytes bytes →
+        Starts start seals (plain_blocks start bytes) bytes }
+    ensures covered { (start : State (Keys C)) (seals : Seals) (bytes : List ℕ) →
+        IsWholeDisk start.map.atom start.disk.atoms start.map → ChangeNothing seals →
+        length bytes ≡ start.disk.atoms * start.map.atom → AreBytes bytes →
+        TellsSettled start bytes → StartsCovered start seals (plain_blocks start bytes) }
+{}

@@ -1,0 +1,4 @@
+pub mod KeyLemmas
+pub mod Locking
+pub mod NextPieces
+pub mod Soundness

@@ -1,0 +1,9 @@
+pub mod Asks
+pub mod Beginnings
+pub mod Events
+pub mod Pieces
+pub mod Runs
+pub mod Seals
+pub mod Sound
+pub mod States
+pub mod Steps
