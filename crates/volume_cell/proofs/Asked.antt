@@ -1,0 +1,134 @@
+-- What a pass knows and holds, step by step through a turn.
+use Rattle.std.proofs.Common.{◌≡◌, ℕ, ◌+◌, ◌-◌, ◌*◌, ◌/◌, ◌%◌, ◌^◌, ◌<◌, List, [], ◌∷◌, ◌++◌, Some, length, get_or, refl, sym, ap, ◌∙◌, subst, arith}
+use mathlib.Core.Option.{none}
+use Rattle.atomic_table.specs.Table.{Me, step, Allows, rest}
+use Rattle.atomic_table.specs.Seated.{TableId}
+use Rattle.atomic_table.specs.declared.shared.Seat.{Seat}
+use Rattle.volume_cell.specs.declared.history.Call.{Call}
+use Rattle.volume_cell.specs.declared.history.Entry.{Entry}
+use Rattle.volume_cell.specs.declared.held.Held.{Held}
+use Rattle.volume_cell.specs.declared.held.Note.{Note}
+use Rattle.volume_cell.specs.declared.knowledge.Knowledge.{Knowledge}
+use Rattle.volume_cell.specs.declared.knowledge.Stage.TheVariants.{InTurn}
+use Rattle.volume_cell.specs.Histories.{Begins, IsNoted, call, entry, calls_of}
+use Rattle.volume_cell.specs.Knowing.{knowing, taking, having_asked}
+use Rattle.volume_cell.specs.History.{Rule}
+use Rattle.volume_cell.specs.Steps.{Learns, Takes, gives_back}
+use Rattle.volume_cell.specs.Asking.{HasLooked, HasTaken, IsFull, CanAct, HasActed}
+use Rattle.volume_cell.specs.Passes.{IsPassOf, IsSamePass, IsAnswered}
+use Rattle.volume_cell.proofs.Lists.{begins_same, begins_through}
+use Rattle.volume_cell.proofs.Names.{calls_of-own}
+use Rattle.volume_cell.proofs.Turns.{gives-back}
+
+module _ {M S E O : Type 0} where
+  -- before the first look
+  pub no-look : (cell : TableId) (p : Seat (Held M E O) (Knowledge S E O)) → IsPassOf cell p → HasLooked p p
+  no-look cell p of = record { table = refl; history = p.me.0.history; is = λ i. (p.me.0, of.empty i); later = begins_same p.me.0.history }
+
+  -- after one more look
+  module _ (before so after : Seat (Held M E O) (Knowledge S E O)) (r : ℕ) (l : HasLooked before so) (k : Learns so.me r after.me) (same : after.table_id ≡ so.table_id) where
+    pub looked-on : HasLooked before after
+    looked-on = record {
+      table = same ∙ l.table;
+      history = k.history;
+      is = k.is ∙ ap (λ (m : Me (Held M E O) (Knowledge S E O)). (knowing k.history m.0, m.1)) l.is;
+      later = begins_through before.me.0.history l.history k.history l.later (subst (λ (m : Me (Held M E O) (Knowledge S E O)). Begins m.0.history k.history) l.is k.later);
+    }
+
+    pub full-now : (limit : ℕ) → r ≡ limit * 2 → IsFull limit before after
+    unfolding looked-on
+    full-now limit e = let long = k.long in record {
+      looked = looked-on;
+      calls = subst (λ (m : Me (Held M E O) (Knowledge S E O)). calls_of m.0.name k.history ≡ m.0.calls) l.is k.calls;
+      full = omega (arith, long, e);
+    }
+
+  module _ (start_of : M → S) (stands_for : M → List (Entry E O) → Type 0) (limit : ℕ) where
+    pub taken-now : (before so after : Seat (Held M E O) (Knowledge S E O)) (r : ℕ) → HasLooked before so → Takes start_of stands_for so.me r after.me → after.table_id ≡ so.table_id → r / 2 < limit
+        → HasTaken start_of stands_for limit before after
+    taken-now before so after r l k same room = let long = k.long in record {
+      table = same ∙ l.table;
+      history = k.history;
+      held = k.held;
+      is = k.is ∙ ap (λ (m : Me (Held M E O) (Knowledge S E O)). (taking k.history m.0, (0, k.held) ∷ m.1)) l.is;
+      later = begins_through before.me.0.history l.history k.history l.later (subst (λ (m : Me (Held M E O) (Knowledge S E O)). Begins m.0.history k.history) l.is k.later);
+      calls = subst (λ (m : Me (Held M E O) (Knowledge S E O)). calls_of m.0.name k.history ≡ m.0.calls) l.is k.calls;
+      stands = k.stands;
+      start = subst (λ (m : Me (Held M E O) (Knowledge S E O)). m.0.start ≡ Some (start_of k.held.machine)) l.is k.start;
+      room = omega (arith, long, room);
+    }
+
+    pub can-act : (fits : S → List ℕ → List (Call E O) → E → Type 0) (before after : Seat (Held M E O) (Knowledge S E O)) (event : E) → HasTaken start_of stands_for limit before after
+        → ((start : S) → before.me.0.start ≡ Some start → fits start before.me.0.name before.me.0.calls event) → CanAct start_of stands_for fits after event
+    can-act fits before after event t may = record {
+      held = t.held;
+      is = ap (λ (m : Me (Held M E O) (Knowledge S E O)). m.1) t.is;
+      stands = subst (λ (m : Me (Held M E O) (Knowledge S E O)). stands_for t.held.machine m.0.history) (sym t.is) t.stands;
+      fits = subst (λ (m : Me (Held M E O) (Knowledge S E O)). fits (start_of t.held.machine) m.0.name (calls_of m.0.name m.0.history) event) (sym t.is)
+          (subst (λ (cs : List (Call E O)). fits (start_of t.held.machine) before.me.0.name cs event) (sym t.calls) (may (start_of t.held.machine) t.start));
+      start = subst (λ (m : Me (Held M E O) (Knowledge S E O)). m.0.start ≡ Some (start_of t.held.machine)) (sym t.is) t.start;
+    }
+
+    -- what is known of the machine that lies where the pass can reach it
+    pub can-now : (fits : S → List ℕ → List (Call E O) → E → Type 0) (pass : Seat (Held M E O) (Knowledge S E O)) (event : E) (now : Held M E O) → CanAct start_of stands_for fits pass event → pass.me.1 ≡ (0, now) ∷ rest pass.me.1
+        → stands_for now.machine pass.me.0.history × fits (start_of now.machine) pass.me.0.name (calls_of pass.me.0.name pass.me.0.history) event × (pass.me.0.start ≡ Some (start_of now.machine)) × (rest pass.me.1 ≡ [])
+    can-now fits pass event now t is = let same : t.held ≡ now = ap (λ (l : List (ℕ × Held M E O)). (get_or l 0 (0, t.held)).1) (sym t.is ∙ is) in (
+      subst (λ (h : Held M E O). stands_for h.machine pass.me.0.history) same t.stands,
+      subst (λ (h : Held M E O). fits (start_of h.machine) pass.me.0.name (calls_of pass.me.0.name pass.me.0.history) event) same t.fits,
+      t.start ∙ ap (λ (h : Held M E O). Some (start_of h.machine)) same,
+      ap rest t.is,
+    )
+
+    -- the machine acted where it lay
+    pub has-acted : (before after : Seat (Held M E O) (Knowledge S E O)) (event : E) (outcome : O) (old new : Held M E O) → after.table_id ≡ before.table_id → after.me ≡ (before.me.0, (0, new) ∷ rest before.me.1) → rest before.me.1 ≡ [] → IsNoted event outcome new.note
+        → stands_for new.machine (before.me.0.history ++ entry before.me.0.name event outcome ∷ []) → before.me.0.start ≡ Some (start_of old.machine) → start_of new.machine ≡ start_of old.machine → HasActed start_of stands_for before after event outcome
+    has-acted before after event outcome old new same is others noted stands start keeps = record {
+      table = same;
+      held = new;
+      is = is ∙ ap (λ (l : List (ℕ × Held M E O)). (before.me.0, (0, new) ∷ l)) others;
+      noted = noted;
+      stands = stands;
+      start = start ∙ ap (λ (s : S). Some s) (sym keeps);
+    }
+
+    pub may-give : (slots id : ℕ) (before so after : Seat (Held M E O) (Knowledge S E O)) (event : E) (outcome : O) → HasTaken start_of stands_for limit before so → HasActed start_of stands_for so after event outcome → (cap : ℕ) → cap < 2 ^ 63 - 1
+        → Allows (Rule start_of stands_for cap) slots id after.me 0 (λ x. (x + 1) % 2 ^ 64) (gives_back (step slots 0 1 0 none) after.me)
+    may-give slots id before so after event outcome t a cap small = let note = a.noted.0 in gives-back start_of stands_for cap slots id so.me.0 a.held note (ap (λ (m : Me (Held M E O) (Knowledge S E O)). m.0.stage) t.is) a.noted.1
+        (subst (λ (z : E × O). stands_for a.held.machine (so.me.0.history ++ entry so.me.0.name z.0 z.1 ∷ [])) (λ i. (sym a.noted.2 i, sym a.noted.3 i)) a.stands) a.start small after.me a.is
+
+    -- the machine acted and is back
+    module _ (slots : ℕ) (r : ℕ) (before so acted after : Seat (Held M E O) (Knowledge S E O)) (event : E) (outcome : O) (t : HasTaken start_of stands_for limit before so) (a : HasActed start_of stands_for so acted event outcome)
+        (g : gives_back (step slots 0 1 0 none) acted.me r after.me) (same : after.table_id ≡ acted.table_id) where
+      asked : after.me ≡ (having_asked event outcome (taking t.history before.me.0), [])
+      asked = g a.held a.noted.0 (ap (λ (m : Me (Held M E O) (Knowledge S E O)). m.1) a.is) a.noted.1
+          ∙ ap (λ (z : E × O × Knowledge S E O). (having_asked z.0 z.1 z.2, []))
+          (λ i. (a.noted.2 i, a.noted.3 i, (ap (λ (m : Me (Held M E O) (Knowledge S E O)). m.0) a.is ∙ ap (λ (m : Me (Held M E O) (Knowledge S E O)). m.0) t.is) i))
+
+      pub asked-pass : (cell : TableId) → IsPassOf cell before → IsPassOf cell after
+      asked-pass cell of = record {
+        table = same ∙ (a.table ∙ (t.table ∙ of.table));
+        ready = ap (λ (m : Me (Held M E O) (Knowledge S E O)). m.0.stage) asked;
+        empty = ap (λ (m : Me (Held M E O) (Knowledge S E O)). m.1) asked;
+      }
+
+      pub asked-same : IsSamePass before.me.0 after.me.0
+      asked-same = record {
+        start = ap (λ (m : Me (Held M E O) (Knowledge S E O)). m.0.start) asked;
+        name = ap (λ (m : Me (Held M E O) (Knowledge S E O)). m.0.name) asked;
+        joined = ap (λ (m : Me (Held M E O) (Knowledge S E O)). m.0.joined) asked;
+        splits = ap (λ (m : Me (Held M E O) (Knowledge S E O)). m.0.splits) asked;
+        away = ap (λ (m : Me (Held M E O) (Knowledge S E O)). m.0.away) asked;
+      }
+
+      pub asked-answer : IsAnswered limit before.me.0 after.me.0 event outcome
+      asked-answer = record {
+        found = t.history;
+        later = t.later;
+        last = ap (λ (m : Me (Held M E O) (Knowledge S E O)). m.0.history) asked;
+        calls = ap (λ (m : Me (Held M E O) (Knowledge S E O)). m.0.calls) asked;
+        room = t.room;
+      }
+
+      pub asked-own : calls_of after.me.0.name after.me.0.history ≡ after.me.0.calls
+      asked-own = subst (λ (m : Me (Held M E O) (Knowledge S E O)). calls_of m.0.name m.0.history ≡ m.0.calls) (sym asked)
+          (calls_of-own before.me.0.name event outcome t.history ∙ ap (λ (l : List (Call E O)). l ++ call event outcome ∷ []) t.calls)

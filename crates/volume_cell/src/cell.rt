@@ -1,0 +1,227 @@
+//! The cell and its passes.
+ghost use Rattle.std.specs.Prelude.{◌≡◌, ℕ, List, ◌+◌, ◌-◌, ◌^◌, ◌<◌, ◌≤◌, ◌++◌, [], ◌∷◌, Some, IfOk, IfErr, MatchBool, MatchResult};
+ghost use Rattle.volume_cell.specs.Histories.{Begins, calls_of};
+ghost use Rattle.volume_cell.specs.Knowing.{IsWhole, HasCalls, having_split, split_off, having_joined, retired, beginning};
+ghost use Rattle.volume_cell.specs.Passes.{known, IsPassOf, IsSamePass, IsAnswered, IsSpent, IsAccounted};
+ghost use Rattle.volume_cell.specs.Asking.{HasLooked, HasTaken, IsFull, CanAct, HasActed};
+
+use crate::held::Held;
+use crate::knowledge::Knowledge;
+use crate::machine::Machine;
+use crate::rule::{Confirm, Give, Learn, OneHistory, Part, Retire, Reunite, Stay, Take, Terms};
+use crate::spent::Spent;
+use atomic_table::{Refused, Seat, Table, TableRule};
+use std::alloc::{AllocFailed, Global};
+use std::hint;
+use std::snapshot::Snapshot;
+use std::sync::Wait;
+use std::thread::Threads;
+
+/// How often a thread that finds the machine out looks again before it sleeps.
+const LOOKS: u32 = 100;
+
+/// The word that tells how many entries the history has, doubled, and one more while the machine
+/// is out.
+const ENTRIES: usize = 0;
+
+/// The word that tells how many threads sleep until the machine is back.
+const SLEEPERS: usize = 1;
+
+/// A machine under many threads.
+pub type Cell<M> = Shared<
+    M,
+    Held<M, <M as Machine>::Event, <M as Machine>::Outcome>,
+    Knowledge<<M as Machine>::Start, <M as Machine>::Event, <M as Machine>::Outcome>,
+    OneHistory<M>,
+>;
+
+/// A thread's right to ask the machine of one cell, and what it knows of the history. It has no
+/// bytes.
+pub type Pass<M> = Seat<
+    Held<M, <M as Machine>::Event, <M as Machine>::Outcome>,
+    Knowledge<<M as Machine>::Start, <M as Machine>::Event, <M as Machine>::Outcome>,
+>;
+
+/// A cell, by its types: the machine, what lies in the cell, what a pass knows, and the rule.
+#[derive(Drop)]
+pub struct Shared<M, H, V, P: TableRule<H, V, Terms<M>>> {
+    table: Table<H, V, Terms<M>, P, Global>,
+    limit: u64,
+    ghost terms: { (limit ≡ table.shared.key.limit) × (limit < 2 ^ 63 - 1) },
+    ghost sizes: { (table.shared.table_id.words ≡ 2) × (table.shared.table_id.slots ≡ 1) },
+}
+
+/// The machine that lay alone in what a table refused.
+fn only_machine<M: Machine>(refused: Refused<Held<M, M::Event, M::Outcome>, Global>) -> M
+    requires { (held : Held M M.Event M.Outcome) × (refused.slots.items ≡ held ∷ []) }
+    ensures { (held : Held M M.Event M.Outcome) → refused.slots.items ≡ held ∷ [] → result ≡ held.machine }
+{
+    let Refused { mut slots } = refused;
+    let Some(held) = slots.pop() else {
+        unreachable!()
+    };
+    slots.destroy_empty();
+    held.into_machine()
+}
+
+impl<M: Machine> Cell<M> {
+    /// A cell around a machine, which stands for the empty history, and the first pass. The
+    /// history can get `limit` entries long. Without memory the machine comes back.
+    pub fn new(alloc: Global, machine: M, limit: u64) -> Result<(Cell<M>, Pass<M>), AllocFailed<M>>
+        requires machine { M.stands_for machine [] }
+        requires limit { (1 ≤ limit) × (limit < 2 ^ 63 - 1) }
+        ensures pass { IfOk result (λ made. IsPassOf made.0.table.shared.table_id made.1 × (known made.1 ≡ beginning (M.start machine))) }
+        ensures limit { IfOk result (λ made. made.0.limit ≡ limit) }
+        ensures back { IfErr result (λ refused. refused.value ≡ machine) }
+    {
+        let terms = Terms {
+            limit,
+            opening: Snapshot::of(&machine),
+        };
+        let mut slots = Vec::new(alloc);
+        let held = Held {
+            machine,
+            note: None,
+        };
+        if let Err(failed) = slots.push(held) {
+            let AllocFailed { value } = failed;
+            slots.destroy_empty();
+            return Err(AllocFailed {
+                value: value.into_machine(),
+            });
+        }
+        match Table::new(alloc, &[0, 0], slots, &terms) {
+            Ok((table, pass)) => Ok((Shared { table, limit }, pass)),
+            Err(refused) => Err(AllocFailed {
+                value: only_machine(refused),
+            }),
+        }
+    }
+
+    /// Has the machine act on an event, as the next entry of the history, and answers its
+    /// outcome. Where the history has as many entries as it can get, the event comes back.
+    pub fn turn<R: Threads + Wait + Sync>(
+        &self,
+        rt: &R,
+        pass: &mut Pass<M>,
+        event: M::Event,
+    ) -> Result<M::Outcome, Spent<M::Event>>
+        requires pass { IsPassOf self.now.table.shared.table_id pass.old }
+        requires fits { (start : M.Start) → (known pass.old).start ≡ Some start → M.fits start (known pass.old).name (known pass.old).calls event }
+        ensures pass { IsPassOf self.now.table.shared.table_id pass.new }
+        ensures same { IsSamePass (known pass.old) (known pass.new) }
+        ensures answer { MatchResult result (IsAnswered self.now.limit (known pass.old) (known pass.new) event) (IsSpent self.now.limit (known pass.old) (known pass.new) event) }
+        ensures own { calls_of (known pass.new).name (known pass.new).history ≡ (known pass.new).calls }
+    {
+        if !self.take(rt, pass) {
+            return Err(Spent { event });
+        }
+        let outcome = self.act(rt, pass, event);
+        self.table.shared.fetch_add::<Give>(pass, ENTRIES, 1);
+        self.wake();
+        Ok(outcome)
+    }
+
+    /// Takes the machine, and waits for it while it is out. False where the history is full.
+    fn take<R: Wait>(&self, rt: &R, pass: &mut Pass<M>) -> bool
+        requires { IsPassOf self.now.table.shared.table_id pass.old }
+        ensures { MatchBool result (HasTaken M.start M.stands_for self.now.limit pass.old pass.new) (IsFull self.now.limit pass.old pass.new) }
+    {
+        let shared = &self.table.shared;
+        let mut looks = LOOKS;
+        for _ in rt.forever() {
+            let word = shared.load::<Learn>(pass, ENTRIES);
+            if word == self.limit * 2 {
+                return false;
+            }
+            if word % 2 == 0 && word / 2 < self.limit {
+                let found = shared.compare_exchange::<Take<M>>(pass, ENTRIES, word, word + 1);
+                if found == word {
+                    return true;
+                }
+            } else if looks > 0 {
+                looks -= 1;
+                hint::spin_loop();
+            } else {
+                self.sleep(rt, pass, word);
+            }
+        }
+        unreachable!()
+    }
+
+    /// Sleeps while the first word is the one that was found, which the thread that gives the
+    /// machine back changes. It may also return for no reason.
+    fn sleep<R: Wait>(&self, rt: &R, pass: &mut Pass<M>, word: u64)
+        requires { pass.old.table_id ≡ self.now.table.shared.table_id }
+        ensures { (pass.new.table_id ≡ pass.old.table_id) × (pass.new.me ≡ pass.old.me) }
+    {
+        let shared = &self.table.shared;
+        shared.fetch_add::<Stay>(pass, SLEEPERS, 1);
+        shared.park(rt, ENTRIES, (word % (1 << 32)) as u32);
+        shared.fetch_sub::<Stay>(pass, SLEEPERS, 1);
+    }
+
+    /// Wakes a thread that sleeps until the machine is back.
+    fn wake(&self) {
+        if self.table.shared.peek(SLEEPERS) != 0 {
+            self.table.shared.wake_one(ENTRIES);
+        }
+    }
+
+    /// Has the machine, which the pass has, act where it lies.
+    fn act<R: Threads + Wait + Sync>(
+        &self,
+        rt: &R,
+        pass: &mut Pass<M>,
+        event: M::Event,
+    ) -> M::Outcome
+        requires table { pass.old.table_id ≡ self.now.table.shared.table_id }
+        requires can { CanAct M.start M.stands_for M.fits pass.old event }
+        ensures { HasActed M.start M.stands_for pass.old pass.new event result }
+    {
+        let held = pass.slot_mut(&self.table.shared, 0);
+        held.act(rt, event)
+    }
+
+    /// A new pass, which knows what this one knows and has made no calls.
+    pub fn split(&self, pass: &mut Pass<M>) -> Pass<M>
+        requires pass { IsPassOf self.now.table.shared.table_id pass.old }
+        ensures pass { IsPassOf self.now.table.shared.table_id pass.new × (known pass.new ≡ having_split (known pass.old)) }
+        ensures new { IsPassOf self.now.table.shared.table_id result × (known result ≡ split_off (known pass.old)) }
+    {
+        self.table.shared.split_seat::<Part>(pass)
+    }
+
+    /// Joins a pass, of which every pass that was split off it was joined back, into the one that
+    /// it was split off.
+    pub fn join(&self, pass: &mut Pass<M>, other: Pass<M>)
+        requires passes { IsPassOf self.now.table.shared.table_id pass.old × IsPassOf self.now.table.shared.table_id other }
+        requires child { (number : ℕ) × ((known other).name ≡ (known pass.old).name ++ number ∷ []) }
+        requires whole { IsWhole (known other) }
+        ensures pass { IsPassOf self.now.table.shared.table_id pass.new × (known pass.new ≡ having_joined (known pass.old) (known other)) }
+        ensures own { Begins (known pass.old).history (known pass.new).history }
+        ensures its { Begins (known other).history (known pass.new).history }
+        ensures calls { HasCalls (known pass.new) }
+    {
+        self.table.shared.join_seat::<Reunite>(pass, other);
+        self.table.shared.load::<Confirm>(pass, ENTRIES);
+    }
+
+    /// The machine, and what the first pass knows, into which every other pass was joined.
+    pub fn close(self, mut pass: Pass<M>) -> (M, Pass<M>)
+        requires pass { IsPassOf self.table.shared.table_id pass }
+        requires first { (known pass).name ≡ [] }
+        requires whole { IsWhole (known pass) }
+        ensures pass { known result.1 ≡ retired (known pass) }
+        ensures stands { M.stands_for result.0 (known result.1).history }
+        ensures start { (known result.1).start ≡ Some (M.start result.0) }
+        ensures law { IsAccounted (known result.1) }
+    {
+        let told = self.table.shared.split_seat::<Retire>(&mut pass);
+        let Shared { table, limit: _ } = self;
+        let mut closed = table.close_with(pass);
+        let held = closed.take(0);
+        closed.free();
+        (held.into_machine(), told)
+    }
+}
