@@ -116,8 +116,8 @@ module _ {D L : Type 0} (device : D → Device) (state : L → LinkState) (disk 
       Executes seals start final run (operations_of played) → IsIdle final → size ≡ size_of start.map → atom ≡ start.map.atom →
       (may_spend → ⊥) → AreSessions (record { number = 0; size = size; atom = atom }) may_spend played → NumbersRise 0 played →
       Served state begun outcome.links outcome.ends failed memory played → outcome.disk ≡ Some back → device back ≡ final.disk →
-      outcome.cause ≡ cause_of final.broken failed memory → Ran device state disk begun outcome
-  ran_of failed memory played size atom laws volume lawful tells did idle size_same atom_same never sessions rise served is_back back_is cause_is =
+      (device back).size ≡ (device disk).size → outcome.cause ≡ cause_of final.broken failed memory → Ran device state disk begun outcome
+  ran_of failed memory played size atom laws volume lawful tells did idle size_same atom_same never sessions rise served is_back back_is same_size cause_is =
       let own = tells_start (device disk) seals start volume tells in
       let starts : (bytes : List ℕ) → start.disk.values ≡ Some bytes → Starts start seals (plain_blocks start bytes) bytes =
       λ bytes is. laws.starts bytes volume.sound volume.fresh volume.apart volume.whole lawful volume.nothing is (own.whole bytes is) (own.are_bytes bytes is) in
@@ -136,7 +136,7 @@ module _ {D L : Type 0} (device : D → Device) (state : L → LinkState) (disk 
         served = served;
         did = did;
         idle = idle;
-        back_is = (back, is_back, back_is);
+        back_is = (back, is_back, back_is, same_size);
         history = λ bytes is. history_of start seals final run (operations_of played) bytes laws (starts bytes is) did;
         stops = may_stop start seals final run (operations_of played) laws own volume.whole volume.nothing starts did;
         cause_is = cause_is;

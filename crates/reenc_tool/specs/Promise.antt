@@ -119,6 +119,7 @@ pub record Ran {D L : Type 0} (device : D → DiskState) (state : L → LinkStat
   -- none is under way at the end: each operation that began was answered, so it is a session's
   pub idle : IsIdle final
   pub back_is : (back : D) × (outcome.disk ≡ Some back) × (device back ≡ final.disk)
+      × ((device back).size ≡ (device disk).size)
   -- one history: legal from what the disk told when it was handed in
   pub history : (bytes : List ℕ) → start.disk.values ≡ Some bytes →
       (left : List Block) × Legal start.map.atom (plain_blocks start bytes) (operations_of played) left

@@ -50,5 +50,5 @@ returns-clause-ended g c =
     did.executes c.serve_links-trouble.new.port.idle
     (ap (λ p. p.blocks * c.from.result) c.progress-blocks.ensures ∙ ap (λ a. start.map.blocks * a) (c.from.ensures ∙ ap (λ p. p.atom) c.progress-blocks.ensures))
     (ap (λ p. p.atom) c.progress-blocks.ensures)
-    (λ spent. spent.1) s.2 s.3 s.4 refl c.into_disk.ensures.disk
+    (λ spent. spent.1) s.2 s.3 s.4 refl c.into_disk.ensures.disk (c.into_disk.ensures.size ∙ ap (λ m. m.atom) did.map ∙ atom_is)
     (c.cause-cause.ensures ∙ ap (λ p. cause_of p.broken c.serve_links-trouble.result.failed c.serve_links-trouble.result.memory) c.progress.ensures))
