@@ -12,7 +12,7 @@ use std::alloc::{AllocError, Global};
 use std::mem;
 use std::test::Fail;
 use volume_machine::{Keys};
-use volume_core::{Volume};
+use volume_core::Volume;
 
 const MIB: usize = 1_048_576;
 
