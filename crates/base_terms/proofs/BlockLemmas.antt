@@ -37,16 +37,18 @@ pasted_behind block rest size at text is =
     ) (simp append_assoc)
 
 -- a text put in place over a block and what is behind it
-pub pasted_over : (block rest : List ℕ) (size : ℕ) (text : List ℕ) → length block ≡ size → size ≤ length text
-    → pasted (block ++ rest) 0 text ≡ take size text ++ pasted rest 0 (drop size text)
+pub pasted_over : (block rest : List ℕ) (size : ℕ) (text : List ℕ) → length block ≡ size
+    → size ≤ length text → pasted (block ++ rest) 0 text ≡ take size text ++ pasted rest 0 (drop size text)
 unfolding pasted
 pasted_over block rest size text is enough =
     let split : 0 + length text ≡ size + (0 + length (drop size text)) =
     rw (length-drop size text) (omega arith) in
     let behind : drop (0 + length text) (block ++ rest) ≡ drop (0 + length (drop size text)) rest =
-    ap (λ n. drop n (block ++ rest)) split ∙ drop_behind block rest size (0 + length (drop size text)) is in
+    ap (λ n. drop n (block ++ rest)) split
+    ∙ drop_behind block rest size (0 + length (drop size text)) is in
     ap (λ end. text ++ end) behind
-    ∙ ap (λ front. front ++ drop (0 + length (drop size text)) rest) (sym (take-append-drop size text))
+    ∙ ap (λ front. front ++ drop (0 + length (drop size text)) rest)
+    (sym (take-append-drop size text))
     ∙ append_assoc (take size text) (drop size text) (drop (0 + length (drop size text)) rest)
 
 -- no values change nothing
@@ -62,8 +64,10 @@ pub joined-blocks_of : (size n : ℕ) (text : List ℕ) → length text ≡ n * 
 unfolding joined blocks_of
 joined-blocks_of size zero text is = sym (nil_from_length text (is ∙ omega arith))
 joined-blocks_of size (suc n) text is =
-    ap (λ rest. take size text ++ rest) (joined-blocks_of size n (drop size text) (length-drop size text
-    ∙ (let e : length text - size ≡ n * size = grind arith in e))) ∙ take-append-drop size text
+    let left : length (drop size text) ≡ n * size =
+    length-drop size text ∙ (let e : length text - size ≡ n * size = grind arith in e) in
+    ap (λ rest. take size text ++ rest) (joined-blocks_of size n (drop size text) left)
+    ∙ take-append-drop size text
 
 -- the blocks have their size
 pub lengths-blocks_of : (size n : ℕ) (text : List ℕ) → length text ≡ n * size
@@ -116,8 +120,8 @@ even_changed held change holds (suc count) size (suc at) (suc n) (cell ∷ cells
 -- a text put into even cells stands in its place in their content
 pub joined_changed : {C : Type 0} (held : C → List ℕ) (change : C → List ℕ → C)
     → ((cell : C) (value : List ℕ) → held (change cell value) ≡ value)
-    → (count size at n : ℕ) (cells : List C) (text : List ℕ) → AreEven held count size cells → at + n ≤ count
-    → length text ≡ n * size
+    → (count size at n : ℕ) (cells : List C) (text : List ℕ) → AreEven held count size cells
+    → at + n ≤ count → length text ≡ n * size
     → joined (map held (changed change cells at (blocks_of size n text)))
     ≡ pasted (joined (map held cells)) (at * size) text
 unfolding lengths joined changed blocks_of
@@ -140,9 +144,11 @@ joined_changed held change holds (suc count) size zero (suc n) (cell ∷ cells) 
     (ap₂ (λ front rest. front ++ rest) (holds cell (take size text)) below
     ∙ sym (pasted_over (held cell) (joined (map held cells)) size text
     (even_front held count size cell cells even) enough))
-joined_changed held change holds (suc count) size (suc at) (suc n) (cell ∷ cells) text even in_disk is =
+joined_changed held change holds (suc count) size (suc at) (suc n) (cell ∷ cells) text even in_disk
+    is =
     let place : suc at * size ≡ size + at * size = grind arith in
-    ap (λ rest. held cell ++ rest) (joined_changed held change holds count size at (suc n) cells text
+    ap (λ rest. held cell ++ rest)
+    (joined_changed held change holds count size at (suc n) cells text
     (even_rest held count size cell cells even) (omega arith) is)
     ∙ sym (rw place (pasted_behind (held cell) (joined (map held cells)) size (at * size) text
     (even_front held count size cell cells even)))
@@ -151,7 +157,8 @@ joined_changed held change holds (suc count) size (suc at) (suc n) (cell ∷ cel
 pub held_changed : {C : Type 0} (held : C → List ℕ) (change : C → List ℕ → C)
     → ((cell : C) (value : List ℕ) → held (change cell value) ≡ value)
     → (cells : List C) (at : ℕ) (values : List (List ℕ))
-    → map held (changed change cells at values) ≡ changed (λ _ value. value) (map held cells) at values
+    → map held (changed change cells at values)
+    ≡ changed (λ _ value. value) (map held cells) at values
 unfolding changed
 held_changed held change holds [] at values = refl
 held_changed held change holds (cell ∷ cells) at [] = refl

@@ -23,9 +23,12 @@ joined (block ∷ blocks) = block ++ joined blocks
 unfoldable pub lengths : List (List ℕ) → List ℕ
 lengths blocks = map (λ block. length block) blocks
 
--- cells of which those from `at` on are changed, each by the next of the values, as far as both reach
+-- cells of which those from `at` on are changed, each by the next of the values, as far as both
+-- reach
 unfoldable pub changed : {C : Type 0} → (C → List ℕ → C) → List C → ℕ → List (List ℕ) → List C
 changed change [] at values = []
 changed change (cell ∷ cells) at [] = cell ∷ cells
-changed change (cell ∷ cells) zero (value ∷ values) = change cell value ∷ changed change cells zero values
-changed change (cell ∷ cells) (suc at) (value ∷ values) = cell ∷ changed change cells at (value ∷ values)
+changed change (cell ∷ cells) zero (value ∷ values) =
+    change cell value ∷ changed change cells zero values
+changed change (cell ∷ cells) (suc at) (value ∷ values) =
+    cell ∷ changed change cells at (value ∷ values)

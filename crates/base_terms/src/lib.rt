@@ -1,7 +1,7 @@
 //! Terms that every layer of the server cites: the one failure of the outside and the count that
-//! shows its cause, the numbers of the errors that a client is answered, a text of bytes that contracts
-//! see as a list, a buffer that is used again, and (in `specs/`) the words on lists of bytes and blocks
-//! of which disks, contents and messages are spelt.
+//! shows its cause, the numbers of the errors that a client is answered, a text of bytes that
+//! contracts see as a list, a buffer that is used again, and (in `specs/`) the words on lists of
+//! bytes and blocks of which disks, contents and messages are spelt.
 #![tactic(auto)]
 
 mod buffer;

@@ -1,5 +1,5 @@
-mod Rounds
-mod Given
-pub mod Rears
+mod IntakeLemmas
+pub mod OutletLemmas
 mod ReadLemmas
+mod SupplyLemmas
 mod WriteLemmas

@@ -9,9 +9,10 @@ pub record Intake : Type 0 where
   pub left : Option (List ℕ)
   pub faults : ℕ
 
--- of what was left, the first n bytes went to the front of the buffer, the rest of which stands; none
--- only at the end of the input, or for a buffer that is empty
-pub record GivesFront (left : List ℕ) (now : Option (List ℕ)) (before after : List ℕ) (n : ℕ) : Type 0 where
+-- of what was left, the first n bytes went to the front of the buffer, the rest of which stands;
+-- none only at the end of the input, or for a buffer that is empty
+pub record GivesFront (left : List ℕ) (now : Option (List ℕ)) (before after : List ℕ)
+    (n : ℕ) : Type 0 where
   pub left_is : now ≡ Some (drop n left)
   pub bytes_are : after ≡ take n left ++ drop n before
   pub no_more : n ≤ length left

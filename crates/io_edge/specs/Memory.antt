@@ -12,8 +12,8 @@ pub record Input : Type 0 where
   pub piece : ℕ
   pub plan : Plan
 
--- of a sink: what it was put, what of it was not pushed out since, how much it holds at most, and the
--- plan of its faults
+-- of a sink: what it was put, what of it was not pushed out since, how much it holds at most, and
+-- the plan of its faults
 pub record Output : Type 0 where
   pub had : List ℕ
   pub held_back : List ℕ
@@ -28,11 +28,13 @@ pub record Seedlings : Type 0 where
 
 -- what a source in memory tells: all of it
 abbrev pub intake_of : Input → Intake
-intake_of input = record { given = Some input.given; left = Some input.left; faults = input.plan.faults }
+intake_of input =
+    record { given = Some input.given; left = Some input.left; faults = input.plan.faults }
 
 -- what a sink in memory tells: all of it
 abbrev pub outlet_of : Output → Outlet
-outlet_of output = record { had = Some output.had; held_back = output.held_back; faults = output.plan.faults }
+outlet_of output =
+    record { had = Some output.had; held_back = output.held_back; faults = output.plan.faults }
 
 -- the byte that comes `k` places after the next one, the bytes going round
 abbrev pub round_from : List ℕ → ℕ → ℕ → ℕ
@@ -40,4 +42,5 @@ round_from bytes at k = slice_index bytes ((at + k) % length bytes)
 
 -- what fixed seeds tell: every byte ahead
 abbrev pub supply_of : Seedlings → Supply
-supply_of seeds = record { ahead = λ k. Some (round_from seeds.bytes seeds.at k); faults = seeds.plan.faults }
+supply_of seeds =
+    record { ahead = λ k. Some (round_from seeds.bytes seeds.at k); faults = seeds.plan.faults }

@@ -19,8 +19,8 @@ PutsPiece old new piece result = (had : List ℕ) → old.had ≡ Some had →
 abbrev pub IsRear : List ℕ → List ℕ → Type 0
 IsRear rear text = (front : List ℕ) × (text ≡ front ++ rear)
 
--- nothing is held back but the last of what was held back before and of what was put behind it: of the
--- whole piece, or of a front of it where the put failed
+-- nothing is held back but the last of what was held back before and of what was put behind it: of
+-- the whole piece, or of a front of it where the put failed
 abbrev pub HoldsBackRear : {T E : Type 0} → List ℕ → List ℕ → List ℕ → Result T E → Type 0
 HoldsBackRear old new piece result = MatchResult result (λ _. IsRear new (old ++ piece))
     (λ _. (k : ℕ) × (k ≤ length piece) × IsRear new (old ++ take k piece))

@@ -7,10 +7,11 @@ use base_terms::Failed;
 use std::io;
 use std::random::RandomSource;
 
-/// A device of the system that random bytes are drawn from. What a call does is a matter of the device.
+/// A device of the system that random bytes are drawn from. What a call does is a matter of the
+/// device.
 pub trait EntropySource: Drop {
-    /// What a draw does: from the device before it, by the buffer after it and whether it was done, to
-    /// the device after it.
+    /// What a draw does: from the device before it, by the buffer after it and whether it was done,
+    /// to the device after it.
     ghost draws: { Self → List ℕ → Bool → Self → Type 0 };
 
     /// Fills the buffer with random bytes.
@@ -27,7 +28,8 @@ impl<R: RandomSource + Drop> EntropySource for R {
     }
 }
 
-/// Random bytes of the system, which nobody tells. A fill fails exactly where the system gives none.
+/// Random bytes of the system, which nobody tells. A fill fails exactly where the system gives
+/// none.
 pub type OsSeeds<R> = Counted<R>;
 
 impl<R: EntropySource> Seeds for Counted<R> {

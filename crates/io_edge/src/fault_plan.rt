@@ -33,7 +33,8 @@ impl FaultPlan {
 
     /// Counts a call, and says whether it fails: by its number, or by the other cause.
     pub fn is_failing(&mut self, other_cause: bool) -> bool
-        ensures exact { IsTrue result ↔ (IsTrue other_cause ⊎ Contains self.old.fails self.old.calls) }
+        ensures exact { IsTrue result
+            ↔ (IsTrue other_cause ⊎ Contains self.old.fails self.old.calls) }
         ensures next { self.new ≡ next_plan self.old result }
         ensures later { self.old.faults ≤ self.new.faults }
         ensures rose { IsTrue result → Rose self.old.faults self.new.faults }

@@ -9,11 +9,11 @@ use crate::calls::is_interrupted;
 use std::alloc::Global;
 use std::io::{self, ErrorKind};
 
-/// A stream of the system that can be given two pieces at once, one behind the other. What its calls do
-/// is a matter of the stream.
+/// A stream of the system that can be given two pieces at once, one behind the other. What its
+/// calls do is a matter of the stream.
 pub trait WritePair: Drop {
-    /// What a write does: from the stream before it, by the two pieces together and the answer, to the
-    /// stream after it.
+    /// What a write does: from the stream before it, by the two pieces together and the answer, to
+    /// the stream after it.
     ghost writes: { Self → List ℕ → Result ℕ Error → Self → Type 0 };
 
     /// What a flush does, by whether it was done.
@@ -31,16 +31,16 @@ pub trait WritePair: Drop {
 }
 
 /// A stream that holds back short pieces until they are flushed or a longer one follows, and writes
-/// them together with that one. So the head of a reply and its data leave together: a short piece is
-/// copied, a long one is not. What is held back when it is dropped is written then.
+/// them together with that one. So the head of a reply and its data leave together: a short piece
+/// is copied, a long one is not. What is held back when it is dropped is written then.
 pub struct GatheringWriter<W: WritePair> {
     writer: W,
     held: Vec<u8>,
 }
 
 impl<W: WritePair> GatheringWriter<W> {
-    /// A stream that holds back at most `capacity` bytes, whose memory it takes now, and nothing yet. Its
-    /// one error is `OutOfMemory`, which drops the writer.
+    /// A stream that holds back at most `capacity` bytes, whose memory it takes now, and nothing
+    /// yet. Its one error is `OutOfMemory`, which drops the writer.
     pub fn new(alloc: Global, capacity: usize, writer: W) -> io::Result<GatheringWriter<W>>
         ensures writer { IfOk result (λ g. g.writer ≡ writer) }
         ensures holds_nothing { IfOk result (λ g. g.held.items ≡ []) }
@@ -56,7 +56,8 @@ impl<W: WritePair> GatheringWriter<W> {
         &self.writer
     }
 
-    /// Writes what is held back and the bytes behind it, all of it or up to where the writer refuses.
+    /// Writes what is held back and the bytes behind it, all of it or up to where the writer
+    /// refuses.
     fn write_through(&mut self, bytes: &[u8]) -> io::Result<()>
         ensures through { WritesThrough W.writes self.old.writer self.old.held.items bytes.now
             (is_ok result) self.new.writer self.new.held.items }
@@ -75,8 +76,8 @@ impl<W: WritePair> GatheringWriter<W> {
         Err(io::Error::from(ErrorKind::Other))
     }
 
-    /// Writes a front of what is held back and of the piece behind it, and says how many bytes of the
-    /// piece; none where a signal interrupts the write.
+    /// Writes a front of what is held back and of the piece behind it, and says how many bytes of
+    /// the piece; none where a signal interrupts the write.
     fn write_some(&mut self, piece: &[u8]) -> io::Result<usize>
         ensures within { IfOk result (λ n. n ≤ length piece.now) }
         ensures some { WritesSome W.writes self.old.writer self.old.held.items piece.now result
@@ -94,7 +95,8 @@ impl<W: WritePair> GatheringWriter<W> {
         }
     }
 
-    /// Drops the first `n` bytes of what is held back, which were written, and says how many more were.
+    /// Drops the first `n` bytes of what is held back, which were written, and says how many more
+    /// were.
     fn leave(&mut self, n: usize) -> usize
         ensures writer { self.new.writer ≡ self.old.writer }
         ensures held { self.new.held.items ≡ drop n self.old.held.items }
@@ -119,11 +121,13 @@ fn remove_front(bytes: &mut Vec<u8>, n: usize)
 }
 
 impl<W: WritePair> OutputStream for GatheringWriter<W> {
-    ghost held = { λ g. g.held.items };
+    ghost held_back = { λ g. g.held.items };
 
-    ghost writes = { λ old bytes done new. WritesThrough W.writes old.writer old.held.items bytes done new.writer new.held.items };
+    ghost writes = { λ old bytes done new. WritesThrough W.writes old.writer old.held.items bytes
+        done new.writer new.held.items };
 
-    ghost flushes = { λ old done new. FlushesThrough W.writes W.flushes old.writer old.held.items done new.writer new.held.items };
+    ghost flushes = { λ old done new. FlushesThrough W.writes W.flushes old.writer old.held.items
+        done new.writer new.held.items };
 
     fn write_all(&mut self, bytes: &[u8]) -> io::Result<()> {
         if bytes.len() <= self.held.capacity() - self.held.len() {

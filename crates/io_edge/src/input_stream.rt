@@ -16,8 +16,8 @@ pub trait InputStream: Drop {
     /// stream after it.
     ghost reads: { Self → List ℕ → Result ℕ Error → Self → Type 0 };
 
-    /// Reads some bytes to the front of the buffer and says how many; 0 for a buffer that isn't empty
-    /// only at the end of the input. It may be interrupted.
+    /// Reads some bytes to the front of the buffer and says how many; 0 for a buffer that isn't
+    /// empty only at the end of the input. It may be interrupted.
     fn read_some(&mut self, buf: &mut [u8]) -> io::Result<usize>
         ensures within { IfOk result (λ n. n ≤ length buf.new) }
         ensures reads { reads self.old buf.new result self.new };
@@ -25,15 +25,17 @@ pub trait InputStream: Drop {
 
 /// One of std's readers, of which std says what a read does.
 impl<R: Read + Drop> InputStream for R {
-    ghost reads = { λ old buf answer new. ReadConsumes (R.remaining old) (R.remaining new) answer buf };
+    ghost reads = { λ old buf answer new.
+        ReadConsumes (R.remaining old) (R.remaining new) answer buf };
 
     fn read_some(&mut self, buf: &mut [u8]) -> io::Result<usize> {
         self.read(buf)
     }
 }
 
-/// A source over a stream of the system, as standard input or a socket. It tells nothing of content.
-/// It reads again where a signal interrupts a read, and fails exactly where the last read does.
+/// A source over a stream of the system, as standard input or a socket. It tells nothing of
+/// content. It reads again where a signal interrupts a read, and fails exactly where the last read
+/// does.
 pub type StdSource<R> = Counted<R>;
 
 impl<R: InputStream> Source for Counted<R> {
@@ -45,7 +47,8 @@ impl<R: InputStream> Source for Counted<R> {
         ensures counts { Counts self.old.faults self.new.faults result }
         ensures reads { MatchResult result
             (λ n. ReadsOn R.reads self.old.inner buf.new (Ok n) self.new.inner)
-            (λ _. (error : Error) × ReadsOn R.reads self.old.inner buf.new (Err error) self.new.inner) }
+            (λ _. (error : Error)
+            × ReadsOn R.reads self.old.inner buf.new (Err error) self.new.inner) }
     {
         answered(read_uninterrupted(&mut self.inner, buf), &mut self.faults)
     }

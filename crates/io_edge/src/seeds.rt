@@ -83,7 +83,8 @@ fn fill_round(bytes: &[u8], at: usize, buf: &mut [u8]) -> usize
     requires { at < length bytes.now }
     ensures inside { result < length bytes.now }
     ensures next { result ≡ (at + length buf.new) % length bytes.now }
-    ensures round { (k : ℕ) → k < length buf.new → slice_index buf.new k ≡ round_from bytes.now at k }
+    ensures round { (k : ℕ) → k < length buf.new →
+        slice_index buf.new k ≡ round_from bytes.now at k }
 {
     let mut next = at;
     for byte in buf.iter_mut() {

@@ -11,11 +11,12 @@ use std::marker::Model;
 
 /// Where bytes go to.
 pub trait Sink: Drop {
-    /// What it was put, where that is told, what of it was not let out yet, and how many calls failed.
+    /// What it was put, where that is told, what of it was not let out yet, and how many calls
+    /// failed.
     ghost outlet: { Self → Outlet };
 
-    /// Puts all bytes, or fails; after a failure a front of them may have been put. What was put may be
-    /// held back until it is pushed out.
+    /// Puts all bytes, or fails; after a failure a front of them may have been put. What was put
+    /// may be held back until it is pushed out.
     fn put(&mut self, bytes: &[u8]) -> Result<(), Failed>
         ensures told { PutsPiece (outlet self.old) (outlet self.new) bytes.now result }
         ensures holds { HoldsBackRear (outlet self.old).held_back (outlet self.new).held_back
@@ -30,8 +31,8 @@ pub trait Sink: Drop {
         ensures cause { HasCause (outlet self.old).faults (outlet self.new).faults result };
 }
 
-/// A text in memory, which has room for so many bytes. What it is put it holds back until it is pushed
-/// out.
+/// A text in memory, which has room for so many bytes. What it is put it holds back until it is
+/// pushed out.
 #[derive(Debug, Drop)]
 pub struct ListSink {
     bytes: Vec<u8>,
@@ -146,7 +147,7 @@ pub struct VoidSink;
 impl Sink for VoidSink {
     ghost outlet = { λ _. record { had = None; held_back = []; faults = 0 } };
 
-    #[tactic(auto, using(crate::proofs::Rears::holds_nothing))]
+    #[tactic(auto, using(crate::proofs::OutletLemmas::holds_nothing))]
     fn put(&mut self, bytes: &[u8]) -> Result<(), Failed>
         ensures never { IsOk result }
         ensures holds { HoldsBackRear [] [] bytes.now result }

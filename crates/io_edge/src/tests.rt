@@ -5,8 +5,10 @@ use crate::{
     OutputStream, Place, Seeds, Sink, Source, StdSink, StdSource, VoidSink, WritePair,
 };
 use base_terms::Failed;
+use std::cell::Cell;
 use std::io::{self, ErrorKind, PipeWriter, Read, Write};
 use std::random::RandomSource;
+use std::rc::Rc;
 use std::test::Fail;
 
 #[test]
@@ -78,13 +80,13 @@ fn what_never_fails_answers_ok(rt: HostRuntime) {
 }
 
 impl OutputStream for PipeWriter {
-    ghost held = { λ _. [] };
+    ghost held_back = { λ _. [] };
 
     ghost writes = { λ _ _ _ _. Unit {0} };
 
     ghost flushes = { λ _ _ _. Unit {0} };
 
-    #[tactic(auto, using(crate::proofs::Rears::holds_nothing))]
+    #[tactic(auto, using(crate::proofs::OutletLemmas::holds_nothing))]
     fn write_all(&mut self, bytes: &[u8]) -> io::Result<()> {
         Write::write_all(self, bytes)
     }
@@ -195,6 +197,42 @@ fn a_gathering_writer_writes_all_in_order(rt: HostRuntime) -> Result<(), Fail> {
         let seen = writer.writer().text.as_slice();
         assert_eq!(rt; seen, b"ABCabcdefghijklmnopqrstuvw".as_slice(), "{most}");
     }
+    Ok(())
+}
+
+/// A stream that counts the bytes that it takes.
+#[derive(Drop)]
+struct Counting {
+    taken: Rc<Cell<usize>>,
+}
+
+impl WritePair for Counting {
+    ghost writes = { λ _ _ _ _. Unit {0} };
+
+    ghost flushes = { λ _ _ _. Unit {0} };
+
+    fn write_pair(&mut self, first: &[u8], second: &[u8]) -> io::Result<usize> {
+        let len = first.len().saturating_add(second.len());
+        self.taken.set(self.taken.get().saturating_add(len));
+        Ok(len)
+    }
+
+    fn flush(&mut self) -> io::Result<()> {
+        Ok(())
+    }
+}
+
+#[test]
+fn what_is_held_back_is_written_when_the_writer_is_dropped(rt: HostRuntime) -> Result<(), Fail> {
+    let taken = Rc::new(rt.alloc(), Cell::new(0))?;
+    let counting = Counting {
+        taken: taken.clone()?,
+    };
+    let mut writer = GatheringWriter::new(rt.alloc(), 8, counting)?;
+    writer.write_all(b"abcde")?;
+    assert_eq!(rt; taken.get(), 0);
+    drop(writer);
+    assert_eq!(rt; taken.get(), 5);
     Ok(())
 }
 

@@ -9,8 +9,8 @@ loop-init g c = refl
 
 pub loop-preserved : goal.loop-preserved
 loop-preserved g c =
-    in_vain_more g.R.InputStream.reads c.loop.counter _ c.loop.reader _ _ c.read_some-answer.result c.loop.invariant
-    (search rules) c.read_some-answer.ensures.reads
+    in_vain_more g.R.InputStream.reads c.loop.counter _ c.loop.reader _ _ c.read_some-answer.result
+    c.loop.invariant (search rules) c.read_some-answer.ensures.reads
 
 pub returns-then-not-is_interrupted-clause-reads : goal.returns-then-not-is_interrupted-clause-reads
 unfolding ReadsOn
@@ -24,4 +24,10 @@ returns-then-not-is_interrupted-clause-reads g c = (
 
 pub returns-clause-reads : goal.returns-clause-reads
 unfolding ReadsOn
-returns-clause-reads g c = (c.loop.counter, c.loop.reader, c.loop.invariant, c.read_some.ensures.reads, λ interrupted. omega arith)
+returns-clause-reads g c = (
+  c.loop.counter,
+  c.loop.reader,
+  c.loop.invariant,
+  c.read_some.ensures.reads,
+  λ interrupted. omega arith,
+)

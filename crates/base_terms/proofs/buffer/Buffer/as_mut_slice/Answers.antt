@@ -7,7 +7,9 @@ returns c =
     let vec = c.self.inside.vec in (
       (
         refl,
-        λ bytes. ap (λ n. take n (bytes ++ drop (length bytes) vec.items)) vec.ok.0 ∙ ap (λ old. rewritten old bytes) c.self.view_is,
+        λ bytes.
+            ap (λ n. take n (bytes ++ drop (length bytes) vec.items)) vec.ok.0
+            ∙ ap (λ old. rewritten old bytes) c.self.view_is,
       ),
       record { writes_back = tt; value = search rules },
     )

@@ -6,10 +6,12 @@ use Rattle.io_edge.proofs.gathering.GatheringWriterOutputStream.flush.Goals as g
 pub returns-in-Ok-clause-flushes : goal.returns-in-Ok-clause-flushes
 unfolding FlushesThrough
 returns-in-Ok-clause-flushes g c =
-    inl (c.write_through.new.self.writer, c.in-Ok.ensures.through, c.in-Ok.ensures.empty, c.flush.ensures)
+    let through = c.in-Ok.ensures.through in
+    inl (c.write_through.new.self.writer, through, c.in-Ok.ensures.empty, c.flush.ensures)
 
 pub returns-in-Err-clause-holds : goal.returns-in-Err-clause-holds
-returns-in-Err-clause-holds g c = through_rear g.W.WritePair.writes _ _ _ _ false c.in-Err.ensures.through
+returns-in-Err-clause-holds g c =
+    through_rear g.W.WritePair.writes _ _ _ _ false c.in-Err.ensures.through
 
 pub returns-in-Err-clause-flushes : goal.returns-in-Err-clause-flushes
 unfolding FlushesThrough

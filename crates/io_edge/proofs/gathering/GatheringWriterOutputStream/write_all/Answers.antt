@@ -6,4 +6,5 @@ returns-then-bytes-capacity-clause-writes g c =
     through_held g.W.WritePair.writes _ _ _ _ c.in-Ok.ensures.items
 
 pub returns-clause-holds : goal.returns-clause-holds
-returns-clause-holds g c = through_holds g.W.WritePair.writes _ _ _ _ _ _ c.write_through.ensures.through
+returns-clause-holds g c =
+    through_holds g.W.WritePair.writes _ _ _ _ _ _ c.write_through.ensures.through

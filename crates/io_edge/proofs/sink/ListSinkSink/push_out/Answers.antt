@@ -1,5 +1,5 @@
 use Rattle.std.proofs.Common.{arith}
-use Rattle.io_edge.proofs.Rears.{rear_behind}
+use Rattle.io_edge.proofs.OutletLemmas.{rear_behind}
 use Rattle.io_edge.proofs.sink.ListSinkSink.push_out.Goals as goal
 
 pub returns-clause-holds : goal.returns-clause-holds

@@ -1,4 +1,4 @@
-use Rattle.io_edge.proofs.Rears.{rear_of_none}
+use Rattle.io_edge.proofs.OutletLemmas.{rear_of_none}
 use Rattle.io_edge.proofs.sink.VoidSinkSink.put.Goals as goal
 
 pub returns-clause-holds : goal.returns-clause-holds

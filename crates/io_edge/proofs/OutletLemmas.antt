@@ -12,6 +12,7 @@ pub rear_behind : (n : ℕ) (text bytes : List ℕ) → length bytes ≤ n → I
 rear_behind n text bytes behind = rw (drop_all n bytes behind) (rear_of_none text)
 
 -- a stream that holds nothing back
-pub holds_nothing : {T E : Type 0} (old piece : List ℕ) (result : Result T E) → HoldsBackRear old [] piece result
+pub holds_nothing : {T E : Type 0} (old piece : List ℕ) (result : Result T E) →
+    HoldsBackRear old [] piece result
 holds_nothing old piece (Ok value) = rear_of_none (old ++ piece)
 holds_nothing old piece (Err error) = (0, omega arith, rear_of_none (old ++ take 0 piece))
