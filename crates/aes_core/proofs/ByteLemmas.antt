@@ -9,7 +9,7 @@ use Rattle.cipher_laws.specs.Bytes.{IsBlock}
 use Rattle.aes_core.specs.Field.{times, times_x, sum_of_multiples, inverse_below}
 use Rattle.aes_core.specs.Boxes.{s_box, inverse_s_box}
 use Rattle.aes_core.specs.State.{byte_at, state_of, add_round_key, shift_rows, inverse_shift_rows, multiply_columns}
-use Rattle.aes_core.specs.Planes.{bit_in, bits_in, byte_from, byte_in, state_in, place}
+use Rattle.aes_core.specs.Planes.{bit_in, bits_in, bits_of, byte_from, byte_in, state_in, place}
 use Rattle.aes_core.specs.Circuit.{linear_forms, inverse_forms, norm, inverted, multiplied, inversion, sums, inverse_sums}
 use Rattle.aes_core.specs.Laws.Bytes.{agree_below, at_each_byte, times_x_fits}
 use Rattle.aes_core.specs.Laws.Sums.{sum4, times_x_sum}
@@ -22,11 +22,6 @@ pub bit_small : (k p : ℕ) (plane : _) → bit_in k p plane < 2
 unfolding bit_in
 bit_small k p plane = bit_at-lt (slice_index plane.0 p) k
 
--- the bits of a byte, the lowest first
-abbrev pub bits_of : ℕ → List ℕ
-bits_of v =
-    bit_at v 0 ∷ bit_at v 1 ∷ bit_at v 2 ∷ bit_at v 3 ∷ bit_at v 4 ∷ bit_at v 5 ∷ bit_at v 6 ∷ bit_at v 7 ∷ []
-
 abbrev byte8 : (b0 b1 b2 b3 b4 b5 b6 b7 : ℕ) → ℕ
 byte8 b0 b1 b2 b3 b4 b5 b6 b7 = byte_from (b0 ∷ b1 ∷ b2 ∷ b3 ∷ b4 ∷ b5 ∷ b6 ∷ b7 ∷ [])
 
@@ -36,6 +31,7 @@ byte8_fits b0 b1 b2 b3 b4 b5 b6 b7 h0 h1 h2 h3 h4 h5 h6 h7 = omega arith
 
 bits_of_byte8 : (b0 b1 b2 b3 b4 b5 b6 b7 : ℕ) → b0 < 2 → b1 < 2 → b2 < 2 → b3 < 2 → b4 < 2 → b5 < 2 → b6 < 2 → b7 < 2
     → (b0 ∷ b1 ∷ b2 ∷ b3 ∷ b4 ∷ b5 ∷ b6 ∷ b7 ∷ []) ≡ bits_of (byte8 b0 b1 b2 b3 b4 b5 b6 b7)
+unfolding bits_of
 bits_of_byte8 b0 b1 b2 b3 b4 b5 b6 b7 h0 h1 h2 h3 h4 h5 h6 h7 =
     let v : ℕ = byte8 b0 b1 b2 b3 b4 b5 b6 b7 in
     let e0 : bit_at v 0 ≡ b0 = omega arith in
@@ -119,17 +115,17 @@ doubled bits =
     b 7 ∷ bit_xor (b 0) (b 7) ∷ b 1 ∷ bit_xor (b 2) (b 7) ∷ bit_xor (b 3) (b 7) ∷ b 4 ∷ b 5 ∷ b 6 ∷ []
 
 pub doubled_byte : (v : ℕ) → v < 256 → byte_from (doubled (bits_of v)) ≡ times_x v
-unfolding agree_below
+unfolding agree_below bits_of
 doubled_byte = at_each_byte (λ v. byte_from (doubled (bits_of v))) times_x refl
 
 -- the circuits compute the boxes at each byte
 pub s_box_circuit : (v : ℕ) → v < 256 → byte_from (sums (inversion (linear_forms (bits_of v)))) ≡ bit_xor (s_box v) 0x63
-unfolding agree_below s_box inverse_below sum_of_multiples linear_forms norm inverted multiplied sums
+unfolding agree_below bits_of s_box inverse_below sum_of_multiples linear_forms norm inverted multiplied sums
 s_box_circuit = at_each_byte (λ v. byte_from (sums (inversion (linear_forms (bits_of v))))) (λ v. bit_xor (s_box v) 0x63) refl
 
 pub inverse_s_box_circuit : (v : ℕ) → v < 256
     → byte_from (inverse_sums (inversion (inverse_forms (bits_of v)))) ≡ inverse_s_box (bit_xor v 0x63)
-unfolding agree_below inverse_s_box inverse_below sum_of_multiples inverse_forms norm inverted multiplied inverse_sums
+unfolding agree_below bits_of inverse_s_box inverse_below sum_of_multiples inverse_forms norm inverted multiplied inverse_sums
 inverse_s_box_circuit =
     at_each_byte (λ v. byte_from (inverse_sums (inversion (inverse_forms (bits_of v))))) (λ v. inverse_s_box (bit_xor v 0x63)) refl
 

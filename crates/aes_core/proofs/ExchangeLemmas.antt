@@ -10,8 +10,9 @@ use Rattle.std.proofs.lemmas.List.{get_or-replicate}
 use Rattle.std.proofs.lemmas.Simd.{length-zip2}
 use Rattle.std.proofs.lemmas.Nat.{shr-shr}
 use Rattle.std.proofs.lemmas.Nat.Bits.{bit_at-lt, bit_at-zero, bit_at_above, bit_at_cat_low, bit_at_cat_high}
-use Rattle.aes_core.specs.Transposition.{listed, bits_of, first_bits, second_bits}
-use Rattle.aes_core.proofs.BitLemmas.{bit_of_sum, bit_of_product, lane_of}
+use Rattle.aes_core.specs.Planes.{listed, bits_of}
+use Rattle.aes_core.specs.Transposition.{first_bits, second_bits}
+use Rattle.aes_core.proofs.BitLemmas.{bit_of_sum, bit_of_product, lane_of, lane_fits}
 
 -- ---- bits
 
@@ -151,11 +152,6 @@ first_list n mask a b some a_fits b_fits =
     ])
 
 -- ---- lanes
-
-pub lane_fits : (v : List ℕ) → Each1 (Fits w8) v → (p : ℕ) → slice_index v p < 256
-lane_fits [] fits p = omega arith
-lane_fits (x ∷ v) fits zero = omega (arith, fits.0)
-lane_fits (x ∷ v) fits (suc p) = lane_fits v fits.1 p
 
 -- the lanes that the code computes
 abbrev exchanged_lanes : (n mask : ℕ) (a b : List ℕ) → List ℕ

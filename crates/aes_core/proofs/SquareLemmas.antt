@@ -7,22 +7,15 @@ use Rattle.cipher_laws.specs.Bytes.{AreBytes}
 use Rattle.cipher_laws.specs.declared.eight_blocks.EightBlocks.{EightBlocks}
 use Rattle.cipher_laws.proofs.EightLemmas.{each_of_eight}
 use Rattle.aes_core.specs.State.{byte_at}
-use Rattle.aes_core.specs.Planes.{bits_in, byte_from, byte_in, state_in, place}
-use Rattle.aes_core.specs.Transposition.{listed, bits_of, first_bits, second_bits, row, column, AreTurned}
+use Rattle.aes_core.specs.Planes.{listed, bits_of, bits_in, byte_from, byte_in, state_in, place}
+use Rattle.aes_core.specs.Transposition.{first_bits, second_bits, row, column, rows, columns, AreTurned}
 use Rattle.aes_core.specs.Laws.Bytes.{agree_below, at_each_byte}
 use Rattle.aes_core.specs.Laws.Steps.{same_states, state_of_its_bytes}
 use Rattle.aes_core.specs.declared.planes.Planes.{Planes}
-use Rattle.aes_core.proofs.ExchangeLemmas.{lane_fits}
+use Rattle.aes_core.proofs.BitLemmas.{lane_fits}
 use Rattle.aes_core.proofs.MoveLemmas.{moved}
 
 -- ---- the square of bits at one lane
-
-abbrev pub rows : ℕ → EightBlocks → List (List ℕ)
-rows p x = row 0 p x ∷ row 1 p x ∷ row 2 p x ∷ row 3 p x ∷ row 4 p x ∷ row 5 p x ∷ row 6 p x ∷ row 7 p x ∷ []
-
-abbrev pub columns : ℕ → EightBlocks → List (List ℕ)
-columns p x =
-    column 0 p x ∷ column 1 p x ∷ column 2 p x ∷ column 3 p x ∷ column 4 p x ∷ column 5 p x ∷ column 6 p x ∷ column 7 p x ∷ []
 
 abbrev column_of : ℕ → List ℕ → List ℕ
 column_of i lanes = listed (λ k. bit_at (slice_index lanes k) i)
@@ -54,8 +47,8 @@ unfolding first_bits second_bits bits_of
 square_transposed v0 v1 v2 v3 v4 v5 v6 v7 = refl
 
 -- the rows of the one are the columns of the other, and so its columns are the rows
-pub row_from_all : (x y : EightBlocks) (p : ℕ) → rows p y ≡ columns p x → (i : ℕ) → i < 8 → row i p y ≡ column i p x
-row_from_all x y p all =
+pub row_is_column : (x y : EightBlocks) (p : ℕ) → rows p y ≡ columns p x → (i : ℕ) → i < 8 → row i p y ≡ column i p x
+row_is_column x y p all =
     each_of_eight (λ i. row i p y ≡ column i p x)
     (ap (λ rows. slice_index_or rows 0 []) all) (ap (λ rows. slice_index_or rows 1 []) all)
     (ap (λ rows. slice_index_or rows 2 []) all) (ap (λ rows. slice_index_or rows 3 []) all)
@@ -65,9 +58,9 @@ row_from_all x y p all =
 abbrev across : ℕ → List (List ℕ) → List ℕ
 across i rows = listed (λ k. slice_index (slice_index_or rows k []) i)
 
-pub column_from_all : (x y : EightBlocks) (p : ℕ) → rows p y ≡ columns p x → (i : ℕ) → i < 8 → column i p y ≡ row i p x
+pub column_is_row : (x y : EightBlocks) (p : ℕ) → rows p y ≡ columns p x → (i : ℕ) → i < 8 → column i p y ≡ row i p x
 unfolding bits_of
-column_from_all x y p all =
+column_is_row x y p all =
     each_of_eight (λ i. column i p y ≡ row i p x)
     (ap (across 0) all) (ap (across 1) all) (ap (across 2) all) (ap (across 3) all)
     (ap (across 4) all) (ap (across 5) all) (ap (across 6) all) (ap (across 7) all)

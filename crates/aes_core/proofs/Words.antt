@@ -7,6 +7,7 @@ use Rattle.std.proofs.lemmas.Bool.Decides.{nat_tests}
 use Rattle.cipher_laws.specs.Bytes.{IsBlock}
 use Rattle.aes_core.specs.KeySchedule.{word_of, add_words, sub_word, rot_word, round_constant, addend, next_word, key_expansion, round_key}
 use Rattle.aes_core.specs.Laws.Steps.{bytes_from_each}
+use Rattle.aes_core.proofs.BitLemmas.{lane_fits}
 
 -- what holds of each list of 4 elements
 pub four : (P : List ℕ → Type 0) → ((a b c d : ℕ) → P (a ∷ b ∷ c ∷ d ∷ [])) → (xs : List ℕ) → length xs ≡ 4 → P xs
@@ -44,18 +45,13 @@ bytes_of_are_joined v w x y v_long w_long x_long y_long =
     four (λ y. bytes_of (v0 ∷ v1 ∷ v2 ∷ v3 ∷ []) (w0 ∷ w1 ∷ w2 ∷ w3 ∷ []) (x0 ∷ x1 ∷ x2 ∷ x3 ∷ []) y ≡ (v0 ∷ v1 ∷ v2 ∷ v3 ∷ []) ++ (w0 ∷ w1 ∷ w2 ∷ w3 ∷ []) ++ (x0 ∷ x1 ∷ x2 ∷ x3 ∷ []) ++ y)
     (λ y0 y1 y2 y3. refl) y y_long) x x_long) w w_long) v v_long
 
-each_byte : (s : List ℕ) → Each1 (Fits w8) s → (i : ℕ) → slice_index s i < 256
-each_byte [] fits i = omega arith
-each_byte (b ∷ s) fits zero = omega (arith, fits.0)
-each_byte (b ∷ s) fits (suc i) = each_byte s fits.1 i
-
 pub bytes_of_block : (v w x y : List ℕ) → Each1 (Fits w8) v → Each1 (Fits w8) w → Each1 (Fits w8) x → Each1 (Fits w8) y
     → IsBlock (bytes_of v w x y)
 bytes_of_block v w x y v_fits w_fits x_fits y_fits =
-    let a = each_byte v v_fits in
-    let b = each_byte w w_fits in
-    let c = each_byte x x_fits in
-    let d = each_byte y y_fits in
+    let a = lane_fits v v_fits in
+    let b = lane_fits w w_fits in
+    let c = lane_fits x x_fits in
+    let d = lane_fits y y_fits in
     record {
       length_is = refl;
       are_bytes = bytes_from_each (bytes_of v w x y)

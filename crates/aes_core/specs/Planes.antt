@@ -17,6 +17,14 @@ bits_in k p x =
     bit_in k p x.b0 ∷ bit_in k p x.b1 ∷ bit_in k p x.b2 ∷ bit_in k p x.b3
     ∷ bit_in k p x.b4 ∷ bit_in k p x.b5 ∷ bit_in k p x.b6 ∷ bit_in k p x.b7 ∷ []
 
+-- the list of f 0, .., f 7
+abbrev pub listed : (ℕ → ℕ) → List ℕ
+listed f = f 0 ∷ f 1 ∷ f 2 ∷ f 3 ∷ f 4 ∷ f 5 ∷ f 6 ∷ f 7 ∷ []
+
+-- the bits of a byte, the lowest first
+unfoldable pub bits_of : ℕ → List ℕ
+bits_of v = listed (bit_at v)
+
 -- the byte with these bits
 abbrev pub byte_from : List ℕ → ℕ
 byte_from bits = byte_of_bits (λ i. slice_index bits i)

@@ -49,7 +49,3 @@ inverse_sub_bytes s = state_of (λ r c. inverse_s_box (byte_at s r c))
 -- InvMixColumns (5.3.3)
 abbrev pub inverse_mix_columns : List ℕ → List ℕ
 inverse_mix_columns s = multiply_columns 0x0e 0x09 0x0d 0x0b s
-
--- each column with its row r + n in row r
-unfoldable pub rows_moved_up : ℕ → List ℕ → List ℕ
-rows_moved_up n s = state_of (λ r c. byte_at s (r + n) c)

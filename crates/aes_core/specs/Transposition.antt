@@ -5,15 +5,7 @@ use Rattle.cipher_laws.specs.Bytes.{IsBlock}
 use Rattle.cipher_laws.specs.Eight.{block}
 use Rattle.cipher_laws.specs.declared.eight_blocks.EightBlocks.{EightBlocks}
 use Rattle.aes_core.specs.State.{byte_at}
-use Rattle.aes_core.specs.Planes.{place}
-
--- the list of f 0, .., f 7
-abbrev pub listed : (ℕ → ℕ) → List ℕ
-listed f = f 0 ∷ f 1 ∷ f 2 ∷ f 3 ∷ f 4 ∷ f 5 ∷ f 6 ∷ f 7 ∷ []
-
--- the bits of a byte, the lowest first
-unfoldable pub bits_of : ℕ → List ℕ
-bits_of v = listed (bit_at v)
+use Rattle.aes_core.specs.Planes.{listed, bits_of, place}
 
 -- Two bytes with bits a and b, whose bits n places apart are exchanged: the bits of b that the mask has, and those of a
 -- n places above. First what a becomes, and then b.
@@ -32,6 +24,13 @@ row i p x = bits_of (slice_index (block i x) p)
 
 abbrev pub column : ℕ → ℕ → EightBlocks → List ℕ
 column i p x = listed (λ k. bit_at (slice_index (block k x) p) i)
+
+abbrev pub rows : ℕ → EightBlocks → List (List ℕ)
+rows p x = row 0 p x ∷ row 1 p x ∷ row 2 p x ∷ row 3 p x ∷ row 4 p x ∷ row 5 p x ∷ row 6 p x ∷ row 7 p x ∷ []
+
+abbrev pub columns : ℕ → EightBlocks → List (List ℕ)
+columns p x =
+    column 0 p x ∷ column 1 p x ∷ column 2 p x ∷ column 3 p x ∷ column 4 p x ∷ column 5 p x ∷ column 6 p x ∷ column 7 p x ∷ []
 
 -- the block v, whose bytes lie column after column, and w, where they lie row after row
 pub record AreTurned (v w : List ℕ) : Type 0 where

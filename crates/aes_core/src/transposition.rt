@@ -4,8 +4,8 @@
 
 ghost use Rattle.std.specs.Prelude.{◌≡◌, ◌<◌, ℕ, [], slice_index, slice_index_or};
 ghost use Rattle.cipher_laws.specs.Eight.{block, blocks_of};
-ghost use Rattle.aes_core.specs.Planes.{state_in};
-ghost use Rattle.aes_core.specs.Transposition.{bits_of, first_bits, second_bits, row, column, AreTurned};
+ghost use Rattle.aes_core.specs.Planes.{state_in, bits_of};
+ghost use Rattle.aes_core.specs.Transposition.{first_bits, second_bits, rows, columns, AreTurned};
 
 use crate::plane::Plane;
 use crate::planes::Planes;
@@ -90,8 +90,7 @@ fn turned_block(block: u8x16) -> u8x16
 // In each lane, bit k of vector i for bit i of vector k.
 #[inline(always)]
 fn transposed(x: EightBlocks) -> EightBlocks
-    ensures rows { (i p : ℕ) → i < 8 → p < 16 → row i p result ≡ column i p x }
-    ensures columns { (i p : ℕ) → i < 8 → p < 16 → column i p result ≡ row i p x }
+    ensures { (p : ℕ) → p < 16 → rows p result ≡ columns p x }
 {
     let a01 = exchange(x.b0, x.b1, 1, 0x55);
     let a23 = exchange(x.b2, x.b3, 1, 0x55);

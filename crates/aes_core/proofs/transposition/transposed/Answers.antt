@@ -1,10 +1,11 @@
 use Rattle.std.proofs.Common.{slice_index}
-use Rattle.aes_core.proofs.SquareLemmas.{square_transposed, row_from_all, column_from_all}
+use Rattle.aes_core.proofs.SquareLemmas.{square_transposed}
 use Rattle.aes_core.proofs.transposition.transposed.Goals as goal
 
-pub returns-clause-rows : goal.returns-clause-rows
-returns-clause-rows c i p below within =
-    row_from_all c.args.x _ p (rw (
+pub returns : goal.returns
+returns c p within =
+    let x = c.args.x in
+    rw (
       c.exchange-c04.ensures.first p within,
       c.exchange-c04.ensures.second p within,
       c.exchange-c15.ensures.first p within,
@@ -30,36 +31,5 @@ returns-clause-rows c i p below within =
       c.exchange-a67.ensures.first p within,
       c.exchange-a67.ensures.second p within,
     )
-    (square_transposed (slice_index c.args.x.b0 p) (slice_index c.args.x.b1 p) (slice_index c.args.x.b2 p) (slice_index c.args.x.b3 p)
-    (slice_index c.args.x.b4 p) (slice_index c.args.x.b5 p) (slice_index c.args.x.b6 p) (slice_index c.args.x.b7 p))) i below
-
-pub returns-clause-columns : goal.returns-clause-columns
-returns-clause-columns c i p below within =
-    column_from_all c.args.x _ p (rw (
-      c.exchange-c04.ensures.first p within,
-      c.exchange-c04.ensures.second p within,
-      c.exchange-c15.ensures.first p within,
-      c.exchange-c15.ensures.second p within,
-      c.exchange-c26.ensures.first p within,
-      c.exchange-c26.ensures.second p within,
-      c.exchange-c37.ensures.first p within,
-      c.exchange-c37.ensures.second p within,
-      c.exchange-b02.ensures.first p within,
-      c.exchange-b02.ensures.second p within,
-      c.exchange-b13.ensures.first p within,
-      c.exchange-b13.ensures.second p within,
-      c.exchange-b46.ensures.first p within,
-      c.exchange-b46.ensures.second p within,
-      c.exchange-b57.ensures.first p within,
-      c.exchange-b57.ensures.second p within,
-      c.exchange-a01.ensures.first p within,
-      c.exchange-a01.ensures.second p within,
-      c.exchange-a23.ensures.first p within,
-      c.exchange-a23.ensures.second p within,
-      c.exchange-a45.ensures.first p within,
-      c.exchange-a45.ensures.second p within,
-      c.exchange-a67.ensures.first p within,
-      c.exchange-a67.ensures.second p within,
-    )
-    (square_transposed (slice_index c.args.x.b0 p) (slice_index c.args.x.b1 p) (slice_index c.args.x.b2 p) (slice_index c.args.x.b3 p)
-    (slice_index c.args.x.b4 p) (slice_index c.args.x.b5 p) (slice_index c.args.x.b6 p) (slice_index c.args.x.b7 p))) i below
+    (square_transposed (slice_index x.b0 p) (slice_index x.b1 p) (slice_index x.b2 p) (slice_index x.b3 p)
+    (slice_index x.b4 p) (slice_index x.b5 p) (slice_index x.b6 p) (slice_index x.b7 p))
