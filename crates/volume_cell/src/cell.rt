@@ -132,6 +132,8 @@ impl<M: Machine> Cell<M> {
         for _ in rt.forever() {
             let word = shared.load::<Learn>(pass, ENTRIES);
             if word == self.limit * 2 {
+                // Nobody gives the machine back any more, so the next one that sleeps is woken here.
+                self.wake();
                 return false;
             }
             if word % 2 == 0 && word / 2 < self.limit {
