@@ -10,7 +10,7 @@ use Rattle.json_members.specs.declared.faults.JsonFaultKind.TheVariants.{Kind, N
 use Rattle.json_members.specs.Decimals.{number_of}
 use Rattle.json_members.specs.Fields.{◌>>=◌, required, under}
 use Rattle.json_members.specs.Members.{IsPlain, IsPlainData}
-use Rattle.json_members.specs.Entries.{numbered_from, numbered_in, each_of, entry_at, objects_in, IsRising}
+use Rattle.json_members.specs.Entries.{numbered_from, numbered_in, each_of, entry_at, objects_in, IsRising, AreEntries}
 use Rattle.json_members.proofs.DecimalLemmas.{number_of-exact}
 use Rattle.json_members.proofs.OrderLemmas.{Compares, below, equal, above, compared, less, same, more}
 use Rattle.json_members.proofs.PlainLemmas.{first as first_plain, later as later_plain}
@@ -62,10 +62,6 @@ numbered_right {deep} path found (member k d ms) are plain =
       plain = insert_values (IsPlainData deep) found n d (first_plain k d ms plain) are.plain;
     }) (later_plain k d ms plain))
 
-pub record AreEntries {X : Type 0} (P : X → Type 0) (es : List (ℕ × X)) : Type 0 where
-  pub rising : IsRising es
-  pub right : AllByRecursion (λ e. P e.1) es
-
 module _ {X : Type 0} (deep : ℕ) (of : List ℕ → Members → Result X JsonFault) (P : X → Type 0) (right : (path : List ℕ) (ms : Members) → IsPlain deep ms → Right P (of path ms)) where
   inner : (d : Data) (ms : Members) → as_object d ≡ Some ms → IsPlainData (suc deep) d → IsPlain deep ms
   inner null ms e plain = cc
@@ -91,12 +87,12 @@ module _ {X : Type 0} (deep : ℕ) (of : List ℕ → Members → Result X JsonF
   each_right : (path : List ℕ) (es : List (ℕ × Data)) → IsRising es → AllByRecursion (λ e. IsPlainData (suc deep) e.1) es
       → Right (λ xs. AreEntries P xs × ((a : ℕ) → AllByRecursion (λ f. a < f.0) es → AllByRecursion (λ f. a < f.0) xs)) (each_of of path es)
   unfolding each_of
-  each_right path [] rising plain = (record { rising = tt; right = tt }, λ a all. tt)
+  each_right path [] rising plain = (record { rising = tt; each = tt }, λ a all. tt)
   each_right path (e ∷ es) rising plain =
       then (entry_at of path e) _ _ (λ x is.
       then (each_of of path es) _ _ (λ xs are.
       let rest = right_at _ xs (λ ys. AreEntries P ys × ((a : ℕ) → AllByRecursion (λ f. a < f.0) es → AllByRecursion (λ f. a < f.0) ys)) are (each_right path es rising.2 plain.1) in (
-        record { rising = (rising.0, rest.1 e.0 rising.1, rest.0.rising); right = (right_at _ x P is (object_right path e plain.0), rest.0.right) },
+        record { rising = (rising.0, rest.1 e.0 rising.1, rest.0.rising); each = (right_at _ x P is (object_right path e plain.0), rest.0.each) },
         λ a all. (all.0, rest.1 a all.1),
       )))
 

@@ -1,5 +1,5 @@
 -- What each kind of member is read as, both ways.
-use Rattle.std.proofs.Common.{◌≡◌, ℕ, ◌+◌, ◌^◌, ◌<◌, List, [], ◌∷◌, map, decimal, bytes_eq, true, Option, Some, None, Result, Ok, Err, refl, sym, ap, subst, ◌∙◌}
+use Rattle.std.proofs.Common.{◌≡◌, ℕ, ◌+◌, ◌^◌, ◌<◌, List, [], ◌∷◌, map, decimal, bytes_eq, true, option_map, Option, Some, None, Result, Ok, Err, refl, sym, ap, subst, ◌∙◌}
 use Rattle.std.proofs.lemmas.Slice.Eq.{bytes_eq-Decides}
 use Rattle.std.specs.List.{AllByRecursion}
 use Rattle.base64.specs.GeneralPurpose.{encode_of, IsBytes}
@@ -12,10 +12,10 @@ use Rattle.json_members.specs.declared.faults.JsonFaultKind.{JsonFaultKind}
 use Rattle.json_members.specs.declared.faults.JsonFaultKind.TheVariants.{Missing, Kind, Number, Base64, Unsupported}
 use Rattle.json_members.specs.Decimals.{number_of}
 use Rattle.json_members.specs.Fields.{◌>>=◌, required, under, meant_in, counted_in, word_in, one_word, text_in, number_in, decimal_in, bytes_in, bytes_of, object_in, items_in, texts_in, decimals_in, each_item, text_item, decimal_item, texts_data, decimals_data, optional, optional_at, absent, absent_at}
-use Rattle.json_members.specs.Forms.{HasOptional}
+use Rattle.json_members.specs.Forms.{HasText, HasNumber, HasDecimal, HasBytes, HasObject, HasTexts, HasDecimals, HasOptional}
 use Rattle.json_members.proofs.BytesLemmas.{bytes_of-encode_of, bytes_of-exact}
 use Rattle.json_members.proofs.DecimalLemmas.{number_of-decimal, number_of-exact, chosen_from}
-use Rattle.json_members.proofs.ReadLemmas.{Right, then, right_at, required-Some, needed, read_on}
+use Rattle.json_members.proofs.ReadLemmas.{Right, then, right_at, required-Some, needed, read_on, each_right}
 
 -- ---- from members to values
 pub text_in-string : (path name : List ℕ) (ms : Members) (s : List ℕ) → get_member name ms ≡ Some (string s) → text_in path name ms ≡ Ok s
@@ -134,14 +134,14 @@ pub meant_read : {X : Type 0} (what : JsonFaultKind) (meaning : List ℕ → Opt
 unfolding meant_in
 meant_read {X} what meaning path name ms = then (text_in path name ms) _ _ (λ text e.
     required-Some what path name (meaning text) (λ x. (s : List ℕ) × (get_member name ms ≡ Some (string s)) × (meaning s ≡ Some x)) (λ x is.
-      (text, right_at _ text (λ s. get_member name ms ≡ Some (string s)) e (text_read path name ms), is)))
+    (text, right_at _ text (λ s. get_member name ms ≡ Some (string s)) e (text_read path name ms), is)))
 
 pub word_read : (word path name : List ℕ) (ms : Members) → Right (λ u. get_member name ms ≡ Some (string word)) (word_in word path name ms)
 unfolding word_in
 word_read word path name ms = then (text_in path name ms) _ _ (λ text e.
     required-Some Unsupported path name (one_word word text) (λ u. get_member name ms ≡ Some (string word)) (λ u is.
-      let same : text ≡ word = (bytes_eq-Decides text word).0 (chosen_from (bytes_eq text word) tt u is).0 in
-      right_at _ text (λ s. get_member name ms ≡ Some (string s)) e (text_read path name ms) ∙ ap (λ s. Some (string s)) same))
+    let same : text ≡ word = (bytes_eq-Decides text word).0 (chosen_from (bytes_eq text word) tt u is).0 in
+    right_at _ text (λ s. get_member name ms ≡ Some (string s)) e (text_read path name ms) ∙ ap (λ s. Some (string s)) same))
 
 pub number_read : (path name : List ℕ) (ms : Members) → Right (λ n. get_member name ms ≡ Some (number (unsigned n))) (number_in path name ms)
 unfolding number_in
@@ -149,28 +149,28 @@ number_read path name ms =
     then (required Missing path name (get_member name ms)) _ _ (λ d e.
     then (required Kind path name (as_number d)) _ _ (λ m f.
     required-Some Number path name (as_u64 m) (λ n. get_member name ms ≡ Some (number (unsigned n))) (λ n is.
-      needed Missing path name (get_member name ms) d e ∙ ap Some (as_number-number d m (needed Kind path name (as_number d) m f) ∙ ap number (as_u64-unsigned m n is)))))
+    needed Missing path name (get_member name ms) d e ∙ ap Some (as_number-number d m (needed Kind path name (as_number d) m f) ∙ ap number (as_u64-unsigned m n is)))))
 
 pub counted_read : {X : Type 0} (meaning : ℕ → Option X) (path name : List ℕ) (ms : Members)
     → Right (λ x. (n : ℕ) × (get_member name ms ≡ Some (number (unsigned n))) × (meaning n ≡ Some x)) (counted_in meaning path name ms)
 unfolding counted_in
 counted_read meaning path name ms = then (number_in path name ms) _ _ (λ n e.
     required-Some Number path name (meaning n) (λ x. (m : ℕ) × (get_member name ms ≡ Some (number (unsigned m))) × (meaning m ≡ Some x)) (λ x is.
-      (n, right_at _ n (λ m. get_member name ms ≡ Some (number (unsigned m))) e (number_read path name ms), is)))
+    (n, right_at _ n (λ m. get_member name ms ≡ Some (number (unsigned m))) e (number_read path name ms), is)))
 
 pub decimal_read : (path name : List ℕ) (ms : Members) → Right (λ n. (get_member name ms ≡ Some (string (decimal n))) × (n < 2 ^ 64)) (decimal_in path name ms)
 unfolding decimal_in
 decimal_read path name ms = then (text_in path name ms) _ _ (λ text e.
     required-Some Number path name (number_of text) (λ n. (get_member name ms ≡ Some (string (decimal n))) × (n < 2 ^ 64)) (λ n is.
-      let exact = number_of-exact text n is in
-      (right_at _ text (λ s. get_member name ms ≡ Some (string s)) e (text_read path name ms) ∙ ap (λ s. Some (string s)) exact.1, exact.0)))
+    let exact = number_of-exact text n is in
+    (right_at _ text (λ s. get_member name ms ≡ Some (string s)) e (text_read path name ms) ∙ ap (λ s. Some (string s)) exact.1, exact.0)))
 
 pub bytes_read : (path name : List ℕ) (ms : Members) → Right (λ bs. (get_member name ms ≡ Some (string (encode_of standard bs))) × IsBytes bs) (bytes_in path name ms)
 unfolding bytes_in
 bytes_read path name ms = then (text_in path name ms) _ _ (λ text e.
     required-Some Base64 path name (bytes_of text) (λ bs. (get_member name ms ≡ Some (string (encode_of standard bs))) × IsBytes bs) (λ bs is.
-      let exact = bytes_of-exact text bs is in
-      (right_at _ text (λ s. get_member name ms ≡ Some (string s)) e (text_read path name ms) ∙ ap (λ s. Some (string s)) exact.0, exact.1)))
+    let exact = bytes_of-exact text bs is in
+    (right_at _ text (λ s. get_member name ms ≡ Some (string s)) e (text_read path name ms) ∙ ap (λ s. Some (string s)) exact.0, exact.1)))
 
 pub object_read : (path name : List ℕ) (ms : Members) → Right (λ ns. get_member name ms ≡ Some (object ns)) (object_in path name ms)
 unfolding object_in
@@ -201,21 +201,21 @@ decimal_item-read : (path : List ℕ) (i : ℕ) (d : Data) → Right (λ n. (d �
 unfolding decimal_item
 decimal_item-read path i d = then (text_item path i d) _ _ (λ text e.
     required-Some Number path (decimal i) (number_of text) (λ n. (d ≡ string (decimal n)) × (n < 2 ^ 64)) (λ n is.
-      let exact = number_of-exact text n is in
-      ((right_at _ text (λ s. (d ≡ string s) × Unit {0}) e (text_item-read path i d)).0 ∙ ap string exact.1, exact.0)))
+    let exact = number_of-exact text n is in
+    ((right_at _ text (λ s. (d ≡ string s) × Unit {0}) e (text_item-read path i d)).0 ∙ ap string exact.1, exact.0)))
 
 pub texts_read : (path name : List ℕ) (ms : Members) → Right (λ ss. get_member name ms ≡ Some (array (texts_data ss))) (texts_in path name ms)
 unfolding texts_in
 texts_read path name ms = then (items_in path name ms) _ _ (λ ds e.
     read_on {P = λ ss. (ds ≡ items_of (map string ss)) × AllByRecursion (λ s. Unit {0}) ss} {Q = λ ss. get_member name ms ≡ Some (array (texts_data ss))} _
-      (each_item-read text_item string (λ s. Unit {0}) text_item-read (under path name) 0 ds) (λ ss is. right_at _ ds (λ es. get_member name ms ≡ Some (array es)) e (items_read path name ms) ∙ ap (λ es. Some (array es)) is.0))
+    (each_item-read text_item string (λ s. Unit {0}) text_item-read (under path name) 0 ds) (λ ss is. right_at _ ds (λ es. get_member name ms ≡ Some (array es)) e (items_read path name ms) ∙ ap (λ es. Some (array es)) is.0))
 
 pub decimals_read : (path name : List ℕ) (ms : Members) → Right (λ ns. (get_member name ms ≡ Some (array (decimals_data ns))) × AllByRecursion (λ n. n < 2 ^ 64) ns) (decimals_in path name ms)
 unfolding decimals_in
 decimals_read path name ms = then (items_in path name ms) _ _ (λ ds e.
     read_on {P = λ ns. (ds ≡ items_of (map (λ n. string (decimal n)) ns)) × AllByRecursion (λ n. n < 2 ^ 64) ns}
-      {Q = λ ns. (get_member name ms ≡ Some (array (decimals_data ns))) × AllByRecursion (λ n. n < 2 ^ 64) ns} _ (each_item-read decimal_item (λ n. string (decimal n)) (λ n. n < 2 ^ 64) decimal_item-read (under path name) 0 ds)
-      (λ ns is. (right_at _ ds (λ es. get_member name ms ≡ Some (array es)) e (items_read path name ms) ∙ ap (λ es. Some (array es)) is.0, is.1)))
+    {Q = λ ns. (get_member name ms ≡ Some (array (decimals_data ns))) × AllByRecursion (λ n. n < 2 ^ 64) ns} _ (each_item-read decimal_item (λ n. string (decimal n)) (λ n. n < 2 ^ 64) decimal_item-read (under path name) 0 ds)
+    (λ ns is. (right_at _ ds (λ es. get_member name ms ≡ Some (array es)) e (items_read path name ms) ∙ ap (λ es. Some (array es)) is.0, is.1)))
 
 -- ---- members that need not be there
 optional_read_at : {X : Type 0} (name : List ℕ) (ms : Members) (o : Option Data) (read : Result X JsonFault) (Form : X → Type 0) → get_member name ms ≡ o → Right Form read → Right (λ x. HasOptional name Form x ms) (optional_at o read)
@@ -232,3 +232,51 @@ absent_there (Some d) what path name u e = cc
 
 pub absent_read : (what : JsonFaultKind) (path name : List ℕ) (ms : Members) (u : Unit {0}) → absent what path name ms ≡ Ok u → get_member name ms ≡ None
 absent_read what path name ms u e = absent_there (get_member name ms) what path name u e
+
+-- ---- the same, of a value that was read
+pub text_got : (path name : List ℕ) (ms : Members) (s : List ℕ) → text_in path name ms ≡ Ok s → HasText name s ms
+text_got path name ms s e = right_at _ s (λ x. HasText name x ms) e (text_read path name ms)
+
+pub number_got : (path name : List ℕ) (ms : Members) (n : ℕ) → number_in path name ms ≡ Ok n → HasNumber name n ms
+number_got path name ms n e = right_at _ n (λ x. HasNumber name x ms) e (number_read path name ms)
+
+pub decimal_got : (path name : List ℕ) (ms : Members) (n : ℕ) → decimal_in path name ms ≡ Ok n → HasDecimal name n ms
+decimal_got path name ms n e = right_at _ n (λ x. HasDecimal name x ms) e (decimal_read path name ms)
+
+pub bytes_got : (path name : List ℕ) (ms : Members) (bs : List ℕ) → bytes_in path name ms ≡ Ok bs → HasBytes name bs ms
+bytes_got path name ms bs e = right_at _ bs (λ x. HasBytes name x ms) e (bytes_read path name ms)
+
+pub object_got : (path name : List ℕ) (ms inner : Members) → object_in path name ms ≡ Ok inner → HasObject name inner ms
+object_got path name ms inner e = right_at _ inner (λ x. HasObject name x ms) e (object_read path name ms)
+
+pub texts_got : (path name : List ℕ) (ms : Members) (ss : List (List ℕ)) → texts_in path name ms ≡ Ok ss → HasTexts name ss ms
+texts_got path name ms ss e = right_at _ ss (λ x. HasTexts name x ms) e (texts_read path name ms)
+
+pub decimals_got : (path name : List ℕ) (ms : Members) (ns : List ℕ) → decimals_in path name ms ≡ Ok ns → HasDecimals name ns ms
+decimals_got path name ms ns e = right_at _ ns (λ x. HasDecimals name x ms) e (decimals_read path name ms)
+
+pub word_got : (word path name : List ℕ) (ms : Members) (u : Unit {0}) → word_in word path name ms ≡ Ok u → HasText name word ms
+word_got word path name ms u e = right_at _ u (λ x. HasText name word ms) e (word_read word path name ms)
+
+pub counted_got : {X : Type 0} (meaning : ℕ → Option X) (path name : List ℕ) (ms : Members) (x : X) → counted_in meaning path name ms ≡ Ok x → (n : ℕ) × HasNumber name n ms × (meaning n ≡ Some x)
+counted_got meaning path name ms x e = right_at _ x (λ y. (n : ℕ) × HasNumber name n ms × (meaning n ≡ Some y)) e (counted_read meaning path name ms)
+
+pub meant_got : {X : Type 0} (what : JsonFaultKind) (meaning : List ℕ → Option X) (path name : List ℕ) (ms : Members) (x : X) → meant_in what meaning path name ms ≡ Ok x
+    → (text : List ℕ) × HasText name text ms × (meaning text ≡ Some x)
+meant_got what meaning path name ms x e = right_at _ x (λ y. (text : List ℕ) × HasText name text ms × (meaning text ≡ Some y)) e (meant_read what meaning path name ms)
+
+-- a text whose meaning has one name
+pub meant_named : {X : Type 0} (what : JsonFaultKind) (meaning : List ℕ → Option X) (name_of : X → List ℕ) → ((text : List ℕ) (x : X) → meaning text ≡ Some x → text ≡ name_of x)
+    → (path name : List ℕ) (ms : Members) (x : X) → meant_in what meaning path name ms ≡ Ok x → HasText name (name_of x) ms
+meant_named what meaning name_of exact path name ms x e =
+    let got = meant_got what meaning path name ms x e in
+    got.1 ∙ ap (λ s. Some (string s)) (exact got.0 x got.2)
+
+pub optional_got : {X : Type 0} (name : List ℕ) (ms : Members) (read : Result X JsonFault) (Form : X → Type 0) (o : Option X) → ((x : X) → read ≡ Ok x → Form x) → optional name ms read ≡ Ok o → HasOptional name Form o ms
+optional_got name ms read Form o h e = right_at _ o (λ x. HasOptional name Form x ms) e (optional_read name ms read Form (each_right read Form h))
+
+-- ---- a member that need not be there, from what stands at its name
+pub has_optional : {X : Type 0} (name : List ℕ) (ms : Members) (shape : X → Data) (Form : X → Type 0) (o : Option X) → get_member name ms ≡ option_map shape o
+    → ((x : X) → o ≡ Some x → get_member name ms ≡ Some (shape x) → Form x) → HasOptional name Form o ms
+has_optional name ms shape Form None h k = h
+has_optional name ms shape Form (Some x) h k = k x refl h

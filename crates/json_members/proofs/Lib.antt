@@ -1,4 +1,5 @@
 pub mod BytesLemmas
+pub mod DataLemmas
 pub mod DecimalLemmas
 pub mod EntryLemmas
 pub mod FieldLemmas

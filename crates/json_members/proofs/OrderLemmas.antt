@@ -75,7 +75,7 @@ put_step path found n d l e ms (Some m) is other later =
 put_at : (o : Ordering) (path : List ℕ) (found : List (ℕ × Data)) (n : ℕ) (d : Data) (l : List ℕ) (e : Data) (ms : Members) → slice_cmp nat_cmp (decimal n) l ≡ o → n < 2 ^ 64 → (decimal n ≡ l → ⊥)
     → ((es : List (ℕ × Data)) → numbered_from path es (put (decimal n) d ms) ≡ numbered_from path (insert_entry nat_cmp es n d) ms)
     → numbered_from path found (match_ordering o (member (decimal n) d (member l e ms)) (member l d ms) (member l e (put (decimal n) d ms)))
-      ≡ numbered_from path (insert_entry nat_cmp found n d) (member l e ms)
+    ≡ numbered_from path (insert_entry nat_cmp found n d) (member l e ms)
 unfolding numbered_from
 put_at Less path found n d l e ms is small other later = rw (number_of-decimal n small) refl
 put_at Equal path found n d l e ms is small other later = absurd (other (exact_bytes (decimal n) l is))
@@ -102,9 +102,10 @@ module _ {X : Type 0} (members : X → Members) where
 
   still_fresh : (n : ℕ) (d : Data) (ms : Members) (es : List (ℕ × X)) → n < 2 ^ 64 → IsRising es → AllByRecursion (λ f. n < f.0) es → IsFresh ms es → IsFresh (put (decimal n) d ms) es
   still_fresh n d ms [] small rising all fresh = tt
-  still_fresh n d ms (e ∷ es) small rising all fresh =
-      (get_member-put_other (decimal e.0) (decimal n) d ms (λ (h : decimal e.0 ≡ decimal n). let k : e.0 ≡ n = decimal_injective e.0 n rising.0 small h in omega arith) ∙ fresh.0,
-      still_fresh n d ms es small rising.2 all.1 fresh.1)
+  still_fresh n d ms (e ∷ es) small rising all fresh = (
+    get_member-put_other (decimal e.0) (decimal n) d ms (λ (h : decimal e.0 ≡ decimal n). let k : e.0 ≡ n = decimal_injective e.0 n rising.0 small h in omega arith) ∙ fresh.0,
+    still_fresh n d ms es small rising.2 all.1 fresh.1,
+  )
 
   numbered_from-onto : (path : List ℕ) (found : List (ℕ × Data)) (es : List (ℕ × X)) (ms : Members) → IsRising es → IsFresh ms es
       → numbered_from path found (objects_onto members es ms) ≡ numbered_from path (spread es found) ms

@@ -28,3 +28,8 @@ needed what path name (Some a) x h = cc
 pub read_on : {A : Type 0} {P Q : A → Type 0} (r : Result A JsonFault) → Right P r → ((x : A) → P x → Q x) → Right Q r
 read_on (Ok x) h k = k x h
 read_on (Err e) h k = tt
+
+-- what holds of each value that is read
+pub each_right : {A : Type 0} (r : Result A JsonFault) (P : A → Type 0) → ((x : A) → r ≡ Ok x → P x) → Right P r
+each_right (Ok x) P h = h x refl
+each_right (Err e) P h = tt

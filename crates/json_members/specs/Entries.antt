@@ -58,3 +58,8 @@ objects_members members es = objects_onto members es no_members
 abbrev pub IsRising : {X : Type 0} → List (ℕ × X) → Type 0
 IsRising [] = Unit {0}
 IsRising (e ∷ es) = (e.0 < 2 ^ 64) × AllByRecursion (λ f. e.0 < f.0) es × IsRising es
+
+-- entries by rising number, each of which is right
+pub record AreEntries {X : Type 0} (Is : X → Type 0) (entries : List (ℕ × X)) : Type 0 where
+  pub rising : IsRising entries
+  pub each : AllByRecursion (λ e. Is e.1) entries

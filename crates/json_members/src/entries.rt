@@ -25,7 +25,12 @@ pub trait Entry: Drop {
     ghost members: { Self → Members };
 
     /// Reads the members of an object at a path.
-    fn read(alloc: Global, terms: &Self::Terms, path: &str, object: Object) -> Result<Self, ReadError>
+    fn read(
+        alloc: Global,
+        terms: &Self::Terms,
+        path: &str,
+        object: Object,
+    ) -> Result<Self, ReadError>
         ensures { Gives (λ x. x) result (of terms.now path.now object) };
 
     /// The object to write.
@@ -105,7 +110,11 @@ pub fn write_entries<E: Entry>(alloc: Global, entries: &[(u64, E)]) -> Result<Ob
     Ok(object)
 }
 
-fn write_entry<E: Entry>(alloc: Global, object: &mut Object, entry: &(u64, E)) -> Result<(), AllocError>
+fn write_entry<E: Entry>(
+    alloc: Global,
+    object: &mut Object,
+    entry: &(u64, E),
+) -> Result<(), AllocError>
     ensures { OnOk result (object.new ≡ with_member (decimal entry.now.0) (object_data (E.members entry.now.1)) object.old) }
 {
     let members = entry.1.write(alloc)?;
@@ -114,7 +123,10 @@ fn write_entry<E: Entry>(alloc: Global, object: &mut Object, entry: &(u64, E)) -
 }
 
 /// The same entries again.
-pub fn copy_entries<E: Entry>(alloc: Global, entries: &[(u64, E)]) -> Result<Listed<(u64, E)>, AllocError>
+pub fn copy_entries<E: Entry>(
+    alloc: Global,
+    entries: &[(u64, E)],
+) -> Result<Listed<(u64, E)>, AllocError>
     ensures { IfOk result (λ l. l ≡ entries.now) }
 {
     let mut copies = Vec::new(alloc);

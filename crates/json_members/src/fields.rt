@@ -1,6 +1,8 @@
 ghost use Rattle.std.specs.Prelude.{◌≡◌, IfOk, option_map, decimal};
+ghost use Rattle.serde_json.specs.Find.{get_member};
 ghost use Rattle.serde_json.specs.View.{view, items_view};
-ghost use Rattle.json_members.specs.Fields.{Gives, IsFaultAt, items_in, text_in, word_in, number_in, decimal_in, object_in, texts_in, decimals_in, each_item, text_item, decimal_item, bytes_in, bytes_of};
+ghost use Rattle.json_members.specs.declared.faults.JsonFaultKind.TheVariants.{Missing};
+ghost use Rattle.json_members.specs.Fields.{Gives, required, IsFaultAt, items_in, text_in, word_in, number_in, decimal_in, object_in, texts_in, decimals_in, each_item, text_item, decimal_item, bytes_in, bytes_of};
 
 use crate::decimal::{decimal_number, decimal_text};
 use crate::faults::{JsonFaultKind, ReadError, fault_at, path_of};
@@ -13,6 +15,21 @@ use base64::engine::general_purpose::STANDARD;
 use serde_json::Value;
 use std::alloc::{AllocError, Global};
 
+/// The member of a name: `Missing` where there is none.
+fn member_at<'a>(
+    alloc: Global,
+    path: &str,
+    object: &'a Object,
+    name: &str,
+) -> Result<&'a Value, ReadError>
+    ensures { Gives (λ v. view v.now) result (required Missing path.now name.now (get_member name.now object.now)) }
+{
+    let Some(value) = object.get(name) else {
+        return Err(fault_at(alloc, JsonFaultKind::Missing, path, name));
+    };
+    Ok(value)
+}
+
 /// The text of the member of a name: `Missing` where there is none, `Kind` where it is no text.
 #[tactic(auto, unfolding(crate::specs::Fields::text_in))]
 pub fn text_at<'a>(
@@ -23,9 +40,7 @@ pub fn text_at<'a>(
 ) -> Result<&'a str, ReadError>
     ensures { Gives (λ text. text.now) result (text_in path.now name.now object.now) }
 {
-    let Some(value) = object.get(name) else {
-        return Err(fault_at(alloc, JsonFaultKind::Missing, path, name));
-    };
+    let value = member_at(alloc, path, object, name)?;
     let Some(text) = value.as_str() else {
         return Err(fault_at(alloc, JsonFaultKind::Kind, path, name));
     };
@@ -67,17 +82,10 @@ pub fn word_at(
 /// The number of the member of a name, from 0 up within 64 bits: `Missing` where there is none,
 /// `Kind` where it is no number, `Number` where it is another number.
 #[tactic(auto, unfolding(crate::specs::Fields::number_in))]
-pub fn number_at(
-    alloc: Global,
-    path: &str,
-    object: &Object,
-    name: &str,
-) -> Result<u64, ReadError>
+pub fn number_at(alloc: Global, path: &str, object: &Object, name: &str) -> Result<u64, ReadError>
     ensures { Gives (λ n. n) result (number_in path.now name.now object.now) }
 {
-    let Some(value) = object.get(name) else {
-        return Err(fault_at(alloc, JsonFaultKind::Missing, path, name));
-    };
+    let value = member_at(alloc, path, object, name)?;
     let Some(number) = value.as_number() else {
         return Err(fault_at(alloc, JsonFaultKind::Kind, path, name));
     };
@@ -90,12 +98,7 @@ pub fn number_at(
 /// The number whose decimal digits are the text of a member: as `text_at`, and `Number` where the
 /// text is another one than the digits of a number within 64 bits.
 #[tactic(auto, unfolding(crate::specs::Fields::decimal_in))]
-pub fn decimal_at(
-    alloc: Global,
-    path: &str,
-    object: &Object,
-    name: &str,
-) -> Result<u64, ReadError>
+pub fn decimal_at(alloc: Global, path: &str, object: &Object, name: &str) -> Result<u64, ReadError>
     ensures { Gives (λ n. n) result (decimal_in path.now name.now object.now) }
 {
     let text = text_at(alloc, path, object, name)?;
@@ -131,12 +134,15 @@ pub fn bytes_at(alloc: Global, path: &str, object: &Object, name: &str) -> Resul
 
 /// The object of a member, copied: `Missing` where there is none, `Kind` where it is no object.
 #[tactic(auto, unfolding(crate::specs::Fields::object_in))]
-pub fn object_at(alloc: Global, path: &str, object: &Object, name: &str) -> Result<Object, ReadError>
+pub fn object_at(
+    alloc: Global,
+    path: &str,
+    object: &Object,
+    name: &str,
+) -> Result<Object, ReadError>
     ensures { Gives (λ o. o) result (object_in path.now name.now object.now) }
 {
-    let Some(value) = object.get(name) else {
-        return Err(fault_at(alloc, JsonFaultKind::Missing, path, name));
-    };
+    let value = member_at(alloc, path, object, name)?;
     let Some(map) = value.as_object() else {
         return Err(fault_at(alloc, JsonFaultKind::Kind, path, name));
     };
@@ -211,9 +217,7 @@ fn items_at<'a>(
 ) -> Result<&'a [Value], ReadError>
     ensures { Gives (λ v. items_view v.now) result (items_in path.now name.now object.now) }
 {
-    let Some(value) = object.get(name) else {
-        return Err(fault_at(alloc, JsonFaultKind::Missing, path, name));
-    };
+    let value = member_at(alloc, path, object, name)?;
     let Some(values) = value.as_array() else {
         return Err(fault_at(alloc, JsonFaultKind::Kind, path, name));
     };

@@ -66,7 +66,11 @@ fn float_path(alloc: Global, path: &str, value: &Value) -> Result<Option<String>
 
 #[cycle(float_path)]
 #[tactic(auto, unfolding(crate::specs::Floats::float_in, crate::specs::Floats::float_in_items, crate::specs::Floats::float_in_members))]
-fn float_path_in_items(alloc: Global, path: &str, items: &Vec<Value>) -> Result<Option<String>, AllocError>
+fn float_path_in_items(
+    alloc: Global,
+    path: &str,
+    items: &Vec<Value>,
+) -> Result<Option<String>, AllocError>
     ensures { IfOk result (λ o. option_map string_bytes o ≡ float_in_items path.now 0 (items_view items.now.items)) }
 {
     for i in 0..items.len() {
@@ -81,7 +85,11 @@ fn float_path_in_items(alloc: Global, path: &str, items: &Vec<Value>) -> Result<
 
 #[cycle(float_path)]
 #[tactic(auto, unfolding(crate::specs::Floats::float_in, crate::specs::Floats::float_in_items, crate::specs::Floats::float_in_members))]
-fn float_path_in_members(alloc: Global, path: &str, members: &Map<String, Value>) -> Result<Option<String>, AllocError>
+fn float_path_in_members(
+    alloc: Global,
+    path: &str,
+    members: &Map<String, Value>,
+) -> Result<Option<String>, AllocError>
     ensures { IfOk result (λ o. option_map string_bytes o ≡ float_in_members path.now (members_view members.now.entries)) }
 {
     for (key, member) in members.iter() {

@@ -86,7 +86,10 @@ impl Object {
 }
 
 /// The members of a map again.
-pub fn copy_members(alloc: Global, members: &Map<String, Value>) -> Result<Map<String, Value>, AllocError>
+pub fn copy_members(
+    alloc: Global,
+    members: &Map<String, Value>,
+) -> Result<Map<String, Value>, AllocError>
     ensures { IfOk result (λ m. members_view m.entries ≡ members_view members.now.entries) }
 {
     let mut copies = Map::new(alloc);

@@ -13,7 +13,12 @@ use serde_json::Value;
 use std::alloc::{AllocError, Global};
 
 /// Sets a member to a text.
-pub fn put_text(alloc: Global, object: &mut Object, name: &str, text: &str) -> Result<(), AllocError>
+pub fn put_text(
+    alloc: Global,
+    object: &mut Object,
+    name: &str,
+    text: &str,
+) -> Result<(), AllocError>
     ensures { OnOk result (object.new ≡ with_member name.now (string text.now) object.old) }
 {
     let value = Value::String(String::from_str(alloc, text)?);
@@ -36,7 +41,12 @@ pub fn put_number(alloc: Global, object: &mut Object, name: &str, n: u64) -> Res
 }
 
 /// Sets a member to bytes in standard base64.
-pub fn put_bytes(alloc: Global, object: &mut Object, name: &str, bytes: &[u8]) -> Result<(), AllocError>
+pub fn put_bytes(
+    alloc: Global,
+    object: &mut Object,
+    name: &str,
+    bytes: &[u8],
+) -> Result<(), AllocError>
     ensures { OnOk result (object.new ≡ with_member name.now (string (encode_of standard bytes.now)) object.old) }
 {
     let value = Value::String(STANDARD.encode(alloc, bytes)?);
@@ -44,7 +54,12 @@ pub fn put_bytes(alloc: Global, object: &mut Object, name: &str, bytes: &[u8]) -
 }
 
 /// Sets a member to an object.
-pub fn put_object(alloc: Global, object: &mut Object, name: &str, inner: Object) -> Result<(), AllocError>
+pub fn put_object(
+    alloc: Global,
+    object: &mut Object,
+    name: &str,
+    inner: Object,
+) -> Result<(), AllocError>
     ensures { OnOk result (object.new ≡ with_member name.now (object_data inner) object.old) }
 {
     object.put(alloc, name, Value::Object(inner.into_map()))
@@ -61,7 +76,12 @@ fn values_of(alloc: Global, texts: &[Text]) -> Result<Vec<Value>, AllocError>
 }
 
 /// Sets a member to a list of texts.
-pub fn put_texts(alloc: Global, object: &mut Object, name: &str, texts: &[Text]) -> Result<(), AllocError>
+pub fn put_texts(
+    alloc: Global,
+    object: &mut Object,
+    name: &str,
+    texts: &[Text],
+) -> Result<(), AllocError>
     ensures { OnOk result (object.new ≡ with_member name.now (array (texts_data texts.now)) object.old) }
 {
     let value = Value::Array(values_of(alloc, texts)?);
@@ -79,7 +99,12 @@ fn decimal_values(alloc: Global, numbers: &[u64]) -> Result<Vec<Value>, AllocErr
 }
 
 /// Sets a member to a list of the decimal texts of numbers.
-pub fn put_decimals(alloc: Global, object: &mut Object, name: &str, numbers: &[u64]) -> Result<(), AllocError>
+pub fn put_decimals(
+    alloc: Global,
+    object: &mut Object,
+    name: &str,
+    numbers: &[u64],
+) -> Result<(), AllocError>
     ensures { OnOk result (object.new ≡ with_member name.now (array (decimals_data numbers.now)) object.old) }
 {
     let value = Value::Array(decimal_values(alloc, numbers)?);

@@ -16,6 +16,6 @@ returns-then-eq c =
 pub returns-else-eq : goal.returns-else-eq
 returns-else-eq c =
     sym (number_of-apart c.args.text.now c.parse.result c.parse.ensures.value.0 (λ n is e.
-        let same : c.format.result.now ≡ c.args.text.now = cc in
-        let no : bytes_eq c.format.result.now c.args.text.now ≡ true = (bytes_eq-Decides _ _).1 same in
-        cc))
+    let same : c.format.result.now ≡ c.args.text.now = cc in
+    let no : bytes_eq c.format.result.now c.args.text.now ≡ true = (bytes_eq-Decides _ _).1 same in
+    cc))

@@ -17,5 +17,5 @@ loop-key-preserved c =
       tt,
       tt,
       ap (λ r. numbered_from path (viewed r) (members_view rest)) c.in_ok-insert.ensures.entries ∙ numbered_more path es k v rest n is
-      ∙ ap (λ r. numbered_from path (viewed es) (members_view r)) (sym c.in-Some.ensures.steps) ∙ c.loop-key.invariant.2,
+          ∙ ap (λ r. numbered_from path (viewed es) (members_view r)) (sym c.in-Some.ensures.steps) ∙ c.loop-key.invariant.2,
     )
