@@ -35,6 +35,8 @@ mod knowledge;
 mod machine;
 mod rule;
 mod spent;
+#[cfg(test)]
+mod tests;
 
 pub use cell::{Cell, Pass, Shared};
 pub use history::{Call, Entry};

@@ -1,0 +1,113 @@
+ghost use Rattle.std.specs.Prelude.{◌≡◌, ℕ, ◌+◌, ◌%◌, ◌^◌, length};
+ghost use Rattle.volume_cell.specs.Knowing.{IsWhole};
+ghost use Rattle.volume_cell.specs.Passes.{known, IsPassOf};
+ghost use denote.Param.Send.{IsSync};
+
+use crate::{Cell, Machine, Pass, Spent};
+use std::sync::Wait;
+use std::test::Fail;
+use std::thread::{Threads, join};
+
+/// Answers how often it acted before, and stands for every history of as many entries.
+#[derive(Debug, Drop, PartialEq, Eq)]
+struct Counter {
+    count: u64,
+}
+
+impl Machine for Counter {
+    type Event = ();
+
+    type Outcome = u64;
+
+    type Start = ();
+
+    ghost start = { λ machine. tt };
+
+    ghost stands_for = { λ machine history. machine.count ≡ length history % 2 ^ 64 };
+
+    ghost fits = { λ start name calls event. Unit {0} };
+
+    fn act<R: Threads + Wait + Sync>(&mut self, _rt: &R, _event: ()) -> u64 {
+        let before = self.count;
+        self.count = before.wrapping_add(1);
+        before
+    }
+}
+
+/// Asks so many times, and tells whether each time the answer was higher than the last.
+fn ask_often<R: Threads + Wait + Sync>(
+    rt: &R,
+    cell: &Cell<Counter>,
+    mut pass: Pass<Counter>,
+    turns: u32,
+) -> (Pass<Counter>, bool)
+    requires { IsPassOf cell.now.table.shared.table_id pass × IsWhole (known pass) }
+    ensures { IsPassOf cell.now.table.shared.table_id result.0 × IsWhole (known result.0) × ((known result.0).name ≡ (known pass).name) }
+{
+    let mut lowest = 0;
+    let mut rising = true;
+    for _ in 0..turns {
+        match cell.turn(rt, &mut pass, ()) {
+            Ok(count) => {
+                rising = rising && lowest <= count;
+                lowest = count.saturating_add(1);
+            }
+            Err(_) => rising = false,
+        }
+    }
+    (pass, rising)
+}
+
+/// The same in two threads, each with a pass of its own.
+fn ask_in_two<R: Threads + Wait + Sync>(
+    rt: &R,
+    cell: &Cell<Counter>,
+    mut pass: Pass<Counter>,
+    turns: u32,
+) -> (Pass<Counter>, bool)
+    requires { IsPassOf cell.now.table.shared.table_id pass × IsWhole (known pass) }
+    ensures { IsPassOf cell.now.table.shared.table_id result.0 × IsWhole (known result.0) × ((known result.0).name ≡ (known pass).name) }
+{
+    let left = cell.split(&mut pass);
+    let right = cell.split(&mut pass);
+    let (left, right) = join(
+        rt,
+        || -> (Pass<Counter>, bool)
+            requires { IsSync R.row × IsPassOf cell.now.table.shared.table_id left × IsWhole (known left) }
+            ensures { IsPassOf cell.entry.now.table.shared.table_id result.0 × IsWhole (known result.0) × ((known result.0).name ≡ (known left).name) }
+        { ask_often(rt, cell, left, turns) },
+        || -> (Pass<Counter>, bool)
+            requires { IsSync R.row × IsPassOf cell.now.table.shared.table_id right × IsWhole (known right) }
+            ensures { IsPassOf cell.entry.now.table.shared.table_id result.0 × IsWhole (known result.0) × ((known result.0).name ≡ (known right).name) }
+        { ask_often(rt, cell, right, turns) },
+    );
+    let rising = left.1 && right.1;
+    cell.join(&mut pass, left.0);
+    cell.join(&mut pass, right.0);
+    (pass, rising)
+}
+
+#[test]
+fn the_third_turn_of_two_is_spent_and_hands_its_event_back(rt: HostRuntime) -> Result<(), Fail> {
+    let Ok((cell, mut pass)) = Cell::new(rt.alloc(), Counter { count: 0 }, 2) else {
+        return Err(Fail::new("no memory"));
+    };
+    assert_eq!(rt; cell.turn(&rt, &mut pass, ()), Ok(0));
+    assert_eq!(rt; cell.turn(&rt, &mut pass, ()), Ok(1));
+    assert_eq!(rt; cell.turn(&rt, &mut pass, ()), Err(Spent { event: () }));
+    let (machine, _) = cell.close(pass);
+    assert_eq!(rt; machine, Counter { count: 2 });
+    Ok(())
+}
+
+#[test]
+fn two_threads_rise_and_leave_the_sum(rt: HostRuntime) -> Result<(), Fail> {
+    let Ok((cell, pass)) = Cell::new(rt.alloc(), Counter { count: 0 }, 1 << 40) else {
+        return Err(Fail::new("no memory"));
+    };
+    let (pass, rising) = ask_in_two(&rt, &cell, pass, 100_000);
+    assert!(rt; rising);
+    let (machine, _) = cell.close(pass);
+    assert_eq!(rt; machine, Counter { count: 200_000 });
+    Ok(())
+}
