@@ -1,5 +1,5 @@
 -- Bits exchanged between the lanes of two vectors.
-use Rattle.std.proofs.Common.{◌≡◌, ℕ, zero, suc, ◌<◌, ◌≤◌, ◌+◌, ◌-◌, ◌*◌, ◌/◌, ◌%◌, ◌^◌, List, [], ◌∷◌, length, slice_index, replicate, bit_xor, bit_and, refl, sym, ap, ap₂, ◌∙◌, arith, inl, inr, Fits, w8, add-zero}
+use Rattle.std.proofs.Common.{◌≡◌, ℕ, zero, suc, ◌<◌, ◌≤◌, ◌+◌, ◌-◌, ◌*◌, ◌/◌, ◌%◌, ◌^◌, List, length, slice_index, replicate, bit_xor, bit_and, refl, sym, ap, ap₂, ◌∙◌, arith, inl, inr, Fits, w8, add-zero}
 use Rattle.std.specs.Prelude.{◌==◌, nat_lt, if◌then◌else◌}
 use Rattle.std.specs.Simd.Lanes.{zip2, Each1}
 use Rattle.std.specs.Int.{bit_at}
