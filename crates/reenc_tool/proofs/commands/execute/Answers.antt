@@ -39,8 +39,8 @@ returns-in-Err-Failed-clause-came g c =
       c.in-Some.ensures,
       leaves_all serve (g.B.Bay.holdings c.args.bay.now) (g.B.Bay.holdings c.disk.new.self) c.in-Err-Failed.ensures.leaves,
       inr (no_disk (g.B.Bay.holdings c.args.bay.now) (g.B.Bay.holdings c.disk.new.self) _ _
-      (c.unserved-in-Err-Failed.ensures.outcome ∙ ap (unserved_of _ _) c.new-in-Err-Failed.ensures.items) c.in-Err-Failed.ensures.leaves
-      (omega arith, c.in-Err-Failed.ensures.cause.failed (ap Err c.in-Err-Failed.field-0-is))),
+          (c.unserved-in-Err-Failed.ensures.outcome ∙ ap (unserved_of _ _) c.new-in-Err-Failed.ensures.items) c.in-Err-Failed.ensures.leaves
+          (omega arith, c.in-Err-Failed.ensures.cause.failed (ap Err c.in-Err-Failed.field-0-is))),
     )
 
 pub returns-in-Err-Memory-clause-came : goal.returns-in-Err-Memory-clause-came
@@ -56,8 +56,8 @@ returns-in-Err-Memory-clause-came g c =
       c.in-Some.ensures,
       leaves_all serve (g.B.Bay.holdings c.args.bay.now) (g.B.Bay.holdings c.disk.new.self) c.in-Err-Memory.ensures.leaves,
       inr (no_disk (g.B.Bay.holdings c.args.bay.now) (g.B.Bay.holdings c.disk.new.self) _ _
-      (c.unserved-in-Err-Memory.ensures.outcome ∙ ap (unserved_of _ _) c.new-in-Err-Memory.ensures.items) c.in-Err-Memory.ensures.leaves
-      c.in-Err-Memory.ensures.cause.later),
+          (c.unserved-in-Err-Memory.ensures.outcome ∙ ap (unserved_of _ _) c.new-in-Err-Memory.ensures.items) c.in-Err-Memory.ensures.leaves
+          c.in-Err-Memory.ensures.cause.later),
     )
 
 pub returns-in-Ok-clause-unasked : goal.returns-in-Ok-clause-unasked
