@@ -1,4 +1,4 @@
-ghost use Rattle.std.specs.Prelude.{◌≡◌, ◌≢◌, IfOk, IfErr, take};
+ghost use Rattle.std.specs.Prelude.{◌≡◌, ◌≢◌, ◌<◌, ◌^◌, IfOk, IfErr, take};
 ghost use Rattle.nbd_wire.specs.Fields.{u32_text};
 ghost use Rattle.nbd_wire.specs.Replies.{IsSimpleReplyHead, simple_reply_text};
 ghost use Rattle.nbd_wire.specs.Magic.{simple_reply_magic};
@@ -21,6 +21,7 @@ impl SimpleReplyHead {
         ensures taken { IfOk result (λ head. IsSimpleReplyHead head × (simple_reply_text head ≡ bytes.now)) }
         ensures only { (head : SimpleReplyHead) → IsSimpleReplyHead head → simple_reply_text head ≡ bytes.now → result ≡ Ok head }
         ensures refused { IfErr result (λ bad. (u32_text bad.number ≡ take 4 bytes.now) × (bad.number ≢ simple_reply_magic)) }
+        ensures fits { IfErr result (λ bad. bad.number < 2 ^ 32) }
     {
         let magic = u32_at(bytes, 0);
         if magic != SIMPLE_REPLY_MAGIC {

@@ -1,47 +1,67 @@
 -- A link that was asked once.
-use Rattle.std.proofs.Common.{◌≡◌, ℕ, List, [], ◌∷◌, ◌++◌, Option, Some, ap, refl, sym, subst, append-nil}
-use Rattle.bays.specs.Stories.{Script, Handed, Story, Begins, TakesBack}
+use Rattle.std.proofs.Common.{◌≡◌, ◌∙◌, ◌⊎◌, ℕ, List, [], ◌∷◌, ◌++◌, Some, ap, refl, sym, subst, append-nil}
+use Rattle.io_edge.specs.Intake.{Intake}
+use Rattle.io_edge.specs.Outlet.{Outlet}
+use Rattle.bays.specs.Stories.{Script, Handed, LinkState, Story, Begins, TakesBack}
+use Rattle.nbd_session.specs.declared.ending.Ending.TheVariants.{PortSpent, WriteFault}
 use Rattle.nbd_session.specs.declared.ending.SessionEnd.{SessionEnd}
 use Rattle.nbd_session.specs.declared.export.Export.{Export}
 use Rattle.nbd_session.specs.Moments.{Traffic, moment}
+use Rattle.nbd_session.specs.Putting.{IsOut}
 use Rattle.nbd_session.specs.Session.{Log, IsSession}
 use Rattle.nbd_session.specs.Turns.{exchanges_of}
-use Rattle.reenc_tool.specs.Playing.{Played, AreSessions, Goes, Plays, numbered, operations_of}
+use Rattle.reenc_tool.specs.Sessions.{Played, IsPlayed, AreSessions, Goes, Plays, numbered, operations_of}
 
-pub goes_none : (old new : Option Story) → ((story : Story) → old ≡ Some story → new ≡ Some story) → Goes old new []
+pub goes_none : (old new : LinkState) → ((story : Story) → old.story ≡ Some story → new.story ≡ Some story) → Goes old new []
 unfolding Plays
 goes_none old new same = λ story is. (story, same story is, refl)
 
-moment_same : (g g' l l' h h' : Option (List ℕ)) (f f' o o' t p : ℕ) → g ≡ g' → l ≡ l' → h ≡ h' → f ≡ f' → o ≡ o' →
-    moment g l h f o t p ≡ moment g' l' h' f' o' t p
-moment_same g g' l l' h h' f f' o o' t p a b c d e = cc
+-- a source and a sink that tell so are seen as they were handed back
+moment_told : (source : Intake) (sink : Outlet) (given left had : List ℕ) (taken put : ℕ) →
+    source.given ≡ Some given → source.left ≡ Some left → sink.had ≡ Some had →
+    moment source sink taken put
+    ≡ moment (record { given = Some given; left = Some left; faults = source.faults })
+    (record { had = Some had; held_back = sink.held_back; faults = sink.faults }) taken put
+moment_told source sink given left had taken put given_is left_is had_is =
+    ap (λ g. moment (record { given = g; left = source.left; faults = source.faults }) sink taken put) given_is
+    ∙ ap (λ l. moment (record { given = Some given; left = l; faults = source.faults }) sink taken put) left_is
+    ∙ ap (λ h. moment (record { given = Some given; left = Some left; faults = source.faults })
+    (record { had = h; held_back = sink.held_back; faults = sink.faults }) taken put) had_is
 
 -- a connection was taken, served and handed back
-pub goes_one : (k : ℕ) (end : SessionEnd) (log : Log) (t t' t'' : Option Story) (g g' l l' h h' : Option (List ℕ)) (f f' o o' : ℕ)
+pub goes_one : (k : ℕ) (end : SessionEnd) (log : Log) (old mid new : LinkState) (source source' : Intake) (sink sink' : Outlet)
     (taken whole front : List ℕ) →
-    ((story : Story) → t ≡ Some story → (script : Script) × (rest : List Script) × (story.ahead ≡ script ∷ rest)
-    × (t' ≡ Some (record { ahead = rest; handed = story.handed })) × Begins g l h f o script) →
-    TakesBack g' l' f' h' o' t' t'' →
-    Traffic (moment g l h f o 0 0) (moment g' l' h' f' o' end.taken end.put) taken whole front →
-    Goes t t'' (record { link = k; end = end; log = log; before = moment g l h f o 0 0; after = moment g' l' h' f' o' end.taken end.put } ∷ [])
+    ((story : Story) → old.story ≡ Some story → (script : Script) × (rest : List Script) × (story.ahead ≡ script ∷ rest)
+    × (mid.story ≡ Some (record { ahead = rest; handed = story.handed })) × Begins source sink script) →
+    TakesBack source' sink' mid new →
+    Traffic (moment source sink 0 0) (moment source' sink' end.taken end.put) taken whole front →
+    Goes old new (record { link = k; end = end; log = log; before = moment source sink 0 0; after = moment source' sink' end.taken end.put } ∷ [])
 unfolding Plays
-goes_one k end log t t' t'' g g' l l' h h' f f' o o' taken whole front gives takes_back traffic = λ story is.
-    let a = gives story is in
-    let b = a.4 in
-    let given = traffic.took.given [] b.gave_none in
-    let left = traffic.took.left a.0.input b.has_input in
-    let had = traffic.sent [] b.put_none in
-    let handed : Handed = record { given = [] ++ taken; left = left.0; had = [] ++ (whole ++ front); in_faults = f'; out_faults = o' } in
-    let next : Story = record { ahead = a.1; handed = story.handed ++ handed ∷ [] } in (
-      next,
-      takes_back (record { ahead = a.1; handed = story.handed }) a.3 handed.given handed.left handed.had given left.2 had,
+goes_one k end log old mid new source source' sink sink' taken whole front gives takes_back traffic = λ story is.
+    let next = gives story is in
+    let begins = next.4 in
+    let given = traffic.took.given [] (ap (λ (i : Intake). i.given) begins.source_is) in
+    let left = traffic.took.left next.0.input (ap (λ (i : Intake). i.left) begins.source_is) in
+    let had = traffic.sent [] (ap (λ (o : Outlet). o.had) begins.sink_is) in
+    let handed : Handed = record {
+      given = [] ++ taken;
+      left = left.0;
+      had = [] ++ (whole ++ front);
+      held_back = sink'.held_back;
+      in_faults = source'.faults;
+      out_faults = sink'.faults;
+    } in
+    let told : Story = record { ahead = next.1; handed = story.handed ++ handed ∷ [] } in (
+      told,
+      takes_back (record { ahead = next.1; handed = story.handed }) next.3 handed.given handed.left handed.had given left.2 had,
       (
-        a.0,
-        a.1,
+        next.0,
+        next.1,
         handed,
-        a.2,
-        moment_same _ _ _ _ _ _ _ _ _ _ 0 0 b.gave_none b.has_input b.put_none b.source_faults b.sink_faults,
-        moment_same _ _ _ _ _ _ f' f' o' o' end.taken end.put given left.2 had refl refl,
+        next.2,
+        ap (λ i. moment i sink 0 0) begins.source_is
+            ∙ ap (λ o. moment (record { given = Some []; left = Some next.0.input; faults = next.0.in_faults }) o 0 0) begins.sink_is,
+        moment_told source' sink' handed.given handed.left handed.had end.taken end.put given left.2 had,
         refl,
       ),
     )
@@ -49,14 +69,31 @@ goes_one k end log t t' t'' g g' l l' h h' f f' o o' taken whole front gives tak
 numbered_same : (export : Export) (n : ℕ) → n ≡ export.number → numbered export n ≡ export
 numbered_same export n is = ap (λ m. numbered export m) is
 
-pub sessions_one : (export : Export) (one : Played) → IsSession export one.end one.before one.after one.log → AreSessions export (one ∷ [])
+pub sessions_one : (export : Export) (may_spend : Type 0) (one : Played) → IsSession export one.end one.before one.after one.log →
+    (one.end.ending ≡ WriteFault) ⊎ IsOut one.after.sink → (one.end.ending ≡ PortSpent → may_spend) → AreSessions export may_spend (one ∷ [])
 unfolding AreSessions
-sessions_one export one session =
-    (subst (λ (e : Export). IsSession e one.end one.before one.after one.log) (sym (numbered_same export one.end.number session.number)) session, tt)
+sessions_one export may_spend one session out spent = (
+  record {
+    session = subst (λ (e : Export). IsSession e one.end one.before one.after one.log) (sym (numbered_same export one.end.number session.number)) session;
+    out = out;
+    spent = spent;
+  },
+  tt,
+)
 
-pub sessions_none : (export : Export) → AreSessions export []
+pub sessions_none : (export : Export) (may_spend : Type 0) → AreSessions export may_spend []
 unfolding AreSessions
-sessions_none export = tt
+sessions_none export may_spend = tt
+
+-- where the port can't be spent, no session ended by that
+pub sessions_unspent : (export : Export) {may_spend : Type 0} (never : may_spend → ⊥) (all : List Played) →
+    AreSessions export may_spend all → AreSessions export ⊥ all
+unfolding AreSessions
+sessions_unspent export never [] sessions = tt
+sessions_unspent export never (one ∷ rest) sessions = (
+  record { session = sessions.0.session; out = sessions.0.out; spent = λ is. never (sessions.0.spent is) },
+  sessions_unspent export never rest sessions.1,
+)
 
 pub operations_of-none : operations_of [] ≡ []
 unfolding operations_of

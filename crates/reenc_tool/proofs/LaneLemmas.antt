@@ -1,17 +1,18 @@
 -- Links that are served in turn.
-use Rattle.std.proofs.Common.{nat_lt, set, ◌≡◌, ◌≢◌, ℕ, ◌+◌, ◌*◌, ◌<◌, ◌≤◌, ◌⊎◌, inl, inr, ⊎_elim, Bool, true, false, ◌==◌, if◌then◌else◌, List, [], ◌∷◌, ◌++◌, length, map, slice_index_or, Option, ap, ◌∙◌, refl, sym, subst, append-nil, append_assoc, length-append, arith}
+use Rattle.std.proofs.Common.{nat_lt, set, ◌≡◌, ◌≢◌, ℕ, ◌+◌, ◌*◌, ◌<◌, ◌≤◌, ◌⊎◌, inl, inr, ⊎_elim, Bool, true, false, ◌==◌, if◌then◌else◌, List, [], ◌∷◌, ◌++◌, length, map, slice_index_or, Some, ap, ◌∙◌, refl, sym, subst, append-nil, append_assoc, length-append, arith}
 use Rattle.std.proofs.lemmas.List.{map-append, get_or-set_same, get_or-set_other, get_or_read, length-set}
 use Rattle.std.proofs.Math.Nat.{mul-suc}
-use Rattle.std.proofs.lemmas.Bool.{cases_Bool, eq-eqb, true≢false}
+use Rattle.std.proofs.lemmas.Bool.{eq-eqb}
 use Rattle.std.proofs.lemmas.Bool.Decides.{eqb_tells}
 use Rattle.base_terms.specs.Causes.{Rose}
-use Rattle.bays.specs.Stories.{Story}
+use Rattle.bays.specs.Stories.{HasNoneAhead, LinkState, Story}
 use Rattle.nbd_session.specs.declared.ending.SessionEnd.{SessionEnd}
 use Rattle.nbd_session.specs.declared.export.Export.{Export}
 use Rattle.nbd_session.specs.Turns.{exchanges_of}
-use Rattle.reenc_tool.specs.Asking.{HasNoneAhead}
-use Rattle.reenc_tool.specs.Lanes.{Lane, Lanes, TurnIs, IsOneOf}
-use Rattle.reenc_tool.specs.Playing.{Played, AreNumbered, AreSessions, Goes, Plays, of_link, operations_of}
+use Rattle.reenc_tool.specs.declared.serving.Standing.{Standing}
+use Rattle.reenc_tool.specs.declared.serving.Standing.TheVariants.{Live, Ended, Failed}
+use Rattle.reenc_tool.specs.Lanes.{IsPassedOver, IsServed, Lane, Lanes, StandsBy, TurnCase, TurnIs}
+use Rattle.reenc_tool.specs.Sessions.{Played, AreNumbered, AreSessions, Goes, IsOneOf, Plays, of_link, operations_of}
 
 pub Plays-append : (a b c : Story) (xs ys : List Played) → Plays a b xs → Plays b c ys → Plays a c (xs ++ ys)
 unfolding Plays
@@ -19,16 +20,17 @@ Plays-append a b c [] ys first second = subst (λ (s : Story). Plays s c ys) fir
 Plays-append a b c (x ∷ xs) ys first second =
     (first.0, first.1, first.2, first.3, first.4, first.5, Plays-append _ b c xs ys first.6 second)
 
-pub goes_more : (a b c : Option Story) (xs ys : List Played) → Goes a b xs → Goes b c ys → Goes a c (xs ++ ys)
+pub goes_more : (a b c : LinkState) (xs ys : List Played) → Goes a b xs → Goes b c ys → Goes a c (xs ++ ys)
 goes_more a b c xs ys first second = λ story is.
     let f = first story is in
     let s = second f.0 f.1 in
     (s.0, s.1, Plays-append story f.0 s.0 xs ys f.2 s.2)
 
-pub AreSessions-append : (export : Export) (xs ys : List Played) → AreSessions export xs → AreSessions export ys → AreSessions export (xs ++ ys)
+pub AreSessions-append : (export : Export) (may_spend : Type 0) (xs ys : List Played) → AreSessions export may_spend xs →
+    AreSessions export may_spend ys → AreSessions export may_spend (xs ++ ys)
 unfolding AreSessions
-AreSessions-append export [] ys first second = second
-AreSessions-append export (x ∷ xs) ys first second = (first.0, AreSessions-append export xs ys first.1 second)
+AreSessions-append export may_spend [] ys first second = second
+AreSessions-append export may_spend (x ∷ xs) ys first second = (first.0, AreSessions-append export may_spend xs ys first.1 second)
 
 pub operations_of-append : (xs ys : List Played) → operations_of (xs ++ ys) ≡ operations_of xs ++ operations_of ys
 unfolding operations_of
@@ -83,145 +85,143 @@ AreNumbered-append step number n k (x ∷ xs) ys numbered one at = (
       (⊎_elim (λ none. inl none) (λ is. inr (omega (arith, is, mul-suc step (length xs)))) at),
 )
 
-none_ahead-later : (a b c : Option Story) (xs : List Played) → Goes a b xs → HasNoneAhead b c → HasNoneAhead a c
-none_ahead-later a b c xs goes none = λ story is. let f = goes story is in none f.0 f.1
+-- the same, of what a turn left as it was
+passed-over : (turns : ℕ) (a b c : LinkState) (standing standing' : Standing) (played : List Played) → standing ≢ Live →
+    IsPassedOver b c standing standing' played → StandsBy standing a b → StandsBy standing' a c
+passed-over turns a b c standing standing' played closed passed stands =
+    subst (λ (s : Standing). StandsBy s a c) (sym passed.standing) (subst (λ (l : LinkState). StandsBy standing a l) (sym passed.link) stands)
 
-none_ahead-same : (a b c : Option Story) → HasNoneAhead a b → Goes b c [] → HasNoneAhead a c
-unfolding Plays
-none_ahead-same a b c none goes = λ story is.
-    let n = none story is in
-    let f = goes n.0 n.1 in
-    (f.0, f.1, ap (λ s. s.ahead) f.2 ∙ n.2)
+-- how a link stands that was live
+stood-live : (a b c : LinkState) (standing : Standing) (memory : Bool) (played : List Played) → b.faults ≡ a.faults →
+    TurnCase standing memory b c played → StandsBy standing a c
+stood-live a b c Live memory played held turn = omega (arith, held, turn.0)
+stood-live a b c Ended memory played held turn = (omega (arith, held, turn.0), turn.1)
+stood-live a b c Failed memory played held turn = subst (λ (f : ℕ). Rose f c.faults) held turn
+
+stands-after : (a b c : LinkState) (standing standing' : Standing) (memory : Bool) (played : List Played) → StandsBy standing a b →
+    (standing ≡ Live → TurnCase standing' memory b c played) → (standing ≢ Live → IsPassedOver b c standing standing' played) →
+    StandsBy standing' a c
+stands-after a b c Live standing' memory played stands asked closed = stood-live a b c standing' memory played stands (asked refl)
+stands-after a b c Ended standing' memory played stands asked closed =
+    passed-over 0 a b c Ended standing' played (λ is. absurd (cc)) (closed (λ is. absurd (cc))) stands
+stands-after a b c Failed standing' memory played stands asked closed =
+    passed-over 0 a b c Failed standing' played (λ is. absurd (cc)) (closed (λ is. absurd (cc))) stands
+
+-- a turn's number is the next one of the link, if it took a connection
+number-is : (links turns k number : ℕ) (old new : LinkState) (standing standing' : Standing) (had played : List Played) → number ≡ links * turns + k →
+    (standing ≡ Live → length had ≡ turns) → (standing ≢ Live → IsPassedOver old new standing standing' played) →
+    (played ≡ []) ⊎ (number ≡ links * length had + k)
+number-is links turns k number old new Live standing' had played at took closed = inr (omega (arith, at, ap (λ n. links * n) (took refl)))
+number-is links turns k number old new Ended standing' had played at took closed = inl (closed (λ is. absurd (cc))).none
+number-is links turns k number old new Failed standing' had played at took closed = inl (closed (λ is. absurd (cc))).none
+
+-- a link that is live was live before
+was-live : (old new : LinkState) (standing standing' : Standing) (played : List Played) → standing' ≡ Live →
+    (standing ≢ Live → IsPassedOver old new standing standing' played) → standing ≡ Live
+was-live old new Live standing' played is closed = refl
+was-live old new Ended standing' played is closed = let same = (closed (λ was. absurd (cc))).standing in absurd (cc)
+was-live old new Failed standing' played is closed = let same = (closed (λ was. absurd (cc))).standing in absurd (cc)
+
+-- a live link's turn took one connection
+pub took_one : (export : Export) (may_spend : Type 0) (k : ℕ) (old new : LinkState) (ends ends' : List SessionEnd) (standing standing' : Standing)
+    (memory : Bool) (played : List Played) → standing' ≡ Live → TurnIs export may_spend k old new ends ends' standing standing' memory played →
+    memory ≡ false → length played ≡ 1
+took_one export may_spend k old new ends ends' standing standing' memory played is turn calm =
+    let turned : TurnCase Live memory old new played = subst (λ (s : Standing). TurnCase s memory old new played) is
+    (turn.asked (was-live old new standing standing' played is turn.closed)) in
+    turned.1 calm
 
 -- a lane whose link had its turn
-pub lane_turn : (export : Export) {L : Type 0} (told : L → Option Story) (bound faults : L → ℕ) (links turns k : ℕ) (old mid new : L)
-    (ends ends' : List SessionEnd) (live live' failed failed' memory : Bool) (all played : List Played) →
-    export.number ≡ links * turns + k →
-    Lane told bound faults links turns k old mid ends live failed all →
-    TurnIs export k (told mid) (told new) (bound mid) (bound new) (faults mid) (faults new) ends ends' live live' failed failed' memory played →
-    (turns' : ℕ) → (live' ≡ true → turns' ≡ turns + length played) →
-    Lane told bound faults links turns' k old new ends' live' failed' (all ++ played)
-lane_turn export told bound faults links turns k old mid new ends ends' live live' failed failed' memory all played at lane turn turns' counted =
+pub lane_turn : (export : Export) (may_spend : Type 0) (links turns k : ℕ) (old mid new : LinkState) (ends ends' : List SessionEnd)
+    (standing standing' : Standing) (memory : Bool) (all played : List Played) → export.number ≡ links * turns + k →
+    Lane links turns k old mid ends standing all → TurnIs export may_spend k mid new ends ends' standing standing' memory played →
+    (turns' : ℕ) → (standing' ≡ Live → turns' ≡ turns + length played) → Lane links turns' k old new ends' standing' (all ++ played)
+lane_turn export may_spend links turns k old mid new ends ends' standing standing' memory all played at lane turn turns' counted =
+    let served = lane.served in
     let longer = length-append (of_link k all) played in
     let more = of_link-more k export.number all played turn.one in
-    let goes : Goes (told old) (told new) (of_link k (all ++ played)) =
-    subst (λ (xs : List Played). Goes (told old) (told new) xs) (sym more) (goes_more (told old) (told mid) (told new) (of_link k all) played lane.goes turn.goes) in
     record {
-      goes = goes;
-      ends_are = turn.ends ∙ ap (λ e. e ++ map (λ one. one.end) played) lane.ends_are
-          ∙ sym (ap (map (λ one. one.end)) more ∙ map-append (λ one. one.end) (of_link k all) played);
-      numbers = subst (λ (xs : List Played). AreNumbered links k xs) (sym more)
-          (AreNumbered-append links k export.number k (of_link k all) played lane.numbers turn.one
-          (⊎_elim (λ is. inr (omega (arith, at, ap (λ n. links * n) (lane.took is)))) (λ is. inl (turn.asked is)) (cases_Bool live)));
-      few = omega (arith, ap length more, longer, turn.few, lane.few);
-      later = omega (arith, lane.later, turn.later);
-      held = λ calm. turn.held calm
-          ∙ lane.held (⊎_elim (λ was. absurd (true≢false (sym (turn.kept was) ∙ calm))) (λ was. was) (cases_Bool failed));
-      took = λ is. omega (arith, ap length more, longer, lane.took (turn.took is).0, counted is);
-      closed = λ is. ⊎_elim (λ fail. inl fail)
-          (⊎_elim (λ none. inr (none_ahead-later (told old) (told mid) (told new) (of_link k all) lane.goes none))
-          (λ was. ⊎_elim (λ fail. inl (turn.kept fail))
-          (λ none. inr (none_ahead-same (told old) (told mid) (told new) none (subst (λ (xs : List Played). Goes (told mid) (told new) xs) was.1 turn.goes)))
-          (lane.closed was.0)))
-          (turn.closed is);
+      served = record {
+        goes = subst (λ (xs : List Played). Goes old new xs) (sym more) (goes_more old mid new (of_link k all) played served.goes turn.goes);
+        ends_are = turn.ends ∙ ap (λ e. e ++ map (λ one. one.end) played) served.ends_are
+            ∙ sym (ap (map (λ one. one.end)) more ∙ map-append (λ one. one.end) (of_link k all) played);
+        numbers = subst (λ (xs : List Played). AreNumbered links k xs) (sym more)
+            (AreNumbered-append links k export.number k (of_link k all) played served.numbers turn.one
+            (number-is links turns k export.number mid new standing standing' (of_link k all) played at lane.took turn.closed));
+        few = omega (arith, ap length more, longer, turn.few, served.few);
+        later = omega (arith, served.later, turn.later);
+        stands = stands-after old mid new standing standing' memory played served.stands turn.asked turn.closed;
+      };
+      took = λ is. omega (arith, ap length more, longer, lane.took (was-live mid new standing standing' played is turn.closed), counted is);
     }
 
 -- another lane meanwhile
-pub lane_other : (number : ℕ) {L : Type 0} (told : L → Option Story) (bound faults : L → ℕ) (links turns j k : ℕ) (old new : L)
-    (ends : List SessionEnd) (live failed failed' : Bool) (all played : List Played) → j ≢ k → IsOneOf k number played →
-    (failed ≡ true → failed' ≡ true) → Lane told bound faults links turns j old new ends live failed all →
-    Lane told bound faults links turns j old new ends live failed' (all ++ played)
-lane_other number told bound faults links turns j k old new ends live failed failed' all played differ one kept lane =
-    let same = of_link-not_more j k number all played differ one in
+pub lane_other : (number links turns j k : ℕ) (old new : LinkState) (ends : List SessionEnd) (standing : Standing) (all played : List Played) →
+    j ≢ k → IsOneOf k number played → Lane links turns j old new ends standing all → Lane links turns j old new ends standing (all ++ played)
+lane_other number links turns j k old new ends standing all played differ one lane =
+    let is = of_link-not_more j k number all played differ one in
     record {
-      goes = subst (λ (xs : List Played). Goes (told old) (told new) xs) (sym same) lane.goes;
-      ends_are = lane.ends_are ∙ ap (map (λ one. one.end)) (sym same);
-      numbers = subst (λ (xs : List Played). AreNumbered links j xs) (sym same) lane.numbers;
-      few = omega (arith, ap length same, lane.few);
-      later = lane.later;
-      held = λ calm. lane.held (⊎_elim (λ was. absurd (true≢false (sym (kept was) ∙ calm))) (λ was. was) (cases_Bool failed));
-      took = λ is. ap length same ∙ lane.took is;
-      closed = λ is. ⊎_elim (λ fail. inl (kept fail)) (λ none. inr none) (lane.closed is);
+      served = record {
+        goes = subst (λ (zs : List Played). Goes old new zs) (sym is) lane.served.goes;
+        ends_are = lane.served.ends_are ∙ ap (map (λ one. one.end)) (sym is);
+        numbers = subst (λ (zs : List Played). AreNumbered links j zs) (sym is) lane.served.numbers;
+        few = omega (arith, ap length is, lane.served.few);
+        later = lane.served.later;
+        stands = lane.served.stands;
+      };
+      took = λ live. ap length is ∙ lane.took live;
     }
 
 -- the turns of each link where those below `k` had one more
 abbrev pub turns_at : ℕ → ℕ → ℕ → ℕ
 turns_at k turns j = if nat_lt j k then turns + 1 else turns
 
-lane_same : {L : Type 0} (told : L → Option Story) (bound faults : L → ℕ) (links turns turns' k : ℕ) (old new new' : L) (ends ends' : List SessionEnd)
-    (live live' failed : Bool) (all : List Played) → turns ≡ turns' → new ≡ new' → ends ≡ ends' → live ≡ live' →
-    Lane told bound faults links turns k old new ends live failed all → Lane told bound faults links turns' k old new' ends' live' failed all
-lane_same told bound faults links turns turns' k old new new' ends ends' live live' failed all a b c d lane =
-    subst (λ (n : ℕ). Lane told bound faults links n k old new' ends' live' failed all) a
-    (subst (λ n. Lane told bound faults links turns k old n ends' live' failed all) b
-    (subst (λ (e : List SessionEnd). Lane told bound faults links turns k old new e live' failed all) c
-    (subst (λ (l : Bool). Lane told bound faults links turns k old new ends l failed all) d lane)))
-
-rose_within : (f f' f'' f''' : ℕ) → f ≤ f' → f'' ≤ f''' → Rose f' f'' → Rose f f'''
-rose_within f f' f'' f''' early late rose = ⊎_elim (λ risen. inl (omega arith)) (λ last. inr (omega arith)) rose
+lane_same : (links turns turns' k : ℕ) (old new new' : LinkState) (ends ends' : List SessionEnd) (standing standing' : Standing) (all : List Played) →
+    turns ≡ turns' → new ≡ new' → ends ≡ ends' → standing ≡ standing' → Lane links turns k old new ends standing all →
+    Lane links turns' k old new' ends' standing' all
+lane_same links turns turns' k old new new' ends ends' standing standing' all a b c d lane =
+    subst (λ (n : ℕ). Lane links n k old new' ends' standing' all) a
+    (subst (λ (l : LinkState). Lane links turns k old l ends' standing' all) b
+    (subst (λ (e : List SessionEnd). Lane links turns k old new e standing' all) c
+    (subst (λ (s : Standing). Lane links turns k old new ends s all) d lane)))
 
 -- one link of several had its turn
-pub lanes_turn : (export : Export) {L E : Type 0} (told : L → Option Story) (bound faults : L → ℕ) (items : E → List SessionEnd)
-    (turns turned : ℕ → ℕ) (olds mids : List L) (ends : List E) (live : List Bool) (failed failed' memory : Bool) (all played : List Played)
-    (i : ℕ) (mid new : L) (e e' : E) (l l' : Bool) →
-    Lanes told bound faults items turns olds mids ends live failed all → i < length olds →
-    mid ≡ slice_index_or mids i mid → e ≡ slice_index_or ends i e → l ≡ slice_index_or live i false →
-    TurnIs export i (told mid) (told new) (bound mid) (bound new) (faults mid) (faults new) (items e) (items e') l l' failed failed' memory played →
-    export.number ≡ length olds * turns i + i →
-    ((j : ℕ) → j ≢ i → turned j ≡ turns j) → (l' ≡ true → turned i ≡ turns i + length played) →
-    Lanes told bound faults items turned olds (set mids i new) (set ends i e') (set live i l') failed' (all ++ played)
-lanes_turn export told bound faults items turns turned olds mids ends live failed failed' memory all played i mid new e e' l l' lanes inside mid_is e_is l_is turn at others counted =
+pub lanes_turn : (export : Export) (may_spend : Type 0) {L E : Type 0} (state : L → LinkState) (items : E → List SessionEnd) (turns turned : ℕ → ℕ)
+    (olds mids : List L) (ends : List E) (standings : List Standing) (memory : Bool) (all played : List Played)
+    (i : ℕ) (mid new : L) (e e' : E) (s s' : Standing) →
+    Lanes state items turns olds mids ends standings all → i < length olds →
+    mid ≡ slice_index_or mids i mid → e ≡ slice_index_or ends i e → s ≡ slice_index_or standings i Live →
+    TurnIs export may_spend i (state mid) (state new) (items e) (items e') s s' memory played →
+    export.number ≡ length olds * turns i + i → ((j : ℕ) → j ≢ i → turned j ≡ turns j) → (s' ≡ Live → turned i ≡ turns i + length played) →
+    Lanes state items turned olds (set mids i new) (set ends i e') (set standings i s') (all ++ played)
+lanes_turn export may_spend state items turns turned olds mids ends standings memory all played i mid new e e' s s' lanes inside mid_is e_is s_is turn at others counted =
     let in_mids : i < length mids = omega (arith, lanes.links) in
     let in_ends : i < length ends = omega (arith, lanes.lists) in
-    let in_live : i < length live = omega (arith, lanes.flags) in
+    let in_standings : i < length standings = omega (arith, lanes.enough) in
     record {
       links = length-set mids i new ∙ lanes.links;
       lists = length-set ends i e' ∙ lanes.lists;
-      flags = omega (arith, length-set live i l', lanes.flags);
+      enough = omega (arith, length-set standings i s', lanes.enough);
       each = λ j link list within. ⊎_elim
           (λ same.
-          let before = lane_same told bound faults (length olds) (turns i) (turns i) i (slice_index_or olds i link) (slice_index_or mids i link) mid
-          (items (slice_index_or ends i list)) (items e) (slice_index_or live i false) l failed all refl
-          (sym (get_or_read mids i mid in_mids mid_is link)) (ap items (sym (get_or_read ends i e in_ends e_is list))) (sym l_is)
+          let before = lane_same (length olds) (turns i) (turns i) i (state (slice_index_or olds i link)) (state (slice_index_or mids i link)) (state mid)
+          (items (slice_index_or ends i list)) (items e) (slice_index_or standings i Live) s all refl (ap state (sym (get_or_read mids i mid in_mids mid_is link)))
+          (ap items (sym (get_or_read ends i e in_ends e_is list))) (sym s_is)
           (lanes.each i link list inside) in
-          let after = lane_turn export told bound faults (length olds) (turns i) i (slice_index_or olds i link) mid new (items e) (items e') l l' failed failed' memory all played
+          let after = lane_turn export may_spend (length olds) (turns i) i (state (slice_index_or olds i link)) (state mid) (state new) (items e) (items e') s s' memory all played
           at before turn (turned i) counted in
-          let here = lane_same told bound faults (length olds) (turned i) (turned i) i (slice_index_or olds i link) new (slice_index_or (set mids i new) i link)
-          (items e') (items (slice_index_or (set ends i e') i list)) l' (slice_index_or (set live i l') i false) failed' (all ++ played) refl
-          (sym (get_or-set_same mids i new link in_mids)) (ap items (sym (get_or-set_same ends i e' list in_ends)))
-          (sym (get_or-set_same live i l' false in_live)) after in
-          subst (λ (m : ℕ). Lane told bound faults (length olds) (turned m) m (slice_index_or olds m link) (slice_index_or (set mids i new) m link)
-          (items (slice_index_or (set ends i e') m list)) (slice_index_or (set live i l') m false) failed' (all ++ played)) (sym same.1) here)
-          (λ other. lane_same told bound faults (length olds) (turns j) (turned j) j (slice_index_or olds j link) (slice_index_or mids j link) (slice_index_or (set mids i new) j link)
-          (items (slice_index_or ends j list)) (items (slice_index_or (set ends i e') j list)) (slice_index_or live j false) (slice_index_or (set live i l') j false)
-          failed' (all ++ played) (sym (others j other.1)) (sym (get_or-set_other mids i j new link other.1))
-          (ap items (sym (get_or-set_other ends i j e' list other.1))) (sym (get_or-set_other live i j l' false other.1))
-          (lane_other export.number told bound faults (length olds) (turns j) j i (slice_index_or olds j link) (slice_index_or mids j link)
-          (items (slice_index_or ends j list)) (slice_index_or live j false) failed failed' all played other.1 turn.one turn.kept (lanes.each j link list within)))
+          let here = lane_same (length olds) (turned i) (turned i) i (state (slice_index_or olds i link)) (state new) (state (slice_index_or (set mids i new) i link))
+          (items e') (items (slice_index_or (set ends i e') i list)) s' (slice_index_or (set standings i s') i Live) (all ++ played) refl
+          (ap state (sym (get_or-set_same mids i new link in_mids))) (ap items (sym (get_or-set_same ends i e' list in_ends)))
+          (sym (get_or-set_same standings i s' Live in_standings)) after in
+          subst (λ (m : ℕ). Lane (length olds) (turned m) m (state (slice_index_or olds m link)) (state (slice_index_or (set mids i new) m link))
+          (items (slice_index_or (set ends i e') m list)) (slice_index_or (set standings i s') m Live) (all ++ played)) (sym same.1) here)
+          (λ other. lane_same (length olds) (turns j) (turned j) j (state (slice_index_or olds j link)) (state (slice_index_or mids j link))
+          (state (slice_index_or (set mids i new) j link)) (items (slice_index_or ends j list)) (items (slice_index_or (set ends i e') j list))
+          (slice_index_or standings j Live) (slice_index_or (set standings i s') j Live) (all ++ played)
+          (sym (others j other.1)) (ap state (sym (get_or-set_other mids i j new link other.1)))
+          (ap items (sym (get_or-set_other ends i j e' list other.1))) (sym (get_or-set_other standings i j s' Live other.1))
+          (lane_other export.number (length olds) (turns j) j i (state (slice_index_or olds j link)) (state (slice_index_or mids j link))
+          (items (slice_index_or ends j list)) (slice_index_or standings j Live) all played other.1 turn.one (lanes.each j link list within)))
           (eqb_tells j i);
-      rose = λ is link. ⊎_elim
-          (λ was.
-          let r = lanes.rose was link in (
-            r.0,
-            r.1,
-            ⊎_elim
-                (λ same.
-                let early : Rose (faults (slice_index_or olds i link)) (faults mid) =
-                subst (λ m. Rose (faults (slice_index_or olds i link)) (faults m)) (sym (get_or_read mids i mid in_mids mid_is link))
-                (subst (λ (m : ℕ). Rose (faults (slice_index_or olds m link)) (faults (slice_index_or mids m link))) same.1 r.2) in
-                subst (λ (m : ℕ). Rose (faults (slice_index_or olds m link)) (faults (slice_index_or (set mids i new) m link))) (sym same.1)
-                (subst (λ n. Rose (faults (slice_index_or olds i link)) (faults n)) (sym (get_or-set_same mids i new link in_mids))
-                (rose_within _ (faults (slice_index_or olds i link)) (faults mid) (faults new) (omega arith) turn.later early)))
-                (λ other. subst (λ n. Rose (faults (slice_index_or olds r.0 link)) (faults n)) (sym (get_or-set_other mids i r.0 new link other.1)) r.2)
-                (eqb_tells r.0 i),
-          ))
-          (λ now. (
-            i,
-            inside,
-            subst (λ n. Rose (faults (slice_index_or olds i link)) (faults n)) (sym (get_or-set_same mids i new link in_mids))
-                (rose_within (faults (slice_index_or olds i link)) (faults mid) (faults new) (faults new)
-                (subst (λ m. faults (slice_index_or olds i link) ≤ faults m) (sym (get_or_read mids i mid in_mids mid_is link)) (lanes.each i link e inside).later)
-                (omega arith) now),
-          ))
-          (turn.failing is);
     }

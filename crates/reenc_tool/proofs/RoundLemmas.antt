@@ -1,13 +1,15 @@
 -- Rounds of turns.
-use Rattle.std.proofs.Common.{◌≡◌, ◌≢◌, ℕ, ◌+◌, ◌<◌, ◌≤◌, suc, ◌==◌, if◌then◌else◌, ap, inl, inr, ⊎_elim, Bool, true, false, List, [], ◌∷◌, ◌++◌, length, slice_index_or, Option, ◌∙◌, refl, sym, subst, arith}
-use Rattle.std.proofs.lemmas.Bool.{cases_Bool, eq-eqb, true≢false}
+use Rattle.std.proofs.Common.{◌≡◌, ◌≢◌, ℕ, ◌+◌, ◌<◌, ◌≤◌, suc, ◌==◌, if◌then◌else◌, ap, inl, inr, Bool, true, false, List, [], ◌∷◌, ◌++◌, length, map, take, slice_index_or, ◌∙◌, refl, sym, subst, arith}
+use Rattle.std.proofs.lemmas.Bool.{eq-eqb}
 use Rattle.std.proofs.lemmas.Bool.Decides.{nat_tests}
-use Rattle.bays.specs.Stories.{Story}
+use Rattle.std.proofs.lemmas.List.{get_or-map, length-map, length-take, get_or-take}
+use Rattle.bays.specs.Stories.{LinkState}
 use Rattle.nbd_session.specs.declared.ending.SessionEnd.{SessionEnd}
 use Rattle.nbd_session.specs.declared.export.Export.{Export}
-use Rattle.reenc_tool.specs.Asking.{HasNoneAhead}
-use Rattle.reenc_tool.specs.Lanes.{Lane, Lanes, IsOneOf, NumbersBelow, Served}
-use Rattle.reenc_tool.specs.Playing.{Played, AreNumbered, AreSessions, NumbersRise, numbered, of_link}
+use Rattle.reenc_tool.specs.declared.serving.Standing.{Standing}
+use Rattle.reenc_tool.specs.declared.serving.Standing.TheVariants.{Live}
+use Rattle.reenc_tool.specs.Lanes.{Lane, Lanes, Served, failed_in}
+use Rattle.reenc_tool.specs.Sessions.{Played, AreNumbered, AreOfLinks, AreSessions, IsOneOf, NumbersBelow, NumbersRise, numbered, of_link}
 use Rattle.reenc_tool.proofs.AskingLemmas.{goes_none}
 use Rattle.reenc_tool.proofs.LaneLemmas.{eqb-differ, turns_at}
 
@@ -30,19 +32,20 @@ pub turned-other : (j k n m : ℕ) → j ≢ k → (if j == k then n else m) ≡
 turned-other j k n m differ = ap (λ b. if b then n else m) (eqb-differ j k differ)
 
 -- the same links with turns counted otherwise, and the same sessions
-pub lanes_same : {L E : Type 0} (told : L → Option Story) (bound faults : L → ℕ) (items : E → List SessionEnd) (turns turned : ℕ → ℕ)
-    (olds news : List L) (ends : List E) (live : List Bool) (failed : Bool) (all all' : List Played) →
+pub lanes_same : {L E : Type 0} (state : L → LinkState) (items : E → List SessionEnd) (turns turned : ℕ → ℕ)
+    (olds news : List L) (ends : List E) (standings : List Standing) (all all' : List Played) →
     ((k : ℕ) → k < length olds → turned k ≡ turns k) → all ≡ all' →
-    Lanes told bound faults items turns olds news ends live failed all → Lanes told bound faults items turned olds news ends live failed all'
-lanes_same told bound faults items turns turned olds news ends live failed all all' same is lanes = record {
+    Lanes state items turns olds news ends standings all → Lanes state items turned olds news ends standings all'
+lanes_same state items turns turned olds news ends standings all all' same is lanes = record {
   links = lanes.links;
   lists = lanes.lists;
-  flags = lanes.flags;
+  enough = lanes.enough;
   each = λ k link list inside.
-      subst (λ (xs : List Played). Lane told bound faults (length olds) (turned k) k (slice_index_or olds k link) (slice_index_or news k link) (items (slice_index_or ends k list)) (slice_index_or live k false) failed xs) is
-      (subst (λ (n : ℕ). Lane told bound faults (length olds) n k (slice_index_or olds k link) (slice_index_or news k link) (items (slice_index_or ends k list)) (slice_index_or live k false) failed all)
+      subst (λ (xs : List Played). Lane (length olds) (turned k) k (state (slice_index_or olds k link)) (state (slice_index_or news k link))
+      (items (slice_index_or ends k list)) (slice_index_or standings k Live) xs) is
+      (subst (λ (n : ℕ). Lane (length olds) n k (state (slice_index_or olds k link)) (state (slice_index_or news k link))
+      (items (slice_index_or ends k list)) (slice_index_or standings k Live) all)
       (sym (same k inside)) (lanes.each k link list inside));
-  rose = lanes.rose;
 }
 
 pub NumbersRise-later : (n m : ℕ) (xs : List Played) → n ≤ m → NumbersRise m xs → NumbersRise n xs
@@ -76,11 +79,28 @@ unfolding NumbersBelow
 below_one k m ys (inl none) = subst (λ (xs : List Played). NumbersBelow (m + 1) xs) (sym none) tt
 below_one k m ys (inr one) = subst (λ (xs : List Played). NumbersBelow (m + 1) xs) (sym one.1) (omega (arith, one.3), tt)
 
+-- each session of one link is a link's
+pub of_links_one : (links k number : ℕ) (ys : List Played) → k < links → IsOneOf k number ys → AreOfLinks links ys
+unfolding AreOfLinks
+of_links_one links k number ys inside (inl none) = subst (λ (xs : List Played). AreOfLinks links xs) (sym none) tt
+of_links_one links k number ys inside (inr one) = subst (λ (xs : List Played). AreOfLinks links xs) (sym one.1) (omega (arith, one.2), tt)
+
+pub AreOfLinks-append : (links : ℕ) (xs ys : List Played) → AreOfLinks links xs → AreOfLinks links ys → AreOfLinks links (xs ++ ys)
+unfolding AreOfLinks
+AreOfLinks-append links [] ys first second = second
+AreOfLinks-append links (x ∷ xs) ys first second = (first.0, AreOfLinks-append links xs ys first.1 second)
+
+pub of_links_none : (links : ℕ) → AreOfLinks links []
+unfolding AreOfLinks
+of_links_none links = tt
+
 -- the number of an export is each session's own
-pub sessions_numbered : (export : Export) (n : ℕ) (xs : List Played) → AreSessions (numbered export n) xs → AreSessions export xs
+pub sessions_numbered : (export : Export) (may_spend : Type 0) (n : ℕ) (xs : List Played) → AreSessions (numbered export n) may_spend xs →
+    AreSessions export may_spend xs
 unfolding AreSessions
-sessions_numbered export n [] sessions = tt
-sessions_numbered export n (x ∷ xs) sessions = (sessions.0, sessions_numbered export n xs sessions.1)
+sessions_numbered export may_spend n [] sessions = tt
+sessions_numbered export may_spend n (x ∷ xs) sessions =
+    (record { session = sessions.0.session; out = sessions.0.out; spent = sessions.0.spent }, sessions_numbered export may_spend n xs sessions.1)
 
 -- a list that reaches past a place has an element
 pub some_element : {X : Type 0} (xs : List X) (k : ℕ) → k < length xs → X
@@ -88,56 +108,57 @@ some_element [] k inside = absurd (omega arith)
 some_element (x ∷ xs) k inside = x
 
 -- links before their first turn
-pub lanes_start : {L E : Type 0} (told : L → Option Story) (bound faults : L → ℕ) (items : E → List SessionEnd) (olds : List L) (ends : List E) (live : List Bool) →
-    length ends ≡ length olds → length olds ≤ length live → ((k : ℕ) (list : E) → k < length olds → items (slice_index_or ends k list) ≡ []) →
-    ((k : ℕ) → k < length olds → slice_index_or live k false ≡ true) →
-    Lanes told bound faults items (λ _. 0) olds olds ends live false []
+pub lanes_start : {L E : Type 0} (state : L → LinkState) (items : E → List SessionEnd) (olds : List L) (ends : List E) (standings : List Standing) →
+    length ends ≡ length olds → length olds ≤ length standings → ((k : ℕ) (list : E) → k < length olds → items (slice_index_or ends k list) ≡ []) →
+    ((k : ℕ) → k < length olds → slice_index_or standings k Live ≡ Live) →
+    Lanes state items (λ _. 0) olds olds ends standings []
 unfolding of_link AreNumbered
-lanes_start told bound faults items olds ends live lists flags empty all_live = record {
+lanes_start state items olds ends standings lists enough empty all_live = record {
   links = refl;
   lists = lists;
-  flags = flags;
+  enough = enough;
   each = λ k link list inside. record {
-    goes = goes_none (told (slice_index_or olds k link)) (told (slice_index_or olds k link)) (λ story is. is);
-    ends_are = empty k list inside;
-    numbers = tt;
-    few = omega arith;
-    later = omega arith;
-    held = λ calm. refl;
+    served = record {
+      goes = goes_none (state (slice_index_or olds k link)) (state (slice_index_or olds k link)) (λ story is. is);
+      ends_are = empty k list inside;
+      numbers = tt;
+      few = omega arith;
+      later = omega arith;
+      stands = rw (all_live k inside) refl;
+    };
     took = λ is. refl;
-    closed = λ is. absurd (true≢false (sym (all_live k inside) ∙ is));
   };
-  rose = λ is. absurd (true≢false (sym is));
 }
 
 -- what holds of links after some turns
-pub served_of : {L E : Type 0} (told : L → Option Story) (bound faults : L → ℕ) (items : E → List SessionEnd) (turned : ℕ → ℕ)
-    (olds news : List L) (ends : List E) (live : List Bool) (failed memory : Bool) (all : List Played) →
-    Lanes told bound faults items turned olds news ends live failed all →
-    (failed ≡ false → memory ≡ false → (k : ℕ) (link : L) → k < length olds → HasNoneAhead (told (slice_index_or olds k link)) (told (slice_index_or news k link))) →
-    Served told bound faults items olds news ends failed memory all
-served_of told bound faults items turned olds news ends live failed memory all lanes none = record {
+pub served_of : {L E : Type 0} (state : L → LinkState) (items : E → List SessionEnd) (turned : ℕ → ℕ)
+    (olds news : List L) (ends : List E) (standings : List Standing) (n failed : ℕ) (memory : Bool) (all : List Played) →
+    n ≡ length olds → Lanes state items turned olds news ends standings all →
+    (memory ≡ false → (k : ℕ) → k < length olds → slice_index_or standings k Live ≢ Live) →
+    failed ≡ failed_in (take n standings) → AreOfLinks (length olds) all →
+    Served state olds news (map items ends) failed memory all
+served_of state items turned olds news ends standings n failed memory all same lanes to_the_end failed_is none_other = record {
+  standings = take n standings;
   links = lanes.links;
-  lists = lanes.lists;
-  goes = λ k link inside. (lanes.each k link (some_element ends k (omega (arith, lanes.lists))) inside).goes;
-  ends_are = λ k list inside. (lanes.each k (some_element olds k inside) list inside).ends_are;
-  numbers = λ k inside. (lanes.each k (some_element olds k inside) (some_element ends k (omega (arith, lanes.lists))) inside).numbers;
-  few = λ k link inside. omega (arith, (lanes.each k link (some_element ends k (omega (arith, lanes.lists))) inside).few);
-  later = λ k link inside. (lanes.each k link (some_element ends k (omega (arith, lanes.lists))) inside).later;
-  held = λ calm k link inside. (lanes.each k link (some_element ends k (omega (arith, lanes.lists))) inside).held calm;
-  rose = lanes.rose;
-  none_ahead = none;
+  lists = length-map ends items ∙ lanes.lists;
+  count = length-take n standings ∙ omega (arith, same, lanes.enough);
+  each = λ k link inside.
+      let e = some_element ends k (omega (arith, lanes.lists)) in
+      rw (get_or-map items ends k e [] (omega (arith, lanes.lists)), get_or-take n standings k Live (omega (arith, same)))
+      (lanes.each k link e inside).served;
+  to_the_end = λ calm k inside is.
+      to_the_end calm k inside (sym (get_or-take n standings k Live (omega (arith, same))) ∙ is);
+  failed_is = failed_is;
+  none_other = none_other;
 }
 
--- after more turns than a link has connections it has none ahead, where none failed
-pub lanes_done : {L E : Type 0} (told : L → Option Story) (bound faults : L → ℕ) (items : E → List SessionEnd) (turned : ℕ → ℕ)
-    (olds news : List L) (ends : List E) (live : List Bool) (failed : Bool) (all : List Played) →
-    Lanes told bound faults items turned olds news ends live failed all → ((k : ℕ) → k < length olds → 65535 < turned k) →
-    ((k : ℕ) (link : L) → k < length olds → bound (slice_index_or olds k link) ≤ 65535) → failed ≡ false →
-    (k : ℕ) (link : L) → k < length olds → HasNoneAhead (told (slice_index_or olds k link)) (told (slice_index_or news k link))
-lanes_done told bound faults items turned olds news ends live failed all lanes many bounded calm k link inside =
+-- after more turns than a link has connections no link is live
+pub lanes_done : {L E : Type 0} (state : L → LinkState) (items : E → List SessionEnd) (turned : ℕ → ℕ)
+    (olds news : List L) (ends : List E) (standings : List Standing) (all : List Played) →
+    Lanes state items turned olds news ends standings all → ((k : ℕ) → k < length olds → 65535 < turned k) →
+    ((k : ℕ) (link : L) → k < length olds → (state (slice_index_or olds k link)).bound ≤ 65535) →
+    (k : ℕ) → k < length olds → slice_index_or standings k Live ≢ Live
+lanes_done state items turned olds news ends standings all lanes many bounded k inside is =
+    let link = some_element olds k inside in
     let lane = lanes.each k link (some_element ends k (omega (arith, lanes.lists))) inside in
-    ⊎_elim
-    (λ is. absurd (omega (arith, lane.few, lane.took is, many k inside, bounded k link inside)))
-    (λ is. ⊎_elim (λ fail. absurd (true≢false (sym fail ∙ calm))) (λ none. none) (lane.closed is))
-    (cases_Bool (slice_index_or live k false))
+    omega (arith, lane.served.few, lane.took is, many k inside, bounded k link inside)

@@ -1,9 +1,9 @@
 -- A command of its parts.
-use Rattle.std.proofs.Common.{◌≡◌, ℕ, ◌*◌, ◌-◌, ◌^◌, ◌<◌, ◌⊎◌, ⊎_elim, Bool, true, false, List, ◌∷◌, ◌++◌, length, replicate, Option, Some, ap, ◌∙◌, refl, sym, subst, arith}
-use Rattle.std.proofs.lemmas.Bool.{cases_Bool}
+use Rattle.std.proofs.Common.{◌≡◌, ℕ, ◌*◌, ◌-◌, ◌^◌, ◌<◌, ◌⊎◌, ⊎_elim, Bool, true, false, inl, inr, suc, List, [], ◌∷◌, ◌++◌, length, slice_index_or, replicate, Option, Some, None, ap, ◌∙◌, refl, sym, subst, arith}
 use Rattle.base_terms.specs.Blocks.{lengths}
 use Rattle.base_terms.specs.Causes.{Rose}
-use Rattle.bays.specs.Stories.{Script, Story}
+use Rattle.bays.specs.Bays.{Holdings, LeavesAll, LeavesOtherDisks, LeavesOtherClients}
+use Rattle.bays.specs.Stories.{LinkState}
 use Rattle.nbd_session.specs.declared.ending.SessionEnd.{SessionEnd}
 use Rattle.cipher_laws.specs.Bytes.{AreBytes}
 use Rattle.plain_disk.specs.Plain.{Block, Exchange, Legal}
@@ -16,40 +16,60 @@ use Rattle.volume_core.specs.Runs.{Happening, IsRun, last_of, answered_in, no_pl
 use Rattle.volume_core.specs.Sealing.{ChangeNothing}
 use Rattle.volume_core.specs.Seals.{Seals, AreLawful}
 use Rattle.volume_core.specs.Sound.{IsSound, AreApart}
-use Rattle.volume_core.specs.States.{State, Device, size_of}
+use Rattle.sector_disk.specs.Devices.{Device}
+use Rattle.volume_core.specs.States.{State, size_of}
 use Rattle.volume_core.specs.Volumes.{IsWholeDisk, plain_blocks}
 use Rattle.reenc_tool.specs.declared.ended.Cause.{Cause}
-use Rattle.reenc_tool.specs.Lanes.{Served}
-use Rattle.reenc_tool.specs.Playing.{Played, AreSessions, NumbersRise, operations_of}
-use Rattle.reenc_tool.specs.Running.{Came, IsPlainVolume, MayStop, PlainKeys, Ran, StoodStill, WasServed, WasStopped, cause_of}
+use Rattle.reenc_tool.specs.declared.serving.Standing.{Standing}
+use Rattle.reenc_tool.specs.declared.serving.Standing.TheVariants.{Live, Ended, Failed}
+use Rattle.reenc_tool.specs.Lanes.{IsServed, Served, StandsBy, failed_bit, failed_in}
+use Rattle.reenc_tool.specs.Sessions.{Played, AreSessions, NumbersRise, operations_of}
+use Rattle.reenc_tool.specs.Promise.{HasNoDisk, IsPlainVolume, IsStopped, LeavesRest, MayStop, Outcome, PlainKeys, Ran, Serves, StoodStill, WasServed, WasStopped, cause_of, unserved}
+use Rattle.reenc_tool.specs.Words.{Serve}
+use Rattle.reenc_tool.proofs.AskingLemmas.{sessions_unspent}
+use Rattle.reenc_tool.proofs.TextLemmas.{not_rose}
 
--- a link's count that stood still didn't rise
-not_rose : (before now : ℕ) → now ≡ before → now < 2 ^ 64 - 1 → Rose before now → ⊥
-not_rose before now same low rose = ⊎_elim (λ risen. omega arith) (λ last. omega arith) rose
+-- none of several failed, or one of them did
+none_or_one : (standings : List Standing) → (failed_in standings ≡ 0) ⊎ ((k : ℕ) × (k < length standings) × (slice_index_or standings k Live ≡ Failed))
+none_or_one [] = inl refl
+none_or_one (Live ∷ rest) = ⊎_elim (λ none. inl none) (λ one. inr (suc one.0, omega (arith, one.1), one.2)) (none_or_one rest)
+none_or_one (Ended ∷ rest) = ⊎_elim (λ none. inl none) (λ one. inr (suc one.0, omega (arith, one.1), one.2)) (none_or_one rest)
+none_or_one (Failed ∷ rest) = inr (0, omega arith, refl)
 
-no_link_failed : {L E : Type 0} (told : L → Option Story) (bound faults : L → ℕ) (items : E → List SessionEnd) (olds news : List L) (ends : List E)
-    (failed memory : Bool) (all : List Played) → Served told bound faults items olds news ends failed memory all → (link : L) →
-    StoodStill faults olds news → failed ≡ false
-no_link_failed told bound faults items olds news ends failed memory all served link stood =
-    ⊎_elim
-    (λ is. let r = served.rose is link in absurd (not_rose _ _ (stood r.0 link r.1).0 (stood r.0 link r.1).1 r.2))
-    (λ is. is) (cases_Bool failed)
-
--- a disk that was handed back tells what the volume's did
-pub device_same : (atoms : ℕ) (values : Option (List ℕ)) (tables : Option Told) (faults : ℕ) (device : Device) → atoms ≡ device.atoms → values ≡ device.values →
-    tables ≡ device.told → faults ≡ device.faults → record { atoms = atoms; values = values; told = tables; faults = faults } ≡ device
-device_same atoms values tables faults device a b c d = rw (a, b, c, d) refl
+-- where no link's count of faults moved, none failed
+no_link_failed : {L : Type 0} (state : L → LinkState) (olds news : List L) (ends : List (List SessionEnd)) (failed : ℕ) (memory : Bool)
+    (all : List Played) → Served state olds news ends failed memory all → (link : L) → StoodStill state olds news → failed ≡ 0
+no_link_failed state olds news ends failed memory all served link stood =
+    served.failed_is
+    ∙ ⊎_elim (λ none. none)
+    (λ one.
+    let inside : one.0 < length olds = omega (arith, one.1, served.count) in
+    let its = served.each one.0 link inside in
+    let still = stood one.0 link inside in
+    absurd (not_rose _ _ still.0 still.1
+    (subst (λ (s : Standing). StandsBy s (state (slice_index_or olds one.0 link)) (state (slice_index_or news one.0 link))) one.2 its.stands)))
+    (none_or_one served.standings)
 
 -- what the disk tells of itself, as every disk does
-pub record DiskTells (atom : ℕ) (device : Device) : Type 0 where
+pub record DiskTells (device : Device) : Type 0 where
+  pub whole : (bytes : List ℕ) → device.values ≡ Some bytes → length bytes ≡ device.atoms * device.size
+  pub are_bytes : (bytes : List ℕ) → device.values ≡ Some bytes → AreBytes bytes
+  pub agrees : (told : Told) → device.told ≡ Some told → device.values ≡ Some (content told.now)
+  pub even : (told : Told) → device.told ≡ Some told → lengths (currents told.now) ≡ replicate device.atoms device.size
+
+-- the same of a plain volume's disk
+pub record VolumeTells (atom : ℕ) (device : Device) : Type 0 where
   pub whole : (bytes : List ℕ) → device.values ≡ Some bytes → length bytes ≡ device.atoms * atom
   pub are_bytes : (bytes : List ℕ) → device.values ≡ Some bytes → AreBytes bytes
   pub agrees : (told : Told) → device.told ≡ Some told → device.values ≡ Some (content told.now)
   pub even : (told : Told) → device.told ≡ Some told → lengths (currents told.now) ≡ replicate device.atoms atom
 
--- the same of a plain volume's disk
-tells_start : (atom : ℕ) (device : Device) (seals : Seals) (start : State PlainKeys) → IsPlainVolume atom device seals start → DiskTells atom device → DiskTells start.map.atom start.disk
-tells_start atom device seals start volume tells = subst (λ a. DiskTells a start.disk) (sym volume.size) (subst (λ d. DiskTells atom d) (sym volume.disk) tells)
+tells_start : (device : Device) (seals : Seals) (start : State PlainKeys) → IsPlainVolume device seals start → DiskTells device →
+    VolumeTells start.map.atom start.disk
+tells_start device seals start volume tells =
+    subst (λ a. VolumeTells a start.disk) (sym volume.size)
+    (subst (λ d. VolumeTells device.size d) (sym volume.disk)
+    (record { whole = tells.whole; are_bytes = tells.are_bytes; agrees = tells.agrees; even = tells.even }))
 
 -- the laws of volumes that a command cites
 pub record VolumeLaws (start : State PlainKeys) (seals : Seals) (run : List (Happening PlainKeys)) : Type 0 where
@@ -78,7 +98,7 @@ history_of start seals final run exchanges bytes laws starts did =
 
 -- stops
 may_stop : (start : State PlainKeys) (seals : Seals) (final : State PlainKeys) (run : List (Happening PlainKeys)) (exchanges : List Exchange) →
-    VolumeLaws start seals run → DiskTells start.map.atom start.disk → IsWholeDisk start.map.atom start.disk.atoms start.map → ChangeNothing seals →
+    VolumeLaws start seals run → VolumeTells start.map.atom start.disk → IsWholeDisk start.map.atom start.disk.atoms start.map → ChangeNothing seals →
     ((bytes : List ℕ) → start.disk.values ≡ Some bytes → Starts start seals (plain_blocks start bytes) bytes) → Executes seals start final run exchanges → MayStop start seals run exchanges
 may_stop start seals final run exchanges laws tells whole nothing starts did = λ bytes before values was settled. (
   laws.covered bytes whole nothing (tells.whole bytes values) (tells.are_bytes bytes values)
@@ -88,63 +108,106 @@ may_stop start seals final run exchanges laws tells whole nothing starts did = �
   (λ now told. laws.tables now did.is told),
 )
 
-pub ran_of : {D L E : Type 0} (atom : D → ℕ) (device : D → Device) (told : L → Option Story) (bound faults : L → ℕ) (items : E → List SessionEnd)
-    (disk d : D) (begun : List L) (link : L) (links : List L) (ends : List E) (cause : Cause) (start : State PlainKeys) (seals : Seals) (final : State PlainKeys)
-    (run : List (Happening PlainKeys)) (failed memory : Bool) (played : List Played) (size atom_is : ℕ) → VolumeLaws start seals run → IsPlainVolume (atom disk) (device disk) seals start →
-    AreLawful start.map.atom seals → DiskTells (atom disk) (device disk) → Executes seals start final run (operations_of played) → IsIdle final →
-    size ≡ size_of start.map → atom_is ≡ start.map.atom → AreSessions (record { number = 0; size = size; atom = atom_is }) played → NumbersRise 0 played →
-    Served told bound faults items begun links ends failed memory played → device d ≡ final.disk → atom d ≡ atom disk → cause ≡ cause_of final.broken failed memory →
-    Ran atom device told bound faults items disk begun cause (Some d) links ends
-ran_of atom device told bound faults items disk d begun link links ends cause start seals final run failed memory played size atom_is laws volume lawful tells did idle size_same atom_same
-    sessions rise served back same_atom cause_is =
-    let own = tells_start (atom disk) (device disk) seals start volume tells in
-    let starts : (bytes : List ℕ) → start.disk.values ≡ Some bytes → Starts start seals (plain_blocks start bytes) bytes =
-    λ bytes is. laws.starts bytes volume.sound volume.fresh volume.apart volume.whole lawful volume.nothing is (own.whole bytes is) (own.are_bytes bytes is) in record {
-      start = start;
-      seals = seals;
-      final = final;
-      run = run;
-      failed = failed;
-      memory = memory;
-      played = played;
-      volume = volume;
-      sessions = subst (λ (a : ℕ). AreSessions (record { number = 0; size = size_of start.map; atom = a }) played) atom_same
-          (subst (λ (s : ℕ). AreSessions (record { number = 0; size = s; atom = atom_is }) played) size_same sessions);
-      rise = rise;
-      served = served;
-      did = did;
-      idle = idle;
-      back_is = (d, refl, back, same_atom);
-      history = λ bytes is. history_of start seals final run (operations_of played) bytes laws (starts bytes is) did;
-      stops = may_stop start seals final run (operations_of played) laws own volume.whole volume.nothing starts did;
-      cause_is = cause_is;
-      broke = subst (λ s. s.broken ≡ true → Rose start.disk.faults s.disk.faults) did.last (laws.breaks volume.fresh did.is);
-      errors = λ earlier later one is. laws.errors earlier later one volume.fresh (subst (λ r. IsRun start r) is did.is);
-      fails = λ earlier later is. laws.events earlier later volume.fresh (subst (λ r. IsRun start r) is did.is);
-      complete = λ stood low links_stood.
-          let fine = laws.faultless volume.sound volume.fresh lawful did.is (operations_of played) (did.answers no_plain) (ap (λ s. s.disk.faults) did.last ∙ stood) (omega (arith, stood, low)) in
-          let unbroken = ap (λ s. s.broken) (sym did.last) ∙ fine.1 in
-          let calm = no_link_failed told bound faults items begun links ends failed memory played served link links_stood in
-          (fine.0, cause_is ∙ ap (λ b. cause_of b failed memory) unbroken ∙ ap (λ f. cause_of false f memory) calm);
-    }
+-- a command's outcome, of the parts that its run left
+module _ {D L : Type 0} (device : D → Device) (state : L → LinkState) (disk back : D) (begun : List L) (link : L) (outcome : Outcome D L)
+    (start : State PlainKeys) (seals : Seals) (final : State PlainKeys) (run : List (Happening PlainKeys)) where
+  pub ran_of : (failed : ℕ) (memory : Bool) (played : List Played) (size atom : ℕ) {may_spend : Type 0} → VolumeLaws start seals run →
+      IsPlainVolume (device disk) seals start → AreLawful start.map.atom seals → DiskTells (device disk) →
+      Executes seals start final run (operations_of played) → IsIdle final → size ≡ size_of start.map → atom ≡ start.map.atom →
+      (may_spend → ⊥) → AreSessions (record { number = 0; size = size; atom = atom }) may_spend played → NumbersRise 0 played →
+      Served state begun outcome.links outcome.ends failed memory played → outcome.disk ≡ Some back → device back ≡ final.disk →
+      (device back).size ≡ (device disk).size → outcome.cause ≡ cause_of final.broken failed memory → Ran device state disk begun outcome
+  ran_of failed memory played size atom laws volume lawful tells did idle size_same atom_same never sessions rise served is_back back_is same_size cause_is =
+      let own = tells_start (device disk) seals start volume tells in
+      let starts : (bytes : List ℕ) → start.disk.values ≡ Some bytes → Starts start seals (plain_blocks start bytes) bytes =
+      λ bytes is. laws.starts bytes volume.sound volume.fresh volume.apart volume.whole lawful volume.nothing is (own.whole bytes is) (own.are_bytes bytes is) in
+      record {
+        start = start;
+        seals = seals;
+        final = final;
+        run = run;
+        failed = failed;
+        memory = memory;
+        played = played;
+        volume = volume;
+        sessions = subst (λ (a : ℕ). AreSessions (record { number = 0; size = size_of start.map; atom = a }) ⊥ played) atom_same
+            (subst (λ (s : ℕ). AreSessions (record { number = 0; size = s; atom = atom }) ⊥ played) size_same (sessions_unspent _ never played sessions));
+        rise = rise;
+        served = served;
+        did = did;
+        idle = idle;
+        back_is = (back, is_back, back_is, same_size);
+        history = λ bytes is. history_of start seals final run (operations_of played) bytes laws (starts bytes is) did;
+        stops = may_stop start seals final run (operations_of played) laws own volume.whole volume.nothing starts did;
+        cause_is = cause_is;
+        broke = subst (λ s. s.broken ≡ true → Rose start.disk.faults s.disk.faults) did.last (laws.breaks volume.fresh did.is);
+        errors = λ earlier later one is. laws.errors earlier later one volume.fresh (subst (λ r. IsRun start r) is did.is);
+        fails = λ earlier later is. laws.events earlier later volume.fresh (subst (λ r. IsRun start r) is did.is);
+        complete = λ stood low links_stood.
+            let fine = laws.faultless volume.sound volume.fresh lawful did.is (operations_of played) (did.answers no_plain)
+            (ap (λ s. s.disk.faults) did.last ∙ stood) (omega (arith, stood, low)) in
+            let unbroken = ap (λ s. s.broken) (sym did.last) ∙ fine.1 in
+            let calm = no_link_failed state begun outcome.links outcome.ends failed memory played served link links_stood in
+            (fine.0, cause_is ∙ ap (λ b. cause_of b failed memory) unbroken ∙ ap (λ f. cause_of false f memory) calm);
+      }
 
--- what came after the bay gave the disk came after it was asked
-pub ended_earlier : {D L E : Type 0} (atom : D → ℕ) (device : D → Device) (told : L → Option Story) (bound faults : L → ℕ) (items : E → List SessionEnd)
-    (inputs inputs' : Option (List Script)) (sessions : ℕ) (disk : D) (atoms before mid now : ℕ) (cause : Cause) (back : Option D) (links : List L) (ends : List E) →
-    inputs' ≡ inputs → mid ≡ before →
-    WasServed atom device told bound faults items inputs' sessions disk mid now cause back links ends
-    ⊎ WasStopped told bound inputs' sessions disk atoms mid now cause back links ends →
-    WasServed atom device told bound faults items inputs sessions disk before now cause back links ends
-    ⊎ WasStopped told bound inputs sessions disk atoms before now cause back links ends
-ended_earlier atom device told bound faults items inputs inputs' sessions disk atoms before mid now cause back links ends same stood ended =
-    rw (← same, ← stood) ended
+module _ {D L : Type 0} (device : D → Device) (state : L → LinkState) where
+  -- what came after the bay gave the disk came after it was asked
+  pub ended_earlier : (address : List ℕ) (sessions : ℕ) (disk : D) (old mid new : Holdings D) (outcome : Outcome D L) →
+      mid.inputs ≡ old.inputs → mid.faults ≡ old.faults →
+      Serves device state address sessions disk mid new outcome → Serves device state address sessions disk old new outcome
+  ended_earlier address sessions disk old mid new outcome same stood ended = ⊎_elim
+      (λ served. inl (record {
+        begun = served.begun;
+        blocks = served.blocks;
+        given = rw (← same) served.given;
+        stood = served.stood ∙ stood;
+        ran = served.ran;
+      }))
+      (λ stopped. inr (record {
+        links = stopped.links;
+        outcome_is = stopped.outcome_is;
+        links_are = rw (← same) stopped.links_are;
+        why = rw (← stood) stopped.why;
+      }))
+      ended
 
-pub came_same : {D L E : Type 0} (atom : D → ℕ) (device : D → Device) (told : L → Option Story) (bound faults : L → ℕ) (items : E → List SessionEnd) (shelf : List ℕ → Option D)
-    (inputs : Option (List Script)) (words : List (List ℕ)) (before now : ℕ) (cause : Cause) (back back' : Option D) (links links' : List L) (ends ends' : List E) →
-    back' ≡ back → links' ≡ links → ends' ≡ ends →
-    Came atom device told bound faults items shelf inputs words before now cause back links ends →
-    Came atom device told bound faults items shelf inputs words before now cause back' links' ends'
-came_same {D} {L} {E} atom device told bound faults items shelf inputs words before now cause back back' links links' ends ends' a b c came =
-    subst (λ (d : Option D). Came atom device told bound faults items shelf inputs words before now cause d links' ends') (sym a)
-    (subst (λ (l : List L). Came atom device told bound faults items shelf inputs words before now cause back l ends') (sym b)
-    (subst (λ (e : List E). Came atom device told bound faults items shelf inputs words before now cause back links e) (sym c) came))
+-- what a command left that asked for a disk, and then perhaps for links
+pub leaves_rest : {D : Type 0} (serve : Serve) (old mid new : Holdings D) → LeavesOtherDisks serve.disk old mid →
+    LeavesOtherClients serve.address mid new → LeavesRest serve old new
+leaves_rest serve old mid new first then = record {
+  disks = λ other differ. ap (λ shelf. shelf other) then.disks ∙ first.disks other differ;
+  keys = then.keys ∙ first.keys;
+  clients = λ other differ. then.clients other differ ∙ ap (λ inputs. inputs other) first.clients;
+}
+
+pub leaves_all : {D : Type 0} (serve : Serve) (old new : Holdings D) → LeavesAll old new → LeavesRest serve old new
+leaves_all serve old new leaves = record {
+  disks = λ other differ. ap (λ shelf. shelf other) leaves.disks;
+  keys = leaves.keys;
+  clients = λ other differ. ap (λ inputs. inputs other) leaves.clients;
+}
+
+-- a command that got no disk, and so served nothing
+pub no_disk : {D L : Type 0} (old new : Holdings D) (outcome : Outcome D L) (cause : Cause) → outcome ≡ unserved cause None [] →
+    LeavesAll old new → IsStopped 1 old.faults new.faults cause → HasNoDisk old new outcome
+no_disk old new outcome cause is leaves why = record {
+  outcome_is = is ∙ ap (λ o. unserved o.cause None []) (sym is);
+  leaves = leaves;
+  why = subst (λ (c : Cause). IsStopped 1 old.faults new.faults c) (sym (ap (λ o. o.cause) is)) why;
+}
+
+-- what is handed back without a session, by its links
+abbrev pub unserved_of : {D L : Type 0} → Cause → Option D → List L → Outcome D L
+unserved_of cause disk links = unserved cause disk links
+
+abbrev pub handed_back : {D L : Type 0} → Cause → Option D → List L → List (List SessionEnd) → Outcome D L
+handed_back cause disk links ends = record { cause = cause; disk = disk; links = links; ends = ends }
+
+-- what is handed back is the same where each part is
+pub same_outcome : {D L : Type 0} (cause : Cause) (disk disk' : Option D) (links links' : List L) (ends ends' : List (List SessionEnd)) →
+    disk ≡ disk' → links ≡ links' → ends ≡ ends' →
+    handed_back cause disk links ends ≡ handed_back cause disk' links' ends'
+same_outcome {D} {L} cause disk disk' links links' ends ends' a b c =
+    ap (λ (d : Option D). handed_back cause d links ends) a ∙ ap (λ (l : List L). handed_back cause disk' l ends) b
+    ∙ ap (λ (e : List (List SessionEnd)). handed_back cause disk' links' e) c

@@ -1,9 +1,9 @@
 pub mod Asking
 pub mod Ending
 pub mod Lanes
-pub mod Playing
+pub mod Sessions
 pub mod Ports
-pub mod Running
+pub mod Promise
 pub mod Status
 pub mod Texts
 pub mod Words

@@ -1,8 +1,8 @@
 -- What a command did.
-use Rattle.std.specs.Prelude.{ℕ, ◌≡◌, ◌-◌, ◌^◌, ◌<◌, ◌≤◌, ◌⊎◌, Bool, true, if◌then◌else◌, List, [], ◌∷◌, ◌++◌, length, slice_index_or, Option, Some, None}
+use Rattle.std.specs.Prelude.{ℕ, ◌≡◌, ◌≢◌, ◌-◌, ◌^◌, ◌<◌, ◌≤◌, ◌⊎◌, ◌==◌, Bool, true, if◌then◌else◌, List, [], ◌∷◌, ◌++◌, length, map, slice_index_or, Option, Some, None}
 use Rattle.base_terms.specs.Causes.{Rose}
-use Rattle.bays.specs.Bays.{AreFresh}
-use Rattle.bays.specs.Stories.{Script, Story}
+use Rattle.bays.specs.Bays.{AreBounded, AreFresh, Holdings, LeavesAll}
+use Rattle.bays.specs.Stories.{LinkState, Script}
 use Rattle.nbd_session.specs.declared.ending.SessionEnd.{SessionEnd}
 use Rattle.plain_disk.specs.Outcomes.{AreServed}
 use Rattle.plain_disk.specs.Plain.{Block, Exchange, Legal}
@@ -18,34 +18,38 @@ use Rattle.volume_core.specs.Sealing.{ChangeNothing}
 use Rattle.volume_core.specs.Seals.{Seals}
 use Rattle.volume_core.specs.Sound.{IsSound, AreApart}
 use Rattle.volume_core.specs.States.{State, size_of}
-use Rattle.volume_core.specs.States.{Device as DiskState}
+use Rattle.sector_disk.specs.Devices.{Device as DiskState}
 use Rattle.volume_core.specs.Volumes.{IsWholeDisk, plain_blocks}
 use Rattle.volume_core.specs.declared.keys.Keys.{Keys}
 use Rattle.reenc_tool.specs.declared.ended.Cause.{Cause}
 use Rattle.reenc_tool.specs.declared.ended.Cause.TheVariants.{Fine, Usage, Device, NoFit, Link, Output, Memory}
+use Rattle.reenc_tool.specs.declared.ended.Failing.TheVariants as Failing
+use Rattle.reenc_tool.specs.declared.ended.Ended.{Ended}
 use Rattle.reenc_tool.specs.declared.ended.Fit.TheVariants.{Blocks}
 use Rattle.reenc_tool.specs.Lanes.{Served}
-use Rattle.reenc_tool.specs.Playing.{Played, AreSessions, NumbersRise, operations_of}
+use Rattle.reenc_tool.specs.Sessions.{Played, AreSessions, NumbersRise, operations_of}
 use Rattle.reenc_tool.specs.Words.{Serve, IsServe, NotServe}
 
 -- the keys of a volume that changes nothing: contexts of ciphers over AES
 abbrev pub PlainKeys : Type 0
 PlainKeys = Keys (DiskCipher Aes)
 
--- the volume of a disk of atoms of `atom` bytes, as it is, before any operation
-pub record IsPlainVolume (atom : ℕ) (device : DiskState) (seals : Seals) (start : State PlainKeys) : Type 0 where
+-- the volume of a disk, as it is, before any operation
+pub record IsPlainVolume (device : DiskState) (seals : Seals) (start : State PlainKeys) : Type 0 where
   pub fresh : IsFresh start
   pub sound : IsSound start
-  pub size : start.map.atom ≡ atom
+  pub size : start.map.atom ≡ device.size
   pub disk : start.disk ≡ device
   -- its blocks are the disk's atoms, each at a place of its own, and no key changes their bytes
   pub whole : IsWholeDisk start.map.atom start.disk.atoms start.map
   pub apart : AreApart start.map
   pub nothing : ChangeNothing seals
 
--- the cause of the end of sessions
-abbrev pub cause_of : Bool → Bool → Bool → Cause
-cause_of broken failed memory = if broken then Device else (if failed then Link else (if memory then Memory else Fine))
+-- the cause of the end of sessions: the volume is broken, so many links failed, memory was wanted
+abbrev pub cause_of : Bool → ℕ → Bool → Cause
+cause_of broken failed memory =
+    if broken then Device Failing.Disk
+    else (if failed == 0 then (if memory then Memory else Fine) else Link failed)
 
 -- Where the disk told its bytes and tables, and each atom held its value for certain, a stop after
 -- each event leaves only contents that the plain disk allows there; and each table that the disk tells
@@ -68,100 +72,134 @@ ErrorsAreExact start seals run = (earlier later : List (Happening PlainKeys)) (o
     DeviceErrorsAreExact seals start earlier one
 
 -- no link's count of faults moved, nor stands at its last value
-abbrev pub StoodStill : {L : Type 0} → (L → ℕ) → List L → List L → Type 0
-StoodStill {L} faults olds news = (k : ℕ) (link : L) → k < length olds →
-    (faults (slice_index_or news k link) ≡ faults (slice_index_or olds k link)) × (faults (slice_index_or news k link) < 2 ^ 64 - 1)
+abbrev pub StoodStill : {L : Type 0} → (L → LinkState) → List L → List L → Type 0
+StoodStill {L} state olds news = (k : ℕ) (link : L) → k < length olds →
+    ((state (slice_index_or news k link)).faults ≡ (state (slice_index_or olds k link)).faults)
+    × ((state (slice_index_or news k link)).faults < 2 ^ 64 - 1)
+
+-- what a command hands back: its cause, its disk and its links, with the ends of each link's sessions
+pub record Outcome (D L : Type 0) : Type 0 where
+  pub cause : Cause
+  pub disk : Option D
+  pub links : List L
+  pub ends : List (List SessionEnd)
+
+abbrev pub outcome_of : {D L : Type 0} → Ended D L → Outcome D L
+outcome_of ended = record {
+  cause = ended.cause;
+  disk = ended.disk;
+  links = ended.links.items;
+  ends = map (λ list. list.items) ended.sessions.items;
+}
+
+-- what a command hands back that served no session
+abbrev pub unserved : {D L : Type 0} → Cause → Option D → List L → Outcome D L
+unserved cause disk links = record { cause = cause; disk = disk; links = links; ends = [] }
 
 -- Sessions were served on a disk that was handed in, over these links. What the clients were put are
 -- the answers of one plain disk that was asked their operations, session after session.
-pub record Ran {D L E : Type 0} (atom : D → ℕ) (device : D → DiskState) (told : L → Option Story) (bound faults : L → ℕ) (items : E → List SessionEnd)
-    (disk : D) (begun : List L) (cause : Cause) (back : Option D) (links : List L) (ends : List E) : Type 0 where
+pub record Ran {D L : Type 0} (device : D → DiskState) (state : L → LinkState) (disk : D) (begun : List L)
+    (outcome : Outcome D L) : Type 0 where
   pub start : State PlainKeys
   pub seals : Seals
   pub final : State PlainKeys
   pub run : List (Happening PlainKeys)
-  pub failed : Bool
+  pub failed : ℕ
   pub memory : Bool
   pub played : List Played
-  -- the volume of the disk, and the sessions and links that tell of its operations
-  pub volume : IsPlainVolume (atom disk) (device disk) seals start
-  pub sessions : AreSessions (record { number = 0; size = size_of start.map; atom = start.map.atom }) played
+  -- the volume of the disk, and the sessions and links that tell of its operations; no session ends
+  -- since the port is spent
+  pub volume : IsPlainVolume (device disk) seals start
+  pub sessions : AreSessions (record { number = 0; size = size_of start.map; atom = start.map.atom }) ⊥ played
   pub rise : NumbersRise 0 played
-  pub served : Served told bound faults items begun links ends failed memory played
+  pub served : Served state begun outcome.links outcome.ends failed memory played
   -- the run of events that executed the operations, each of which makes at most one call of the disk,
   -- and the disk, which is handed back as they left it
   pub did : Executes seals start final run (operations_of played)
   -- none is under way at the end: each operation that began was answered, so it is a session's
   pub idle : IsIdle final
-  pub back_is : (d : D) × (back ≡ Some d) × (device d ≡ final.disk) × (atom d ≡ atom disk)
+  pub back_is : (back : D) × (outcome.disk ≡ Some back) × (device back ≡ final.disk)
+      × ((device back).size ≡ (device disk).size)
   -- one history: legal from what the disk told when it was handed in
   pub history : (bytes : List ℕ) → start.disk.values ≡ Some bytes →
       (left : List Block) × Legal start.map.atom (plain_blocks start bytes) (operations_of played) left
   -- stops: wherever the run stops, the disk holds what this history allows there
   pub stops : MayStop start seals run (operations_of played)
   -- the cause, and when it may come
-  pub cause_is : cause ≡ cause_of final.broken failed memory
+  pub cause_is : outcome.cause ≡ cause_of final.broken failed memory
   pub broke : final.broken ≡ true → Rose start.disk.faults final.disk.faults
   -- error 5, and when an operation has failed and the volume is broken
   pub errors : ErrorsAreExact start seals run
   pub fails : GoesAlong start run
   -- where no count moved, each operation was served, and only want of memory ends it otherwise
-  pub complete : final.disk.faults ≡ start.disk.faults → final.disk.faults < 2 ^ 64 - 1 → StoodStill faults begun links →
-      AreServed start.map.atom (size_of start.map) (operations_of played) × (cause ≡ (if memory then Memory else Fine))
+  pub complete : final.disk.faults ≡ start.disk.faults → final.disk.faults < 2 ^ 64 - 1 → StoodStill state begun outcome.links →
+      AreServed start.map.atom (size_of start.map) (operations_of played) × (outcome.cause ≡ (if memory then Memory else Fine))
 
 -- Four links, as a bay gives them: each has its share of the inputs ahead, where the bay tells them,
 -- and at most as many connections as there are to be sessions.
-pub record AreGiven {L : Type 0} (told : L → Option Story) (bound : L → ℕ) (inputs : Option (List Script)) (sessions : ℕ) (links : List L) : Type 0 where
+pub record AreGiven {L : Type 0} (state : L → LinkState) (inputs : Option (List Script)) (sessions : ℕ) (links : List L) : Type 0 where
   pub workers : length links ≡ 4
-  pub fresh : AreFresh told inputs 4 sessions links
-  pub few : (k : ℕ) (link : L) → k < 4 → bound (slice_index_or links k link) ≤ sessions
+  pub fresh : AreFresh state inputs 4 sessions links
+  pub few : AreBounded state 4 sessions links
 
--- Sessions were served on a disk that has a block, over the links that a bay gave without a fault.
-pub record WasServed {D L E : Type 0} (atom : D → ℕ) (device : D → DiskState) (told : L → Option Story) (bound faults : L → ℕ) (items : E → List SessionEnd)
-    (inputs : Option (List Script)) (sessions : ℕ) (disk : D) (before now : ℕ) (cause : Cause) (back : Option D) (links : List L) (ends : List E) : Type 0 where
+-- Sessions were served on a disk that has a block, over the links to the clients of an address, which
+-- a bay gave without a fault.
+pub record WasServed {D L : Type 0} (device : D → DiskState) (state : L → LinkState) (address : List ℕ) (sessions : ℕ)
+    (disk : D) (old new : Holdings D) (outcome : Outcome D L) : Type 0 where
   pub begun : List L
   pub blocks : 0 < (device disk).atoms
-  pub given : AreGiven told bound inputs sessions begun
-  pub stood : now ≡ before
-  pub ran : Ran atom device told bound faults items disk begun cause back links ends
+  pub given : AreGiven state (old.inputs address) sessions begun
+  pub stood : new.faults ≡ old.faults
+  pub ran : Ran device state disk begun outcome
 
--- why no session was served on a disk of so many atoms
+-- Why no session was served on a disk of so many atoms, by a bay's count of faults. That the disk has
+-- no block comes before the links are asked for.
 abbrev pub IsStopped : ℕ → ℕ → ℕ → Cause → Type 0
-IsStopped atoms before now Fine = ⊥
-IsStopped atoms before now Usage = ⊥
-IsStopped atoms before now Device = Rose before now
+IsStopped atoms before now (Device Failing.Bay) = (0 < atoms) × Rose before now
 IsStopped atoms before now (NoFit what number limit) = (atoms ≡ 0) × (what ≡ Blocks) × (number ≡ atoms) × (limit ≡ 1) × (now ≡ before)
-IsStopped atoms before now Link = ⊥
-IsStopped atoms before now Output = ⊥
 IsStopped atoms before now Memory = before ≤ now
+IsStopped atoms before now _ = ⊥
 
 -- No session was served on the disk, which is handed back as it was; so are the links, where memory
 -- was wanted once the bay had given them.
-pub record WasStopped {D L E : Type 0} (told : L → Option Story) (bound : L → ℕ) (inputs : Option (List Script)) (sessions : ℕ) (disk : D)
-    (atoms before now : ℕ) (cause : Cause) (back : Option D) (links : List L) (ends : List E) : Type 0 where
-  pub back_is : back ≡ Some disk
-  pub links_are : (links ≡ []) ⊎ ((cause ≡ Memory) × AreGiven told bound inputs sessions links)
-  pub none : ends ≡ []
-  pub why : IsStopped atoms before now cause
+pub record WasStopped {D L : Type 0} (device : D → DiskState) (state : L → LinkState) (address : List ℕ) (sessions : ℕ)
+    (disk : D) (old new : Holdings D) (outcome : Outcome D L) : Type 0 where
+  pub links : List L
+  pub outcome_is : outcome ≡ unserved outcome.cause (Some disk) links
+  pub links_are : (links ≡ []) ⊎ ((outcome.cause ≡ Memory) × AreGiven state (old.inputs address) sessions links)
+  pub why : IsStopped (device disk).atoms old.faults new.faults outcome.cause
 
--- The disk that a bay gave was served or not.
-pub record OnDisk {D L E : Type 0} (atom : D → ℕ) (device : D → DiskState) (told : L → Option Story) (bound faults : L → ℕ) (items : E → List SessionEnd)
-    (shelf : List ℕ → Option D) (inputs : Option (List Script)) (serve : Serve) (before now : ℕ)
-    (cause : Cause) (back : Option D) (links : List L) (ends : List E) : Type 0 where
+-- the disk that a bay gave was served or not
+abbrev pub Serves : {D L : Type 0} → (D → DiskState) → (L → LinkState) → List ℕ → ℕ → D → Holdings D → Holdings D → Outcome D L → Type 0
+Serves device state address sessions disk old new outcome =
+    WasServed device state address sessions disk old new outcome ⊎ WasStopped device state address sessions disk old new outcome
+
+-- it is the disk of the name that the words say, with atoms of the size that they say
+pub record OnDisk {D L : Type 0} (device : D → DiskState) (state : L → LinkState) (serve : Serve) (old new : Holdings D)
+    (outcome : Outcome D L) : Type 0 where
   pub disk : D
-  pub kept : (kept : D) → shelf serve.disk ≡ Some kept → disk ≡ kept
-  pub atom_is : atom disk ≡ serve.atom
-  pub ended : WasServed atom device told bound faults items inputs serve.sessions disk before now cause back links ends
-      ⊎ WasStopped told bound inputs serve.sessions disk (device disk).atoms before now cause back links ends
+  pub kept : (kept : D) → old.shelf serve.disk ≡ Some kept → disk ≡ kept
+  pub atom_is : (device disk).size ≡ serve.atom
+  pub ended : Serves device state serve.address serve.sessions disk old new outcome
 
--- A command did what its words ask for, or stopped before it had a disk.
-abbrev pub Came : {D L E : Type 0} → (D → ℕ) → (D → DiskState) → (L → Option Story) → (L → ℕ) → (L → ℕ) → (E → List SessionEnd) → (List ℕ → Option D) →
-    Option (List Script) → List (List ℕ) → ℕ → ℕ → Cause → Option D → List L → List E → Type 0
-Came atom device told bound faults items shelf inputs words before now cause back links ends =
-    (NotServe words × (cause ≡ Usage) × (back ≡ None) × (links ≡ []) × (ends ≡ []) × (now ≡ before))
-    ⊎ ((serve : Serve) × IsServe words serve
-    × (OnDisk atom device told bound faults items shelf inputs serve before now cause back links ends
-    ⊎ ((back ≡ None) × (links ≡ []) × (ends ≡ []) × IsStopped 1 before now cause)))
+-- a bay gave no disk, and lost nothing
+pub record HasNoDisk {D L : Type 0} (old new : Holdings D) (outcome : Outcome D L) : Type 0 where
+  pub outcome_is : outcome ≡ unserved outcome.cause None []
+  pub leaves : LeavesAll old new
+  pub why : IsStopped 1 old.faults new.faults outcome.cause
+
+-- a command leaves all of a bay but the disk and the clients that it asked for
+pub record LeavesRest {D : Type 0} (serve : Serve) (old new : Holdings D) : Type 0 where
+  pub disks : (other : List ℕ) → other ≢ serve.disk → new.shelf other ≡ old.shelf other
+  pub keys : new.keyring ≡ old.keyring
+  pub clients : (other : List ℕ) → other ≢ serve.address → new.inputs other ≡ old.inputs other
+
+-- a command did what its words ask for, or stopped before it had a disk
+abbrev pub Came : {D L : Type 0} → (D → DiskState) → (L → LinkState) → List (List ℕ) → Holdings D → Holdings D → Outcome D L → Type 0
+Came device state words old new outcome =
+    (NotServe words × (outcome ≡ unserved Usage None []) × (new ≡ old))
+    ⊎ ((serve : Serve) × IsServe words serve × LeavesRest serve old new
+    × (OnDisk device state serve old new outcome ⊎ HasNoDisk old new outcome))
 
 -- `serve` on a plain disk has no disk of headers, and no pass
 abbrev pub HasNoOther : {D P : Type 0} → Option D → Option P → Option P → Type 0

@@ -1,9 +1,11 @@
 -- Sessions that were served, and how links tell of them.
-use Rattle.std.specs.Prelude.{ℕ, ◌≡◌, ◌+◌, ◌≤◌, suc, ◌==◌, if◌then◌else◌, List, [], ◌∷◌, ◌++◌, Option, Some}
-use Rattle.bays.specs.Stories.{Script, Handed, Story}
+use Rattle.std.specs.Prelude.{ℕ, ◌≡◌, ◌+◌, ◌<◌, ◌≤◌, ◌⊎◌, suc, ◌==◌, if◌then◌else◌, List, [], ◌∷◌, ◌++◌, Some}
+use Rattle.bays.specs.Stories.{Script, Handed, LinkState, Story}
+use Rattle.nbd_session.specs.declared.ending.Ending.TheVariants.{PortSpent, WriteFault}
 use Rattle.nbd_session.specs.declared.ending.SessionEnd.{SessionEnd}
 use Rattle.nbd_session.specs.declared.export.Export.{Export}
 use Rattle.nbd_session.specs.Moments.{Moment, moment}
+use Rattle.nbd_session.specs.Putting.{IsOut}
 use Rattle.nbd_session.specs.Session.{Log, IsSession}
 use Rattle.nbd_session.specs.Turns.{exchanges_of}
 use Rattle.plain_disk.specs.Plain.{Exchange}
@@ -21,11 +23,17 @@ pub record Played : Type 0 where
 abbrev pub numbered : Export → ℕ → Export
 numbered export number = record { number = number; size = export.size; atom = export.atom }
 
+-- It is a session. All that it put has gone out, unless its sink failed; and it ended since the port
+-- is spent only where the port may be.
+pub record IsPlayed (export : Export) (may_spend : Type 0) (one : Played) : Type 0 where
+  pub session : IsSession (numbered export one.end.number) one.end one.before one.after one.log
+  pub out : (one.end.ending ≡ WriteFault) ⊎ IsOut one.after.sink
+  pub spent : one.end.ending ≡ PortSpent → may_spend
+
 -- each of them is a session
-unfoldable pub AreSessions : Export → List Played → Type 0
-AreSessions export [] = Unit {0}
-AreSessions export (played ∷ rest) =
-    IsSession (numbered export played.end.number) played.end played.before played.after played.log × AreSessions export rest
+unfoldable pub AreSessions : Export → Type 0 → List Played → Type 0
+AreSessions export may_spend [] = Unit {0}
+AreSessions export may_spend (played ∷ rest) = IsPlayed export may_spend played × AreSessions export may_spend rest
 
 -- the operations that were submitted, session after session
 unfoldable pub operations_of : List Played → List Exchange
@@ -37,12 +45,21 @@ unfoldable pub of_link : ℕ → List Played → List Played
 of_link k [] = []
 of_link k (played ∷ rest) = if played.link == k then played ∷ of_link k rest else of_link k rest
 
+-- each session is one of these links'
+unfoldable pub AreOfLinks : ℕ → List Played → Type 0
+AreOfLinks links [] = Unit {0}
+AreOfLinks links (played ∷ rest) = (played.link < links) × AreOfLinks links rest
+
 -- a connection as it begins, and as it was handed back
 abbrev pub beginning : Script → Moment
-beginning script = moment (Some []) (Some script.input) (Some []) script.in_faults script.out_faults 0 0
+beginning script =
+    moment (record { given = Some []; left = Some script.input; faults = script.in_faults })
+    (record { had = Some []; held_back = []; faults = script.out_faults }) 0 0
 
 abbrev pub handing_back : Handed → SessionEnd → Moment
-handing_back handed end = moment (Some handed.given) (Some handed.left) (Some handed.had) handed.in_faults handed.out_faults end.taken end.put
+handing_back handed end =
+    moment (record { given = Some handed.given; left = Some handed.left; faults = handed.in_faults })
+    (record { had = Some handed.had; held_back = handed.held_back; faults = handed.out_faults }) end.taken end.put
 
 -- A link that told a story tells the next one: each session took the first connection ahead, and it
 -- was handed back as the session left it.
@@ -54,15 +71,24 @@ Plays old new (played ∷ rest) =
     × Plays (record { ahead = others; handed = old.handed ++ handed ∷ [] }) new rest
 
 -- where a link tells its story, it goes on by these sessions
-abbrev pub Goes : Option Story → Option Story → List Played → Type 0
-Goes old new played = (story : Story) → old ≡ Some story → (next : Story) × (new ≡ Some next) × Plays story next played
+abbrev pub Goes : LinkState → LinkState → List Played → Type 0
+Goes old new played = (story : Story) → old.story ≡ Some story → (next : Story) × (new.story ≡ Some next) × Plays story next played
 
 -- the numbers of the sessions rise, from at least `least`
 unfoldable pub NumbersRise : ℕ → List Played → Type 0
 NumbersRise least [] = Unit {0}
 NumbersRise least (played ∷ rest) = (least ≤ played.end.number) × NumbersRise (suc played.end.number) rest
 
+-- all sessions have lower numbers than this
+unfoldable pub NumbersBelow : ℕ → List Played → Type 0
+NumbersBelow most [] = Unit {0}
+NumbersBelow most (played ∷ rest) = (played.end.number < most) × NumbersBelow most rest
+
 -- the numbers of the sessions are `number`, `number + step` and so on
 unfoldable pub AreNumbered : ℕ → ℕ → List Played → Type 0
 AreNumbered step number [] = Unit {0}
 AreNumbered step number (played ∷ rest) = (played.end.number ≡ number) × AreNumbered step (number + step) rest
+
+-- at most one session, of this link and of this number
+abbrev pub IsOneOf : ℕ → ℕ → List Played → Type 0
+IsOneOf k number played = (played ≡ []) ⊎ ((one : Played) × (played ≡ one ∷ []) × (one.link ≡ k) × (one.end.number ≡ number))

@@ -1,6 +1,7 @@
 -- The line that a command prints.
 use Rattle.std.specs.Prelude.{ℕ, ◌≡◌, ◌+◌, ◌-◌, ◌^◌, ◌<◌, min, List, [], ◌∷◌, ◌++◌, take, fold, codes, Option, Some}
 use Rattle.std.specs.Fmt.{decimal}
+use Rattle.io_edge.specs.Outlet.{Outlet}
 use Rattle.reenc_tool.specs.declared.ended.Cause.{Cause}
 use Rattle.reenc_tool.specs.declared.ended.Cause.TheVariants.{Fine, Usage, Device, NoFit, Link, Output, Memory}
 
@@ -15,34 +16,31 @@ served_line count = codes "served " ++ (decimal count ++ (codes " sessions" ++ 1
 abbrev pub fault_line : Cause → List ℕ
 fault_line Fine = []
 fault_line Usage = codes "fault 1 Usage" ++ 10 ∷ []
-fault_line Device = codes "fault 2 Device" ++ 10 ∷ []
+fault_line (Device device) = codes "fault 2 Device" ++ 10 ∷ []
 fault_line (NoFit what number limit) = codes "fault 8 NoFit" ++ 10 ∷ []
-fault_line Link = codes "fault 10 Link" ++ 10 ∷ []
+fault_line (Link failed) = codes "fault 10 Link" ++ 10 ∷ []
 fault_line Output = []
 fault_line Memory = codes "fault 13 Memory" ++ 10 ∷ []
 
--- the line of a command whose cause was fine, by its cause after the line; where the line couldn't be
--- put it is the line that was to be
+-- the line of a command whose cause was fine, by its cause after the line: where memory was wanted for
+-- it, and else the line that was to be
 abbrev pub line_when_fine : Cause → ℕ → List ℕ
-line_when_fine Fine count = served_line count
-line_when_fine Usage count = served_line count
-line_when_fine Device count = served_line count
-line_when_fine (NoFit what number limit) count = served_line count
-line_when_fine Link count = served_line count
-line_when_fine Output count = served_line count
 line_when_fine Memory count = fault_line Memory
+line_when_fine _ count = served_line count
 
 -- the line of a command, by its cause before and after
 abbrev pub line_of : Cause → Cause → ℕ → List ℕ
 line_of Fine after count = line_when_fine after count
 line_of Usage after count = fault_line Usage
-line_of Device after count = fault_line Device
+line_of (Device device) after count = fault_line (Device device)
 line_of (NoFit what number limit) after count = fault_line (NoFit what number limit)
-line_of Link after count = fault_line Link
+line_of (Link failed) after count = fault_line (Link failed)
 line_of Output after count = fault_line Output
 line_of Memory after count = fault_line Memory
 
--- a front of the line went out; all of it where the sink didn't fail
-pub record Prints (old new : Option (List ℕ)) (before now : ℕ) (line : List ℕ) : Type 0 where
-  pub front : (had : List ℕ) → old ≡ Some had → (k : ℕ) × (new ≡ Some (had ++ take k line))
-  pub whole : (had : List ℕ) → old ≡ Some had → now ≡ before → now < 2 ^ 64 - 1 → new ≡ Some (had ++ line)
+-- a front of the line was put; where the sink didn't fail all of it was, and has gone out
+pub record Prints (old new : Outlet) (line : List ℕ) : Type 0 where
+  pub front : (had : List ℕ) → old.had ≡ Some had → (k : ℕ) × (new.had ≡ Some (had ++ take k line))
+  pub whole : (had : List ℕ) → old.had ≡ Some had → new.faults ≡ old.faults → new.faults < 2 ^ 64 - 1 →
+      new.had ≡ Some (had ++ line)
+  pub out : new.faults ≡ old.faults → new.faults < 2 ^ 64 - 1 → new.held_back ≡ []

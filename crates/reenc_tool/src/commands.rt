@@ -1,13 +1,13 @@
 ghost use Rattle.std.specs.Prelude.{◌≡◌, ◌<◌, ◌≤◌, ◌⊎◌, ℕ, List, [], length, map, slice_index_or, string_bytes, vec_len, Some, None, false, IfOk};
-ghost use Rattle.reenc_tool.specs.Running.{Came, HasNoOther, Ran, WasServed, WasStopped, cause_of};
+ghost use Rattle.bays.specs.Bays.{Holdings, LeavesOtherClients};
+ghost use Rattle.reenc_tool.specs.Promise.{Came, HasNoOther, Outcome, Ran, Serves, cause_of, outcome_of, unserved};
 ghost use Rattle.reenc_tool.specs.Ending.{EndsAs};
 ghost use Rattle.reenc_tool.specs.Status.{status_of};
 ghost use Rattle.reenc_tool.specs.Texts.{Prints, line_of, sessions_in};
 ghost use Rattle.reenc_tool.specs.Words.{NotServe};
 ghost use Rattle.reenc_tool.specs.declared.ended.Cause.{Cause};
-ghost use Rattle.volume_core.specs.Volumes.{device_of};
 
-use crate::ended::{Cause, Ended, Fit};
+use crate::ended::{Cause, Ended, Failing, Fit};
 use crate::port::VolumePort;
 use crate::serving::{Trouble, serve_links};
 use crate::text::{count_sessions, print};
@@ -36,12 +36,11 @@ const LANES: u32 = 2;
 /// Serves sessions over links on a disk that has a block, and hands both back.
 fn serve_disk<D: Disk, L: Link>(alloc: Global, disk: D, mut links: Vec<L>) -> Ended<D, L>
     requires count { length links.items ≡ 4 }
-    requires bound { (k : ℕ) (link : L) → k < length links.items → L.bound (slice_index_or links.items k link) ≤ 65535 }
+    requires bound { (k : ℕ) (link : L) → k < length links.items → (L.state (slice_index_or links.items k link)).bound ≤ 65535 }
     ensures status { result.status ≡ status_of result.cause }
     ensures other { HasNoOther result.header result.pass result.demo }
-    ensures ended { (Ran D.size (device_of D.count D.values D.told D.faults)
-        L.told L.bound L.faults (λ list. list.items) disk links.items result.cause result.disk result.links.items result.sessions.items)
-        ⊎ ((result.cause ≡ Cause.Memory) × (result.disk ≡ Some disk) × (result.links.items ≡ links.items) × (result.sessions.items ≡ [])) }
+    ensures ended { Ran D.device L.state disk links.items (outcome_of result)
+        ⊎ (outcome_of result ≡ unserved Cause.Memory (Some disk) links.items) }
 {
     let Ok(mut sessions) = empty_lists(alloc, links.len()) else {
         return unserved(alloc, Cause::Memory, Some(disk), links);
@@ -81,9 +80,11 @@ fn cause(broken: bool, trouble: Trouble) -> Cause
     ensures { result ≡ cause_of broken trouble.failed trouble.memory }
 {
     if broken {
-        Cause::Device
-    } else if trouble.failed {
-        Cause::Link
+        Cause::Device(Failing::Disk)
+    } else if trouble.failed != 0 {
+        Cause::Link {
+            failed: trouble.failed,
+        }
     } else if trouble.memory {
         Cause::Memory
     } else {
@@ -107,10 +108,7 @@ fn empty_lists(alloc: Global, count: usize) -> Result<Vec<Vec<SessionEnd>>, Allo
 fn unserved<D, L>(alloc: Global, cause: Cause, disk: Option<D>, links: Vec<L>) -> Ended<D, L>
     ensures status { result.status ≡ status_of cause }
     ensures other { HasNoOther result.header result.pass result.demo }
-    ensures cause { result.cause ≡ cause }
-    ensures disk { result.disk ≡ disk }
-    ensures links { result.links.items ≡ links.items }
-    ensures sessions { result.sessions.items ≡ [] }
+    ensures outcome { outcome_of result ≡ unserved cause disk links.items }
 {
     Ended {
         status: cause.status(),
@@ -134,11 +132,9 @@ fn serve_plain<B: Bay>(
     requires { command.now.sessions ≤ 65535 }
     ensures status { result.status ≡ status_of result.cause }
     ensures other { HasNoOther result.header result.pass result.demo }
-    ensures later { B.faults bay.old ≤ B.faults bay.new }
-    ensures ended { WasServed B.Disk.size (device_of B.Disk.count B.Disk.values B.Disk.told B.Disk.faults)
-        B.Link.told B.Link.bound B.Link.faults (λ list. list.items) (B.inputs bay.old) command.now.sessions disk (B.faults bay.old) (B.faults bay.new) result.cause result.disk result.links.items result.sessions.items
-        ⊎ WasStopped B.Link.told B.Link.bound (B.inputs bay.old) command.now.sessions disk (B.Disk.count disk) (B.faults bay.old) (B.faults bay.new)
-        result.cause result.disk result.links.items result.sessions.items }
+    ensures leaves { LeavesOtherClients command.now.address.now (B.holdings bay.old) (B.holdings bay.new) }
+    ensures ended { Serves B.Disk.device B.Link.state command.now.address.now command.now.sessions disk
+        (B.holdings bay.old) (B.holdings bay.new) (outcome_of result) }
 {
     if disk.atoms() == 0 {
         let cause = Cause::NoFit {
@@ -150,7 +146,10 @@ fn serve_plain<B: Bay>(
     }
     match bay.links(alloc, command.address, WORKERS, command.sessions) {
         Ok(links) => serve_disk(alloc, disk, links),
-        Err(BayFault::Failed) => unserved(alloc, Cause::Device, Some(disk), Vec::new(alloc)),
+        Err(BayFault::Failed) => {
+            let cause = Cause::Device(Failing::Bay);
+            unserved(alloc, cause, Some(disk), Vec::new(alloc))
+        }
         Err(BayFault::Memory) => unserved(alloc, Cause::Memory, Some(disk), Vec::new(alloc)),
     }
 }
@@ -159,10 +158,8 @@ fn serve_plain<B: Bay>(
 fn execute<B: Bay>(alloc: Global, words: &[String], bay: &mut B) -> Ended<B::Disk, B::Link>
     ensures status { result.status ≡ status_of result.cause }
     ensures other { HasNoOther result.header result.pass result.demo }
-    ensures later { B.faults bay.old ≤ B.faults bay.new }
-    ensures came { Came B.Disk.size (device_of B.Disk.count B.Disk.values B.Disk.told B.Disk.faults)
-        B.Link.told B.Link.bound B.Link.faults (λ list. list.items) (B.shelf bay.old) (B.inputs bay.old) (map string_bytes words.now) (B.faults bay.old) (B.faults bay.new)
-        result.cause result.disk result.links.items result.sessions.items }
+    ensures came { Came B.Disk.device B.Link.state (map string_bytes words.now)
+        (B.holdings bay.old) (B.holdings bay.new) (outcome_of result) }
     ensures unasked { NotServe (map string_bytes words.now) → bay.new ≡ bay.old }
 {
     let Some(command) = read_words(words) else {
@@ -170,7 +167,9 @@ fn execute<B: Bay>(alloc: Global, words: &[String], bay: &mut B) -> Ended<B::Dis
     };
     match bay.disk(alloc, command.disk, command.atom) {
         Ok(disk) => serve_plain(alloc, bay, disk, &command),
-        Err(BayFault::Failed) => unserved(alloc, Cause::Device, None, Vec::new(alloc)),
+        Err(BayFault::Failed) => {
+            unserved(alloc, Cause::Device(Failing::Bay), None, Vec::new(alloc))
+        }
         Err(BayFault::Memory) => unserved(alloc, Cause::Memory, None, Vec::new(alloc)),
     }
 }
@@ -183,7 +182,7 @@ fn execute<B: Bay>(alloc: Global, words: &[String], bay: &mut B) -> Ended<B::Dis
 /// they are sessions of the protocol over the bytes that the links' connections gave, and their
 /// operations are one legal history of the plain disk that was handed in. The disk's tables are those
 /// of the operations' device calls, and wherever the run stops the disk holds what that history allows.
-/// Each cause has its reason. The line changes the cause only where all was fine: to `Output` where it
+/// Each cause has its reason. No other disk, key file or client of the bay is touched. The line changes the cause only where all was fine: to `Output` where it
 /// can't be put and pushed out, to `Memory` where memory is wanted for it. Words that ask for nothing
 /// leave the bay as it was. The seeds aren't drawn from.
 pub fn run<W: Threads + Wait + Sync, B: Bay, R: Seeds, O: Sink, G: Gate>(
@@ -197,11 +196,10 @@ pub fn run<W: Threads + Wait + Sync, B: Bay, R: Seeds, O: Sink, G: Gate>(
 ) -> Ended<B::Disk, B::Link>
     ensures status { result.status ≡ status_of result.cause }
     ensures other { HasNoOther result.header result.pass result.demo }
-    ensures run { (cause : Cause) × EndsAs cause (O.faults out.old) (O.faults out.new) result.cause
-        × Came B.Disk.size (device_of B.Disk.count B.Disk.values B.Disk.told B.Disk.faults)
-        B.Link.told B.Link.bound B.Link.faults (λ list. list.items) (B.shelf bay.old) (B.inputs bay.old) (map string_bytes words.now) (B.faults bay.old) (B.faults bay.new)
-        cause result.disk result.links.items result.sessions.items
-        × Prints (O.had out.old) (O.had out.new) (O.faults out.old) (O.faults out.new)
+    ensures run { (cause : Cause) × EndsAs cause (O.outlet out.old).faults (O.outlet out.new).faults result.cause
+        × Came B.Disk.device B.Link.state (map string_bytes words.now)
+        (B.holdings bay.old) (B.holdings bay.new) (record (outcome_of result) { cause = cause })
+        × Prints (O.outlet out.old) (O.outlet out.new)
         (line_of cause result.cause (sessions_in (λ list. vec_len list) result.sessions.items)) }
     ensures unasked { NotServe (map string_bytes words.now) → bay.new ≡ bay.old }
     ensures seeds { _seeds.new ≡ _seeds.old }

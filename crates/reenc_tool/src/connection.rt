@@ -1,6 +1,5 @@
-ghost use Rattle.std.specs.Prelude.{◌≡◌, ◌<◌, ◌≤◌, ◌+◌, ℕ, List, [], ◌∷◌, ◌++◌, map};
-ghost use Rattle.base_terms.specs.Causes.{Rose};
-ghost use Rattle.reenc_tool.specs.Playing.{Played, AreSessions, Goes, operations_of};
+ghost use Rattle.std.specs.Prelude.{ℕ, List};
+ghost use Rattle.reenc_tool.specs.Sessions.{Played, operations_of};
 ghost use Rattle.reenc_tool.specs.Asking.{AskedIs};
 
 use bays::Link;
@@ -26,8 +25,8 @@ pub fn serve_next<L: Link, P: Port>(
     port: &mut P,
     export: &Export,
 ) -> Asked
-    ensures { (k : ℕ) → (played : List Played) × AskedIs export.now k (L.told link.old) (L.told link.new) (L.bound link.old)
-        (L.bound link.new) (L.faults link.old) (L.faults link.new) ends.old.items ends.new.items result played
+    ensures { (k : ℕ) → (played : List Played) × AskedIs export.now ((spent : P) × P.is_spent spent) k
+        (L.state link.old) (L.state link.new) ends.old.items ends.new.items result played
         × P.did port.old port.new (operations_of played) }
 {
     if ends.reserve(1).is_err() {

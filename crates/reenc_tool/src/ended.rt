@@ -13,16 +13,25 @@ pub enum Cause {
     Fine,
     /// The words ask for nothing: status 1.
     Usage,
-    /// The bay failed, or a write or a sync of the disk: status 2.
-    Device,
+    /// This failed, which ended the command: status 2.
+    Device(Failing),
     /// Something doesn't fit: the counted number is beyond its limit. Status 8.
     NoFit { what: Fit, number: u64, limit: u64 },
-    /// A link failed: status 10.
-    Link,
+    /// So many links failed: status 10.
+    Link { failed: u32 },
     /// The line could not be put and pushed out: status 11.
     Output,
     /// Memory was wanted: status 13.
     Memory,
+}
+
+/// What failed of the outside.
+#[derive(Clone, Copy, Debug, PartialEq, Eq)]
+pub enum Failing {
+    /// The bay gave no disk, or no links.
+    Bay,
+    /// A write or a sync of the disk failed.
+    Disk,
 }
 
 /// What doesn't fit.
@@ -48,9 +57,9 @@ impl Cause {
         match self {
             Cause::Fine => 0,
             Cause::Usage => 1,
-            Cause::Device => 2,
+            Cause::Device(_) => 2,
             Cause::NoFit { .. } => 8,
-            Cause::Link => 10,
+            Cause::Link { .. } => 10,
             Cause::Output => 11,
             Cause::Memory => 13,
         }
@@ -63,9 +72,9 @@ impl Cause {
         match self {
             Cause::Fine | Cause::Output => "",
             Cause::Usage => "fault 1 Usage\n",
-            Cause::Device => "fault 2 Device\n",
+            Cause::Device(_) => "fault 2 Device\n",
             Cause::NoFit { .. } => "fault 8 NoFit\n",
-            Cause::Link => "fault 10 Link\n",
+            Cause::Link { .. } => "fault 10 Link\n",
             Cause::Memory => "fault 13 Memory\n",
         }
     }

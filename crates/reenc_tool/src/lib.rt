@@ -16,5 +16,5 @@ mod words;
 
 pub use bays::{Bay, BayFault, Link};
 pub use commands::run;
-pub use ended::{Cause, Ended, Fit, Pass};
+pub use ended::{Cause, Ended, Failing, Fit, Pass};
 pub use nbd_session::{Ending, SessionEnd};

@@ -24,6 +24,8 @@ impl<D: Disk, C: SectorCipher + Copy> Port for VolumePort<D, C> {
 
     ghost did = { λ old new exchanges. Did C.sealed C.opened old.volume new.volume exchanges };
 
+    ghost is_spent = { λ _. ⊥ };
+
     ghost did_none = { λ port. did_none C.sealed C.opened port.volume };
 
     ghost did_more = { λ first second third xs ys. did_joined C.sealed C.opened first.volume second.volume third.volume xs ys };

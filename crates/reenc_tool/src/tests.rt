@@ -7,7 +7,7 @@ use self::messages::{
     NAMING, NAMING_ANSWERS, NOT_FLUSHED, NOT_READ, NOT_WRITTEN, Part, READER, SILENT, SIZE,
     STRANGER, STRAYING, VARIOUS, VARIOUS_ANSWERS, WARY, WARY_ANSWERS, WRITER, WRITTEN, bytes_of,
 };
-use crate::{Cause, Ended, Ending, Fit, SessionEnd, run};
+use crate::{Cause, Ended, Ending, Failing, Fit, SessionEnd, run};
 use bays::{MemBay, MemLink};
 use io_edge::{FixedSeeds, ListSink, ListSource, OpenGate};
 use sector_disk::{Disk, MemDisk};
@@ -263,10 +263,11 @@ fn each_fault_has_its_status_and_line(rt: HostRuntime) -> Result<(), Fail> {
         number: 0,
         limit: 1,
     };
+    let one_link = Cause::Link { failed: 1 };
     let other_disk = "serve y --plain --atom 512 --listen A --sessions 1";
     let other_atom = "serve x --plain --atom 4096 --listen A --sessions 1";
     let other_address = "serve x --plain --atom 512 --listen B --sessions 1";
-    let device = (2, Cause::Device, "fault 2 Device\n");
+    let device = (2, Cause::Device(Failing::Bay), "fault 2 Device\n");
     let output = (11, Cause::Output, "");
     let no_disk = with_fails(&[&[0]]);
     let no_links = with_fails(&[&[1]]);
@@ -289,7 +290,7 @@ fn each_fault_has_its_status_and_line(rt: HostRuntime) -> Result<(), Fail> {
         (WORDS, no_links, device, true),
         (other_address, SMALL, device, true),
         (WORDS, empty, (8, no_block, "fault 8 NoFit\n"), true),
-        (WORDS, no_link, (10, Cause::Link, "fault 10 Link\n"), true),
+        (WORDS, no_link, (10, one_link, "fault 10 Link\n"), true),
         (WORDS, short, output, true),
         (WORDS, not_put, output, true),
         (
@@ -298,7 +299,7 @@ fn each_fault_has_its_status_and_line(rt: HostRuntime) -> Result<(), Fail> {
             (11, Cause::Output, "served 1 sessions\n"),
             true,
         ),
-        (WORDS, shorter, (10, Cause::Link, ""), true),
+        (WORDS, shorter, (10, one_link, ""), true),
     ] {
         let (ended, out) = command(&rt, rt.alloc(), words, &outside)?;
         assert_eq!(rt; (ended.status, ended.cause), (status, cause), "{words}");
@@ -311,13 +312,14 @@ fn each_fault_has_its_status_and_line(rt: HostRuntime) -> Result<(), Fail> {
 #[test]
 fn a_fault_of_the_disk_is_answered_and_told_at_the_end(rt: HostRuntime) -> Result<(), Fail> {
     let begin = [GREETING, SIZE, BLOCK_SIZES, AGREED];
+    let no_sync_or_write = Cause::Device(Failing::Disk);
     let no_read: &[Part] = &[WRITTEN, NOT_READ, FLUSHED, HAS_READ, BLOCK, FLUSHED];
     let no_write: &[Part] = &[NOT_WRITTEN, NOT_READ, NOT_FLUSHED, NOT_READ, NOT_FLUSHED];
     let no_sync: &[Part] = &[WRITTEN, HAS_READ, BLOCK, NOT_FLUSHED, NOT_READ, NOT_FLUSHED];
     for (disk_fails, replies, status, cause, line) in [
-        (&[0], no_write, 2, Cause::Device, "fault 2 Device\n"),
+        (&[0], no_write, 2, no_sync_or_write, "fault 2 Device\n"),
         (&[1], no_read, 0, Cause::Fine, "served 1 sessions\n"),
-        (&[2], no_sync, 2, Cause::Device, "fault 2 Device\n"),
+        (&[2], no_sync, 2, no_sync_or_write, "fault 2 Device\n"),
     ] {
         let call = disk_fails[0];
         let outside = Outside {

@@ -1,5 +1,4 @@
 ghost use Rattle.std.specs.Prelude.{◌≡◌, ◌++◌, ℕ, vec_len, IfOk, string_bytes};
-ghost use Rattle.io_edge.specs.Streams.{Puts};
 ghost use Rattle.base_terms.specs.Causes.{HasCause};
 ghost use Rattle.reenc_tool.specs.Ending.{EndsAs};
 ghost use Rattle.reenc_tool.specs.Texts.{Prints, line_of, served_line, sessions_in};
@@ -22,8 +21,8 @@ pub fn count_sessions(lists: &[Vec<SessionEnd>]) -> usize
 /// Prints the line of a command that ended so, and says how it ends: where all was fine and the line
 /// can't be put and pushed out, by `Output`; where memory is wanted for it, by `Memory`.
 pub fn print<O: Sink>(alloc: Global, out: &mut O, cause: Cause, sessions: usize) -> Cause
-    ensures cause { EndsAs cause (O.faults out.old) (O.faults out.new) result }
-    ensures line { Prints (O.had out.old) (O.had out.new) (O.faults out.old) (O.faults out.new) (line_of cause result sessions) }
+    ensures cause { EndsAs cause (O.outlet out.old).faults (O.outlet out.new).faults result }
+    ensures line { Prints (O.outlet out.old) (O.outlet out.new) (line_of cause result sessions) }
 {
     if !cause.is_fine() {
         let _ = put_line(out, cause.line().as_bytes());
@@ -40,8 +39,8 @@ pub fn print<O: Sink>(alloc: Global, out: &mut O, cause: Cause, sessions: usize)
 }
 
 fn put_line<O: Sink>(out: &mut O, line: &[u8]) -> Result<(), Failed>
-    ensures line { Prints (O.had out.old) (O.had out.new) (O.faults out.old) (O.faults out.new) line.now }
-    ensures cause { HasCause (O.faults out.old) (O.faults out.new) result }
+    ensures line { Prints (O.outlet out.old) (O.outlet out.new) line.now }
+    ensures cause { HasCause (O.outlet out.old).faults (O.outlet out.new).faults result }
 {
     match out.put(line) {
         Ok(()) => out.push_out(),

@@ -1,23 +1,26 @@
-use Rattle.std.proofs.Common.{ℕ, ◌∙◌, ap, sym, subst}
-use Rattle.std.specs.Prelude.{vec_len}
+use Rattle.std.proofs.Common.{ℕ, ◌∙◌, map, ap, sym, subst}
+use Rattle.std.specs.Prelude.{string_bytes, vec_len}
 use Rattle.reenc_tool.specs.declared.ended.Cause.{Cause}
 use Rattle.reenc_tool.specs.Ending.{EndsAs}
+use Rattle.reenc_tool.specs.Promise.{Came, Outcome, outcome_of}
 use Rattle.reenc_tool.specs.Texts.{Prints, line_of, sessions_in}
-use Rattle.reenc_tool.proofs.RunLemmas.{came_same}
+use Rattle.reenc_tool.proofs.RunLemmas.{same_outcome}
 use Rattle.reenc_tool.proofs.commands.run.Goals as goal
 
 pub returns-clause-run : goal.returns-clause-run
 returns-clause-run g c =
     let ended = c.execute-ended.result in
-    let sessions = ap (λ lists. lists.items) c.ending_by.ensures.sessions in (
+    let before = g.O.Sink.outlet c.args.out.now in
+    let after = g.O.Sink.outlet c.print-cause.new.out in
+    let is = c.ending_by.ensures in
+    let sessions = ap (λ lists. lists.items) is.sessions in (
       ended.cause,
-      subst (λ (cause : Cause). EndsAs ended.cause (g.O.Sink.faults c.args.out.now) (g.O.Sink.faults c.print-cause.new.out) cause)
-          (sym c.ending_by.ensures.cause) c.print-cause.ensures.cause,
-      came_same g.B.Disk.Disk.size _ g.B.Link.Link.told g.B.Link.Link.bound g.B.Link.Link.faults _ _ _ _ _ _ ended.cause _ _ _ _ _ _
-          c.ending_by.ensures.disk (ap (λ links. links.items) c.ending_by.ensures.links) sessions c.execute-ended.ensures.came,
-      subst (λ (cause : Cause). Prints (g.O.Sink.had c.args.out.now) (g.O.Sink.had c.print-cause.new.out) (g.O.Sink.faults c.args.out.now) (g.O.Sink.faults c.print-cause.new.out)
-          (line_of ended.cause cause (sessions_in (λ list. vec_len list) c.ending_by.result.sessions.items))) (sym c.ending_by.ensures.cause)
-          (subst (λ (count : ℕ). Prints (g.O.Sink.had c.args.out.now) (g.O.Sink.had c.print-cause.new.out) (g.O.Sink.faults c.args.out.now) (g.O.Sink.faults c.print-cause.new.out)
-          (line_of ended.cause c.print-cause.result count))
+      subst (λ (cause : Cause). EndsAs ended.cause before.faults after.faults cause) (sym is.cause) c.print-cause.ensures.cause,
+      subst (λ (o : Outcome _ _). Came g.B.Disk.Disk.device g.B.Link.Link.state (map string_bytes c.args.words.now) (g.B.Bay.holdings c.args.bay.now)
+          (g.B.Bay.holdings c.execute-ended.new.bay) o)
+          (same_outcome ended.cause _ _ _ _ _ _ (sym is.disk) (ap (λ links. links.items) (sym is.links)) (ap (λ ends. map (λ list. list.items) ends.items) (sym is.sessions))) c.execute-ended.ensures.came,
+      subst (λ (cause : Cause). Prints before after
+          (line_of ended.cause cause (sessions_in (λ list. vec_len list) c.ending_by.result.sessions.items))) (sym is.cause)
+          (subst (λ (count : ℕ). Prints before after (line_of ended.cause c.print-cause.result count))
           (c.count_sessions.ensures ∙ ap (sessions_in (λ list. vec_len list)) (c.as_slice.ensures.value ∙ sym sessions)) c.print-cause.ensures.line),
     )

@@ -1,8 +1,9 @@
-use Rattle.std.proofs.Common.{◌*◌, ◌∙◌, ap, sym, subst, arith, inl}
+use Rattle.std.proofs.Common.{◌*◌, ◌∙◌, ℕ, ap, refl, sym, subst, arith, inl}
+use Rattle.sector_disk.specs.Devices.{Device}
 use Rattle.volume_core.specs.Volumes.{IsWholeDisk}
-use Rattle.reenc_tool.specs.Running.{cause_of}
+use Rattle.reenc_tool.specs.Promise.{cause_of}
 use Rattle.reenc_tool.proofs.RoundLemmas.{some_element}
-use Rattle.reenc_tool.proofs.RunLemmas.{ran_of, device_same}
+use Rattle.reenc_tool.proofs.RunLemmas.{ran_of}
 use Rattle.reenc_tool.proofs.commands.serve_disk.Goals as goal
 
 pub returns-clause-ended : goal.returns-clause-ended
@@ -14,8 +15,8 @@ returns-clause-ended g c =
     let did = s.1 in
     let fits = c.keys-keys.ensures.fits in
     let atom_is = made.map.atom in
-    inl (ran_of g.D.Disk.size _ g.L.Link.told g.L.Link.bound g.L.Link.faults (λ list. list.items) c.args.disk c.into_disk.result c.args.links.items
-    (some_element c.args.links.items 0 (omega (arith, c.requires.count))) _ _ c.cause-cause.result start _ final did.run
+    inl (ran_of g.D.Disk.device g.L.Link.state c.args.disk c.into_disk.result c.args.links.items
+    (some_element c.args.links.items 0 (omega (arith, c.requires.count))) _ start _ final did.run
     c.serve_links-trouble.result.failed c.serve_links-trouble.result.memory s.0 _ _
     (record {
       served = c.every_run_is_served.ensures start _;
@@ -33,8 +34,8 @@ returns-clause-ended g c =
       sound = made.sound;
       size = atom_is;
       disk = made.disk;
-      whole = subst (λ n. IsWholeDisk start.map.atom n start.map) (sym (ap (λ d. d.atoms) made.disk))
-          (subst (λ a. IsWholeDisk a (g.D.Disk.count c.args.disk) start.map) (sym atom_is) made.map);
+      whole = subst (λ (d : Device). IsWholeDisk start.map.atom d.atoms start.map) (sym made.disk)
+          (subst (λ (a : ℕ). IsWholeDisk a (g.D.Disk.device c.args.disk).atoms start.map) (sym atom_is) made.map);
       apart = made.apart;
       nothing = made.keys;
     })
@@ -49,7 +50,5 @@ returns-clause-ended g c =
     did.executes c.serve_links-trouble.new.port.idle
     (ap (λ p. p.blocks * c.from.result) c.progress-blocks.ensures ∙ ap (λ a. start.map.blocks * a) (c.from.ensures ∙ ap (λ p. p.atom) c.progress-blocks.ensures))
     (ap (λ p. p.atom) c.progress-blocks.ensures)
-    s.2 s.3 s.4
-    (device_same _ _ _ _ final.disk c.into_disk.ensures.count c.into_disk.ensures.values c.into_disk.ensures.told c.into_disk.ensures.faults)
-    (c.into_disk.ensures.size ∙ ap (λ m. m.atom) did.map ∙ atom_is)
+    (λ spent. spent.1) s.2 s.3 s.4 refl c.into_disk.ensures.disk (c.into_disk.ensures.size ∙ ap (λ m. m.atom) did.map ∙ atom_is)
     (c.cause-cause.ensures ∙ ap (λ p. cause_of p.broken c.serve_links-trouble.result.failed c.serve_links-trouble.result.memory) c.progress.ensures))

@@ -1,6 +1,6 @@
-use Rattle.std.proofs.Common.{◌≡◌, ℕ, ◌+◌, ◌*◌, false, List, ◌++◌, length}
-use Rattle.reenc_tool.specs.Lanes.{Lanes, NumbersBelow}
-use Rattle.reenc_tool.specs.Playing.{Played, AreSessions, NumbersRise, operations_of}
+use Rattle.std.proofs.Common.{◌≡◌, ℕ, ◌+◌, ◌*◌, List, ◌++◌, length}
+use Rattle.reenc_tool.specs.Lanes.{Lanes}
+use Rattle.reenc_tool.specs.Sessions.{Played, AreOfLinks, AreSessions, NumbersBelow, NumbersRise, operations_of}
 use Rattle.reenc_tool.proofs.LaneLemmas.{turns_at}
 use Rattle.reenc_tool.proofs.serving.serve_round.Given as goal
 
@@ -8,10 +8,11 @@ abbrev pub invariant-loop-k : goal.invariant-loop-k
 invariant-loop-k g l = record {
   links : length l.links.items ≡ length l.initial.links.items;
   lists : length l.ends.items ≡ length l.initial.links.items;
-  calm : l.trouble.memory ≡ false;
-  played : (played : List Played) × g.P.Port.did l.initial.port l.port (operations_of played) × AreSessions l.export played
+  played : (played : List Played) × g.P.Port.did l.initial.port l.port (operations_of played)
+      × AreSessions l.export ((spent : _) × g.P.Port.is_spent spent) played
       × NumbersRise l.export.number played × NumbersBelow (l.export.number + l.k) played
+      × AreOfLinks (length l.initial.links.items) played
       × ((olds : List _) (turns : ℕ) (all : List Played) → l.export.number ≡ length olds * turns →
-      Lanes g.L.Link.told g.L.Link.bound g.L.Link.faults (λ list. list.items) (λ _. turns) olds l.initial.links.items l.initial.ends.items l.initial.live l.initial.trouble.failed all →
-      Lanes g.L.Link.told g.L.Link.bound g.L.Link.faults (λ list. list.items) (turns_at l.k turns) olds l.links.items l.ends.items l.live l.trouble.failed (all ++ played));
+      Lanes g.L.Link.state (λ list. list.items) (λ _. turns) olds l.initial.links.items l.initial.ends.items l.initial.standings all →
+      Lanes g.L.Link.state (λ list. list.items) (turns_at l.k turns) olds l.links.items l.ends.items l.standings (all ++ played));
 }
