@@ -2,12 +2,15 @@
 use Rattle.std.specs.Prelude.{ℕ, ◌⊎◌, Bool, Result, Ok, Err, MatchResult}
 use Rattle.std.specs.declared.io.Error.{Error}
 
--- The file was opened, locked and measured, in this order, each by one call of the system; or the first
--- of these calls that the system refused said why, and none came behind it.
-unfoldable pub OpensLocked : {F : Type 0} → (Result F Error → Type 0) → (F → Result (Unit {0}) Error → F → Type 0) →
-    (F → Result ℕ Error → F → Type 0) → Result (F × ℕ) Error → Type 0
+-- The file was opened, locked and measured, in this order, each by one call of the system; or the
+-- first of these calls that the system refused said why, and none came behind it.
+unfoldable pub OpensLocked : {F : Type 0} → (Result F Error → Type 0) →
+    (F → Result (Unit {0}) Error → F → Type 0) → (F → Result ℕ Error → F → Type 0) →
+    Result (F × ℕ) Error → Type 0
 OpensLocked {F} opens locks measures result = MatchResult result
-    (λ opened. (file locked : F) × opens (Ok file) × locks file (Ok tt) locked × measures locked (Ok opened.1) opened.0)
+    (λ opened. (file locked : F) × opens (Ok file) × locks file (Ok tt) locked
+    × measures locked (Ok opened.1) opened.0)
     (λ error. opens (Err error)
     ⊎ ((file left : F) × opens (Ok file) × locks file (Err error) left)
-    ⊎ ((file locked left : F) × opens (Ok file) × locks file (Ok tt) locked × measures locked (Err error) left))
+    ⊎ ((file locked left : F) × opens (Ok file) × locks file (Ok tt) locked
+    × measures locked (Err error) left))

@@ -13,5 +13,6 @@ untold_disk atom atoms faults =
     record { size = atom; atoms = atoms; values = None; told = None; faults = faults }
 
 -- an atom that passed its test, and the bound of a disk
-pub tested_disk : (atom atoms : ℕ) → IsTrue (is_atom atom) → atoms * atom < 2 ^ 63 → IsDisk atom atoms
+pub tested_disk : (atom atoms : ℕ) → IsTrue (is_atom atom) → atoms * atom < 2 ^ 63 →
+    IsDisk atom atoms
 tested_disk atom atoms known fits = record { known = is_atom-true atom known; fits = fits }

@@ -29,9 +29,9 @@ pub struct FileDisk<F: PositionedFile = File> {
 }
 
 impl<F: LockableFile> FileDisk<F> {
-    /// A disk on the file of that name, in atoms of 512 or 4096 bytes, as many as are whole in it and
-    /// lie below `2^63` bytes. The file is opened as by [`open_locked`], and locked until the disk is
-    /// dropped.
+    /// A disk on the file of that name, in atoms of 512 or 4096 bytes, as many as are whole in it
+    /// and lie below `2^63` bytes. The file is opened as by [`open_locked`], and locked until the
+    /// disk is dropped.
     ///
     /// # Errors
     ///
@@ -44,7 +44,7 @@ impl<F: LockableFile> FileDisk<F> {
         requires { IsAtom atom }
         ensures { MatchResult result
             (λ disk. (len : ℕ)
-            × OpensLocked (S.opens system.now path.now) F.locks F.measures (Ok (disk.file , len))
+            × OpensLocked (S.opens system.now path.now) F.locks F.measures (Ok (disk.file, len))
             × (⟦<FileDisk<F> as Disk>⟧.device disk ≡ untold_disk atom (whole_atoms atom len) 0))
             (λ error. OpensLocked (S.opens system.now path.now) F.locks F.measures (Err error)) }
     {
@@ -110,7 +110,8 @@ impl<F: PositionedFile> Disk for FileDisk<F> {
 
     fn read(&mut self, at: u64, buf: &mut [u8]) -> Result<(), Failed>
         requires { IsInDisk self.old.atom self.old.atoms at (length buf.old) }
-        ensures call { ReadCall self.old.atom at buf.new (untold_disk self.old.atom self.old.atoms self.old.faults)
+        ensures call { ReadCall self.old.atom at buf.new
+            (untold_disk self.old.atom self.old.atoms self.old.faults)
             (untold_disk self.new.atom self.new.atoms self.new.faults) result }
         ensures counts { Counts self.old.faults self.new.faults result }
         ensures reads { F.reads self.old.file (at * self.old.atom) buf.new
@@ -122,7 +123,8 @@ impl<F: PositionedFile> Disk for FileDisk<F> {
 
     fn write(&mut self, at: u64, bytes: &[u8]) -> Result<(), Failed>
         requires { IsInDisk self.old.atom self.old.atoms at (length bytes.now) }
-        ensures call { WriteCall self.old.atom at bytes.now (untold_disk self.old.atom self.old.atoms self.old.faults)
+        ensures call { WriteCall self.old.atom at bytes.now
+            (untold_disk self.old.atom self.old.atoms self.old.faults)
             (untold_disk self.new.atom self.new.atoms self.new.faults) result }
         ensures counts { Counts self.old.faults self.new.faults result }
         ensures writes { F.writes self.old.file (at * self.old.atom) bytes.now

@@ -3,20 +3,20 @@ ghost use Rattle.std.specs.declared.io.Error.{Error};
 ghost use Rattle.file_disk.specs.Opening.{OpensLocked};
 
 use crate::PositionedFile;
-use std::fs::{File, Files, TryLockError};
+use std::fs::{File, TryLockError};
 use std::io::{self, ErrorKind, Seek, SeekFrom};
 
 /// A file that can be locked and measured. What its calls do is a matter of the file.
 pub trait LockableFile: PositionedFile {
-    /// What taking the lock does: from the file before it, by what the system said, to the file after
-    /// it.
+    /// What taking the lock does: from the file before it, by what the system said, to the file
+    /// after it.
     ghost locks: { Self → Result (Unit {0}) Error → Self → Type 0 };
 
     /// What measuring does.
     ghost measures: { Self → Result ℕ Error → Self → Type 0 };
 
-    /// Takes the exclusive advisory lock, which the open file keeps. An error of the kind `WouldBlock`
-    /// where another open of the file holds a lock.
+    /// Takes the exclusive advisory lock, which the open file keeps. An error of the kind
+    /// `WouldBlock` where another open of the file holds a lock.
     fn lock(&mut self) -> io::Result<()>
         ensures { locks self.old result self.new };
 
@@ -58,8 +58,8 @@ impl LockableFile for File {
     }
 }
 
-/// The system's own files.
-impl<R: Files<File = File>> FileSystem for R {
+/// The files of the machine.
+impl FileSystem for HostRuntime {
     type File = File;
 
     ghost opens = { λ _ _ _. Unit {0} };
@@ -69,14 +69,14 @@ impl<R: Files<File = File>> FileSystem for R {
     }
 }
 
-/// Opens the file or block device of that name for reading and writing, takes its exclusive advisory
-/// lock, which the open file keeps, and measures it in bytes.
+/// Opens the file or block device of that name for reading and writing, takes its exclusive
+/// advisory lock, which the open file keeps, and measures it in bytes.
 ///
 /// # Errors
 ///
 /// What the system said where it doesn't open, lock or measure the file, as `NotFound`; of the kind
-/// `WouldBlock` where another open of the file holds a lock. Of the kind `OutOfMemory` where the system
-/// wants memory; the call itself takes none. Nothing stays open or locked.
+/// `WouldBlock` where another open of the file holds a lock. Of the kind `OutOfMemory` where the
+/// system wants memory; the call itself takes none. Nothing stays open or locked.
 pub fn open_locked<S: FileSystem>(system: &S, path: &str) -> io::Result<(S::File, u64)>
     ensures { OpensLocked (S.opens system.now path.now) S.File.locks S.File.measures result }
 {

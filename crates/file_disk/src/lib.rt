@@ -2,10 +2,10 @@
 //! holds the file's exclusive advisory lock until it is dropped, so that a second server is refused
 //! the same file. Each call makes exactly one call of the file, at its place and with the caller's
 //! buffer, and is done exactly where that one is; each that the file refuses is counted, and is a
-//! failure. A file is a type that says by relations what its calls do: the system's own say nothing, so
-//! that what a real file holds is not told. Of it is trusted that it fills a buffer or fails, also where
-//! it ends before the buffer's last byte, writes all bytes or fails, and by a sync (`fdatasync`) waits
-//! until the system says that the data is kept.
+//! failure. A file is a type that says by relations what its calls do: the system's own say
+//! nothing, so that what a real file holds is not told. Of it is trusted that it fills a buffer or
+//! fails, also where it ends before the buffer's last byte, writes all bytes or fails, and by a
+//! sync (`fdatasync`) waits until the system says that the data is kept.
 #![tactic(auto)]
 
 mod file_disk;

@@ -8,13 +8,22 @@ returns-in-Err g c = inl c.in-Err.ensures
 
 pub returns-in-Err-lock : goal.returns-in-Err-lock
 unfolding OpensLocked
-returns-in-Err-lock g c = inr (inl (c.in-Ok.file , c.lock.new.self , c.in-Ok.ensures , c.in-Err-lock.ensures))
+returns-in-Err-lock g c =
+    inr (inl (c.in-Ok.file, c.lock.new.self, c.in-Ok.ensures, c.in-Err-lock.ensures))
 
 pub returns-in-Ok-measure : goal.returns-in-Ok-measure
 unfolding OpensLocked
-returns-in-Ok-measure g c = (c.in-Ok.file , c.lock.new.self , c.in-Ok.ensures , c.in-Ok-lock.ensures , c.in-Ok-measure.ensures)
+returns-in-Ok-measure g c = (
+  c.in-Ok.file,
+  c.lock.new.self,
+  c.in-Ok.ensures,
+  c.in-Ok-lock.ensures,
+  c.in-Ok-measure.ensures,
+)
 
 pub returns-in-Err-measure : goal.returns-in-Err-measure
 unfolding OpensLocked
 returns-in-Err-measure g c =
-    inr (inr (c.in-Ok.file , c.lock.new.self , c.measure.new.self , c.in-Ok.ensures , c.in-Ok-lock.ensures , c.in-Err-measure.ensures))
+    let locked = c.in-Ok-lock.ensures in
+    let refused = c.in-Err-measure.ensures in
+    inr (inr (c.in-Ok.file, c.lock.new.self, c.measure.new.self, c.in-Ok.ensures, locked, refused))
