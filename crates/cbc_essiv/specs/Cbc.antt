@@ -1,8 +1,11 @@
 -- CBC (NIST SP 800-38A, 6.2) on sectors of whole blocks, with the IV of ESSIV: `seal` and `unseal` are what the data cipher makes of
 -- a block, and `seal_iv` what the IV's cipher does.
-use Rattle.std.specs.Prelude.{ℕ, ◌/◌, List, length}
+use Rattle.std.specs.Prelude.{ℕ, zero, suc, ◌-◌, ◌/◌, List, length}
+use Rattle.cipher_laws.specs.Eight.{block}
+use Rattle.cipher_laws.specs.declared.eight_blocks.EightBlocks.{EightBlocks}
 use Rattle.cipher_blocks.specs.Blocks.{xored, number_block}
-use Rattle.cipher_blocks.specs.Pieces.{worked}
+use Rattle.cipher_blocks.specs.UnderWay.{IsUnderWay}
+use Rattle.cipher_laws.specs.Pieces.{worked}
 
 -- one block, sealed after the sealed block before it: the two are xored first
 unfoldable pub seal_after : (List ℕ → List ℕ) → List ℕ → List ℕ → List ℕ
@@ -18,6 +21,16 @@ cbc_sealed seal iv sector = worked (seal_after seal) (λ _ _ sealed. sealed) 16 
 
 unfoldable pub cbc_opened : (List ℕ → List ℕ) → List ℕ → List ℕ → List ℕ
 cbc_opened unseal iv sector = worked (unseal_after unseal) (λ _ sealed _. sealed) 16 iv (length sector / 16) sector
+
+-- the block before block k of eight in a row, where `first` stands before them
+abbrev pub before : List ℕ → EightBlocks → ℕ → List ℕ
+before first eight zero = first
+before first eight (suc k) = block k eight
+
+-- a sector whose first blocks are unsealed and lie before `at`, and whose blocks from there on are still to be unsealed, the first of
+-- them after this sealed block, so that the whole becomes `total`
+abbrev pub IsUnsealedTo : (List ℕ → List ℕ) → ℕ → List ℕ → List ℕ → List ℕ → Type 0
+IsUnsealedTo unseal at chain total sector = IsUnderWay (unseal_after unseal) (λ _ sealed _. sealed) 16 chain ((length sector - at) / 16) at total sector
 
 -- the IV of the sector with this number
 unfoldable pub essiv : (List ℕ → List ℕ) → ℕ → List ℕ

@@ -13,4 +13,5 @@
 
 pub use mode::CbcEssiv;
 
+mod chain;
 mod mode;

@@ -1,10 +1,10 @@
 // CBC over a block cipher.
 
-ghost use Rattle.std.specs.Prelude.{◌≡◌, ℕ, ◌%◌, ◌/◌, length};
-ghost use Rattle.cipher_blocks.specs.Blocks.{xored, number_block};
-ghost use Rattle.cbc_essiv.specs.Cbc.{cbc_sealed, cbc_opened, essiv, cbc_essiv_sealed, cbc_essiv_opened};
+ghost use Rattle.std.specs.Prelude.{◌≡◌};
+ghost use Rattle.cbc_essiv.specs.Cbc.{essiv, cbc_essiv_sealed, cbc_essiv_opened};
 
-use cipher_blocks::{block_at, number_block, put_block, xor};
+use crate::chain::{SealsChain, UnsealsChain, seal_chain, unseal_chain};
+use cipher_blocks::{change_sectors, number_block};
 use cipher_laws::{BlockCipher, SectorMode};
 
 /// CBC with its two keys, each in a block cipher of its own.
@@ -36,36 +36,7 @@ impl<B: BlockCipher> CbcEssiv<B> {
     }
 }
 
-// Seals a sector's blocks, the first of them after the block `iv`.
-fn seal_chain<C: BlockCipher>(cipher: &C, iv: &[u8; 16], sector: &mut [u8])
-    requires { length sector.old % 16 ≡ 0 }
-    ensures { sector.new ≡ cbc_sealed (C.sealed cipher.now) iv.now sector.old }
-{
-    let mut chain = *iv;
-    for i in 0..sector.len() / 16 {
-        let mut block = xor(&block_at(sector, 16 * i), &chain);
-        cipher.seal(&mut block);
-        put_block(sector, 16 * i, &block);
-        chain = block;
-    }
-}
-
-// Unseals a sector's blocks, the first of them after the block `iv`.
-fn unseal_chain<C: BlockCipher>(cipher: &C, iv: &[u8; 16], sector: &mut [u8])
-    requires { length sector.old % 16 ≡ 0 }
-    ensures { sector.new ≡ cbc_opened (C.opened cipher.now) iv.now sector.old }
-{
-    let mut chain = *iv;
-    for i in 0..sector.len() / 16 {
-        let sealed = block_at(sector, 16 * i);
-        let mut block = sealed;
-        cipher.unseal(&mut block);
-        put_block(sector, 16 * i, &xor(&block, &chain));
-        chain = sealed;
-    }
-}
-
-#[tactic(auto, unfolding(crate::specs::Cbc::cbc_essiv_sealed, crate::specs::Cbc::cbc_essiv_opened))]
+#[tactic(auto, unfolding(crate::specs::Cbc::cbc_essiv_sealed, crate::specs::Cbc::cbc_essiv_opened, crate::specs::Cbc::essiv))]
 impl<B: BlockCipher> SectorMode for CbcEssiv<B> {
     ghost use Rattle.cbc_essiv.specs.Laws.{sealed_keeps_lengths, opened_keeps_lengths, sealed_gives_bytes, opened_gives_bytes, sealed_undone, opened_undone};
 
@@ -79,6 +50,14 @@ impl<B: BlockCipher> SectorMode for CbcEssiv<B> {
 
     fn unseal_sector(&self, number: u64, sector: &mut [u8]) {
         unseal_chain(&self.body, &self.first_chain(number), sector);
+    }
+
+    fn seal_sectors(&self, size: usize, first: u64, bytes: &mut [u8]) {
+        change_sectors(&SealsChain(&self.body), &self.iv, size, first, bytes);
+    }
+
+    fn unseal_sectors(&self, size: usize, first: u64, bytes: &mut [u8]) {
+        change_sectors(&UnsealsChain(&self.body), &self.iv, size, first, bytes);
     }
 
     ghost sealed_length = { λ c. sealed_keeps_lengths (B.sealed c.body) (B.sealed c.iv)

@@ -1,8 +1,8 @@
 -- Work piece after piece: lengths, bytes, and how it is undone and joined.
-use Rattle.std.proofs.Common.{◌/◌, ◌%◌, ◌≡◌, ℕ, zero, suc, ◌+◌, ◌*◌, ◌≤◌, List, ◌++◌, length, take, drop, ap, sym, ◌∙◌, arith, append_assoc, length-append, length-drop}
-use Rattle.std.proofs.lemmas.List.{take_at, drop_at, length-take-le, take-append-drop, nil_from_length, append-nil, take_all, drop-drop}
+use Rattle.std.proofs.Common.{◌/◌, ◌%◌, ◌≡◌, ℕ, zero, suc, ◌+◌, ◌*◌, List, ◌++◌, length, take, drop, ap, sym, ◌∙◌, arith, length-append, length-drop}
+use Rattle.std.proofs.lemmas.List.{take_at, drop_at, length-take-le, take-append-drop, nil_from_length}
 use Rattle.cipher_laws.specs.Bytes.{AreBytes, IsBlock}
-use Rattle.cipher_blocks.specs.Pieces.{worked}
+use Rattle.cipher_laws.specs.Pieces.{worked}
 use Rattle.cipher_blocks.proofs.BytesLemmas.{no_bytes, bytes-append, bytes-take, bytes-drop}
 
 -- under values that are good, `change` makes of a piece a piece, and hands on a good value
@@ -86,42 +86,3 @@ worked_undone {S} {Good} {size} {change} {next} {back} {next_back} keeps undoes 
     let rest : worked back next_back size (next s piece changed) n others ≡ drop size bytes =
     worked_undone keeps undoes (next s piece changed) n (drop size bytes) (keeps.good s piece good first in_piece) (other_pieces size n bytes long) (bytes-drop size bytes in_bytes) in
     rw (front, behind, undone, undoes.same_value s piece good first in_piece, rest) (take-append-drop size bytes)
-
--- a loop over the pieces: what is done stands before `at`; from there `n` pieces are worked on from the value s
-pub record IsUnderWay {S : Type 0} (change : S → List ℕ → List ℕ) (next : S → List ℕ → List ℕ → S) (size : ℕ) (s : S) (n at : ℕ) (total bytes : List ℕ) : Type 0 where
-  pub total_is : total ≡ take at bytes ++ worked change next size s n (drop at bytes)
-
-pub under_way_first : {S : Type 0} {change : S → List ℕ → List ℕ} {next : S → List ℕ → List ℕ → S} {size : ℕ} (s : S) (count n at : ℕ) (bytes : List ℕ) →
-    count ≡ n → at ≡ 0 → IsUnderWay change next size s count at (worked change next size s n bytes) bytes
-under_way_first {change} {next} {size} s count n at bytes same none = record {
-  total_is =
-      ap (λ (m : ℕ). worked change next size s m bytes) (sym same) ∙ ap (λ (a : ℕ). take a bytes ++ worked change next size s count (drop a bytes)) (sym none);
-}
-
-pub under_way_last : {S : Type 0} {change : S → List ℕ → List ℕ} {next : S → List ℕ → List ℕ → S} {size : ℕ} {s : S} {count at : ℕ} {total bytes : List ℕ} →
-    IsUnderWay change next size s count at total bytes → count ≡ 0 → length bytes ≡ at → bytes ≡ total
-unfolding worked
-under_way_last {change} {next} {size} {s} {count} {at} {total} {bytes} way none whole =
-    sym (way.total_is ∙ ap (λ (m : ℕ). take at bytes ++ worked change next size s m (drop at bytes)) none ∙ append-nil (take at bytes) ∙ take_all at bytes (omega arith))
-
--- one piece more is done
-pub under_way_more : {S : Type 0} {change : S → List ℕ → List ℕ} {next : S → List ℕ → List ℕ → S} {size : ℕ} {s : S} {count at : ℕ} {total old : List ℕ} →
-    IsUnderWay change next size s count at total old → (n past : ℕ) (value : S) (changed new : List ℕ) →
-    count ≡ suc n → at + size ≡ past → past ≤ length old → length changed ≡ size →
-    changed ≡ change s (take size (drop at old)) → value ≡ next s (take size (drop at old)) changed → new ≡ (take at old ++ changed) ++ drop (at + size) old →
-    IsUnderWay change next size value n past total new
-unfolding worked
-under_way_more {change} {next} {size} {s} {count} {at} {total} {old} way n past value changed new one_more next_at within long changed_is value_is new_is =
-    let front_long : length (take at old) ≡ at = length-take-le at old (omega arith) in
-    let done_long : length (take at old ++ changed) ≡ past = length-append (take at old) changed ∙ omega arith in
-    let further : drop size (drop at old) ≡ drop past old = drop-drop size at old ∙ ap (λ (m : ℕ). drop m old) next_at in
-    let new_past : new ≡ (take at old ++ changed) ++ drop past old = new_is ∙ ap (λ (m : ℕ). (take at old ++ changed) ++ drop m old) next_at in
-    let front : take past new ≡ take at old ++ changed = ap (take past) new_past ∙ take_at (take at old ++ changed) (drop past old) past done_long in
-    let behind : drop past new ≡ drop past old = ap (drop past) new_past ∙ drop_at (take at old ++ changed) (drop past old) past done_long in
-    record {
-      total_is =
-          way.total_is
-          ∙ ap (λ (m : ℕ). take at old ++ worked change next size s m (drop at old)) one_more
-          ∙ ap (λ (c : List ℕ). take at old ++ (c ++ worked change next size (next s (take size (drop at old)) c) n (drop size (drop at old)))) (sym changed_is)
-          ∙ rw (← value_is, further, behind, front) (sym (append_assoc (take at old) changed (worked change next size value n (drop past old))));
-    }

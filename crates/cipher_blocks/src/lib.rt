@@ -8,7 +8,13 @@
 #![tactic(auto)]
 
 pub use block::{block_at, number_block, put_block, xor};
+pub use eight::{eight_at, put_eight, xor_eight};
+pub use numbers::sealed_numbers;
+pub use rows::{UnderIv, change_sectors};
 
 mod block;
+mod eight;
+mod numbers;
+mod rows;
 #[cfg(test)]
 mod tests;

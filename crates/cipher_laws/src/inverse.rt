@@ -1,6 +1,6 @@
 // A cipher turned round.
 
-use crate::{BlockCipher, EightBlocks, SectorMode};
+use crate::{BlockCipher, EightBlocks, SectorCipher, SectorMode};
 
 /// The inverse of a cipher: what seals for the one unseals for the other. A mode or a loop that
 /// works alike in both directions is written once, and called with the cipher or its inverse.
@@ -50,6 +50,14 @@ impl<C: SectorMode> SectorMode for Inverse<'_, C> {
         self.0.seal_sector(number, sector);
     }
 
+    fn seal_sectors(&self, size: usize, first: u64, bytes: &mut [u8]) {
+        self.0.unseal_sectors(size, first, bytes);
+    }
+
+    fn unseal_sectors(&self, size: usize, first: u64, bytes: &mut [u8]) {
+        self.0.seal_sectors(size, first, bytes);
+    }
+
     ghost sealed_length = { λ it. C.opened_length it.0.now };
 
     ghost opened_length = { λ it. C.sealed_length it.0.now };
@@ -61,4 +69,38 @@ impl<C: SectorMode> SectorMode for Inverse<'_, C> {
     ghost unseal_undoes_seal = { λ it. C.seal_undoes_unseal it.0.now };
 
     ghost seal_undoes_unseal = { λ it. C.unseal_undoes_seal it.0.now };
+}
+
+impl<C: SectorCipher> SectorCipher for Inverse<'_, C> {
+    ghost sector = { λ it. C.sector it.0.now };
+
+    ghost sealed = { λ it. C.opened it.0.now };
+
+    ghost opened = { λ it. C.sealed it.0.now };
+
+    fn seal_atom(&self, first: u64, bytes: &mut [u8]) {
+        self.0.unseal_atom(first, bytes);
+    }
+
+    fn unseal_atom(&self, first: u64, bytes: &mut [u8]) {
+        self.0.seal_atom(first, bytes);
+    }
+
+    ghost some_sector = { λ it. C.some_sector it.0.now };
+
+    ghost sealed_length = { λ it. C.opened_length it.0.now };
+
+    ghost opened_length = { λ it. C.sealed_length it.0.now };
+
+    ghost sealed_bytes = { λ it. C.opened_bytes it.0.now };
+
+    ghost opened_bytes = { λ it. C.sealed_bytes it.0.now };
+
+    ghost unseal_undoes_seal = { λ it. C.seal_undoes_unseal it.0.now };
+
+    ghost seal_undoes_unseal = { λ it. C.unseal_undoes_seal it.0.now };
+
+    ghost sealed_joined = { λ it. C.opened_joined it.0.now };
+
+    ghost opened_joined = { λ it. C.sealed_joined it.0.now };
 }

@@ -1,8 +1,9 @@
 //! What a cipher is to the code that uses it.
 //!
 //! A cipher changes bytes where they lie, and each change can be undone. Three traits say so, for
-//! a block of 16 bytes ([`BlockCipher`]), for one sector under its number ([`SectorMode`]) and for
-//! a run of sectors under the IV number of the first ([`SectorCipher`]). Each has its meaning as
+//! a block of 16 bytes ([`BlockCipher`], which also takes eight blocks at once, [`EightBlocks`]),
+//! for a sector under its number and sectors in a row ([`SectorMode`]), and for a run of sectors
+//! under the IV number of the first ([`SectorCipher`]). Each has its meaning as
 //! two functions on lists of bytes, `sealed` and `opened`, and the laws that they keep: to unseal
 //! undoes to seal, to seal undoes to unseal, bytes become as many bytes, and a run of sectors is
 //! sealed as its parts are. The layers above rely on these laws alone, whatever the cipher is.

@@ -4,7 +4,7 @@ use Rattle.cbc_essiv.specs.Cbc.{cbc_essiv_sealed, cbc_essiv_opened}
 use Rattle.cbc_essiv.specs.declared.mode.CbcEssiv.{CbcEssiv as CbcMode}
 use Rattle.xts_mode.specs.Xts.{xts}
 use Rattle.xts_mode.specs.declared.mode.Xts.{Xts as XtsMode}
-use Rattle.sector_cipher.specs.Sectors.{by_sectors}
+use Rattle.cipher_laws.specs.Sectors.{by_sectors}
 use Rattle.sector_cipher.specs.Keys.{IsXtsUnder, IsCbcEssivUnder}
 use Rattle.sector_cipher.specs.Context.{sealed_under, opened_under}
 use Rattle.sector_cipher.specs.declared.spec.Spec.TheVariants.{AesXtsPlain64, AesCbcEssivSha256}

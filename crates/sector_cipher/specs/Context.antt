@@ -4,7 +4,7 @@ use Rattle.sha2.specs.Sha256.{sha256}
 use Rattle.aes_core.specs.Cipher.{aes, inverse_aes}
 use Rattle.xts_mode.specs.Xts.{xts}
 use Rattle.cbc_essiv.specs.Cbc.{cbc_essiv_sealed, cbc_essiv_opened}
-use Rattle.sector_cipher.specs.Sectors.{by_sectors}
+use Rattle.cipher_laws.specs.Sectors.{by_sectors}
 use Rattle.sector_cipher.specs.declared.spec.Spec.{Spec}
 use Rattle.sector_cipher.specs.declared.spec.Spec.TheVariants.{AesXtsPlain64, AesCbcEssivSha256}
 

@@ -3,7 +3,7 @@
 use Rattle.std.specs.Prelude.{ℕ, List}
 use Rattle.xts_mode.specs.Xts.{xts}
 use Rattle.cbc_essiv.specs.Cbc.{cbc_essiv_sealed, cbc_essiv_opened}
-use Rattle.sector_cipher.specs.Sectors.{by_sectors}
+use Rattle.cipher_laws.specs.Sectors.{by_sectors}
 use Rattle.sector_cipher.specs.declared.disk.Mode.{Mode}
 use Rattle.sector_cipher.specs.declared.disk.Mode.TheVariants.{Linear, Xts, CbcEssiv}
 use Rattle.sector_cipher.specs.declared.disk.DiskCipher.{DiskCipher}

@@ -4,4 +4,3 @@ pub mod DiskLaws
 pub mod Keys
 pub mod Names
 pub mod SectorLaws
-pub mod Sectors

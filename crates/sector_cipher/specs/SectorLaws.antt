@@ -1,12 +1,13 @@
 -- Sectors in a row: lengths, bytes, how the work is undone, and how rows are joined.
 use Rattle.std.proofs.Common.{◌≤◌, ◌≡◌, ℕ, zero, suc, ◌+◌, ◌*◌, ◌/◌, ◌%◌, ◌<◌, List, [], ◌++◌, length, take, drop, refl, ap, sym, ◌∙◌, arith, append_assoc, length-append}
 use Rattle.std.proofs.lemmas.List.{nil_from_length, take-append-le, drop-append-le}
-use Rattle.std.proofs.Math.Nat.{mod-add-div', mul-div_cancel, mul_assoc}
+use Rattle.std.proofs.Math.Nat.{mul-div_cancel, mul_assoc}
 use Rattle.cipher_laws.specs.Bytes.{AreBytes, AreSectors}
 use Rattle.cipher_laws.specs.Laws.{KeepsLengths, GivesBytes, UndoesSectors, JoinsSectors}
-use Rattle.cipher_blocks.specs.Pieces.{worked}
+use Rattle.cipher_laws.specs.Pieces.{worked}
+use Rattle.cipher_blocks.proofs.RowLemmas.{whole_sectors}
 use Rattle.cipher_blocks.proofs.PieceLemmas.{KeepsPieces, UndoesPieces, other_pieces, length-worked, bytes-worked, worked_undone}
-use Rattle.sector_cipher.specs.Sectors.{by_sectors}
+use Rattle.cipher_laws.specs.Sectors.{by_sectors}
 
 -- a size that sectors can have: a multiple of 512, and not 0
 pub record IsSectorSize (size : ℕ) : Type 0 where
@@ -33,9 +34,6 @@ sectors_keep change size sized keeps = record {
   are_bytes = λ number piece _ long bytes. keeps.bytes number piece (sector_of_piece size piece sized long bytes);
   good = λ _ _ _ _ _. tt;
 }
-
-pub whole_sectors : (size : ℕ) (bytes : List ℕ) → 0 < size → length bytes % size ≡ 0 → length bytes ≡ length bytes / size * size
-whole_sectors size bytes some whole = let parts : length bytes % size + length bytes / size * size ≡ length bytes = mod-add-div' (length bytes) size in omega arith
 
 -- the units of 512 bytes in m sectors
 whole_units : (m size long : ℕ) → size % 512 ≡ 0 → long ≡ m * size → long / 512 ≡ m * (size / 512)

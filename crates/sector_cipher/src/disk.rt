@@ -2,9 +2,8 @@
 
 ghost use Rattle.std.specs.Prelude.{◌≡◌, ◌<◌, ◌%◌, ⊤};
 
-use crate::rows::seal_sectors;
 use cbc_essiv::CbcEssiv;
-use cipher_laws::{BlockCipher, Inverse, SectorCipher};
+use cipher_laws::{BlockCipher, SectorCipher, SectorMode};
 use std::alloc::AllocError;
 use xts_mode::Xts;
 
@@ -49,16 +48,16 @@ impl<B: BlockCipher> SectorCipher for DiskCipher<B> {
     fn seal_atom(&self, first: u64, bytes: &mut [u8]) {
         match &self.mode {
             Mode::Linear => {}
-            Mode::Xts(mode) => seal_sectors(mode, self.sector, first, bytes),
-            Mode::CbcEssiv(mode) => seal_sectors(mode, self.sector, first, bytes),
+            Mode::Xts(mode) => mode.seal_sectors(self.sector, first, bytes),
+            Mode::CbcEssiv(mode) => mode.seal_sectors(self.sector, first, bytes),
         }
     }
 
     fn unseal_atom(&self, first: u64, bytes: &mut [u8]) {
         match &self.mode {
             Mode::Linear => {}
-            Mode::Xts(mode) => seal_sectors(&Inverse(mode), self.sector, first, bytes),
-            Mode::CbcEssiv(mode) => seal_sectors(&Inverse(mode), self.sector, first, bytes),
+            Mode::Xts(mode) => mode.unseal_sectors(self.sector, first, bytes),
+            Mode::CbcEssiv(mode) => mode.unseal_sectors(self.sector, first, bytes),
         }
     }
 

@@ -19,7 +19,6 @@ pub use spec::{Spec, UnknownCipher};
 mod context;
 mod disk;
 mod keys;
-mod rows;
 mod spec;
 #[cfg(test)]
 mod tests;

@@ -14,3 +14,5 @@
 pub use mode::Xts;
 
 mod mode;
+mod sector;
+mod tweak;

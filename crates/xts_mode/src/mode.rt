@@ -1,11 +1,12 @@
 // XTS over a block cipher.
 
-ghost use Rattle.std.specs.Prelude.{◌≡◌, ℕ, ◌%◌, ◌/◌, length};
+ghost use Rattle.std.specs.Prelude.{◌≡◌};
 ghost use Rattle.std.specs.Int.{from_le_bytes, w128};
 ghost use Rattle.cipher_blocks.specs.Blocks.{number_block};
-ghost use Rattle.xts_mode.specs.Xts.{doubled, whitened, xts_from, xts};
+ghost use Rattle.xts_mode.specs.Xts.{xts};
 
-use cipher_blocks::{block_at, number_block, put_block, xor};
+use crate::sector::{Whitening, whiten_blocks};
+use cipher_blocks::{change_sectors, number_block};
 use cipher_laws::{BlockCipher, Inverse, SectorMode};
 
 /// XTS with its two keys, each in a block cipher of its own.
@@ -37,39 +38,6 @@ impl<B: BlockCipher> Xts<B> {
     }
 }
 
-// The tweak times alpha.
-#[inline(always)]
-fn double(tweak: u128) -> u128
-    ensures { result ≡ doubled tweak }
-{
-    (tweak << 1) ^ ((tweak >> 127) * 0x87)
-}
-
-// One block under its tweak.
-#[inline(always)]
-#[tactic(auto, unfolding(crate::specs::Xts::whitened))]
-fn whiten<C: BlockCipher>(cipher: &C, tweak: u128, block: &[u8; 16]) -> [u8; 16]
-    ensures { result ≡ whitened (C.sealed cipher.now) tweak block.now }
-{
-    let mask = number_block(tweak);
-    let mut masked = xor(block, &mask);
-    cipher.seal(&mut masked);
-    xor(&masked, &mask)
-}
-
-// The blocks of a sector, the first of them under the tweak `first`.
-fn whiten_blocks<C: BlockCipher>(cipher: &C, first: u128, sector: &mut [u8])
-    requires { length sector.old % 16 ≡ 0 }
-    ensures { sector.new ≡ xts_from (C.sealed cipher.now) first sector.old }
-{
-    let mut tweak = first;
-    for i in 0..sector.len() / 16 {
-        let block = block_at(sector, 16 * i);
-        put_block(sector, 16 * i, &whiten(cipher, tweak, &block));
-        tweak = double(tweak);
-    }
-}
-
 #[tactic(auto, unfolding(crate::specs::Xts::xts))]
 impl<B: BlockCipher> SectorMode for Xts<B> {
     ghost use Rattle.xts_mode.specs.Laws.{xts_keeps_lengths, xts_gives_bytes, xts_undone};
@@ -86,6 +54,15 @@ impl<B: BlockCipher> SectorMode for Xts<B> {
         whiten_blocks(&Inverse(&self.body), self.first_tweak(number), sector);
     }
 
+    fn seal_sectors(&self, size: usize, first: u64, bytes: &mut [u8]) {
+        change_sectors(&Whitening(&self.body), &self.tweak, size, first, bytes);
+    }
+
+    fn unseal_sectors(&self, size: usize, first: u64, bytes: &mut [u8]) {
+        let inverse = Inverse(&self.body);
+        change_sectors(&Whitening(&inverse), &self.tweak, size, first, bytes);
+    }
+
     ghost sealed_length = { λ x. xts_keeps_lengths (B.sealed x.body) (B.sealed x.tweak) (B.sealed_block x.body) };
 
     ghost opened_length = { λ x. xts_keeps_lengths (B.opened x.body) (B.sealed x.tweak) (B.opened_block x.body) };
@@ -99,17 +76,4 @@ impl<B: BlockCipher> SectorMode for Xts<B> {
 
     ghost seal_undoes_unseal = { λ x. xts_undone (B.sealed x.body) (B.opened x.body) (B.sealed x.tweak)
         (B.opened_block x.body) (B.seal_undoes_unseal x.body) };
-}
-
-#[cfg(test)]
-mod tests {
-    use super::*;
-
-    #[test]
-    fn the_top_bit_comes_back_as_87(rt: HostRuntime) {
-        assert_eq!(rt; double(1), 2);
-        assert_eq!(rt; double(1 << 126), 1 << 127);
-        assert_eq!(rt; double(1 << 127), 0x87);
-        assert_eq!(rt; double(u128::MAX), (u128::MAX - 1) ^ 0x87);
-    }
 }

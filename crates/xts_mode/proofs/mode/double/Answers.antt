@@ -1,5 +1,0 @@
-use Rattle.xts_mode.proofs.TweakLemmas.{doubled_is}
-use Rattle.xts_mode.proofs.mode.double.Goals as goal
-
-pub returns : goal.returns
-returns c = doubled_is c.args.tweak c.ranges.tweak.fits
