@@ -21,7 +21,10 @@ use std::alloc::{AllocError, Global};
 use std::sync::Wait;
 use std::thread::Threads;
 use volume_core::{Progress, Volume};
-use volume_laws::{device_errors_are_exact, every_run_is_served, failures_go_by_events, keys_seal_lawfully, plain_volumes_start, runs_fail_by_faults, runs_stop_anywhere, tables_are_of_events};
+use volume_laws::{
+    device_errors_are_exact, every_run_is_served, failures_go_by_events, keys_seal_lawfully,
+    plain_volumes_start, runs_fail_by_faults, runs_stop_anywhere, tables_are_of_events,
+};
 
 /// How many links serve a command.
 const WORKERS: u32 = 4;

@@ -8,4 +8,5 @@ share_of workers sessions k = if nat_lt k sessions then (sessions - 1 - k) / wor
 -- each worker's link has its share of the sessions to come
 abbrev pub AreShared : {L : Type 0} → (L → ℕ) → ℕ → ℕ → List L → Type 0
 AreShared {L} left workers sessions links =
-    (k : ℕ) (link : L) → k < workers → left (slice_index_or links k link) ≡ share_of workers sessions k
+    (k : ℕ) (link : L) → k < workers →
+    left (slice_index_or links k link) ≡ share_of workers sessions k

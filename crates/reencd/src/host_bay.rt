@@ -1,14 +1,20 @@
-ghost use Rattle.std.specs.Prelude.{◌≡◌, ◌≢◌, ◌<◌, ◌≤◌, ℕ, None, Ok, IfOk, codes, length, min, slice_index_or};
+ghost use Rattle.std.specs.Prelude.{◌≡◌, ◌≢◌, ◌<◌, ◌≤◌, ◌⊎◌, ℕ, Ok, Err, IfOk, IfErr, MatchResult, codes, length, min, slice_index_or};
+ghost use Rattle.std.specs.IoError.{error_kind};
+ghost use Rattle.std.specs.declared.io.Error.{Error};
 ghost use Rattle.base_terms.specs.Causes.{Rose};
 ghost use Rattle.bays.specs.Bays.{HasBayCause};
+ghost use Rattle.file_disk.specs.Opening.{OpensLocked};
+ghost use Rattle.file_disk.specs.Sizes.{whole_atoms};
+ghost use Rattle.sector_disk.specs.Geometry.{IsAtom};
 ghost use Rattle.reencd.specs.Shares.{AreShared, share_of};
+ghost use Rattle.reencd.specs.Untold.{untold_bay};
 
 use crate::host_file::HostFile;
 use crate::host_link::{Door, HostLink};
 use crate::notices::{announce, complain};
 use base_terms::Bytes;
 use bays::{Bay, BayFault};
-use file_disk::{FileDisk, open_locked};
+use file_disk::{FileDisk, FileSystem, open_locked};
 use std::alloc::Global;
 use std::fs::{File, Files};
 use std::io::{self, ErrorKind, Read, Stderr, Stdin, Stdout};
@@ -19,10 +25,10 @@ const MAX_KEY: u64 = 513;
 
 /// The machine as a bay. A disk is the file or block device of its name, locked while it is open; a
 /// key is the file of its name. An address is `HOST:PORT`, where clients connect by TCP (port 0 is
-/// any that is free), or `stdio`, where standard input and output are the one client. What the system
-/// refuses is said on standard error, and so is where clients may connect.
+/// any that is free), or `stdio`, where standard input and output are the one client. What the
+/// system refuses is said on standard error, and so is where clients may connect.
 #[derive(Drop)]
-pub struct HostBay<R: Files<File = File> + Net<Stream = TcpStream> + Drop> {
+pub struct HostBay<R: FileSystem + Files<File = File> + Net<Stream = TcpStream> + Drop> {
     machine: R,
     input: Stdin,
     output: Stdout,
@@ -30,7 +36,7 @@ pub struct HostBay<R: Files<File = File> + Net<Stream = TcpStream> + Drop> {
     faults: u64,
 }
 
-impl<R: Files<File = File> + Net<Stream = TcpStream> + Drop> HostBay<R> {
+impl<R: FileSystem + Files<File = File> + Net<Stream = TcpStream> + Drop> HostBay<R> {
     /// A bay of this machine, with these standard streams.
     pub fn new(machine: R, input: Stdin, output: Stdout, errors: Stderr) -> HostBay<R>
         ensures { result.faults ≡ 0 }
@@ -48,6 +54,7 @@ impl<R: Files<File = File> + Net<Stream = TcpStream> + Drop> HostBay<R> {
     fn refused(&mut self, alloc: Global, what: &str, error: &io::Error) -> BayFault
         ensures later { self.old.faults ≤ self.new.faults }
         ensures rose { result ≡ BayFault.Failed → Rose self.old.faults self.new.faults }
+        ensures reason { result ≡ BayFault.Failed → error_kind error.now ≢ ErrorKind.OutOfMemory }
     {
         complain(alloc, self.errors, what, error);
         if error.kind() == ErrorKind::OutOfMemory {
@@ -58,10 +65,26 @@ impl<R: Files<File = File> + Net<Stream = TcpStream> + Drop> HostBay<R> {
     }
 
     /// The file or block device of that name, and how many bytes it has.
-    fn open_file(&self, alloc: Global, name: &str) -> io::Result<(HostFile, u64)> {
-        let kept_name = String::from_str(alloc, name)?;
-        let (file, len) = open_locked(&self.machine, name)?;
-        Ok((HostFile::new(alloc, self.errors, kept_name, file), len))
+    fn open_file(
+        &self,
+        alloc: Global,
+        name: &str,
+    ) -> io::Result<(HostFile<<R as FileSystem>::File>, u64)>
+        ensures { MatchResult result
+            (λ opened. OpensLocked (R.opens self.now.machine name.now)
+            R.FileSystem.File.locks R.FileSystem.File.measures (Ok (opened.0.file, opened.1)))
+            (λ error. (error_kind error ≡ ErrorKind.OutOfMemory)
+            ⊎ OpensLocked (R.opens self.now.machine name.now)
+            R.FileSystem.File.locks R.FileSystem.File.measures (Err error)) }
+    {
+        let kept_name = match String::from_str(alloc, name) {
+            Ok(kept_name) => kept_name,
+            Err(_) => return Err(io::Error::from(ErrorKind::OutOfMemory)),
+        };
+        match open_locked(&self.machine, name) {
+            Ok((file, len)) => Ok((HostFile::new(alloc, self.errors, kept_name, file), len)),
+            Err(error) => Err(error),
+        }
     }
 
     /// The whole file of that name, cut behind the most bytes of a key.
@@ -86,9 +109,12 @@ impl<R: Files<File = File> + Net<Stream = TcpStream> + Drop> HostBay<R> {
     ) -> io::Result<Vec<HostLink<R>>>
         requires { 0 < workers }
         ensures count { IfOk result (λ links. length links.items ≡ workers) }
-        ensures listens { address.now ≢ codes "stdio" → IfOk result (λ links. AreShared (λ link. link.left) workers sessions links.items) }
-        ensures standard { address.now ≡ codes "stdio" → IfOk result (λ links. AreShared (λ link. link.left) workers (min sessions 1) links.items) }
-        ensures bound { IfOk result (λ links. (k : ℕ) (link : _) → k < workers → (slice_index_or links.items k link).left ≤ sessions) }
+        ensures listens { address.now ≢ codes "stdio" →
+            IfOk result (λ links. AreShared (λ link. link.left) workers sessions links.items) }
+        ensures standard { address.now ≡ codes "stdio" → IfOk result
+            (λ links. AreShared (λ link. link.left) workers (min sessions 1) links.items) }
+        ensures bound { IfOk result (λ links. (k : ℕ) (link : _) → k < workers →
+            (slice_index_or links.items k link).left ≤ sessions) }
     {
         if address == "stdio" {
             let door = Door::Standard(self.input, self.output);
@@ -110,7 +136,8 @@ impl<R: Files<File = File> + Net<Stream = TcpStream> + Drop> HostBay<R> {
     ) -> io::Result<Vec<HostLink<R>>>
         requires { 0 < workers }
         ensures count { IfOk result (λ links. length links.items ≡ workers) }
-        ensures shared { IfOk result (λ links. AreShared (λ link. link.left) workers sessions links.items) }
+        ensures shared { IfOk result
+            (λ links. AreShared (λ link. link.left) workers sessions links.items) }
     {
         let mut links = Vec::with_capacity(alloc, workers as usize)?;
         for k in 0..workers {
@@ -134,23 +161,25 @@ fn share_for(workers: u32, sessions: u32, k: u32) -> u32
     }
 }
 
-impl<R: Files<File = File> + Net<Stream = TcpStream> + Drop> Bay for HostBay<R> {
-    type Disk = FileDisk<HostFile>;
+impl<R: FileSystem + Files<File = File> + Net<Stream = TcpStream> + Drop> Bay for HostBay<R> {
+    type Disk = FileDisk<HostFile<<R as FileSystem>::File>>;
 
     type Link = HostLink<R>;
 
-    ghost shelf = { λ _ _. None };
+    ghost holdings = { λ bay. untold_bay bay.faults };
 
-    ghost inputs = { λ _. None };
-
-    ghost faults = { λ bay. bay.faults };
-
-    fn disk(
-        &mut self,
-        alloc: Global,
-        name: &str,
-        atom: u32,
-    ) -> Result<FileDisk<HostFile>, BayFault> {
+    fn disk(&mut self, alloc: Global, name: &str, atom: u32) -> Result<Self::Disk, BayFault>
+        requires { IsAtom atom }
+        ensures atom { IfOk result (λ disk. disk.atom ≡ atom) }
+        ensures opened { IfOk result (λ disk. (len : ℕ)
+            × OpensLocked (R.opens self.old.machine name.now) R.FileSystem.File.locks
+            R.FileSystem.File.measures (Ok (disk.file.file, len))
+            × (disk.atoms ≡ whole_atoms atom len)) }
+        ensures refused { IfErr result (λ fault. fault ≡ BayFault.Failed → (error : Error)
+            × OpensLocked (R.opens self.old.machine name.now) R.FileSystem.File.locks
+            R.FileSystem.File.measures (Err error)) }
+        ensures cause { HasBayCause self.old.faults self.new.faults result }
+    {
         match self.open_file(alloc, name) {
             Ok((file, len)) => Ok(FileDisk::new(file, len, atom)),
             Err(error) => Err(self.refused(alloc, name, &error)),
@@ -176,9 +205,12 @@ impl<R: Files<File = File> + Net<Stream = TcpStream> + Drop> Bay for HostBay<R> 
     ) -> Result<Vec<HostLink<R>>, BayFault>
         requires { 0 < workers }
         ensures count { IfOk result (λ links. length links.items ≡ workers) }
-        ensures listens { address.now ≢ codes "stdio" → IfOk result (λ links. AreShared (λ link. link.left) workers sessions links.items) }
-        ensures standard { address.now ≡ codes "stdio" → IfOk result (λ links. AreShared (λ link. link.left) workers (min sessions 1) links.items) }
-        ensures bound { IfOk result (λ links. (k : ℕ) (link : _) → k < workers → (slice_index_or links.items k link).left ≤ sessions) }
+        ensures listens { address.now ≢ codes "stdio" →
+            IfOk result (λ links. AreShared (λ link. link.left) workers sessions links.items) }
+        ensures standard { address.now ≡ codes "stdio" → IfOk result
+            (λ links. AreShared (λ link. link.left) workers (min sessions 1) links.items) }
+        ensures bound { IfOk result (λ links. (k : ℕ) (link : _) → k < workers →
+            (slice_index_or links.items k link).left ≤ sessions) }
         ensures cause { HasBayCause self.old.faults self.new.faults result }
     {
         match self.open_links(alloc, address, workers, sessions) {

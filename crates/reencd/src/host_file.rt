@@ -3,21 +3,23 @@ ghost use Rattle.std.specs.Prelude.{◌≡◌};
 use crate::notices::complain;
 use file_disk::PositionedFile;
 use std::alloc::Global;
-use std::fs::File;
 use std::io::{self, Stderr};
 
-/// An open file of the machine. What the system refuses of it is said on standard error.
+/// An open file of the machine. What the system refuses of it is said on standard error; its calls
+/// do what those of the file do.
 #[derive(Drop)]
-pub struct HostFile {
-    file: File,
+pub struct HostFile<F: PositionedFile> {
+    file: F,
     name: String,
     alloc: Global,
     errors: Stderr,
 }
 
-impl HostFile {
+impl<F: PositionedFile> HostFile<F> {
     /// The file, which is told of by this name.
-    pub fn new(alloc: Global, errors: Stderr, name: String, file: File) -> HostFile {
+    pub fn new(alloc: Global, errors: Stderr, name: String, file: F) -> HostFile<F>
+        ensures { result.file ≡ file }
+    {
         HostFile {
             file,
             name,
@@ -37,25 +39,25 @@ impl HostFile {
     }
 }
 
-impl PositionedFile for HostFile {
-    ghost reads = { λ _ _ _ _ _. Unit {0} };
+impl<F: PositionedFile> PositionedFile for HostFile<F> {
+    ghost reads = { λ old from bytes done new. F.reads old.file from bytes done new.file };
 
-    ghost writes = { λ _ _ _ _ _. Unit {0} };
+    ghost writes = { λ old from bytes done new. F.writes old.file from bytes done new.file };
 
-    ghost syncs = { λ _ _ _. Unit {0} };
+    ghost syncs = { λ old done new. F.syncs old.file done new.file };
 
     fn read_exact_at(&mut self, buf: &mut [u8], from: u64) -> io::Result<()> {
-        let done = PositionedFile::read_exact_at(&mut self.file, buf, from);
+        let done = self.file.read_exact_at(buf, from);
         self.told(done)
     }
 
     fn write_all_at(&mut self, bytes: &[u8], from: u64) -> io::Result<()> {
-        let done = PositionedFile::write_all_at(&mut self.file, bytes, from);
+        let done = self.file.write_all_at(bytes, from);
         self.told(done)
     }
 
     fn sync_data(&mut self) -> io::Result<()> {
-        let done = PositionedFile::sync_data(&mut self.file);
+        let done = self.file.sync_data();
         self.told(done)
     }
 }

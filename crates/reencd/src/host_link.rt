@@ -1,6 +1,8 @@
-ghost use Rattle.std.specs.Prelude.{◌≡◌, ◌≢◌, ◌+◌, ◌-◌, ◌^◌, ◌<◌, ◌≤◌, None, Ok, IfOk, IsErr, MatchResult, MatchOption, IfNone, IfSome};
+ghost use Rattle.std.specs.Prelude.{◌≡◌, ◌+◌, ◌^◌, ◌<◌, None, Ok, IfOk, IfNone};
 ghost use Rattle.base_terms.specs.Causes.{HasCause};
-ghost use Rattle.io_edge.specs.Streams.{Counts};
+ghost use Rattle.bays.specs.Stories.{CountsGiven, HasNoneAhead};
+ghost use Rattle.io_edge.specs.Faults.{Counts};
+ghost use Rattle.reencd.specs.Untold.{untold_link};
 
 use crate::notices::complain;
 use crate::streams::{HostReader, HostWriter};
@@ -14,13 +16,13 @@ use std::net::{Net, OpenListener, TcpStream};
 /// How many bytes a connection reads ahead and holds back at most.
 const ROOM: usize = 8192;
 
-/// The source of a connection. It reads ahead, so that a request and the beginning of its data come by
-/// one call of the system.
+/// The source of a connection. It reads ahead, so that a request and the beginning of its data come
+/// by one call of the system.
 pub type HostSource = StdSource<BufReader<HostReader>>;
 
 /// The sink of a connection. It holds short pieces back until they are pushed out or a long one
-/// follows, so that the head of a reply and its data leave together: a short piece is copied, a long
-/// one is not.
+/// follows, so that the head of a reply and its data leave together: a short piece is copied, a
+/// long one is not.
 pub type HostSink = StdSink<GatheringWriter<HostWriter>>;
 
 /// A source and a sink over the two ends of a connection. It fails only where memory is wanted.
@@ -53,8 +55,8 @@ impl<L: OpenListener + Drop> Door<L> {
     }
 }
 
-/// A link of the machine. It gives as many connections as its sessions are, one after the other, and
-/// then none. Where the system refuses one, that is said on standard error.
+/// A link of the machine. It gives as many connections as its sessions are, one after the other,
+/// and then none. Where the system refuses one, that is said on standard error.
 #[derive(Drop)]
 pub struct HostLink<R: Net<Stream = TcpStream>> {
     door: Door<R::Listener>,
@@ -68,8 +70,8 @@ pub struct HostLink<R: Net<Stream = TcpStream>> {
 }
 
 impl<R: Net<Stream = TcpStream>> HostLink<R> {
-    /// A link whose clients come in by this door, `sessions` of them. The address is what is told of
-    /// it on standard error.
+    /// A link whose clients come in by this door, `sessions` of them. The address is what is told
+    /// of it on standard error.
     pub fn new(
         alloc: Global,
         errors: Stderr,
@@ -133,22 +135,16 @@ impl<R: Net<Stream = TcpStream>> Link for HostLink<R> {
 
     type Out = HostSink;
 
-    ghost told = { λ _. None };
-
-    ghost bound = { λ link. link.left };
-
-    ghost lent = { λ link. link.lent };
-
-    ghost faults = { λ link. link.faults };
+    ghost state = { λ link. untold_link link.left link.lent link.faults };
 
     fn next(&mut self) -> Result<Option<(Self::In, Self::Out)>, Failed>
         ensures ends { self.old.left ≡ 0 → result ≡ Ok None }
-        ensures bound { MatchResult result (λ given. MatchOption given ((self.old.left ≡ 0) × (self.new.left ≡ 0)) (λ _. self.new.left + 1 ≡ self.old.left))
-            (λ _. self.new.left ≡ self.old.left) }
-        ensures lent { MatchResult result (λ given. MatchOption given (self.new.lent ≡ self.old.lent) (λ _. self.new.lent ≡ self.old.lent + 1))
-            (λ _. self.new.lent ≡ self.old.lent) }
+        ensures at_end { IfOk result (λ given. IfNone given
+            (HasNoneAhead (untold_link self.new.left self.new.lent self.new.faults))) }
+        ensures counts { CountsGiven (untold_link self.old.left self.old.lent self.old.faults)
+            (untold_link self.new.left self.new.lent self.new.faults) result }
         ensures cause { HasCause self.old.faults self.new.faults result }
-        ensures counts { Counts self.old.faults self.new.faults result }
+        ensures faults { Counts self.old.faults self.new.faults result }
     {
         if self.left == 0 {
             return Ok(None);
@@ -169,8 +165,8 @@ impl<R: Net<Stream = TcpStream>> Link for HostLink<R> {
 
     fn done(&mut self, _source: Self::In, _sink: Self::Out)
         requires { 0 < self.old.lent }
-        ensures lent { self.new.lent + 1 ≡ self.old.lent }
         ensures bound { self.new.left ≡ self.old.left }
+        ensures lent { self.new.lent + 1 ≡ self.old.lent }
         ensures faults { self.new.faults ≡ self.old.faults }
     {
         self.lent -= 1;

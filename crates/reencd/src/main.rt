@@ -19,6 +19,7 @@ use io_edge::{OpenGate, OsSeeds, StdSink};
 use notices::explain;
 use reenc_tool::{Cause, Ended, run};
 use std::env;
+use std::fs::File;
 use std::io::{ErrorKind, Stderr};
 use std::process::ExitCode;
 
@@ -33,7 +34,7 @@ fn main(rt: HostRuntime) -> ExitCode {
     };
     let mut bay = HostBay::new(rt, rt.stdin(), rt.stdout(), rt.stderr());
     let mut seeds = OsSeeds::new(rt);
-    let ended: Ended<FileDisk<HostFile>, HostLink<HostRuntime>> = run(
+    let ended: Ended<FileDisk<HostFile<File>>, HostLink<HostRuntime>> = run(
         &rt,
         rt.alloc(),
         words.as_slice(),

@@ -7,8 +7,8 @@ use std::net::OpenListener;
 const USAGE: &str =
     "usage: reencd serve DISK --plain --atom 512|4096 --listen HOST:PORT|stdio --sessions N";
 
-/// Says in one line on standard error what the system refused and why, as `reencd: disk.img: No such
-/// file or directory`. Where that line can't be put, nobody is told.
+/// Says in one line on standard error what the system refused and why, as `reencd: disk.img: No
+/// such file or directory`. Where that line can't be put, nobody is told.
 pub fn complain(alloc: Global, errors: Stderr, what: &str, error: &io::Error) {
     let _ = match error.to_string(alloc) {
         Ok(text) => eprintln!(errors; "reencd: {what}: {}", without_number(text.as_str())),
@@ -31,8 +31,8 @@ pub fn announce(errors: Stderr, listener: &impl OpenListener) {
     }
 }
 
-/// Says in one line on standard error what was wrong with the words of a command, or with its disk. What
-/// the system refused was told when it did.
+/// Says in one line on standard error what was wrong with the words of a command, or with its disk.
+/// What the system refused was told when it did.
 pub fn explain(errors: Stderr, cause: Cause) {
     if let Some(reason) = reason_of(cause) {
         let _ = eprintln!(errors; "reencd: {reason}");
@@ -47,7 +47,7 @@ fn reason_of(cause: Cause) -> Option<&'static str> {
             what: Fit::Blocks,
             ..
         } => Some("the disk is smaller than one block"),
-        Cause::Fine | Cause::Device | Cause::Link | Cause::Output | Cause::Memory => None,
+        Cause::Fine | Cause::Device(_) | Cause::Link { .. } | Cause::Output | Cause::Memory => None,
     }
 }
 

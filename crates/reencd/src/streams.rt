@@ -25,23 +25,11 @@ pub enum HostWriter {
     Socket(TcpStream),
 }
 
-impl Write for HostWriter {
-    fn write(&mut self, buf: &[u8]) -> io::Result<usize> {
-        match self {
-            HostWriter::Standard(output) => output.write(buf),
-            HostWriter::Socket(stream) => stream.write(buf),
-        }
-    }
-
-    fn flush(&mut self) -> io::Result<()> {
-        match self {
-            HostWriter::Standard(output) => output.flush(),
-            HostWriter::Socket(stream) => stream.flush(),
-        }
-    }
-}
-
 impl WritePair for HostWriter {
+    ghost writes = { λ _ _ _ _. Unit {0} };
+
+    ghost flushes = { λ _ _ _. Unit {0} };
+
     fn write_pair(&mut self, first: &[u8], second: &[u8]) -> io::Result<usize> {
         match self {
             HostWriter::Standard(output) if first.is_empty() => output.write(second),
@@ -49,6 +37,13 @@ impl WritePair for HostWriter {
             HostWriter::Socket(stream) => {
                 TcpStream::write_vectored(stream, &[IoSlice::new(first), IoSlice::new(second)])
             }
+        }
+    }
+
+    fn flush(&mut self) -> io::Result<()> {
+        match self {
+            HostWriter::Standard(output) => output.flush(),
+            HostWriter::Socket(stream) => stream.flush(),
         }
     }
 }

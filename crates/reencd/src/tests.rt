@@ -48,9 +48,9 @@ const SENT: &[Part] = &[
     ),
 ];
 
-/// What it is answered: the greeting; an export of 8192 bytes with flushes, FUA and several connections
-/// at once; its blocks, of 512 bytes or more, best 4096, and 32 MiB at most; that it is agreed; and the
-/// replies to the write, to the read, with the block, and to the flush.
+/// What it is answered: the greeting; an export of 8192 bytes with flushes, FUA and several
+/// connections at once; its blocks, of 512 bytes or more, best 4096, and 32 MiB at most; that it is
+/// agreed; and the replies to the write, to the read, with the block, and to the flush.
 const ANSWERED: &[Part] = &[
     ("4e42444d4147494349484156454f50540003", 1),
     (
@@ -114,7 +114,8 @@ fn bay_of(rt: HostRuntime) -> HostBay<HostRuntime> {
     HostBay::new(rt, rt.stdin(), rt.stdout(), rt.stderr())
 }
 
-/// Runs the command of these words on the machine, and gives its status and the text that it printed.
+/// Runs the command of these words on the machine, and gives its status and the text that it
+/// printed.
 fn command(
     threads: &(impl Threads + Wait + Sync),
     rt: HostRuntime,
@@ -127,7 +128,7 @@ fn command(
     let mut bay = bay_of(rt);
     let mut seeds = OsSeeds::new(rt);
     let mut out = ListSink::new(rt.alloc(), 100, &[])?;
-    let ended: Ended<FileDisk<HostFile>, HostLink<HostRuntime>> = run(
+    let ended: Ended<FileDisk<HostFile<File>>, HostLink<HostRuntime>> = run(
         threads,
         rt.alloc(),
         &list,

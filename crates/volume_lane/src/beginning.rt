@@ -10,8 +10,8 @@ ghost use Rattle.volume_lane.specs.Lane.{HasBegun};
 use block_range::BlockRange;
 use cipher_laws::SectorCipher;
 use sector_disk::Disk;
-use volume_machine::{Ask};
 use volume_core::{Asked, Grant, Volume};
+use volume_machine::Ask;
 
 /// The lane on which operations are executed.
 pub(crate) const LANE: u32 = 0;

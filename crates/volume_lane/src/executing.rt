@@ -18,8 +18,8 @@ use cipher_laws::SectorCipher;
 use plain_disk::{Op, Reply};
 use sector_disk::Disk;
 use std::alloc::{AllocError, Global};
-use volume_machine::{Ask};
 use volume_core::{Settled, Volume};
+use volume_machine::Ask;
 
 /// Executes one operation on the first lane of a volume on which no operation is under way, and
 /// answers it.

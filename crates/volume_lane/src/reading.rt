@@ -21,8 +21,8 @@ use sector_disk::Disk;
 use segment_map::Piece;
 use std::alloc::{AllocError, Global};
 use std::collections::VecDeque;
-use volume_machine::{Ask};
 use volume_core::{Grant, PieceRead, Volume};
+use volume_machine::Ask;
 
 /// Executes a read. Its content comes in the spare buffer where that is long enough; where the read is
 /// refused the spare buffer is given back, else an empty one.

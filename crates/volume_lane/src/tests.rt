@@ -11,8 +11,8 @@ use segment_map::{Direction, Map};
 use std::alloc::{AllocError, Global};
 use std::mem;
 use std::test::Fail;
-use volume_machine::{Keys};
 use volume_core::Volume;
+use volume_machine::Keys;
 
 const MIB: usize = 1_048_576;
 

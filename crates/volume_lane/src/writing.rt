@@ -22,8 +22,8 @@ use sector_disk::Disk;
 use segment_map::Piece;
 use std::alloc::{AllocError, Global};
 use std::collections::VecDeque;
-use volume_machine::{Ask, Prepared};
 use volume_core::{Grant, PieceWritten, Settled, Volume};
+use volume_machine::{Ask, Prepared};
 
 /// Executes a write, and gives the buffer of its body back where it still has it, else an empty one.
 pub(crate) fn write<D: Disk, C: SectorCipher + Copy>(

@@ -8,12 +8,12 @@
 
 mod ask;
 mod keys;
+mod laws;
 mod open;
 mod prepared;
-mod laws;
 
 pub use ask::Ask;
 pub use keys::Keys;
+pub use laws::volumes_stay_sound;
 pub use open::{Open, open_of, set_lane};
 pub use prepared::Prepared;
-pub use laws::volumes_stay_sound;

@@ -6,9 +6,9 @@ ghost use Rattle.sector_disk.specs.Geometry.{IsAtom};
 ghost use Rattle.volume_machine.specs.Seals.{KeysFit, seals_of};
 
 use crate::Keys;
-use disk_views::bytes_of;
 use base_terms::Bytes;
 use cipher_laws::SectorCipher;
+use disk_views::bytes_of;
 use segment_map::Piece;
 use std::marker::Model;
 

@@ -1,7 +1,6 @@
 ghost use Rattle.sector_disk.specs.Images.{IsChoice};
 
 use crate::Volume;
-use volume_machine::{Ask, Keys, Prepared};
 use block_range::BlockRange;
 use events::{
     Answer, admit, ask, finish, read, read_of, settle, small, volume_of, write, write_of,
@@ -10,6 +9,7 @@ use sector_cipher::Context;
 use sector_disk::{Choice, MemDisk, RamDisk};
 use std::alloc::{AllocError, Global};
 use std::test::Fail;
+use volume_machine::{Ask, Keys, Prepared};
 
 mod events;
 mod orders;

@@ -7,10 +7,8 @@ ghost use Rattle.volume_machine.specs.States.{open_at};
 ghost use Rattle.volume_machine.specs.Steps.{Meets, Holds, HasPiece};
 ghost use Rattle.volume_machine.specs.declared.ask.Ask.{Ask};
 
-use crate::answers::{Admitted, Asked, PieceRead, PieceWritten, Settled};
-use volume_machine::Open;
 use crate::Volume;
-use volume_machine::{Ask, Prepared};
+use crate::answers::{Admitted, Asked, PieceRead, PieceWritten, Settled};
 use base_terms::Bytes;
 use cipher_laws::SectorCipher;
 use range_lock::Standing;
@@ -19,6 +17,7 @@ use sector_disk::{Disk, RamDisk};
 use segment_map::Piece;
 use std::alloc::{AllocError, Global};
 use std::test::Fail;
+use volume_machine::{Ask, Open, Prepared};
 
 // What an operation, or one of its events, was answered. `Got` has the first and the last byte, in
 // plain; `Unmet` says that the call's conditions aren't met.

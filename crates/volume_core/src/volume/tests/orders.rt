@@ -4,13 +4,13 @@ use super::events::{
     Answer, admit, ask, finish, read_bytes, read_of, settle, volume_of, write, write_of,
 };
 use crate::Volume;
-use volume_machine::{Ask};
 use base_terms::Bytes;
 use plain_disk::{Op, PlainDisk, Reply};
 use sector_cipher::Context;
 use sector_disk::{Disk, RamDisk};
 use std::alloc::{AllocError, Global};
 use std::test::Fail;
+use volume_machine::Ask;
 
 // How many blocks the disks have.
 const BLOCKS: u64 = 4;

@@ -7,9 +7,8 @@ ghost use Rattle.volume_machine.specs.Sound.{MapFits};
 use super::events::{
     Answer, admit, can_admit, finish, read, read_of, settle, small, write, write_of,
 };
-use crate::answers::{Admitted, Grant, Progress};
 use crate::Volume;
-use volume_machine::{Ask, Keys};
+use crate::answers::{Admitted, Grant, Progress};
 use block_range::BlockRange;
 use cipher_laws::SectorCipher;
 use sector_cipher::{Context, Spec};
@@ -17,6 +16,7 @@ use sector_disk::{Disk, RamDisk};
 use segment_map::{Direction, Map, Piece, Side};
 use std::alloc::{AllocError, Global};
 use std::test::Fail;
+use volume_machine::{Ask, Keys};
 
 // Eight blocks whose boundary is in the middle.
 fn eight_blocks(atom: u32, direction: Direction, zone: u64) -> Map

@@ -5,5 +5,6 @@ use Rattle.reencd.proofs.host_bay.HostBay.share_door.Given as goal
 abbrev pub invariant-loop-k : goal.invariant-loop-k
 invariant-loop-k g l = record {
   count : length l.links.items ≡ l.k;
-  shared : (j : ℕ) (link : _) → j < l.k → (slice_index_or l.links.items j link).left ≡ share_of l.workers l.sessions j;
+  shared : (j : ℕ) (link : _) → j < l.k →
+      (slice_index_or l.links.items j link).left ≡ share_of l.workers l.sessions j;
 }
