@@ -36,7 +36,7 @@ impl<F: LockableFile> FileDisk<F> {
     /// # Errors
     ///
     /// Those of [`open_locked`].
-    pub fn open<S: FileSystem<File = F>>(
+    pub fn open<S: FileSystem<Opened = F>>(
         system: &S,
         path: &str,
         atom: u32,

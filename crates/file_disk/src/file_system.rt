@@ -27,13 +27,13 @@ pub trait LockableFile: PositionedFile {
 
 /// Where files are opened by their names. What opening does is a matter of the system.
 pub trait FileSystem {
-    type File: LockableFile;
+    type Opened: LockableFile;
 
     /// What opening the file of a name gives.
-    ghost opens: { Self → List ℕ → Result Self.File Error → Type 0 };
+    ghost opens: { Self → List ℕ → Result Self.Opened Error → Type 0 };
 
     /// Opens the file or block device of that name for reading and writing.
-    fn open_file(&self, path: &str) -> io::Result<Self::File>
+    fn open_file(&self, path: &str) -> io::Result<Self::Opened>
         ensures { opens self.now path.now result };
 }
 
@@ -60,7 +60,7 @@ impl LockableFile for File {
 
 /// The files of the machine.
 impl FileSystem for HostRuntime {
-    type File = File;
+    type Opened = File;
 
     ghost opens = { λ _ _ _. Unit {0} };
 
@@ -77,8 +77,8 @@ impl FileSystem for HostRuntime {
 /// What the system said where it doesn't open, lock or measure the file, as `NotFound`; of the kind
 /// `WouldBlock` where another open of the file holds a lock. Of the kind `OutOfMemory` where the
 /// system wants memory; the call itself takes none. Nothing stays open or locked.
-pub fn open_locked<S: FileSystem>(system: &S, path: &str) -> io::Result<(S::File, u64)>
-    ensures { OpensLocked (S.opens system.now path.now) S.File.locks S.File.measures result }
+pub fn open_locked<S: FileSystem>(system: &S, path: &str) -> io::Result<(S::Opened, u64)>
+    ensures { OpensLocked (S.opens system.now path.now) S.Opened.locks S.Opened.measures result }
 {
     let mut file = match system.open_file(path) {
         Ok(file) => file,

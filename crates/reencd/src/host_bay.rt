@@ -65,17 +65,13 @@ impl<R: FileSystem + Files<File = File> + Net<Stream = TcpStream> + Drop> HostBa
     }
 
     /// The file or block device of that name, and how many bytes it has.
-    fn open_file(
-        &self,
-        alloc: Global,
-        name: &str,
-    ) -> io::Result<(HostFile<<R as FileSystem>::File>, u64)>
+    fn open_file(&self, alloc: Global, name: &str) -> io::Result<(HostFile<R::Opened>, u64)>
         ensures { MatchResult result
             (λ opened. OpensLocked (R.opens self.now.machine name.now)
-            R.FileSystem.File.locks R.FileSystem.File.measures (Ok (opened.0.file, opened.1)))
+            R.Opened.locks R.Opened.measures (Ok (opened.0.file, opened.1)))
             (λ error. (error_kind error ≡ ErrorKind.OutOfMemory)
             ⊎ OpensLocked (R.opens self.now.machine name.now)
-            R.FileSystem.File.locks R.FileSystem.File.measures (Err error)) }
+            R.Opened.locks R.Opened.measures (Err error)) }
     {
         let kept_name = match String::from_str(alloc, name) {
             Ok(kept_name) => kept_name,
@@ -162,7 +158,7 @@ fn share_for(workers: u32, sessions: u32, k: u32) -> u32
 }
 
 impl<R: FileSystem + Files<File = File> + Net<Stream = TcpStream> + Drop> Bay for HostBay<R> {
-    type Disk = FileDisk<HostFile<<R as FileSystem>::File>>;
+    type Disk = FileDisk<HostFile<R::Opened>>;
 
     type Link = HostLink<R>;
 
@@ -172,12 +168,12 @@ impl<R: FileSystem + Files<File = File> + Net<Stream = TcpStream> + Drop> Bay fo
         requires { IsAtom atom }
         ensures atom { IfOk result (λ disk. disk.atom ≡ atom) }
         ensures opened { IfOk result (λ disk. (len : ℕ)
-            × OpensLocked (R.opens self.old.machine name.now) R.FileSystem.File.locks
-            R.FileSystem.File.measures (Ok (disk.file.file, len))
+            × OpensLocked (R.opens self.old.machine name.now) R.Opened.locks
+            R.Opened.measures (Ok (disk.file.file, len))
             × (disk.atoms ≡ whole_atoms atom len)) }
         ensures refused { IfErr result (λ fault. fault ≡ BayFault.Failed → (error : Error)
-            × OpensLocked (R.opens self.old.machine name.now) R.FileSystem.File.locks
-            R.FileSystem.File.measures (Err error)) }
+            × OpensLocked (R.opens self.old.machine name.now) R.Opened.locks
+            R.Opened.measures (Err error)) }
         ensures cause { HasBayCause self.old.faults self.new.faults result }
     {
         match self.open_file(alloc, name) {

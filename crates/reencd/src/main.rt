@@ -11,17 +11,19 @@ mod streams;
 #[cfg(test)]
 mod tests;
 
-use file_disk::FileDisk;
+use file_disk::FileSystem;
 use host_bay::HostBay;
-use host_file::HostFile;
-use host_link::HostLink;
-use io_edge::{OpenGate, OsSeeds, StdSink};
+use io_edge::{OpenGate, OsSeeds, Seeds, Sink, StdSink};
 use notices::explain;
-use reenc_tool::{Cause, Ended, run};
+use reenc_tool::{Cause, run};
+use std::alloc::Global;
 use std::env;
-use std::fs::File;
+use std::fs::{File, Files};
 use std::io::{ErrorKind, Stderr};
+use std::net::{Net, TcpStream};
 use std::process::ExitCode;
+use std::sync::Wait;
+use std::thread::Threads;
 
 fn main(rt: HostRuntime) -> ExitCode {
     let mut out = StdSink::new(rt.stdout());
@@ -34,17 +36,34 @@ fn main(rt: HostRuntime) -> ExitCode {
     };
     let mut bay = HostBay::new(rt, rt.stdin(), rt.stdout(), rt.stderr());
     let mut seeds = OsSeeds::new(rt);
-    let ended: Ended<FileDisk<HostFile<File>>, HostLink<HostRuntime>> = run(
+    let cause = command(
         &rt,
         rt.alloc(),
         words.as_slice(),
         &mut bay,
         &mut seeds,
         &mut out,
-        &OpenGate,
     );
-    explain(rt.stderr(), ended.cause);
-    ExitCode::from(ended.status)
+    explain(rt.stderr(), cause);
+    ExitCode::from(cause.status())
+}
+
+/// Runs the command of the words over the machine's bay, and tells why it ended as it did.
+fn command<
+    W: Threads + Wait + Sync,
+    R: FileSystem + Files<File = File> + Net<Stream = TcpStream> + Drop,
+    S: Seeds,
+    O: Sink,
+>(
+    rt: &W,
+    alloc: Global,
+    words: &[String],
+    bay: &mut HostBay<R>,
+    seeds: &mut S,
+    out: &mut O,
+) -> Cause {
+    let ended = run(rt, alloc, words, bay, seeds, out, &OpenGate);
+    ended.cause
 }
 
 /// Ends before any word was seen: a word that isn't text is a faulty command line.
