@@ -1,13 +1,10 @@
 ghost use Rattle.std.specs.Prelude.{None};
 
 use crate::host_bay::HostBay;
-use crate::host_file::HostFile;
 use crate::host_link::{Door, HostLink};
 use base_terms::Failed;
 use bays::{Bay, BayFault, Link};
-use file_disk::FileDisk;
-use io_edge::{ListSink, OpenGate, OsSeeds};
-use reenc_tool::{Ended, run};
+use io_edge::{ListSink, OsSeeds};
 use sector_disk::Disk;
 use std::alloc::Global;
 use std::cell::Cell;
@@ -128,16 +125,8 @@ fn command(
     let mut bay = bay_of(rt);
     let mut seeds = OsSeeds::new(rt);
     let mut out = ListSink::new(rt.alloc(), 100, &[])?;
-    let ended: Ended<FileDisk<HostFile<File>>, HostLink<HostRuntime>> = run(
-        threads,
-        rt.alloc(),
-        &list,
-        &mut bay,
-        &mut seeds,
-        &mut out,
-        &OpenGate,
-    );
-    Ok((ended.status, out))
+    let cause = super::command(threads, rt.alloc(), &list, &mut bay, &mut seeds, &mut out);
+    Ok((cause.status(), out))
 }
 
 #[test]
