@@ -194,7 +194,9 @@ fn show<R: Print>(rt: &R, what: &str, threads: u32, turns: u32, took: Duration) 
     let seconds = took.as_secs_f64();
     let rate = turns / seconds;
     let each = seconds * 1e6 / turns;
-    println!(rt; "{what} {threads} threads {rate:.0} turns a second, {each:.3} microseconds a turn")
+    println!(rt;
+        "{what} threads {threads}: {rate:.0} turns a second, {each:.3} microseconds a turn"
+    )
 }
 
 fn measure<R: Runtime + AllocGlobal + Threads + Wait + Sync>(rt: &R, turns: u32) -> io::Result<()> {
