@@ -1,5 +1,5 @@
 -- What a pass knows and holds, step by step through a turn.
-use Rattle.std.proofs.Common.{◌≡◌, ℕ, ◌+◌, ◌-◌, ◌*◌, ◌/◌, ◌%◌, ◌^◌, ◌<◌, List, [], ◌∷◌, ◌++◌, Some, length, get_or, refl, sym, ap, ◌∙◌, subst, arith}
+use Rattle.std.proofs.Common.{◌≡◌, ℕ, ◌+◌, ◌-◌, ◌*◌, ◌/◌, ◌%◌, ◌^◌, ◌<◌, List, [], ◌∷◌, ◌++◌, Some, get_or, refl, sym, ap, ◌∙◌, subst, arith}
 use mathlib.Core.Option.{none}
 use Rattle.atomic_table.specs.Table.{Me, step, Allows, rest}
 use Rattle.atomic_table.specs.Seated.{TableId}
@@ -7,9 +7,7 @@ use Rattle.atomic_table.specs.declared.shared.Seat.{Seat}
 use Rattle.volume_cell.specs.declared.history.Call.{Call}
 use Rattle.volume_cell.specs.declared.history.Entry.{Entry}
 use Rattle.volume_cell.specs.declared.held.Held.{Held}
-use Rattle.volume_cell.specs.declared.held.Note.{Note}
 use Rattle.volume_cell.specs.declared.knowledge.Knowledge.{Knowledge}
-use Rattle.volume_cell.specs.declared.knowledge.Stage.TheVariants.{InTurn}
 use Rattle.volume_cell.specs.Histories.{Begins, IsNoted, call, entry, calls_of}
 use Rattle.volume_cell.specs.Knowing.{knowing, taking, having_asked}
 use Rattle.volume_cell.specs.History.{Rule}

@@ -1,19 +1,15 @@
 -- Each step keeps what the rule says of the passes: their start, their names, and who was split off whom.
-use Rattle.std.proofs.Common.{◌≡◌, ◌≢◌, ℕ, zero, suc, ◌+◌, ◌<◌, ◌≤◌, ◌⊎◌, inl, inr, ⊎_elim, Bool, true, false, ◌||◌, List, [], ◌∷◌, ◌++◌, Some, length, set, refl, sym, ap, ◌∙◌, subst, append_assoc, append-nil, length-append, arith, le_refl}
-use mathlib.Core.Option.{some, some-injective, some-ne-none}
+use Rattle.std.proofs.Common.{◌≡◌, ◌≢◌, ℕ, zero, suc, ◌+◌, ◌<◌, ◌≤◌, ◌⊎◌, inl, inr, ⊎_elim, true, false, List, [], ◌∷◌, ◌++◌, length, set, refl, sym, ap, ◌∙◌, subst, append_assoc, append-nil, length-append, arith, le_refl}
+use mathlib.Core.Option.{some-injective, some-ne-none}
 use mathlib.Core.Logic.{dite}
 use native.Mathlib.Decide.{ℕ_discrete}
-use lib.ListN.{get_elem?}
-use Rattle.atomic_table.proofs.Lists.{at_set, set_here, set_else, at_longer, at_last}
-use Rattle.volume_cell.specs.declared.knowledge.Account.{Account}
+use Rattle.atomic_table.proofs.Lists.{at_set, set_here, set_else, at_longer}
 use Rattle.volume_cell.specs.declared.knowledge.Knowledge.{Knowledge}
-use Rattle.volume_cell.specs.declared.knowledge.Stage.{Stage}
-use Rattle.volume_cell.specs.declared.knowledge.Stage.TheVariants.{Retired}
-use Rattle.volume_cell.specs.Histories.{account, has_account}
-use Rattle.volume_cell.specs.Knowing.{IsLive, accounts, IsWhole, without, is_among, beginning, next_name, having_split, split_off, having_joined, gone}
+use Rattle.volume_cell.specs.Histories.{has_account}
+use Rattle.volume_cell.specs.Knowing.{IsLive, accounts, IsWhole, is_among, beginning, next_name, having_split, split_off, having_joined, gone}
 use Rattle.volume_cell.specs.Exclusion.{At, HasParent, Family}
 use Rattle.volume_cell.proofs.Lists.{at_end, ends_alike}
-use Rattle.volume_cell.proofs.Names.{not-both, true-or-false, same-names, among-without, among-first, among-later, among-none, has-own, has-not-own, has-alone, has-neither, has-left, has-right}
+use Rattle.volume_cell.proofs.Names.{among-without, among-first, among-later, among-none, has-not-own, has-alone, has-neither}
 
 module _ {S E O : Type 0} where
   -- a view is there, below the length

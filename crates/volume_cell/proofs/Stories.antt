@@ -1,6 +1,5 @@
 -- Each step keeps what the rule says of the history: what each pass knows of it, and whose calls stand in it.
-use Rattle.std.proofs.Common.{◌≡◌, ◌≢◌, ℕ, zero, suc, ◌+◌, ◌<◌, ◌≤◌, ◌⊎◌, inl, inr, ⊎_elim, Bool, true, false, ◌||◌, List, [], ◌∷◌, ◌++◌, Some, length, set, refl, sym, ap, ◌∙◌, subst, append_assoc, append-nil, length-append, arith}
-use mathlib.Core.Option.{some}
+use Rattle.std.proofs.Common.{◌≡◌, ◌≢◌, ℕ, inl, inr, ⊎_elim, true, false, List, [], ◌∷◌, ◌++◌, length, set, refl, sym, ap, ◌∙◌, subst, append-nil}
 use mathlib.Core.Logic.{dite}
 use native.Mathlib.Decide.{ℕ_discrete}
 use Rattle.atomic_table.proofs.Lists.{at_set, set_else, at_longer}
@@ -9,13 +8,13 @@ use Rattle.volume_cell.specs.declared.history.Entry.{Entry}
 use Rattle.volume_cell.specs.declared.knowledge.Knowledge.{Knowledge}
 use Rattle.volume_cell.specs.declared.knowledge.Stage.{Stage}
 use Rattle.volume_cell.specs.declared.knowledge.Stage.TheVariants.{Ready, InTurn, Retired}
-use Rattle.volume_cell.specs.Histories.{Begins, entry, call, account, calls_of, has_account, accounted}
-use Rattle.volume_cell.specs.Knowing.{IsLive, accounts, longer, IsWhole, beginning, knowing, taking, having_asked, next_name, having_split, split_off, having_joined, gone}
+use Rattle.volume_cell.specs.Histories.{Begins, entry, call, calls_of, has_account, accounted}
+use Rattle.volume_cell.specs.Knowing.{IsLive, accounts, longer, IsWhole, knowing, taking, having_asked, next_name, having_split, split_off, having_joined, gone}
 use Rattle.volume_cell.specs.Exclusion.{Phase, At, Family}
 use Rattle.volume_cell.specs.History.{Stands, IsInformed, IsKept, Historic}
 use Rattle.volume_cell.proofs.Lists.{begins_same, begins_all, begins_more, at_end, begins_through, longer_begins, begins_longer, begins_longer_too, shorter_begins-longer}
-use Rattle.volume_cell.proofs.Names.{not-both, true-or-false, same-names, calls_of-own, calls_of-other, begins-none, rest-none, between, has-own, has-not-own, has-alone-name, has-neither, has-left, has-right, has-one, accounted-own, accounted-other, accounted-none, accounted-left, accounted-right, own-call, names-differ-or-not, not-none}
-use Rattle.volume_cell.proofs.Families.{at-one, at-changed, next-unused, Stood, stood, joined-here, else-here}
+use Rattle.volume_cell.proofs.Names.{not-both, true-or-false, calls_of-own, calls_of-other, begins-none, rest-none, between, has-own, has-alone-name, has-left, has-right, has-one, accounted-own, accounted-other, accounted-none, accounted-left, accounted-right, own-call, names-differ-or-not, not-none}
+use Rattle.volume_cell.proofs.Families.{at-one, at-changed, next-unused, joined-here, else-here}
 
 abbrev InTurnOnly : Stage → Type 0
 InTurnOnly Ready = ⊥

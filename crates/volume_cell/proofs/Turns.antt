@@ -1,5 +1,5 @@
 -- Each step on the cell's table keeps the rule, and tells what it is said to tell.
-use Rattle.std.proofs.Common.{◌≡◌, ◌≢◌, ℕ, zero, suc, ◌+◌, ◌-◌, ◌*◌, ◌/◌, ◌%◌, ◌^◌, ◌<◌, ◌≤◌, ◌⊎◌, inl, inr, ⊎_elim, Bool, true, false, eqb, List, [], ◌∷◌, ◌++◌, Some, length, get_or, set, refl, sym, ap, ◌∙◌, subst, append-nil, length-append, arith, eq-eqb, ne_eqb}
+use Rattle.std.proofs.Common.{◌≡◌, ◌≢◌, ℕ, zero, suc, ◌+◌, ◌-◌, ◌/◌, ◌%◌, ◌^◌, ◌<◌, inl, inr, ⊎_elim, eqb, List, [], ◌∷◌, ◌++◌, Some, length, get_or, set, refl, sym, ap, ◌∙◌, subst, length-append, arith, eq-eqb, ne_eqb}
 use mathlib.Core.Option.{Option, none, some, some-injective, some-ne-none}
 use mathlib.Core.Logic.{dite}
 use native.Mathlib.Decide.{ℕ_discrete}
@@ -7,7 +7,7 @@ use lib.ListN.{get_elem?}
 use lib.Seq.{set-get_or}
 use prog.Atomic.{either}
 use Rattle.std.specs.Option.{unwrap_or}
-use Rattle.atomic_table.specs.Table.{State, Me, Act, Valid, carried_after, step, keeps, takes, gives, stepped, Allows, Splits, Joins, opening, Final, Seen, rest}
+use Rattle.atomic_table.specs.Table.{State, Me, Act, Valid, carried_after, step, keeps, takes, gives, stepped, Allows, Splits, Joins, opening, Final, Seen}
 use Rattle.atomic_table.proofs.Lists.{at_set, set_else, set_again, at_longer}
 use Rattle.volume_cell.specs.declared.history.Entry.{Entry}
 use Rattle.volume_cell.specs.declared.held.Held.{Held}
@@ -16,12 +16,12 @@ use Rattle.volume_cell.specs.declared.knowledge.Knowledge.{Knowledge}
 use Rattle.volume_cell.specs.declared.knowledge.Stage.TheVariants.{Ready, InTurn, Retired}
 use Rattle.volume_cell.specs.Histories.{Begins, entry, call, calls_of, accounted}
 use Rattle.volume_cell.specs.Knowing.{IsLive, HasCalls, accounts, IsWhole, beginning, knowing, taking, having_asked, having_split, split_off, having_joined, retired, gone}
-use Rattle.volume_cell.specs.Exclusion.{Phase, free, taken, word_of, home_of, IsTakenBy, IsWithin, StartsFrom, HasTaker, At, HasParent, Family, Exclusion}
+use Rattle.volume_cell.specs.Exclusion.{Phase, free, taken, word_of, home_of, StartsFrom, HasTaker, At, HasParent, Family, Exclusion}
 use Rattle.volume_cell.specs.History.{IsInformed, IsKept, Stands, Historic, Rule}
 use Rattle.volume_cell.specs.Passes.{IsAccounted}
-use Rattle.volume_cell.specs.Steps.{Learns, learns, Confirms, confirms, Takes, takes_at, gives_back}
+use Rattle.volume_cell.specs.Steps.{learns, Confirms, confirms, takes_at, gives_back}
 use Rattle.volume_cell.proofs.Names.{calls_of-nothing, accounted-own, has-one, has-names}
-use Rattle.volume_cell.proofs.Lists.{begins_same, begins_all, at_end, both_begin}
+use Rattle.volume_cell.proofs.Lists.{begins_same, at_end, both_begin}
 use Rattle.volume_cell.proofs.Families.{Goes, at-one, at-changed, family_goes, family_begins, family_splits, family_joins, alone}
 use Rattle.volume_cell.proofs.Stories.{ready-not-in-turn, retired-not-in-turn, ready-live, in-turn-live, informed_now, informed_taking, own-calls, historic_goes, historic_gives, historic_splits, historic_joins, whole-history, accounted-all}
 

@@ -4,7 +4,6 @@ use Rattle.atomic_table.specs.declared.shared.Seat.{Seat}
 use Rattle.volume_cell.specs.declared.history.Call.{Call}
 use Rattle.volume_cell.specs.declared.history.Entry.{Entry}
 use Rattle.volume_cell.specs.declared.held.Held.{Held}
-use Rattle.volume_cell.specs.declared.held.Note.{Note}
 use Rattle.volume_cell.specs.declared.knowledge.Knowledge.{Knowledge}
 use Rattle.volume_cell.specs.Histories.{Begins, entry, calls_of, IsNoted}
 use Rattle.volume_cell.specs.Knowing.{knowing, taking}

@@ -1,5 +1,5 @@
 -- Histories: what was asked of one machine, by whom and in which order, and what it answered.
-use Rattle.std.specs.Prelude.{◌≡◌, ℕ, Bool, true, false, if◌then◌else◌, ◌||◌, List, [], ◌∷◌, ◌++◌, Option, Some, None, length, nat_lt, not}
+use Rattle.std.specs.Prelude.{◌≡◌, ℕ, Bool, false, if◌then◌else◌, ◌||◌, List, [], ◌∷◌, ◌++◌, Option, Some}
 use Rattle.std.specs.Str.{bytes_eq}
 use Rattle.volume_cell.specs.declared.history.Call.{Call}
 use Rattle.volume_cell.specs.declared.history.Entry.{Entry}

@@ -1,5 +1,5 @@
 -- What the holder of a pass knows, and what each step of the cell makes of it.
-use Rattle.std.specs.Prelude.{◌≡◌, ℕ, suc, ◌+◌, Bool, true, false, if◌then◌else◌, ◌||◌, List, [], ◌∷◌, ◌++◌, Some, None, length, nat_lt}
+use Rattle.std.specs.Prelude.{◌≡◌, ℕ, ◌+◌, Bool, true, false, if◌then◌else◌, ◌||◌, List, [], ◌∷◌, ◌++◌, Some, None, length, nat_lt}
 use Rattle.volume_cell.specs.declared.history.Entry.{Entry}
 use Rattle.volume_cell.specs.declared.knowledge.Account.{Account}
 use Rattle.volume_cell.specs.declared.knowledge.Knowledge.{Knowledge}

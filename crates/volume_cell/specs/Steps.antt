@@ -1,11 +1,11 @@
 -- What each step on the cell's table tells.
-use Rattle.std.specs.Prelude.{◌≡◌, ◌≢◌, ℕ, ◌+◌, ◌<◌, ◌≤◌, ◌/◌, List, [], ◌∷◌, ◌++◌, Some, length}
-use Rattle.atomic_table.specs.Table.{Me, Step, rest}
+use Rattle.std.specs.Prelude.{◌≡◌, ◌≢◌, ℕ, ◌/◌, List, [], ◌∷◌, Some, length}
+use Rattle.atomic_table.specs.Table.{Me, Step}
 use Rattle.volume_cell.specs.declared.history.Entry.{Entry}
 use Rattle.volume_cell.specs.declared.held.Held.{Held}
 use Rattle.volume_cell.specs.declared.held.Note.{Note}
 use Rattle.volume_cell.specs.declared.knowledge.Knowledge.{Knowledge}
-use Rattle.volume_cell.specs.Histories.{Begins, calls_of, entry}
+use Rattle.volume_cell.specs.Histories.{Begins, calls_of}
 use Rattle.volume_cell.specs.Knowing.{HasCalls, knowing, taking, having_asked}
 
 -- what a seat knows and holds

@@ -1,4 +1,4 @@
-ghost use Rattle.std.specs.Prelude.{◌≡◌, ℕ, ◌+◌, ◌%◌, ◌^◌, length};
+ghost use Rattle.std.specs.Prelude.{◌≡◌, ℕ, ◌+◌, ◌%◌, ◌^◌, ◌<◌, length};
 ghost use Rattle.volume_cell.specs.Knowing.{IsWhole};
 ghost use Rattle.volume_cell.specs.Passes.{known, IsPassOf};
 ghost use denote.Param.Send.{IsSync};
@@ -58,33 +58,51 @@ fn ask_often<R: Threads + Wait + Sync>(
     (pass, rising)
 }
 
-/// The same in two threads, each with a pass of its own.
-fn ask_in_two<R: Threads + Wait + Sync>(
+/// The same in each thread at the leaves of a tree of so many levels. Above the leaves, two passes
+/// are split off each pass and joined back.
+#[cycle(tree)]
+fn ask_in_tree<R: Threads + Wait + Sync>(
     rt: &R,
     cell: &Cell<Counter>,
     mut pass: Pass<Counter>,
+    levels: u32,
     turns: u32,
 ) -> (Pass<Counter>, bool)
     requires { IsPassOf cell.now.table.shared.table_id pass × IsWhole (known pass) }
     ensures { IsPassOf cell.now.table.shared.table_id result.0 × IsWhole (known result.0) × ((known result.0).name ≡ (known pass).name) }
 {
+    if levels == 0 {
+        return ask_often(rt, cell, pass, turns);
+    }
     let left = cell.split(&mut pass);
     let right = cell.split(&mut pass);
-    let (left, right) = join(
-        rt,
-        || -> (Pass<Counter>, bool)
-            requires { IsSync R.row × IsPassOf cell.now.table.shared.table_id left × IsWhole (known left) }
-            ensures { IsPassOf cell.entry.now.table.shared.table_id result.0 × IsWhole (known result.0) × ((known result.0).name ≡ (known left).name) }
-        { ask_often(rt, cell, left, turns) },
-        || -> (Pass<Counter>, bool)
-            requires { IsSync R.row × IsPassOf cell.now.table.shared.table_id right × IsWhole (known right) }
-            ensures { IsPassOf cell.entry.now.table.shared.table_id result.0 × IsWhole (known result.0) × ((known result.0).name ≡ (known right).name) }
-        { ask_often(rt, cell, right, turns) },
-    );
+    let ask_left = || -> (Pass<Counter>, bool)
+        requires { IsSync R.row × (0 < levels) × IsPassOf cell.now.table.shared.table_id left × IsWhole (known left) }
+        ensures { IsPassOf cell.entry.now.table.shared.table_id result.0 × IsWhole (known result.0) × ((known result.0).name ≡ (known left).name) }
+    { ask_in_tree(rt, cell, left, levels - 1, turns) };
+    let ask_right = || -> (Pass<Counter>, bool)
+        requires { IsSync R.row × (0 < levels) × IsPassOf cell.now.table.shared.table_id right × IsWhole (known right) }
+        ensures { IsPassOf cell.entry.now.table.shared.table_id result.0 × IsWhole (known result.0) × ((known result.0).name ≡ (known right).name) }
+    { ask_in_tree(rt, cell, right, levels - 1, turns) };
+    let (left, right) = join(rt, ask_left, ask_right);
     let rising = left.1 && right.1;
     cell.join(&mut pass, left.0);
     cell.join(&mut pass, right.0);
     (pass, rising)
+}
+
+/// Whether the answers of each thread of such a tree rose, and the counter that is left.
+fn rise_in_tree<R: AllocGlobal + Threads + Wait + Sync>(
+    rt: &R,
+    levels: u32,
+    turns: u32,
+) -> Result<(bool, Counter), Fail> {
+    let Ok((cell, pass)) = Cell::new(rt.alloc(), Counter { count: 0 }, 1 << 40) else {
+        return Err(Fail::new("no memory"));
+    };
+    let (pass, rising) = ask_in_tree(rt, &cell, pass, levels, turns);
+    let (machine, _) = cell.close(pass);
+    Ok((rising, machine))
 }
 
 #[test]
@@ -101,13 +119,21 @@ fn the_third_turn_of_two_is_spent_and_hands_its_event_back(rt: HostRuntime) -> R
 }
 
 #[test]
-fn two_threads_rise_and_leave_the_sum(rt: HostRuntime) -> Result<(), Fail> {
-    let Ok((cell, pass)) = Cell::new(rt.alloc(), Counter { count: 0 }, 1 << 40) else {
-        return Err(Fail::new("no memory"));
-    };
-    let (pass, rising) = ask_in_two(&rt, &cell, pass, 100_000);
-    assert!(rt; rising);
-    let (machine, _) = cell.close(pass);
-    assert_eq!(rt; machine, Counter { count: 200_000 });
+fn one_two_four_and_sixteen_threads_rise_and_leave_the_sum(rt: HostRuntime) -> Result<(), Fail> {
+    for (levels, sum) in [(0, 100_000), (1, 200_000), (2, 400_000), (4, 1_600_000)] {
+        assert_eq!(rt;
+            rise_in_tree(&rt, levels, 100_000)?,
+            (true, Counter { count: sum })
+        );
+    }
+    Ok(())
+}
+
+#[test]
+fn a_tree_of_three_levels_is_joined_and_closed(rt: HostRuntime) -> Result<(), Fail> {
+    assert_eq!(rt;
+        rise_in_tree(&rt, 3, 1000)?,
+        (true, Counter { count: 8000 })
+    );
     Ok(())
 }

@@ -1,4 +1,4 @@
-use Rattle.std.proofs.Common.{rules, [], ◌∷◌, refl, sym, ap, ◌∙◌}
+use Rattle.std.proofs.Common.{rules, ◌∷◌, refl, sym, ap, ◌∙◌}
 use Rattle.atomic_table.specs.Table.{rest}
 use Rattle.volume_cell.proofs.Asked.{can-now, has-acted}
 use Rattle.volume_cell.proofs.cell.Cell+M.act.Goals as goal

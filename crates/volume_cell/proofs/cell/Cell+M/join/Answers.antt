@@ -1,4 +1,4 @@
-use Rattle.std.proofs.Common.{arith, ap, ◌∙◌, ◌∷◌, []}
+use Rattle.std.proofs.Common.{arith, ap, ◌∙◌}
 use Rattle.volume_cell.proofs.Turns.{joins, confirms_it, joined-told}
 use Rattle.volume_cell.proofs.cell.Cell+M.join.Goals as goal
 

@@ -1,10 +1,10 @@
-use Rattle.std.proofs.Common.{◌≡◌, ℕ, ◌⊎◌, inl, inr, Bool, true, false, List, [], ◌∷◌, ◌++◌, refl, sym, ap, ◌∙◌}
+use Rattle.std.proofs.Common.{◌≡◌, ℕ, ◌⊎◌, inl, inr, true, false, List, [], ◌∷◌, ◌++◌, refl, sym, ap, ◌∙◌}
 use Rattle.volume_cell.specs.declared.knowledge.Knowledge.{Knowledge}
 use Rattle.volume_cell.specs.Histories.{is_same}
 use Rattle.volume_cell.specs.Knowing.{without, next_name}
 use Rattle.volume_cell.specs.Passes.{known}
 use Rattle.volume_cell.proofs.Names.{true-or-false, names-same}
-use Rattle.volume_cell.proofs.tests.ask_in_two.Goals as goal
+use Rattle.volume_cell.proofs.tests.+tree.Goals as goal
 
 abbrev Known : Type 0
 Known = Knowledge (Unit {0}) (Unit {0}) ℕ
@@ -18,7 +18,7 @@ both-back a b = decide (true-or-false (is_same a b))
     decide (inr other) = rw (other, names-same a a refl, names-same b b refl) refl
 
 pub join-requires-clause-child : goal.join-requires-clause-child
-join-requires-clause-child g c = (
+join-requires-clause-child g t c = (
   (known c.args.pass).splits,
   c.join-left.ensures.first.2
       ∙ (ap (λ (x : Known). x.name) c.split-left.ensures.new.1
@@ -26,7 +26,7 @@ join-requires-clause-child g c = (
 )
 
 pub join-requires-2-clause-child : goal.join-requires-2-clause-child
-join-requires-2-clause-child g c = (
+join-requires-2-clause-child g t c = (
   (known c.split-left.new.pass).splits,
   c.join-left.ensures.second.2
       ∙ (ap (λ (x : Known). x.name) c.split-right.ensures.new.1
@@ -34,7 +34,7 @@ join-requires-2-clause-child g c = (
 )
 
 pub returns : goal.returns
-returns g c =
+returns g t c =
     let a : List ℕ = next_name (known c.args.pass) in
     let b : List ℕ = next_name (known c.split-left.new.pass) in
     let l : List ℕ = (known c.join-left.result.0.0).name in
