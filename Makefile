@@ -5,7 +5,7 @@ help:
 	@echo "make run    the main job, unproved, within two minutes"
 	@echo "make test   every proof, must-fail edit, test and program"
 	@echo "make build  prove the program and leave it at crates/reencd/out/reencd"
-	@echo "make bench  rates of the ciphers and of key derivation"
+	@echo "make bench  rates of the ciphers, of key derivation and of the cell"
 
 run:
 	cd crates/reencd && rt try -- serve data/disk.img --plain --atom 512 --listen stdio --sessions 1 </dev/null
@@ -19,3 +19,4 @@ build:
 bench:
 	cd crates/cipher_bench && rt run -- 64
 	cd crates/kdf_bench && rt run -- 300000
+	cd crates/cell_bench && rt run -- 1000000
