@@ -1,13 +1,9 @@
 -- Where the sectors of a row stand, and the numbers that they have.
 use Rattle.std.proofs.Common.{◌++◌, length, take, drop, refl, ◌≡◌, ℕ, List, ◌+◌, ◌-◌, ◌*◌, ◌/◌, ◌%◌, ◌<◌, ◌≤◌, ◌∙◌, ap, sym, arith}
 use Rattle.cipher_blocks.specs.UnderWay.{IsUnderWay}
-use Rattle.cipher_blocks.proofs.UnderWayLemmas.{under_way_first, under_way_more, under_way_last}
+use Rattle.cipher_blocks.specs.UnderWayLaws.{under_way_first, under_way_more, under_way_last}
 use Rattle.cipher_laws.specs.Sectors.{by_sectors}
-use Rattle.std.proofs.Math.Nat.{mod-add-div', div-mul-le_self, mul-le-mul_right, mul_assoc}
-
--- whole sectors are as many bytes
-pub whole_sectors : (size : ℕ) (bytes : List ℕ) → 0 < size → length bytes % size ≡ 0 → length bytes ≡ length bytes / size * size
-whole_sectors size bytes some whole = let parts : length bytes % size + length bytes / size * size ≡ length bytes = mod-add-div' (length bytes) size in omega arith
+use Rattle.std.proofs.Math.Nat.{div-mul-le_self, mul-le-mul_right, mul_assoc}
 
 -- a sector with those before it lies within the row
 pub sectors_within : (size long i : ℕ) → i < long / size → size * (i + 1) ≤ long

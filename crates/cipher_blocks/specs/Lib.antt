@@ -1,3 +1,7 @@
+pub mod BlockLaws
 pub mod Blocks
+pub mod BytesLaws
 pub mod Numbers
+pub mod PieceLaws
 pub mod UnderWay
+pub mod UnderWayLaws
