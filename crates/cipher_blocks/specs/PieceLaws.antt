@@ -1,6 +1,5 @@
 -- Work piece after piece: lengths, bytes, and how it is undone and joined.
-use Rattle.std.proofs.Common.{◌/◌, ◌%◌, ◌≡◌, ℕ, zero, suc, ◌+◌, ◌*◌, ◌<◌, List, ◌++◌, length, take, drop, ap, sym, ◌∙◌, arith, length-append, length-drop}
-use Rattle.std.proofs.Math.Nat.{mod-add-div'}
+use Rattle.std.proofs.Common.{◌/◌, ◌%◌, ◌≡◌, ℕ, zero, suc, ◌+◌, ◌*◌, List, ◌++◌, length, take, drop, ap, sym, ◌∙◌, arith, length-append, length-drop}
 use Rattle.std.proofs.lemmas.List.{take_at, drop_at, length-take-le, take-append-drop, nil_from_length}
 use Rattle.cipher_laws.specs.Bytes.{AreBytes, IsBlock}
 use Rattle.cipher_laws.specs.Pieces.{worked}
@@ -38,10 +37,6 @@ block_pieces_undone Good change next back next_back undone same = record {
 -- whole blocks are as many pieces
 pub whole_blocks : (sector : List ℕ) → length sector % 16 ≡ 0 → length sector ≡ length sector / 16 * 16
 whole_blocks sector whole = omega arith
-
--- whole sectors are as many bytes
-pub whole_sectors : (size : ℕ) (bytes : List ℕ) → 0 < size → length bytes % size ≡ 0 → length bytes ≡ length bytes / size * size
-whole_sectors size bytes some whole = let parts : length bytes % size + length bytes / size * size ≡ length bytes = mod-add-div' (length bytes) size in omega arith
 
 pub first_piece : (size n : ℕ) (bytes : List ℕ) → length bytes ≡ suc n * size → length (take size bytes) ≡ size
 first_piece size n bytes long = length-take-le size bytes (grind arith)
