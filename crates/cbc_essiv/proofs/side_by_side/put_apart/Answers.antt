@@ -1,7 +1,5 @@
-use Rattle.std.proofs.Common.{◌≡◌, ◌+◌, ◌-◌, ◌*◌, ℕ, List, [], take, drop, length, length-drop, ap, ◌∙◌, arith, slice_index_or}
-use Rattle.std.proofs.lemmas.Grind.{common_steps}
+use Rattle.std.proofs.Common.{◌≡◌, ◌+◌, ◌-◌, ◌*◌, ℕ, List, [], take, drop, length, ap, ◌∙◌, arith, slice_index_or}
 use Rattle.cipher_blocks.specs.Blocks.{with_block}
-use Rattle.cbc_essiv.specs.Rows.{sector_of}
 use Rattle.cbc_essiv.proofs.RowLemmas.{put_more, length-sector}
 use Rattle.cbc_essiv.proofs.side_by_side.put_apart.Goals as goal
 

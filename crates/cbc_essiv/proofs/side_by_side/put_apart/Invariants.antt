@@ -1,4 +1,4 @@
-use Rattle.std.proofs.Common.{List, [], ℕ, slice_index_or}
+use Rattle.std.proofs.Common.{[], slice_index_or}
 use Rattle.cbc_essiv.proofs.RowLemmas.{ArePutApart}
 use Rattle.cbc_essiv.proofs.side_by_side.put_apart.Given as goal
 

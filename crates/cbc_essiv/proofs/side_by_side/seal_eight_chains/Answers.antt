@@ -1,4 +1,4 @@
-use Rattle.std.proofs.Common.{◌≡◌, ℕ, List, ◌+◌, ◌-◌, ◌*◌, ◌/◌, ◌<◌, length, refl, ap, sym, ◌∙◌, arith}
+use Rattle.std.proofs.Common.{◌≡◌, ℕ, List, ◌+◌, ◌-◌, ◌*◌, ◌/◌, refl, ap, ◌∙◌, arith}
 use Rattle.cipher_laws.specs.Eight.{block}
 use Rattle.cipher_blocks.specs.Blocks.{xored}
 use Rattle.cipher_blocks.specs.UnderWayLaws.{under_way_first, under_way_more, under_way_last}

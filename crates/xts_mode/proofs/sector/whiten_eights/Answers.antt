@@ -1,4 +1,4 @@
-use Rattle.std.proofs.Common.{ℕ, List, ◌+◌, ◌-◌, ◌*◌, ◌/◌, ◌<◌, length, take, drop, refl, ap, sym, ◌∙◌, arith}
+use Rattle.std.proofs.Common.{ℕ, List, ◌+◌, ◌-◌, ◌*◌, ◌/◌, ◌<◌, length, refl, ap, ◌∙◌, arith}
 use Rattle.cipher_laws.specs.Eight.{block}
 use Rattle.cipher_blocks.specs.Blocks.{xored, number_block}
 use Rattle.cipher_blocks.specs.UnderWayLaws.{under_way_first, under_way_row}
