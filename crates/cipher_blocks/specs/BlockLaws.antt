@@ -6,7 +6,7 @@ use Rattle.std.proofs.lemmas.Nat.{xor_of_8}
 use Rattle.std.proofs.lemmas.Simd.{length-zip2, get_or-zip2}
 use Rattle.cipher_laws.specs.Bytes.{IsBlock}
 use Rattle.cipher_blocks.specs.Blocks.{xored, number_block}
-use Rattle.cipher_blocks.proofs.BytesLemmas.{bytes_within, number_is_block}
+use Rattle.cipher_blocks.specs.BytesLaws.{bytes_within, number_is_block}
 
 xor_twice : (x y : ℕ) → bit_xor (bit_xor x y) y ≡ x
 xor_twice x y = xor_assoc x y y ∙ ap (bit_xor x) (xor_self y) ∙ xor_zero_r x

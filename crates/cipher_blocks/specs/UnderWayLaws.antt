@@ -3,7 +3,7 @@ use Rattle.std.proofs.Common.{◌≡◌, ℕ, zero, suc, ◌+◌, ◌*◌, ◌�
 use Rattle.std.proofs.lemmas.List.{take_at, drop_at, length-take-le, append-nil, take_all, drop_all, drop-drop}
 use borrow.Rule.Slice.PartMut.{put_mid}
 use Rattle.cipher_laws.specs.Pieces.{worked}
-use Rattle.cipher_blocks.specs.Blocks.{block_of, joined}
+use Rattle.cipher_blocks.specs.Blocks.{joined}
 use Rattle.cipher_blocks.specs.UnderWay.{IsUnderWay}
 
 pub under_way_first : {S : Type 0} {change : S → List ℕ → List ℕ} {next : S → List ℕ → List ℕ → S} {size : ℕ} (s : S) (count n at : ℕ) (bytes : List ℕ) →

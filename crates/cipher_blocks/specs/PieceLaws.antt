@@ -3,7 +3,7 @@ use Rattle.std.proofs.Common.{◌/◌, ◌%◌, ◌≡◌, ℕ, zero, suc, ◌+�
 use Rattle.std.proofs.lemmas.List.{take_at, drop_at, length-take-le, take-append-drop, nil_from_length}
 use Rattle.cipher_laws.specs.Bytes.{AreBytes, IsBlock}
 use Rattle.cipher_laws.specs.Pieces.{worked}
-use Rattle.cipher_blocks.proofs.BytesLemmas.{no_bytes, bytes-append, bytes-take, bytes-drop}
+use Rattle.cipher_blocks.specs.BytesLaws.{no_bytes, bytes-append, bytes-take, bytes-drop}
 
 -- under values that are good, `change` makes of a piece a piece, and hands on a good value
 pub record KeepsPieces {S : Type 0} (Good : S → Type 0) (size : ℕ) (change : S → List ℕ → List ℕ) (next : S → List ℕ → List ℕ → S) : Type 0 where
