@@ -2,6 +2,7 @@
 use Rattle.std.proofs.Common.{◌≡◌, ◌≢◌, ℕ, suc, ◌+◌, ◌*◌, ◌/◌, ◌%◌, ◌<◌, ◌≤◌, Some, None, arith}
 use Rattle.std.proofs.Math.Nat.{mod-add-div, mul-le-mul_right, le_of_mul-le-mul_right}
 use Rattle.std.proofs.lemmas.Grind.{common_steps}
+use Rattle.base_terms.specs.ErrorNumbers.{device_error, invalid}
 use Rattle.plain_disk.specs.declared.operation.Op.{Op}
 use Rattle.plain_disk.specs.declared.operation.Op.TheVariants.{Read, Write, Flush}
 use Rattle.plain_disk.specs.Operations.{wrong_of, wrong_range_of, IsRange}
@@ -19,12 +20,12 @@ range_of_proper atom size offset len past proper =
 
 pub range_of_read : (atom size offset len : ℕ) → wrong_of atom size (Read offset len) ≡ None
     → IsRange atom size offset len
-range_of_read atom size offset len proper = range_of_proper atom size offset len 22
+range_of_read atom size offset len proper = range_of_proper atom size offset len invalid
     (grind (arith, common_steps))
 
 -- an operation that is wrong is answered otherwise than by an error of the device
 pub wrong_is_no_fault : (atom size : ℕ) (op : Op) (number : ℕ)
-    → wrong_of atom size op ≡ Some number → number ≢ 5
+    → wrong_of atom size op ≡ Some number → number ≢ device_error
 wrong_is_no_fault atom size (Read offset len) number wrong = grind (arith, common_steps)
 wrong_is_no_fault atom size (Write offset body fua) number wrong = grind (arith, common_steps)
 wrong_is_no_fault atom size Flush number wrong = absurd (cc)

@@ -3,6 +3,7 @@ use Rattle.std.proofs.Common.{◌≡◌, ◌≢◌, ℕ, ◌+◌, ◌-◌, ◌*�
 use Rattle.std.specs.declared.alloc.AllocError.{AllocError}
 use Rattle.std.proofs.lemmas.List.{length-map}
 use Rattle.base_terms.specs.Blocks.{pasted, joined, blocks_of, changed}
+use Rattle.base_terms.specs.ErrorNumbers.{device_error}
 use Rattle.base_terms.proofs.BlockLemmas.{held_changed, blocks_of-pasted, joined-blocks_of, block_at}
 use Rattle.plain_disk.specs.declared.operation.Op.{Op}
 use Rattle.plain_disk.specs.declared.operation.Op.TheVariants.{Read, Write, Flush}
@@ -116,20 +117,20 @@ write_steps old new offset body fua is atom count newest = record {
 }
 
 -- no reply is an error of the device
-pub reply_is_no_fault : (machine : Machine) (op : Op) → reply_to machine op ≢ Errno 5
+pub reply_is_no_fault : (machine : Machine) (op : Op) → reply_to machine op ≢ Errno device_error
 unfolding reply_to
 reply_is_no_fault machine op = by_refusal (refusal_of machine op) refl
   where
-    proper : (op : Op) → proper_reply machine.newest op ≢ Errno 5
+    proper : (op : Op) → proper_reply machine.newest op ≢ Errno device_error
     proper (Read offset len) is = absurd (cc)
     proper (Write offset body fua) is = absurd (cc)
     proper Flush is = absurd (cc)
 
     by_refusal : (wrong : Option ℕ) → refusal_of machine op ≡ wrong
-        → reply_unless wrong (proper_reply machine.newest op) ≢ Errno 5
+        → reply_unless wrong (proper_reply machine.newest op) ≢ Errno device_error
     by_refusal None is same = proper op same
     by_refusal (Some number) is same = wrong_is_no_fault machine.atom
-        (length machine.newest * machine.atom) op number is (let e : number ≡ 5 = cc in e)
+        (length machine.newest * machine.atom) op number is (let e : number ≡ device_error = cc in e)
 
 -- the values of a text into which whole blocks were put
 pub written_values : (atom count offset : ℕ) (text body : List ℕ) → 0 < atom → length text ≡ count * atom
