@@ -2,6 +2,7 @@
 use Rattle.std.proofs.Common.{◌≡◌, ℕ, ◌+◌, ◌<◌, ◌≤◌, Bool, true, false, nat_lt, if◌then◌else◌, List, [], ◌++◌, Option, Some, None, Result, Ok, Err, length, ap, ◌∙◌, refl, sym, subst, arith, inr, append-nil, length-append}
 use Rattle.std.proofs.lemmas.Bool.{lt-ltb, le-ltb}
 use Rattle.base_terms.specs.Causes.{Rose}
+use Rattle.base_terms.specs.ErrorNumbers.{invalid, no_memory}
 use Rattle.plain_disk.specs.declared.operation.Op.{Op}
 use Rattle.nbd_session.specs.declared.ending.Ending.{Ending}
 use Rattle.nbd_session.specs.declared.ending.Ending.TheVariants.{Truncated, TooLong, ReadFault, Memory}
@@ -225,7 +226,7 @@ behind-asks b c head body op is goes_on asks more = (
 )
 
 pub behind-refuses : (b c : Reach) (head : RequestHead) (body : List ℕ) → IsRequestHead head → ending_of head ≡ None →
-    None ≡ operation_of head body → HasData b c (data_length head) (Whole body) → HasBehind head b c (Refuse head.cookie 22)
+    None ≡ operation_of head body → HasData b c (data_length head) (Whole body) → HasBehind head b c (Refuse head.cookie invalid)
 behind-refuses b c head body is goes_on asks more = (
   more.0,
   false,
@@ -299,19 +300,19 @@ behind-dropped b c head number is goes_on refused more = (
 )
 
 -- another flag than "force unit access" is refused
-pub flags-refused : (head : RequestHead) (body : List ℕ) → 1 < head.flags.bits → IsRefusal (operation_of head body) 22
+pub flags-refused : (head : RequestHead) (body : List ℕ) → 1 < head.flags.bits → IsRefusal (operation_of head body) invalid
 unfolding operation_of
 flags-refused head body more = rw (lt-ltb 1 head.flags.bits more) refl
 
 data-operation : (command : CommandType) (flags offset len : ℕ) (body : List ℕ) → 0 < data_length_by command len →
-    IsRefusal (operation_by command flags offset len body) 12
+    IsRefusal (operation_by command flags offset len body) no_memory
 data-operation Write flags offset len body some = refl
 data-operation Read flags offset len body some = refl
 data-operation Flush flags offset len body some = refl
 data-operation _ flags offset len body some = absurd (omega arith)
 
 -- a request with data is an operation, for which memory may be wanted
-pub memory-refused : (head : RequestHead) (body : List ℕ) → head.flags.bits ≤ 1 → 0 < data_length head → IsRefusal (operation_of head body) 12
+pub memory-refused : (head : RequestHead) (body : List ℕ) → head.flags.bits ≤ 1 → 0 < data_length head → IsRefusal (operation_of head body) no_memory
 unfolding operation_of data_length
 memory-refused head body flags some =
     rw (le-ltb 1 head.flags.bits flags) (data-operation head.command head.flags.bits head.offset head.length body some)

@@ -1,6 +1,7 @@
 -- A buffer that is filled in pieces.
 use Rattle.std.proofs.Common.{◌≡◌, ℕ, ◌+◌, ◌-◌, ◌≤◌, ◌<◌, List, ◌++◌, Option, Some, Ok, length, take, drop, ap, ◌∙◌, refl, sym, arith, length-take-le, take_at, subst, ⊎_elim, add-zero}
 use Rattle.std.proofs.lemmas.List.{take-append-le, take-append-drop}
+use Rattle.base_terms.specs.Blocks.{rewritten}
 use Rattle.std.proofs.Math.Seq.{take-append-add}
 use borrow.Rule.Slice.PartMut.{put_mid, post_of, same_len_mid}
 use Rattle.std.proofs.lemmas.List.{length-take, length-drop, length-append}
@@ -28,6 +29,10 @@ take-put buf after count n k inside within =
     ap (λ c. take (c + n) (take count buf ++ (after ++ post_of count k buf))) (sym e)
     ∙ take-append-add (take count buf) (after ++ post_of count k buf) n
     ∙ ap (λ t. take count buf ++ t) (take-append-le n after (post_of count k buf) within)
+
+-- a buffer all of which was written holds that
+pub rewritten-whole : (old bytes : List ℕ) → length bytes ≡ length old → rewritten old bytes ≡ bytes
+rewritten-whole old bytes long = take_at bytes (drop (length bytes) old) (length old) long
 
 pub took-piece : (a b c : Intake) (buf before after : List ℕ) (count n k : ℕ) →
     count ≤ length buf → n ≤ length after → Took a b (take count buf) →

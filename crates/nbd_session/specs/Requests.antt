@@ -1,5 +1,6 @@
 -- What a client asks by a request.
 use Rattle.std.specs.Prelude.{ℕ, ◌≡◌, ◌⊎◌, ◌<◌, ◌==◌, nat_lt, if◌then◌else◌, List, ◌++◌, length, Option, Some, None}
+use Rattle.base_terms.specs.ErrorNumbers.{invalid, no_memory}
 use Rattle.plain_disk.specs.declared.operation.Op.{Op}
 use Rattle.plain_disk.specs.declared.operation.Op.TheVariants as Ops
 use Rattle.nbd_session.specs.declared.ending.Ending.{Ending}
@@ -72,5 +73,5 @@ pub record IsLastHead (bytes : List ℕ) (ending : Ending) : Type 0 where
 
 -- the number with which the session itself answers: 22 what is no operation, 12 where memory is wanted
 abbrev pub IsRefusal : Option Op → ℕ → Type 0
-IsRefusal None number = number ≡ 22
-IsRefusal (Some op) number = number ≡ 12
+IsRefusal None number = number ≡ invalid
+IsRefusal (Some op) number = number ≡ no_memory

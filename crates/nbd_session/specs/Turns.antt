@@ -1,5 +1,6 @@
 -- The requests of a session, each with its reply.
 use Rattle.std.specs.Prelude.{ℕ, ◌≡◌, Bool, true, false, List, [], ◌∷◌, ◌++◌, map, Option, Some, None}
+use Rattle.base_terms.specs.ErrorNumbers.{invalid, no_memory}
 use Rattle.plain_disk.specs.declared.operation.Op.{Op}
 use Rattle.plain_disk.specs.declared.operation.Reply.{Reply}
 use Rattle.plain_disk.specs.declared.operation.Reply.TheVariants.{Errno}
@@ -19,9 +20,9 @@ pub record Turn : Type 0 where
 -- Nothing was tried of a request that wasn't submitted. It is answered 22 where it is no operation, and
 -- else 12: memory was wanted for it.
 abbrev pub IsAnswered : Option Op → Bool → Reply → ℕ → Type 0
-IsAnswered None submitted reply tried = (submitted ≡ false) × (reply ≡ Errno 22) × (tried ≡ 0)
+IsAnswered None submitted reply tried = (submitted ≡ false) × (reply ≡ Errno invalid) × (tried ≡ 0)
 IsAnswered (Some op) true reply tried = Unit {0}
-IsAnswered (Some op) false reply tried = (reply ≡ Errno 12) × (tried ≡ 0)
+IsAnswered (Some op) false reply tried = (reply ≡ Errno no_memory) × (tried ≡ 0)
 
 -- the bytes are these requests, one message after the other
 unfoldable pub Spells : List Turn → List ℕ → Type 0

@@ -7,7 +7,7 @@ ghost use Rattle.nbd_wire.specs.Requests.{IsRequestHead};
 use crate::Ending;
 use crate::filling::Filled;
 use crate::taking::{Data, take_data, take_head, take_past};
-use base_terms::Bytes;
+use base_terms::{Buffer, Bytes, INVALID, NO_MEMORY};
 use io_edge::Source;
 use nbd_wire::{CommandFlags, CommandType, RequestHead};
 use plain_disk::{MAX_READ, Op};
@@ -18,11 +18,6 @@ const HEAD: usize = 28;
 
 /// The most bytes of data that a write may have.
 const MAX_WRITE: u32 = MAX_READ;
-
-/// The number of the error by which a request is answered for want of memory.
-pub const NO_MEMORY: u32 = 12;
-
-const INVALID: u32 = 22;
 
 /// What comes next from a client: a request with its operation, one that the session itself answers
 /// with the number of an error, or the end.
@@ -38,7 +33,7 @@ pub enum Next {
 pub fn next_request<S: Source>(
     alloc: Global,
     source: &mut S,
-    spare: &mut Vec<u8>,
+    spare: &mut Buffer,
     taken: &mut u64,
 ) -> Next
     ensures { (bytes : List ℕ) × (ended : Bool) × NextIs
@@ -66,7 +61,7 @@ fn behind_head<S: Source>(
     alloc: Global,
     source: &mut S,
     head: &RequestHead,
-    spare: &mut Vec<u8>,
+    spare: &mut Buffer,
     taken: &mut u64,
 ) -> Next
     requires head { IsRequestHead head.now }

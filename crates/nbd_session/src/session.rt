@@ -9,10 +9,10 @@ ghost use Rattle.nbd_session.specs.declared.ending.Ending.{Ending};
 
 use crate::negotiation::negotiate;
 use crate::replies::put_reply;
-use crate::requests::{NO_MEMORY, Next, next_request};
+use crate::requests::{Next, next_request};
 use crate::tally::Tally;
 use crate::{Ending, Export, Port, SessionEnd, Submitted};
-use base_terms::Bytes;
+use base_terms::{Buffer, Bytes, NO_MEMORY};
 use io_edge::{Sink, Source};
 use plain_disk::Reply;
 use std::alloc::Global;
@@ -86,7 +86,7 @@ fn serve_requests<S: Source, K: Sink, P: Port>(
         (moment (S.intake source.new) (K.outlet sink.new) tally.new.taken tally.new.put)
         (Some result) turns taken whole front ended }
 {
-    let mut spare = Vec::new(alloc);
+    let mut spare = Buffer::empty(alloc);
     for number in 0..MAX_REQUESTS {
         match serve_request(alloc, source, sink, port, &mut spare, tally) {
             None => {}
@@ -103,7 +103,7 @@ fn serve_request<S: Source, K: Sink, P: Port>(
     source: &mut S,
     sink: &mut K,
     port: &mut P,
-    spare: &mut Vec<u8>,
+    spare: &mut Buffer,
     tally: &mut Tally,
 ) -> Option<Ending>
     requires { IsOut (K.outlet sink.old) }
@@ -135,25 +135,28 @@ fn serve_request<S: Source, K: Sink, P: Port>(
     }
 }
 
-/// Takes the spare buffer, and leaves an empty one, which has no memory.
-fn taken_from(alloc: Global, spare: &mut Vec<u8>) -> Bytes
-    ensures { result ≡ spare.old.items }
+/// Takes the spare buffer, as the text of all its bytes, and leaves one without memory.
+fn taken_from(alloc: Global, spare: &mut Buffer) -> Bytes
+    ensures { result ≡ spare.old }
 {
-    Bytes::new(mem::replace(spare, Vec::new(alloc)))
+    let buffer = mem::replace(spare, Buffer::empty(alloc));
+    let len = buffer.len();
+    buffer.into_text(len)
 }
 
 /// Keeps the longer buffer for the next operation.
-fn keep(spare: &mut Vec<u8>, buffer: Bytes)
-    ensures as_long { length buffer ≤ length spare.new.items }
-    ensures kept { length spare.old.items ≤ length spare.new.items }
+fn keep(spare: &mut Buffer, used: Bytes)
+    ensures as_long { length used ≤ length spare.new }
+    ensures kept { length spare.old ≤ length spare.new }
 {
+    let buffer = used.into_buffer();
     if spare.len() < buffer.len() {
-        *spare = buffer.into_vec();
+        *spare = buffer;
     }
 }
 
 /// Keeps the buffer of a read's content, once it was put.
-fn keep_content(spare: &mut Vec<u8>, reply: Reply) {
+fn keep_content(spare: &mut Buffer, reply: Reply) {
     match reply {
         Reply::Content(bytes) => keep(spare, bytes),
         Reply::Done | Reply::Errno(_) => {}

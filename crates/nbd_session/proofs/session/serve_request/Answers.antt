@@ -1,4 +1,5 @@
 use Rattle.std.proofs.Common.{List, [], ◌∷◌, Some, ◌∙◌, false, true, refl, sym, subst}
+use Rattle.base_terms.specs.ErrorNumbers.{no_memory}
 use Rattle.plain_disk.specs.Plain.{Exchange}
 use Rattle.plain_disk.specs.declared.operation.Reply.TheVariants.{Errno}
 use Rattle.nbd_session.specs.Turns.{Turn}
@@ -68,7 +69,7 @@ returns-in-Ok-Spent-clause-served g c =
 pub returns-in-Err-clause-served : goal.returns-in-Err-clause-served
 returns-in-Err-clause-served g c =
     let next = c.in-Ask.ensures in
-    let turn : Turn = record { cookie = c.in-Ask.cookie; asked = Some c.in-Ask.op; reply = Errno 12; tried = 0; submitted = false } in
+    let turn : Turn = record { cookie = c.in-Ask.cookie; asked = Some c.in-Ask.op; reply = Errno no_memory; tried = 0; submitted = false } in
     let served = serves-turn _ _ _ _ _ _ turn next.0 c.answer-in-Err.result next.2.takes next.2.by_case.1 next.2.by_case.0 (refl, refl) c.answer-in-Err.ensures.replies in (
       turn ∷ [],
       next.0,
