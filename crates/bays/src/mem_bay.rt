@@ -147,6 +147,12 @@ impl Bay for MemBay {
 
     ghost holdings = { holdings_of };
 
+    ghost asks_disk = { λ _ _ _ _ _. Unit {0} };
+
+    ghost asks_key = { λ _ _ _ _. Unit {0} };
+
+    ghost asks_links = { λ _ _ _ _ _ _. Unit {0} };
+
     /// Gives each disk out once. Fails exactly where the call's number is one of those that are to
     /// fail, where there is no disk of that name, or no more, and where it has another atom.
     fn disk(&mut self, _alloc: Global, name: &str, atom: u32) -> Result<MemDisk, BayFault>

@@ -1,5 +1,5 @@
 -- Rounds of turns.
-use Rattle.std.proofs.Common.{◌≡◌, ◌≢◌, ℕ, ◌+◌, ◌<◌, ◌≤◌, suc, ◌==◌, if◌then◌else◌, ap, inl, inr, Bool, true, false, List, [], ◌∷◌, ◌++◌, length, map, take, slice_index_or, ◌∙◌, refl, sym, subst, arith}
+use Rattle.std.proofs.Common.{◌≡◌, ◌≢◌, ℕ, ◌+◌, ◌<◌, ◌≤◌, zero, suc, set, ◌==◌, if◌then◌else◌, ap, inl, inr, Bool, true, false, List, [], ◌∷◌, ◌++◌, length, map, take, slice_index_or, ◌∙◌, refl, sym, subst, arith}
 use Rattle.std.proofs.lemmas.Bool.{eq-eqb}
 use Rattle.std.proofs.lemmas.Bool.Decides.{nat_tests}
 use Rattle.std.proofs.lemmas.List.{get_or-map, length-map, length-take, get_or-take}
@@ -8,7 +8,7 @@ use Rattle.nbd_session.specs.declared.ending.SessionEnd.{SessionEnd}
 use Rattle.nbd_session.specs.declared.export.Export.{Export}
 use Rattle.reenc_tool.specs.declared.serving.Standing.{Standing}
 use Rattle.reenc_tool.specs.declared.serving.Standing.TheVariants.{Live}
-use Rattle.reenc_tool.specs.Lanes.{Lane, Lanes, Served, failed_in}
+use Rattle.reenc_tool.specs.Lanes.{HasLive, Lane, Lanes, Served, failed_in}
 use Rattle.reenc_tool.specs.Sessions.{Played, AreNumbered, AreOfLinks, AreSessions, IsOneOf, NumbersBelow, NumbersRise, numbered, of_link}
 use Rattle.reenc_tool.proofs.AskingLemmas.{goes_none}
 use Rattle.reenc_tool.proofs.LaneLemmas.{eqb-differ, turns_at}
@@ -130,14 +130,22 @@ lanes_start state items olds ends standings lists enough empty all_live = record
   };
 }
 
+-- a link that is made live is live, also behind the last
+pub live-set : (standings : List Standing) (k : ℕ) (standing : Standing) → standing ≡ Live →
+    slice_index_or (set standings k standing) k Live ≡ Live
+live-set [] k standing is = refl
+live-set (other ∷ standings) zero standing is = is
+live-set (other ∷ standings) (suc k) standing is = live-set standings k standing is
+
 -- what holds of links after some turns
 pub served_of : {L E : Type 0} (state : L → LinkState) (items : E → List SessionEnd) (turned : ℕ → ℕ)
     (olds news : List L) (ends : List E) (standings : List Standing) (n failed : ℕ) (memory : Bool) (all : List Played) →
     n ≡ length olds → Lanes state items turned olds news ends standings all →
     (memory ≡ false → (k : ℕ) → k < length olds → slice_index_or standings k Live ≢ Live) →
+    (memory ≡ true → HasLive (length olds) standings) →
     failed ≡ failed_in (take n standings) → AreOfLinks (length olds) all →
     Served state olds news (map items ends) failed memory all
-served_of state items turned olds news ends standings n failed memory all same lanes to_the_end failed_is none_other = record {
+served_of state items turned olds news ends standings n failed memory all same lanes to_the_end short failed_is none_other = record {
   standings = take n standings;
   links = lanes.links;
   lists = length-map ends items ∙ lanes.lists;
@@ -148,6 +156,9 @@ served_of state items turned olds news ends standings n failed memory all same l
       (lanes.each k link e inside).served;
   to_the_end = λ calm k inside is.
       to_the_end calm k inside (sym (get_or-take n standings k Live (omega (arith, same))) ∙ is);
+  short = λ wanted.
+      let live = short wanted in
+      (live.0, live.1, get_or-take n standings live.0 Live (omega (arith, same, live.1)) ∙ live.2);
   failed_is = failed_is;
   none_other = none_other;
 }

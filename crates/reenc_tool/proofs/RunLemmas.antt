@@ -1,8 +1,9 @@
 -- A command of its parts.
-use Rattle.std.proofs.Common.{◌≡◌, ℕ, ◌*◌, ◌-◌, ◌^◌, ◌<◌, ◌⊎◌, ⊎_elim, Bool, true, false, inl, inr, suc, List, [], ◌∷◌, ◌++◌, length, slice_index_or, replicate, Option, Some, None, ap, ◌∙◌, refl, sym, subst, arith}
+use Rattle.std.proofs.Common.{◌≡◌, ℕ, ◌*◌, ◌-◌, ◌^◌, ◌<◌, ◌≤◌, ◌⊎◌, ⊎_elim, le_trans, Bool, true, false, inl, inr, zero, suc, List, [], ◌∷◌, ◌++◌, length, slice_index_or, replicate, Option, Some, None, ap, ◌∙◌, refl, sym, subst, arith}
 use Rattle.base_terms.specs.Blocks.{lengths}
 use Rattle.base_terms.specs.Causes.{Rose}
-use Rattle.bays.specs.Bays.{Holdings, LeavesAll, LeavesOtherDisks, LeavesOtherClients}
+use Rattle.bays.specs.Bays.{AreBounded, Holdings, IsShare, LeavesAll, LeavesOtherDisks}
+use Rattle.bays.specs.Bays.{LeavesOtherClients}
 use Rattle.bays.specs.Stories.{LinkState}
 use Rattle.nbd_session.specs.declared.ending.SessionEnd.{SessionEnd}
 use Rattle.cipher_laws.specs.Bytes.{AreBytes}
@@ -26,7 +27,8 @@ use Rattle.reenc_tool.specs.declared.serving.Standing.{Standing}
 use Rattle.reenc_tool.specs.declared.serving.Standing.TheVariants.{Live, Ended, Failed}
 use Rattle.reenc_tool.specs.Lanes.{IsServed, Served, StandsBy, failed_bit, failed_in}
 use Rattle.reenc_tool.specs.Sessions.{Played, AreSessions, NumbersRise, operations_of}
-use Rattle.reenc_tool.specs.Promise.{HasNoDisk, IsPlainVolume, IsStopped, LeavesRest, MayStop, Outcome, PlainKeys, Ran, Serves, StoodStill, WasServed, WasStopped, cause_of, unserved}
+use Rattle.reenc_tool.specs.Promise.{IsPlainVolume, LeavesRest, MayStop, Outcome, PlainKeys, Ran}
+use Rattle.reenc_tool.specs.Promise.{StoodStill, cause_of, unserved}
 use Rattle.reenc_tool.specs.Words.{Serve}
 use Rattle.reenc_tool.proofs.AskingLemmas.{sessions_unspent}
 use Rattle.reenc_tool.proofs.TextLemmas.{not_rose}
@@ -113,13 +115,13 @@ may_stop start seals final run exchanges laws tells whole nothing starts did = �
 -- a command's outcome, of the parts that its run left
 module _ {D L : Type 0} (device : D → Device) (state : L → LinkState) (disk back : D) (begun : List L) (link : L) (outcome : Outcome D L)
     (start : State PlainKeys) (seals : Seals) (final : State PlainKeys) (run : List (Happening PlainKeys)) where
-  pub ran_of : (failed : ℕ) (memory : Bool) (played : List Played) (size atom : ℕ) {may_spend : Type 0} → VolumeLaws start seals run →
+  pub ran_of : (failed : ℕ) (played : List Played) (size atom : ℕ) {may_spend : Type 0} → VolumeLaws start seals run →
       IsPlainVolume (device disk) seals start → AreLawful start.map.atom seals → DiskTells (device disk) →
       Executes seals start final run (operations_of played) → IsIdle final → size ≡ size_of start.map → atom ≡ start.map.atom →
       (may_spend → ⊥) → AreSessions (record { number = 0; size = size; atom = atom }) may_spend played → NumbersRise 0 played →
-      Served state begun outcome.links outcome.ends failed memory played → outcome.disk ≡ Some back → device back ≡ final.disk →
-      (device back).size ≡ (device disk).size → outcome.cause ≡ cause_of final.broken failed memory → Ran device state disk begun outcome
-  ran_of failed memory played size atom laws volume lawful tells did idle size_same atom_same never sessions rise served is_back back_is same_size cause_is =
+      Served state begun outcome.links outcome.ends failed outcome.memory played → outcome.disk ≡ Some back → device back ≡ final.disk →
+      (device back).size ≡ (device disk).size → outcome.cause ≡ cause_of final.broken failed outcome.memory → Ran device state disk begun outcome
+  ran_of failed played size atom laws volume lawful tells did idle size_same atom_same never sessions rise served is_back back_is same_size cause_is =
       let own = tells_start (device disk) seals start volume tells in
       let starts : (bytes : List ℕ) → start.disk.values ≡ Some bytes → Starts start seals (plain_blocks start bytes) bytes =
       λ bytes is. laws.starts bytes volume.sound volume.fresh volume.apart volume.whole lawful volume.nothing is (own.whole bytes is) (own.are_bytes bytes is) in
@@ -129,7 +131,6 @@ module _ {D L : Type 0} (device : D → Device) (state : L → LinkState) (disk 
         final = final;
         run = run;
         failed = failed;
-        memory = memory;
         played = played;
         volume = volume;
         sessions = subst (λ (a : ℕ). AreSessions (record { number = 0; size = size_of start.map; atom = a }) ⊥ played) atom_same
@@ -149,30 +150,12 @@ module _ {D L : Type 0} (device : D → Device) (state : L → LinkState) (disk 
             let fine = laws.faultless volume.sound volume.fresh lawful did.is (operations_of played) (did.answers no_plain)
             (ap (λ s. s.disk.faults) did.last ∙ stood) (omega (arith, stood, low)) in
             let unbroken = ap (λ s. s.broken) (sym did.last) ∙ fine.1 in
-            let calm = no_link_failed state begun outcome.links outcome.ends failed memory played served link links_stood in
-            (fine.0, cause_is ∙ ap (λ b. cause_of b failed memory) unbroken ∙ ap (λ f. cause_of false f memory) calm);
+            let calm = no_link_failed state begun outcome.links outcome.ends failed outcome.memory played served link links_stood in (
+              fine.0,
+              cause_is ∙ ap (λ b. cause_of b failed outcome.memory) unbroken
+                  ∙ ap (λ f. cause_of false f outcome.memory) calm,
+            );
       }
-
-module _ {D L : Type 0} (device : D → Device) (state : L → LinkState) where
-  -- what came after the bay gave the disk came after it was asked
-  pub ended_earlier : (address : List ℕ) (sessions : ℕ) (disk : D) (old mid new : Holdings D) (outcome : Outcome D L) →
-      mid.inputs ≡ old.inputs → mid.faults ≡ old.faults →
-      Serves device state address sessions disk mid new outcome → Serves device state address sessions disk old new outcome
-  ended_earlier address sessions disk old mid new outcome same stood ended = ⊎_elim
-      (λ served. inl (record {
-        begun = served.begun;
-        blocks = served.blocks;
-        given = rw (← same) served.given;
-        stood = served.stood ∙ stood;
-        ran = served.ran;
-      }))
-      (λ stopped. inr (record {
-        links = stopped.links;
-        outcome_is = stopped.outcome_is;
-        links_are = rw (← same) stopped.links_are;
-        why = rw (← stood) stopped.why;
-      }))
-      ended
 
 -- what a command left that asked for a disk, and then perhaps for links
 pub leaves_rest : {D : Type 0} (serve : Serve) (old mid new : Holdings D) → LeavesOtherDisks serve.disk old mid →
@@ -190,26 +173,34 @@ leaves_all serve old new leaves = record {
   clients = λ other differ. ap (λ inputs. inputs other) leaves.clients;
 }
 
--- a command that got no disk, and so served nothing
-pub no_disk : {D L : Type 0} (old new : Holdings D) (outcome : Outcome D L) (cause : Cause) → outcome ≡ unserved cause None [] →
-    LeavesAll old new → IsStopped 1 old.faults new.faults cause → HasNoDisk old new outcome
-no_disk old new outcome cause is leaves why = record {
-  outcome_is = is ∙ ap (λ o. unserved o.cause None []) (sym is);
-  leaves = leaves;
-  why = subst (λ (c : Cause). IsStopped 1 old.faults new.faults c) (sym (ap (λ o. o.cause) is)) why;
-}
+-- a link's share of the sessions is no more than these
+share_few : (sessions k count : ℕ) → IsShare 4 sessions k count → count ≤ sessions
+share_few sessions k zero below = omega arith
+share_few sessions k (suc n) below = omega (arith, below n (omega arith))
+
+-- links that a bay gave for so many sessions have no more of them each
+pub links_few : {L : Type 0} (state : L → LinkState) (sessions : ℕ) (links : List L) →
+    AreBounded state 4 sessions links → length links ≡ 4 → sessions ≤ 65535 →
+    (k : ℕ) (link : L) → k < length links → (state (slice_index_or links k link)).bound ≤ 65535
+links_few state sessions links bounded count few k link inside =
+    le_trans (share_few sessions k _ (bounded k link (omega arith))) few
 
 -- what is handed back without a session, by its links
 abbrev pub unserved_of : {D L : Type 0} → Cause → Option D → List L → Outcome D L
 unserved_of cause disk links = unserved cause disk links
 
-abbrev pub handed_back : {D L : Type 0} → Cause → Option D → List L → List (List SessionEnd) → Outcome D L
-handed_back cause disk links ends = record { cause = cause; disk = disk; links = links; ends = ends }
+abbrev pub handed_back : {D L : Type 0} → Cause → Bool → Option D → List L →
+    List (List SessionEnd) → Outcome D L
+handed_back cause memory disk links ends =
+    record { cause = cause; memory = memory; disk = disk; links = links; ends = ends }
 
 -- what is handed back is the same where each part is
-pub same_outcome : {D L : Type 0} (cause : Cause) (disk disk' : Option D) (links links' : List L) (ends ends' : List (List SessionEnd)) →
+pub same_outcome : {D L : Type 0} (cause : Cause) (memory memory' : Bool) (disk disk' : Option D)
+    (links links' : List L) (ends ends' : List (List SessionEnd)) → memory ≡ memory' →
     disk ≡ disk' → links ≡ links' → ends ≡ ends' →
-    handed_back cause disk links ends ≡ handed_back cause disk' links' ends'
-same_outcome {D} {L} cause disk disk' links links' ends ends' a b c =
-    ap (λ (d : Option D). handed_back cause d links ends) a ∙ ap (λ (l : List L). handed_back cause disk' l ends) b
-    ∙ ap (λ (e : List (List SessionEnd)). handed_back cause disk' links' e) c
+    handed_back cause memory disk links ends ≡ handed_back cause memory' disk' links' ends'
+same_outcome {D} {L} cause memory memory' disk disk' links links' ends ends' m a b c =
+    ap (λ (w : Bool). handed_back cause w disk links ends) m
+    ∙ ap (λ (d : Option D). handed_back cause memory' d links ends) a
+    ∙ ap (λ (l : List L). handed_back cause memory' disk' l ends) b
+    ∙ ap (λ (e : List (List SessionEnd)). handed_back cause memory' disk' links' e) c

@@ -51,9 +51,13 @@ failed_bit Failed = 1
 abbrev pub failed_in : List Standing → ℕ
 failed_in standings = fold (λ count standing. min (count + failed_bit standing) (2 ^ 32 - 1)) 0 standings
 
+-- one of the first so many links is live
+abbrev pub HasLive : ℕ → List Standing → Type 0
+HasLive links standings = (k : ℕ) × (k < links) × (slice_index_or standings k Live ≡ Live)
+
 -- The links after all their turns. Each goes on by its sessions and has the list of their ends; it was
--- asked until it had none ahead or failed itself, unless memory was wanted; and every session is one
--- of these links'.
+-- asked until it had none ahead or failed itself, unless memory was wanted, which is so only where one
+-- of them is live; and every session is one of these links'.
 pub record Served {L : Type 0} (state : L → LinkState) (olds news : List L) (ends : List (List SessionEnd))
     (failed : ℕ) (memory : Bool) (all : List Played) : Type 0 where
   pub standings : List Standing
@@ -64,6 +68,7 @@ pub record Served {L : Type 0} (state : L → LinkState) (olds news : List L) (e
       IsServed (length olds) k (state (slice_index_or olds k link)) (state (slice_index_or news k link))
       (slice_index_or ends k []) (slice_index_or standings k Live) all
   pub to_the_end : memory ≡ false → (k : ℕ) → k < length olds → slice_index_or standings k Live ≢ Live
+  pub short : memory ≡ true → HasLive (length olds) standings
   pub failed_is : failed ≡ failed_in standings
   pub none_other : AreOfLinks (length olds) all
 
@@ -79,7 +84,8 @@ pub record IsPassedOver (old new : LinkState) (old_standing new_standing : Stand
   pub standing : new_standing ≡ old_standing
   pub none : played ≡ []
 
--- A link of the number `k` had its turn, unless it was closed. The turn ends at a want of memory.
+-- A link of the number `k` had its turn, unless it was closed. The turn ends at a want of memory, which
+-- comes before a live link is asked, and leaves it live.
 pub record TurnIs (export : Export) (may_spend : Type 0) (k : ℕ) (old new : LinkState) (old_ends new_ends : List SessionEnd)
     (old_standing new_standing : Standing) (memory : Bool) (played : List Played) : Type 0 where
   pub sessions : AreSessions export may_spend played
@@ -90,3 +96,4 @@ pub record TurnIs (export : Export) (may_spend : Type 0) (k : ℕ) (old new : Li
   pub few : new.bound + length played ≤ old.bound
   pub asked : old_standing ≡ Live → TurnCase new_standing memory old new played
   pub closed : old_standing ≢ Live → IsPassedOver old new old_standing new_standing played
+  pub short : memory ≡ true → (old_standing ≡ Live) × (new_standing ≡ Live) × (played ≡ [])

@@ -1,6 +1,8 @@
-ghost use Rattle.std.specs.Prelude.{◌≡◌, ◌<◌, ◌≤◌, ◌⊎◌, ℕ, List, [], length, map, slice_index_or, string_bytes, vec_len, Some, None, false, IfOk};
-ghost use Rattle.bays.specs.Bays.{Holdings, LeavesOtherClients};
-ghost use Rattle.reenc_tool.specs.Promise.{Came, HasNoOther, Outcome, Ran, Serves, cause_of, outcome_of, unserved};
+ghost use Rattle.std.specs.Prelude.{◌≡◌, ◌<◌, ◌≤◌, ◌⊎◌, ℕ, List, [], length, map, slice_index_or};
+ghost use Rattle.std.specs.Prelude.{string_bytes, vec_len, Some, None, false, IfOk};
+ghost use Rattle.bays.specs.Bays.{LeavesOtherClients};
+ghost use Rattle.reenc_tool.specs.Promise.{Came, HasNoOther, Outcome, Ran, Serves, cause_of};
+ghost use Rattle.reenc_tool.specs.Promise.{cause_of_fault, outcome_of, unserved};
 ghost use Rattle.reenc_tool.specs.Ending.{EndsAs};
 ghost use Rattle.reenc_tool.specs.Status.{status_of};
 ghost use Rattle.reenc_tool.specs.Texts.{Prints, line_of, sessions_in};
@@ -67,6 +69,7 @@ fn serve_disk<D: Disk, L: Link>(alloc: Global, disk: D, mut links: Vec<L>) -> En
     Ended {
         status: cause.status(),
         cause,
+        memory: trouble.memory,
         disk: Some(volume.into_disk()),
         header: None,
         pass: None,
@@ -80,7 +83,7 @@ fn cause(broken: bool, trouble: Trouble) -> Cause
     ensures { result ≡ cause_of broken trouble.failed trouble.memory }
 {
     if broken {
-        Cause::Device(Failing::Disk)
+        Cause::Device(Failing::Writing)
     } else if trouble.failed != 0 {
         Cause::Link {
             failed: trouble.failed,
@@ -89,6 +92,16 @@ fn cause(broken: bool, trouble: Trouble) -> Cause
         Cause::Memory
     } else {
         Cause::Fine
+    }
+}
+
+/// The cause of a command to which the bay gave nothing.
+fn cause_by(failing: Failing, fault: BayFault) -> Cause
+    ensures { result ≡ cause_of_fault failing fault }
+{
+    match fault {
+        BayFault::Failed => Cause::Device(failing),
+        BayFault::Memory => Cause::Memory,
     }
 }
 
@@ -113,6 +126,7 @@ fn unserved<D, L>(alloc: Global, cause: Cause, disk: Option<D>, links: Vec<L>) -
     Ended {
         status: cause.status(),
         cause,
+        memory: false,
         disk,
         header: None,
         pass: None,
@@ -133,8 +147,14 @@ fn serve_plain<B: Bay>(
     ensures status { result.status ≡ status_of result.cause }
     ensures other { HasNoOther result.header result.pass result.demo }
     ensures leaves { LeavesOtherClients command.now.address.now (B.holdings bay.old) (B.holdings bay.new) }
-    ensures ended { Serves B.Disk.device B.Link.state command.now.address.now command.now.sessions disk
-        (B.holdings bay.old) (B.holdings bay.new) (outcome_of result) }
+    ensures ended { Serves B.Disk.device B.Link.state B.holdings B.asks_links
+        (record {
+          disk = command.now.disk.now;
+          atom = command.now.atom;
+          address = command.now.address.now;
+          sessions = command.now.sessions;
+        })
+        disk bay.old bay.new (outcome_of result) }
 {
     if disk.atoms() == 0 {
         let cause = Cause::NoFit {
@@ -146,11 +166,10 @@ fn serve_plain<B: Bay>(
     }
     match bay.links(alloc, command.address, WORKERS, command.sessions) {
         Ok(links) => serve_disk(alloc, disk, links),
-        Err(BayFault::Failed) => {
-            let cause = Cause::Device(Failing::Bay);
+        Err(fault) => {
+            let cause = cause_by(Failing::Listening, fault);
             unserved(alloc, cause, Some(disk), Vec::new(alloc))
         }
-        Err(BayFault::Memory) => unserved(alloc, Cause::Memory, Some(disk), Vec::new(alloc)),
     }
 }
 
@@ -158,8 +177,8 @@ fn serve_plain<B: Bay>(
 fn execute<B: Bay>(alloc: Global, words: &[String], bay: &mut B) -> Ended<B::Disk, B::Link>
     ensures status { result.status ≡ status_of result.cause }
     ensures other { HasNoOther result.header result.pass result.demo }
-    ensures came { Came B.Disk.device B.Link.state (map string_bytes words.now)
-        (B.holdings bay.old) (B.holdings bay.new) (outcome_of result) }
+    ensures came { Came B.Disk.device B.Link.state B.holdings B.asks_disk B.asks_links
+        (map string_bytes words.now) bay.old bay.new (outcome_of result) }
     ensures unasked { NotServe (map string_bytes words.now) → bay.new ≡ bay.old }
 {
     let Some(command) = read_words(words) else {
@@ -167,10 +186,10 @@ fn execute<B: Bay>(alloc: Global, words: &[String], bay: &mut B) -> Ended<B::Dis
     };
     match bay.disk(alloc, command.disk, command.atom) {
         Ok(disk) => serve_plain(alloc, bay, disk, &command),
-        Err(BayFault::Failed) => {
-            unserved(alloc, Cause::Device(Failing::Bay), None, Vec::new(alloc))
+        Err(fault) => {
+            let cause = cause_by(Failing::Opening, fault);
+            unserved(alloc, cause, None, Vec::new(alloc))
         }
-        Err(BayFault::Memory) => unserved(alloc, Cause::Memory, None, Vec::new(alloc)),
     }
 }
 
@@ -197,8 +216,8 @@ pub fn run<W: Threads + Wait + Sync, B: Bay, R: Seeds, O: Sink, G: Gate>(
     ensures status { result.status ≡ status_of result.cause }
     ensures other { HasNoOther result.header result.pass result.demo }
     ensures run { (cause : Cause) × EndsAs cause (O.outlet out.old).faults (O.outlet out.new).faults result.cause
-        × Came B.Disk.device B.Link.state (map string_bytes words.now)
-        (B.holdings bay.old) (B.holdings bay.new) (record (outcome_of result) { cause = cause })
+        × Came B.Disk.device B.Link.state B.holdings B.asks_disk B.asks_links
+        (map string_bytes words.now) bay.old bay.new (record (outcome_of result) { cause = cause })
         × Prints (O.outlet out.old) (O.outlet out.new)
         (line_of cause result.cause (sessions_in (λ list. vec_len list) result.sessions.items)) }
     ensures unasked { NotServe (map string_bytes words.now) → bay.new ≡ bay.old }

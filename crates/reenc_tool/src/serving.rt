@@ -1,6 +1,6 @@
 ghost use Rattle.std.specs.Prelude.{◌≡◌, ◌<◌, ◌≤◌, ◌+◌, ◌*◌, ◌^◌, ◌-◌, ℕ, false, true, List, [], ◌++◌, fold, length, map, min, slice_index_or};
 ghost use Rattle.nbd_session.specs.declared.ending.SessionEnd.{SessionEnd};
-ghost use Rattle.reenc_tool.specs.Lanes.{Lanes, Served, TurnIs, failed_bit, failed_in};
+ghost use Rattle.reenc_tool.specs.Lanes.{HasLive, Lanes, Served, TurnIs, failed_bit, failed_in};
 ghost use Rattle.reenc_tool.specs.Sessions.{Played, AreOfLinks, AreSessions, NumbersBelow, NumbersRise, operations_of};
 
 use crate::connection::{Asked, serve_next};
@@ -96,7 +96,8 @@ fn serve_round<L: Link, P: Port>(
         × ((olds : List L) (turns : ℕ) (all : List Played) → export.now.number ≡ length olds * turns →
         Lanes L.state (λ list. list.items) (λ _. turns) olds links.old.items ends.old.items standings.old all →
         (turned : ℕ → ℕ) × Lanes L.state (λ list. list.items) turned olds links.new.items ends.new.items standings.new (all ++ played)
-        × (result ≡ false → (k : ℕ) → k < length olds → turned k ≡ turns + 1)) }
+        × (result ≡ false → (k : ℕ) → k < length olds → turned k ≡ turns + 1))
+        × (result ≡ true → HasLive (length links.old.items) standings.new) }
 {
     for k in 0..links.len() {
         let turn = Export {

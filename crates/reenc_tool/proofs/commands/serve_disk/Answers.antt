@@ -17,7 +17,7 @@ returns-clause-ended g c =
     let atom_is = made.map.atom in
     inl (ran_of g.D.Disk.device g.L.Link.state c.args.disk c.into_disk.result c.args.links.items
     (some_element c.args.links.items 0 (omega (arith, c.requires.count))) _ start _ final did.run
-    c.serve_links-trouble.result.failed c.serve_links-trouble.result.memory s.0 _ _
+    c.serve_links-trouble.result.failed s.0 _ _
     (record {
       served = c.every_run_is_served.ensures start _;
       events = c.failures_go_by_events.ensures.along start;

@@ -38,7 +38,10 @@ returns-then-serve_round g c =
           (g.met.P.Port.did_more c.args.port.now c.loop-round.port c.serve_round.new.port (operations_of old.0) (operations_of new.0) old.1 new.1),
       AreSessions-append _ _ old.0 new.0 old.2 (sessions_numbered _ _ c.loop-round.number new.0 new.2),
       NumbersRise-append 0 c.loop-round.number old.0 new.0 (omega arith) old.3 old.4 new.3,
-      rw c.trouble_of.ensures (served_of _ _ after.0 c.args.links.now.items _ _ _ _ _ _ _ (omega (arith, c.len-count.ensures)) after.1 (λ calm. absurd (cc)) refl
+      rw c.trouble_of.ensures (served_of _ _ after.0 c.args.links.now.items _ _ _ _ _ _ _ (omega (arith, c.len-count.ensures)) after.1 (λ calm. absurd (cc))
+          (λ wanted.
+          let live = new.7 c.if-serve_round.true in
+          (live.0, omega (arith, live.1, c.loop-round.invariant.links), live.2)) refl
           (AreOfLinks-append _ old.0 new.0 old.5 (rw (← c.loop-round.invariant.links) new.5))),
     )
 
@@ -75,5 +78,5 @@ returns g c =
       old.2,
       old.3,
       rw c.trouble_of-2.ensures (served_of _ _ (λ _. c.loop-round.round) c.args.links.now.items _ _ _ _ _ _ _ (omega (arith, c.len-count.ensures)) old.6
-          (λ calm. lanes_done _ _ (λ _. c.loop-round.round) c.args.links.now.items _ _ _ _ old.6 (λ k inside. omega arith) c.requires.bound) refl old.5),
+          (λ calm. lanes_done _ _ (λ _. c.loop-round.round) c.args.links.now.items _ _ _ _ old.6 (λ k inside. omega arith) c.requires.bound) (λ wanted. absurd (cc)) refl old.5),
     )

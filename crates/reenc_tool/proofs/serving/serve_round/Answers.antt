@@ -3,7 +3,7 @@ use Rattle.plain_disk.specs.Plain.{Exchange}
 use Rattle.reenc_tool.specs.Sessions.{NumbersBelow, NumbersRise, operations_of}
 use Rattle.reenc_tool.proofs.AskingLemmas.{operations_of-none, sessions_none}
 use Rattle.reenc_tool.proofs.LaneLemmas.{turns_at, lanes_turn, took_one, operations_of-append, AreSessions-append}
-use Rattle.reenc_tool.proofs.RoundLemmas.{turns_at-none, turns_at-all, turns_at-here, turns_at-other, turned-here, turned-other, lanes_same, NumbersRise-append, NumbersBelow-later, NumbersBelow-append, AreOfLinks-append, of_links_none, of_links_one, rise_one, below_one, sessions_numbered}
+use Rattle.reenc_tool.proofs.RoundLemmas.{live-set, turns_at-none, turns_at-all, turns_at-here, turns_at-other, turned-here, turned-other, lanes_same, NumbersRise-append, NumbersBelow-later, NumbersBelow-append, AreOfLinks-append, of_links_none, of_links_one, rise_one, below_one, sessions_numbered}
 use Rattle.reenc_tool.proofs.serving.serve_round.Goals as goal
 
 pub loop-k-init : goal.loop-k-init
@@ -84,6 +84,11 @@ returns-then-serve_turn g c =
                 (λ is. turned-here k _ _ ∙ ap (λ n. n + length turn.0) (sym (turns_at-here k turns)))),
             λ calm. absurd (cc),
           ),
+      λ wanted. (
+        k,
+        omega (arith, c.len-k-end.ensures, c.loop-k.invariant.links),
+        live-set c.loop-k.standings k c.serve_turn.new.standing (t.short c.if-serve_turn.true).1,
+      ),
     )
 
 pub returns : goal.returns
@@ -100,4 +105,5 @@ returns g c =
       λ olds turns all at lanes.
           let after = old.6 olds turns all at lanes in
           (turns_at k turns, after, λ calm j inside. turns_at-all k turns j (omega (arith, after.links, c.len-k-end.ensures, c.loop-k.invariant.links))),
+      λ wanted. absurd (cc),
     )

@@ -8,7 +8,7 @@ pub returns-in-Ended : goal.returns-in-Ended
 returns-in-Ended g c = λ k. (
   [],
   subst (λ (done : List Exchange). g.P.Port.did c.args.port.now c.args.port.now done) (sym operations_of-none) (g.met.P.Port.did_none c.args.port.now),
-  turn_closed c.args.export.now _ k (g.L.Link.state c.args.link.now) _ c.args.standing.now _
+  turn_closed c.args.export.now _ k (g.L.Link.state c.args.link.now) _ c.args.standing.now
       (λ live. ⊎_elim (λ is. absurd (cc)) (λ is. absurd (cc)) c.in-Ended.is),
 )
 

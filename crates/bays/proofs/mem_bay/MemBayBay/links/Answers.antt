@@ -5,7 +5,7 @@ use Rattle.std.specs.String.{string_bytes}
 use Rattle.bays.proofs.DealLemmas.{dealt_from_shares}
 use Rattle.std.proofs.lemmas.Bool.{cases_Bool, true≢false}
 use Rattle.bays.proofs.NameLemmas.{others_untold}
-use Rattle.bays.proofs.ShareLemmas.{length-share}
+use Rattle.bays.proofs.ShareLemmas.{share_bounded}
 use Rattle.bays.proofs.TellLemmas.{fresh_from_dealt}
 use Rattle.bays.proofs.mem_bay.MemBayBay.links.Goals as goal
 
@@ -31,14 +31,11 @@ pub returns-in-Ok-clause-fresh : goal.returns-in-Ok-clause-fresh
 returns-in-Ok-clause-fresh c = fresh_from_dealt c.args.self.now c.args.address.now _ _ _ (returns-in-Ok-clause-dealt c)
 
 pub returns-in-Ok-clause-bound : goal.returns-in-Ok-clause-bound
-returns-in-Ok-clause-bound c = λ k link inside.
+returns-in-Ok-clause-bound c = λ k link inside n less.
     let dealt = ap (λ line. length line.ahead) (returns-in-Ok-clause-dealt c k link inside) in
-    omega (
-      arith,
-      dealt,
-      length-share c.args.workers k 0 (take c.args.sessions c.args.self.now.connections),
-      length-take c.args.sessions c.args.self.now.connections,
-    )
+    share_bounded c.args.workers c.args.sessions k (take c.args.sessions c.args.self.now.connections)
+    (omega (arith, length-take c.args.sessions c.args.self.now.connections)) n
+    (omega (arith, dealt, less))
 
 pub returns-in-Ok-clause-leaves : goal.returns-in-Ok-clause-leaves
 returns-in-Ok-clause-leaves c =
