@@ -15,12 +15,16 @@ both_pass true b is = (refl, is)
 both_pass false b is = (is, cc)
 
 -- a share has no more items than there are
-pub length-share : {X : Type 0} (workers k n : ℕ) (items : List X) → length (share workers k n items) ≤ length items
+pub length-share : {X : Type 0} (workers k n : ℕ) (items : List X) →
+    length (share workers k n items) ≤ length items
 unfolding share
 length-share workers k n [] = omega arith
-length-share {X = X} workers k n (x ∷ items) = at_most (n % workers == k) (share workers k (n + 1) items) (length-share workers k (n + 1) items)
+length-share {X = X} workers k n (x ∷ items) =
+    at_most (n % workers == k) (share workers k (n + 1) items)
+    (length-share workers k (n + 1) items)
   where
-    at_most : (b : Bool) (rest : List X) → length rest ≤ length items → length (if b then x ∷ rest else rest) ≤ suc (length items)
+    at_most : (b : Bool) (rest : List X) → length rest ≤ length items →
+        length (if b then x ∷ rest else rest) ≤ suc (length items)
     at_most true rest is = omega arith
     at_most false rest is = omega arith
 
@@ -78,38 +82,51 @@ share_bounded workers sessions k items few n less =
     omega (arith, mod-le last.0 workers, last.2, last.3, few)
 
 -- the share of the items from number `n` on begins with the item of that number, or doesn't have it
-pub share_from : {X : Type 0} (workers k n : ℕ) (items : List X) (item : X) → n < length items → get_or items n item ≡ item →
-    share workers k n (drop n items) ≡ (if n % workers == k then item ∷ share workers k (n + 1) (drop (n + 1) items) else share workers k (n + 1) (drop (n + 1) items))
+pub share_from : {X : Type 0} (workers k n : ℕ) (items : List X) (item : X) → n < length items →
+    get_or items n item ≡ item →
+    share workers k n (drop n items)
+    ≡ (if n % workers == k then item ∷ share workers k (n + 1) (drop (n + 1) items)
+    else share workers k (n + 1) (drop (n + 1) items))
 unfolding share
 share_from workers k n items item within is = rw (drop_more items n item within, is) refl
 
 -- a share of changed items is the share, changed
-pub map-share : {X Y : Type 0} (f : X → Y) (workers k n : ℕ) (items : List X) → map f (share workers k n items) ≡ share workers k n (map f items)
+pub map-share : {X Y : Type 0} (f : X → Y) (workers k n : ℕ) (items : List X) →
+    map f (share workers k n items) ≡ share workers k n (map f items)
 unfolding share
 map-share f workers k n [] = refl
-map-share {X = X} {Y = Y} f workers k n (x ∷ items) = each (n % workers == k) (share workers k (n + 1) items) (share workers k (n + 1) (map f items)) (map-share f workers k (n + 1) items)
+map-share {X = X} {Y = Y} f workers k n (x ∷ items) =
+    each (n % workers == k) (share workers k (n + 1) items) (share workers k (n + 1) (map f items))
+    (map-share f workers k (n + 1) items)
   where
-    each : (b : Bool) (rest : List X) (changed : List Y) → map f rest ≡ changed → map f (if b then x ∷ rest else rest) ≡ (if b then f x ∷ changed else changed)
+    each : (b : Bool) (rest : List X) (changed : List Y) → map f rest ≡ changed →
+        map f (if b then x ∷ rest else rest) ≡ (if b then f x ∷ changed else changed)
     each true rest changed is = ap (λ ys. f x ∷ ys) is
     each false rest changed is = is
 
 -- what holds of all items holds of those of a share
-pub list_all-share : {X : Type 0} (test : X → Bool) (workers k n : ℕ) (items : List X) → list_all test items ≡ true → list_all test (share workers k n items) ≡ true
+pub list_all-share : {X : Type 0} (test : X → Bool) (workers k n : ℕ) (items : List X) →
+    list_all test items ≡ true → list_all test (share workers k n items) ≡ true
 unfolding share
 list_all-share test workers k n [] pass = refl
 list_all-share {X = X} test workers k n (x ∷ items) pass =
-    let both : (test x ≡ true) × (list_all test items ≡ true) = both_pass (test x) (list_all test items) pass in
-    each (n % workers == k) (share workers k (n + 1) items) both.0 (list_all-share test workers k (n + 1) items both.1)
+    let both : (test x ≡ true) × (list_all test items ≡ true) =
+    both_pass (test x) (list_all test items) pass in
+    each (n % workers == k) (share workers k (n + 1) items) both.0
+    (list_all-share test workers k (n + 1) items both.1)
   where
-    each : (b : Bool) (rest : List X) → test x ≡ true → list_all test rest ≡ true → list_all test (if b then x ∷ rest else rest) ≡ true
+    each : (b : Bool) (rest : List X) → test x ≡ true → list_all test rest ≡ true →
+        list_all test (if b then x ∷ rest else rest) ≡ true
     each true rest here is = rw here is
     each false rest here is = is
 
 -- what holds of all items holds of the first ones
-pub list_all-take : {X : Type 0} (test : X → Bool) (n : ℕ) (items : List X) → list_all test items ≡ true → list_all test (take n items) ≡ true
+pub list_all-take : {X : Type 0} (test : X → Bool) (n : ℕ) (items : List X) →
+    list_all test items ≡ true → list_all test (take n items) ≡ true
 list_all-take test zero [] pass = refl
 list_all-take test (suc n) [] pass = refl
 list_all-take test zero (x ∷ items) pass = refl
 list_all-take test (suc n) (x ∷ items) pass =
-    let both : (test x ≡ true) × (list_all test items ≡ true) = both_pass (test x) (list_all test items) pass in
+    let both : (test x ≡ true) × (list_all test items ≡ true) =
+    both_pass (test x) (list_all test items) pass in
     rw both.0 (list_all-take test n items both.1)

@@ -44,24 +44,31 @@ pub record LeavesOtherClients {D : Type 0} (address : List ℕ) (old new : Holdi
   pub keys : new.keyring ≡ old.keyring
   pub clients : (other : List ℕ) → other ≢ address → new.inputs other ≡ old.inputs other
 
--- what a call leaves that gives a disk, and one that gives links; neither gives anything where it fails
-abbrev pub AfterDisk : {D T : Type 0} → List ℕ → Holdings D → Holdings D → Result T BayFault → Type 0
-AfterDisk name old new result = MatchResult result (λ _. LeavesOtherDisks name old new) (λ _. LeavesAll old new)
+-- what a call leaves that gives a disk, and one that gives links; neither gives anything where it
+-- fails
+abbrev pub AfterDisk : {D T : Type 0} → List ℕ → Holdings D → Holdings D → Result T BayFault →
+    Type 0
+AfterDisk name old new result =
+    MatchResult result (λ _. LeavesOtherDisks name old new) (λ _. LeavesAll old new)
 
-abbrev pub AfterLinks : {D T : Type 0} → List ℕ → Holdings D → Holdings D → Result T BayFault → Type 0
-AfterLinks address old new result = MatchResult result (λ _. LeavesOtherClients address old new) (λ _. LeavesAll old new)
+abbrev pub AfterLinks : {D T : Type 0} → List ℕ → Holdings D → Holdings D → Result T BayFault →
+    Type 0
+AfterLinks address old new result =
+    MatchResult result (λ _. LeavesOtherClients address old new) (λ _. LeavesAll old new)
 
 -- of items numbered from `n` on, those whose number leaves `k` when divided by `workers`
 unfoldable pub share : {X : Type 0} → ℕ → ℕ → ℕ → List X → List X
 share workers k n [] = []
-share workers k n (x ∷ xs) = if n % workers == k then x ∷ share workers k (n + 1) xs else share workers k (n + 1) xs
+share workers k n (x ∷ xs) = if n % workers == k then x ∷ share workers k (n + 1) xs
+    else share workers k (n + 1) xs
 
 -- so many sessions of a link, whose numbers are `k`, `k + workers` and so on, are below `sessions`
 abbrev pub IsShare : ℕ → ℕ → ℕ → ℕ → Type 0
 IsShare workers sessions k count = (n : ℕ) → n < count → k + workers * n < sessions
 
 -- each link has its share of the inputs ahead and nothing handed back, where the inputs are told
-abbrev pub AreFresh : {L : Type 0} → (L → LinkState) → Option (List Script) → ℕ → ℕ → List L → Type 0
+abbrev pub AreFresh : {L : Type 0} → (L → LinkState) → Option (List Script) → ℕ → ℕ → List L →
+    Type 0
 AreFresh {L} state inputs workers sessions links =
     (scripts : List Script) → inputs ≡ Some scripts → (k : ℕ) (link : L) → k < workers →
     (state (slice_index_or links k link)).story

@@ -28,8 +28,8 @@ pub enum Next {
     Stop(Ending),
 }
 
-/// Takes the next request from the source, a write's body into the spare buffer, and counts the bytes
-/// that it took.
+/// Takes the next request from the source, a write's body into the spare buffer, and counts the
+/// bytes that it took.
 pub fn next_request<S: Source>(
     alloc: Global,
     source: &mut S,
@@ -93,7 +93,8 @@ fn behind_head<S: Source>(
 fn refuse<S: Source>(source: &mut S, head: &RequestHead, number: u32, taken: &mut u64) -> Next
     requires head { IsRequestHead head.now }
     requires goes_on { ending_of head.now ≡ None }
-    requires refused { (body : List ℕ) → length body ≡ data_length head.now → IsRefusal (operation_of head.now body) number }
+    requires refused { (body : List ℕ) → length body ≡ data_length head.now →
+        IsRefusal (operation_of head.now body) number }
     ensures { (body : List ℕ) × (ended : Bool) × BehindHead head.now
         (reach (S.intake source.old) taken.old)
         (reach (S.intake source.new) taken.new)

@@ -8,7 +8,8 @@ use Rattle.plain_disk.specs.declared.operation.Op.TheVariants.{Read, Write, Flus
 use Rattle.plain_disk.specs.Operations.{wrong_of, wrong_range_of, IsRange}
 
 -- a range that isn't refused lies within the disk
-pub range_of_proper : (atom size offset len past : ℕ) → wrong_range_of atom size offset len past ≡ None
+pub range_of_proper : (atom size offset len past : ℕ) →
+    wrong_range_of atom size offset len past ≡ None
     → IsRange atom size offset len
 range_of_proper atom size offset len past proper =
     record {
@@ -39,7 +40,12 @@ pub blocks_within : (atom count offset len : ℕ) → 0 < atom → IsRange atom 
     → offset / atom + len / atom ≤ count
 blocks_within atom count offset len some range =
     le_of_mul-le-mul_right (let e : (offset / atom + len / atom) * atom ≤ count * atom =
-    grind (arith, whole_blocks atom offset range.start, whole_blocks atom len range.whole, range.within) in e) some
+    grind (
+      arith,
+      whole_blocks atom offset range.start,
+      whole_blocks atom len range.whole,
+      range.within,
+    ) in e) some
 
 -- one of the blocks, in bytes
 pub block_within : (k count size : ℕ) → k < count → k * size + size ≤ count * size

@@ -1,5 +1,6 @@
 -- Operations that are refused, each with its number.
-use Rattle.std.specs.Prelude.{ℕ, ◌≡◌, ◌+◌, ◌%◌, ◌≤◌, not, ◌==◌, ◌||◌, nat_lt, if◌then◌else◌, length, Option, Some, None}
+use Rattle.std.specs.Prelude.{ℕ, ◌≡◌, ◌+◌, ◌%◌, ◌≤◌, not, ◌==◌, ◌||◌, nat_lt, if◌then◌else◌, length}
+use Rattle.std.specs.Prelude.{Option, Some, None}
 use Rattle.base_terms.specs.ErrorNumbers.{invalid, no_space}
 use Rattle.plain_disk.specs.declared.operation.Op.{Op}
 use Rattle.plain_disk.specs.declared.operation.Op.TheVariants.{Read, Write, Flush}

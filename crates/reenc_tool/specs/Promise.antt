@@ -1,5 +1,7 @@
 -- What a command did.
-use Rattle.std.specs.Prelude.{ℕ, ◌≡◌, ◌≢◌, ◌-◌, ◌^◌, ◌<◌, ◌≤◌, ◌⊎◌, ◌==◌, Bool, true, false, if◌then◌else◌, List, [], ◌∷◌, ◌++◌, length, map, slice_index_or, Option, Some, None, Result, Ok, Err}
+use Rattle.std.specs.Prelude.{ℕ, ◌≡◌, ◌≢◌, ◌-◌, ◌^◌, ◌<◌, ◌≤◌, ◌⊎◌, ◌==◌, Bool, true, false}
+use Rattle.std.specs.Prelude.{if◌then◌else◌, List, [], ◌∷◌, ◌++◌, length, map, slice_index_or}
+use Rattle.std.specs.Prelude.{Option, Some, None, Result, Ok, Err}
 use Rattle.base_terms.specs.Causes.{Rose}
 use Rattle.bays.specs.declared.bay.BayFault.{BayFault}
 use Rattle.bays.specs.declared.bay.BayFault.TheVariants as BayFaults
@@ -27,7 +29,8 @@ use Rattle.volume_machine.specs.Beginnings.{IsWholeDisk}
 use Rattle.volume_laws.specs.Contents.{plain_blocks}
 use Rattle.volume_machine.specs.declared.keys.Keys.{Keys}
 use Rattle.reenc_tool.specs.declared.ended.Cause.{Cause}
-use Rattle.reenc_tool.specs.declared.ended.Cause.TheVariants.{Fine, Usage, Device, NoFit, Link, Output, Memory}
+use Rattle.reenc_tool.specs.declared.ended.Cause.TheVariants.{Fine, Usage, Device, NoFit, Link}
+use Rattle.reenc_tool.specs.declared.ended.Cause.TheVariants.{Output, Memory}
 use Rattle.reenc_tool.specs.declared.ended.Failing.{Failing}
 use Rattle.reenc_tool.specs.declared.ended.Failing.TheVariants.{Opening, Listening, Writing}
 use Rattle.reenc_tool.specs.declared.ended.Ended.{Ended}
@@ -41,7 +44,8 @@ abbrev pub PlainKeys : Type 0
 PlainKeys = Keys (DiskCipher Aes)
 
 -- the volume of a disk, as it is, before any operation
-pub record IsPlainVolume (device : DiskState) (seals : Seals) (start : State PlainKeys) : Type 0 where
+pub record IsPlainVolume (device : DiskState) (seals : Seals) (start : State PlainKeys) : Type
+    0 where
   pub fresh : IsFresh start
   pub sound : IsSound start
   pub size : start.map.atom ≡ device.size
@@ -58,23 +62,29 @@ cause_of broken failed memory =
     else (if failed == 0 then (if memory then Memory else Fine) else Link failed)
 
 -- Where the disk told its bytes and tables, and each atom held its value for certain, a stop after
--- each event leaves only contents that the plain disk allows there; and each table that the disk tells
+-- each event leaves only contents that the plain disk allows there; and each table that the disk
+-- tells
 -- in the end is one after some of the events.
 abbrev pub MayStop : State PlainKeys → Seals → List (Happening PlainKeys) → List Exchange → Type 0
-MayStop start seals run exchanges = (bytes : List ℕ) (before : Told) → start.disk.values ≡ Some bytes →
+MayStop start seals run exchanges = (bytes : List ℕ) (before : Told) →
+    start.disk.values ≡ Some bytes →
     start.disk.told ≡ Some before → AreSettled before.now →
     StartsCovered start seals (plain_blocks start bytes)
     × StopsAlong start seals (plain_blocks start bytes) run exchanges
     × ((now : Told) → (last_of start run).disk.told ≡ Some now → TellsRun start run now)
 
--- After each event of a run an operation has failed, and the volume is broken, exactly where events of
+-- After each event of a run an operation has failed, and the volume is broken, exactly where events
+-- of
 -- theirs failed, and sides, keys and places are those of the start.
 abbrev pub GoesAlong : State PlainKeys → List (Happening PlainKeys) → Type 0
-GoesAlong start run = (earlier later : List (Happening PlainKeys)) → run ≡ earlier ++ later → GoesByEvents start earlier
+GoesAlong start run = (earlier later : List (Happening PlainKeys)) → run ≡ earlier ++ later →
+    GoesByEvents start earlier
 
 -- each operation that isn't wrong is answered 5 exactly where it has failed
 abbrev pub ErrorsAreExact : State PlainKeys → Seals → List (Happening PlainKeys) → Type 0
-ErrorsAreExact start seals run = (earlier later : List (Happening PlainKeys)) (one : Happening PlainKeys) → run ≡ earlier ++ one ∷ later →
+ErrorsAreExact start seals run =
+    (earlier later : List (Happening PlainKeys)) (one : Happening PlainKeys) →
+    run ≡ earlier ++ one ∷ later →
     DeviceErrorsAreExact seals start earlier one
 
 -- no link's count of faults moved, nor stands at its last value
@@ -106,9 +116,11 @@ abbrev pub unserved : {D L : Type 0} → Cause → Option D → List L → Outco
 unserved cause disk links =
     record { cause = cause; memory = false; disk = disk; links = links; ends = [] }
 
--- Sessions were served on a disk that was handed in, over these links. What the clients were put are
+-- Sessions were served on a disk that was handed in, over these links. What the clients were put
+-- are
 -- the answers of one plain disk that was asked their operations, session after session.
-pub record Ran {D L : Type 0} (device : D → DiskState) (state : L → LinkState) (disk : D) (begun : List L)
+pub record Ran {D L : Type 0} (device : D → DiskState) (state : L → LinkState) (disk : D)
+    (begun : List L)
     (outcome : Outcome D L) : Type 0 where
   pub start : State PlainKeys
   pub seals : Seals
@@ -119,10 +131,12 @@ pub record Ran {D L : Type 0} (device : D → DiskState) (state : L → LinkStat
   -- the volume of the disk, and the sessions and links that tell of its operations; no session ends
   -- since the port is spent
   pub volume : IsPlainVolume (device disk) seals start
-  pub sessions : AreSessions (record { number = 0; size = size_of start.map; atom = start.map.atom }) ⊥ played
+  pub sessions : AreSessions
+      (record { number = 0; size = size_of start.map; atom = start.map.atom }) ⊥ played
   pub rise : NumbersRise 0 played
   pub served : Served state begun outcome.links outcome.ends failed outcome.memory played
-  -- the run of events that executed the operations, each of which makes at most one call of the disk,
+  -- the run of events that executed the operations, each of which makes at most one call of the
+  -- disk,
   -- and the disk, which is handed back as they left it
   pub did : Executes seals start final run (operations_of played)
   -- none is under way at the end: each operation that began was answered, so it is a session's
@@ -131,7 +145,8 @@ pub record Ran {D L : Type 0} (device : D → DiskState) (state : L → LinkStat
       × ((device back).size ≡ (device disk).size)
   -- one history: legal from what the disk told when it was handed in
   pub history : (bytes : List ℕ) → start.disk.values ≡ Some bytes →
-      (left : List Block) × Legal start.map.atom (plain_blocks start bytes) (operations_of played) left
+      (left : List Block) × Legal start.map.atom (plain_blocks start bytes) (operations_of played)
+      left
   -- stops: wherever the run stops, the disk holds what this history allows there
   pub stops : MayStop start seals run (operations_of played)
   -- the cause, and when it may come
@@ -141,10 +156,13 @@ pub record Ran {D L : Type 0} (device : D → DiskState) (state : L → LinkStat
   pub errors : ErrorsAreExact start seals run
   pub fails : GoesAlong start run
   -- where no count moved, each operation was served, and only want of memory ends it otherwise
-  pub complete : final.disk.faults ≡ start.disk.faults → final.disk.faults < 2 ^ 64 - 1 → StoodStill state begun outcome.links →
-      AreServed start.map.atom (size_of start.map) (operations_of played) × (outcome.cause ≡ (if outcome.memory then Memory else Fine))
+  pub complete : final.disk.faults ≡ start.disk.faults → final.disk.faults < 2 ^ 64 - 1 →
+      StoodStill state begun outcome.links →
+      AreServed start.map.atom (size_of start.map) (operations_of played)
+      × (outcome.cause ≡ (if outcome.memory then Memory else Fine))
 
--- Four links, as a bay gives them: each has its share of the inputs ahead, where the bay tells them,
+-- Four links, as a bay gives them: each has its share of the inputs ahead, where the bay tells
+-- them,
 -- and no more connections to come than its share of the sessions.
 pub record AreGiven {L : Type 0} (state : L → LinkState) (inputs : Option (List Script))
     (sessions : ℕ) (links : List L) : Type 0 where
@@ -172,7 +190,8 @@ pub record HasNoBlock {B D L : Type 0} (device : D → DiskState) (disk : D) (be
   pub stands : new ≡ between
   pub outcome_is : outcome ≡ unserved (NoFit Blocks 0 1) (Some disk) []
 
--- The disk has a block, and the bay was asked once for links and gave none. Its count of faults rose
+-- The disk has a block, and the bay was asked once for links and gave none. Its count of faults
+-- rose
 -- where it failed, and stands where memory was wanted.
 pub record HasNoLinks {B D L : Type 0} (device : D → DiskState) (holdings : B → Holdings D)
     (asks_links : AsksLinks B L) (serve : Serve) (disk : D) (between new : B)
@@ -183,7 +202,8 @@ pub record HasNoLinks {B D L : Type 0} (device : D → DiskState) (holdings : B 
   pub count : FaultCounts fault (holdings between).faults (holdings new).faults
   pub outcome_is : outcome ≡ unserved (cause_of_fault Listening fault) (Some disk) []
 
--- The disk has a block, and the bay was asked once for links and gave them. Sessions were served over
+-- The disk has a block, and the bay was asked once for links and gave them. Sessions were served
+-- over
 -- them; or memory was wanted before the first, and disk and links are handed back as they were.
 pub record HasLinks {B D L : Type 0} (device : D → DiskState) (state : L → LinkState)
     (holdings : B → Holdings D) (asks_links : AsksLinks B L) (serve : Serve) (disk : D)
@@ -203,7 +223,8 @@ Serves device state holdings asks_links serve disk between new outcome =
     ⊎ (HasNoLinks device holdings asks_links serve disk between new outcome
     ⊎ HasLinks device state holdings asks_links serve disk between new outcome)
 
--- The bay was asked once for the disk that the words name, with atoms of the size that they say, and
+-- The bay was asked once for the disk that the words name, with atoms of the size that they say,
+-- and
 -- gave it: it is the one on its shelf, which all else left.
 pub record HasDisk {B D L : Type 0} (device : D → DiskState) (state : L → LinkState)
     (holdings : B → Holdings D) (asks_disk : AsksDisk B D) (asks_links : AsksLinks B L)
@@ -217,7 +238,8 @@ pub record HasDisk {B D L : Type 0} (device : D → DiskState) (state : L → Li
   pub leaves : LeavesOtherDisks serve.disk (holdings old) (holdings between)
   pub ended : Serves device state holdings asks_links serve disk between new outcome
 
--- It was asked once for that disk and gave none, and lost nothing. Its count of faults rose where it
+-- It was asked once for that disk and gave none, and lost nothing. Its count of faults rose where
+-- it
 -- failed, and stands where memory was wanted.
 pub record HasNoDisk {B D L : Type 0} (holdings : B → Holdings D) (asks_disk : AsksDisk B D)
     (serve : Serve) (old new : B) (outcome : Outcome D L) : Type 0 where

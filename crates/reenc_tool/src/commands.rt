@@ -38,7 +38,8 @@ const LANES: u32 = 2;
 /// Serves sessions over links on a disk that has a block, and hands both back.
 fn serve_disk<D: Disk, L: Link>(alloc: Global, disk: D, mut links: Vec<L>) -> Ended<D, L>
     requires count { length links.items ≡ 4 }
-    requires bound { (k : ℕ) (link : L) → k < length links.items → (L.state (slice_index_or links.items k link)).bound ≤ 65535 }
+    requires bound { (k : ℕ) (link : L) → k < length links.items →
+        (L.state (slice_index_or links.items k link)).bound ≤ 65535 }
     ensures status { result.status ≡ status_of result.cause }
     ensures other { HasNoOther result.header result.pass result.demo }
     ensures ended { Ran D.device L.state disk links.items (outcome_of result)
@@ -108,7 +109,8 @@ fn cause_by(failing: Failing, fault: BayFault) -> Cause
 /// An empty list for each link.
 fn empty_lists(alloc: Global, count: usize) -> Result<Vec<Vec<SessionEnd>>, AllocError>
     ensures length { IfOk result (λ lists. length lists.items ≡ count) }
-    ensures empty { IfOk result (λ lists. (k : ℕ) (list : _) → k < count → (slice_index_or lists.items k list).items ≡ []) }
+    ensures empty { IfOk result
+        (λ lists. (k : ℕ) (list : _) → k < count → (slice_index_or lists.items k list).items ≡ []) }
 {
     let mut lists = Vec::with_capacity(alloc, count)?;
     for made in 0..count {
@@ -146,7 +148,8 @@ fn serve_plain<B: Bay>(
     requires { command.now.sessions ≤ 65535 }
     ensures status { result.status ≡ status_of result.cause }
     ensures other { HasNoOther result.header result.pass result.demo }
-    ensures leaves { LeavesOtherClients command.now.address.now (B.holdings bay.old) (B.holdings bay.new) }
+    ensures leaves { LeavesOtherClients command.now.address.now (B.holdings bay.old)
+        (B.holdings bay.new) }
     ensures ended { Serves B.Disk.device B.Link.state B.holdings B.asks_links
         (record {
           disk = command.now.disk.now;
@@ -193,17 +196,18 @@ fn execute<B: Bay>(alloc: Global, words: &[String], bay: &mut B) -> Ended<B::Dis
     }
 }
 
-/// Runs the command that the words behind the program's name ask for, and prints one line: `served S
-/// sessions`, or `fault N NAME` with the status and the cause. The words are `serve DISK --plain --atom
-/// 512|4096 --listen ADDRESS --sessions n`, in this order, with n from 1 to 65535.
+/// Runs the command that the words behind the program's name ask for, and prints one line: `served
+/// S sessions`, or `fault N NAME` with the status and the cause. The words are `serve DISK --plain
+/// --atom 512|4096 --listen ADDRESS --sessions n`, in this order, with n from 1 to 65535.
 ///
-/// What holds at the end is `Came` of `specs/`, before the line is printed: where sessions were served
-/// they are sessions of the protocol over the bytes that the links' connections gave, and their
-/// operations are one legal history of the plain disk that was handed in. The disk's tables are those
-/// of the operations' device calls, and wherever the run stops the disk holds what that history allows.
-/// Each cause has its reason. No other disk, key file or client of the bay is touched. The line changes the cause only where all was fine: to `Output` where it
-/// can't be put and pushed out, to `Memory` where memory is wanted for it. Words that ask for nothing
-/// leave the bay as it was. The seeds aren't drawn from.
+/// What holds at the end is `Came` of `specs/`, before the line is printed: where sessions were
+/// served they are sessions of the protocol over the bytes that the links' connections gave, and
+/// their operations are one legal history of the plain disk that was handed in. The disk's tables
+/// are those of the operations' device calls, and wherever the run stops the disk holds what that
+/// history allows. Each cause has its reason. The bay is asked once for the disk, then once for
+/// four links, and for nothing else. The line changes the cause only where all was fine: to
+/// `Output` where it can't be put and pushed out, to `Memory` where memory is wanted for it. Words
+/// that ask for nothing leave the bay as it was. The seeds aren't drawn from.
 pub fn run<W: Threads + Wait + Sync, B: Bay, R: Seeds, O: Sink, G: Gate>(
     _rt: &W,
     alloc: Global,
@@ -215,7 +219,8 @@ pub fn run<W: Threads + Wait + Sync, B: Bay, R: Seeds, O: Sink, G: Gate>(
 ) -> Ended<B::Disk, B::Link>
     ensures status { result.status ≡ status_of result.cause }
     ensures other { HasNoOther result.header result.pass result.demo }
-    ensures run { (cause : Cause) × EndsAs cause (O.outlet out.old).faults (O.outlet out.new).faults result.cause
+    ensures run { (cause : Cause)
+        × EndsAs cause (O.outlet out.old).faults (O.outlet out.new).faults result.cause
         × Came B.Disk.device B.Link.state B.holdings B.asks_disk B.asks_links
         (map string_bytes words.now) bay.old bay.new (record (outcome_of result) { cause = cause })
         × Prints (O.outlet out.old) (O.outlet out.new)

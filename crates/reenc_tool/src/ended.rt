@@ -8,8 +8,8 @@ use nbd_session::SessionEnd;
 /// command's steps; `Output` comes only in place of `Fine`.
 #[derive(Clone, Copy, Debug, PartialEq, Eq)]
 pub enum Cause {
-    /// It did what it was asked: status 0. A session that failed, or a client's failed read, changes
-    /// nothing in that.
+    /// It did what it was asked: status 0. A session that failed, or a client's failed read,
+    /// changes nothing in that.
     Fine,
     /// The words ask for nothing: status 1.
     Usage,
@@ -92,7 +92,8 @@ pub struct Ended<D, L> {
     /// The exit status, which the cause determines.
     pub status: u8,
     pub cause: Cause,
-    /// Whether memory was wanted for a session's end: then clients may have been left, of each link.
+    /// Whether memory was wanted for a session's end: then clients may have been left, of each
+    /// link.
     pub memory: bool,
     /// The disk that the bay gave.
     pub disk: Option<D>,

@@ -21,8 +21,8 @@ pub struct Session {
     pub answers: &'static [Part],
 }
 
-/// A command: what it shows, its words and what it meets; and its status, its cause, the line that it
-/// prints, whether it has a disk to hand back, and its sessions.
+/// A command: what it shows, its words and what it meets; and its status, its cause, the line that
+/// it prints, whether it has a disk to hand back, and its sessions.
 #[derive(Clone, Copy)]
 pub struct Case {
     pub shows: &'static str,
