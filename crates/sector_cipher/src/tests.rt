@@ -347,9 +347,9 @@ fn parts_make_no_difference(rt: HostRuntime) -> Result<(), Fail> {
         let context = context_of(&rt, spec, &counting_key(&rt, key)?, 512)?;
         let plain = counting_bytes(&rt, 7168)?;
         let mut one_by_one = plain.clone()?;
-        assert!(rt; plain.len() == 7168 && one_by_one.len() == 7168);
         for place in 0..7usize {
             let at = 1024 * place;
+            assert!(rt; one_by_one.len() == 7168);
             context.seal_atom(5 + 2 * place as u64, &mut one_by_one[at..at + 1024]);
         }
         for parts in [1, 3, 7, 16] {
