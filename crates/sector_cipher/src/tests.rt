@@ -3,8 +3,8 @@
 ghost use Rattle.std.specs.Prelude.{◌≡◌, IfOk};
 
 use super::*;
+use crate::keys::{cbc_essiv_under, xts_under};
 use aes_core::Aes;
-use cbc_essiv::CbcEssiv;
 use cipher_laws::{SectorCipher, SectorMode};
 use sha2::{Digest, Sha256};
 use std::alloc::Global;
@@ -326,12 +326,10 @@ fn goes_out_and_back<M: SectorMode>(
 
 #[test]
 fn sectors_of_each_length_are_sealed_as_elsewhere(rt: HostRuntime) -> Result<(), Fail> {
-    let key = counting_key(&rt, 64)?;
+    let xts = xts_under(&counting_key(&rt, 64)?)?;
+    let cbc = cbc_essiv_under(&counting_key(&rt, 32)?)?;
     let plain = counting_bytes(&rt, 272)?;
-    assert!(rt; key.len() == 64 && plain.len() == 272);
-    let body = Aes::new(&key[..32])?;
-    let xts = Xts::new(body, Aes::new(&key[32..])?);
-    let cbc = CbcEssiv::new(body, Aes::new(&Sha256::digest(&key[..32]))?);
+    assert!(rt; plain.len() == 272);
     for (place, (xts_digest, cbc_digest)) in SEALED_LENGTHS.iter().enumerate() {
         assert!(rt; place < 17);
         let sector = &plain[..16 * (place + 1)];
@@ -347,9 +345,9 @@ fn parts_make_no_difference(rt: HostRuntime) -> Result<(), Fail> {
         let context = context_of(&rt, spec, &counting_key(&rt, key)?, 512)?;
         let plain = counting_bytes(&rt, 7168)?;
         let mut one_by_one = plain.clone()?;
-        assert!(rt; plain.len() == 7168 && one_by_one.len() == 7168);
         for place in 0..7usize {
             let at = 1024 * place;
+            assert!(rt; one_by_one.len() == 7168);
             context.seal_atom(5 + 2 * place as u64, &mut one_by_one[at..at + 1024]);
         }
         for parts in [1, 3, 7, 16] {

@@ -1,4 +1,4 @@
-use Rattle.std.proofs.Common.{◌≡◌, ℕ, ◌+◌, ◌*◌, ◌/◌, ◌%◌, ◌<◌, length, List, ap, sym, ◌∙◌, arith}
+use Rattle.std.proofs.Common.{◌≡◌, ℕ, ◌+◌, ◌*◌, ◌/◌, ◌%◌, ◌<◌, length, ap, sym, ◌∙◌, arith}
 use Rattle.cipher_laws.specs.Bytes.{AreSectors}
 use Rattle.sector_cipher.proofs.ManyLemmas.{multiple_through, chunk_whole, runs_changed, in_turn}
 use Rattle.sector_cipher.proofs.many.seal_many.Goals as goal
