@@ -9,13 +9,13 @@ use Rattle.volume_cell.specs.declared.history.Entry.{Entry}
 use Rattle.volume_cell.specs.declared.held.Held.{Held}
 use Rattle.volume_cell.specs.declared.knowledge.Knowledge.{Knowledge}
 use Rattle.volume_cell.specs.Histories.{Begins, IsNoted, call, entry, calls_of}
-use Rattle.volume_cell.specs.Knowing.{knowing, taking, having_asked}
+use Rattle.volume_cell.specs.Knowing.{HasCalls, knowing, taking, having_asked}
 use Rattle.volume_cell.specs.History.{Rule}
 use Rattle.volume_cell.specs.Steps.{Learns, Takes, gives_back}
 use Rattle.volume_cell.specs.Asking.{HasLooked, HasTaken, IsFull, CanAct, HasActed}
 use Rattle.volume_cell.specs.Passes.{IsPassOf, IsSamePass, IsAnswered}
 use Rattle.volume_cell.proofs.Lists.{begins_same, begins_through}
-use Rattle.volume_cell.proofs.Names.{calls_of-own}
+use Rattle.volume_cell.proofs.Stories.{own-of, calls-asked}
 use Rattle.volume_cell.proofs.Turns.{gives-back}
 
 module _ {M S E O : Type 0} where
@@ -33,13 +33,31 @@ module _ {M S E O : Type 0} where
       later = begins_through before.me.0.history l.history k.history l.later (subst (λ (m : Me (Held M E O) (Knowledge S E O)). Begins m.0.history k.history) l.is k.later);
     }
 
+    calls-now : HasCalls after.me.0
+    calls-now = subst (λ (m : Me (Held M E O) (Knowledge S E O)). HasCalls m.0) (sym k.is) k.calls
+
     pub full-now : (limit : ℕ) → r ≡ limit * 2 → IsFull limit before after
     unfolding looked-on
     full-now limit e = let long = k.long in record {
       looked = looked-on;
-      calls = subst (λ (m : Me (Held M E O) (Knowledge S E O)). calls_of m.0.name k.history ≡ m.0.calls) l.is k.calls;
+      calls = calls-now;
+      own = own-of after.me.0 calls-now;
       full = omega (arith, long, e);
     }
+
+  -- a step that tells nothing leaves it so
+  module _ (before so after : Seat (Held M E O) (Knowledge S E O)) where
+    pub looked-still : HasLooked before so → after.table_id ≡ so.table_id → after.me ≡ so.me → HasLooked before after
+    looked-still l same is = record { table = same ∙ l.table; history = l.history; is = is ∙ l.is; later = l.later }
+
+  pub full-still : (limit : ℕ) (before so after : Seat (Held M E O) (Knowledge S E O)) → IsFull limit before so → after.table_id ≡ so.table_id → after.me ≡ so.me → IsFull limit before after
+  unfolding looked-still
+  full-still limit before so after f same is = record {
+    looked = looked-still before so after f.looked same is;
+    calls = subst (λ (m : Me (Held M E O) (Knowledge S E O)). HasCalls m.0) (sym is) f.calls;
+    own = subst (λ (m : Me (Held M E O) (Knowledge S E O)). calls_of m.0.name m.0.history ≡ m.0.calls) (sym is) f.own;
+    full = f.full;
+  }
 
   module _ (start_of : M → S) (stands_for : M → List (Entry E O) → Type 0) (limit : ℕ) where
     pub taken-now : (before so after : Seat (Held M E O) (Knowledge S E O)) (r : ℕ) → HasLooked before so → Takes start_of stands_for so.me r after.me → after.table_id ≡ so.table_id → r / 2 < limit
@@ -50,10 +68,23 @@ module _ {M S E O : Type 0} where
       held = k.held;
       is = k.is ∙ ap (λ (m : Me (Held M E O) (Knowledge S E O)). (taking k.history m.0, (0, k.held) ∷ m.1)) l.is;
       later = begins_through before.me.0.history l.history k.history l.later (subst (λ (m : Me (Held M E O) (Knowledge S E O)). Begins m.0.history k.history) l.is k.later);
-      calls = subst (λ (m : Me (Held M E O) (Knowledge S E O)). calls_of m.0.name k.history ≡ m.0.calls) l.is k.calls;
+      calls = subst (λ (m : Me (Held M E O) (Knowledge S E O)). HasCalls (taking k.history m.0)) l.is k.calls;
       stands = k.stands;
       start = subst (λ (m : Me (Held M E O) (Knowledge S E O)). m.0.start ≡ Some (start_of k.held.machine)) l.is k.start;
       room = omega (arith, long, room);
+    }
+
+    pub taken-still : (before so after : Seat (Held M E O) (Knowledge S E O)) → HasTaken start_of stands_for limit before so → after.table_id ≡ so.table_id → after.me ≡ so.me → HasTaken start_of stands_for limit before after
+    taken-still before so after t same is = record {
+      table = same ∙ t.table;
+      history = t.history;
+      held = t.held;
+      is = is ∙ t.is;
+      later = t.later;
+      calls = t.calls;
+      stands = t.stands;
+      start = t.start;
+      room = t.room;
     }
 
     pub can-act : (fits : S → List ℕ → List (Call E O) → E → Type 0) (before after : Seat (Held M E O) (Knowledge S E O)) (event : E) → HasTaken start_of stands_for limit before after
@@ -63,7 +94,7 @@ module _ {M S E O : Type 0} where
       is = ap (λ (m : Me (Held M E O) (Knowledge S E O)). m.1) t.is;
       stands = subst (λ (m : Me (Held M E O) (Knowledge S E O)). stands_for t.held.machine m.0.history) (sym t.is) t.stands;
       fits = subst (λ (m : Me (Held M E O) (Knowledge S E O)). fits (start_of t.held.machine) m.0.name (calls_of m.0.name m.0.history) event) (sym t.is)
-          (subst (λ (cs : List (Call E O)). fits (start_of t.held.machine) before.me.0.name cs event) (sym t.calls) (may (start_of t.held.machine) t.start));
+          (subst (λ (cs : List (Call E O)). fits (start_of t.held.machine) before.me.0.name cs event) (sym (own-of (taking t.history before.me.0) t.calls)) (may (start_of t.held.machine) t.start));
       start = subst (λ (m : Me (Held M E O) (Knowledge S E O)). m.0.start ≡ Some (start_of t.held.machine)) (sym t.is) t.start;
     }
 
@@ -127,6 +158,8 @@ module _ {M S E O : Type 0} where
         room = t.room;
       }
 
+      pub asked-calls : HasCalls after.me.0
+      asked-calls = subst (λ (m : Me (Held M E O) (Knowledge S E O)). HasCalls m.0) (sym asked) (calls-asked (taking t.history before.me.0) event outcome t.calls)
+
       pub asked-own : calls_of after.me.0.name after.me.0.history ≡ after.me.0.calls
-      asked-own = subst (λ (m : Me (Held M E O) (Knowledge S E O)). calls_of m.0.name m.0.history ≡ m.0.calls) (sym asked)
-          (calls_of-own before.me.0.name event outcome t.history ∙ ap (λ (l : List (Call E O)). l ++ call event outcome ∷ []) t.calls)
+      asked-own = own-of after.me.0 asked-calls

@@ -24,8 +24,9 @@ const LOOKS: u32 = 100;
 /// is out.
 const ENTRIES: usize = 0;
 
-/// The word that tells how many threads sleep until the machine is back.
-const SLEEPERS: usize = 1;
+/// The word that is the mark, 1 where a thread may sleep until the machine is back, and else 0.
+/// Whoever takes the mark away wakes one thread. Until that one has the machine no other is woken.
+const MARK: usize = 1;
 
 /// A machine under many threads.
 pub type Cell<M> = Shared<
@@ -112,13 +113,14 @@ impl<M: Machine> Cell<M> {
         ensures same { IsSamePass (known pass.old) (known pass.new) }
         ensures answer { MatchResult result (IsAnswered self.now.limit (known pass.old) (known pass.new) event) (IsSpent self.now.limit (known pass.old) (known pass.new) event) }
         ensures own { calls_of (known pass.new).name (known pass.new).history ≡ (known pass.new).calls }
+        ensures calls { HasCalls (known pass.new) }
     {
         if !self.take(rt, pass) {
             return Err(Spent { event });
         }
         let outcome = self.act(rt, pass, event);
         self.table.shared.fetch_add::<Give>(pass, ENTRIES, 1);
-        self.wake();
+        self.wake(pass);
         Ok(outcome)
     }
 
@@ -129,44 +131,65 @@ impl<M: Machine> Cell<M> {
     {
         let shared = &self.table.shared;
         let mut looks = LOOKS;
+        let mut slept = false;
         for _ in rt.forever() {
             let word = shared.load::<Learn>(pass, ENTRIES);
             if word == self.limit * 2 {
                 // Nobody gives the machine back any more, so the next one that sleeps is woken here.
-                self.wake();
+                self.mark_again(pass, slept);
+                self.wake(pass);
                 return false;
             }
             if word % 2 == 0 && word / 2 < self.limit {
                 let found = shared.compare_exchange::<Take<M>>(pass, ENTRIES, word, word + 1);
                 if found == word {
+                    self.mark_again(pass, slept);
                     return true;
                 }
-            } else if looks > 0 {
+            } else if looks > 0 && shared.peek(MARK) == 0 {
                 looks -= 1;
                 hint::spin_loop();
             } else {
-                self.sleep(rt, pass, word);
+                self.sleep(rt, pass);
+                slept = true;
+                looks = LOOKS;
             }
         }
         unreachable!()
     }
 
-    /// Sleeps while the first word is the one that was found, which the thread that gives the
-    /// machine back changes. It may also return for no reason.
-    fn sleep<R: Wait>(&self, rt: &R, pass: &mut Pass<M>, word: u64)
+    /// Sleeps until it is woken, unless the machine is back. It may also return for no reason.
+    fn sleep<R: Wait>(&self, rt: &R, pass: &mut Pass<M>)
         requires { pass.old.table_id ≡ self.now.table.shared.table_id }
         ensures { (pass.new.table_id ≡ pass.old.table_id) × (pass.new.me ≡ pass.old.me) }
     {
         let shared = &self.table.shared;
-        shared.fetch_add::<Stay>(pass, SLEEPERS, 1);
-        shared.park(rt, ENTRIES, (word % (1 << 32)) as u32);
-        shared.fetch_sub::<Stay>(pass, SLEEPERS, 1);
+        shared.swap::<Stay>(pass, MARK, 1);
+        // Who gives the machine back after this look finds the mark.
+        if shared.peek(ENTRIES) % 2 == 1 {
+            shared.park(rt, MARK, 1);
+        }
     }
 
-    /// Wakes a thread that sleeps until the machine is back.
-    fn wake(&self) {
-        if self.table.shared.peek(SLEEPERS) != 0 {
-            self.table.shared.wake_one(ENTRIES);
+    /// Sets the mark, where the thread has slept: others may sleep yet.
+    fn mark_again(&self, pass: &mut Pass<M>, slept: bool)
+        requires { pass.old.table_id ≡ self.now.table.shared.table_id }
+        ensures { (pass.new.table_id ≡ pass.old.table_id) × (pass.new.me ≡ pass.old.me) }
+    {
+        if slept {
+            self.table.shared.swap::<Stay>(pass, MARK, 1);
+        }
+    }
+
+    /// Takes the mark away and wakes a thread, where one may sleep.
+    fn wake(&self, pass: &mut Pass<M>)
+        requires { pass.old.table_id ≡ self.now.table.shared.table_id }
+        ensures { (pass.new.table_id ≡ pass.old.table_id) × (pass.new.me ≡ pass.old.me) }
+    {
+        let shared = &self.table.shared;
+        if shared.peek(MARK) != 0 {
+            shared.swap::<Stay>(pass, MARK, 0);
+            shared.wake_one(MARK);
         }
     }
 
