@@ -1,6 +1,9 @@
 -- What a pass knows and holds, step by step through a turn.
-use Rattle.std.proofs.Common.{◌≡◌, ℕ, ◌+◌, ◌-◌, ◌*◌, ◌/◌, ◌%◌, ◌^◌, ◌<◌, List, [], ◌∷◌, ◌++◌, Some, get_or, refl, sym, ap, ◌∙◌, subst, arith}
+use Rattle.std.proofs.Common.{◌≡◌, ℕ, ◌+◌, ◌-◌, ◌*◌, ◌/◌, ◌%◌, ◌^◌, ◌<◌, List, [], ◌∷◌, ◌++◌, Some, get_or, refl, sym, ap, ◌∙◌, subst, arith, eq-eqb, ne_eqb}
 use mathlib.Core.Option.{none}
+use mathlib.Core.Logic.{dite}
+use native.Mathlib.Decide.{ℕ_discrete}
+use Rattle.std.specs.Prelude.{MatchBool, nat_eq}
 use Rattle.atomic_table.specs.Table.{Me, step, Allows, rest}
 use Rattle.atomic_table.specs.Seated.{TableId}
 use Rattle.atomic_table.specs.declared.shared.Seat.{Seat}
@@ -11,8 +14,8 @@ use Rattle.volume_cell.specs.declared.knowledge.Knowledge.{Knowledge}
 use Rattle.volume_cell.specs.Histories.{Begins, IsNoted, call, entry, calls_of}
 use Rattle.volume_cell.specs.Knowing.{HasCalls, knowing, taking, having_asked}
 use Rattle.volume_cell.specs.History.{Rule}
-use Rattle.volume_cell.specs.Steps.{Learns, Takes, gives_back}
-use Rattle.volume_cell.specs.Asking.{HasLooked, HasTaken, IsFull, CanAct, HasActed}
+use Rattle.volume_cell.specs.Steps.{Learns, Takes, takes_at, gives_back}
+use Rattle.volume_cell.specs.Asking.{IsSameSeat, HasLooked, HasTaken, IsFull, CanAct, HasActed}
 use Rattle.volume_cell.specs.Passes.{IsPassOf, IsSamePass, IsAnswered}
 use Rattle.volume_cell.proofs.Lists.{begins_same, begins_through}
 use Rattle.volume_cell.proofs.Stories.{own-of, calls-asked}
@@ -45,45 +48,64 @@ module _ {M S E O : Type 0} where
       full = omega (arith, long, e);
     }
 
-  -- a step that tells nothing leaves it so
-  module _ (before so after : Seat (Held M E O) (Knowledge S E O)) where
-    pub looked-still : HasLooked before so → after.table_id ≡ so.table_id → after.me ≡ so.me → HasLooked before after
-    looked-still l same is = record { table = same ∙ l.table; history = l.history; is = is ∙ l.is; later = l.later }
+  -- after a step that tells nothing
+  module _ (before so after : Seat (Held M E O) (Knowledge S E O)) (still : IsSameSeat so after) where
+    pub looked-still : HasLooked before so → HasLooked before after
+    looked-still l = record { table = still.table ∙ l.table; history = l.history; is = still.is ∙ l.is; later = l.later }
 
-  pub full-still : (limit : ℕ) (before so after : Seat (Held M E O) (Knowledge S E O)) → IsFull limit before so → after.table_id ≡ so.table_id → after.me ≡ so.me → IsFull limit before after
-  unfolding looked-still
-  full-still limit before so after f same is = record {
-    looked = looked-still before so after f.looked same is;
-    calls = subst (λ (m : Me (Held M E O) (Knowledge S E O)). HasCalls m.0) (sym is) f.calls;
-    own = subst (λ (m : Me (Held M E O) (Knowledge S E O)). calls_of m.0.name m.0.history ≡ m.0.calls) (sym is) f.own;
-    full = f.full;
+    pub full-still : (limit : ℕ) → IsFull limit before so → IsFull limit before after
+    unfolding looked-still
+    full-still limit f = record {
+      looked = looked-still f.looked;
+      calls = subst (λ (m : Me (Held M E O) (Knowledge S E O)). HasCalls m.0) (sym still.is) f.calls;
+      own = subst (λ (m : Me (Held M E O) (Knowledge S E O)). calls_of m.0.name m.0.history ≡ m.0.calls) (sym still.is) f.own;
+      full = f.full;
+    }
+
+  pub still-twice : (before so after : Seat (Held M E O) (Knowledge S E O)) → IsSameSeat before so → IsSameSeat so after → IsSameSeat before after
+  still-twice before so after one two = record { table = two.table ∙ one.table; is = two.is ∙ one.is }
+
+  -- a pass that has looked is a pass of the cell yet
+  pub looked-pass : (cell : TableId) (before after : Seat (Held M E O) (Knowledge S E O)) → IsPassOf cell before → HasLooked before after → IsPassOf cell after
+  looked-pass cell before after of l = record {
+    table = l.table ∙ of.table;
+    ready = ap (λ (m : Me (Held M E O) (Knowledge S E O)). m.0.stage) l.is ∙ of.ready;
+    empty = ap (λ (m : Me (Held M E O) (Knowledge S E O)). m.1) l.is;
   }
 
   module _ (start_of : M → S) (stands_for : M → List (Entry E O) → Type 0) (limit : ℕ) where
-    pub taken-now : (before so after : Seat (Held M E O) (Knowledge S E O)) (r : ℕ) → HasLooked before so → Takes start_of stands_for so.me r after.me → after.table_id ≡ so.table_id → r / 2 < limit
-        → HasTaken start_of stands_for limit before after
-    taken-now before so after r l k same room = let long = k.long in record {
-      table = same ∙ l.table;
+    pub taken-now : (before after : Seat (Held M E O) (Knowledge S E O)) (r : ℕ) → before.me.1 ≡ [] → Takes start_of stands_for before.me r after.me → after.table_id ≡ before.table_id → r / 2 < limit → HasTaken start_of stands_for limit before after
+    taken-now before after r empty k same room = let long = k.long in record {
+      table = same;
       history = k.history;
       held = k.held;
-      is = k.is ∙ ap (λ (m : Me (Held M E O) (Knowledge S E O)). (taking k.history m.0, (0, k.held) ∷ m.1)) l.is;
-      later = begins_through before.me.0.history l.history k.history l.later (subst (λ (m : Me (Held M E O) (Knowledge S E O)). Begins m.0.history k.history) l.is k.later);
-      calls = subst (λ (m : Me (Held M E O) (Knowledge S E O)). HasCalls (taking k.history m.0)) l.is k.calls;
+      is = k.is ∙ ap (λ (l : List (ℕ × Held M E O)). (taking k.history before.me.0, (0, k.held) ∷ l)) empty;
+      later = k.later;
+      calls = k.calls;
       stands = k.stands;
-      start = subst (λ (m : Me (Held M E O) (Knowledge S E O)). m.0.start ≡ Some (start_of k.held.machine)) l.is k.start;
+      start = k.start;
       room = omega (arith, long, room);
     }
 
-    pub taken-still : (before so after : Seat (Held M E O) (Knowledge S E O)) → HasTaken start_of stands_for limit before so → after.table_id ≡ so.table_id → after.me ≡ so.me → HasTaken start_of stands_for limit before after
-    taken-still before so after t same is = record {
-      table = same ∙ t.table;
+    -- whether the machine was taken shows in the word that was found
+    pub tried : (before after : Seat (Held M E O) (Knowledge S E O)) (slots old new found : ℕ) → before.me.1 ≡ [] → takes_at start_of stands_for (step slots 0 old new none) before.me found after.me → after.table_id ≡ before.table_id → old / 2 < limit
+        → MatchBool (nat_eq found old) (HasTaken start_of stands_for limit before after) (IsSameSeat before after)
+    tried before after slots old new found empty t same room = dite (ℕ_discrete found old)
+        (λ hit. subst (λ b. MatchBool b (HasTaken start_of stands_for limit before after) (IsSameSeat before after)) (sym (eq-eqb found old hit))
+        (taken-now before after found empty (t.0 hit) same (subst (λ n. n / 2 < limit) (sym hit) room)))
+        (λ miss. subst (λ b. MatchBool b (HasTaken start_of stands_for limit before after) (IsSameSeat before after)) (sym (ne_eqb found old miss)) (record { table = same; is = t.1 miss }))
+
+    -- the machine was taken after a look, and then came a step that tells nothing
+    pub taken-later : (before so taker after : Seat (Held M E O) (Knowledge S E O)) → HasLooked before so → HasTaken start_of stands_for limit so taker → IsSameSeat taker after → HasTaken start_of stands_for limit before after
+    taken-later before so taker after l t still = record {
+      table = still.table ∙ (t.table ∙ l.table);
       history = t.history;
       held = t.held;
-      is = is ∙ t.is;
-      later = t.later;
-      calls = t.calls;
+      is = still.is ∙ (t.is ∙ ap (λ (m : Me (Held M E O) (Knowledge S E O)). (taking t.history m.0, (0, t.held) ∷ [])) l.is);
+      later = begins_through before.me.0.history l.history t.history l.later (subst (λ (m : Me (Held M E O) (Knowledge S E O)). Begins m.0.history t.history) l.is t.later);
+      calls = subst (λ (m : Me (Held M E O) (Knowledge S E O)). HasCalls (taking t.history m.0)) l.is t.calls;
       stands = t.stands;
-      start = t.start;
+      start = subst (λ (m : Me (Held M E O) (Knowledge S E O)). m.0.start ≡ Some (start_of t.held.machine)) l.is t.start;
       room = t.room;
     }
 

@@ -9,6 +9,11 @@ use Rattle.volume_cell.specs.Histories.{Begins, entry, calls_of, IsNoted}
 use Rattle.volume_cell.specs.Knowing.{HasCalls, knowing, taking}
 
 module _ {M S E O : Type 0} where
+  -- nothing changed that the pass knows and holds
+  pub record IsSameSeat (before after : Seat (Held M E O) (Knowledge S E O)) : Type 0 where
+    pub table : after.table_id ≡ before.table_id
+    pub is : after.me ≡ before.me
+
   -- the pass has looked at the history, and no more
   pub record HasLooked (before after : Seat (Held M E O) (Knowledge S E O)) : Type 0 where
     pub table : after.table_id ≡ before.table_id

@@ -3,7 +3,7 @@ ghost use Rattle.std.specs.Prelude.{◌≡◌, ℕ, List, ◌+◌, ◌-◌, ◌^
 ghost use Rattle.volume_cell.specs.Histories.{Begins, calls_of};
 ghost use Rattle.volume_cell.specs.Knowing.{IsWhole, HasCalls, having_split, split_off, having_joined, retired, beginning};
 ghost use Rattle.volume_cell.specs.Passes.{known, IsPassOf, IsSamePass, IsAnswered, IsSpent, IsAccounted};
-ghost use Rattle.volume_cell.specs.Asking.{HasLooked, HasTaken, IsFull, CanAct, HasActed};
+ghost use Rattle.volume_cell.specs.Asking.{IsSameSeat, HasLooked, HasTaken, IsFull, CanAct, HasActed};
 
 use crate::held::Held;
 use crate::knowledge::Knowledge;
@@ -17,16 +17,30 @@ use std::snapshot::Snapshot;
 use std::sync::Wait;
 use std::thread::Threads;
 
-/// How often a thread that finds the machine out looks again before it sleeps.
-const LOOKS: u32 = 100;
-
 /// The word that tells how many entries the history has, doubled, and one more while the machine
 /// is out.
 const ENTRIES: usize = 0;
 
-/// The word that is the mark, 1 where a thread may sleep until the machine is back, and else 0.
-/// Whoever takes the mark away wakes one thread. Until that one has the machine no other is woken.
+/// The word that tells of the threads that sleep until the machine is back: one of the four below.
 const MARK: usize = 1;
+
+/// No thread sleeps, or one was woken and does not have the machine yet.
+const NOBODY: u64 = 0;
+
+/// A thread may sleep.
+const SLEEPS: u64 = 1;
+
+/// A thread may sleep that was woken in vain too often.
+const URGES: u64 = 2;
+
+/// Only a thread that has slept may take the machine.
+const LEFT: u64 = 3;
+
+/// How often a thread that finds the machine out looks again before it sleeps.
+const LOOKS: u32 = 100;
+
+/// How often a thread is woken in vain before it asks that the machine be left to those that slept.
+const VAIN_WAKES: u32 = 2;
 
 /// A machine under many threads.
 pub type Cell<M> = Shared<
@@ -131,64 +145,86 @@ impl<M: Machine> Cell<M> {
     {
         let shared = &self.table.shared;
         let mut looks = LOOKS;
-        let mut slept = false;
+        let mut sleeps = 0;
         for _ in rt.forever() {
             let word = shared.load::<Learn>(pass, ENTRIES);
             if word == self.limit * 2 {
                 // Nobody gives the machine back any more, so the next one that sleeps is woken here.
-                self.mark_again(pass, slept);
+                self.mark_again(pass, sleeps);
                 self.wake(pass);
                 return false;
             }
-            if word % 2 == 0 && word / 2 < self.limit {
-                let found = shared.compare_exchange::<Take<M>>(pass, ENTRIES, word, word + 1);
-                if found == word {
-                    self.mark_again(pass, slept);
-                    return true;
-                }
-            } else if looks > 0 && shared.peek(MARK) == 0 {
+            if self.try_take(pass, word, sleeps) {
+                self.mark_again(pass, sleeps);
+                return true;
+            }
+            if looks > 0 && shared.peek(MARK) == NOBODY {
                 looks -= 1;
                 hint::spin_loop();
             } else {
-                self.sleep(rt, pass);
-                slept = true;
+                self.sleep(rt, pass, sleeps);
+                sleeps = sleeps.saturating_add(1);
                 looks = LOOKS;
             }
         }
         unreachable!()
     }
 
-    /// Sleeps until it is woken, unless the machine is back. It may also return for no reason.
-    fn sleep<R: Wait>(&self, rt: &R, pass: &mut Pass<M>)
-        requires { pass.old.table_id ≡ self.now.table.shared.table_id }
-        ensures { (pass.new.table_id ≡ pass.old.table_id) × (pass.new.me ≡ pass.old.me) }
+    /// Takes the machine, if it is at home, the first word is still the one that was found, and the
+    /// machine is not left to others.
+    fn try_take(&self, pass: &mut Pass<M>, word: u64, sleeps: u32) -> bool
+        requires { IsPassOf self.now.table.shared.table_id pass.old }
+        ensures { MatchBool result (HasTaken M.start M.stands_for self.now.limit pass.old pass.new) (IsSameSeat pass.old pass.new) }
     {
         let shared = &self.table.shared;
-        shared.swap::<Stay>(pass, MARK, 1);
-        // Who gives the machine back after this look finds the mark.
-        if shared.peek(ENTRIES) % 2 == 1 {
-            shared.park(rt, MARK, 1);
+        if sleeps == 0 && shared.peek(MARK) == LEFT {
+            return false;
         }
+        if word % 2 == 0 && word / 2 < self.limit {
+            let found = shared.compare_exchange::<Take<M>>(pass, ENTRIES, word, word + 1);
+            return found == word;
+        }
+        false
     }
 
-    /// Sets the mark, where the thread has slept: others may sleep yet.
-    fn mark_again(&self, pass: &mut Pass<M>, slept: bool)
+    /// Sleeps until it is woken, unless the machine can be taken. It may also return for no reason.
+    fn sleep<R: Wait>(&self, rt: &R, pass: &mut Pass<M>, sleeps: u32)
         requires { pass.old.table_id ≡ self.now.table.shared.table_id }
-        ensures { (pass.new.table_id ≡ pass.old.table_id) × (pass.new.me ≡ pass.old.me) }
+        ensures { IsSameSeat pass.old pass.new }
     {
-        if slept {
-            self.table.shared.swap::<Stay>(pass, MARK, 1);
+        let shared = &self.table.shared;
+        let wanted = if sleeps < VAIN_WAKES { SLEEPS } else { URGES };
+        let mark = shared.fetch_max::<Stay>(pass, MARK, wanted).max(wanted);
+        // Who gives the machine back after this look finds the mark.
+        let is_out = shared.peek(ENTRIES) % 2 == 1;
+        if is_out || (sleeps == 0 && mark == LEFT) {
+            shared.park(rt, MARK, (mark % (1 << 32)) as u32);
         }
     }
 
-    /// Takes the mark away and wakes a thread, where one may sleep.
+    /// Sets the mark anew, where the thread has slept: others may sleep yet.
+    fn mark_again(&self, pass: &mut Pass<M>, sleeps: u32)
+        requires { pass.old.table_id ≡ self.now.table.shared.table_id }
+        ensures { IsSameSeat pass.old pass.new }
+    {
+        if sleeps > 0 {
+            self.table.shared.store::<Stay>(pass, MARK, SLEEPS);
+        }
+    }
+
+    /// Wakes a thread, where one may sleep, and takes the mark away, so that nobody else wakes one
+    /// before that thread has had the machine. Where the mark has changed, another sees to it.
     fn wake(&self, pass: &mut Pass<M>)
         requires { pass.old.table_id ≡ self.now.table.shared.table_id }
-        ensures { (pass.new.table_id ≡ pass.old.table_id) × (pass.new.me ≡ pass.old.me) }
+        ensures { IsSameSeat pass.old pass.new }
     {
         let shared = &self.table.shared;
-        if shared.peek(MARK) != 0 {
-            shared.swap::<Stay>(pass, MARK, 0);
+        let mark = shared.peek(MARK);
+        if mark == NOBODY {
+            return;
+        }
+        let next = if mark == URGES { LEFT } else { NOBODY };
+        if shared.compare_exchange::<Stay>(pass, MARK, mark, next) == mark {
             shared.wake_one(MARK);
         }
     }

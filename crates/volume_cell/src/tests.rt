@@ -1,4 +1,4 @@
-ghost use Rattle.std.specs.Prelude.{◌≡◌, ℕ, ◌+◌, ◌%◌, ◌^◌, ◌<◌, length};
+ghost use Rattle.std.specs.Prelude.{◌≡◌, ℕ, ◌+◌, ◌%◌, ◌^◌, ◌-◌, ◌<◌, ◌≤◌, length};
 ghost use Rattle.volume_cell.specs.Knowing.{IsWhole};
 ghost use Rattle.volume_cell.specs.Passes.{known, IsPassOf};
 ghost use denote.Param.Send.{IsSync};
@@ -34,7 +34,8 @@ impl Machine for Counter {
     }
 }
 
-/// Asks so many times, and tells whether each time the answer was higher than the last.
+/// Asks so many times, or until the history is full, and tells whether each time the answer was
+/// higher than the last.
 fn ask_often<R: Threads + Wait + Sync>(
     rt: &R,
     cell: &Cell<Counter>,
@@ -47,13 +48,11 @@ fn ask_often<R: Threads + Wait + Sync>(
     let mut lowest = 0;
     let mut rising = true;
     for _ in 0..turns {
-        match cell.turn(rt, &mut pass, ()) {
-            Ok(count) => {
-                rising = rising && lowest <= count;
-                lowest = count.saturating_add(1);
-            }
-            Err(_) => rising = false,
-        }
+        let Ok(count) = cell.turn(rt, &mut pass, ()) else {
+            break;
+        };
+        rising = rising && lowest <= count;
+        lowest = count.saturating_add(1);
     }
     (pass, rising)
 }
@@ -94,10 +93,13 @@ fn ask_in_tree<R: Threads + Wait + Sync>(
 /// Whether the answers of each thread of such a tree rose, and the counter that is left.
 fn rise_in_tree<R: AllocGlobal + Threads + Wait + Sync>(
     rt: &R,
+    limit: u64,
     levels: u32,
     turns: u32,
-) -> Result<(bool, Counter), Fail> {
-    let Ok((cell, pass)) = Cell::new(rt.alloc(), Counter { count: 0 }, 1 << 40) else {
+) -> Result<(bool, Counter), Fail>
+    requires { (1 ≤ limit) × (limit < 2 ^ 63 - 1) }
+{
+    let Ok((cell, pass)) = Cell::new(rt.alloc(), Counter { count: 0 }, limit) else {
         return Err(Fail::new("no memory"));
     };
     let (pass, rising) = ask_in_tree(rt, &cell, pass, levels, turns);
@@ -122,8 +124,20 @@ fn the_third_turn_of_two_is_spent_and_hands_its_event_back(rt: HostRuntime) -> R
 fn one_two_four_and_sixteen_threads_rise_and_leave_the_sum(rt: HostRuntime) -> Result<(), Fail> {
     for (levels, sum) in [(0, 100_000), (1, 200_000), (2, 400_000), (4, 1_600_000)] {
         assert_eq!(rt;
-            rise_in_tree(&rt, levels, 100_000)?,
+            rise_in_tree(&rt, 1 << 40, levels, 100_000)?,
             (true, Counter { count: sum })
+        );
+    }
+    Ok(())
+}
+
+/// Each thread finds the history full at its end, so none may be left asleep.
+#[test]
+fn sixteen_threads_that_ask_until_it_is_full_all_return(rt: HostRuntime) -> Result<(), Fail> {
+    for _ in 0..20 {
+        assert_eq!(rt;
+            rise_in_tree(&rt, 1000, 4, u32::MAX)?,
+            (true, Counter { count: 1000 })
         );
     }
     Ok(())
@@ -132,7 +146,7 @@ fn one_two_four_and_sixteen_threads_rise_and_leave_the_sum(rt: HostRuntime) -> R
 #[test]
 fn a_tree_of_three_levels_is_joined_and_closed(rt: HostRuntime) -> Result<(), Fail> {
     assert_eq!(rt;
-        rise_in_tree(&rt, 3, 1000)?,
+        rise_in_tree(&rt, 1 << 40, 3, 1000)?,
         (true, Counter { count: 8000 })
     );
     Ok(())
