@@ -1,4 +1,5 @@
-ghost use Rattle.std.specs.Prelude.{◌≡◌, ℕ, ◌+◌, ◌%◌, ◌^◌, ◌-◌, ◌<◌, ◌≤◌, length};
+ghost use Rattle.std.specs.Prelude.{◌≡◌, ℕ, ◌+◌, ◌%◌, ◌^◌, ◌-◌, ◌<◌, ◌≤◌, IfSome, length};
+ghost use Rattle.volume_cell.specs.Numbered.{AreNumbered, AreDrawn};
 ghost use Rattle.volume_cell.specs.Knowing.{IsWhole};
 ghost use Rattle.volume_cell.specs.Passes.{known, IsPassOf};
 ghost use denote.Param.Send.{IsSync};
@@ -105,6 +106,67 @@ fn rise_in_tree<R: AllocGlobal + Threads + Wait + Sync>(
     let (pass, rising) = ask_in_tree(rt, &cell, pass, levels, turns);
     let (machine, _) = cell.close(pass);
     Ok((rising, machine))
+}
+
+/// Answers 0, 1, 2 and so on. Each pass may ask three times.
+#[derive(Drop)]
+struct Tickets {
+    next: u64,
+}
+
+impl Machine for Tickets {
+    type Event = ();
+
+    type Outcome = u64;
+
+    type Start = ();
+
+    ghost start = { λ machine. tt };
+
+    ghost stands_for = { λ machine history. (machine.next ≡ length history % 2 ^ 64) × AreNumbered 0 history };
+
+    ghost fits = { λ start name calls event. length calls < 3 };
+
+    fn act<R: Threads + Wait + Sync>(&mut self, _rt: &R, _event: ()) -> u64 {
+        let ticket = self.next;
+        self.next = ticket.wrapping_add(1);
+        ticket
+    }
+}
+
+/// Two passes are split off the first and ask, one twice and one once, and are joined back. The
+/// history has just these calls, each under the name that asked.
+fn ask_by_two<R: AllocGlobal + Threads + Wait + Sync>(
+    rt: &R,
+) -> Option<(u64, u64, u64, Pass<Tickets>)>
+    ensures { IfSome result (λ drawn. AreDrawn drawn.0 drawn.1 drawn.2 (known drawn.3).history) }
+{
+    let Ok((cell, mut first)) = Cell::new(rt.alloc(), Tickets { next: 0 }, 3) else {
+        return None;
+    };
+    let mut left = cell.split(&mut first);
+    let mut right = cell.split(&mut first);
+    let Ok(one) = cell.turn(rt, &mut left, ()) else {
+        return None;
+    };
+    let Ok(two) = cell.turn(rt, &mut right, ()) else {
+        return None;
+    };
+    let Ok(three) = cell.turn(rt, &mut left, ()) else {
+        return None;
+    };
+    cell.join(&mut first, left);
+    cell.join(&mut first, right);
+    let (_, closed) = cell.close(first);
+    Some((one, two, three, closed))
+}
+
+#[test]
+fn two_passes_draw_tickets(rt: HostRuntime) {
+    assert_eq!(rt;
+        ask_by_two(&rt).map(|drawn| (drawn.0, drawn.1, drawn.2)),
+        Some((0, 1, 2))
+    );
 }
 
 #[test]
