@@ -16,14 +16,14 @@ use Rattle.volume_cell.specs.Knowing.{HasCalls, knowing, taking, having_asked}
 use Rattle.volume_cell.specs.History.{Rule}
 use Rattle.volume_cell.specs.Steps.{Learns, Takes, takes_at, gives_back}
 use Rattle.volume_cell.specs.Asking.{IsSameSeat, HasLooked, HasTaken, IsFull, CanAct, HasActed}
-use Rattle.volume_cell.specs.Passes.{IsPassOf, IsSamePass, IsAnswered}
+use Rattle.volume_cell.specs.Passes.{IsReady, IsSamePass, IsAnswered}
 use Rattle.volume_cell.proofs.Lists.{begins_same, begins_through}
 use Rattle.volume_cell.proofs.Stories.{own-of, calls-asked}
 use Rattle.volume_cell.proofs.Turns.{gives-back}
 
 module _ {M S E O : Type 0} where
   -- before the first look
-  pub no-look : (cell : TableId) (p : Seat (Held M E O) (Knowledge S E O)) → IsPassOf cell p → HasLooked p p
+  pub no-look : (cell : TableId) (p : Seat (Held M E O) (Knowledge S E O)) → IsReady cell p → HasLooked p p
   no-look cell p of = record { table = refl; history = p.me.0.history; is = λ i. (p.me.0, of.empty i); later = begins_same p.me.0.history }
 
   -- after one more look
@@ -66,7 +66,7 @@ module _ {M S E O : Type 0} where
   still-twice before so after one two = record { table = two.table ∙ one.table; is = two.is ∙ one.is }
 
   -- a pass that has looked is a pass of the cell yet
-  pub looked-pass : (cell : TableId) (before after : Seat (Held M E O) (Knowledge S E O)) → IsPassOf cell before → HasLooked before after → IsPassOf cell after
+  pub looked-pass : (cell : TableId) (before after : Seat (Held M E O) (Knowledge S E O)) → IsReady cell before → HasLooked before after → IsReady cell after
   looked-pass cell before after of l = record {
     table = l.table ∙ of.table;
     ready = ap (λ (m : Me (Held M E O) (Knowledge S E O)). m.0.stage) l.is ∙ of.ready;
@@ -155,7 +155,7 @@ module _ {M S E O : Type 0} where
           ∙ ap (λ (z : E × O × Knowledge S E O). (having_asked z.0 z.1 z.2, []))
           (λ i. (a.noted.2 i, a.noted.3 i, (ap (λ (m : Me (Held M E O) (Knowledge S E O)). m.0) a.is ∙ ap (λ (m : Me (Held M E O) (Knowledge S E O)). m.0) t.is) i))
 
-      pub asked-pass : (cell : TableId) → IsPassOf cell before → IsPassOf cell after
+      pub asked-pass : (cell : TableId) → IsReady cell before → IsReady cell after
       asked-pass cell of = record {
         table = same ∙ (a.table ∙ (t.table ∙ of.table));
         ready = ap (λ (m : Me (Held M E O) (Knowledge S E O)). m.0.stage) asked;

@@ -9,8 +9,9 @@ use crate::held::Held;
 use crate::knowledge::Knowledge;
 use crate::machine::Machine;
 use crate::rule::{Confirm, Give, Learn, OneHistory, Part, Retire, Reunite, Stay, Take, Terms};
+use crate::shared::Shared;
 use crate::spent::Spent;
-use atomic_table::{Refused, Seat, Table, TableRule};
+use atomic_table::{Refused, Seat, Table};
 use std::alloc::{AllocFailed, Global};
 use std::hint;
 use std::snapshot::Snapshot;
@@ -57,15 +58,6 @@ pub type Pass<M> = Seat<
     Knowledge<<M as Machine>::Start, <M as Machine>::Event, <M as Machine>::Outcome>,
 >;
 
-/// A cell, by its types: the machine, what lies in the cell, what a pass knows, and the rule.
-#[derive(Drop)]
-pub struct Shared<M, H, V, P: TableRule<H, V, Terms<M>>> {
-    table: Table<H, V, Terms<M>, P, Global>,
-    limit: u64,
-    ghost terms: { (limit ≡ table.shared.key.limit) × (limit < 2 ^ 63 - 1) },
-    ghost sizes: { (table.shared.table_id.words ≡ 2) × (table.shared.table_id.slots ≡ 1) },
-}
-
 /// The machine that lay alone in what a table refused.
 fn only_machine<M: Machine>(refused: Refused<Held<M, M::Event, M::Outcome>, Global>) -> M
     requires { (held : Held M M.Event M.Outcome) × (refused.slots.items ≡ held ∷ []) }
@@ -85,7 +77,7 @@ impl<M: Machine> Cell<M> {
     pub fn new(alloc: Global, machine: M, limit: u64) -> Result<(Cell<M>, Pass<M>), AllocFailed<M>>
         requires machine { M.stands_for machine [] }
         requires limit { (1 ≤ limit) × (limit < 2 ^ 63 - 1) }
-        ensures pass { IfOk result (λ made. IsPassOf made.0.table.shared.table_id made.1 × (known made.1 ≡ beginning (M.start machine))) }
+        ensures pass { IfOk result (λ made. IsPassOf made.0 made.1 × (known made.1 ≡ beginning (M.start machine))) }
         ensures limit { IfOk result (λ made. made.0.limit ≡ limit) }
         ensures back { IfErr result (λ refused. refused.value ≡ machine) }
     {
@@ -121,9 +113,9 @@ impl<M: Machine> Cell<M> {
         pass: &mut Pass<M>,
         event: M::Event,
     ) -> Result<M::Outcome, Spent<M::Event>>
-        requires pass { IsPassOf self.now.table.shared.table_id pass.old }
+        requires pass { IsPassOf self.now pass.old }
         requires fits { (start : M.Start) → (known pass.old).start ≡ Some start → M.fits start (known pass.old).name (known pass.old).calls event }
-        ensures pass { IsPassOf self.now.table.shared.table_id pass.new }
+        ensures pass { IsPassOf self.now pass.new }
         ensures same { IsSamePass (known pass.old) (known pass.new) }
         ensures answer { MatchResult result (IsAnswered self.now.limit (known pass.old) (known pass.new) event) (IsSpent self.now.limit (known pass.old) (known pass.new) event) }
         ensures own { calls_of (known pass.new).name (known pass.new).history ≡ (known pass.new).calls }
@@ -140,7 +132,7 @@ impl<M: Machine> Cell<M> {
 
     /// Takes the machine, and waits for it while it is out. False where the history is full.
     fn take<R: Wait>(&self, rt: &R, pass: &mut Pass<M>) -> bool
-        requires { IsPassOf self.now.table.shared.table_id pass.old }
+        requires { IsPassOf self.now pass.old }
         ensures { MatchBool result (HasTaken M.start M.stands_for self.now.limit pass.old pass.new) (IsFull self.now.limit pass.old pass.new) }
     {
         let shared = &self.table.shared;
@@ -173,7 +165,7 @@ impl<M: Machine> Cell<M> {
     /// Takes the machine, if it is at home, the first word is still the one that was found, and the
     /// machine is not left to others.
     fn try_take(&self, pass: &mut Pass<M>, word: u64, sleeps: u32) -> bool
-        requires { IsPassOf self.now.table.shared.table_id pass.old }
+        requires { IsPassOf self.now pass.old }
         ensures { MatchBool result (HasTaken M.start M.stands_for self.now.limit pass.old pass.new) (IsSameSeat pass.old pass.new) }
     {
         let shared = &self.table.shared;
@@ -246,9 +238,9 @@ impl<M: Machine> Cell<M> {
 
     /// A new pass, which knows what this one knows and has made no calls.
     pub fn split(&self, pass: &mut Pass<M>) -> Pass<M>
-        requires pass { IsPassOf self.now.table.shared.table_id pass.old }
-        ensures pass { IsPassOf self.now.table.shared.table_id pass.new × (known pass.new ≡ having_split (known pass.old)) }
-        ensures new { IsPassOf self.now.table.shared.table_id result × (known result ≡ split_off (known pass.old)) }
+        requires pass { IsPassOf self.now pass.old }
+        ensures pass { IsPassOf self.now pass.new × (known pass.new ≡ having_split (known pass.old)) }
+        ensures new { IsPassOf self.now result × (known result ≡ split_off (known pass.old)) }
     {
         self.table.shared.split_seat::<Part>(pass)
     }
@@ -256,10 +248,10 @@ impl<M: Machine> Cell<M> {
     /// Joins a pass, of which every pass that was split off it was joined back, into the one that
     /// it was split off.
     pub fn join(&self, pass: &mut Pass<M>, other: Pass<M>)
-        requires passes { IsPassOf self.now.table.shared.table_id pass.old × IsPassOf self.now.table.shared.table_id other }
+        requires passes { IsPassOf self.now pass.old × IsPassOf self.now other }
         requires child { (number : ℕ) × ((known other).name ≡ (known pass.old).name ++ number ∷ []) }
         requires whole { IsWhole (known other) }
-        ensures pass { IsPassOf self.now.table.shared.table_id pass.new × (known pass.new ≡ having_joined (known pass.old) (known other)) }
+        ensures pass { IsPassOf self.now pass.new × (known pass.new ≡ having_joined (known pass.old) (known other)) }
         ensures own { Begins (known pass.old).history (known pass.new).history }
         ensures its { Begins (known other).history (known pass.new).history }
         ensures calls { HasCalls (known pass.new) }
@@ -270,7 +262,7 @@ impl<M: Machine> Cell<M> {
 
     /// The machine, and what the first pass knows, into which every other pass was joined.
     pub fn close(self, mut pass: Pass<M>) -> (M, Pass<M>)
-        requires pass { IsPassOf self.table.shared.table_id pass }
+        requires pass { IsPassOf self pass }
         requires first { (known pass).name ≡ [] }
         requires whole { IsWhole (known pass) }
         ensures pass { known result.1 ≡ retired (known pass) }

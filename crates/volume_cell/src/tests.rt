@@ -43,8 +43,8 @@ fn ask_often<R: Threads + Wait + Sync>(
     mut pass: Pass<Counter>,
     turns: u32,
 ) -> (Pass<Counter>, bool)
-    requires { IsPassOf cell.now.table.shared.table_id pass × IsWhole (known pass) }
-    ensures { IsPassOf cell.now.table.shared.table_id result.0 × IsWhole (known result.0) × ((known result.0).name ≡ (known pass).name) }
+    requires { IsPassOf cell.now pass × IsWhole (known pass) }
+    ensures { IsPassOf cell.now result.0 × IsWhole (known result.0) × ((known result.0).name ≡ (known pass).name) }
 {
     let mut lowest = 0;
     let mut rising = true;
@@ -68,8 +68,8 @@ fn ask_in_tree<R: Threads + Wait + Sync>(
     levels: u32,
     turns: u32,
 ) -> (Pass<Counter>, bool)
-    requires { IsPassOf cell.now.table.shared.table_id pass × IsWhole (known pass) }
-    ensures { IsPassOf cell.now.table.shared.table_id result.0 × IsWhole (known result.0) × ((known result.0).name ≡ (known pass).name) }
+    requires { IsPassOf cell.now pass × IsWhole (known pass) }
+    ensures { IsPassOf cell.now result.0 × IsWhole (known result.0) × ((known result.0).name ≡ (known pass).name) }
 {
     if levels == 0 {
         return ask_often(rt, cell, pass, turns);
@@ -77,12 +77,12 @@ fn ask_in_tree<R: Threads + Wait + Sync>(
     let left = cell.split(&mut pass);
     let right = cell.split(&mut pass);
     let ask_left = || -> (Pass<Counter>, bool)
-        requires { IsSync R.row × (0 < levels) × IsPassOf cell.now.table.shared.table_id left × IsWhole (known left) }
-        ensures { IsPassOf cell.entry.now.table.shared.table_id result.0 × IsWhole (known result.0) × ((known result.0).name ≡ (known left).name) }
+        requires { IsSync R.row × (0 < levels) × IsPassOf cell.now left × IsWhole (known left) }
+        ensures { IsPassOf cell.entry.now result.0 × IsWhole (known result.0) × ((known result.0).name ≡ (known left).name) }
     { ask_in_tree(rt, cell, left, levels - 1, turns) };
     let ask_right = || -> (Pass<Counter>, bool)
-        requires { IsSync R.row × (0 < levels) × IsPassOf cell.now.table.shared.table_id right × IsWhole (known right) }
-        ensures { IsPassOf cell.entry.now.table.shared.table_id result.0 × IsWhole (known result.0) × ((known result.0).name ≡ (known right).name) }
+        requires { IsSync R.row × (0 < levels) × IsPassOf cell.now right × IsWhole (known right) }
+        ensures { IsPassOf cell.entry.now result.0 × IsWhole (known result.0) × ((known result.0).name ≡ (known right).name) }
     { ask_in_tree(rt, cell, right, levels - 1, turns) };
     let (left, right) = join(rt, ask_left, ask_right);
     let rising = left.1 && right.1;

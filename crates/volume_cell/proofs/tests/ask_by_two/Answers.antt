@@ -25,9 +25,9 @@ close-closed-requires-clause-whole g c =
     let b = c.split-left.ensures.pass.1 ∙ ap having_split a in
     let d = c.split-right.ensures.pass.1 ∙ ap having_split b in
     both-back tt _ l r
-        (c.join-2.ensures.pass.1 ∙ ap (λ (x : Known). having_joined x r) (c.join.ensures.pass.1 ∙ ap (λ (x : Known). having_joined x l) d))
-        (c.in-Ok-turn-3.ensures.same.name ∙ (c.in-Ok-turn.ensures.same.name ∙ (ap (λ (x : Known). x.name) c.split-left.ensures.new.1 ∙ ap (λ (x : Known). next_name x) a)))
-        (c.in-Ok-turn-2.ensures.same.name ∙ (ap (λ (x : Known). x.name) c.split-right.ensures.new.1 ∙ ap (λ (x : Known). next_name x) b))
+    (c.join-2.ensures.pass.1 ∙ ap (λ (x : Known). having_joined x r) (c.join.ensures.pass.1 ∙ ap (λ (x : Known). having_joined x l) d))
+    (c.in-Ok-turn-3.ensures.same.name ∙ (c.in-Ok-turn.ensures.same.name ∙ (ap (λ (x : Known). x.name) c.split-left.ensures.new.1 ∙ ap (λ (x : Known). next_name x) a)))
+    (c.in-Ok-turn-2.ensures.same.name ∙ (ap (λ (x : Known). x.name) c.split-right.ensures.new.1 ∙ ap (λ (x : Known). next_name x) b))
 
 pub returns : goal.returns
 returns g c =
