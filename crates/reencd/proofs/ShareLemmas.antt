@@ -1,7 +1,7 @@
 -- The shares of links, and what all links have.
 use Rattle.std.proofs.Common.{◌≡◌, ◌==◌, ◌++◌, [], ◌∷◌, length, ◌+◌, ◌*◌, ◌-◌, ◌/◌, ◌<◌, ◌≤◌, ℕ}
 use Rattle.std.proofs.Common.{Bool, true, false, List, slice_index_or, nat_lt, if◌then◌else◌, refl}
-use Rattle.std.proofs.Common.{arith}
+use Rattle.std.proofs.Common.{arith, Result, Ok, Err, IfOk}
 use Rattle.std.proofs.Math.Nat.{mul-div-le, mul-le-mul_left}
 use Rattle.std.proofs.lemmas.Bool.{ltb-true, eqb-true, eqb-false}
 use Rattle.std.proofs.lemmas.List.{get_or_append_left, get_or_push}
@@ -30,6 +30,15 @@ bounded_by_shares state workers sessions most links few shared k link inside n l
     let below : k + workers * n < sessions =
     share_is workers sessions k n (omega (arith, shared k link inside, less)) in
     omega (arith, below, few)
+
+-- the same of links that are there only where a call was done
+pub bounded_where : {L V E : Type 0} (state : L → LinkState) (items : V → List L)
+    (workers sessions most : ℕ) (result : Result V E) → sessions ≤ most →
+    IfOk result (λ v. AreShared (λ link. (state link).bound) workers sessions (items v)) →
+    IfOk result (λ v. AreBounded state workers most (items v))
+bounded_where state items workers sessions most (Ok v) few shared =
+    bounded_by_shares state workers sessions most (items v) few shared
+bounded_where state items workers sessions most (Err e) few shared = tt
 
 -- what the first links have each in its place, and the next one has, all have
 pub all_more : {L : Type 0} (P : ℕ → L → Type 0) (n : ℕ) (links : List L) (next : L) →
