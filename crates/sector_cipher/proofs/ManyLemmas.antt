@@ -1,5 +1,5 @@
 -- Bytes that are changed in runs of sectors, each under the number of its first unit.
-use Rattle.std.proofs.Common.{◌≡◌, ℕ, zero, suc, ◌+◌, ◌-◌, ◌*◌, ◌/◌, ◌%◌, ◌<◌, ◌≤◌, List, [], ◌++◌, length, take, drop, refl, ap, sym, subst, ◌∙◌, arith, inl, inr, length-drop}
+use Rattle.std.proofs.Common.{◌≡◌, ℕ, zero, suc, ◌+◌, ◌-◌, ◌*◌, ◌/◌, ◌%◌, ◌<◌, ◌≤◌, List, ◌++◌, length, take, drop, ap, sym, ◌∙◌, arith, inl, inr, length-drop}
 use Rattle.std.proofs.lemmas.Bool.{cases_lt}
 use Rattle.std.proofs.lemmas.List.{nil_from_length, take_all, drop-drop, length-take-le, take-append-drop}
 use Rattle.std.proofs.Math.Nat.{mod-add-div', add-mul-mod_self_right, mul-mod_left, mul_assoc, le-mul_of_pos_right}
