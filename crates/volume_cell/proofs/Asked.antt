@@ -11,7 +11,7 @@ use Rattle.volume_cell.specs.declared.history.Call.{Call}
 use Rattle.volume_cell.specs.declared.history.Entry.{Entry}
 use Rattle.volume_cell.specs.declared.held.Held.{Held}
 use Rattle.volume_cell.specs.declared.knowledge.Knowledge.{Knowledge}
-use Rattle.volume_cell.specs.Histories.{Begins, IsNoted, call, entry, calls_of}
+use Rattle.volume_cell.specs.Histories.{Begins, IsNoted, entry, calls_of}
 use Rattle.volume_cell.specs.Knowing.{HasCalls, knowing, taking, having_asked}
 use Rattle.volume_cell.specs.History.{Rule}
 use Rattle.volume_cell.specs.Steps.{Learns, Takes, takes_at, gives_back}

@@ -23,7 +23,7 @@ use Rattle.volume_cell.specs.Steps.{learns, Confirms, confirms, takes_at, gives_
 use Rattle.volume_cell.proofs.Names.{calls_of-nothing, accounted-own, has-one, has-names}
 use Rattle.volume_cell.proofs.Lists.{begins_same, at_end, both_begin}
 use Rattle.volume_cell.proofs.Families.{Goes, at-one, at-changed, family_goes, family_begins, family_splits, family_joins, alone}
-use Rattle.volume_cell.proofs.Stories.{ready-not-in-turn, retired-not-in-turn, ready-live, in-turn-live, informed_now, informed_taking, own-calls, historic_goes, historic_gives, historic_splits, historic_joins, whole-history, accounted-all}
+use Rattle.volume_cell.proofs.Stories.{ready-not-in-turn, retired-not-in-turn, ready-live, in-turn-live, informed_now, informed_taking, historic_goes, historic_gives, historic_splits, historic_joins, whole-history, accounted-all}
 
 -- how many entries a word tells of
 halves : {M E O : Type 0} (phase : Phase M E O) (n : ℕ) → word_of phase n / 2 ≡ n

@@ -204,8 +204,9 @@ impl<M: Machine> Cell<M> {
         }
     }
 
-    /// Wakes a thread, where one may sleep, and takes the mark away, so that nobody else wakes one
-    /// before that thread has had the machine. Where the mark has changed, another sees to it.
+    /// Wakes a thread, where one may sleep, and takes the mark away, so that no other is woken until
+    /// that thread has had the machine or one more sleeps. Where the mark has changed, another sees
+    /// to it.
     fn wake(&self, pass: &mut Pass<M>)
         requires { pass.old.table_id ≡ self.now.table.shared.table_id }
         ensures { IsSameSeat pass.old pass.new }

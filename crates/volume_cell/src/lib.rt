@@ -23,9 +23,9 @@
 //! at the mark of those that sleep, a compare-and-exchange that takes the machine, an addition that
 //! gives it back, and a look at the mark. A thread that does not get the machine looks again, at
 //! most a hundred times and not while another sleeps, and then sleeps. Whoever gives the machine
-//! back wakes one thread, and nobody wakes another before that one has had it. A thread that was
-//! woken twice in vain asks that the machine be left to those that slept. That a turn comes, in
-//! which order and when is not promised.
+//! back wakes one thread, and the next is woken once that one has had the machine or one more went
+//! to sleep. A thread that was woken twice in vain asks that the machine be left to those that
+//! slept. That a turn comes, in which order and when is not promised.
 //!
 //! The rule of the cell has two parts, each a module of `specs/`: `Exclusion` says that one pass at
 //! a time has the machine and that no two passes share a name, `History` that there is one history

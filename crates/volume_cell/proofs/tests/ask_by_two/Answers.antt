@@ -1,4 +1,4 @@
-use Rattle.std.proofs.Common.{◌≡◌, ℕ, List, [], ◌∷◌, ◌+◌, ◌++◌, length, refl, ap, ◌∙◌}
+use Rattle.std.proofs.Common.{ℕ, List, [], ◌∷◌, ◌+◌, ◌++◌, length, refl, ap, ◌∙◌}
 use Rattle.volume_cell.specs.declared.history.Call.{Call}
 use Rattle.volume_cell.specs.declared.knowledge.Knowledge.{Knowledge}
 use Rattle.volume_cell.specs.Histories.{call}

@@ -1,6 +1,6 @@
 use Rattle.std.proofs.Common.{arith, ap, ◌∙◌}
 use Rattle.volume_cell.proofs.Turns.{loads}
-use Rattle.volume_cell.proofs.Asked.{no-look, looked-on, full-now, full-still, still-twice, looked-pass, looked-still, taken-later}
+use Rattle.volume_cell.proofs.Asked.{no-look, looked-on, full-now, full-still, still-twice, looked-pass, taken-later}
 use Rattle.volume_cell.proofs.cell.Cell+M.take.Goals as goal
 
 pub loop-init : goal.loop-init

@@ -1,4 +1,4 @@
-use Rattle.std.proofs.Common.{◌+◌, ◌<◌, ◌/◌, arith, refl, sym, subst}
+use Rattle.std.proofs.Common.{◌+◌, ◌<◌, ◌/◌, arith, refl, subst}
 use Rattle.volume_cell.proofs.Turns.{exchanges}
 use Rattle.volume_cell.proofs.Asked.{tried}
 use Rattle.volume_cell.proofs.cell.Cell+M.try_take.Goals as goal

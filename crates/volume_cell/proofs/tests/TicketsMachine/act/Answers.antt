@@ -1,4 +1,4 @@
-use Rattle.std.proofs.Common.{◌∷◌, [], ◌+◌, ◌%◌, ◌^◌, ◌++◌, length, length-append, arith}
+use Rattle.std.proofs.Common.{◌∷◌, [], length-append, arith}
 use Rattle.volume_cell.specs.Histories.{entry}
 use Rattle.volume_cell.proofs.Drawn.{numbered-more}
 use Rattle.volume_cell.proofs.tests.TicketsMachine.act.Goals as goal
