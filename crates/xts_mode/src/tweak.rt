@@ -5,7 +5,6 @@ ghost use Rattle.cipher_laws.specs.Eight.{block};
 ghost use Rattle.cipher_blocks.specs.Blocks.{number_block};
 ghost use Rattle.xts_mode.specs.Xts.{doubled, doubled_times};
 
-use cipher_blocks::number_block;
 use cipher_laws::EightBlocks;
 use std::simd::prelude::*;
 
@@ -22,7 +21,7 @@ pub(crate) fn double(tweak: u128) -> u128
 fn mask(tweak: u128) -> u8x16
     ensures { result ≡ number_block tweak }
 {
-    u8x16::from_array(number_block(tweak))
+    u64x2::from_array([(tweak % (1 << 64)) as u64, (tweak >> 64) as u64]).to_le_bytes()
 }
 
 // The tweaks of eight blocks in a row as blocks, the first of them under this tweak, and the tweak
