@@ -39,7 +39,7 @@ def steps(state, vain, limit):
         end = " at the end" if last else ""
         match step.removesuffix(" at the end"):
             case "look":
-                yield go("mark" + " at the end" if word == 2 * limit else "try", found=word)
+                yield go("mark at the end" if word == 2 * limit else "try", found=word)
             case "try":
                 left = slept == 0 and mark == LEFT
                 yield go("wait" if left or found % 2 == 1 else "exchange")
