@@ -1,8 +1,9 @@
-//! How fast the ciphers of sectors are, one thread.
+//! How fast the ciphers of sectors are, in one thread and by parts.
 //!
 //! Without a word it tries each cipher on a few sectors, and prints the same text each time. With
-//! a number of MiB it seals and unseals as many under each cipher, and prints how many MiB went
-//! through in a second.
+//! a number of bursts it seals and unseals so many short bursts under each cipher, and prints a
+//! table of the best rates, in MiB a second; with a number of parts besides, 1 to 16, also those of
+//! a MiB that so many threads work on.
 #![tactic(auto)]
 
 use anyhow::{Context, Result, anyhow};
@@ -15,13 +16,15 @@ fn main(rt: HostRuntime) -> Result<()> {
     let words: Vec<String> = env::args(&rt)?.skip(1).collect(rt.alloc())?;
     match words.as_slice() {
         [] => table::try_all(&rt),
-        [mib] => {
-            let mib = mib
-                .as_str()
-                .parse()
-                .context("the word is no number of MiB")?;
-            table::measure_all(&rt, mib)
+        [bursts] => table::measure_all(&rt, rt.alloc(), number_in(bursts)?, None),
+        [bursts, parts] => {
+            let parts = number_in(parts)? as usize;
+            table::measure_all(&rt, rt.alloc(), number_in(bursts)?, Some(parts))
         }
-        _ => Err(anyhow!("one word at most, a number of MiB")),
+        _ => Err(anyhow!("two words at most: how many bursts, and how many parts")),
     }
+}
+
+fn number_in(word: &String) -> Result<u32> {
+    word.as_str().parse().context("the word is no number")
 }

@@ -16,8 +16,8 @@ pub enum Asked {
     Memory,
 }
 
-/// Asks a link for its next connection and serves it. The room for the session's end is taken before
-/// the link is asked.
+/// Asks a link for its next connection and serves it. The room for the session's end is taken
+/// before the link is asked.
 pub fn serve_next<L: Link, P: Port>(
     alloc: Global,
     link: &mut L,
@@ -25,7 +25,8 @@ pub fn serve_next<L: Link, P: Port>(
     port: &mut P,
     export: &Export,
 ) -> Asked
-    ensures { (k : ℕ) → (played : List Played) × AskedIs export.now ((spent : P) × P.is_spent spent) k
+    ensures { (k : ℕ) → (played : List Played)
+        × AskedIs export.now ((spent : P) × P.is_spent spent) k
         (L.state link.old) (L.state link.new) ends.old.items ends.new.items result played
         × P.did port.old port.new (operations_of played) }
 {

@@ -28,7 +28,8 @@ impl<D: Disk, C: SectorCipher + Copy> Port for VolumePort<D, C> {
 
     ghost did_none = { λ port. did_none C.sealed C.opened port.volume };
 
-    ghost did_more = { λ first second third xs ys. did_joined C.sealed C.opened first.volume second.volume third.volume xs ys };
+    ghost did_more = { λ first second third xs ys.
+        did_joined C.sealed C.opened first.volume second.volume third.volume xs ys };
 
     fn submit(&mut self, alloc: Global, op: Op, spare: Bytes) -> Result<Submitted, AllocError> {
         match execute(alloc, &mut self.volume, op, spare) {

@@ -23,7 +23,7 @@ use Rattle.volume_cell.specs.Steps.{learns, Confirms, confirms, takes_at, gives_
 use Rattle.volume_cell.proofs.Names.{calls_of-nothing, accounted-own, has-one, has-names}
 use Rattle.volume_cell.proofs.Lists.{begins_same, at_end, both_begin}
 use Rattle.volume_cell.proofs.Families.{Goes, at-one, at-changed, family_goes, family_begins, family_splits, family_joins, alone}
-use Rattle.volume_cell.proofs.Stories.{ready-not-in-turn, retired-not-in-turn, ready-live, in-turn-live, informed_now, informed_taking, own-calls, historic_goes, historic_gives, historic_splits, historic_joins, whole-history, accounted-all}
+use Rattle.volume_cell.proofs.Stories.{ready-not-in-turn, retired-not-in-turn, ready-live, in-turn-live, informed_now, informed_taking, historic_goes, historic_gives, historic_splits, historic_joins, whole-history, accounted-all}
 
 -- how many entries a word tells of
 halves : {M E O : Type 0} (phase : Phase M E O) (n : ℕ) → word_of phase n / 2 ≡ n
@@ -119,7 +119,7 @@ module _ {M S E O : Type 0} (start_of : M → S) (stands_for : M → List (Entry
               (family_goes r.exclusion.first s.views id v w r.exclusion.family at (goes-knowing v h));
           historic = historic_goes stands_for h r.phase r.phase s.views id v w r.historic at live (informed_now h v i) (λ n. refl) r.historic.stands;
         },
-        record { history = h; is = refl; later = i.known; long = ap (λ (x : ℕ). x / 2) (first-word s r) ∙ halves r.phase (length h); calls = (own-calls h v i).0 },
+        record { history = h; is = refl; later = i.known; long = ap (λ (x : ℕ). x / 2) (first-word s r) ∙ halves r.phase (length h); calls = i.calls },
       )
 
   -- a load confirms what was learned
@@ -191,7 +191,7 @@ module _ {M S E O : Type 0} (start_of : M → S) (stands_for : M → List (Entry
               is = refl;
               long = omega (arith, e);
               later = i.known;
-              calls = (own-calls h v i).0;
+              calls = i.calls;
               stands = t.stands;
               start = x.family.starts id v at (ready-live v.stage ready) ∙ ap Some (sym x.from);
             }),

@@ -1,0 +1,10 @@
+use Rattle.std.proofs.Common.{arith}
+use Rattle.reencd.specs.Untold.{untold_link}
+use Rattle.reencd.proofs.ShareLemmas.{bounded_where}
+use Rattle.reencd.proofs.host_bay.HostBay.open_links.Goals as goal
+
+pub returns-in-Ok-clause-bound : goal.returns-in-Ok-clause-bound
+returns-in-Ok-clause-bound g c =
+    bounded_where (λ link. untold_link link.left link.lent link.faults) (λ links. links.items)
+    c.args.workers c.args.sessions c.args.sessions c.share_door-in-Ok.result (omega arith)
+    c.share_door-in-Ok.ensures.shared
