@@ -1,0 +1,4 @@
+pub mod Meanings
+pub mod Promises
+pub mod Seen
+pub mod Steps

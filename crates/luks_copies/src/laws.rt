@@ -1,0 +1,28 @@
+// Laws of copies, with nothing to run.
+
+ghost use Rattle.disk_areas.specs.Headers.{IsReader};
+ghost use Rattle.luks_copies.specs.Meanings.{header_reader};
+ghost use Rattle.luks_copies.specs.Promises.{MeanTheSame};
+ghost use Rattle.luks_copies.specs.Seen.{CallsAreSeen, RepairsAreSeen};
+
+use luks_bin::copies_are_spelt;
+
+/// Copies are read as the laws of headers ask: a copy is told by its own bytes, whatever stands behind
+/// it, and stands at 0 or at its own size.
+pub fn copies_are_read()
+    ensures { IsReader header_reader }
+{
+    copies_are_spelt();
+}
+
+/// Two whole copies of one size mean the same exactly where they share all bytes that copies share.
+pub fn copies_mean_what_they_share()
+    ensures { MeanTheSame }
+{}
+
+/// The device calls of a commit and of a repair move what the disk shows as the laws of headers say, so
+/// that these hold of each table that the disk tells, and of each image that a stop leaves of it.
+pub fn calls_are_seen()
+    ensures commits { CallsAreSeen }
+    ensures repairs { RepairsAreSeen }
+{}
