@@ -20,6 +20,7 @@ returns-clause-ended g c =
     c.serve_links-trouble.result.failed c.serve_links-trouble.result.memory s.0 _ _
     (record {
       served = c.every_run_is_served.ensures start _;
+      answers = λ final operations did. c.executions_join.ensures.untagged _ start final _ operations did;
       events = c.failures_go_by_events.ensures.along start;
       errors = c.device_errors_are_exact.ensures start _;
       stops = λ blocks bytes exchanges. c.runs_stop_anywhere.ensures start _ blocks bytes did.run exchanges;
@@ -50,5 +51,5 @@ returns-clause-ended g c =
     did.executes c.serve_links-trouble.new.port.idle
     (ap (λ p. p.blocks * c.from.result) c.progress-blocks.ensures ∙ ap (λ a. start.map.blocks * a) (c.from.ensures ∙ ap (λ p. p.atom) c.progress-blocks.ensures))
     (ap (λ p. p.atom) c.progress-blocks.ensures)
-    (λ spent. spent.1) s.2 s.3 s.4 refl c.into_disk.ensures.disk (c.into_disk.ensures.size ∙ ap (λ m. m.atom) did.map ∙ atom_is)
+    (λ spent. spent.1) s.2 s.3 s.4 refl c.into_disk.ensures.disk (c.into_disk.ensures.size ∙ ap (λ m. m.atom) did.map_is ∙ atom_is)
     (c.cause-cause.ensures ∙ ap (λ p. cause_of p.broken c.serve_links-trouble.result.failed c.serve_links-trouble.result.memory) c.progress.ensures))
