@@ -5,7 +5,7 @@ use Rattle.std.specs.Int.{bit_at}
 use Rattle.std.proofs.lemmas.Simd.{pick_l_left}
 use Rattle.cipher_laws.specs.Bytes.{AreBytes}
 use Rattle.cipher_laws.specs.declared.eight_blocks.EightBlocks.{EightBlocks}
-use Rattle.cipher_laws.proofs.EightLemmas.{each_of_eight}
+use Rattle.cipher_laws.specs.EachOfEight.{each_of_eight}
 use Rattle.aes_core.specs.State.{byte_at}
 use Rattle.aes_core.specs.Planes.{listed, bits_of, bits_in, byte_from, byte_in, state_in, place}
 use Rattle.aes_core.specs.Transposition.{first_bits, second_bits, row, column, rows, columns, AreTurned}

@@ -1,5 +1,5 @@
 -- Words of the key schedule, and the code's vectors of 4 lanes.
-use Rattle.std.proofs.Common.{◌≡◌, ℕ, zero, suc, ◌<◌, ◌≤◌, ◌+◌, ◌-◌, ◌*◌, ◌%◌, ◌/◌, List, [], ◌∷◌, ◌++◌, length, take, slice_index, slice_index_or, bit_xor, refl, sym, ap₂, ◌∙◌, inl, inr, arith, Fits, w8, get_or-take, add-one}
+use Rattle.std.proofs.Common.{◌≡◌, ℕ, ◌<◌, ◌≤◌, ◌+◌, ◌-◌, ◌*◌, ◌%◌, ◌/◌, List, [], ◌∷◌, ◌++◌, length, take, slice_index, slice_index_or, bit_xor, refl, sym, ap₂, ◌∙◌, inl, inr, arith, Fits, w8, get_or-take, add-one}
 use Rattle.std.specs.Simd.Lanes.{zip2, pick_l, chunk, Each1}
 use Rattle.std.proofs.lemmas.Simd.{length-chunk, get_or-chunk}
 use Rattle.std.proofs.lemmas.Bool.{cases_lt}

@@ -1,5 +1,7 @@
 -- What callers see of a link and a bay in memory, and what these tell.
-use Rattle.std.specs.Prelude.{ℕ, ◌≡◌, ◌+◌, ◌<◌, ◌≤◌, ◌==◌, ◌&&◌, Bool, true, false, if◌then◌else◌, List, [], length, map, take, drop, slice_index_or, Option, Some, None, Result, Ok, Err}
+use Rattle.std.specs.Prelude.{ℕ, ◌≡◌, ◌+◌, ◌<◌, ◌≤◌, ◌==◌, ◌&&◌, Bool, true, false, if◌then◌else◌}
+use Rattle.std.specs.Prelude.{List, [], length, map, take, drop, slice_index_or, Option, Some, None}
+use Rattle.std.specs.Prelude.{Result, Ok, Err}
 use Rattle.std.specs.List.{list_all}
 use Rattle.std.specs.Option.{option_map_or}
 use Rattle.std.specs.Str.{bytes_eq}
@@ -37,7 +39,8 @@ pub record Stock : Type 0 where
 -- whether nothing was taken from a connection's source, and nothing was put to its sink
 abbrev pub is_fresh : Input × Output → Bool
 is_fresh connection =
-    (length connection.0.given == 0) && ((length connection.1.had == 0) && (length connection.1.held_back == 0))
+    (length connection.0.given == 0)
+    && ((length connection.1.had == 0) && (length connection.1.held_back == 0))
 
 -- a connection as one to come
 abbrev pub script_of : Input × Output → Script
@@ -60,16 +63,24 @@ handed_of connection = record {
 
 -- the inputs to come, told where each connection is fresh
 abbrev pub inputs_of : Stock → Option (List Script)
-inputs_of stock = if list_all is_fresh stock.connections then Some (map script_of stock.connections) else None
+inputs_of stock = if list_all is_fresh stock.connections then Some (map script_of stock.connections)
+    else None
 
 -- the story of a link, told where each connection ahead is fresh
 abbrev pub story_of : Line → Option Story
 story_of line =
-    if list_all is_fresh line.ahead then Some (record { ahead = map script_of line.ahead; handed = map handed_of line.handed }) else None
+    if list_all is_fresh line.ahead
+    then Some (record { ahead = map script_of line.ahead; handed = map handed_of line.handed })
+    else None
 
 -- all that a link tells
 abbrev pub link_state : Line → LinkState
-link_state line = record { story = story_of line; bound = length line.ahead; lent = line.lent; faults = line.plan.faults }
+link_state line = record {
+  story = story_of line;
+  bound = length line.ahead;
+  lent = line.lent;
+  faults = line.plan.faults;
+}
 
 -- all that a bay tells
 abbrev pub holdings_of : Stock → Holdings MemDisk
@@ -86,7 +97,8 @@ has_disk name atom disks = option_map_or (λ disk. atom_of disk == atom) (named 
 
 -- a link as a bay makes it, with these connections ahead and these calls to fail
 abbrev pub new_line : List (Input × Output) → ℕ → List ℕ → Line
-new_line ahead room fails = record { ahead = ahead; lent = 0; handed = []; room = room; plan = fresh_plan fails }
+new_line ahead room fails =
+    record { ahead = ahead; lent = 0; handed = []; room = room; plan = fresh_plan fails }
 
 -- the numbers of the calls of a link that are to fail; none where it has no list
 abbrev pub fails_of : List (List ℕ) → ℕ → List ℕ
@@ -100,12 +112,14 @@ pub record IsIdle (more : ℕ) (line : Line) : Type 0 where
 -- each link has its share of the connections from number `n` on ahead, and stands otherwise
 abbrev pub HaveShares : List (Input × Output) → ℕ → List Line → List Line → Type 0
 HaveShares connections n old new = (k : ℕ) (d : Line) → k < length old →
-    slice_index_or new k d ≡ record (slice_index_or old k d) { ahead = share (length old) k n (drop n connections) }
+    slice_index_or new k d
+    ≡ record (slice_index_or old k d) { ahead = share (length old) k n (drop n connections) }
 
 -- each link has its share of the first so many connections ahead, and nothing lent or handed back
 abbrev pub AreDealt : List (Input × Output) → List (List ℕ) → ℕ → ℕ → List Line → Type 0
 AreDealt connections link_fails workers sessions links = (k : ℕ) (d : Line) → k < workers →
-    slice_index_or links k d ≡ new_line (share workers k 0 (take sessions connections)) (length connections) (fails_of link_fails k)
+    slice_index_or links k d ≡ new_line (share workers k 0 (take sessions connections))
+    (length connections) (fails_of link_fails k)
 
 -- whether a call of a bay was answered that it failed
 abbrev pub is_failed : {T : Type 0} → Result T BayFault → Bool

@@ -14,7 +14,8 @@ abbrev pub without : {Y X : Type 0} → List ℕ → List (String Y × X) → Li
 without name entries = remove_entry (λ key. bytes_eq (string_bytes key) name) entries
 
 -- the first thing of that name stands at place `i`
-pub record StandsAt {Y X : Type 0} (name : List ℕ) (entries : List (String Y × X)) (i : ℕ) : Type 0 where
+pub record StandsAt {Y X : Type 0} (name : List ℕ) (entries : List (String Y × X)) (i : ℕ) : Type
+    0 where
   pub within : i < length entries
   pub first : (d : String Y × X) → named name entries ≡ Some (slice_index_or entries i d).1
   pub others : without name entries ≡ remove entries i

@@ -1,5 +1,6 @@
 -- What a link tells: the connections ahead, and those that were handed back.
-use Rattle.std.specs.Prelude.{ℕ, ◌≡◌, ◌+◌, List, [], ◌∷◌, ◌++◌, Option, Some, Result, MatchResult, MatchOption}
+use Rattle.std.specs.Prelude.{ℕ, ◌≡◌, ◌+◌, List, [], ◌∷◌, ◌++◌, Option, Some, Result, MatchResult}
+use Rattle.std.specs.Prelude.{MatchOption}
 use Rattle.base_terms.specs.declared.failed.Failed.{Failed}
 use Rattle.io_edge.specs.Intake.{Intake}
 use Rattle.io_edge.specs.Outlet.{Outlet}
@@ -34,15 +35,18 @@ pub record LinkState : Type 0 where
 
 -- a connection as it begins: nothing given, its whole input left, nothing put
 pub record Begins (source : Intake) (sink : Outlet) (script : Script) : Type 0 where
-  pub source_is : source ≡ record { given = Some []; left = Some script.input; faults = script.in_faults }
+  pub source_is : source
+      ≡ record { given = Some []; left = Some script.input; faults = script.in_faults }
   pub sink_is : sink ≡ record { had = Some []; held_back = []; faults = script.out_faults }
 
 -- the next connection is the first one ahead; where none is given nothing changes
 abbrev pub Gives : {In Out : Type 0} → (In → Intake) → (Out → Outlet) → LinkState → LinkState →
     Result (Option (In × Out)) Failed → Type 0
 Gives intake outlet old new result = (story : Story) → old.story ≡ Some story → MatchResult result
-    (λ connection. MatchOption connection (new.story ≡ Some story) (λ c. (script : Script) × (rest : List Script)
-    × (story.ahead ≡ script ∷ rest) × (new.story ≡ Some (record { ahead = rest; handed = story.handed }))
+    (λ connection. MatchOption connection (new.story ≡ Some story)
+    (λ c. (script : Script) × (rest : List Script)
+    × (story.ahead ≡ script ∷ rest)
+    × (new.story ≡ Some (record { ahead = rest; handed = story.handed }))
     × Begins (intake c.0) (outlet c.1) script))
     (λ _. new.story ≡ Some story)
 
@@ -59,7 +63,8 @@ pub record Has (bound lent : ℕ) (link : LinkState) : Type 0 where
 -- where one is given there is one fewer to come, and one more is lent
 abbrev pub CountsGiven : {C : Type 0} → LinkState → LinkState → Result (Option C) Failed → Type 0
 CountsGiven old new result = MatchResult result
-    (λ given. MatchOption given (Has old.bound old.lent new) (λ _. (new.bound + 1 ≡ old.bound) × (new.lent ≡ old.lent + 1)))
+    (λ given. MatchOption given (Has old.bound old.lent new)
+    (λ _. (new.bound + 1 ≡ old.bound) × (new.lent ≡ old.lent + 1)))
     (λ _. Has old.bound old.lent new)
 
 -- a connection is handed back behind those before

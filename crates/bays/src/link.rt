@@ -24,7 +24,8 @@ pub trait Link {
     /// Takes a connection back when its session has ended. It takes no memory.
     fn done(&mut self, source: Self::In, sink: Self::Out)
         requires { 0 < (state self.old).lent }
-        ensures told { TakesBack (Self.In.intake source) (Self.Out.outlet sink) (state self.old) (state self.new) }
+        ensures told { TakesBack (Self.In.intake source) (Self.Out.outlet sink) (state self.old)
+            (state self.new) }
         ensures bound { (state self.new).bound ≡ (state self.old).bound }
         ensures lent { (state self.new).lent + 1 ≡ (state self.old).lent }
         ensures faults { (state self.new).faults ≡ (state self.old).faults };

@@ -1,11 +1,16 @@
-ghost use Rattle.std.specs.Prelude.{◌≡◌, ℕ, List, ◌<◌, ◌≤◌, ◌⊎◌, ◌↔◌, [], length, map, take, drop, slice_index_or, Some, true, false, not, is_some, IsTrue, IfOk, IfErr, IfSome, OnOk, OnErr, IsErr, IsErrOf, Contains, MatchOption};
+ghost use Rattle.std.specs.Prelude.{◌≡◌, ℕ, List, ◌<◌, ◌≤◌, ◌⊎◌, ◌↔◌, [], length, map, take, drop};
+ghost use Rattle.std.specs.Prelude.{slice_index_or, Some, true, false, not, is_some, IsTrue, IfOk};
+ghost use Rattle.std.specs.Prelude.{IfErr, IfSome, OnOk, OnErr, IsErr, IsErrOf, Contains};
+ghost use Rattle.std.specs.Prelude.{MatchOption};
 ghost use Rattle.std.specs.String.{string_bytes};
 ghost use Rattle.std.specs.Str.{bytes_eq};
 ghost use Rattle.io_edge.specs.FaultPlan.{fresh_plan, next_plan};
 ghost use Rattle.sector_disk.specs.Geometry.{IsAtom};
 ghost use Rattle.sector_disk.specs.Mem.{atom_of};
-ghost use Rattle.bays.specs.Bays.{AfterDisk, AfterLinks, AreBounded, AreFresh, HasBayCause, LeavesAll, share};
-ghost use Rattle.bays.specs.Memory.{Line, AreDealt, HaveShares, IsIdle, fails_of, has_disk, holdings_of, inputs_of, is_failed, link_state, new_line};
+ghost use Rattle.bays.specs.Bays.{AfterDisk, AfterLinks, AreBounded, AreFresh, HasBayCause};
+ghost use Rattle.bays.specs.Bays.{LeavesAll, share};
+ghost use Rattle.bays.specs.Memory.{Line, AreDealt, HaveShares, IsIdle, fails_of, has_disk};
+ghost use Rattle.bays.specs.Memory.{holdings_of, inputs_of, is_failed, link_state, new_line};
 ghost use Rattle.bays.specs.Names.{StandsAt, named, without};
 ghost use Rattle.std.specs.declared.alloc.Global.{Global};
 ghost use Rattle.std.specs.declared.string.String.{String};
@@ -68,7 +73,8 @@ impl MemBay {
         ensures keys { result.keys ≡ keys.items }
         ensures address { result.address ≡ string_bytes address }
         ensures connections { result.connections ≡ scripts.items }
-        ensures plan { result.plan ≡ fresh_plan (slice_index_or (map (λ f. f.items) fails.items) 0 []) }
+        ensures plan { result.plan ≡ fresh_plan
+            (slice_index_or (map (λ f. f.items) fails.items) 0 []) }
         ensures link_fails { result.link_fails ≡ drop 1 (map (λ f. f.items) fails.items) }
     {
         let mut link_fails = fails;
@@ -101,7 +107,8 @@ impl MemBay {
     fn empty_links(&self, alloc: Global, workers: u32) -> Result<Vec<MemLink>, AllocError>
         ensures count { IfOk result (λ links. length links.items ≡ workers) }
         ensures empty { IfOk result (λ links. (k : ℕ) (d : Line) → k < workers →
-            slice_index_or links.items k d ≡ new_line [] (length self.now.connections) (fails_of self.now.link_fails k)) }
+            slice_index_or links.items k d ≡ new_line [] (length self.now.connections)
+            (fails_of self.now.link_fails k)) }
     {
         let mut links = Vec::with_capacity(alloc, workers as usize)?;
         for worker in 0..workers as usize {
@@ -116,7 +123,8 @@ impl MemBay {
 fn find_disk(disks: &[(String, MemDisk)], name: &str, atom: u32) -> Option<usize>
     ensures variant { is_some result ≡ has_disk name.now atom disks.now }
     ensures stands { IfSome result (λ i. StandsAt name.now disks.now i) }
-    ensures atom { IfSome result (λ i. (d : String Global × MemDisk) → atom_of (slice_index_or disks.now i d).1 ≡ atom) }
+    ensures atom { IfSome result
+        (λ i. (d : String Global × MemDisk) → atom_of (slice_index_or disks.now i d).1 ≡ atom) }
 {
     let i = find_name(disks, name)?;
     if disks[i].1.atom() == atom {
@@ -129,7 +137,8 @@ fn find_disk(disks: &[(String, MemDisk)], name: &str, atom: u32) -> Option<usize
 /// Deals the connections out, each to the link of its number.
 fn deal(connections: &mut Vec<(ListSource, ListSink)>, links: &mut [MemLink])
     requires some { 0 < length links.old }
-    requires idle { (k : ℕ) (d : Line) → k < length links.old → IsIdle (length connections.old.items) (slice_index_or links.old k d) }
+    requires idle { (k : ℕ) (d : Line) → k < length links.old →
+        IsIdle (length connections.old.items) (slice_index_or links.old k d) }
     ensures empty { connections.new.items ≡ [] }
     ensures count { length links.new ≡ length links.old }
     ensures dealt { HaveShares connections.old.items 0 links.old links.new }
@@ -147,19 +156,34 @@ impl Bay for MemBay {
 
     ghost holdings = { holdings_of };
 
+    ghost asks_disk = { λ _ _ _ _ _. Unit {0} };
+
+    ghost asks_key = { λ _ _ _ _. Unit {0} };
+
+    ghost asks_links = { λ _ _ _ _ _ _. Unit {0} };
+
     /// Gives each disk out once. Fails exactly where the call's number is one of those that are to
     /// fail, where there is no disk of that name, or no more, and where it has another atom.
     fn disk(&mut self, _alloc: Global, name: &str, atom: u32) -> Result<MemDisk, BayFault>
         requires { IsAtom atom }
         ensures atom { IfOk result (λ disk. atom_of disk ≡ atom) }
-        ensures told { IfOk result (λ disk. (kept : MemDisk) → named name.now self.old.disks ≡ Some kept → disk ≡ kept) }
+        ensures told { IfOk result
+            (λ disk. (kept : MemDisk) → named name.now self.old.disks ≡ Some kept → disk ≡ kept) }
         ensures leaves { AfterDisk name.now (holdings_of self.old) (holdings_of self.new) result }
         ensures cause { HasBayCause self.old.plan.faults self.new.plan.faults result }
-        ensures exact { IsErr result ↔ (IsTrue (not (has_disk name.now atom self.old.disks)) ⊎ Contains self.old.plan.fails self.old.plan.calls) }
+        ensures exact { IsErr result ↔
+            (IsTrue (not (has_disk name.now atom self.old.disks))
+            ⊎ Contains self.old.plan.fails self.old.plan.calls) }
         ensures is { IfOk result (λ disk. named name.now self.old.disks ≡ Some disk) }
-        ensures takes { OnOk result (self.new ≡ record self.old { disks = without name.now self.old.disks; plan = next_plan self.old.plan false }) }
+        ensures takes { OnOk result
+            (self.new ≡ record self.old {
+              disks = without name.now self.old.disks;
+              plan =
+                  next_plan self.old.plan false;
+            }) }
         ensures failed { IfErr result (λ fault. fault ≡ BayFault.Failed) }
-        ensures fails { OnErr result (self.new ≡ record self.old { plan = next_plan self.old.plan true }) }
+        ensures fails { OnErr result
+            (self.new ≡ record self.old { plan = next_plan self.old.plan true }) }
     {
         let place = find_disk(self.disks.as_slice(), name, atom);
         if self.plan.is_failing(place.is_none()) {
@@ -170,15 +194,22 @@ impl Bay for MemBay {
         Ok(disk)
     }
 
-    /// Fails exactly where the call's number is one of those that are to fail, and where there is no
-    /// key file of that name.
+    /// Fails exactly where the call's number is one of those that are to fail, and where there is
+    /// no key file of that name.
     fn key(&mut self, alloc: Global, name: &str) -> Result<Bytes, BayFault>
-        ensures told { IfOk result (λ bytes. (whole : List ℕ) → named name.now self.old.keys ≡ Some whole → bytes ≡ take 513 whole) }
+        ensures told { IfOk result
+            (λ bytes. (whole : List ℕ) → named name.now self.old.keys ≡ Some whole →
+            bytes ≡ take 513 whole) }
         ensures leaves { LeavesAll (holdings_of self.old) (holdings_of self.new) }
         ensures cause { HasBayCause self.old.plan.faults self.new.plan.faults result }
-        ensures exact { IsErrOf result BayFault.Failed ↔ (IsTrue (not (is_some (named name.now self.old.keys))) ⊎ Contains self.old.plan.fails self.old.plan.calls) }
-        ensures bytes { IfOk result (λ bytes. MatchOption (named name.now self.old.keys) ⊥ (λ whole. bytes ≡ take 513 whole)) }
-        ensures counts { self.new ≡ record self.old { plan = next_plan self.old.plan (is_failed result) } }
+        ensures exact { IsErrOf result BayFault.Failed ↔
+            (IsTrue (not (is_some (named name.now self.old.keys)))
+            ⊎ Contains self.old.plan.fails self.old.plan.calls) }
+        ensures bytes { IfOk result
+            (λ bytes. MatchOption (named name.now self.old.keys) ⊥
+            (λ whole. bytes ≡ take 513 whole)) }
+        ensures counts { self.new
+            ≡ record self.old { plan = next_plan self.old.plan (is_failed result) } }
     {
         let place = find_name(self.keys.as_slice(), name);
         if self.plan.is_failing(place.is_none()) {
@@ -192,8 +223,8 @@ impl Bay for MemBay {
         Ok(Bytes::new(bytes))
     }
 
-    /// Fails exactly where the call's number is one of those that are to fail, and where the address
-    /// is another one. The connections from number `sessions` on are dropped.
+    /// Fails exactly where the call's number is one of those that are to fail, and where the
+    /// address is another one. The connections from number `sessions` on are dropped.
     fn links(
         &mut self,
         alloc: Global,
@@ -203,14 +234,22 @@ impl Bay for MemBay {
     ) -> Result<Vec<MemLink>, BayFault>
         requires { 0 < workers }
         ensures count { IfOk result (λ links. length links.items ≡ workers) }
-        ensures fresh { IfOk result (λ links. AreFresh link_state ((holdings_of self.old).inputs address.now) workers sessions links.items) }
+        ensures fresh { IfOk result
+            (λ links. AreFresh link_state ((holdings_of self.old).inputs address.now) workers
+            sessions links.items) }
         ensures bound { IfOk result (λ links. AreBounded link_state workers sessions links.items) }
         ensures leaves { AfterLinks address.now (holdings_of self.old) (holdings_of self.new) result }
         ensures cause { HasBayCause self.old.plan.faults self.new.plan.faults result }
-        ensures exact { IsErrOf result BayFault.Failed ↔ (IsTrue (not (bytes_eq address.now self.old.address)) ⊎ Contains self.old.plan.fails self.old.plan.calls) }
-        ensures dealt { IfOk result (λ links. AreDealt self.old.connections self.old.link_fails workers sessions links.items) }
-        ensures gives { OnOk result (self.new ≡ record self.old { connections = []; plan = next_plan self.old.plan false }) }
-        ensures fails { IsErr result → self.new ≡ record self.old { plan = next_plan self.old.plan (is_failed result) } }
+        ensures exact { IsErrOf result BayFault.Failed ↔
+            (IsTrue (not (bytes_eq address.now self.old.address))
+            ⊎ Contains self.old.plan.fails self.old.plan.calls) }
+        ensures dealt { IfOk result
+            (λ links. AreDealt self.old.connections self.old.link_fails workers sessions
+            links.items) }
+        ensures gives { OnOk result
+            (self.new ≡ record self.old { connections = []; plan = next_plan self.old.plan false }) }
+        ensures fails { IsErr result →
+            self.new ≡ record self.old { plan = next_plan self.old.plan (is_failed result) } }
     {
         if self.plan.is_failing(address != self.address.as_str()) {
             return Err(BayFault::Failed);

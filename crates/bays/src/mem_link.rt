@@ -1,4 +1,6 @@
-ghost use Rattle.std.specs.Prelude.{◌≡◌, ℕ, ◌+◌, ◌-◌, ◌<◌, ◌↔◌, [], ◌∷◌, ◌++◌, length, option_to_list, Some, false, true, IfNone, IfOk, IfSome, MatchResult, MatchOption, OnErr, IsErr, Contains};
+ghost use Rattle.std.specs.Prelude.{◌≡◌, ℕ, ◌+◌, ◌-◌, ◌<◌, ◌↔◌, [], ◌∷◌, ◌++◌, length};
+ghost use Rattle.std.specs.Prelude.{option_to_list, Some, false, true, IfNone, IfOk, IfSome};
+ghost use Rattle.std.specs.Prelude.{MatchResult, MatchOption, OnErr, IsErr, Contains};
 ghost use Rattle.base_terms.specs.Causes.{HasCause};
 ghost use Rattle.io_edge.specs.FaultPlan.{fresh_plan, next_plan};
 ghost use Rattle.io_edge.specs.Memory.{intake_of, outlet_of};
@@ -30,7 +32,13 @@ impl Model for MemLink {
 
     ghost Value = { Line };
 
-    ghost view = { λ l. record { ahead = l.ahead.items; lent = l.lent; handed = l.handed.items; room = l.room; plan = l.plan } };
+    ghost view = { λ l. record {
+      ahead = l.ahead.items;
+      lent = l.lent;
+      handed = l.handed.items;
+      room = l.room;
+      plan = l.plan;
+    } };
 
     ghost invariant = { λ l. (length l.ahead.items + l.lent + length l.handed.items ≤ l.room)
         × (l.room ≤ deque_capacity l.ahead) × (l.room ≤ vec_capacity l.handed) };
@@ -39,7 +47,15 @@ impl Model for MemLink {
 impl MemLink {
     /// A link with room for so many connections, whose memory it takes now, and none ahead.
     pub(crate) fn new(alloc: Global, room: usize, fails: &[u64]) -> Result<MemLink, AllocError>
-        ensures { IfOk result (λ link. link ≡ record { ahead = []; lent = 0; handed = []; room = room; plan = fresh_plan fails.now }) }
+        ensures { IfOk result
+            (λ link. link ≡ record {
+              ahead = [];
+              lent = 0;
+              handed = [];
+              room = room;
+              plan =
+                  fresh_plan fails.now;
+            }) }
     {
         Ok(MemLink {
             ahead: VecDeque::with_capacity(alloc, room)?,
@@ -81,14 +97,16 @@ impl Link for MemLink {
         ensures counts { CountsGiven (link_state self.old) (link_state self.new) result }
         ensures cause { HasCause self.old.plan.faults self.new.plan.faults result }
         ensures exact { IsErr result ↔ Contains self.old.plan.fails self.old.plan.calls }
-        ensures first { IfOk result (λ given. self.old.ahead ≡ option_to_list given ++ self.new.ahead) }
+        ensures first { IfOk result
+            (λ given. self.old.ahead ≡ option_to_list given ++ self.new.ahead) }
         ensures ends { IfOk result (λ given. IfNone given (self.old.ahead ≡ [])) }
         ensures lends { IfOk result (λ given. self.new ≡ record self.old {
           ahead = self.new.ahead;
           lent = self.old.lent + length (option_to_list given);
           plan = next_plan self.old.plan false;
         }) }
-        ensures fails { OnErr result (self.new ≡ record self.old { plan = next_plan self.old.plan true }) }
+        ensures fails { OnErr result
+            (self.new ≡ record self.old { plan = next_plan self.old.plan true }) }
     {
         if self.plan.is_failing(false) {
             return Err(Failed);
@@ -103,11 +121,17 @@ impl Link for MemLink {
     /// Keeps the connection behind those that were handed back before.
     fn done(&mut self, source: ListSource, sink: ListSink)
         requires { 0 < self.old.lent }
-        ensures told { TakesBack (intake_of source) (outlet_of sink) (link_state self.old) (link_state self.new) }
+        ensures told { TakesBack (intake_of source) (outlet_of sink) (link_state self.old)
+            (link_state self.new) }
         ensures bound { length self.new.ahead ≡ length self.old.ahead }
         ensures lent { self.new.lent + 1 ≡ self.old.lent }
         ensures faults { self.new.plan.faults ≡ self.old.plan.faults }
-        ensures takes { self.new ≡ record self.old { lent = self.old.lent - 1; handed = self.old.handed ++ (source, sink) ∷ [] } }
+        ensures takes { self.new
+            ≡ record self.old {
+              lent = self.old.lent - 1;
+              handed =
+                  self.old.handed ++ (source, sink) ∷ [];
+            } }
     {
         self.handed.push_reserved((source, sink));
         self.lent -= 1;

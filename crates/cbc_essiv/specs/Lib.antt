@@ -1,2 +1,3 @@
 pub mod Cbc
 pub mod Laws
+pub mod Rows

@@ -15,3 +15,4 @@ pub use mode::CbcEssiv;
 
 mod chain;
 mod mode;
+mod side_by_side;

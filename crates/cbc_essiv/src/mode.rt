@@ -4,6 +4,7 @@ ghost use Rattle.std.specs.Prelude.{◌≡◌};
 ghost use Rattle.cbc_essiv.specs.Cbc.{essiv, cbc_essiv_sealed, cbc_essiv_opened};
 
 use crate::chain::{SealsChain, UnsealsChain, seal_chain, unseal_chain};
+use crate::side_by_side::seal_eights;
 use cipher_blocks::{change_sectors, number_block};
 use cipher_laws::{BlockCipher, SectorMode};
 
@@ -53,7 +54,15 @@ impl<B: BlockCipher> SectorMode for CbcEssiv<B> {
     }
 
     fn seal_sectors(&self, size: usize, first: u64, bytes: &mut [u8]) {
-        change_sectors(&SealsChain(&self.body), &self.iv, size, first, bytes);
+        let number = seal_eights(&self.body, &self.iv, size, first, bytes);
+        let done = size * (8 * (bytes.len() / size / 8));
+        change_sectors(
+            &SealsChain(&self.body),
+            &self.iv,
+            size,
+            number,
+            &mut bytes[done..],
+        );
     }
 
     fn unseal_sectors(&self, size: usize, first: u64, bytes: &mut [u8]) {

@@ -87,7 +87,7 @@ fn ask<R: Threads + Wait + Sync>(
     mut pass: Pass<Adder>,
     turns: u32,
 ) -> u64
-    requires { IsPassOf cell.now.table.shared.table_id pass }
+    requires { IsPassOf cell.now pass }
 {
     let mut last = 0;
     for _ in 0..turns {
@@ -105,16 +105,16 @@ fn ask_in_two<R: Threads + Wait + Sync>(
     mut pass: Pass<Adder>,
     turns: u32,
 ) -> u64
-    requires { IsPassOf cell.now.table.shared.table_id pass }
+    requires { IsPassOf cell.now pass }
 {
     let other = cell.split(&mut pass);
     let (one, two) = join(
         rt,
         || -> u64
-            requires { IsSync R.row × IsPassOf cell.now.table.shared.table_id pass }
+            requires { IsSync R.row × IsPassOf cell.now pass }
         { ask(rt, cell, pass, turns) },
         || -> u64
-            requires { IsSync R.row × IsPassOf cell.now.table.shared.table_id other }
+            requires { IsSync R.row × IsPassOf cell.now other }
         { ask(rt, cell, other, turns) },
     );
     one.max(two)
@@ -127,16 +127,16 @@ fn ask_in_four<R: Threads + Wait + Sync>(
     mut pass: Pass<Adder>,
     turns: u32,
 ) -> u64
-    requires { IsPassOf cell.now.table.shared.table_id pass }
+    requires { IsPassOf cell.now pass }
 {
     let other = cell.split(&mut pass);
     let (one, two) = join(
         rt,
         || -> u64
-            requires { IsSync R.row × IsPassOf cell.now.table.shared.table_id pass }
+            requires { IsSync R.row × IsPassOf cell.now pass }
         { ask_in_two(rt, cell, pass, turns) },
         || -> u64
-            requires { IsSync R.row × IsPassOf cell.now.table.shared.table_id other }
+            requires { IsSync R.row × IsPassOf cell.now other }
         { ask_in_two(rt, cell, other, turns) },
     );
     one.max(two)
@@ -172,7 +172,7 @@ fn sleep_often<C: Clock + Drop, R: Threads + Wait + Sync>(
     mut pass: Pass<Sleeper<C>>,
     turns: u32,
 )
-    requires { IsPassOf cell.now.table.shared.table_id pass }
+    requires { IsPassOf cell.now pass }
 {
     for _ in 0..turns {
         let _ = cell.turn(rt, &mut pass, ());
@@ -180,7 +180,7 @@ fn sleep_often<C: Clock + Drop, R: Threads + Wait + Sync>(
 }
 
 fn make<R: AllocGlobal>(rt: &R) -> io::Result<(Cell<Adder>, Pass<Adder>)>
-    ensures { IfOk result (λ made. IsPassOf made.0.table.shared.table_id made.1) }
+    ensures { IfOk result (λ made. IsPassOf made.0 made.1) }
 {
     match Cell::new(rt.alloc(), Adder { sum: 0 }, LIMIT) {
         Ok(made) => Ok(made),
@@ -238,10 +238,10 @@ fn measure_sleep<R: Runtime + AllocGlobal + Threads + Wait + Sync + Send>(
     join(
         rt,
         ||
-            requires { IsSync R.row × IsPassOf cell.table.shared.table_id pass }
+            requires { IsSync R.row × IsPassOf cell pass }
         { sleep_often(rt, &cell, pass, turns) },
         ||
-            requires { IsSync R.row × IsPassOf cell.table.shared.table_id other }
+            requires { IsSync R.row × IsPassOf cell other }
         { sleep_often(rt, &cell, other, turns) },
     );
     let seconds = start.elapsed(rt)?.as_secs_f64();

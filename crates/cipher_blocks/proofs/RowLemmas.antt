@@ -1,28 +1,8 @@
--- Where the sectors of a row stand, and the numbers that they have.
-use Rattle.std.proofs.Common.{◌++◌, length, take, drop, refl, ◌≡◌, ℕ, List, ◌+◌, ◌-◌, ◌*◌, ◌/◌, ◌%◌, ◌<◌, ◌≤◌, ◌∙◌, ap, sym, arith}
+-- Loops over the sectors of a row.
+use Rattle.std.proofs.Common.{◌++◌, length, take, drop, refl, ◌≡◌, ℕ, List, ◌+◌, ◌-◌, ◌*◌, ◌/◌, ◌<◌, ◌≤◌, arith}
 use Rattle.cipher_blocks.specs.UnderWay.{IsUnderWay}
-use Rattle.cipher_blocks.proofs.UnderWayLemmas.{under_way_first, under_way_more, under_way_last}
+use Rattle.cipher_blocks.specs.UnderWayLaws.{under_way_first, under_way_more, under_way_last}
 use Rattle.cipher_laws.specs.Sectors.{by_sectors}
-use Rattle.std.proofs.Math.Nat.{mod-add-div', div-mul-le_self, mul-le-mul_right, mul_assoc}
-
--- whole sectors are as many bytes
-pub whole_sectors : (size : ℕ) (bytes : List ℕ) → 0 < size → length bytes % size ≡ 0 → length bytes ≡ length bytes / size * size
-whole_sectors size bytes some whole = let parts : length bytes % size + length bytes / size * size ≡ length bytes = mod-add-div' (length bytes) size in omega arith
-
--- a sector with those before it lies within the row
-pub sectors_within : (size long i : ℕ) → i < long / size → size * (i + 1) ≤ long
-sectors_within size long i inside =
-    let le : (i + 1) * size ≤ long / size * size = mul-le-mul_right size (omega arith) in
-    let all : long / size * size ≤ long = div-mul-le_self long size in
-    omega arith
-
--- so its number and those before it come to no more than the row's units of 512 bytes
-pub units_within : (size long i : ℕ) → size % 512 ≡ 0 → i < long / size → (i + 1) * (size / 512) ≤ long / 512
-units_within size long i units inside =
-    let size_is : size ≡ size / 512 * 512 = omega arith in
-    let within : size * (i + 1) ≤ long = sectors_within size long i inside in
-    let product : (i + 1) * size ≡ (i + 1) * (size / 512) * 512 = ap (λ (k : ℕ). (i + 1) * k) size_is ∙ sym (mul_assoc (i + 1) (size / 512) 512) in
-    omega arith
 
 -- a loop over a row: the sectors before i of n are done, and the others are worked on from `number`
 pub record IsRowUnderWay (change : ℕ → List ℕ → List ℕ) (size first number i n : ℕ) (old bytes : List ℕ) : Type 0 where

@@ -1,6 +1,6 @@
 // A cipher turned round.
 
-use crate::{BlockCipher, EightBlocks, SectorCipher, SectorMode};
+use crate::{BlockCipher, EightBlocks, SectorCipher};
 
 /// The inverse of a cipher: what seals for the one unseals for the other. A mode or a loop that
 /// works alike in both directions is written once, and called with the cipher or its inverse.
@@ -37,40 +37,6 @@ impl<C: BlockCipher> BlockCipher for Inverse<'_, C> {
     ghost seal_undoes_unseal = { λ it. C.unseal_undoes_seal it.0.now };
 }
 
-impl<C: SectorMode> SectorMode for Inverse<'_, C> {
-    ghost sealed = { λ it. C.opened it.0.now };
-
-    ghost opened = { λ it. C.sealed it.0.now };
-
-    fn seal_sector(&self, number: u64, sector: &mut [u8]) {
-        self.0.unseal_sector(number, sector);
-    }
-
-    fn unseal_sector(&self, number: u64, sector: &mut [u8]) {
-        self.0.seal_sector(number, sector);
-    }
-
-    fn seal_sectors(&self, size: usize, first: u64, bytes: &mut [u8]) {
-        self.0.unseal_sectors(size, first, bytes);
-    }
-
-    fn unseal_sectors(&self, size: usize, first: u64, bytes: &mut [u8]) {
-        self.0.seal_sectors(size, first, bytes);
-    }
-
-    ghost sealed_length = { λ it. C.opened_length it.0.now };
-
-    ghost opened_length = { λ it. C.sealed_length it.0.now };
-
-    ghost sealed_bytes = { λ it. C.opened_bytes it.0.now };
-
-    ghost opened_bytes = { λ it. C.sealed_bytes it.0.now };
-
-    ghost unseal_undoes_seal = { λ it. C.seal_undoes_unseal it.0.now };
-
-    ghost seal_undoes_unseal = { λ it. C.unseal_undoes_seal it.0.now };
-}
-
 impl<C: SectorCipher> SectorCipher for Inverse<'_, C> {
     ghost sector = { λ it. C.sector it.0.now };
 
@@ -87,6 +53,8 @@ impl<C: SectorCipher> SectorCipher for Inverse<'_, C> {
     }
 
     ghost some_sector = { λ it. C.some_sector it.0.now };
+
+    ghost sector_units = { λ it. C.sector_units it.0.now };
 
     ghost sealed_length = { λ it. C.opened_length it.0.now };
 

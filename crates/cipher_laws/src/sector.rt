@@ -7,7 +7,7 @@ ghost use Rattle.cipher_laws.specs.Laws.{KeepsLengths, GivesBytes, UndoesSectors
 /// have the IV number `first`. Each further 512 bytes raise the number by one, whatever the size
 /// of a sector.
 pub trait SectorCipher {
-    // bytes of a sector
+    // bytes of a sector, a multiple of 512
     ghost sector: { Self → ℕ };
 
     // what bytes become when they are sealed, and unsealed, under the IV number of their first 512
@@ -29,6 +29,8 @@ pub trait SectorCipher {
         ensures { bytes.new ≡ opened self.now first bytes.old };
 
     ghost some_sector: { (c : Self) → 0 < sector c };
+
+    ghost sector_units: { (c : Self) → sector c % 512 ≡ 0 };
 
     ghost sealed_length: { (c : Self) → KeepsLengths (sector c) (sealed c) };
 

@@ -12,7 +12,8 @@ pub trait SectorMode {
 
     ghost opened: { Self → ℕ → List ℕ → List ℕ };
 
-    /// Encrypts the sector where it lies. Its length is a multiple of 16 bytes.
+    /// Encrypts the sector where it lies. Its length is a multiple of 16 bytes. What works on disks
+    /// calls `seal_sectors`; this is for a sector of another length, as published vectors have.
     fn seal_sector(&self, number: u64, sector: &mut [u8])
         requires { length sector.old % 16 ≡ 0 }
         ensures { sector.new ≡ sealed self.now number sector.old };

@@ -1,10 +1,12 @@
-ghost use Rattle.std.specs.Prelude.{ℕ, List, Result};
+ghost use Rattle.std.specs.Prelude.{ℕ, List, Result, IfOk, length, ◌≤◌};
 ghost use Rattle.std.specs.declared.io.Error.{Error};
 ghost use Rattle.file_disk.specs.Opening.{OpensLocked};
 
 use crate::PositionedFile;
+use base_terms::Bytes;
+use std::alloc::Global;
 use std::fs::{File, TryLockError};
-use std::io::{self, ErrorKind, Seek, SeekFrom};
+use std::io::{self, ErrorKind, Read, Seek, SeekFrom};
 
 /// A file that can be locked and measured. What its calls do is a matter of the file.
 pub trait LockableFile: PositionedFile {
@@ -35,6 +37,15 @@ pub trait FileSystem {
     /// Opens the file or block device of that name for reading and writing.
     fn open_file(&self, path: &str) -> io::Result<Self::Opened>
         ensures { opens self.now path.now result };
+
+    /// What reading the front of the file of a name gives, of at most so many bytes.
+    ghost reads_front: { Self → List ℕ → ℕ → Result (List ℕ) Error → Type 0 };
+
+    /// The first bytes of the file of that name: all, or so many where there are more. An error of
+    /// the kind `OutOfMemory` where memory is wanted.
+    fn read_front(&self, alloc: Global, path: &str, most: u32) -> io::Result<Bytes>
+        ensures within { IfOk result (λ bytes. length bytes ≤ most) }
+        ensures reads { reads_front self.now path.now most result };
 }
 
 impl LockableFile for File {
@@ -66,6 +77,16 @@ impl FileSystem for HostRuntime {
 
     fn open_file(&self, path: &str) -> io::Result<File> {
         File::options().read(true).write(true).open(self, path)
+    }
+
+    ghost reads_front = { λ _ _ _ _. Unit {0} };
+
+    fn read_front(&self, alloc: Global, path: &str, most: u32) -> io::Result<Bytes> {
+        let file = File::open(self, path)?;
+        let mut bytes = Vec::with_capacity(alloc, most as usize)?;
+        file.take(u64::from(most)).read_to_end(&mut bytes)?;
+        bytes.truncate(most as usize);
+        Ok(Bytes::new(bytes))
     }
 }
 

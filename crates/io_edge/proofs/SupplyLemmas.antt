@@ -1,4 +1,5 @@
-use Rattle.std.proofs.Common.{◌≡◌, ℕ, ◌+◌, ◌<◌, ◌%◌, List, length, slice_index, slice_set, ap, ◌∙◌, add_assoc, arith, Ok, Some}
+use Rattle.std.proofs.Common.{◌≡◌, ℕ, ◌+◌, ◌<◌, ◌%◌, List, length, slice_index, slice_set, ap, ◌∙◌}
+use Rattle.std.proofs.Common.{add_assoc, arith, Ok, Some}
 use Rattle.std.proofs.lemmas.Grind.{common_steps}
 use Rattle.std.proofs.Math.Nat.{mod-add-mod}
 use Rattle.io_edge.specs.FaultPlan.{Plan}

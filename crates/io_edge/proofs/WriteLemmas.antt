@@ -1,11 +1,15 @@
 -- What writes took of what was held back and of a piece behind it.
-use Rattle.std.proofs.Common.{◌≡◌, ◌∙◌, ℕ, ◌+◌, ◌-◌, ◌≤◌, Bool, true, false, List, [], ◌∷◌, ◌++◌, length, take, drop, is_ok, ◌^◌, inl, inr, nat_le, Result, Ok, Err, refl, sym, ap, subst, append-nil, append_assoc, arith}
+use Rattle.std.proofs.Common.{◌≡◌, ◌∙◌, ℕ, ◌+◌, ◌-◌, ◌≤◌, Bool, true, false, List, [], ◌∷◌, ◌++◌}
+use Rattle.std.proofs.Common.{length, take, drop, is_ok, ◌^◌, inl, inr, nat_le, Result, Ok, Err}
+use Rattle.std.proofs.Common.{refl, sym, ap, subst, append-nil, append_assoc, arith}
 use Rattle.std.proofs.lemmas.Bool.{leb-true, leb-false}
-use Rattle.std.proofs.lemmas.List.{drop_all, take_all, length-drop, take-append-le, take-append-drop}
+use Rattle.std.proofs.lemmas.List.{drop_all, take_all, length-drop, take-append-le}
+use Rattle.std.proofs.lemmas.List.{take-append-drop}
 use Rattle.std.proofs.Math.Seq.{take-add, take-append-add}
 use Rattle.std.specs.declared.io.Error.{Error}
 use Rattle.io_edge.specs.Outlet.{HoldsBackRear, IsRear}
-use Rattle.io_edge.specs.Calls.{Written, Wrote, bytes_of, taken_of, IsRefusal, IsRefused, WritesSome, WritesThrough, FlushesThrough}
+use Rattle.io_edge.specs.Calls.{Written, Wrote, bytes_of, taken_of, IsRefusal, IsRefused}
+use Rattle.io_edge.specs.Calls.{WritesSome, WritesThrough, FlushesThrough}
 
 -- what stands of two texts behind their first n bytes, as far as the first one reaches
 pub front_and_rest : (n : ℕ) (held behind : List ℕ) →

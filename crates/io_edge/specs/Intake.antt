@@ -1,5 +1,6 @@
 -- What a source tells of itself, and what a take of it does.
-use Rattle.std.specs.Prelude.{ℕ, ◌≡◌, ◌≤◌, ◌⊎◌, List, [], ◌++◌, length, take, drop, Option, Some, Result, MatchResult}
+use Rattle.std.specs.Prelude.{ℕ, ◌≡◌, ◌≤◌, ◌⊎◌, List, [], ◌++◌, length, take, drop, Option, Some}
+use Rattle.std.specs.Prelude.{Result, MatchResult}
 use Rattle.base_terms.specs.declared.failed.Failed.{Failed}
 
 -- a source at a moment: all bytes that it gave and what is left of its input, where these are told,

@@ -1,5 +1,6 @@
 -- What a sink tells of itself, and what a put to it does.
-use Rattle.std.specs.Prelude.{ℕ, ◌≡◌, ◌≤◌, List, ◌++◌, length, take, Option, Some, Result, MatchResult}
+use Rattle.std.specs.Prelude.{ℕ, ◌≡◌, ◌≤◌, List, ◌++◌, length, take, Option, Some, Result}
+use Rattle.std.specs.Prelude.{MatchResult}
 use Rattle.base_terms.specs.declared.failed.Failed.{Failed}
 
 -- a sink at a moment: all bytes that it was put, where these are told; those of them that it holds

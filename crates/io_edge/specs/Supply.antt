@@ -1,5 +1,6 @@
 -- What seeds tell of themselves, and what a fill by them does.
-use Rattle.std.specs.Prelude.{ℕ, ◌≡◌, ◌+◌, ◌<◌, List, length, Option, Some, Result, MatchResult, OnOk, slice_index}
+use Rattle.std.specs.Prelude.{ℕ, ◌≡◌, ◌+◌, ◌<◌, List, length, Option, Some, Result, MatchResult}
+use Rattle.std.specs.Prelude.{OnOk, slice_index}
 use Rattle.base_terms.specs.declared.failed.Failed.{Failed}
 
 -- seeds at a moment: the byte to come at a place, counted from 0, where it is told, and how many

@@ -1,5 +1,8 @@
-ghost use Rattle.std.specs.Prelude.{◌≡◌, ◌++◌, ◌-◌, ◌≤◌, ℕ, List, [], Bool, drop, length, is_ok, IfOk, OnOk, Result, true, false, MatchBool, ◌⊎◌, vec_capacity};
+ghost use Rattle.std.specs.Prelude.{◌≡◌, ◌++◌, ◌-◌, ◌≤◌, ℕ, List, [], Bool, drop, length, is_ok};
+ghost use Rattle.std.specs.Prelude.{IfOk, IfErr, OnOk, Result, true, false, MatchBool, ◌⊎◌};
+ghost use Rattle.std.specs.Prelude.{vec_capacity};
 ghost use Rattle.std.specs.Io.{WritesAtMost};
+ghost use Rattle.std.specs.IoError.{error_kind};
 ghost use Rattle.std.specs.declared.io.Error.{Error};
 ghost use Rattle.io_edge.specs.Calls.{WritesSome, WritesThrough, FlushesThrough};
 ghost use Rattle.io_edge.specs.Outlet.{HoldsBackRear, IsRear};
@@ -44,6 +47,7 @@ impl<W: WritePair> GatheringWriter<W> {
     pub fn new(alloc: Global, capacity: usize, writer: W) -> io::Result<GatheringWriter<W>>
         ensures writer { IfOk result (λ g. g.writer ≡ writer) }
         ensures holds_nothing { IfOk result (λ g. g.held.items ≡ []) }
+        ensures err { IfErr result (λ e. error_kind e ≡ ErrorKind.OutOfMemory) }
     {
         let held = Vec::with_capacity(alloc, capacity)?;
         Ok(GatheringWriter { writer, held })

@@ -1,4 +1,5 @@
-ghost use Rattle.std.specs.Prelude.{◌≡◌, ◌≤◌, ℕ, List, length, None, Result, IfOk, MatchResult, Err};
+ghost use Rattle.std.specs.Prelude.{◌≡◌, ◌≤◌, ℕ, List, length, None, Result, IfOk, MatchResult};
+ghost use Rattle.std.specs.Prelude.{Err};
 ghost use Rattle.std.specs.Io.KnownBytes.{ReadConsumes};
 ghost use Rattle.std.specs.declared.io.Error.{Error};
 ghost use Rattle.base_terms.specs.Causes.{HasCause};

@@ -55,7 +55,8 @@ impl OutputStream for Stdout {
 pub type StdSink<W> = Counted<W>;
 
 impl<W: OutputStream> Sink for Counted<W> {
-    ghost outlet = { λ s. record { had = None; held_back = W.held_back s.inner; faults = s.faults } };
+    ghost outlet = { λ s.
+        record { had = None; held_back = W.held_back s.inner; faults = s.faults } };
 
     fn put(&mut self, bytes: &[u8]) -> Result<(), Failed>
         ensures holds { HoldsBackRear (W.held_back self.old.inner) (W.held_back self.new.inner)

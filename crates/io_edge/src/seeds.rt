@@ -1,4 +1,5 @@
-ghost use Rattle.std.specs.Prelude.{◌≡◌, ℕ, ◌+◌, ◌%◌, ◌<◌, ◌↔◌, length, slice_index, true, false, IfOk, OnErr, OnOk, IsErr, Contains};
+ghost use Rattle.std.specs.Prelude.{◌≡◌, ℕ, ◌+◌, ◌%◌, ◌<◌, ◌↔◌, length, slice_index, true, false};
+ghost use Rattle.std.specs.Prelude.{IfOk, OnErr, OnOk, IsErr, Contains};
 ghost use Rattle.base_terms.specs.Causes.{HasCause};
 ghost use Rattle.io_edge.specs.FaultPlan.{fresh_plan, next_plan};
 ghost use Rattle.io_edge.specs.Memory.{Seedlings, round_from, supply_of};

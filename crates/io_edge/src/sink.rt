@@ -1,4 +1,6 @@
-ghost use Rattle.std.specs.Prelude.{◌≡◌, ◌+◌, ◌≤◌, ◌<◌, ◌⊎◌, ◌↔◌, [], ◌++◌, length, drop, None, true, false, IfOk, OnOk, OnErr, IsErr, IsOk, Contains, vec_capacity};
+ghost use Rattle.std.specs.Prelude.{◌≡◌, ◌+◌, ◌≤◌, ◌<◌, ◌⊎◌, ◌↔◌, [], ◌++◌, length, drop, None};
+ghost use Rattle.std.specs.Prelude.{true, false, IfOk, OnOk, OnErr, IsErr, IsOk, Contains};
+ghost use Rattle.std.specs.Prelude.{vec_capacity};
 ghost use Rattle.base_terms.specs.Causes.{HasCause};
 ghost use Rattle.io_edge.specs.FaultPlan.{fresh_plan, next_plan};
 ghost use Rattle.io_edge.specs.Memory.{Output, outlet_of};

@@ -1,4 +1,5 @@
-ghost use Rattle.std.specs.Prelude.{◌≡◌, ◌≤◌, ◌<◌, ◌↔◌, [], length, take, drop, min, true, false, IfOk, OnOk, OnErr, IsErr, Contains};
+ghost use Rattle.std.specs.Prelude.{◌≡◌, ◌≤◌, ◌<◌, ◌↔◌, [], length, take, drop, min, true, false};
+ghost use Rattle.std.specs.Prelude.{IfOk, OnOk, OnErr, IsErr, Contains};
 ghost use Rattle.base_terms.specs.Causes.{HasCause};
 ghost use Rattle.io_edge.specs.FaultPlan.{fresh_plan, next_plan};
 ghost use Rattle.io_edge.specs.Intake.{Intake, TakesLeft, GaveMore};

@@ -1,15 +1,22 @@
 -- What is to be said of an input where a request is to come, as a function of the input.
-use Rattle.std.proofs.Common.{◌≡◌, ℕ, ◌+◌, ◌^◌, ◌<◌, ◌≤◌, ◌==◌, Bool, true, false, nat_lt, List, [], ◌++◌, Option, Some, None, length, take, drop, ap, ◌∙◌, sym, subst, arith, take_at, append_assoc, append-nil, length-append, ⊎_elim}
+use Rattle.std.proofs.Common.{◌≡◌, ℕ, ◌+◌, ◌^◌, ◌<◌, ◌≤◌, ◌==◌, Bool, true, false, nat_lt, List, []}
+use Rattle.std.proofs.Common.{◌++◌, Option, Some, None, length, take, drop, ap, ◌∙◌, sym, subst}
+use Rattle.std.proofs.Common.{arith, take_at, append_assoc, append-nil, length-append, ⊎_elim}
 use Rattle.std.proofs.lemmas.List.{drop_at}
 use Rattle.std.proofs.lemmas.Bool.{lt-ltb, le-ltb, eq-eqb, ne_eqb}
-use Rattle.std.proofs.lemmas.Nat.{from_be_bytes-to_be_bytes_2, from_be_bytes-to_be_bytes_4, from_be_bytes-to_be_bytes_8}
+use Rattle.std.proofs.lemmas.Nat.{from_be_bytes-to_be_bytes_2, from_be_bytes-to_be_bytes_4}
+use Rattle.std.proofs.lemmas.Nat.{from_be_bytes-to_be_bytes_8}
 use Rattle.std.specs.Int.{w16, w32, w64, from_be_bytes}
 use Rattle.plain_disk.specs.declared.operation.Op.{Op}
 use Rattle.nbd_session.specs.declared.ending.Ending.{Ending}
-use Rattle.nbd_session.specs.declared.ending.Ending.TheVariants.{Disconnected, Closed, Truncated, BadMagic, TooLong, TooMany, PortSpent, ReadFault, WriteFault, Memory}
+use Rattle.nbd_session.specs.declared.ending.Ending.TheVariants.{Disconnected, Closed, Truncated}
+use Rattle.nbd_session.specs.declared.ending.Ending.TheVariants.{BadMagic, TooLong, TooMany}
+use Rattle.nbd_session.specs.declared.ending.Ending.TheVariants.{PortSpent, ReadFault, WriteFault}
+use Rattle.nbd_session.specs.declared.ending.Ending.TheVariants.{Memory}
 use Rattle.nbd_session.specs.Grammar.{EndsRequests, IsCount}
 use Rattle.nbd_session.specs.Reading.{Asked, IsByInput}
-use Rattle.nbd_session.specs.Requests.{ending_of, data_length, operation_of, IsMessage, IsCutRequest, IsLastHead}
+use Rattle.nbd_session.specs.Requests.{ending_of, data_length, operation_of, IsMessage}
+use Rattle.nbd_session.specs.Requests.{IsCutRequest, IsLastHead}
 use Rattle.nbd_session.proofs.StreamLemmas.{Decision, asks, stops}
 use Rattle.nbd_session.proofs.DecidedOptions.{cut_of, cut-none, cut-some}
 use Rattle.nbd_wire.specs.declared.requests.CommandType.{CommandType}
@@ -34,7 +41,8 @@ head_in bytes = record {
 pub by_data : Bool → RequestHead → List ℕ → Decision Asked Ending
 by_data true head tail = stops (Truncated (28 + length tail)) (28 + length tail)
 by_data false head tail =
-    asks (record { cookie = head.cookie; asked = operation_of head (take (data_length head) tail) }) (28 + data_length head)
+    asks (record { cookie = head.cookie; asked = operation_of head (take (data_length head) tail) })
+    (28 + data_length head)
 
 pub by_ending : Option Ending → RequestHead → List ℕ → Decision Asked Ending
 by_ending None head tail = by_data (nat_lt (length tail) (data_length head)) head tail
@@ -62,34 +70,57 @@ decide-head : (n : ℕ) (head tail : List ℕ) → n < 2 ^ 32 → length head �
 unfolding decide by_count by_size
 decide-head n head tail fewer size =
     ap (λ b. by_count b (head ++ tail)) (lt-ltb n (2 ^ 32) fewer)
-    ∙ ap (λ b. by_size b (head ++ tail)) (le-ltb (length (head ++ tail)) 28 (omega (arith, length-append head tail)))
-    ∙ ap (λ h. by_magic (magic_in h == request_magic) h (drop 28 (head ++ tail))) (take_at head tail 28 size)
+    ∙ ap (λ b. by_size b (head ++ tail))
+    (le-ltb (length (head ++ tail)) 28 (omega (arith, length-append head tail)))
+    ∙ ap (λ h. by_magic (magic_in h == request_magic) h (drop 28 (head ++ tail)))
+    (take_at head tail 28 size)
     ∙ ap (λ t. by_magic (magic_in head == request_magic) head t) (drop_at head tail 28 size)
 
 -- an input that has no whole head
-decide-short : (n : ℕ) (all : List ℕ) → n < 2 ^ 32 → length all < 28 → decide n all ≡ stops (cut_of all) (length all)
+decide-short : (n : ℕ) (all : List ℕ) → n < 2 ^ 32 → length all < 28 →
+    decide n all ≡ stops (cut_of all) (length all)
 unfolding decide by_count by_size
 decide-short n all fewer short =
-    ap (λ b. by_count b all) (lt-ltb n (2 ^ 32) fewer) ∙ ap (λ b. by_size b all) (lt-ltb (length all) 28 short)
+    ap (λ b. by_count b all) (lt-ltb n (2 ^ 32) fewer)
+    ∙ ap (λ b. by_size b all) (lt-ltb (length all) 28 short)
 
-head-same : (f : ℕ) (c : CommandType) (k o l : ℕ) (head : RequestHead) → f ≡ head.flags.bits → c ≡ head.command → k ≡ head.cookie → o ≡ head.offset → l ≡ head.length →
-    ◌≡◌ {A = RequestHead} (record { flags = record { bits = f }; command = c; cookie = k; offset = o; length = l }) head
+head-same : (f : ℕ) (c : CommandType) (k o l : ℕ) (head : RequestHead) → f ≡ head.flags.bits →
+    c ≡ head.command → k ≡ head.cookie → o ≡ head.offset → l ≡ head.length →
+    ◌≡◌ {A = RequestHead}
+    (record { flags = record { bits = f }; command = c; cookie = k; offset = o; length = l })
+    head
 head-same f c k o l head flags command cookie offset size =
-    let same : ◌≡◌ {A = RequestHead} (record { flags = record { bits = f }; command = c; cookie = k; offset = o; length = l })
-    (record { flags = record { bits = head.flags.bits }; command = head.command; cookie = head.cookie; offset = head.offset; length = head.length }) = cc in
+    let same : ◌≡◌ {A = RequestHead}
+    (record { flags = record { bits = f }; command = c; cookie = k; offset = o; length = l })
+    (record {
+      flags = record { bits = head.flags.bits };
+      command = head.command;
+      cookie =
+          head.cookie;
+      offset = head.offset;
+      length = head.length;
+    }) = cc in
     same
 
 -- what is read of a head is the head
-head-read : (head : RequestHead) → IsRequestHead head → (magic_in (request_text head) ≡ request_magic) × (head_in (request_text head) ≡ head)
+head-read : (head : RequestHead) → IsRequestHead head →
+    (magic_in (request_text head) ≡ request_magic) × (head_in (request_text head) ≡ head)
 unfolding magic_in head_in request_text u16_text u32_text u64_text
 head-read head is =
     let text = request_text head in
-    let flags : from_be_bytes w16 (take 2 (drop 4 text)) ≡ head.flags.bits = from_be_bytes-to_be_bytes_2 head.flags.bits is.flags in
-    let command : from_be_bytes w16 (take 2 (drop 6 text)) ≡ _ = from_be_bytes-to_be_bytes_2 _ is.command in
-    let cookie : from_be_bytes w64 (take 8 (drop 8 text)) ≡ head.cookie = from_be_bytes-to_be_bytes_8 head.cookie is.cookie in
-    let offset : from_be_bytes w64 (take 8 (drop 16 text)) ≡ head.offset = from_be_bytes-to_be_bytes_8 head.offset is.offset in
-    let size : from_be_bytes w32 (take 4 (drop 24 text)) ≡ head.length = from_be_bytes-to_be_bytes_4 head.length is.size in
-    (from_be_bytes-to_be_bytes_4 request_magic (omega arith), head-same _ _ _ _ _ head flags (ap command_of command ∙ is.named) cookie offset size)
+    let flags : from_be_bytes w16 (take 2 (drop 4 text)) ≡ head.flags.bits =
+    from_be_bytes-to_be_bytes_2 head.flags.bits is.flags in
+    let command : from_be_bytes w16 (take 2 (drop 6 text)) ≡ _ =
+    from_be_bytes-to_be_bytes_2 _ is.command in
+    let cookie : from_be_bytes w64 (take 8 (drop 8 text)) ≡ head.cookie =
+    from_be_bytes-to_be_bytes_8 head.cookie is.cookie in
+    let offset : from_be_bytes w64 (take 8 (drop 16 text)) ≡ head.offset =
+    from_be_bytes-to_be_bytes_8 head.offset is.offset in
+    let size : from_be_bytes w32 (take 4 (drop 24 text)) ≡ head.length =
+    from_be_bytes-to_be_bytes_4 head.length is.size in (
+      from_be_bytes-to_be_bytes_4 request_magic (omega arith),
+      head-same _ _ _ _ _ head flags (ap command_of command ∙ is.named) cookie offset size,
+    )
 
 -- a whole head that is one decides
 decide-whole_head : (n : ℕ) (head : RequestHead) (tail : List ℕ) → n < 2 ^ 32 → IsRequestHead head →
@@ -98,18 +129,22 @@ unfolding by_magic
 decide-whole_head n head tail fewer is =
     let read = head-read head is in
     decide-head n (request_text head) tail fewer (request-size head)
-    ∙ ap (λ b. by_magic b (request_text head) tail) (eq-eqb (magic_in (request_text head)) request_magic read.0)
+    ∙ ap (λ b. by_magic b (request_text head) tail)
+    (eq-eqb (magic_in (request_text head)) request_magic read.0)
     ∙ ap (λ h. by_ending (ending_of h) h tail) read.1
 
 -- a message that comes whole
 unfoldable pub IsWhole : Asked → List ℕ → Type 0
 IsWhole asked bytes = IsMessage bytes asked.cookie asked.asked
 
-asked-same : (c : ℕ) (o : Option Op) (asked : Asked) → asked.cookie ≡ c → asked.asked ≡ o → ◌≡◌ {A = Asked} (record { cookie = c; asked = o }) asked
+asked-same : (c : ℕ) (o : Option Op) (asked : Asked) → asked.cookie ≡ c → asked.asked ≡ o →
+    ◌≡◌ {A = Asked} (record { cookie = c; asked = o }) asked
 asked-same c o asked cookie_is op_is =
-    let same : ◌≡◌ {A = Asked} (record { cookie = c; asked = o }) (record { cookie = asked.cookie; asked = asked.asked }) = cc in same
+    let same : ◌≡◌ {A = Asked} (record { cookie = c; asked = o })
+    (record { cookie = asked.cookie; asked = asked.asked }) = cc in same
 
-pub whole-decides : (n : ℕ) (asked : Asked) (bytes more : List ℕ) → n < 2 ^ 32 → IsWhole asked bytes →
+pub whole-decides : (n : ℕ) (asked : Asked) (bytes more : List ℕ) → n < 2 ^ 32 →
+    IsWhole asked bytes →
     decide n (bytes ++ more) ≡ asks asked (length bytes)
 unfolding IsWhole by_ending by_data
 whole-decides n asked bytes more fewer is =
@@ -117,10 +152,20 @@ whole-decides n asked bytes more fewer is =
     ∙ decide-whole_head n is.head (is.body ++ more) fewer is.is_head
     ∙ ap (λ e. by_ending e is.head (is.body ++ more)) is.goes_on
     ∙ ap (λ b. by_data b is.head (is.body ++ more))
-    (le-ltb (length (is.body ++ more)) (data_length is.head) (omega (arith, length-append is.body more, is.size)))
-    ∙ ap (λ t. asks (record { cookie = is.head.cookie; asked = operation_of is.head t }) (28 + data_length is.head)) (take_at is.body more (data_length is.head) is.size)
-    ∙ ap (λ a. asks a (28 + data_length is.head)) (asked-same is.head.cookie (operation_of is.head is.body) asked is.cookie_is is.asks)
-    ∙ ap (λ k. asks asked k) (omega (arith, ap length is.parts, length-append (request_text is.head) is.body, request-size is.head, is.size))
+    (le-ltb (length (is.body ++ more)) (data_length is.head)
+    (omega (arith, length-append is.body more, is.size)))
+    ∙ ap (λ t. asks (record { cookie = is.head.cookie; asked = operation_of is.head t })
+    (28 + data_length is.head)) (take_at is.body more (data_length is.head) is.size)
+    ∙ ap (λ a. asks a (28 + data_length is.head))
+    (asked-same is.head.cookie (operation_of is.head is.body) asked is.cookie_is is.asks)
+    ∙ ap (λ k. asks asked k)
+    (omega (
+      arith,
+      ap length is.parts,
+      length-append (request_text is.head) is.body,
+      request-size is.head,
+      is.size,
+    ))
 
 at-end : (n : ℕ) (bytes rest : List ℕ) → rest ≡ [] → decide n (bytes ++ rest) ≡ decide n bytes
 at-end n bytes rest none = ap (λ r. decide n (bytes ++ r)) none ∙ ap (decide n) (append-nil bytes)
@@ -130,9 +175,16 @@ decide-cut : (n : ℕ) (bytes : List ℕ) → n < 2 ^ 32 → 0 < length bytes �
     decide n bytes ≡ stops (Truncated (length bytes)) (length bytes)
 unfolding by_ending by_data
 decide-cut n bytes fewer some cut = ⊎_elim
-    (λ short. decide-short n bytes fewer short ∙ ap (λ e. stops e (length bytes)) (cut-some bytes some))
+    (λ short. decide-short n bytes fewer short
+    ∙ ap (λ e. stops e (length bytes)) (cut-some bytes some))
     (λ c.
-    let size : 28 + length c.body ≡ length bytes = omega (arith, ap length c.parts, length-append (request_text c.head) c.body, request-size c.head) in
+    let size : 28 + length c.body ≡ length bytes =
+    omega (
+      arith,
+      ap length c.parts,
+      length-append (request_text c.head) c.body,
+      request-size c.head,
+    ) in
     ap (decide n) c.parts
     ∙ decide-whole_head n c.head c.body fewer c.is_head
     ∙ ap (λ e. by_ending e c.head c.body) c.goes_on
@@ -141,7 +193,8 @@ decide-cut n bytes fewer some cut = ⊎_elim
     cut
 
 -- a head that ends the session decides
-decide-last_head : (n : ℕ) (ending : Ending) (bytes rest : List ℕ) → n < 2 ^ 32 → IsLastHead bytes ending →
+decide-last_head : (n : ℕ) (ending : Ending) (bytes rest : List ℕ) → n < 2 ^ 32 →
+    IsLastHead bytes ending →
     decide n (bytes ++ rest) ≡ stops ending (length bytes)
 unfolding by_ending
 decide-last_head n ending bytes rest fewer is =
@@ -150,26 +203,34 @@ decide-last_head n ending bytes rest fewer is =
     ∙ ap (λ e. by_ending e is.head rest) is.brings
     ∙ ap (λ k. stops ending k) (omega (arith, ap length is.parts, request-size is.head))
 
-decide-last : (n : ℕ) (ending : Ending) (ended : Bool) (bytes rest : List ℕ) → IsByInput ending → EndsRequests ending ended bytes →
-    IsCount (2 ^ 32) ending n → (ended ≡ true → rest ≡ []) → decide n (bytes ++ rest) ≡ stops ending (length bytes)
+decide-last : (n : ℕ) (ending : Ending) (ended : Bool) (bytes rest : List ℕ) → IsByInput ending →
+    EndsRequests ending ended bytes →
+    IsCount (2 ^ 32) ending n → (ended ≡ true → rest ≡ []) →
+    decide n (bytes ++ rest) ≡ stops ending (length bytes)
 unfolding decide by_count by_magic magic_in u32_text
-decide-last n Disconnected ended bytes rest by ends count at_end = decide-last_head n Disconnected bytes rest count ends
+decide-last n Disconnected ended bytes rest by ends count at_end =
+    decide-last_head n Disconnected bytes rest count ends
 decide-last n Closed ended bytes rest by ends count at_end =
     at-end n bytes rest (at_end ends.1)
     ∙ subst (λ (b : List ℕ). decide n b ≡ stops Closed (length b)) (sym ends.0)
     (decide-short n [] count (omega arith) ∙ ap (λ e. stops e 0) cut-none)
 decide-last n (Truncated m) ended bytes rest by ends count at_end =
-    at-end n bytes rest (at_end ends.2) ∙ decide-cut n bytes count (omega (arith, ends.0, ends.1)) ends.3
+    at-end n bytes rest (at_end ends.2)
+    ∙ decide-cut n bytes count (omega (arith, ends.0, ends.1)) ends.3
     ∙ ap (λ k. stops (Truncated k) (length bytes)) ends.0
 decide-last n (BadMagic m) ended bytes rest by ends count at_end =
-    let read : magic_in bytes ≡ m = ap (from_be_bytes w32) (sym ends.1) ∙ from_be_bytes-to_be_bytes_4 m ends.3 in
+    let read : magic_in bytes ≡ m = ap (from_be_bytes w32) (sym ends.1)
+    ∙ from_be_bytes-to_be_bytes_4 m ends.3 in
     decide-head n bytes rest count ends.0
-    ∙ ap (λ b. by_magic b bytes rest) (ne_eqb (magic_in bytes) request_magic (λ same. ends.2 (sym read ∙ same)))
+    ∙ ap (λ b. by_magic b bytes rest)
+    (ne_eqb (magic_in bytes) request_magic (λ same. ends.2 (sym read ∙ same)))
     ∙ ap (λ k. stops (BadMagic k) 28) read ∙ ap (λ k. stops (BadMagic m) k) (sym ends.0)
-decide-last n (TooLong m) ended bytes rest by ends count at_end = decide-last_head n (TooLong m) bytes rest count ends
+decide-last n (TooLong m) ended bytes rest by ends count at_end =
+    decide-last_head n (TooLong m) bytes rest count ends
 decide-last n (TooMany m) ended bytes rest by ends count at_end =
     ap (λ b. by_count b (bytes ++ rest)) (le-ltb n (2 ^ 32) (omega (arith, count.1)))
-    ∙ ap (λ k. stops (TooMany k) 0) (sym count.1 ∙ sym count.0) ∙ ap (λ b. stops (TooMany m) (length b)) (sym ends)
+    ∙ ap (λ k. stops (TooMany k) 0) (sym count.1 ∙ sym count.0)
+    ∙ ap (λ b. stops (TooMany m) (length b)) (sym ends)
 decide-last n PortSpent ended bytes rest by ends count at_end = absurd by
 decide-last n ReadFault ended bytes rest by ends count at_end = absurd by
 decide-last n WriteFault ended bytes rest by ends count at_end = absurd by
@@ -187,9 +248,12 @@ count-most (TooMany m) n count = omega (arith, count.1)
 count-most WriteFault n count = count.1
 count-most _ n count = omega arith
 
-pub few : (ending : Ending) (n : ℕ) (ended : Bool) (bytes : List ℕ) → IsEnd ending n ended bytes → n ≤ 2 ^ 32
+pub few : (ending : Ending) (n : ℕ) (ended : Bool) (bytes : List ℕ) → IsEnd ending n ended bytes →
+    n ≤ 2 ^ 32
 few ending n ended bytes is = count-most ending n is.count
 
-pub last-decides : (n : ℕ) (ending : Ending) (ended : Bool) (bytes rest : List ℕ) → IsEnd ending n ended bytes → (ended ≡ true → rest ≡ []) →
+pub last-decides : (n : ℕ) (ending : Ending) (ended : Bool) (bytes rest : List ℕ) →
+    IsEnd ending n ended bytes → (ended ≡ true → rest ≡ []) →
     decide n (bytes ++ rest) ≡ stops ending (length bytes)
-last-decides n ending ended bytes rest is at_end = decide-last n ending ended bytes rest is.by_input is.ends is.count at_end
+last-decides n ending ended bytes rest is at_end =
+    decide-last n ending ended bytes rest is.by_input is.ends is.count at_end

@@ -1,10 +1,14 @@
 -- A message of which head and data were taken one after the other.
-use Rattle.std.proofs.Common.{◌≡◌, ℕ, ◌+◌, ◌<◌, ◌≤◌, Bool, true, false, nat_lt, if◌then◌else◌, List, [], ◌++◌, Option, Some, None, Result, Ok, Err, length, ap, ◌∙◌, refl, sym, subst, arith, inr, append-nil, length-append}
+use Rattle.std.proofs.Common.{◌≡◌, ℕ, ◌+◌, ◌<◌, ◌≤◌, Bool, true, false, nat_lt, if◌then◌else◌, List}
+use Rattle.std.proofs.Common.{[], ◌++◌, Option, Some, None, Result, Ok, Err, length, ap, ◌∙◌, refl}
+use Rattle.std.proofs.Common.{sym, subst, arith, inr, append-nil, length-append}
 use Rattle.std.proofs.lemmas.Bool.{lt-ltb, le-ltb}
 use Rattle.base_terms.specs.Causes.{Rose}
+use Rattle.base_terms.specs.ErrorNumbers.{invalid, no_memory}
 use Rattle.plain_disk.specs.declared.operation.Op.{Op}
 use Rattle.nbd_session.specs.declared.ending.Ending.{Ending}
-use Rattle.nbd_session.specs.declared.ending.Ending.TheVariants.{Truncated, TooLong, ReadFault, Memory}
+use Rattle.nbd_session.specs.declared.ending.Ending.TheVariants.{Truncated, TooLong, ReadFault}
+use Rattle.nbd_session.specs.declared.ending.Ending.TheVariants.{Memory}
 use Rattle.nbd_session.specs.declared.options.ClientOption.{ClientOption}
 use Rattle.nbd_session.specs.declared.requests.Next.{Next}
 use Rattle.nbd_session.specs.declared.requests.Next.TheVariants.{Ask, Refuse, Stop}
@@ -15,8 +19,10 @@ use Rattle.nbd_session.specs.declared.taking.Data.TheVariants.{Whole, NoMemory, 
 use Rattle.nbd_session.specs.Counts.{capped}
 use Rattle.nbd_session.specs.Grammar.{head_with, StopsRequests}
 use Rattle.nbd_session.specs.Moments.{calm, trouble_of}
-use Rattle.nbd_session.specs.Requests.{ending_by, ending_of, data_length, data_length_by, operation_of, operation_by, IsMessage, IsLastHead, IsRefusal}
-use Rattle.nbd_session.specs.Taking.{HeadIs, DataIs, OptionIs, NextCase, NextIs, BehindHead, StopsBy, TakesUpTo}
+use Rattle.nbd_session.specs.Requests.{ending_by, ending_of, data_length, data_length_by}
+use Rattle.nbd_session.specs.Requests.{operation_of, operation_by, IsMessage, IsLastHead, IsRefusal}
+use Rattle.nbd_session.specs.Taking.{HeadIs, DataIs, OptionIs, NextCase, NextIs, BehindHead}
+use Rattle.nbd_session.specs.Taking.{StopsBy, TakesUpTo}
 use Rattle.nbd_session.specs.Traffic.{Reach, Takes, HasEnded}
 use Rattle.nbd_session.proofs.TrafficLemmas.{took_none, took_more, ended_later, rose_earlier}
 use Rattle.nbd_wire.specs.declared.options.OptionHead.{OptionHead}
@@ -29,9 +35,15 @@ use Rattle.nbd_wire.proofs.OptionLemmas.{option-size}
 use Rattle.nbd_wire.proofs.RequestLemmas.{request-size}
 
 pub takes_none : (a : Reach) → Takes a a []
-takes_none a = record { took = took_none a.source; later = omega arith; counted = ap capped (omega arith) }
+takes_none a = record {
+  took = took_none a.source;
+  later = omega arith;
+  counted =
+      ap capped (omega arith);
+}
 
-pub takes_more : (a b c : Reach) (xs ys : List ℕ) → Takes a b xs → Takes b c ys → Takes a c (xs ++ ys)
+pub takes_more : (a b c : Reach) (xs ys : List ℕ) → Takes a b xs → Takes b c ys →
+    Takes a c (xs ++ ys)
 takes_more a b c xs ys first second = record {
   took = took_more _ _ _ xs ys first.took second.took;
   later = omega (arith, first.later, second.later);
@@ -44,14 +56,16 @@ pub record HeadTaken (a b : Reach) (text : List ℕ) : Type 0 where
   pub held : b.source.faults ≡ a.source.faults
 
 pub head-taken : (a b : Reach) (len : ℕ) (buf text : List ℕ) → text ≡ buf →
-    ((bytes : List ℕ) × (ended : Bool) × HeadIs a b len buf (Ok tt) bytes ended) → HeadTaken a b text
+    ((bytes : List ℕ) × (ended : Bool) × HeadIs a b len buf (Ok tt) bytes ended) →
+    HeadTaken a b text
 head-taken a b len buf text is head = record {
   takes = subst (λ (bytes : List ℕ). Takes a b bytes) (head.2.by_case.0 ∙ sym is) head.2.takes;
   held = head.2.by_case.2;
 }
 
 -- what was taken behind a head
-rear-ended : (a b c : Reach) (text : List ℕ) → HeadTaken a b text → HasEnded b.source c.source → HasEnded a.source c.source
+rear-ended : (a b c : Reach) (text : List ℕ) → HeadTaken a b text → HasEnded b.source c.source →
+    HasEnded a.source c.source
 rear-ended a b c text head ended = ended_later a.source b.source c.source text head.takes.took ended
 
 abbrev pub HasOption : Reach → Reach → Result ClientOption Ending → Type 0
@@ -61,12 +75,15 @@ abbrev pub HasData : Reach → Reach → ℕ → Data → Type 0
 HasData b c len result = (bytes : List ℕ) × DataIs b c len result bytes
 
 -- an option came whole
-pub option-whole : (a b c : Reach) (head : OptionHead) (body : List ℕ) → HeadTaken a b (option_text head) → IsOptionHead head →
-    head.length ≤ 65536 → HasData b c head.length (Whole body) → HasOption a c (Ok (record { option = head.option; body = body }))
+pub option-whole : (a b c : Reach) (head : OptionHead) (body : List ℕ) →
+    HeadTaken a b (option_text head) → IsOptionHead head →
+    head.length ≤ 65536 → HasData b c head.length (Whole body) →
+    HasOption a c (Ok (record { option = head.option; body = body }))
 option-whole a b c head body taken is fits more =
     let same : body ≡ more.0 = more.1.by_case.0 in
     let size : head.length ≡ length body = omega (arith, ap length same, more.1.by_case.1) in
-    let head_is : head ≡ head_with head.option body = ap (λ n. record { option = head.option; length = n }) size in (
+    let head_is : head ≡ head_with head.option body =
+    ap (λ n. record { option = head.option; length = n }) size in (
       option_text head ++ more.0,
       false,
       record {
@@ -76,7 +93,8 @@ option-whole a b c head body taken is fits more =
           record {
             is_head = subst (λ (h : OptionHead). IsOptionHead h) head_is is;
             fits = omega (arith, size, fits);
-            parts = ap (λ h. option_text h ++ more.0) head_is ∙ ap (λ x. option_text (head_with head.option body) ++ x) (sym same);
+            parts = ap (λ h. option_text h ++ more.0) head_is
+                ∙ ap (λ x. option_text (head_with head.option body) ++ x) (sym same);
           },
           omega (arith, taken.held, more.1.by_case.2),
         );
@@ -84,10 +102,12 @@ option-whole a b c head body taken is fits more =
     )
 
 -- memory was wanted for its data
-pub option-memory : (a b c : Reach) (head : OptionHead) → HeadTaken a b (option_text head) → IsOptionHead head →
+pub option-memory : (a b c : Reach) (head : OptionHead) → HeadTaken a b (option_text head) →
+    IsOptionHead head →
     head.length ≤ 65536 → HasData b c head.length NoMemory → HasOption a c (Err Memory)
 option-memory a b c head taken is fits more =
-    let same : option_text head ++ more.0 ≡ option_text head = ap (λ x. option_text head ++ x) more.1.by_case.1 ∙ append-nil (option_text head) in (
+    let same : option_text head ++ more.0 ≡ option_text head =
+    ap (λ x. option_text head ++ x) more.1.by_case.1 ∙ append-nil (option_text head) in (
       option_text head ++ more.0,
       false,
       record {
@@ -101,8 +121,10 @@ option-memory a b c head taken is fits more =
     )
 
 -- the input ended in its data
-pub option-ended : (a b c : Reach) (head : OptionHead) (n : ℕ) → HeadTaken a b (option_text head) → IsOptionHead head →
-    head.length ≤ 65536 → HasData b c head.length (Ended n) → HasOption a c (Err (Truncated (16 + n)))
+pub option-ended : (a b c : Reach) (head : OptionHead) (n : ℕ) → HeadTaken a b (option_text head) →
+    IsOptionHead head →
+    head.length ≤ 65536 → HasData b c head.length (Ended n) →
+    HasOption a c (Err (Truncated (16 + n)))
 option-ended a b c head n taken is fits more = (
   option_text head ++ more.0,
   true,
@@ -115,14 +137,23 @@ option-ended a b c head n taken is fits more = (
         omega (arith, length-append (option_text head) more.0, option-size head, more.1.by_case.0),
         omega arith,
         refl,
-        inr (record { head = head; body = more.0; is_head = is; fits = fits; parts = refl; fewer = omega (arith, more.1.by_case.0, more.1.by_case.1) }),
+        inr (record {
+          head = head;
+          body = more.0;
+          is_head = is;
+          fits = fits;
+          parts = refl;
+          fewer =
+              omega (arith, more.1.by_case.0, more.1.by_case.1);
+        }),
       ),
     );
   },
 )
 
 -- the source failed in its data
-pub option-fault : (a b c : Reach) (head : OptionHead) → HeadTaken a b (option_text head) → IsOptionHead head →
+pub option-fault : (a b c : Reach) (head : OptionHead) → HeadTaken a b (option_text head) →
+    IsOptionHead head →
     head.length ≤ 65536 → HasData b c head.length Fault → HasOption a c (Err ReadFault)
 option-fault a b c head taken is fits more = (
   option_text head ++ more.0,
@@ -131,13 +162,23 @@ option-fault a b c head taken is fits more = (
     takes = takes_more a b c (option_text head) more.0 taken.takes more.1.takes;
     at_end = λ e. absurd (cc);
     by_case = (
-      rose_earlier a.source.faults b.source.faults c.source.faults taken.takes.later more.1.by_case.1,
-      inr (record { head = head; body = more.0; is_head = is; fits = fits; parts = refl; fewer = more.1.by_case.0 }),
+      rose_earlier a.source.faults b.source.faults c.source.faults taken.takes.later
+          more.1.by_case.1,
+      inr (record {
+        head = head;
+        body = more.0;
+        is_head = is;
+        fits = fits;
+        parts = refl;
+        fewer =
+            more.1.by_case.0;
+      }),
     );
   },
 )
 
-next-earlier : (a b c : Reach) (result : Next) (bytes : List ℕ) (ended : Bool) → b.source.faults ≡ a.source.faults →
+next-earlier : (a b c : Reach) (result : Next) (bytes : List ℕ) (ended : Bool) →
+    b.source.faults ≡ a.source.faults →
     NextCase b c result bytes ended → NextCase a c result bytes ended
 next-earlier a b c (Ask cookie op) bytes ended held is = (is.0, is.1 ∙ held)
 next-earlier a b c (Refuse cookie number) bytes ended held is = (is.0, is.1, is.2, is.3 ∙ held)
@@ -145,7 +186,8 @@ next-earlier a b c (Stop ending) bytes ended held is =
     (subst (λ (f : ℕ). StopsBy f c.source.faults (trouble_of ending)) held is.0, is.1)
 
 -- a request's head, and then what is behind it
-pub next-joined : (a b c : Reach) (head : RequestHead) (result : Next) → HeadTaken a b (request_text head) →
+pub next-joined : (a b c : Reach) (head : RequestHead) (result : Next) →
+    HeadTaken a b (request_text head) →
     ((body : List ℕ) × (ended : Bool) × BehindHead head b c result body ended) →
     (bytes : List ℕ) × (ended : Bool) × NextIs a c result bytes ended
 next-joined a b c head result taken more = (
@@ -154,33 +196,47 @@ next-joined a b c head result taken more = (
   record {
     takes = takes_more a b c (request_text head) more.0 taken.takes more.2.takes;
     at_end = λ e. rear-ended a b c (request_text head) taken (more.2.at_end e);
-    by_case = next-earlier a b c result (request_text head ++ more.0) more.1 taken.held more.2.by_case;
+    by_case = next-earlier a b c result (request_text head ++ more.0) more.1 taken.held
+        more.2.by_case;
   },
 )
 
 some-same : (x y : Ending) → Some x ≡ Some y → x ≡ y
 some-same x y is = cc
 
-write-stops : (long : Bool) (len : ℕ) (ending : Ending) → (if long then Some (TooLong len) else None) ≡ Some ending →
-    (trouble_of ending ≡ calm) × ((bytes : List ℕ) → IsLastHead bytes ending → StopsRequests ending false bytes)
-write-stops true len ending brings = subst (λ e. (trouble_of e ≡ calm) × ((bytes : List ℕ) → IsLastHead bytes e → StopsRequests e false bytes)) (some-same _ _ brings) (refl, λ bytes is. is)
+write-stops : (long : Bool) (len : ℕ) (ending : Ending) →
+    (if long then Some (TooLong len) else None) ≡ Some ending →
+    (trouble_of ending ≡ calm)
+    × ((bytes : List ℕ) → IsLastHead bytes ending → StopsRequests ending false bytes)
+write-stops true len ending brings =
+    subst (λ e. (trouble_of e ≡ calm)
+    × ((bytes : List ℕ) → IsLastHead bytes e → StopsRequests e false bytes)) (some-same _ _ brings)
+    (refl, λ bytes is. is)
 write-stops false len ending brings = absurd (cc)
 
 -- an ending that a head brings is no fault
-last-stops_by : (command : CommandType) (len : ℕ) (ending : Ending) → ending_by command len ≡ Some ending →
-    (trouble_of ending ≡ calm) × ((bytes : List ℕ) → IsLastHead bytes ending → StopsRequests ending false bytes)
-last-stops_by Disc len ending brings = subst (λ e. (trouble_of e ≡ calm) × ((bytes : List ℕ) → IsLastHead bytes e → StopsRequests e false bytes)) (some-same _ _ brings) (refl, λ bytes is. is)
+last-stops_by : (command : CommandType) (len : ℕ) (ending : Ending) →
+    ending_by command len ≡ Some ending →
+    (trouble_of ending ≡ calm)
+    × ((bytes : List ℕ) → IsLastHead bytes ending → StopsRequests ending false bytes)
+last-stops_by Disc len ending brings =
+    subst (λ e. (trouble_of e ≡ calm)
+    × ((bytes : List ℕ) → IsLastHead bytes e → StopsRequests e false bytes)) (some-same _ _ brings)
+    (refl, λ bytes is. is)
 last-stops_by Write len ending brings = write-stops (nat_lt 33554432 len) len ending brings
 last-stops_by _ len ending brings = absurd (cc)
 
 last-stops : (head : RequestHead) (ending : Ending) → ending_of head ≡ Some ending →
-    (trouble_of ending ≡ calm) × ((bytes : List ℕ) → IsLastHead bytes ending → StopsRequests ending false bytes)
+    (trouble_of ending ≡ calm)
+    × ((bytes : List ℕ) → IsLastHead bytes ending → StopsRequests ending false bytes)
 unfolding ending_of
 last-stops head ending brings = last-stops_by head.command head.length ending brings
 
 -- a request's head brought an ending
-pub next-last : (a b : Reach) (head : RequestHead) (ending : Ending) → HeadTaken a b (request_text head) → IsRequestHead head →
-    ending_of head ≡ Some ending → (bytes : List ℕ) × (ended : Bool) × NextIs a b (Stop ending) bytes ended
+pub next-last : (a b : Reach) (head : RequestHead) (ending : Ending) →
+    HeadTaken a b (request_text head) → IsRequestHead head →
+    ending_of head ≡ Some ending → (bytes : List ℕ) × (ended : Bool)
+    × NextIs a b (Stop ending) bytes ended
 next-last a b head ending taken is brings =
     let stops = last-stops head ending brings in (
       request_text head,
@@ -188,7 +244,11 @@ next-last a b head ending taken is brings =
       record {
         takes = taken.takes;
         at_end = λ e. absurd (cc);
-        by_case = (subst (λ t. StopsBy a.source.faults b.source.faults t) (sym stops.0) taken.held, stops.1 (request_text head) (record { head = head; is_head = is; parts = refl; brings = brings }));
+        by_case = (
+          subst (λ t. StopsBy a.source.faults b.source.faults t) (sym stops.0) taken.held,
+          stops.1 (request_text head)
+              (record { head = head; is_head = is; parts = refl; brings = brings }),
+        );
       },
     )
 
@@ -196,8 +256,10 @@ abbrev pub HasBehind : RequestHead → Reach → Reach → Next → Type 0
 HasBehind head b c result = (body : List ℕ) × (ended : Bool) × BehindHead head b c result body ended
 
 -- a request that is whole with its data
-pub message-of : (head : RequestHead) (body : List ℕ) (asked : Option Op) → IsRequestHead head → ending_of head ≡ None →
-    length body ≡ data_length head → asked ≡ operation_of head body → IsMessage (request_text head ++ body) head.cookie asked
+pub message-of : (head : RequestHead) (body : List ℕ) (asked : Option Op) → IsRequestHead head →
+    ending_of head ≡ None →
+    length body ≡ data_length head → asked ≡ operation_of head body →
+    IsMessage (request_text head ++ body) head.cookie asked
 message-of head body asked is goes_on size asks = record {
   head = head;
   body = body;
@@ -209,8 +271,10 @@ message-of head body asked is goes_on size asks = record {
   asks = asks;
 }
 
-pub behind-asks : (b c : Reach) (head : RequestHead) (body : List ℕ) (op : Op) → IsRequestHead head → ending_of head ≡ None →
-    Some op ≡ operation_of head body → HasData b c (data_length head) (Whole body) → HasBehind head b c (Ask head.cookie op)
+pub behind-asks : (b c : Reach) (head : RequestHead) (body : List ℕ) (op : Op) →
+    IsRequestHead head → ending_of head ≡ None →
+    Some op ≡ operation_of head body → HasData b c (data_length head) (Whole body) →
+    HasBehind head b c (Ask head.cookie op)
 behind-asks b c head body op is goes_on asks more = (
   more.0,
   false,
@@ -218,14 +282,17 @@ behind-asks b c head body op is goes_on asks more = (
     takes = more.1.takes;
     at_end = λ e. absurd (cc);
     by_case = (
-      message-of head more.0 (Some op) is goes_on more.1.by_case.1 (asks ∙ ap (operation_of head) more.1.by_case.0),
+      message-of head more.0 (Some op) is goes_on more.1.by_case.1
+          (asks ∙ ap (operation_of head) more.1.by_case.0),
       more.1.by_case.2,
     );
   },
 )
 
-pub behind-refuses : (b c : Reach) (head : RequestHead) (body : List ℕ) → IsRequestHead head → ending_of head ≡ None →
-    None ≡ operation_of head body → HasData b c (data_length head) (Whole body) → HasBehind head b c (Refuse head.cookie 22)
+pub behind-refuses : (b c : Reach) (head : RequestHead) (body : List ℕ) → IsRequestHead head →
+    ending_of head ≡ None →
+    None ≡ operation_of head body → HasData b c (data_length head) (Whole body) →
+    HasBehind head b c (Refuse head.cookie invalid)
 behind-refuses b c head body is goes_on asks more = (
   more.0,
   false,
@@ -234,7 +301,8 @@ behind-refuses b c head body is goes_on asks more = (
     at_end = λ e. absurd (cc);
     by_case = (
       None,
-      message-of head more.0 None is goes_on more.1.by_case.1 (asks ∙ ap (operation_of head) more.1.by_case.0),
+      message-of head more.0 None is goes_on more.1.by_case.1
+          (asks ∙ ap (operation_of head) more.1.by_case.0),
       refl,
       more.1.by_case.2,
     );
@@ -242,8 +310,10 @@ behind-refuses b c head body is goes_on asks more = (
 )
 
 -- the input ended in a request's data
-pub behind-cut : (b c : Reach) (head : RequestHead) (n : ℕ) (bytes : List ℕ) → IsRequestHead head → ending_of head ≡ None →
-    Takes b c bytes → length bytes ≡ n → n < data_length head → HasEnded b.source c.source → c.source.faults ≡ b.source.faults →
+pub behind-cut : (b c : Reach) (head : RequestHead) (n : ℕ) (bytes : List ℕ) → IsRequestHead head →
+    ending_of head ≡ None →
+    Takes b c bytes → length bytes ≡ n → n < data_length head → HasEnded b.source c.source →
+    c.source.faults ≡ b.source.faults →
     HasBehind head b c (Stop (Truncated (28 + n)))
 behind-cut b c head n bytes is goes_on takes size fewer ended held = (
   bytes,
@@ -257,15 +327,25 @@ behind-cut b c head n bytes is goes_on takes size fewer ended held = (
         omega (arith, length-append (request_text head) bytes, request-size head, size),
         omega arith,
         refl,
-        inr (record { head = head; body = bytes; is_head = is; parts = refl; fewer = omega (arith, size, fewer); goes_on = goes_on }),
+        inr (record {
+          head = head;
+          body = bytes;
+          is_head = is;
+          parts = refl;
+          fewer =
+              omega (arith, size, fewer);
+          goes_on = goes_on;
+        }),
       ),
     );
   },
 )
 
 -- the source failed in a request's data
-pub behind-fault : (b c : Reach) (head : RequestHead) (bytes : List ℕ) → IsRequestHead head → ending_of head ≡ None →
-    Takes b c bytes → length bytes < data_length head → Rose b.source.faults c.source.faults → HasBehind head b c (Stop ReadFault)
+pub behind-fault : (b c : Reach) (head : RequestHead) (bytes : List ℕ) → IsRequestHead head →
+    ending_of head ≡ None →
+    Takes b c bytes → length bytes < data_length head → Rose b.source.faults c.source.faults →
+    HasBehind head b c (Stop ReadFault)
 behind-fault b c head bytes is goes_on takes fewer rose = (
   bytes,
   false,
@@ -274,15 +354,25 @@ behind-fault b c head bytes is goes_on takes fewer rose = (
     at_end = λ e. absurd (cc);
     by_case = (
       rose,
-      inr (record { head = head; body = bytes; is_head = is; parts = refl; fewer = fewer; goes_on = goes_on }),
+      inr (record {
+        head = head;
+        body = bytes;
+        is_head = is;
+        parts = refl;
+        fewer = fewer;
+        goes_on =
+            goes_on;
+      }),
     );
   },
 )
 
 -- a request's data was dropped
-pub behind-dropped : (b c : Reach) (head : RequestHead) (number : ℕ) → IsRequestHead head → ending_of head ≡ None →
+pub behind-dropped : (b c : Reach) (head : RequestHead) (number : ℕ) → IsRequestHead head →
+    ending_of head ≡ None →
     ((body : List ℕ) → length body ≡ data_length head → IsRefusal (operation_of head body) number) →
-    ((bytes : List ℕ) × TakesUpTo b c (data_length head) Fillings.Whole bytes) → HasBehind head b c (Refuse head.cookie number)
+    ((bytes : List ℕ) × TakesUpTo b c (data_length head) Fillings.Whole bytes) →
+    HasBehind head b c (Refuse head.cookie number)
 behind-dropped b c head number is goes_on refused more = (
   more.0,
   false,
@@ -299,27 +389,34 @@ behind-dropped b c head number is goes_on refused more = (
 )
 
 -- another flag than "force unit access" is refused
-pub flags-refused : (head : RequestHead) (body : List ℕ) → 1 < head.flags.bits → IsRefusal (operation_of head body) 22
+pub flags-refused : (head : RequestHead) (body : List ℕ) → 1 < head.flags.bits →
+    IsRefusal (operation_of head body) invalid
 unfolding operation_of
 flags-refused head body more = rw (lt-ltb 1 head.flags.bits more) refl
 
-data-operation : (command : CommandType) (flags offset len : ℕ) (body : List ℕ) → 0 < data_length_by command len →
-    IsRefusal (operation_by command flags offset len body) 12
+data-operation : (command : CommandType) (flags offset len : ℕ) (body : List ℕ) →
+    0 < data_length_by command len →
+    IsRefusal (operation_by command flags offset len body) no_memory
 data-operation Write flags offset len body some = refl
 data-operation Read flags offset len body some = refl
 data-operation Flush flags offset len body some = refl
 data-operation _ flags offset len body some = absurd (omega arith)
 
 -- a request with data is an operation, for which memory may be wanted
-pub memory-refused : (head : RequestHead) (body : List ℕ) → head.flags.bits ≤ 1 → 0 < data_length head → IsRefusal (operation_of head body) 12
+pub memory-refused : (head : RequestHead) (body : List ℕ) → head.flags.bits ≤ 1 →
+    0 < data_length head → IsRefusal (operation_of head body) no_memory
 unfolding operation_of data_length
 memory-refused head body flags some =
-    rw (le-ltb 1 head.flags.bits flags) (data-operation head.command head.flags.bits head.offset head.length body some)
+    rw (le-ltb 1 head.flags.bits flags)
+    (data-operation head.command head.flags.bits head.offset head.length body some)
 
 -- the length of the data, as it was told
-pub dropped-as : (b c : Reach) (len len' : ℕ) (result : Filled) → len ≡ len' → ((bytes : List ℕ) × TakesUpTo b c len result bytes) →
+pub dropped-as : (b c : Reach) (len len' : ℕ) (result : Filled) → len ≡ len' →
+    ((bytes : List ℕ) × TakesUpTo b c len result bytes) →
     (bytes : List ℕ) × TakesUpTo b c len' result bytes
-dropped-as b c len len' result same more = subst (λ (n : ℕ). (bytes : List ℕ) × TakesUpTo b c n result bytes) same more
+dropped-as b c len len' result same more =
+    subst (λ (n : ℕ). (bytes : List ℕ) × TakesUpTo b c n result bytes) same more
 
-pub data-as : (b c : Reach) (len len' : ℕ) (result : Data) → len ≡ len' → HasData b c len result → HasData b c len' result
+pub data-as : (b c : Reach) (len len' : ℕ) (result : Data) → len ≡ len' → HasData b c len result →
+    HasData b c len' result
 data-as b c len len' result same more = subst (λ (n : ℕ). HasData b c n result) same more

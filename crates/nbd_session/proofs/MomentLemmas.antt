@@ -1,5 +1,6 @@
 -- What went between two moments, joined.
-use Rattle.std.proofs.Common.{ℕ, List, [], ◌++◌, Option, Result, ap, sym, subst, arith, append_assoc, append-nil, length-append}
+use Rattle.std.proofs.Common.{ℕ, List, [], ◌++◌, Option, Result, ap, sym, subst, arith}
+use Rattle.std.proofs.Common.{append_assoc, append-nil, length-append}
 use Rattle.base_terms.specs.declared.failed.Failed.{Failed}
 use Rattle.io_edge.specs.Outlet.{Outlet}
 use Rattle.nbd_session.specs.Counts.{capped}
@@ -36,7 +37,8 @@ traffic_took a b s p bytes takes = record {
 }
 
 -- a text was put, or not
-pub traffic_puts : (a : Reach) (s s' : Outlet) (p p' : ℕ) (text whole front : List ℕ) (result : Result (Unit {0}) Failed) →
+pub traffic_puts : (a : Reach) (s s' : Outlet) (p p' : ℕ) (text whole front : List ℕ)
+    (result : Result (Unit {0}) Failed) →
     Puts s s' p p' text result whole front →
     Traffic (with_sink a s p) (with_sink a s' p') [] whole front
 traffic_puts a s s' p p' text whole front result puts = record {
@@ -49,13 +51,16 @@ traffic_puts a s s' p p' text whole front result puts = record {
 }
 
 -- what went between two moments and then between two later ones
-pub traffic_more : (a b c : Moment) (xs ys vs ws front : List ℕ) → Traffic a b xs vs [] → Traffic b c ys ws front →
+pub traffic_more : (a b c : Moment) (xs ys vs ws front : List ℕ) → Traffic a b xs vs [] →
+    Traffic b c ys ws front →
     Traffic a c (xs ++ ys) (vs ++ ws) front
 traffic_more a b c xs ys vs ws front first second =
-    let sent : Sent a.sink b.sink vs = subst (λ (bytes : List ℕ). Sent a.sink b.sink bytes) (append-nil vs) first.sent in
+    let sent : Sent a.sink b.sink vs =
+    subst (λ (bytes : List ℕ). Sent a.sink b.sink bytes) (append-nil vs) first.sent in
     record {
       took = took_more _ _ _ xs ys first.took second.took;
-      sent = subst (λ (bytes : List ℕ). Sent a.sink c.sink bytes) (sym (append_assoc vs ws front)) (sent_more a.sink b.sink c.sink vs (ws ++ front) sent second.sent);
+      sent = subst (λ (bytes : List ℕ). Sent a.sink c.sink bytes) (sym (append_assoc vs ws front))
+          (sent_more a.sink b.sink c.sink vs (ws ++ front) sent second.sent);
       later_in = omega (arith, first.later_in, second.later_in);
       later_out = omega (arith, first.later_out, second.later_out);
       counted_in = omega (arith, first.counted_in, second.counted_in, length-append xs ys);

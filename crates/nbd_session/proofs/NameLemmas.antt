@@ -1,5 +1,6 @@
 -- Names that are compared.
-use Rattle.std.proofs.Common.{◌≡◌, ◌≢◌, ℕ, Bool, true, false, ◌==◌, ◌&&◌, List, [], ◌∷◌, ap, ◌∙◌, refl, sym}
+use Rattle.std.proofs.Common.{◌≡◌, ◌≢◌, ℕ, Bool, true, false, ◌==◌, ◌&&◌, List, [], ◌∷◌, ap, ◌∙◌}
+use Rattle.std.proofs.Common.{refl, sym}
 use Rattle.std.proofs.lemmas.Bool.{eq-eqb, eqb-true}
 use Rattle.nbd_session.specs.Options.{is_same}
 
@@ -32,6 +33,8 @@ tested-false true never = absurd (never refl)
 tested-false false never = refl
 
 -- a test of two texts
-pub same-tested : (b : Bool) (xs ys : List ℕ) → (b ≡ true → xs ≡ ys) → (b ≡ false → xs ≢ ys) → b ≡ is_same xs ys
+pub same-tested : (b : Bool) (xs ys : List ℕ) → (b ≡ true → xs ≡ ys) → (b ≡ false → xs ≢ ys) →
+    b ≡ is_same xs ys
 same-tested true xs ys same other = sym (ap (λ t. is_same t ys) (same refl) ∙ same-itself ys)
-same-tested false xs ys same other = tested-false (is_same xs ys) (λ is. other refl (same-texts xs ys is))
+same-tested false xs ys same other =
+    tested-false (is_same xs ys) (λ is. other refl (same-texts xs ys is))

@@ -1,5 +1,7 @@
 -- The exits of a negotiation.
-use Rattle.std.proofs.Common.{◌≡◌, ◌≢◌, ℕ, ◌+◌, ◌<◌, Bool, true, false, not, ◌==◌, IsTrue, ◌↔◌, List, [], ◌∷◌, ◌++◌, Option, Some, None, Result, Ok, Err, length, ap, ◌∙◌, refl, sym, subst, arith, inl, inr, append-nil, ⊎_elim}
+use Rattle.std.proofs.Common.{◌≡◌, ◌≢◌, ℕ, ◌+◌, ◌<◌, Bool, true, false, not, ◌==◌, IsTrue, ◌↔◌}
+use Rattle.std.proofs.Common.{List, [], ◌∷◌, ◌++◌, Option, Some, None, Result, Ok, Err, length, ap}
+use Rattle.std.proofs.Common.{◌∙◌, refl, sym, subst, arith, inl, inr, append-nil, ⊎_elim}
 use Rattle.std.proofs.lemmas.Bool.{ne_eqb}
 use Rattle.std.proofs.lemmas.Bool.Decides.{eqb_tells}
 use Rattle.base_terms.specs.declared.failed.Failed.{Failed}
@@ -10,24 +12,28 @@ use Rattle.nbd_session.specs.declared.export.Export.{Export}
 use Rattle.nbd_session.specs.declared.options.ClientOption.{ClientOption}
 use Rattle.nbd_session.specs.declared.options.Course.TheVariants.{Begins, Ends}
 use Rattle.nbd_session.specs.declared.options.Verdict.{Verdict}
-use Rattle.nbd_session.specs.declared.options.Verdict.TheVariants.{Tell, Agree, Refuse, Abort, Unknown}
+use Rattle.nbd_session.specs.declared.options.Verdict.TheVariants.{Tell, Agree, Refuse, Abort}
+use Rattle.nbd_session.specs.declared.options.Verdict.TheVariants.{Unknown}
 use Rattle.nbd_session.specs.Grammar.{AreOptions, answers_to, last_answer}
 use Rattle.nbd_session.specs.Moments.{Moment, Talks}
 use Rattle.nbd_session.specs.Negotiation.{FlagsAre, Answers, Negotiates, ending_in, course_to}
 use Rattle.nbd_session.specs.Options.{course_of, verdict_of}
-use Rattle.nbd_session.specs.Session.{Log, Stage, served, greeted, negotiating, greeting, messages_of, no_zeroes, IsBegun, IsUnserved}
+use Rattle.nbd_session.specs.Session.{Log, Stage, served, greeted, negotiating, greeting}
+use Rattle.nbd_session.specs.Session.{messages_of, no_zeroes, IsBegun, IsUnserved}
 use Rattle.std.specs.Prelude.{MatchResult}
 use Rattle.nbd_session.specs.Traffic.{Reach}
 use Rattle.nbd_session.specs.Turns.{replies_to}
 use Rattle.nbd_session.proofs.MomentLemmas.{with_sink}
-use Rattle.nbd_session.proofs.TalkLemmas.{HasPut, talks-took, talks-stopped, talks-put, talks-unput, talks-more}
+use Rattle.nbd_session.proofs.TalkLemmas.{HasPut, talks-took, talks-stopped, talks-put, talks-unput}
+use Rattle.nbd_session.proofs.TalkLemmas.{talks-more}
 use Rattle.nbd_session.proofs.RequestLemmas.{replies_to-none}
 use Rattle.nbd_wire.specs.declared.handshake.ClientFlags.{ClientFlags}
 use Rattle.nbd_wire.specs.Fields.{u32_text}
 use Rattle.nbd_wire.specs.Handshake.{greeting_text}
 
 -- the greeting is its text
-pub greeting-is : (bits : ℕ) → bits ≡ 3 → greeting_text (record { flags = record { bits = bits } }) ≡ greeting
+pub greeting-is : (bits : ℕ) → bits ≡ 3 →
+    greeting_text (record { flags = record { bits = bits } }) ≡ greeting
 unfolding greeting
 greeting-is bits is = ap (λ b. greeting_text (record { flags = record { bits = b } })) is
 
@@ -45,7 +51,8 @@ early taken whole front ended = record {
   ended = ended;
 }
 
-early-messages : (export : Export) (taken whole front : List ℕ) (ended : Bool) → greeting ∷ [] ≡ messages_of export (early taken whole front ended)
+early-messages : (export : Export) (taken whole front : List ℕ) (ended : Bool) →
+    greeting ∷ [] ≡ messages_of export (early taken whole front ended)
 unfolding answers_to replies_to
 early-messages export taken whole front ended = refl
 
@@ -54,11 +61,13 @@ HasNegotiated export a b result = (log : Log) × Negotiates export a b result lo
 
 -- the greeting didn't go out
 pub stops-silent : (export : Export) (a : Reach) (s s' : Outlet) (p p' : ℕ) (e : Failed) →
-    HasPut s s' p p' greeting (Err e) → HasNegotiated export (with_sink a s p) (with_sink a s' p') (Err WriteFault)
+    HasPut s s' p p' greeting (Err e) →
+    HasNegotiated export (with_sink a s p) (with_sink a s' p') (Err WriteFault)
 stops-silent export a s s' p p' e put = (
   early [] put.0 put.1 false,
   record {
-    talks = subst (λ ms. Talks (with_sink a s p) (with_sink a s' p') (Some WriteFault) [] ms put.0 put.1 false)
+    talks = subst (λ ms. Talks (with_sink a s p) (with_sink a s' p') (Some WriteFault) [] ms put.0
+        put.1 false)
         (early-messages export [] put.0 put.1 false) (talks-unput a s s' p p' greeting e put);
     none_asked = refl;
     by_case = (refl, refl, refl, inl (refl, refl));
@@ -77,11 +86,16 @@ stops-greeted export a b s s' p p' ending put flags =
     let ended = flags.1 in (
       early bytes greeting [] ended,
       record {
-        talks = subst (λ ms. Talks (with_sink a s p) (with_sink b s' p') (Some ending) bytes ms greeting [] ended)
+        talks = subst (λ ms. Talks (with_sink a s p) (with_sink b s' p') (Some ending) bytes ms
+            greeting [] ended)
             (early-messages export bytes greeting [] ended)
-            (subst (λ (w : List ℕ). Talks (with_sink a s p) (with_sink b s' p') (Some ending) bytes (greeting ∷ []) w [] ended) (append-nil greeting)
-            (talks-more _ _ _ (Some ending) [] bytes (greeting ∷ []) [] greeting [] [] ended (talks-put a s s' p p' greeting put)
-            (talks-stopped a b s' p' ending bytes ended flags.2.takes flags.2.at_end flags.2.by_case.0)));
+            (subst (λ (w : List ℕ).
+            Talks (with_sink a s p) (with_sink b s' p') (Some ending) bytes (greeting ∷ []) w []
+            ended) (append-nil greeting)
+            (talks-more _ _ _ (Some ending) [] bytes (greeting ∷ []) [] greeting [] [] ended
+            (talks-put a s s' p p' greeting put)
+            (talks-stopped a b s' p' ending bytes ended flags.2.takes flags.2.at_end
+            flags.2.by_case.0)));
         none_asked = refl;
         by_case = (refl, refl, refl, inr flags.2.by_case.1);
       },
@@ -99,7 +113,8 @@ zeroes-left false n tells = ⊎_elim
     (eqb_tells n 0)
 
 -- a log up to the option that came last
-abbrev pub agreed : Result (Unit {0}) Ending → ℕ → List ClientOption → Option ClientOption → List ℕ → List ℕ → List ℕ → Bool → Log
+abbrev pub agreed : Result (Unit {0}) Ending → ℕ → List ClientOption → Option ClientOption →
+    List ℕ → List ℕ → List ℕ → Bool → Log
 agreed result flags options last taken whole front ended = record {
   stage = negotiating;
   flags = flags;
@@ -112,36 +127,52 @@ agreed result flags options last taken whole front ended = record {
   ended = ended;
 }
 
-agreed-messages : (export : Export) (result : Result (Unit {0}) Ending) (flags : ℕ) (options : List ClientOption) (last : Option ClientOption)
+agreed-messages : (export : Export) (result : Result (Unit {0}) Ending) (flags : ℕ)
+    (options : List ClientOption) (last : Option ClientOption)
     (taken whole front : List ℕ) (ended : Bool) →
-    greeting ∷ ([] ++ (answers_to export (no_zeroes flags) options ++ last_answer export (no_zeroes flags) last))
+    greeting ∷ ([] ++ (answers_to export (no_zeroes flags) options ++ last_answer export
+    (no_zeroes flags) last))
     ≡ messages_of export (agreed result flags options last taken whole front ended)
 agreed-messages export result flags options last taken whole front ended =
-    let said = answers_to export (no_zeroes flags) options ++ last_answer export (no_zeroes flags) last in
+    let said = answers_to export (no_zeroes flags) options ++ last_answer export (no_zeroes flags)
+    last in
     ap (λ x. greeting ∷ x) (sym (ap (λ r. said ++ r) replies_to-none ∙ append-nil said))
 
 abbrev pub HasAgreed : Export → Bool → Moment → Moment → Result (Unit {0}) Ending → Type 0
 HasAgreed export no_zeroes a b result =
-    (options : List ClientOption) × (last : Option ClientOption) × (taken : List ℕ) × (whole : List ℕ) × (front : List ℕ) × (ended : Bool)
+    (options : List ClientOption) × (last : Option ClientOption) × (taken : List ℕ)
+    × (whole : List ℕ) × (front : List ℕ) × (ended : Bool)
     × Answers export no_zeroes 0 a b (course_to result) options last taken whole front ended
 
 still : (options : List ClientOption) → 0 + length options ≡ length options
 still options = omega arith
 
-begins-unended : (options : List ClientOption) (last : Option ClientOption) (n : ℕ) (taken : List ℕ) (ended : Bool) →
+begins-unended : (options : List ClientOption) (last : Option ClientOption) (n : ℕ) (taken : List ℕ)
+    (ended : Bool) →
     AreOptions Begins options last n taken ended → AreOptions Begins options last n taken false
 begins-unended options None n taken ended are = absurd are.course_is
 begins-unended options (Some option) n taken ended are =
-    record { text = are.text; bytes = are.bytes; parts = are.parts; spells = are.spells; course_is = are.course_is }
+    record {
+      text = are.text;
+      bytes = are.bytes;
+      parts = are.parts;
+      spells = are.spells;
+      course_is =
+          are.course_is;
+    }
 
-agreed-case : (result : Result (Unit {0}) Ending) (flags : ℕ) (options : List ClientOption) (last : Option ClientOption)
-    (taken whole front : List ℕ) (ended : Bool) → flags < 4 → AreOptions (course_to result) options last (0 + length options) taken ended →
+agreed-case : (result : Result (Unit {0}) Ending) (flags : ℕ) (options : List ClientOption)
+    (last : Option ClientOption)
+    (taken whole front : List ℕ) (ended : Bool) → flags < 4 →
+    AreOptions (course_to result) options last (0 + length options) taken ended →
     MatchResult result (λ _. IsBegun (agreed result flags options last taken whole front ended))
-    (λ ending. IsUnserved negotiating (agreed result flags options last taken whole front ended) ending)
+    (λ ending. IsUnserved negotiating (agreed result flags options last taken whole front ended)
+    ending)
 agreed-case (Ok u) flags options last taken whole front ended fit are = (
   taken,
   record { fit = fit; parts = refl },
-  begins-unended options last (length options) taken ended (subst (λ (n : ℕ). AreOptions Begins options last n taken ended) (still options) are),
+  begins-unended options last (length options) taken ended
+      (subst (λ (n : ℕ). AreOptions Begins options last n taken ended) (still options) are),
 )
 agreed-case (Err ending) flags options last taken whole front ended fit are = (
   taken,
@@ -150,9 +181,12 @@ agreed-case (Err ending) flags options last taken whole front ended fit are = (
 )
 
 -- the options were answered, up to the last one
-pub goes-agreed : (export : Export) (a b : Reach) (m : Moment) (s s' : Outlet) (p p' : ℕ) (flags : ClientFlags) (left_out : Bool)
-    (result : Result (Unit {0}) Ending) → HasPut s s' p p' greeting (Ok tt) → HasFlagsOf a b (Ok flags) →
-    left_out ≡ no_zeroes flags.bits → HasAgreed export left_out (with_sink b s' p') m result → HasNegotiated export (with_sink a s p) m result
+pub goes-agreed : (export : Export) (a b : Reach) (m : Moment) (s s' : Outlet) (p p' : ℕ)
+    (flags : ClientFlags) (left_out : Bool)
+    (result : Result (Unit {0}) Ending) → HasPut s s' p p' greeting (Ok tt) →
+    HasFlagsOf a b (Ok flags) →
+    left_out ≡ no_zeroes flags.bits → HasAgreed export left_out (with_sink b s' p') m result →
+    HasNegotiated export (with_sink a s p) m result
 goes-agreed export a b m s s' p p' flags left_out result put came is answered =
     let options = answered.0 in
     let last = answered.1 in
@@ -161,26 +195,40 @@ goes-agreed export a b m s s' p p' flags left_out result put came is answered =
     let front = answered.4 in
     let ended = answered.5 in
     let bits = flags.bits in
-    let answers = subst (λ z. Answers export z 0 (with_sink b s' p') m (course_to result) options last taken whole front ended) is answered.6 in
-    let before : Talks (with_sink a s p) (with_sink b s' p') None (u32_text bits) (greeting ∷ []) greeting [] false =
-    subst (λ (w : List ℕ). Talks (with_sink a s p) (with_sink b s' p') None (u32_text bits) (greeting ∷ []) w [] false) (append-nil greeting)
-    (subst (λ (t : List ℕ). Talks (with_sink a s p) (with_sink b s' p') None t (greeting ∷ []) (greeting ++ []) [] false) came.2.by_case.0
-    (talks-more _ _ _ None [] came.0 (greeting ∷ []) [] greeting [] [] false (talks-put a s s' p p' greeting put)
+    let answers = subst (λ z.
+    Answers export z 0 (with_sink b s' p') m (course_to result) options last taken whole front
+    ended) is answered.6 in
+    let before : Talks (with_sink a s p) (with_sink b s' p') None (u32_text bits) (greeting ∷ [])
+    greeting [] false =
+    subst (λ (w : List ℕ).
+    Talks (with_sink a s p) (with_sink b s' p') None (u32_text bits) (greeting ∷ []) w [] false)
+    (append-nil greeting)
+    (subst (λ (t : List ℕ).
+    Talks (with_sink a s p) (with_sink b s' p') None t (greeting ∷ []) (greeting ++ []) []
+    false) came.2.by_case.0
+    (talks-more _ _ _ None [] came.0 (greeting ∷ []) [] greeting [] [] false
+    (talks-put a s s' p p' greeting put)
     (talks-took a b s' p' came.0 came.2.takes came.2.by_case.2))) in
-    let talks = subst (λ ms. Talks (with_sink a s p) m (ending_in (course_to result)) (u32_text bits ++ taken) ms (greeting ++ whole) front ended)
+    let talks = subst (λ ms.
+    Talks (with_sink a s p) m (ending_in (course_to result)) (u32_text bits ++ taken) ms
+    (greeting ++ whole) front ended)
     (agreed-messages export result bits options last taken whole front ended)
-    (talks-more _ _ _ (ending_in (course_to result)) (u32_text bits) taken (greeting ∷ []) _ greeting whole front ended before answers.talks) in (
+    (talks-more _ _ _ (ending_in (course_to result)) (u32_text bits) taken (greeting ∷ []) _
+    greeting whole front ended before answers.talks) in (
       agreed result bits options last taken whole front ended,
       record {
         talks = talks;
         none_asked = refl;
-        by_case = agreed-case result bits options last taken whole front ended came.2.by_case.1 answers.options_are;
+        by_case = agreed-case result bits options last taken whole front ended came.2.by_case.1
+            answers.options_are;
       },
     )
 
 -- the greeting that was put
-pub greeting-put : (s s' : Outlet) (p p' : ℕ) (bits : ℕ) (text : List ℕ) (result : Result (Unit {0}) Failed) → bits ≡ 3 →
-    text ≡ greeting_text (record { flags = record { bits = bits } }) → HasPut s s' p p' text result → HasPut s s' p p' greeting result
+pub greeting-put : (s s' : Outlet) (p p' : ℕ) (bits : ℕ) (text : List ℕ)
+    (result : Result (Unit {0}) Failed) → bits ≡ 3 →
+    text ≡ greeting_text (record { flags = record { bits = bits } }) →
+    HasPut s s' p p' text result → HasPut s s' p p' greeting result
 greeting-put s s' p p' bits text result is text_is put =
     subst (λ (t : List ℕ). HasPut s s' p p' t result) (text_is ∙ greeting-is bits is) put
 
@@ -197,8 +245,10 @@ pub unserved-unspent : (stage : Stage) (log : Log) → IsUnserved stage log Port
 unserved-unspent greeted log is = ⊎_elim (λ silent. absurd (cc)) (λ stops. stops) is.3
 unserved-unspent negotiating log is = options-unspent log.last is.2
   where
-    options-unspent : (last : Option ClientOption) → AreOptions (Ends PortSpent) log.options last (length log.options) is.0 log.ended → ⊥
+    options-unspent : (last : Option ClientOption) →
+        AreOptions (Ends PortSpent) log.options last (length log.options) is.0 log.ended → ⊥
     options-unspent None are = are.course_is.0
     options-unspent (Some option) are =
-        ⊎_elim (λ by. verdict-spent (verdict_of option.option option.body) by) (λ sink. absurd (cc)) are.course_is.1
+        ⊎_elim (λ by. verdict-spent (verdict_of option.option option.body) by) (λ sink. absurd (cc))
+        are.course_is.1
 unserved-unspent served log is = is

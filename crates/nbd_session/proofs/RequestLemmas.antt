@@ -1,5 +1,7 @@
 -- Requests that were served, joined.
-use Rattle.std.proofs.Common.{◌≡◌, ℕ, ◌+◌, ◌^◌, ◌<◌, Bool, false, List, [], ◌∷◌, ◌++◌, Option, Some, None, length, ap, ◌∙◌, refl, sym, subst, arith, append_assoc, append-nil, length-append}
+use Rattle.std.proofs.Common.{◌≡◌, ℕ, ◌+◌, ◌^◌, ◌<◌, Bool, false, List, [], ◌∷◌, ◌++◌, Option, Some}
+use Rattle.std.proofs.Common.{None, length, ap, ◌∙◌, refl, sym, subst, arith, append_assoc}
+use Rattle.std.proofs.Common.{append-nil, length-append}
 use Rattle.plain_disk.specs.declared.operation.Op.{Op}
 use Rattle.plain_disk.specs.declared.operation.Reply.TheVariants.{Errno}
 use Rattle.io_edge.specs.Outlet.{Outlet}
@@ -16,11 +18,15 @@ use Rattle.nbd_session.specs.Taking.{NextIs}
 use Rattle.nbd_session.specs.Traffic.{Reach, Takes}
 use Rattle.nbd_session.specs.Turns.{Turn, Spells, IsAnswered, exchange_of, exchanges_of, replies_to}
 use Rattle.nbd_session.proofs.MomentLemmas.{with_sink}
-use Rattle.nbd_session.proofs.TalkLemmas.{talks-none, talks-took, talks-stopped, talks-put, talks-unput, talks-more, talks-answered, talks-on, talks-enough}
+use Rattle.nbd_session.proofs.TalkLemmas.{talks-none, talks-took, talks-stopped, talks-put}
+use Rattle.nbd_session.proofs.TalkLemmas.{talks-unput, talks-more, talks-answered, talks-on}
+use Rattle.nbd_session.proofs.TalkLemmas.{talks-enough}
 
-Spells-append : (xs ys : List Turn) (a b : List ℕ) → Spells xs a → Spells ys b → Spells (xs ++ ys) (a ++ b)
+Spells-append : (xs ys : List Turn) (a b : List ℕ) → Spells xs a → Spells ys b →
+    Spells (xs ++ ys) (a ++ b)
 unfolding Spells
-Spells-append [] ys a b first second = subst (λ (bytes : List ℕ). Spells ys bytes) (sym (ap (λ x. x ++ b) first)) second
+Spells-append [] ys a b first second =
+    subst (λ (bytes : List ℕ). Spells ys bytes) (sym (ap (λ x. x ++ b) first)) second
 Spells-append (x ∷ xs) ys a b first second = (
   first.0,
   first.1 ++ b,
@@ -34,9 +40,11 @@ spells-none : Spells [] []
 unfolding Spells
 spells-none = refl
 
-spells-one : (turn : Turn) (bytes : List ℕ) → IsMessage bytes turn.cookie turn.asked → IsAnswered turn.asked turn.submitted turn.reply turn.tried → Spells (turn ∷ []) bytes
+spells-one : (turn : Turn) (bytes : List ℕ) → IsMessage bytes turn.cookie turn.asked →
+    IsAnswered turn.asked turn.submitted turn.reply turn.tried → Spells (turn ∷ []) bytes
 unfolding Spells
-spells-one turn bytes message answered = (bytes, [], sym (append-nil bytes), message, answered, refl)
+spells-one turn bytes message answered =
+    (bytes, [], sym (append-nil bytes), message, answered, refl)
 
 pub replies_to-none : replies_to [] ≡ []
 unfolding replies_to
@@ -51,56 +59,69 @@ unfolding replies_to
 replies_to-append [] ys = refl
 replies_to-append (x ∷ xs) ys = ap (λ t. reply_text x.cookie x.reply ∷ t) (replies_to-append xs ys)
 
-pub exchanges_of-append : (xs ys : List Turn) → exchanges_of (xs ++ ys) ≡ exchanges_of xs ++ exchanges_of ys
+pub exchanges_of-append : (xs ys : List Turn) →
+    exchanges_of (xs ++ ys) ≡ exchanges_of xs ++ exchanges_of ys
 unfolding exchanges_of
 exchanges_of-append [] ys = refl
 exchanges_of-append (x ∷ xs) ys =
     ap (λ t. exchange_of x.asked x.submitted x.reply x.tried ++ t) (exchanges_of-append xs ys)
-    ∙ sym (append_assoc (exchange_of x.asked x.submitted x.reply x.tried) (exchanges_of xs) (exchanges_of ys))
+    ∙ sym (append_assoc (exchange_of x.asked x.submitted x.reply x.tried) (exchanges_of xs)
+    (exchanges_of ys))
 
 pub exchanges_of-none : exchanges_of [] ≡ []
 unfolding exchanges_of
 exchanges_of-none = refl
 
-pub exchanges_of-one : (turn : Turn) → exchanges_of (turn ∷ []) ≡ exchange_of turn.asked turn.submitted turn.reply turn.tried
+pub exchanges_of-one : (turn : Turn) →
+    exchanges_of (turn ∷ []) ≡ exchange_of turn.asked turn.submitted turn.reply turn.tried
 unfolding exchanges_of
 exchanges_of-one turn = append-nil (exchange_of turn.asked turn.submitted turn.reply turn.tried)
 
 -- what the source brings is an end of the requests
-stops-end : (ending : Ending) (ended : Bool) (bytes : List ℕ) → StopsRequests ending ended bytes → EndsRequests ending ended bytes
+stops-end : (ending : Ending) (ended : Bool) (bytes : List ℕ) → StopsRequests ending ended bytes →
+    EndsRequests ending ended bytes
 stops-end (TooMany m) ended bytes stops = absurd stops
 stops-end WriteFault ended bytes stops = absurd stops
 stops-end PortSpent ended bytes stops = absurd stops
 stops-end _ ended bytes stops = stops
 
-stops-count : (ending : Ending) (ended : Bool) (bytes : List ℕ) (n : ℕ) → StopsRequests ending ended bytes → n < 2 ^ 32 → IsCount (2 ^ 32) ending n
+stops-count : (ending : Ending) (ended : Bool) (bytes : List ℕ) (n : ℕ) →
+    StopsRequests ending ended bytes → n < 2 ^ 32 → IsCount (2 ^ 32) ending n
 stops-count (TooMany m) ended bytes n stops fewer = absurd stops
 stops-count WriteFault ended bytes n stops fewer = absurd stops
 stops-count _ ended bytes n stops fewer = fewer
 
 -- the session ended where a request was to come
-pub serves-stop : (a b : Reach) (s : Outlet) (p : ℕ) (ending : Ending) (bytes : List ℕ) (ended : Bool) (n : ℕ) →
+pub serves-stop : (a b : Reach) (s : Outlet) (p : ℕ) (ending : Ending) (bytes : List ℕ)
+    (ended : Bool) (n : ℕ) →
     NextIs a b (Stop ending) bytes ended → n < 2 ^ 32 →
     Serves n (with_sink a s p) (with_sink b s p) (Some ending) [] bytes [] [] ended
 serves-stop a b s p ending bytes ended n next fewer = record {
-  talks = subst (λ ms. Talks (with_sink a s p) (with_sink b s p) (Some ending) bytes ms [] [] ended) (sym replies_to-none)
+  talks = subst (λ ms. Talks (with_sink a s p) (with_sink b s p) (Some ending) bytes ms [] [] ended)
+      (sym replies_to-none)
       (talks-stopped a b s p ending bytes ended next.takes next.at_end next.by_case.0);
   requests_are = record {
     text = [];
     bytes = bytes;
     parts = refl;
     spells = spells-none;
-    ends = (stops-end ending ended bytes next.by_case.1, stops-count ending ended bytes (n + 0) next.by_case.1 (omega arith));
+    ends = (
+      stops-end ending ended bytes next.by_case.1,
+      stops-count ending ended bytes (n + 0) next.by_case.1 (omega arith),
+    );
   };
 }
 
 -- the port was spent
-pub serves-spent : (a b : Reach) (s : Outlet) (p : ℕ) (cookie : ℕ) (op : Op) (bytes : List ℕ) (ended : Bool) (n : ℕ) →
+pub serves-spent : (a b : Reach) (s : Outlet) (p : ℕ) (cookie : ℕ) (op : Op) (bytes : List ℕ)
+    (ended : Bool) (n : ℕ) →
     NextIs a b (Ask cookie op) bytes ended → n < 2 ^ 32 →
     Serves n (with_sink a s p) (with_sink b s p) (Some PortSpent) [] bytes [] [] false
 serves-spent a b s p cookie op bytes ended n next fewer = record {
-  talks = subst (λ ms. Talks (with_sink a s p) (with_sink b s p) (Some PortSpent) bytes ms [] [] false) (sym replies_to-none)
-      (talks-enough _ _ PortSpent bytes [] [] [] refl (talks-took a b s p bytes next.takes next.by_case.1));
+  talks = subst (λ ms. Talks (with_sink a s p) (with_sink b s p) (Some PortSpent) bytes ms [] []
+      false) (sym replies_to-none)
+      (talks-enough _ _ PortSpent bytes [] [] [] refl
+      (talks-took a b s p bytes next.takes next.by_case.1));
   requests_are = record {
     text = [];
     bytes = bytes;
@@ -111,17 +132,24 @@ serves-spent a b s p cookie op bytes ended n next fewer = record {
 }
 
 -- a request was taken, and its reply put or not
-pub serves-turn : (a b : Reach) (s s' : Outlet) (p p' : ℕ) (turn : Turn) (bytes : List ℕ) (result : Option Ending) →
-    Takes a b bytes → b.source.faults ≡ a.source.faults → IsMessage bytes turn.cookie turn.asked → IsAnswered turn.asked turn.submitted turn.reply turn.tried →
-    ((whole : List ℕ) × (front : List ℕ) × Replies s s' p p' (reply_text turn.cookie turn.reply) result whole front) →
-    (whole : List ℕ) × (front : List ℕ) × ((n : ℕ) → n < 2 ^ 32 → Serves n (with_sink a s p) (with_sink b s' p') result (turn ∷ []) bytes whole front false)
+pub serves-turn : (a b : Reach) (s s' : Outlet) (p p' : ℕ) (turn : Turn) (bytes : List ℕ)
+    (result : Option Ending) →
+    Takes a b bytes → b.source.faults ≡ a.source.faults → IsMessage bytes turn.cookie turn.asked →
+    IsAnswered turn.asked turn.submitted turn.reply turn.tried →
+    ((whole : List ℕ) × (front : List ℕ)
+    × Replies s s' p p' (reply_text turn.cookie turn.reply) result whole front) →
+    (whole : List ℕ) × (front : List ℕ)
+    × ((n : ℕ) → n < 2 ^ 32 →
+    Serves n (with_sink a s p) (with_sink b s' p') result (turn ∷ []) bytes whole front false)
 serves-turn a b s s' p p' turn bytes None takes held message answered replies =
     let text = reply_text turn.cookie turn.reply in (
       text,
       [],
       λ n fewer. record {
-        talks = subst (λ ms. Talks (with_sink a s p) (with_sink b s' p') None bytes ms text [] false) (replies_to-one turn)
-            (talks-answered _ _ _ None bytes _ _ [] false (talks-took a b s p bytes takes held) (talks-put b s s' p p' text replies));
+        talks = subst (λ ms. Talks (with_sink a s p) (with_sink b s' p') None bytes ms text []
+            false) (replies_to-one turn)
+            (talks-answered _ _ _ None bytes _ _ [] false (talks-took a b s p bytes takes held)
+            (talks-put b s s' p p' text replies));
         requests_are = record {
           text = bytes;
           bytes = [];
@@ -136,26 +164,32 @@ serves-turn a b s s' p p' turn bytes (Some ending) takes held message answered r
     let fault = replies.2 in (
       replies.0,
       replies.1,
-      λ n fewer. subst (λ e. Serves n (with_sink a s p) (with_sink b s' p') (Some e) (turn ∷ []) bytes replies.0 replies.1 false) (sym fault.0) (record {
-        talks = subst (λ ms. Talks (with_sink a s p) (with_sink b s' p') (Some WriteFault) bytes ms replies.0 replies.1 false) (replies_to-one turn)
-            (talks-answered _ _ _ (Some WriteFault) bytes _ _ replies.1 false (talks-took a b s p bytes takes held)
-            (talks-unput b s s' p p' text fault.1.0 (replies.0, replies.1, fault.1.1)));
-        requests_are = record {
-          text = bytes;
-          bytes = [];
-          parts = sym (append-nil bytes);
-          spells = spells-one turn bytes message answered;
-          ends = (refl, (omega arith, omega arith));
-        };
-      }),
+      λ n fewer. subst (λ e.
+          Serves n (with_sink a s p) (with_sink b s' p') (Some e) (turn ∷ []) bytes replies.0
+          replies.1 false) (sym fault.0) (record {
+            talks = subst (λ ms. Talks (with_sink a s p) (with_sink b s' p') (Some WriteFault) bytes ms
+                replies.0 replies.1 false) (replies_to-one turn)
+                (talks-answered _ _ _ (Some WriteFault) bytes _ _ replies.1 false
+                (talks-took a b s p bytes takes held)
+                (talks-unput b s s' p p' text fault.1.0 (replies.0, replies.1, fault.1.1)));
+            requests_are = record {
+              text = bytes;
+              bytes = [];
+              parts = sym (append-nil bytes);
+              spells = spells-one turn bytes message answered;
+              ends = (refl, (omega arith, omega arith));
+            };
+          }),
     )
 
 -- a request that the session itself refuses
-pub refused-answered : (asked : Option Op) (number : ℕ) → IsRefusal asked number → IsAnswered asked false (Errno number) 0
+pub refused-answered : (asked : Option Op) (number : ℕ) → IsRefusal asked number →
+    IsAnswered asked false (Errno number) 0
 refused-answered None number is = (refl, ap Errno is, refl)
 refused-answered (Some op) number is = (ap Errno is, refl)
 
-pub refused-exchanges : (asked : Option Op) (number : ℕ) → exchange_of asked false (Errno number) 0 ≡ []
+pub refused-exchanges : (asked : Option Op) (number : ℕ) →
+    exchange_of asked false (Errno number) 0 ≡ []
 refused-exchanges None number = refl
 refused-exchanges (Some op) number = refl
 
@@ -168,7 +202,8 @@ serves-none m = record {
 }
 
 -- requests were served, and then others
-pub serves-more : (a b c : Moment) (result : Option Ending) (k : ℕ) (xs ys : List Turn) (ts us vs ws front : List ℕ) (ended : Bool) →
+pub serves-more : (a b c : Moment) (result : Option Ending) (k : ℕ) (xs ys : List Turn)
+    (ts us vs ws front : List ℕ) (ended : Bool) →
     Serves 0 a b None xs ts vs [] false → k ≡ length xs → Serves k b c result ys us ws front ended →
     Serves 0 a c result (xs ++ ys) (ts ++ us) (vs ++ ws) front ended
 serves-more a b c result k xs ys ts us vs ws front ended first is second =
@@ -177,13 +212,15 @@ serves-more a b c result k xs ys ts us vs ws front ended first is second =
     let text : ts ≡ r.text = r.parts ∙ ap (λ x. r.text ++ x) r.ends ∙ append-nil r.text in
     let count : k + length ys ≡ 0 + length (xs ++ ys) = omega (arith, length-append xs ys, is) in
     record {
-      talks = subst (λ ms. Talks a c result (ts ++ us) ms (vs ++ ws) front ended) (replies_to-append xs ys)
+      talks = subst (λ ms. Talks a c result (ts ++ us) ms (vs ++ ws) front ended)
+          (replies_to-append xs ys)
           (talks-more a b c result ts us _ _ vs ws front ended first.talks second.talks);
       requests_are = record {
         text = ts ++ s.text;
         bytes = s.bytes;
         parts = ap (λ x. ts ++ x) s.parts ∙ sym (append_assoc ts s.text s.bytes);
-        spells = Spells-append xs ys ts s.text (subst (λ (x : List ℕ). Spells xs x) (sym text) r.spells) s.spells;
+        spells = Spells-append xs ys ts s.text
+            (subst (λ (x : List ℕ). Spells xs x) (sym text) r.spells) s.spells;
         ends = subst (λ (n : ℕ). RequestsEnd result n ended s.bytes) count s.ends;
       };
     }
@@ -195,15 +232,28 @@ serves-on a b n xs ts vs front ended serves =
     let r = serves.requests_are in
     record {
       talks = talks-on a b ts (replies_to xs) vs front ended serves.talks;
-      requests_are = record { text = r.text; bytes = r.bytes; parts = r.parts; spells = r.spells; ends = r.ends };
+      requests_are = record {
+        text = r.text;
+        bytes = r.bytes;
+        parts = r.parts;
+        spells = r.spells;
+        ends = r.ends;
+      };
     }
 
 -- the most requests were served
-pub serves-too_many : (a b : Moment) (xs : List Turn) (ts vs : List ℕ) → Serves 0 a b None xs ts vs [] false → length xs ≡ 2 ^ 32 →
+pub serves-too_many : (a b : Moment) (xs : List Turn) (ts vs : List ℕ) →
+    Serves 0 a b None xs ts vs [] false → length xs ≡ 2 ^ 32 →
     Serves 0 a b (Some (TooMany (2 ^ 32))) xs ts vs [] false
 serves-too_many a b xs ts vs serves count =
     let r = serves.requests_are in
     record {
       talks = talks-enough a b (TooMany (2 ^ 32)) ts (replies_to xs) vs [] refl serves.talks;
-      requests_are = record { text = r.text; bytes = r.bytes; parts = r.parts; spells = r.spells; ends = (r.ends, (omega arith, omega arith)) };
+      requests_are = record {
+        text = r.text;
+        bytes = r.bytes;
+        parts = r.parts;
+        spells = r.spells;
+        ends = (r.ends, (omega arith, omega arith));
+      };
     }

@@ -1,5 +1,6 @@
 -- What went between two moments and then between two later ones went between the outer ones.
-use Rattle.std.proofs.Common.{ℕ, ◌≤◌, List, [], ◌++◌, Some, ap, ◌∙◌, refl, append_assoc, append-nil, sym, ⊎_elim, inl, inr, arith}
+use Rattle.std.proofs.Common.{ℕ, ◌≤◌, List, [], ◌++◌, Some, ap, ◌∙◌, refl, append_assoc, append-nil}
+use Rattle.std.proofs.Common.{sym, ⊎_elim, inl, inr, arith}
 use Rattle.base_terms.specs.Causes.{Rose}
 use Rattle.io_edge.specs.Intake.{Intake}
 use Rattle.io_edge.specs.Outlet.{Outlet}
@@ -13,7 +14,8 @@ took_none a = record {
 
 pub took_more : (a b c : Intake) (xs ys : List ℕ) → Took a b xs → Took b c ys → Took a c (xs ++ ys)
 took_more a b c xs ys first second = record {
-  given = λ had is. second.given (had ++ xs) (first.given had is) ∙ ap Some (append_assoc had xs ys);
+  given = λ had is. second.given (had ++ xs) (first.given had is)
+      ∙ ap Some (append_assoc had xs ys);
   left = λ all is.
       let front = first.left all is in
       let rear = second.left front.0 front.2 in
@@ -26,8 +28,10 @@ ended_later a b c xs took ended all is = let front = took.left all is in ended f
 pub sent_none : (s : Outlet) → Sent s s []
 sent_none s xs is = is ∙ ap Some (sym (append-nil xs))
 
-pub sent_more : (s s' s'' : Outlet) (xs ys : List ℕ) → Sent s s' xs → Sent s' s'' ys → Sent s s'' (xs ++ ys)
-sent_more s s' s'' xs ys first second had is = second (had ++ xs) (first had is) ∙ ap Some (append_assoc had xs ys)
+pub sent_more : (s s' s'' : Outlet) (xs ys : List ℕ) → Sent s s' xs → Sent s' s'' ys →
+    Sent s s'' (xs ++ ys)
+sent_more s s' s'' xs ys first second had is = second (had ++ xs) (first had is)
+    ∙ ap Some (append_assoc had xs ys)
 
 -- a count that rose since a moment rose since an earlier one
 pub rose_earlier : (f f' f'' : ℕ) → f ≤ f' → Rose f' f'' → Rose f f''
@@ -35,4 +39,5 @@ rose_earlier f f' f'' early rose = ⊎_elim (λ risen. inl (omega arith)) (λ la
 
 -- a count that rose between two moments rose between outer ones
 pub rose_within : (f f' f'' f''' : ℕ) → f ≤ f' → f'' ≤ f''' → Rose f' f'' → Rose f f'''
-rose_within f f' f'' f''' early late rose = ⊎_elim (λ risen. inl (omega arith)) (λ last. inr (omega arith)) rose
+rose_within f f' f'' f''' early late rose =
+    ⊎_elim (λ risen. inl (omega arith)) (λ last. inr (omega arith)) rose

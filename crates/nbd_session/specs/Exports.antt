@@ -3,7 +3,8 @@ use Rattle.nbd_session.specs.declared.export.Export.{Export}
 use Rattle.nbd_wire.specs.declared.exports.BlockSizes.{BlockSizes}
 use Rattle.nbd_wire.specs.declared.exports.ExportData.{ExportData}
 
--- its size and its flags: "has flags" (bit 0), "send flush" (2), "send FUA" (3), "can multi conn" (8)
+-- its size and its flags: "has flags" (bit 0), "send flush" (2), "send FUA" (3), "can multi conn"
+-- (8)
 abbrev pub export_data : Export → ExportData
 export_data export = record { size = export.size; flags = record { bits = 269 } }
 

@@ -1,8 +1,12 @@
 -- Options and endings, on whole strings of bytes.
-use Rattle.std.specs.Prelude.{ℕ, ◌≡◌, ◌≢◌, ◌<◌, ◌≤◌, ◌^◌, ◌⊎◌, Bool, true, List, [], ◌∷◌, ◌++◌, length, take, map, Option, Some, None}
+use Rattle.std.specs.Prelude.{ℕ, ◌≡◌, ◌≢◌, ◌<◌, ◌≤◌, ◌^◌, ◌⊎◌, Bool, true, List, [], ◌∷◌, ◌++◌}
+use Rattle.std.specs.Prelude.{length, take, map, Option, Some, None}
 use Rattle.plain_disk.specs.declared.operation.Op.{Op}
 use Rattle.nbd_session.specs.declared.ending.Ending.{Ending}
-use Rattle.nbd_session.specs.declared.ending.Ending.TheVariants.{Disconnected, Aborted, Closed, Truncated, BadFlags, BadMagic, TooLong, TooMany, PortSpent, ReadFault, WriteFault, Memory}
+use Rattle.nbd_session.specs.declared.ending.Ending.TheVariants.{Disconnected, Aborted, Closed}
+use Rattle.nbd_session.specs.declared.ending.Ending.TheVariants.{Truncated, BadFlags, BadMagic}
+use Rattle.nbd_session.specs.declared.ending.Ending.TheVariants.{TooLong, TooMany, PortSpent}
+use Rattle.nbd_session.specs.declared.ending.Ending.TheVariants.{ReadFault, WriteFault, Memory}
 use Rattle.nbd_session.specs.declared.export.Export.{Export}
 use Rattle.nbd_session.specs.declared.options.ClientOption.{ClientOption}
 use Rattle.nbd_session.specs.declared.options.Course.{Course}
@@ -43,7 +47,8 @@ pub record IsHeadAlone (bytes : List ℕ) (head : OptionHead) : Type 0 where
   pub is_head : IsOptionHead head
   pub parts : bytes ≡ option_text head
 
--- The bytes that a session took of the client's flags, by the ending that they brought. `ended` says that
+-- The bytes that a session took of the client's flags, by the ending that they brought. `ended`
+-- says that
 -- the source had no more.
 abbrev pub StopsFlags : Ending → Bool → List ℕ → Type 0
 StopsFlags Closed ended bytes = (bytes ≡ []) × (ended ≡ true)
@@ -55,24 +60,31 @@ StopsFlags _ ended bytes = ⊥
 -- the bytes that a session took where an option was to come, by the ending that they brought
 abbrev pub StopsOptions : Ending → Bool → List ℕ → Type 0
 StopsOptions Closed ended bytes = (bytes ≡ []) × (ended ≡ true)
-StopsOptions (Truncated n) ended bytes = (length bytes ≡ n) × (0 < n) × (ended ≡ true) × IsCutOption bytes
-StopsOptions (BadMagic n) ended bytes = (length bytes ≡ 16) × (u64_text n ≡ take 8 bytes) × (n ≢ option_magic) × (n < 2 ^ 64)
-StopsOptions (TooLong n) ended bytes = (head : OptionHead) × IsHeadAlone bytes head × (n ≡ head.length) × (65536 < n)
+StopsOptions (Truncated n) ended bytes = (length bytes ≡ n) × (0 < n) × (ended ≡ true)
+    × IsCutOption bytes
+StopsOptions (BadMagic n) ended bytes = (length bytes ≡ 16) × (u64_text n ≡ take 8 bytes)
+    × (n ≢ option_magic) × (n < 2 ^ 64)
+StopsOptions (TooLong n) ended bytes = (head : OptionHead) × IsHeadAlone bytes head
+    × (n ≡ head.length) × (65536 < n)
 StopsOptions ReadFault ended bytes = IsCutOption bytes
-StopsOptions Memory ended bytes = (head : OptionHead) × IsHeadAlone bytes head × (0 < head.length) × (head.length ≤ 65536)
+StopsOptions Memory ended bytes = (head : OptionHead) × IsHeadAlone bytes head × (0 < head.length)
+    × (head.length ≤ 65536)
 StopsOptions _ ended bytes = ⊥
 
 -- the same where a request was to come
 abbrev pub StopsRequests : Ending → Bool → List ℕ → Type 0
 StopsRequests Disconnected ended bytes = IsLastHead bytes Disconnected
 StopsRequests Closed ended bytes = (bytes ≡ []) × (ended ≡ true)
-StopsRequests (Truncated n) ended bytes = (length bytes ≡ n) × (0 < n) × (ended ≡ true) × IsCutRequest bytes
-StopsRequests (BadMagic n) ended bytes = (length bytes ≡ 28) × (u32_text n ≡ take 4 bytes) × (n ≢ request_magic) × (n < 2 ^ 32)
+StopsRequests (Truncated n) ended bytes = (length bytes ≡ n) × (0 < n) × (ended ≡ true)
+    × IsCutRequest bytes
+StopsRequests (BadMagic n) ended bytes = (length bytes ≡ 28) × (u32_text n ≡ take 4 bytes)
+    × (n ≢ request_magic) × (n < 2 ^ 32)
 StopsRequests (TooLong n) ended bytes = IsLastHead bytes (TooLong n)
 StopsRequests ReadFault ended bytes = IsCutRequest bytes
 StopsRequests _ ended bytes = ⊥
 
--- How many options or requests were answered, by the ending: the most that one session may have only
+-- How many options or requests were answered, by the ending: the most that one session may have
+-- only
 -- where that ended it, or where the answer to the last of so many didn't go out.
 abbrev pub IsCount : ℕ → Ending → ℕ → Type 0
 IsCount most (TooMany m) n = (m ≡ n) × (n ≡ most)
@@ -99,14 +111,17 @@ course_after option = course_of (verdict_of option.option option.body)
 -- an option ends the session, by itself or since its answer didn't go out
 abbrev pub EndsBy : ClientOption → Ending → Type 0
 EndsBy option ending =
-    (course_after option ≡ Ends ending) ⊎ ((ending ≡ WriteFault) × ((course_after option ≡ Begins) ⊎ (course_after option ≡ Ends Aborted)))
+    (course_after option ≡ Ends ending)
+    ⊎ ((ending ≡ WriteFault)
+    × ((course_after option ≡ Begins) ⊎ (course_after option ≡ Ends Aborted)))
 
 -- the bytes are these options, one after the other, after each of which the negotiation goes on
 unfoldable pub SpellsOptions : List ClientOption → List ℕ → Type 0
 SpellsOptions [] bytes = bytes ≡ []
 SpellsOptions (option ∷ options) bytes =
     (message : List ℕ) × (rest : List ℕ) × (bytes ≡ message ++ rest)
-    × IsOption message option.option option.body × (course_after option ≡ GoesOn) × SpellsOptions options rest
+    × IsOption message option.option option.body × (course_after option ≡ GoesOn)
+    × SpellsOptions options rest
 
 -- how the options came to an end: by the bytes that come next, or by one last option
 abbrev pub CourseIs : Course → Option ClientOption → ℕ → Bool → List ℕ → Type 0
@@ -120,7 +135,8 @@ CourseIs (Ends ending) (Some option) n ended bytes =
     IsOption bytes option.option option.body × EndsBy option ending × (n < 65536)
 
 -- These bytes are some options behind `n` earlier ones, with what comes then.
-pub record AreOptions (course : Course) (options : List ClientOption) (last : Option ClientOption) (n : ℕ) (taken : List ℕ) (ended : Bool) : Type 0 where
+pub record AreOptions (course : Course) (options : List ClientOption) (last : Option ClientOption)
+    (n : ℕ) (taken : List ℕ) (ended : Bool) : Type 0 where
   pub text : List ℕ
   pub bytes : List ℕ
   pub parts : taken ≡ text ++ bytes
@@ -130,10 +146,12 @@ pub record AreOptions (course : Course) (options : List ClientOption) (last : Op
 -- how the requests came to an end, or that they go on
 abbrev pub RequestsEnd : Option Ending → ℕ → Bool → List ℕ → Type 0
 RequestsEnd None n ended bytes = bytes ≡ []
-RequestsEnd (Some ending) n ended bytes = EndsRequests ending ended bytes × IsCount (2 ^ 32) ending n
+RequestsEnd (Some ending) n ended bytes = EndsRequests ending ended bytes
+    × IsCount (2 ^ 32) ending n
 
 -- These bytes are some requests, of `n` in all, with what comes then.
-pub record AreRequests (result : Option Ending) (turns : List Turn) (n : ℕ) (taken : List ℕ) (ended : Bool) : Type 0 where
+pub record AreRequests (result : Option Ending) (turns : List Turn) (n : ℕ) (taken : List ℕ)
+    (ended : Bool) : Type 0 where
   pub text : List ℕ
   pub bytes : List ℕ
   pub parts : taken ≡ text ++ bytes
@@ -142,7 +160,9 @@ pub record AreRequests (result : Option Ending) (turns : List Turn) (n : ℕ) (t
 
 -- the answers to options
 unfoldable pub answers_to : Export → Bool → List ClientOption → List (List ℕ)
-answers_to export no_zeroes options = map (λ option. answer_of export no_zeroes option.option (verdict_of option.option option.body)) options
+answers_to export no_zeroes options =
+    map (λ option. answer_of export no_zeroes option.option (verdict_of option.option option.body))
+    options
 
 -- the answer to the option that came last, if one did
 abbrev pub last_answer : Export → Bool → Option ClientOption → List (List ℕ)

@@ -8,4 +8,5 @@ number2 xs at = from_be_bytes w16 (slice_index xs at ∷ slice_index xs (at + 1)
 
 abbrev pub number4 : List ℕ → ℕ → ℕ
 number4 xs at =
-    from_be_bytes w32 (slice_index xs at ∷ slice_index xs (at + 1) ∷ slice_index xs (at + 2) ∷ slice_index xs (at + 3) ∷ [])
+    from_be_bytes w32 (slice_index xs at ∷ slice_index xs (at + 1) ∷ slice_index xs
+    (at + 2) ∷ slice_index xs (at + 3) ∷ [])

@@ -1,11 +1,14 @@
 -- What a client asks by an option, what it is answered, and what comes then.
-use Rattle.std.specs.Prelude.{ℕ, ◌+◌, ◌*◌, Bool, true, false, ◌==◌, ◌||◌, ◌&&◌, nat_lt, if◌then◌else◌, List, [], ◌∷◌, ◌++◌, length, replicate, slice_range, codes, Option, Some, None}
+use Rattle.std.specs.Prelude.{ℕ, ◌+◌, ◌*◌, Bool, true, false, ◌==◌, ◌||◌, ◌&&◌, nat_lt}
+use Rattle.std.specs.Prelude.{if◌then◌else◌, List, [], ◌∷◌, ◌++◌, length, replicate, slice_range}
+use Rattle.std.specs.Prelude.{codes, Option, Some, None}
 use Rattle.nbd_session.specs.declared.ending.Ending.TheVariants.{Aborted, UnknownExport}
 use Rattle.nbd_session.specs.declared.export.Export.{Export}
 use Rattle.nbd_session.specs.declared.options.Course.{Course}
 use Rattle.nbd_session.specs.declared.options.Course.TheVariants.{GoesOn, Begins, Ends}
 use Rattle.nbd_session.specs.declared.options.Verdict.{Verdict}
-use Rattle.nbd_session.specs.declared.options.Verdict.TheVariants.{Tell, Agree, Refuse, Abort, Unknown}
+use Rattle.nbd_session.specs.declared.options.Verdict.TheVariants.{Tell, Agree, Refuse, Abort}
+use Rattle.nbd_session.specs.declared.options.Verdict.TheVariants.{Unknown}
 use Rattle.nbd_session.specs.Exports.{export_data, block_sizes}
 use Rattle.nbd_session.specs.Numbers.{number2, number4}
 use Rattle.nbd_wire.specs.declared.options.OptionType.{OptionType}
@@ -26,12 +29,14 @@ is_same (x ∷ xs) (y ∷ ys) = (x == y) && is_same xs ys
 abbrev pub is_ours : List ℕ → Bool
 is_ours name = (length name == 0) || is_same name (codes "volume")
 
--- The name in the data of GO: u32 length, name, u16 count, and so many u16 types of information. None
+-- The name in the data of GO: u32 length, name, u16 count, and so many u16 types of information.
+-- None
 -- of data that isn't exactly this.
 abbrev pub info_name_of : ℕ → List ℕ → Option (List ℕ)
 info_name_of len body =
     if nat_lt (length body) (6 + len) then None
-    else (if length body == 6 + len + 2 * number2 body (4 + len) then Some (slice_range body 4 (4 + len)) else None)
+    else (if length body == 6 + len + 2 * number2 body (4 + len)
+    then Some (slice_range body 4 (4 + len)) else None)
 
 unfoldable pub info_name : List ℕ → Option (List ℕ)
 info_name body = if nat_lt (length body) 6 then None else info_name_of (number4 body 0) body
@@ -70,7 +75,12 @@ told_text export false = export_text (export_data export) ++ replicate 124 0
 abbrev pub answer_of : Export → Bool → OptionType → Verdict → List ℕ
 answer_of export no_zeroes option Tell = told_text export no_zeroes
 answer_of export no_zeroes option Agree =
-    info_replies_text (record { option = option; export = export_data export; blocks = block_sizes export })
+    info_replies_text (record {
+      option = option;
+      export = export_data export;
+      blocks =
+          block_sizes export;
+    })
 answer_of export no_zeroes option (Refuse reply) = option_reply_text (reply_head option reply 0)
 answer_of export no_zeroes option Abort = option_reply_text (reply_head option Replies.Ack 0)
 answer_of export no_zeroes option Unknown = []

@@ -5,7 +5,8 @@ use Rattle.plain_disk.specs.Plain.{Exchange}
 use Rattle.nbd_session.specs.declared.port.Submitted.{Submitted}
 use Rattle.nbd_session.specs.declared.port.Submitted.TheVariants.{Replied, Spent}
 
--- the operation, of which so many bytes were tried where it is a write, was answered; a spent port did nothing
+-- the operation, of which so many bytes were tried where it is a write, was answered; a spent port
+-- did nothing
 abbrev pub exchanges_by : Op → ℕ → Submitted → List Exchange
 exchanges_by op n (Replied reply buffer) = record { op = op; reply = reply; tried = n } ∷ []
 exchanges_by op n Spent = []

@@ -1,5 +1,6 @@
 -- What is put of one text.
-use Rattle.std.specs.Prelude.{ℕ, ◌≡◌, ◌+◌, ◌≤◌, ◌⊎◌, List, [], ◌++◌, length, Option, MatchOption, Result, Ok, Err, MatchResult}
+use Rattle.std.specs.Prelude.{ℕ, ◌≡◌, ◌+◌, ◌≤◌, ◌⊎◌, List, [], ◌++◌, length, Option, MatchOption}
+use Rattle.std.specs.Prelude.{Result, Ok, Err, MatchResult}
 use Rattle.base_terms.specs.declared.failed.Failed.{Failed}
 use Rattle.base_terms.specs.Causes.{Rose}
 use Rattle.io_edge.specs.Outlet.{Outlet}
@@ -10,7 +11,8 @@ use Rattle.nbd_session.specs.Traffic.{Sent}
 
 -- Of this text these pieces were put whole, and this front of the piece that failed may have gone
 -- out: all of the text, or a front of it where the sink failed.
-pub record Puts {T : Type 0} (old new : Outlet) (old_put new_put : ℕ) (text : List ℕ) (result : Result T Failed)
+pub record Puts {T : Type 0} (old new : Outlet) (old_put new_put : ℕ) (text : List ℕ)
+    (result : Result T Failed)
     (whole front : List ℕ) : Type 0 where
   pub sent : Sent old new (whole ++ front)
   pub later : old.faults ≤ new.faults
@@ -23,7 +25,8 @@ abbrev pub Replies : Outlet → Outlet → ℕ → ℕ → List ℕ → Option E
 Replies old new old_put new_put text result whole front =
     MatchOption result (Puts {T = Unit {0}} old new old_put new_put text (Ok tt) whole front)
     (λ ending. (ending ≡ WriteFault)
-    × ((failed : Failed) × Puts {T = Unit {0}} old new old_put new_put text (Err failed) whole front))
+    × ((failed : Failed) × Puts {T = Unit {0}} old new old_put new_put text (Err failed) whole
+    front))
 
 -- a sink holds nothing back: all that it was put has gone out
 abbrev pub IsOut : Outlet → Type 0

@@ -2,7 +2,8 @@
 use Rattle.std.specs.Prelude.{ℕ, ◌≡◌, true, List, [], ◌++◌, map, Option}
 use Rattle.plain_disk.specs.declared.operation.Op.{Op}
 use Rattle.nbd_session.specs.declared.ending.Ending.{Ending}
-use Rattle.nbd_session.specs.declared.ending.Ending.TheVariants.{PortSpent, ReadFault, WriteFault, Memory}
+use Rattle.nbd_session.specs.declared.ending.Ending.TheVariants.{PortSpent, ReadFault, WriteFault}
+use Rattle.nbd_session.specs.declared.ending.Ending.TheVariants.{Memory}
 use Rattle.nbd_session.specs.Session.{Log, IsInput}
 use Rattle.nbd_session.specs.Turns.{Turn}
 
@@ -40,9 +41,11 @@ pub record AreOneReading (log log' : Log) : Type 0 where
   pub asked : asked_of log.turns ≡ asked_of log'.turns
   pub taken : log.taken ≡ log'.taken
 
--- two sessions with one input come equally far, have the same flags and options, are asked the same, end
+-- two sessions with one input come equally far, have the same flags and options, are asked the
+-- same, end
 -- in the same way and take the same bytes
 abbrev pub ReadsOnce : Type 0
 ReadsOnce =
-    (log log' : Log) (ending ending' : Ending) (input : List ℕ) → Reads log ending input → Reads log' ending' input →
+    (log log' : Log) (ending ending' : Ending) (input : List ℕ) → Reads log ending input →
+    Reads log' ending' input →
     AreOneReading log log' × (ending ≡ ending')

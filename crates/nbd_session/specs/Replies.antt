@@ -18,4 +18,5 @@ data_of (Errno number) = []
 
 -- a simple reply: its head, and the data of a read
 unfoldable pub reply_text : ℕ → Reply → List ℕ
-reply_text cookie reply = simple_reply_text (record { error = errno_of reply; cookie = cookie }) ++ data_of reply
+reply_text cookie reply =
+    simple_reply_text (record { error = errno_of reply; cookie = cookie }) ++ data_of reply

@@ -1,5 +1,7 @@
 -- What a client asks by a request.
-use Rattle.std.specs.Prelude.{ℕ, ◌≡◌, ◌⊎◌, ◌<◌, ◌==◌, nat_lt, if◌then◌else◌, List, ◌++◌, length, Option, Some, None}
+use Rattle.std.specs.Prelude.{ℕ, ◌≡◌, ◌⊎◌, ◌<◌, ◌==◌, nat_lt, if◌then◌else◌, List, ◌++◌, length}
+use Rattle.std.specs.Prelude.{Option, Some, None}
+use Rattle.base_terms.specs.ErrorNumbers.{invalid, no_memory}
 use Rattle.plain_disk.specs.declared.operation.Op.{Op}
 use Rattle.plain_disk.specs.declared.operation.Op.TheVariants as Ops
 use Rattle.nbd_session.specs.declared.ending.Ending.{Ending}
@@ -33,13 +35,16 @@ operation_by Write flags offset len body = Some (Ops.Write offset body (flags ==
 operation_by Flush flags offset len body = Some Ops.Flush
 operation_by _ flags offset len body = None
 
--- the operation of a request with this data; None of a type that isn't served, and where there is another
+-- the operation of a request with this data; None of a type that isn't served, and where there is
+-- another
 -- flag than "force unit access" (bit 0)
 unfoldable pub operation_of : RequestHead → List ℕ → Option Op
 operation_of head body =
-    if nat_lt 1 head.flags.bits then None else operation_by head.command head.flags.bits head.offset head.length body
+    if nat_lt 1 head.flags.bits then None
+    else operation_by head.command head.flags.bits head.offset head.length body
 
--- the bytes are one whole request under this cookie, with this operation if any, after which the session
+-- the bytes are one whole request under this cookie, with this operation if any, after which the
+-- session
 -- goes on
 pub record IsMessage (bytes : List ℕ) (cookie : ℕ) (asked : Option Op) : Type 0 where
   pub head : RequestHead
@@ -70,7 +75,8 @@ pub record IsLastHead (bytes : List ℕ) (ending : Ending) : Type 0 where
   pub parts : bytes ≡ request_text head
   pub brings : ending_of head ≡ Some ending
 
--- the number with which the session itself answers: 22 what is no operation, 12 where memory is wanted
+-- the number with which the session itself answers: 22 what is no operation, 12 where memory is
+-- wanted
 abbrev pub IsRefusal : Option Op → ℕ → Type 0
-IsRefusal None number = number ≡ 22
-IsRefusal (Some op) number = number ≡ 12
+IsRefusal None number = number ≡ invalid
+IsRefusal (Some op) number = number ≡ no_memory

@@ -1,5 +1,6 @@
 -- A whole session, on whole strings of bytes.
-use Rattle.std.specs.Prelude.{ℕ, ◌≡◌, ◌<◌, ◌⊎◌, Bool, false, not, ◌==◌, List, [], ◌∷◌, ◌++◌, length, bit_and, Option, Some, None}
+use Rattle.std.specs.Prelude.{ℕ, ◌≡◌, ◌<◌, ◌⊎◌, Bool, false, not, ◌==◌, List, [], ◌∷◌, ◌++◌, length}
+use Rattle.std.specs.Prelude.{bit_and, Option, Some, None}
 use Rattle.nbd_session.specs.declared.ending.Ending.{Ending}
 use Rattle.nbd_session.specs.declared.ending.Ending.TheVariants.{WriteFault}
 use Rattle.nbd_session.specs.declared.ending.SessionEnd.{SessionEnd}
@@ -45,7 +46,8 @@ greeting = greeting_text (record { flags = record { bits = 3 } })
 -- all that a session answers, message after message
 abbrev pub messages_of : Export → Log → List (List ℕ)
 messages_of export log =
-    greeting ∷ (answers_to export (no_zeroes log.flags) log.options ++ last_answer export (no_zeroes log.flags) log.last) ++ replies_to log.turns
+    greeting ∷ (answers_to export (no_zeroes log.flags) log.options ++ last_answer export
+    (no_zeroes log.flags) log.last) ++ replies_to log.turns
 
 -- a session came to its options: its flags, and then these bytes
 pub record HasFlags (log : Log) (rest : List ℕ) : Type 0 where
@@ -58,12 +60,14 @@ IsUnserved greeted log ending =
     (log.flags ≡ 0) × (log.options ≡ []) × (log.last ≡ None)
     × (((ending ≡ WriteFault) × (log.taken ≡ [])) ⊎ StopsFlags ending log.ended log.taken)
 IsUnserved negotiating log ending =
-    (rest : List ℕ) × HasFlags log rest × AreOptions (Ends ending) log.options log.last (length log.options) rest log.ended
+    (rest : List ℕ) × HasFlags log rest
+    × AreOptions (Ends ending) log.options log.last (length log.options) rest log.ended
 IsUnserved served log ending = ⊥
 
 -- all that a session took that came to its requests, and has taken none
 abbrev pub IsBegun : Log → Type 0
-IsBegun log = (rest : List ℕ) × HasFlags log rest × AreOptions Begins log.options log.last (length log.options) rest false
+IsBegun log = (rest : List ℕ) × HasFlags log rest
+    × AreOptions Begins log.options log.last (length log.options) rest false
 
 -- all that a session took, by its stage and its ending; nothing where the greeting didn't go out
 abbrev pub IsInput : Stage → Log → Ending → Type 0
@@ -74,9 +78,11 @@ IsInput served log ending =
 IsInput stage log ending = (log.turns ≡ []) × IsUnserved stage log ending
 
 -- The log is that of a session that ended so, from one moment to another.
-pub record IsSession (export : Export) (end : SessionEnd) (old new : Moment) (log : Log) : Type 0 where
+pub record IsSession (export : Export) (end : SessionEnd) (old new : Moment) (log : Log) : Type
+    0 where
   pub number : end.number ≡ export.number
   pub input : IsInput log.stage log end.ending
-  pub talks : Talks old new (Some end.ending) log.taken (messages_of export log) log.whole log.front log.ended
+  pub talks : Talks old new (Some end.ending) log.taken (messages_of export log) log.whole log.front
+      log.ended
   pub taken : end.taken ≡ capped (length log.taken)
   pub put : end.put ≡ capped (length log.whole)

@@ -1,5 +1,6 @@
 -- What is taken of one message.
-use Rattle.std.specs.Prelude.{ℕ, ◌≡◌, ◌<◌, Bool, true, List, [], ◌++◌, length, Option, Some, Result, MatchResult}
+use Rattle.std.specs.Prelude.{ℕ, ◌≡◌, ◌<◌, Bool, true, List, [], ◌++◌, length, Option, Some, Result}
+use Rattle.std.specs.Prelude.{MatchResult}
 use Rattle.base_terms.specs.Causes.{Rose}
 use Rattle.nbd_session.specs.declared.ending.Ending.{Ending}
 use Rattle.nbd_session.specs.declared.ending.Ending.TheVariants.{Closed, Truncated, ReadFault}
@@ -36,17 +37,22 @@ EndsHead len ReadFault ended bytes = length bytes < len
 EndsHead len _ ended bytes = ⊥
 
 -- a head was waited for, and these bytes were taken
-pub record HeadIs (old new : Reach) (len : ℕ) (head : List ℕ) (result : Result (Unit {0}) Ending) (bytes : List ℕ) (ended : Bool) : Type 0 where
+pub record HeadIs (old new : Reach) (len : ℕ) (head : List ℕ) (result : Result (Unit {0}) Ending)
+    (bytes : List ℕ) (ended : Bool) : Type 0 where
   pub takes : Takes old new bytes
   pub at_end : ended ≡ true → HasEnded old.source new.source
-  pub by_case : MatchResult result (λ _. (bytes ≡ head) × (length bytes ≡ len) × (new.source.faults ≡ old.source.faults))
-      (λ ending. StopsBy old.source.faults new.source.faults (trouble_of ending) × EndsHead len ending ended bytes)
+  pub by_case : MatchResult result
+      (λ _. (bytes ≡ head) × (length bytes ≡ len) × (new.source.faults ≡ old.source.faults))
+      (λ ending. StopsBy old.source.faults new.source.faults (trouble_of ending)
+      × EndsHead len ending ended bytes)
 
 -- the data behind a head, of which `len` bytes were wanted
 abbrev pub DataCase : Reach → Reach → ℕ → Data → List ℕ → Type 0
-DataCase old new len (Whole body) bytes = (body ≡ bytes) × (length bytes ≡ len) × (new.source.faults ≡ old.source.faults)
+DataCase old new len (Whole body) bytes = (body ≡ bytes) × (length bytes ≡ len)
+    × (new.source.faults ≡ old.source.faults)
 DataCase old new len NoMemory bytes = (0 < len) × (bytes ≡ []) × (new ≡ old)
-DataCase old new len (Ended n) bytes = (length bytes ≡ n) × (n < len) × HasEnded old.source new.source × (new.source.faults ≡ old.source.faults)
+DataCase old new len (Ended n) bytes = (length bytes ≡ n) × (n < len)
+    × HasEnded old.source new.source × (new.source.faults ≡ old.source.faults)
 DataCase old new len Fault bytes = (length bytes < len) × Rose old.source.faults new.source.faults
 
 pub record DataIs (old new : Reach) (len : ℕ) (result : Data) (bytes : List ℕ) : Type 0 where
@@ -54,18 +60,25 @@ pub record DataIs (old new : Reach) (len : ℕ) (result : Data) (bytes : List �
   pub by_case : DataCase old new len result bytes
 
 -- an option was waited for, and these bytes were taken
-pub record OptionIs (old new : Reach) (result : Result ClientOption Ending) (bytes : List ℕ) (ended : Bool) : Type 0 where
+pub record OptionIs (old new : Reach) (result : Result ClientOption Ending) (bytes : List ℕ)
+    (ended : Bool) : Type 0 where
   pub takes : Takes old new bytes
   pub at_end : ended ≡ true → HasEnded old.source new.source
-  pub by_case : MatchResult result (λ option. IsOption bytes option.option option.body × (new.source.faults ≡ old.source.faults))
-      (λ ending. StopsBy old.source.faults new.source.faults (trouble_of ending) × StopsOptions ending ended bytes)
+  pub by_case : MatchResult result
+      (λ option. IsOption bytes option.option option.body × (new.source.faults ≡ old.source.faults))
+      (λ ending. StopsBy old.source.faults new.source.faults (trouble_of ending)
+      × StopsOptions ending ended bytes)
 
 -- what came of a request that took these bytes
 abbrev pub NextCase : Reach → Reach → Next → List ℕ → Bool → Type 0
-NextCase old new (Ask cookie op) bytes ended = IsMessage bytes cookie (Some op) × (new.source.faults ≡ old.source.faults)
+NextCase old new (Ask cookie op) bytes ended = IsMessage bytes cookie (Some op)
+    × (new.source.faults ≡ old.source.faults)
 NextCase old new (Refuse cookie number) bytes ended =
-    (asked : Option _) × IsMessage bytes cookie asked × IsRefusal asked number × (new.source.faults ≡ old.source.faults)
-NextCase old new (Stop ending) bytes ended = StopsBy old.source.faults new.source.faults (trouble_of ending) × StopsRequests ending ended bytes
+    (asked : Option _) × IsMessage bytes cookie asked × IsRefusal asked number
+    × (new.source.faults ≡ old.source.faults)
+NextCase old new (Stop ending) bytes ended =
+    StopsBy old.source.faults new.source.faults (trouble_of ending)
+    × StopsRequests ending ended bytes
 
 pub record NextIs (old new : Reach) (result : Next) (bytes : List ℕ) (ended : Bool) : Type 0 where
   pub takes : Takes old new bytes
@@ -73,7 +86,8 @@ pub record NextIs (old new : Reach) (result : Next) (bytes : List ℕ) (ended : 
   pub by_case : NextCase old new result bytes ended
 
 -- the same of the bytes behind its head
-pub record BehindHead (head : RequestHead) (old new : Reach) (result : Next) (body : List ℕ) (ended : Bool) : Type 0 where
+pub record BehindHead (head : RequestHead) (old new : Reach) (result : Next) (body : List ℕ)
+    (ended : Bool) : Type 0 where
   pub takes : Takes old new body
   pub at_end : ended ≡ true → HasEnded old.source new.source
   pub by_case : NextCase old new result (request_text head ++ body) ended

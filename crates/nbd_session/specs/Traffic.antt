@@ -10,7 +10,8 @@ use Rattle.nbd_session.specs.declared.filling.Filled.TheVariants.{Whole, Ended, 
 -- these bytes were taken from a source
 pub record Took (old new : Intake) (bytes : List ℕ) : Type 0 where
   pub given : (xs : List ℕ) → old.given ≡ Some xs → new.given ≡ Some (xs ++ bytes)
-  pub left : (xs : List ℕ) → old.left ≡ Some xs → (rest : List ℕ) × (xs ≡ bytes ++ rest) × (new.left ≡ Some rest)
+  pub left : (xs : List ℕ) → old.left ≡ Some xs → (rest : List ℕ) × (xs ≡ bytes ++ rest)
+      × (new.left ≡ Some rest)
 
 -- nothing is left of an input
 abbrev pub HasEnded : Intake → Intake → Type 0

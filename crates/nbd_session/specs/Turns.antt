@@ -1,5 +1,7 @@
 -- The requests of a session, each with its reply.
-use Rattle.std.specs.Prelude.{ℕ, ◌≡◌, Bool, true, false, List, [], ◌∷◌, ◌++◌, map, Option, Some, None}
+use Rattle.std.specs.Prelude.{ℕ, ◌≡◌, Bool, true, false, List, [], ◌∷◌, ◌++◌, map, Option, Some}
+use Rattle.std.specs.Prelude.{None}
+use Rattle.base_terms.specs.ErrorNumbers.{invalid, no_memory}
 use Rattle.plain_disk.specs.declared.operation.Op.{Op}
 use Rattle.plain_disk.specs.declared.operation.Reply.{Reply}
 use Rattle.plain_disk.specs.declared.operation.Reply.TheVariants.{Errno}
@@ -7,7 +9,8 @@ use Rattle.plain_disk.specs.Plain.{Exchange}
 use Rattle.nbd_session.specs.Replies.{reply_text}
 use Rattle.nbd_session.specs.Requests.{IsMessage}
 
--- A request that was answered: its cookie, its operation, None where it has none, and the reply; of a
+-- A request that was answered: its cookie, its operation, None where it has none, and the reply; of
+-- a
 -- write, how many bytes were tried; and whether it was submitted.
 pub record Turn : Type 0 where
   pub cookie : ℕ
@@ -16,19 +19,21 @@ pub record Turn : Type 0 where
   pub tried : ℕ
   pub submitted : Bool
 
--- Nothing was tried of a request that wasn't submitted. It is answered 22 where it is no operation, and
+-- Nothing was tried of a request that wasn't submitted. It is answered 22 where it is no operation,
+-- and
 -- else 12: memory was wanted for it.
 abbrev pub IsAnswered : Option Op → Bool → Reply → ℕ → Type 0
-IsAnswered None submitted reply tried = (submitted ≡ false) × (reply ≡ Errno 22) × (tried ≡ 0)
+IsAnswered None submitted reply tried = (submitted ≡ false) × (reply ≡ Errno invalid) × (tried ≡ 0)
 IsAnswered (Some op) true reply tried = Unit {0}
-IsAnswered (Some op) false reply tried = (reply ≡ Errno 12) × (tried ≡ 0)
+IsAnswered (Some op) false reply tried = (reply ≡ Errno no_memory) × (tried ≡ 0)
 
 -- the bytes are these requests, one message after the other
 unfoldable pub Spells : List Turn → List ℕ → Type 0
 Spells [] bytes = bytes ≡ []
 Spells (turn ∷ turns) bytes =
     (message : List ℕ) × (rest : List ℕ) × (bytes ≡ message ++ rest)
-    × IsMessage message turn.cookie turn.asked × IsAnswered turn.asked turn.submitted turn.reply turn.tried × Spells turns rest
+    × IsMessage message turn.cookie turn.asked
+    × IsAnswered turn.asked turn.submitted turn.reply turn.tried × Spells turns rest
 
 -- what the port was asked by one request
 abbrev pub exchange_of : Option Op → Bool → Reply → ℕ → List Exchange
@@ -39,7 +44,8 @@ exchange_of (Some op) false reply tried = []
 -- what the port was asked
 unfoldable pub exchanges_of : List Turn → List Exchange
 exchanges_of [] = []
-exchanges_of (turn ∷ turns) = exchange_of turn.asked turn.submitted turn.reply turn.tried ++ exchanges_of turns
+exchanges_of (turn ∷ turns) =
+    exchange_of turn.asked turn.submitted turn.reply turn.tried ++ exchanges_of turns
 
 -- the replies
 unfoldable pub replies_to : List Turn → List (List ℕ)

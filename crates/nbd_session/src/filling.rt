@@ -30,7 +30,8 @@ pub fn fill<S: Source>(source: &mut S, buf: &mut [u8]) -> Filled
 
 /// Takes so many bytes from a source and drops them.
 pub fn skip<S: Source>(source: &mut S, length: usize) -> Filled
-    ensures { (bytes : List ℕ) × Fills (S.intake source.old) (S.intake source.new) length result bytes }
+    ensures { (bytes : List ℕ)
+        × Fills (S.intake source.old) (S.intake source.new) length result bytes }
 {
     let mut buf = [0u8; 4096];
     let mut count = 0;

@@ -5,7 +5,8 @@ ghost use Rattle.nbd_session.specs.Options.{info_name};
 /// information types. None where the data isn't exactly this.
 #[tactic(auto, unfolding(crate::specs::Options::info_name))]
 pub fn info_name(body: &[u8]) -> Option<&[u8]>
-    ensures { MatchOption result (info_name body.now ≡ None) (λ name. info_name body.now ≡ Some name.now) }
+    ensures { MatchOption result (info_name body.now ≡ None)
+        (λ name. info_name body.now ≡ Some name.now) }
 {
     if body.len() < 6 {
         return None;

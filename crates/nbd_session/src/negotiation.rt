@@ -1,4 +1,5 @@
-ghost use Rattle.std.specs.Prelude.{◌≡◌, ◌≢◌, ◌+◌, ◌<◌, ◌≤◌, ◌⊎◌, ℕ, Bool, List, length, Option, Err, IsOk, OnOk};
+ghost use Rattle.std.specs.Prelude.{◌≡◌, ◌≢◌, ◌+◌, ◌<◌, ◌≤◌, ◌⊎◌, ℕ, Bool, List, length, Option};
+ghost use Rattle.std.specs.Prelude.{Err, IsOk, OnOk};
 ghost use Rattle.nbd_session.specs.Moments.{moment};
 ghost use Rattle.nbd_session.specs.Negotiation.{Agrees, Answers, FlagsAre, Negotiates};
 ghost use Rattle.nbd_session.specs.Options.{answer_of, verdict_of};
@@ -26,8 +27,8 @@ use std::alloc::Global;
 /// The most options that one session may have.
 const MAX_OPTIONS: u64 = 65536;
 
-/// Greets the client, takes its flags, and answers its options up to the one by which it chooses the
-/// export.
+/// Greets the client, takes its flags, and answers its options up to the one by which it chooses
+/// the export.
 pub fn negotiate<S: Source, K: Sink>(
     alloc: Global,
     source: &mut S,
@@ -81,7 +82,8 @@ fn agree<S: Source, K: Sink>(
 ) -> Result<(), Ending>
     requires { IsOut (K.outlet sink.old) }
     ensures out { (result ≡ Err Ending.WriteFault) ⊎ IsOut (K.outlet sink.new) }
-    ensures agrees { (options : List ClientOption) × (last : Option ClientOption) × (taken : List ℕ) × (whole : List ℕ) × (front : List ℕ) × (ended : Bool)
+    ensures agrees { (options : List ClientOption) × (last : Option ClientOption) × (taken : List ℕ)
+        × (whole : List ℕ) × (front : List ℕ) × (ended : Bool)
         × Agrees export.now no_zeroes
         (moment (S.intake source.old) (K.outlet sink.old) tally.old.taken tally.old.put)
         (moment (S.intake source.new) (K.outlet sink.new) tally.new.taken tally.new.put)
@@ -108,7 +110,8 @@ fn answer_next<S: Source, K: Sink>(
 ) -> Course
     requires { IsOut (K.outlet sink.old) }
     ensures out { (result ≡ Course.Ends Ending.WriteFault) ⊎ IsOut (K.outlet sink.new) }
-    ensures answers { (options : List ClientOption) × (last : Option ClientOption) × (taken : List ℕ) × (whole : List ℕ) × (front : List ℕ) × (ended : Bool)
+    ensures answers { (options : List ClientOption) × (last : Option ClientOption)
+        × (taken : List ℕ) × (whole : List ℕ) × (front : List ℕ) × (ended : Bool)
         × (result ≡ Course.GoesOn → length options ≡ 1)
         × ((n : ℕ) → n < 65536 → Answers export.now no_zeroes n
         (moment (S.intake source.old) (K.outlet sink.old) tally.old.taken tally.old.put)
@@ -144,7 +147,9 @@ fn put_answer<K: Sink>(
 ) -> Result<(), Failed>
     requires { IsOut (K.outlet sink.old) }
     ensures out { OnOk result (IsOut (K.outlet sink.new)) }
-    ensures answer { (whole : List ℕ) × (front : List ℕ) × Puts (K.outlet sink.old) (K.outlet sink.new) put.old put.new (answer_of export.now no_zeroes option verdict) result whole front }
+    ensures answer { (whole : List ℕ) × (front : List ℕ)
+        × Puts (K.outlet sink.old) (K.outlet sink.new) put.old put.new
+        (answer_of export.now no_zeroes option verdict) result whole front }
     ensures silent { verdict ≡ Verdict.Unknown → IsOk result }
 {
     match verdict {
@@ -177,7 +182,9 @@ fn put_option_reply<K: Sink>(
     put: &mut u64,
 ) -> Result<(), Failed>
     ensures out { OnOk result (IsOut (K.outlet sink.new)) }
-    ensures puts { (whole : List ℕ) × (front : List ℕ) × Puts (K.outlet sink.old) (K.outlet sink.new) put.old put.new (option_reply_text (reply_head option reply 0)) result whole front }
+    ensures puts { (whole : List ℕ) × (front : List ℕ)
+        × Puts (K.outlet sink.old) (K.outlet sink.new) put.old put.new
+        (option_reply_text (reply_head option reply 0)) result whole front }
 {
     let head = OptionReplyHead {
         option,

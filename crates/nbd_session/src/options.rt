@@ -6,7 +6,7 @@ ghost use Rattle.nbd_session.specs.Traffic.{reach};
 use crate::Ending;
 use crate::info_data::info_name;
 use crate::taking::{Data, take_data, take_head};
-use base_terms::Bytes;
+use base_terms::{Buffer, Bytes};
 use io_edge::Source;
 use nbd_wire::{OptionHead, OptionType, ReplyType};
 use std::alloc::Global;
@@ -86,7 +86,7 @@ pub fn next_option<S: Source>(
     if head.length > MAX_DATA {
         return Err(Ending::TooLong(head.length));
     }
-    match take_data(alloc, source, head.length, &mut Vec::new(alloc), taken) {
+    match take_data(alloc, source, head.length, &mut Buffer::empty(alloc), taken) {
         Data::Whole(body) => Ok(ClientOption {
             option: head.option,
             body,

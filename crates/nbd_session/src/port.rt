@@ -24,11 +24,12 @@ pub trait Port {
     /// It has come to its end, and takes no operation any more.
     ghost is_spent: { Self → Type 0 };
 
-    /// Executes an operation and answers it. The spare buffer is for its use, as for the content of a
-    /// read; what is in it isn't to be used. Where memory is wanted, or the port is spent, nothing was
-    /// done.
+    /// Executes an operation and answers it. The spare buffer is for its use, as for the content
+    /// of a read; what is in it isn't to be used. Where memory is wanted, or the port is spent,
+    /// nothing was done.
     fn submit(&mut self, alloc: Global, op: Op, spare: Bytes) -> Result<Submitted, AllocError>
-        ensures ok { IfOk result (λ submitted. (n : ℕ) × did self.old self.new (exchanges_by op n submitted)) }
+        ensures ok { IfOk result
+            (λ submitted. (n : ℕ) × did self.old self.new (exchanges_by op n submitted)) }
         ensures spent { IfOk result (λ submitted. IfSpent submitted (is_spent self.new)) }
         ensures err { OnErr result (did self.old self.new []) };
 

@@ -9,7 +9,8 @@ use plain_disk::Reply;
 
 /// Puts one piece, and counts its bytes where it was put whole.
 fn put_piece<K: Sink>(sink: &mut K, bytes: &[u8], put: &mut u64) -> Result<(), Failed>
-    ensures { (whole : List ℕ) × (front : List ℕ) × Puts (K.outlet sink.old) (K.outlet sink.new) put.old put.new bytes.now result whole front }
+    ensures { (whole : List ℕ) × (front : List ℕ)
+        × Puts (K.outlet sink.old) (K.outlet sink.new) put.old put.new bytes.now result whole front }
 {
     let before = *put;
     match sink.put(bytes) {
@@ -24,7 +25,8 @@ fn put_piece<K: Sink>(sink: &mut K, bytes: &[u8], put: &mut u64) -> Result<(), F
 /// Puts one piece as `put_piece` does, and lets it go out.
 pub fn put_message<K: Sink>(sink: &mut K, bytes: &[u8], put: &mut u64) -> Result<(), Failed>
     ensures out { OnOk result (IsOut (K.outlet sink.new)) }
-    ensures puts { (whole : List ℕ) × (front : List ℕ) × Puts (K.outlet sink.old) (K.outlet sink.new) put.old put.new bytes.now result whole front }
+    ensures puts { (whole : List ℕ) × (front : List ℕ)
+        × Puts (K.outlet sink.old) (K.outlet sink.new) put.old put.new bytes.now result whole front }
 {
     put_piece(sink, bytes, put)?;
     sink.push_out()
@@ -39,7 +41,9 @@ pub fn put_reply<K: Sink>(
     put: &mut u64,
 ) -> Result<(), Failed>
     ensures out { OnOk result (IsOut (K.outlet sink.new)) }
-    ensures puts { (whole : List ℕ) × (front : List ℕ) × Puts (K.outlet sink.old) (K.outlet sink.new) put.old put.new (reply_text cookie reply.now) result whole front }
+    ensures puts { (whole : List ℕ) × (front : List ℕ)
+        × Puts (K.outlet sink.old) (K.outlet sink.new) put.old put.new (reply_text cookie reply.now)
+        result whole front }
 {
     let head = SimpleReplyHead {
         error: errno(reply),

@@ -7,7 +7,7 @@ ghost use Rattle.nbd_wire.specs.Requests.{IsRequestHead};
 use crate::Ending;
 use crate::filling::Filled;
 use crate::taking::{Data, take_data, take_head, take_past};
-use base_terms::Bytes;
+use base_terms::{Buffer, Bytes, INVALID, NO_MEMORY};
 use io_edge::Source;
 use nbd_wire::{CommandFlags, CommandType, RequestHead};
 use plain_disk::{MAX_READ, Op};
@@ -19,11 +19,6 @@ const HEAD: usize = 28;
 /// The most bytes of data that a write may have.
 const MAX_WRITE: u32 = MAX_READ;
 
-/// The number of the error by which a request is answered for want of memory.
-pub const NO_MEMORY: u32 = 12;
-
-const INVALID: u32 = 22;
-
 /// What comes next from a client: a request with its operation, one that the session itself answers
 /// with the number of an error, or the end.
 #[derive(Debug, Drop)]
@@ -33,12 +28,12 @@ pub enum Next {
     Stop(Ending),
 }
 
-/// Takes the next request from the source, a write's body into the spare buffer, and counts the bytes
-/// that it took.
+/// Takes the next request from the source, a write's body into the spare buffer, and counts the
+/// bytes that it took.
 pub fn next_request<S: Source>(
     alloc: Global,
     source: &mut S,
-    spare: &mut Vec<u8>,
+    spare: &mut Buffer,
     taken: &mut u64,
 ) -> Next
     ensures { (bytes : List ℕ) × (ended : Bool) × NextIs
@@ -66,7 +61,7 @@ fn behind_head<S: Source>(
     alloc: Global,
     source: &mut S,
     head: &RequestHead,
-    spare: &mut Vec<u8>,
+    spare: &mut Buffer,
     taken: &mut u64,
 ) -> Next
     requires head { IsRequestHead head.now }
@@ -98,7 +93,8 @@ fn behind_head<S: Source>(
 fn refuse<S: Source>(source: &mut S, head: &RequestHead, number: u32, taken: &mut u64) -> Next
     requires head { IsRequestHead head.now }
     requires goes_on { ending_of head.now ≡ None }
-    requires refused { (body : List ℕ) → length body ≡ data_length head.now → IsRefusal (operation_of head.now body) number }
+    requires refused { (body : List ℕ) → length body ≡ data_length head.now →
+        IsRefusal (operation_of head.now body) number }
     ensures { (body : List ℕ) × (ended : Bool) × BehindHead head.now
         (reach (S.intake source.old) taken.old)
         (reach (S.intake source.new) taken.new)

@@ -1,4 +1,5 @@
-ghost use Rattle.std.specs.Prelude.{◌≡◌, ◌<◌, ◌≤◌, ◌^◌, ◌+◌, ◌⊎◌, ℕ, Bool, List, length, Some, None};
+ghost use Rattle.std.specs.Prelude.{◌≡◌, ◌<◌, ◌≤◌, ◌^◌, ◌+◌, ◌⊎◌, ℕ, Bool, List, length, Some};
+ghost use Rattle.std.specs.Prelude.{None};
 ghost use Rattle.nbd_session.specs.Moments.{moment};
 ghost use Rattle.nbd_session.specs.Putting.{IsOut, Replies};
 ghost use Rattle.nbd_session.specs.Replies.{reply_text};
@@ -9,10 +10,10 @@ ghost use Rattle.nbd_session.specs.declared.ending.Ending.{Ending};
 
 use crate::negotiation::negotiate;
 use crate::replies::put_reply;
-use crate::requests::{NO_MEMORY, Next, next_request};
+use crate::requests::{Next, next_request};
 use crate::tally::Tally;
 use crate::{Ending, Export, Port, SessionEnd, Submitted};
-use base_terms::Bytes;
+use base_terms::{Buffer, Bytes, NO_MEMORY};
 use io_edge::{Sink, Source};
 use plain_disk::Reply;
 use std::alloc::Global;
@@ -24,15 +25,19 @@ const MAX_REQUESTS: u64 = 1 << 32;
 /// Serves one client to its end. What was put is the greeting, the answers to the options and a
 /// simple reply for each request, in order; what the port was asked are the operations of the
 /// requests, but for those that were answered 12 for want of memory, in order. A request of an
-/// unknown type or with an unknown flag is no operation; it is answered 22. Of the source the session
-/// takes the bytes up to the end of the message that ends it, or of that message's head where that
-/// decides, and no more. It ends with `ReadFault` exactly where the source's count of faults rose, and
-/// with `WriteFault` exactly where the sink's did; then at most the last message, or a rear of it, is
-/// missing. With `TooMany` it ends exactly after the answer to the `65536`th option that goes on, or
-/// the reply to the `2^32`nd request. Each message has gone out before the next one of the client is
-/// asked for, and all have at the end, unless the sink failed. With `PortSpent` it ends only where the
-/// port is spent. It keeps one buffer, of at most 32 MiB, for the bodies of writes and
-/// the contents of reads, one after the other.
+/// unknown type or with an unknown flag is no operation; it is answered 22. Of the source the
+/// session takes the bytes up to the end of the message that ends it, or of that message's head
+/// where that decides, and no more.
+///
+/// It ends with `ReadFault` exactly where the source's count of faults rose, and with `WriteFault`
+/// exactly where the sink's did; then at most the last message, or a rear of it, is missing. With
+/// `TooMany` it ends exactly after the answer to the 65536th option that goes on, or the reply to
+/// the 2^32nd request; with `PortSpent` only where the port is spent. Each message has gone out
+/// before the next one of the client is asked for, and all have at the end, unless the sink
+/// failed.
+///
+/// It keeps one buffer, of at most 32 MiB, for the bodies of writes and the contents of reads, one
+/// after the other.
 pub fn serve_session<S: Source, K: Sink, P: Port>(
     alloc: Global,
     source: &mut S,
@@ -42,7 +47,8 @@ pub fn serve_session<S: Source, K: Sink, P: Port>(
 ) -> SessionEnd
     ensures out { (result.ending ≡ Ending.WriteFault) ⊎ IsOut (K.outlet sink.new) }
     ensures spent { result.ending ≡ Ending.PortSpent → P.is_spent port.new }
-    ensures session { (log : Log) × P.did port.old port.new (exchanges_of log.turns) × IsSession export.now result
+    ensures session { (log : Log) × P.did port.old port.new (exchanges_of log.turns)
+        × IsSession export.now result
         (moment (S.intake source.old) (K.outlet sink.old) 0 0)
         (moment (S.intake source.new) (K.outlet sink.new) result.taken result.put)
         log }
@@ -56,7 +62,12 @@ pub fn serve_session<S: Source, K: Sink, P: Port>(
 }
 
 fn end_of(export: &Export, ending: Ending, tally: Tally) -> SessionEnd
-    ensures is { result ≡ record { number = export.now.number; ending = ending; taken = tally.taken; put = tally.put } }
+    ensures is { result ≡ record {
+      number = export.now.number;
+      ending = ending;
+      taken = tally.taken;
+      put = tally.put;
+    } }
     ensures taken_fits { tally.taken < 2 ^ 64 }
     ensures put_fits { tally.put < 2 ^ 64 }
 {
@@ -79,14 +90,15 @@ fn serve_requests<S: Source, K: Sink, P: Port>(
     requires { IsOut (K.outlet sink.old) }
     ensures out { (result ≡ Ending.WriteFault) ⊎ IsOut (K.outlet sink.new) }
     ensures spent { result ≡ Ending.PortSpent → P.is_spent port.new }
-    ensures served { (turns : List Turn) × (taken : List ℕ) × (whole : List ℕ) × (front : List ℕ) × (ended : Bool)
+    ensures served { (turns : List Turn) × (taken : List ℕ) × (whole : List ℕ) × (front : List ℕ)
+        × (ended : Bool)
         × P.did port.old port.new (exchanges_of turns)
         × Serves 0
         (moment (S.intake source.old) (K.outlet sink.old) tally.old.taken tally.old.put)
         (moment (S.intake source.new) (K.outlet sink.new) tally.new.taken tally.new.put)
         (Some result) turns taken whole front ended }
 {
-    let mut spare = Vec::new(alloc);
+    let mut spare = Buffer::empty(alloc);
     for number in 0..MAX_REQUESTS {
         match serve_request(alloc, source, sink, port, &mut spare, tally) {
             None => {}
@@ -96,20 +108,21 @@ fn serve_requests<S: Source, K: Sink, P: Port>(
     Ending::TooMany(MAX_REQUESTS)
 }
 
-/// Serves the next request, and says how the session ended where it did. All that was put before has
-/// gone out when the request is asked for, and so has its reply when the next one is.
+/// Serves the next request, and says how the session ended where it did. All that was put before
+/// has gone out when the request is asked for, and so has its reply when the next one is.
 fn serve_request<S: Source, K: Sink, P: Port>(
     alloc: Global,
     source: &mut S,
     sink: &mut K,
     port: &mut P,
-    spare: &mut Vec<u8>,
+    spare: &mut Buffer,
     tally: &mut Tally,
 ) -> Option<Ending>
     requires { IsOut (K.outlet sink.old) }
     ensures out { (result ≡ Some Ending.WriteFault) ⊎ IsOut (K.outlet sink.new) }
     ensures spent { result ≡ Some Ending.PortSpent → P.is_spent port.new }
-    ensures served { (turns : List Turn) × (taken : List ℕ) × (whole : List ℕ) × (front : List ℕ) × (ended : Bool)
+    ensures served { (turns : List Turn) × (taken : List ℕ) × (whole : List ℕ) × (front : List ℕ)
+        × (ended : Bool)
         × (result ≡ None → length turns ≡ 1)
         × P.did port.old port.new (exchanges_of turns)
         × ((n : ℕ) → n < 2 ^ 32 → Serves n
@@ -135,25 +148,28 @@ fn serve_request<S: Source, K: Sink, P: Port>(
     }
 }
 
-/// Takes the spare buffer, and leaves an empty one, which has no memory.
-fn taken_from(alloc: Global, spare: &mut Vec<u8>) -> Bytes
-    ensures { result ≡ spare.old.items }
+/// Takes the spare buffer, as the text of all its bytes, and leaves one without memory.
+fn taken_from(alloc: Global, spare: &mut Buffer) -> Bytes
+    ensures { result ≡ spare.old }
 {
-    Bytes::new(mem::replace(spare, Vec::new(alloc)))
+    let buffer = mem::replace(spare, Buffer::empty(alloc));
+    let len = buffer.len();
+    buffer.into_text(len)
 }
 
 /// Keeps the longer buffer for the next operation.
-fn keep(spare: &mut Vec<u8>, buffer: Bytes)
-    ensures as_long { length buffer ≤ length spare.new.items }
-    ensures kept { length spare.old.items ≤ length spare.new.items }
+fn keep(spare: &mut Buffer, used: Bytes)
+    ensures as_long { length used ≤ length spare.new }
+    ensures kept { length spare.old ≤ length spare.new }
 {
+    let buffer = used.into_buffer();
     if spare.len() < buffer.len() {
-        *spare = buffer.into_vec();
+        *spare = buffer;
     }
 }
 
 /// Keeps the buffer of a read's content, once it was put.
-fn keep_content(spare: &mut Vec<u8>, reply: Reply) {
+fn keep_content(spare: &mut Buffer, reply: Reply) {
     match reply {
         Reply::Content(bytes) => keep(spare, bytes),
         Reply::Done | Reply::Errno(_) => {}
@@ -162,8 +178,11 @@ fn keep_content(spare: &mut Vec<u8>, reply: Reply) {
 
 /// Puts a reply, and says that the session ended where the sink failed.
 fn answer<K: Sink>(sink: &mut K, cookie: u64, reply: &Reply, put: &mut u64) -> Option<Ending>
-    ensures out { (result ≡ Some Ending.WriteFault) ⊎ ((result ≡ None) × IsOut (K.outlet sink.new)) }
-    ensures replies { (whole : List ℕ) × (front : List ℕ) × Replies (K.outlet sink.old) (K.outlet sink.new) put.old put.new (reply_text cookie reply.now) result whole front }
+    ensures out { (result ≡ Some Ending.WriteFault)
+        ⊎ ((result ≡ None) × IsOut (K.outlet sink.new)) }
+    ensures replies { (whole : List ℕ) × (front : List ℕ)
+        × Replies (K.outlet sink.old) (K.outlet sink.new) put.old put.new
+        (reply_text cookie reply.now) result whole front }
 {
     match put_reply(sink, cookie, reply, put) {
         Ok(()) => None,

@@ -1,13 +1,13 @@
-ghost use Rattle.std.specs.Prelude.{◌≡◌, ◌<◌, ◌≤◌, ◌+◌, ◌^◌, ℕ, Bool, List, length, take, IfOk};
+ghost use Rattle.std.specs.Prelude.{◌≡◌, ◌<◌, ◌≤◌, ◌+◌, ◌^◌, ℕ, Bool, List, length, take};
 ghost use Rattle.nbd_session.specs.Counts.{capped};
 ghost use Rattle.nbd_session.specs.Taking.{DataIs, HeadIs, TakesUpTo};
 ghost use Rattle.nbd_session.specs.Traffic.{filled_of, reach};
 
 use crate::Ending;
 use crate::filling::{Filled, fill, skip};
-use base_terms::Bytes;
+use base_terms::{Buffer, Bytes};
 use io_edge::Source;
-use std::alloc::{AllocError, Global};
+use std::alloc::Global;
 use std::mem;
 
 /// The data behind a head: whole, not taken for want of memory, or cut short after so many bytes by
@@ -36,13 +36,13 @@ pub fn take_head<S: Source>(source: &mut S, head: &mut [u8], taken: &mut u64) ->
     }
 }
 
-/// Takes the data of so many bytes behind a head. Where there are any, they are put into the spare
-/// buffer, of which only what it grows by is zeroed before.
+/// Takes the data of so many bytes behind a head. Where there are any, they are put into the front
+/// of the spare buffer, of which only what it grows by is zeroed before.
 pub fn take_data<S: Source>(
     alloc: Global,
     source: &mut S,
     length: u32,
-    spare: &mut Vec<u8>,
+    spare: &mut Buffer,
     taken: &mut u64,
 ) -> Data
     ensures { (bytes : List ℕ) × DataIs
@@ -53,22 +53,39 @@ pub fn take_data<S: Source>(
     if length == 0 {
         return Data::Whole(Bytes::new(Vec::new(alloc)));
     }
-    if fit(spare, length as usize).is_err() {
+    let len = length as usize;
+    if spare.grow(len).is_err() {
         return Data::NoMemory;
     }
-    match take_into(source, spare, taken) {
-        Filled::Whole => Data::Whole(Bytes::new(mem::replace(spare, Vec::new(alloc)))),
+    match take_front(source, spare, len, taken) {
+        Filled::Whole => Data::Whole(mem::replace(spare, Buffer::empty(alloc)).into_text(len)),
         Filled::Ended(n) => Data::Ended(n),
         Filled::Fault(_) => Data::Fault,
     }
 }
 
-/// Makes a buffer so long, in a block of memory that is no longer than it must be.
-fn fit(buffer: &mut Vec<u8>, wanted: usize) -> Result<(), AllocError>
-    ensures { IfOk result (λ _. length buffer.new.items ≡ wanted) }
+/// Fills so many bytes at a buffer's front, and counts those that came.
+fn take_front<S: Source>(source: &mut S, buffer: &mut Buffer, len: usize, taken: &mut u64) -> Filled
+    requires { len ≤ length buffer.old }
+    ensures long { length buffer.new ≡ length buffer.old }
+    ensures takes { TakesUpTo
+        (reach (S.intake source.old) taken.old)
+        (reach (S.intake source.new) taken.new)
+        len result (take (filled_of len result) buffer.new) }
 {
-    buffer.reserve_exact(wanted.saturating_sub(buffer.len()))?;
-    buffer.resize(wanted, 0)
+    take_first(source, buffer.as_mut_slice(), len, taken)
+}
+
+/// Fills the first bytes of a slice, and counts those that came.
+fn take_first<S: Source>(source: &mut S, bytes: &mut [u8], len: usize, taken: &mut u64) -> Filled
+    requires { len ≤ length bytes.old }
+    ensures long { length bytes.new ≡ length bytes.old }
+    ensures takes { TakesUpTo
+        (reach (S.intake source.old) taken.old)
+        (reach (S.intake source.new) taken.new)
+        len result (take (filled_of len result) bytes.new) }
+{
+    take_into(source, &mut bytes[..len], taken)
 }
 
 /// Fills a buffer, and counts the bytes that came.

@@ -1,7 +1,9 @@
 -- Lemmas on the blocks of a plain disk: what writes and flushes keep of them.
-use Rattle.std.proofs.Common.{◌≡◌, ℕ, zero, suc, Bool, true, false, if◌then◌else◌, List, [], ◌∷◌, take, drop, map, refl, ap}
+use Rattle.std.proofs.Common.{◌≡◌, ℕ, zero, suc, Bool, true, false, if◌then◌else◌, List, [], ◌∷◌}
+use Rattle.std.proofs.Common.{take, drop, map, refl, ap}
 use Rattle.base_terms.specs.Blocks.{changed}
-use Rattle.plain_disk.specs.Plain.{Block, AreSure, written, written_for_good, flushed, settled_blocks}
+use Rattle.plain_disk.specs.Plain.{Block, AreSure, written, written_for_good, flushed}
+use Rattle.plain_disk.specs.Plain.{settled_blocks}
 
 -- what is taken of sure blocks is sure
 pub sure-take : (n : ℕ) (blocks : List Block) → AreSure blocks → AreSure (take n blocks)

@@ -1,17 +1,25 @@
 -- Why what the disk in memory does is a step of the plain disk.
-use Rattle.std.proofs.Common.{◌≡◌, ◌≢◌, ℕ, ◌+◌, ◌-◌, ◌*◌, ◌/◌, ◌<◌, Bool, List, [], length, take, drop, map, slice_index_or, Option, Some, None, Result, Ok, Err, IfOk, refl, sym, ◌∙◌, ap, ap₂, subst, arith}
+use Rattle.std.proofs.Common.{◌≡◌, ◌≢◌, ℕ, ◌+◌, ◌-◌, ◌*◌, ◌/◌, ◌<◌, Bool, List, [], length, take}
+use Rattle.std.proofs.Common.{drop, map, slice_index_or, Option, Some, None, Result, Ok, Err, IfOk}
+use Rattle.std.proofs.Common.{refl, sym, ◌∙◌, ap, ap₂, subst, arith}
 use Rattle.std.specs.declared.alloc.AllocError.{AllocError}
 use Rattle.std.proofs.lemmas.List.{length-map}
 use Rattle.base_terms.specs.Blocks.{pasted, joined, blocks_of, changed}
-use Rattle.base_terms.proofs.BlockLemmas.{held_changed, blocks_of-pasted, joined-blocks_of, block_at}
+use Rattle.base_terms.specs.ErrorNumbers.{device_error}
+use Rattle.base_terms.proofs.BlockLemmas.{held_changed, blocks_of-pasted, joined-blocks_of}
+use Rattle.base_terms.proofs.BlockLemmas.{block_at}
 use Rattle.plain_disk.specs.declared.operation.Op.{Op}
 use Rattle.plain_disk.specs.declared.operation.Op.TheVariants.{Read, Write, Flush}
 use Rattle.plain_disk.specs.declared.operation.Reply.{Reply}
 use Rattle.plain_disk.specs.declared.operation.Reply.TheVariants.{Content, Done, Errno}
 use Rattle.plain_disk.specs.Operations.{wrong_of, IsRange}
-use Rattle.plain_disk.specs.Plain.{Block, Step, ProperStep, WriteStep, newest_bytes, flushed, settled_blocks}
-use Rattle.plain_disk.specs.Machine.{Machine, AreBlocksOf, Steps, put, refusal_of, proper_reply, reply_unless, reply_to}
-use Rattle.plain_disk.proofs.BlockFacts.{change, change_newest, change_sure, sure-take, sure-drop, sure-changed, newest-flushed, sure-flushed, newest_of_settled, sure_of_settled}
+use Rattle.plain_disk.specs.Plain.{Block, Step, ProperStep, WriteStep, newest_bytes, flushed}
+use Rattle.plain_disk.specs.Plain.{settled_blocks}
+use Rattle.plain_disk.specs.Machine.{Machine, AreBlocksOf, Steps, put, refusal_of, proper_reply}
+use Rattle.plain_disk.specs.Machine.{reply_unless, reply_to}
+use Rattle.plain_disk.proofs.BlockFacts.{change, change_newest, change_sure, sure-take, sure-drop}
+use Rattle.plain_disk.proofs.BlockFacts.{sure-changed, newest-flushed, sure-flushed}
+use Rattle.plain_disk.proofs.BlockFacts.{newest_of_settled, sure_of_settled}
 use Rattle.plain_disk.proofs.RangeFacts.{wrong_is_no_fault, whole_blocks, blocks_within}
 
 -- as many blocks as values
@@ -54,7 +62,8 @@ proper_steps machine blocks left op reply n is are goes =
 
 -- a read gives the newest bytes, and does nothing
 pub read_steps : (machine : Machine) (offset len : ℕ) → refusal_of machine (Read offset len) ≡ None
-    → Steps machine machine (Read offset len) (Content (take len (drop offset (joined machine.newest))))
+    → Steps machine machine (Read offset len)
+    (Content (take len (drop offset (joined machine.newest))))
 unfolding ProperStep newest_bytes
 read_steps machine offset len is = record {
   atom = refl;
@@ -94,7 +103,8 @@ flush_steps machine = record {
 pub write_steps : (old new : Machine) (offset : ℕ) (body : List ℕ) (fua : Bool)
     → refusal_of old (Write offset body fua) ≡ None → new.atom ≡ old.atom
     → length new.newest ≡ length old.newest
-    → new.newest ≡ changed put old.newest (offset / old.atom) (blocks_of old.atom (length body / old.atom) body)
+    → new.newest ≡ changed put old.newest (offset / old.atom)
+    (blocks_of old.atom (length body / old.atom) body)
     → Steps old new (Write offset body fua) Done
 unfolding ProperStep WriteStep
 write_steps old new offset body fua is atom count newest = record {
@@ -108,7 +118,8 @@ write_steps old new offset body fua is atom count newest = record {
         left,
         proper_steps old blocks left (Write offset body fua) Done (length body) is are (refl, refl),
         record {
-          newest = held_changed (λ block. block.newest) (change fua) (change_newest fua) blocks at values
+          newest = held_changed (λ block. block.newest) (change fua) (change_newest fua)
+              blocks at values
               ∙ ap (λ held. changed put held at values) are.newest ∙ sym newest;
           sure = sure-changed (change fua) (change_sure fua) blocks at values are.sure;
         },
@@ -116,29 +127,33 @@ write_steps old new offset body fua is atom count newest = record {
 }
 
 -- no reply is an error of the device
-pub reply_is_no_fault : (machine : Machine) (op : Op) → reply_to machine op ≢ Errno 5
+pub reply_is_no_fault : (machine : Machine) (op : Op) → reply_to machine op ≢ Errno device_error
 unfolding reply_to
 reply_is_no_fault machine op = by_refusal (refusal_of machine op) refl
   where
-    proper : (op : Op) → proper_reply machine.newest op ≢ Errno 5
+    proper : (op : Op) → proper_reply machine.newest op ≢ Errno device_error
     proper (Read offset len) is = absurd (cc)
     proper (Write offset body fua) is = absurd (cc)
     proper Flush is = absurd (cc)
 
     by_refusal : (wrong : Option ℕ) → refusal_of machine op ≡ wrong
-        → reply_unless wrong (proper_reply machine.newest op) ≢ Errno 5
+        → reply_unless wrong (proper_reply machine.newest op) ≢ Errno device_error
     by_refusal None is same = proper op same
     by_refusal (Some number) is same = wrong_is_no_fault machine.atom
-        (length machine.newest * machine.atom) op number is (let e : number ≡ 5 = cc in e)
+        (length machine.newest * machine.atom) op number is
+        (let e : number ≡ device_error = cc in e)
 
 -- the values of a text into which whole blocks were put
-pub written_values : (atom count offset : ℕ) (text body : List ℕ) → 0 < atom → length text ≡ count * atom
+pub written_values : (atom count offset : ℕ) (text body : List ℕ) → 0 < atom →
+    length text ≡ count * atom
     → IsRange atom (count * atom) offset (length body)
     → blocks_of atom count (pasted text offset body)
-    ≡ changed put (blocks_of atom count text) (offset / atom) (blocks_of atom (length body / atom) body)
+    ≡ changed put (blocks_of atom count text) (offset / atom)
+    (blocks_of atom (length body / atom) body)
 written_values atom count offset text body some long range =
     let place : offset / atom * atom ≡ offset = whole_blocks atom offset range.start in
-    let whole : length body / atom * atom ≡ length body = whole_blocks atom (length body) range.whole in
+    let whole : length body / atom * atom ≡ length body =
+    whole_blocks atom (length body) range.whole in
     ap (λ at. blocks_of atom count (pasted text at body)) (sym place)
     ∙ blocks_of-pasted count atom (offset / atom) (length body / atom) text body long
     (blocks_within atom count offset (length body) some range) (sym whole)
@@ -178,7 +193,8 @@ pub range_read : (newest : List (List ℕ)) (text bytes : List ℕ) (atom offset
     → Content bytes ≡ Content (take len (drop offset (joined newest)))
 range_read newest text bytes atom offset len is whole bytes_are =
     let same : offset + len - offset ≡ len = omega arith in
-    let all : joined newest ≡ text = ap (λ values. joined values) is ∙ joined-blocks_of atom (length newest) text whole in
+    let all : joined newest ≡ text = ap (λ values. joined values) is
+    ∙ joined-blocks_of atom (length newest) text whole in
     ap (λ xs. Content xs)
     (bytes_are ∙ ap₂ (λ n xs. take n (drop offset xs)) same (sym all))
 
@@ -191,21 +207,25 @@ read_replies machine op offset len (Err e) is proper gives = tt
 read_replies machine op offset len (Ok reply) is proper gives =
     gives ∙ proper_reply_is machine op (Read offset len) is proper
 
-pub read_result_steps : (machine : Machine) (op : Op) (offset len : ℕ) (result : Result Reply AllocError)
+pub read_result_steps : (machine : Machine) (op : Op) (offset len : ℕ)
+    (result : Result Reply AllocError)
     → op ≡ Read offset len → refusal_of machine op ≡ None
     → IfOk result (λ reply. reply ≡ Content (take len (drop offset (joined machine.newest))))
     → IfOk result (λ reply. Steps machine machine op reply)
 read_result_steps machine op offset len (Err e) is proper gives = tt
 read_result_steps machine op offset len (Ok reply) is proper gives =
-    rw (is, gives) (read_steps machine offset len (subst (λ o. refusal_of machine o ≡ None) is proper))
+    rw (is, gives) (read_steps machine offset len
+    (subst (λ o. refusal_of machine o ≡ None) is proper))
 
 -- what a write that isn't wrong leaves, its body named otherwise
 pub written_steps : (old new : Machine) (op : Op) (offset : ℕ) (body text : List ℕ) (fua : Bool)
     → op ≡ Write offset body fua → text ≡ body → refusal_of old op ≡ None
     → new.atom ≡ old.atom → length new.newest ≡ length old.newest
-    → new.newest ≡ changed put old.newest (offset / old.atom) (blocks_of old.atom (length text / old.atom) text)
+    → new.newest ≡ changed put old.newest (offset / old.atom)
+    (blocks_of old.atom (length text / old.atom) text)
     → Steps old new op Done
 written_steps old new op offset body text fua is same proper atom count newest =
-    rw is (write_steps old new offset body fua (subst (λ o. refusal_of old o ≡ None) is proper) atom count
+    rw is (write_steps old new offset body fua (subst (λ o. refusal_of old o ≡ None) is proper) atom
+    count
     (newest ∙ ap (λ xs. changed put old.newest (offset / old.atom)
     (blocks_of old.atom (length xs / old.atom) xs)) same))

@@ -1,5 +1,6 @@
 -- A plain disk in memory, which never fails: the newest value of each block, and how it answers.
-use Rattle.std.specs.Prelude.{ℕ, ◌≡◌, ◌*◌, ◌^◌, ◌<◌, List, length, take, drop, map, Option, Some, None}
+use Rattle.std.specs.Prelude.{ℕ, ◌≡◌, ◌*◌, ◌^◌, ◌<◌, List, length, take, drop, map, Option, Some}
+use Rattle.std.specs.Prelude.{None}
 use Rattle.base_terms.specs.Blocks.{joined}
 use Rattle.plain_disk.specs.declared.operation.Op.{Op}
 use Rattle.plain_disk.specs.declared.operation.Op.TheVariants.{Read, Write, Flush}
@@ -50,7 +51,8 @@ pub record Steps (old new : Machine) (op : Op) (reply : Reply) : Type 0 where
   pub count : length new.newest ≡ length old.newest
   pub legal : (blocks : List Block) → AreBlocksOf old blocks →
       (n : ℕ) × (left : List Block)
-      × Step old.atom blocks (record { op = op; reply = reply; tried = n }) left × AreBlocksOf new left
+      × Step old.atom blocks (record { op = op; reply = reply; tried = n }) left
+      × AreBlocksOf new left
 
 -- the value of a block after a write of it
 abbrev pub put : List ℕ → List ℕ → List ℕ

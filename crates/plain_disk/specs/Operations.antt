@@ -1,19 +1,21 @@
 -- Operations that are refused, each with its number.
-use Rattle.std.specs.Prelude.{ℕ, ◌≡◌, ◌+◌, ◌%◌, ◌≤◌, not, ◌==◌, ◌||◌, nat_lt, if◌then◌else◌, length, Option, Some, None}
+use Rattle.std.specs.Prelude.{ℕ, ◌≡◌, ◌+◌, ◌%◌, ◌≤◌, not, ◌==◌, ◌||◌, nat_lt, if◌then◌else◌, length}
+use Rattle.std.specs.Prelude.{Option, Some, None}
+use Rattle.base_terms.specs.ErrorNumbers.{invalid, no_space}
 use Rattle.plain_disk.specs.declared.operation.Op.{Op}
 use Rattle.plain_disk.specs.declared.operation.Op.TheVariants.{Read, Write, Flush}
 
 -- a range that isn't of whole blocks, or passes the end of `size` bytes
 abbrev pub wrong_range_of : ℕ → ℕ → ℕ → ℕ → ℕ → Option ℕ
 wrong_range_of atom size offset len past =
-    if not (offset % atom == 0) || not (len % atom == 0) then Some 22
+    if not (offset % atom == 0) || not (len % atom == 0) then Some invalid
     else (if nat_lt size (offset + len) then Some past else None)
 
 -- the number with which an operation is refused; a flush never is
 abbrev pub wrong_of : ℕ → ℕ → Op → Option ℕ
 wrong_of atom size (Read offset len) =
-    if nat_lt 33554432 len then Some 22 else wrong_range_of atom size offset len 22
-wrong_of atom size (Write offset body fua) = wrong_range_of atom size offset (length body) 28
+    if nat_lt 33554432 len then Some invalid else wrong_range_of atom size offset len invalid
+wrong_of atom size (Write offset body fua) = wrong_range_of atom size offset (length body) no_space
 wrong_of atom size Flush = None
 
 -- a range of whole blocks within a disk of `size` bytes

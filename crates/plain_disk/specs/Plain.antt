@@ -1,6 +1,8 @@
 -- One plain disk that is asked one operation after the other.
-use Rattle.std.specs.Prelude.{ℕ, ◌≡◌, ◌*◌, ◌/◌, ◌%◌, ◌≤◌, Bool, true, false, if◌then◌else◌, List, [], ◌∷◌, ◌++◌, length, take, drop, map, Contains, MatchOption}
+use Rattle.std.specs.Prelude.{ℕ, ◌≡◌, ◌*◌, ◌/◌, ◌%◌, ◌≤◌, Bool, true, false, if◌then◌else◌, List}
+use Rattle.std.specs.Prelude.{[], ◌∷◌, ◌++◌, length, take, drop, map, MatchOption}
 use Rattle.base_terms.specs.Blocks.{joined, blocks_of, changed}
+use Rattle.base_terms.specs.ErrorNumbers.{device_error}
 use Rattle.plain_disk.specs.declared.operation.Op.{Op}
 use Rattle.plain_disk.specs.declared.operation.Op.TheVariants.{Read, Write, Flush}
 use Rattle.plain_disk.specs.declared.operation.Reply.{Reply}
@@ -61,20 +63,24 @@ pub record Exchange : Type 0 where
 unfoldable pub WriteStep : ℕ → List Block → ℕ → List ℕ → Bool → Reply → ℕ → List Block → Type 0
 WriteStep atom old offset body fua (Content bytes) n new = ⊥
 WriteStep atom old offset body fua Done n new =
-    (n ≡ length body) × (new ≡ changed (if fua then written_for_good else written) old (offset / atom) (blocks_of atom (n / atom) body))
+    (n ≡ length body) × (new ≡ changed (if fua then written_for_good else written) old
+    (offset / atom) (blocks_of atom (n / atom) body))
 WriteStep atom old offset body fua (Errno number) n new =
-    (number ≡ 5) × (n ≤ length body) × (n % atom ≡ 0) × (new ≡ changed tried old (offset / atom) (blocks_of atom (n / atom) body))
+    (number ≡ device_error) × (n ≤ length body) × (n % atom ≡ 0)
+    × (new ≡ changed tried old (offset / atom) (blocks_of atom (n / atom) body))
 
 -- an operation that isn't wrong goes by its kind and its reply
 unfoldable pub ProperStep : ℕ → List Block → Op → Reply → ℕ → List Block → Type 0
 ProperStep atom old (Read offset len) (Content bytes) n new =
-    (new ≡ old) × (bytes ≡ take len (drop offset (newest_bytes old))) × AreSure (take (len / atom) (drop (offset / atom) old))
+    (new ≡ old) × (bytes ≡ take len (drop offset (newest_bytes old)))
+    × AreSure (take (len / atom) (drop (offset / atom) old))
 ProperStep atom old (Read offset len) Done n new = ⊥
-ProperStep atom old (Read offset len) (Errno number) n new = (number ≡ 5) × (new ≡ old)
-ProperStep atom old (Write offset body fua) reply n new = WriteStep atom old offset body fua reply n new
+ProperStep atom old (Read offset len) (Errno number) n new = (number ≡ device_error) × (new ≡ old)
+ProperStep atom old (Write offset body fua) reply n new =
+    WriteStep atom old offset body fua reply n new
 ProperStep atom old Flush (Content bytes) n new = ⊥
 ProperStep atom old Flush Done n new = new ≡ map flushed old
-ProperStep atom old Flush (Errno number) n new = (number ≡ 5) × (new ≡ old)
+ProperStep atom old Flush (Errno number) n new = (number ≡ device_error) × (new ≡ old)
 
 -- one operation: a wrong one is refused with its number and does nothing
 unfoldable pub Step : ℕ → List Block → Exchange → List Block → Type 0
@@ -88,15 +94,3 @@ unfoldable pub Legal : ℕ → List Block → List Exchange → List Block → T
 Legal atom old [] new = new ≡ old
 Legal atom old (exchange ∷ exchanges) new =
     (middle : List Block) × Step atom old exchange middle × Legal atom middle exchanges new
-
--- a content that may be found after a stop: each block holds one of its values
-unfoldable pub IsAllowed : List Block → List (List ℕ) → Type 0
-IsAllowed [] [] = Unit {0}
-IsAllowed [] (value ∷ values) = ⊥
-IsAllowed (block ∷ blocks) [] = ⊥
-IsAllowed (block ∷ blocks) (value ∷ values) = Contains (values_of block) value × IsAllowed blocks values
-
--- the same within a write of which the first `n` bytes were tried
-abbrev pub IsAllowedWithin : ℕ → List Block → ℕ → List ℕ → ℕ → List (List ℕ) → Type 0
-IsAllowedWithin atom blocks offset body n content =
-    IsAllowed (changed tried blocks (offset / atom) (blocks_of atom (n / atom) body)) content

@@ -1,14 +1,10 @@
 ghost use Rattle.std.specs.Prelude.{◌≡◌, ◌<◌};
 ghost use Rattle.plain_disk.specs.Operations.{wrong_of, wrong_range_of};
 
-use base_terms::Bytes;
+use base_terms::{Bytes, INVALID, NO_SPACE};
 
 /// The most bytes that one read may ask for.
 pub const MAX_READ: u32 = 33_554_432;
-
-const INVALID: u32 = 22;
-
-const NO_SPACE: u32 = 28;
 
 /// What a client asks of a disk. Offsets and lengths are in bytes. With `fua` ("force unit access")
 /// a write is answered once it is certain to be kept.

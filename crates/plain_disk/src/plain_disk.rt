@@ -1,6 +1,9 @@
-ghost use Rattle.std.specs.Prelude.{◌≡◌, ◌≢◌, ◌+◌, ◌*◌, ◌/◌, ◌^◌, ◌<◌, ◌≤◌, [], length, take, drop, replicate, None, IfOk, OnErr, slice_index_or};
+ghost use Rattle.std.specs.Prelude.{◌≡◌, ◌≢◌, ◌+◌, ◌*◌, ◌/◌, ◌^◌, ◌<◌, ◌≤◌, [], length, take, drop};
+ghost use Rattle.std.specs.Prelude.{replicate, None, IfOk, OnErr, slice_index_or};
 ghost use Rattle.base_terms.specs.Blocks.{joined, blocks_of, changed};
-ghost use Rattle.plain_disk.specs.Machine.{Machine, IsWhole, AreBlocksOf, Steps, refusal_of, reply_to, put};
+ghost use Rattle.base_terms.specs.ErrorNumbers.{device_error};
+ghost use Rattle.plain_disk.specs.Machine.{Machine, IsWhole, AreBlocksOf, Steps, refusal_of};
+ghost use Rattle.plain_disk.specs.Machine.{reply_to, put};
 ghost use Rattle.plain_disk.specs.Operations.{IsRange, TakesMemory};
 ghost use Rattle.plain_disk.specs.Plain.{settled_blocks};
 
@@ -11,8 +14,8 @@ use std::marker::Model;
 
 /// A plain disk in memory, which never fails.
 ///
-/// It keeps the newest value of each block alone. What a block held before bears on no reply, so the
-/// contracts speak of all blocks whose newest values are these.
+/// It keeps the newest value of each block alone. What a block held before bears on no reply, so
+/// the contracts speak of all blocks whose newest values are these.
 #[derive(Debug, Drop)]
 pub struct PlainDisk {
     atom: u32,
@@ -85,7 +88,7 @@ impl PlainDisk {
     pub fn step(&mut self, alloc: Global, op: &Op) -> Result<Reply, AllocError>
         ensures reply { IfOk result (λ reply. reply ≡ reply_to self.old op.now) }
         ensures legal { IfOk result (λ reply. Steps self.old self.new op.now reply) }
-        ensures no_device_error { IfOk result (λ reply. reply ≢ Reply.Errno 5) }
+        ensures no_device_error { IfOk result (λ reply. reply ≢ Reply.Errno device_error) }
         ensures err { OnErr result (self.new ≡ self.old) }
         ensures memory { OnErr result ((refusal_of self.old op.now ≡ None) × TakesMemory op.now) }
     {

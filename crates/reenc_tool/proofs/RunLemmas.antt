@@ -1,8 +1,12 @@
 -- A command of its parts.
-use Rattle.std.proofs.Common.{◌≡◌, ℕ, ◌*◌, ◌-◌, ◌^◌, ◌<◌, ◌⊎◌, ⊎_elim, Bool, true, false, inl, inr, suc, List, [], ◌∷◌, ◌++◌, length, slice_index_or, replicate, Option, Some, None, ap, ◌∙◌, refl, sym, subst, arith}
+use Rattle.std.proofs.Common.{◌≡◌, ℕ, ◌*◌, ◌-◌, ◌^◌, ◌<◌, ◌≤◌, ◌⊎◌, ⊎_elim, le_trans, Bool, true}
+use Rattle.std.proofs.Common.{false, inl, inr, zero, suc, List, [], ◌∷◌, ◌++◌, length}
+use Rattle.std.proofs.Common.{slice_index_or, replicate, Option, Some, None, ap, ◌∙◌, refl, sym}
+use Rattle.std.proofs.Common.{subst, arith}
 use Rattle.base_terms.specs.Blocks.{lengths}
 use Rattle.base_terms.specs.Causes.{Rose}
-use Rattle.bays.specs.Bays.{Holdings, LeavesAll, LeavesOtherDisks, LeavesOtherClients}
+use Rattle.bays.specs.Bays.{AreBounded, Holdings, IsShare, LeavesAll, LeavesOtherDisks}
+use Rattle.bays.specs.Bays.{LeavesOtherClients}
 use Rattle.bays.specs.Stories.{LinkState}
 use Rattle.nbd_session.specs.declared.ending.SessionEnd.{SessionEnd}
 use Rattle.cipher_laws.specs.Bytes.{AreBytes}
@@ -10,9 +14,11 @@ use Rattle.plain_disk.specs.Plain.{Block, Exchange, Legal}
 use Rattle.sector_disk.specs.Cells.{AreSettled, content, currents}
 use Rattle.sector_disk.specs.Steps.{Told}
 use Rattle.volume_machine.specs.Beginnings.{IsFresh}
-use Rattle.volume_laws.specs.Executing.{Executes, StopsAlong, TellsRun, ServesWithoutFaults, BreaksByFaults}
+use Rattle.volume_laws.specs.Executing.{Executes, StopsAlong, TellsRun, ServesWithoutFaults}
+use Rattle.volume_laws.specs.Executing.{BreaksByFaults}
 use Rattle.volume_machine.specs.States.{IsIdle}
-use Rattle.volume_laws.specs.Promises.{DeviceErrorsAreExact, Starts, StartsCovered, ServesEachRun, GoesByEvents}
+use Rattle.volume_laws.specs.Promises.{DeviceErrorsAreExact, Starts, StartsCovered, ServesEachRun}
+use Rattle.volume_laws.specs.Promises.{GoesByEvents}
 use Rattle.volume_machine.specs.Answers.{AreExchanges, Tagged, untagged}
 use Rattle.volume_machine.specs.Runs.{Happening, IsRun, last_of, answered_in, no_plain}
 use Rattle.volume_machine.specs.Beginnings.{ChangeNothing}
@@ -27,22 +33,30 @@ use Rattle.reenc_tool.specs.declared.serving.Standing.{Standing}
 use Rattle.reenc_tool.specs.declared.serving.Standing.TheVariants.{Live, Ended, Failed}
 use Rattle.reenc_tool.specs.Lanes.{IsServed, Served, StandsBy, failed_bit, failed_in}
 use Rattle.reenc_tool.specs.Sessions.{Played, AreSessions, NumbersRise, tagged_of}
-use Rattle.reenc_tool.specs.Promise.{HasNoDisk, IsPlainVolume, IsStopped, LeavesRest, MayStop, Outcome, PlainKeys, Ran, Serves, StoodStill, WasServed, WasStopped, cause_of, unserved}
+use Rattle.reenc_tool.specs.Promise.{IsPlainVolume, LeavesRest, MayStop, Outcome, PlainKeys, Ran}
+use Rattle.reenc_tool.specs.Promise.{StoodStill, cause_of, unserved}
 use Rattle.reenc_tool.specs.Words.{Serve}
-use Rattle.reenc_tool.proofs.AskingLemmas.{sessions_unspent}
 use Rattle.reenc_tool.proofs.HistoryLemmas.{each_of, known_of, untagged-tagged_of}
+use Rattle.reenc_tool.proofs.AskingLemmas.{sessions_unspent}
 use Rattle.reenc_tool.proofs.TextLemmas.{not_rose}
 
 -- none of several failed, or one of them did
-none_or_one : (standings : List Standing) → (failed_in standings ≡ 0) ⊎ ((k : ℕ) × (k < length standings) × (slice_index_or standings k Live ≡ Failed))
+none_or_one : (standings : List Standing) → (failed_in standings ≡ 0)
+    ⊎ ((k : ℕ) × (k < length standings) × (slice_index_or standings k Live ≡ Failed))
 none_or_one [] = inl refl
-none_or_one (Live ∷ rest) = ⊎_elim (λ none. inl none) (λ one. inr (suc one.0, omega (arith, one.1), one.2)) (none_or_one rest)
-none_or_one (Ended ∷ rest) = ⊎_elim (λ none. inl none) (λ one. inr (suc one.0, omega (arith, one.1), one.2)) (none_or_one rest)
+none_or_one (Live ∷ rest) =
+    ⊎_elim (λ none. inl none) (λ one. inr (suc one.0, omega (arith, one.1), one.2))
+    (none_or_one rest)
+none_or_one (Ended ∷ rest) =
+    ⊎_elim (λ none. inl none) (λ one. inr (suc one.0, omega (arith, one.1), one.2))
+    (none_or_one rest)
 none_or_one (Failed ∷ rest) = inr (0, omega arith, refl)
 
 -- where no link's count of faults moved, none failed
-no_link_failed : {L : Type 0} (state : L → LinkState) (olds news : List L) (ends : List (List SessionEnd)) (failed : ℕ) (memory : Bool)
-    (all : List Played) → Served state olds news ends failed memory all → (link : L) → StoodStill state olds news → failed ≡ 0
+no_link_failed : {L : Type 0} (state : L → LinkState) (olds news : List L)
+    (ends : List (List SessionEnd)) (failed : ℕ) (memory : Bool)
+    (all : List Played) → Served state olds news ends failed memory all → (link : L) →
+    StoodStill state olds news → failed ≡ 0
 no_link_failed state olds news ends failed memory all served link stood =
     served.failed_is
     ∙ ⊎_elim (λ none. none)
@@ -51,93 +65,144 @@ no_link_failed state olds news ends failed memory all served link stood =
     let its = served.each one.0 link inside in
     let still = stood one.0 link inside in
     absurd (not_rose _ _ still.0 still.1
-    (subst (λ (s : Standing). StandsBy s (state (slice_index_or olds one.0 link)) (state (slice_index_or news one.0 link))) one.2 its.stands)))
+    (subst (λ (s : Standing).
+    StandsBy s (state (slice_index_or olds one.0 link))
+    (state (slice_index_or news one.0 link))) one.2 its.stands)))
     (none_or_one served.standings)
 
 -- what the disk tells of itself, as every disk does
 pub record DiskTells (device : Device) : Type 0 where
-  pub whole : (bytes : List ℕ) → device.values ≡ Some bytes → length bytes ≡ device.atoms * device.size
+  pub whole : (bytes : List ℕ) → device.values ≡ Some bytes →
+      length bytes ≡ device.atoms * device.size
   pub are_bytes : (bytes : List ℕ) → device.values ≡ Some bytes → AreBytes bytes
   pub agrees : (told : Told) → device.told ≡ Some told → device.values ≡ Some (content told.now)
-  pub even : (told : Told) → device.told ≡ Some told → lengths (currents told.now) ≡ replicate device.atoms device.size
+  pub even : (told : Told) → device.told ≡ Some told →
+      lengths (currents told.now) ≡ replicate device.atoms device.size
 
 -- the same of a plain volume's disk
 pub record VolumeTells (atom : ℕ) (device : Device) : Type 0 where
   pub whole : (bytes : List ℕ) → device.values ≡ Some bytes → length bytes ≡ device.atoms * atom
   pub are_bytes : (bytes : List ℕ) → device.values ≡ Some bytes → AreBytes bytes
   pub agrees : (told : Told) → device.told ≡ Some told → device.values ≡ Some (content told.now)
-  pub even : (told : Told) → device.told ≡ Some told → lengths (currents told.now) ≡ replicate device.atoms atom
+  pub even : (told : Told) → device.told ≡ Some told →
+      lengths (currents told.now) ≡ replicate device.atoms atom
 
-tells_start : (device : Device) (seals : Seals) (start : State PlainKeys) → IsPlainVolume device seals start → DiskTells device →
+tells_start : (device : Device) (seals : Seals) (start : State PlainKeys) →
+    IsPlainVolume device seals start → DiskTells device →
     VolumeTells start.map.atom start.disk
 tells_start device seals start volume tells =
     subst (λ a. VolumeTells a start.disk) (sym volume.size)
     (subst (λ d. VolumeTells device.size d) (sym volume.disk)
-    (record { whole = tells.whole; are_bytes = tells.are_bytes; agrees = tells.agrees; even = tells.even }))
+    (record {
+      whole = tells.whole;
+      are_bytes = tells.are_bytes;
+      agrees = tells.agrees;
+      even =
+          tells.even;
+    }))
 
 -- the laws of volumes that a command cites
-pub record VolumeLaws (start : State PlainKeys) (seals : Seals) (run : List (Happening PlainKeys)) : Type 0 where
+pub record VolumeLaws (start : State PlainKeys) (seals : Seals)
+    (run : List (Happening PlainKeys)) : Type 0 where
   pub served : ServesEachRun start seals
-  pub answers : (final : State PlainKeys) (operations : List Tagged) → Executes seals start final run operations →
+  pub answers : (final : State PlainKeys) (operations : List Tagged) →
+      Executes seals start final run operations →
       AreExchanges (answered_in seals start no_plain run) (untagged operations)
-  pub events : (earlier later : List (Happening PlainKeys)) → IsFresh start → IsRun start (earlier ++ later) → GoesByEvents start earlier
-  pub errors : (earlier later : List (Happening PlainKeys)) (one : Happening PlainKeys) → IsFresh start → IsRun start (earlier ++ one ∷ later) →
+  pub events : (earlier later : List (Happening PlainKeys)) → IsFresh start →
+      IsRun start (earlier ++ later) → GoesByEvents start earlier
+  pub errors : (earlier later : List (Happening PlainKeys)) (one : Happening PlainKeys) →
+      IsFresh start → IsRun start (earlier ++ one ∷ later) →
       DeviceErrorsAreExact seals start earlier one
-  pub stops : (blocks : List Block) (bytes : List ℕ) (exchanges : List Exchange) → Starts start seals blocks bytes → IsRun start run →
-      AreExchanges (answered_in seals start no_plain run) exchanges → StopsAlong start seals blocks run exchanges
-  pub tables : (now : Told) → IsRun start run → (last_of start run).disk.told ≡ Some now → TellsRun start run now
-  pub faultless : IsSound start → IsFresh start → AreLawful start.map.atom seals → IsRun start run → ServesWithoutFaults start seals run
+  pub stops : (blocks : List Block) (bytes : List ℕ) (exchanges : List Exchange) →
+      Starts start seals blocks bytes → IsRun start run →
+      AreExchanges (answered_in seals start no_plain run) exchanges →
+      StopsAlong start seals blocks run exchanges
+  pub tables : (now : Told) → IsRun start run → (last_of start run).disk.told ≡ Some now →
+      TellsRun start run now
+  pub faultless : IsSound start → IsFresh start → AreLawful start.map.atom seals → IsRun start run →
+      ServesWithoutFaults start seals run
   pub breaks : IsFresh start → IsRun start run → BreaksByFaults start run
-  pub starts : (bytes : List ℕ) → IsSound start → IsFresh start → AreApart start.map → IsWholeDisk start.map.atom start.disk.atoms start.map →
-      AreLawful start.map.atom seals → ChangeNothing seals → start.disk.values ≡ Some bytes → length bytes ≡ start.disk.atoms * start.map.atom → AreBytes bytes →
+  pub starts : (bytes : List ℕ) → IsSound start → IsFresh start → AreApart start.map →
+      IsWholeDisk start.map.atom start.disk.atoms start.map →
+      AreLawful start.map.atom seals → ChangeNothing seals → start.disk.values ≡ Some bytes →
+      length bytes ≡ start.disk.atoms * start.map.atom → AreBytes bytes →
       Starts start seals (plain_blocks start bytes) bytes
-  pub covered : (bytes : List ℕ) → IsWholeDisk start.map.atom start.disk.atoms start.map → ChangeNothing seals → length bytes ≡ start.disk.atoms * start.map.atom → AreBytes bytes →
-      ((told : Told) → start.disk.told ≡ Some told → AreSettled told.now × (bytes ≡ content told.now)
-      × (lengths (currents told.now) ≡ replicate start.disk.atoms start.map.atom)) → StartsCovered start seals (plain_blocks start bytes)
+  pub covered : (bytes : List ℕ) → IsWholeDisk start.map.atom start.disk.atoms start.map →
+      ChangeNothing seals → length bytes ≡ start.disk.atoms * start.map.atom → AreBytes bytes →
+      ((told : Told) → start.disk.told ≡ Some told → AreSettled told.now
+      × (bytes ≡ content told.now)
+      × (lengths (currents told.now) ≡ replicate start.disk.atoms start.map.atom)) →
+      StartsCovered start seals (plain_blocks start bytes)
 
 -- one history
-history_of : (start : State PlainKeys) (seals : Seals) (final : State PlainKeys) (run : List (Happening PlainKeys)) (operations : List Tagged) (bytes : List ℕ) →
-    VolumeLaws start seals run → Starts start seals (plain_blocks start bytes) bytes → Executes seals start final run operations →
+history_of : (start : State PlainKeys) (seals : Seals) (final : State PlainKeys)
+    (run : List (Happening PlainKeys)) (operations : List Tagged) (bytes : List ℕ) →
+    VolumeLaws start seals run → Starts start seals (plain_blocks start bytes) bytes →
+    Executes seals start final run operations →
     (left : List Block) × Legal start.map.atom (plain_blocks start bytes) (untagged operations) left
 history_of start seals final run operations bytes laws starts did =
-    let served = laws.served (plain_blocks start bytes) bytes run (untagged operations) starts did.is (laws.answers final operations did) in (served.left, served.legal)
+    let served = laws.served (plain_blocks start bytes) bytes run (untagged operations) starts
+    did.is (laws.answers final operations did) in (served.left, served.legal)
 
 -- stops
-may_stop : (start : State PlainKeys) (seals : Seals) (final : State PlainKeys) (run : List (Happening PlainKeys)) (operations : List Tagged) →
-    VolumeLaws start seals run → VolumeTells start.map.atom start.disk → IsWholeDisk start.map.atom start.disk.atoms start.map → ChangeNothing seals →
-    ((bytes : List ℕ) → start.disk.values ≡ Some bytes → Starts start seals (plain_blocks start bytes) bytes) → Executes seals start final run operations → MayStop start seals run (untagged operations)
-may_stop start seals final run operations laws tells whole nothing starts did = λ bytes before values was settled. (
-  laws.covered bytes whole nothing (tells.whole bytes values) (tells.are_bytes bytes values)
-      (λ other is. (let same : other ≡ before = cc in
-      (subst (λ t. AreSettled t.now) (sym same) settled, (let agrees = tells.agrees other is in cc), tells.even other is))),
-  laws.stops (plain_blocks start bytes) bytes (untagged operations) (starts bytes values) did.is (laws.answers final operations did),
-  (λ now told. laws.tables now did.is told),
-)
+may_stop : (start : State PlainKeys) (seals : Seals) (final : State PlainKeys)
+    (run : List (Happening PlainKeys)) (operations : List Tagged) →
+    VolumeLaws start seals run → VolumeTells start.map.atom start.disk →
+    IsWholeDisk start.map.atom start.disk.atoms start.map → ChangeNothing seals →
+    ((bytes : List ℕ) → start.disk.values ≡ Some bytes →
+    Starts start seals (plain_blocks start bytes) bytes) →
+    Executes seals start final run operations → MayStop start seals run (untagged operations)
+may_stop start seals final run operations laws tells whole nothing starts did =
+    λ bytes before values was settled. (
+      laws.covered bytes whole nothing (tells.whole bytes values) (tells.are_bytes bytes values)
+          (λ other is. (let same : other ≡ before = cc in (
+            subst (λ t. AreSettled t.now) (sym same) settled,
+            (let agrees = tells.agrees other is in cc),
+            tells.even other is,
+          ))),
+      laws.stops (plain_blocks start bytes) bytes (untagged operations) (starts bytes values)
+          did.is (laws.answers final operations did),
+      (λ now told. laws.tables now did.is told),
+    )
 
 -- a command's outcome, of the parts that its run left
-module _ {D L : Type 0} (device : D → Device) (state : L → LinkState) (disk back : D) (begun : List L) (link : L) (outcome : Outcome D L)
-    (start : State PlainKeys) (seals : Seals) (final : State PlainKeys) (run : List (Happening PlainKeys)) where
-  pub ran_of : (failed : ℕ) (memory : Bool) (played : List Played) (size atom : ℕ) {may_spend : Type 0} → VolumeLaws start seals run →
-      IsPlainVolume (device disk) seals start → AreLawful start.map.atom seals → DiskTells (device disk) →
-      Executes seals start final run (tagged_of played) → IsIdle final → size ≡ size_of start.map → atom ≡ start.map.atom →
-      (may_spend → ⊥) → AreSessions (record { number = 0; size = size; atom = atom }) may_spend played → NumbersRise 0 played →
-      Served state begun outcome.links outcome.ends failed memory played → outcome.disk ≡ Some back → device back ≡ final.disk →
-      (device back).size ≡ (device disk).size → outcome.cause ≡ cause_of final.broken failed memory → Ran device state disk begun outcome
-  ran_of failed memory played size atom laws volume lawful tells did idle size_same atom_same never sessions rise served is_back back_is same_size cause_is =
+module _ {D L : Type 0} (device : D → Device) (state : L → LinkState) (disk back : D)
+    (begun : List L) (link : L) (outcome : Outcome D L)
+    (start : State PlainKeys) (seals : Seals) (final : State PlainKeys)
+    (run : List (Happening PlainKeys)) where
+  pub ran_of : (failed : ℕ) (played : List Played) (size atom : ℕ) {may_spend : Type 0} →
+      VolumeLaws start seals run →
+      IsPlainVolume (device disk) seals start → AreLawful start.map.atom seals →
+      DiskTells (device disk) →
+      Executes seals start final run (tagged_of played) → IsIdle final →
+      size ≡ size_of start.map → atom ≡ start.map.atom →
+      (may_spend → ⊥) → AreSessions (record { number = 0; size = size; atom = atom }) may_spend
+      played → NumbersRise 0 played →
+      Served state begun outcome.links outcome.ends failed outcome.memory played →
+      outcome.disk ≡ Some back → device back ≡ final.disk →
+      (device back).size ≡ (device disk).size →
+      outcome.cause ≡ cause_of final.broken failed outcome.memory →
+      Ran device state disk begun outcome
+  ran_of failed played size atom laws volume lawful tells did idle size_same atom_same never
+      sessions rise served is_back back_is same_size cause_is =
       let own = tells_start (device disk) seals start volume tells in
-      let starts : (bytes : List ℕ) → start.disk.values ≡ Some bytes → Starts start seals (plain_blocks start bytes) bytes =
-      λ bytes is. laws.starts bytes volume.sound volume.fresh volume.apart volume.whole lawful volume.nothing is (own.whole bytes is) (own.are_bytes bytes is) in
+      let starts : (bytes : List ℕ) → start.disk.values ≡ Some bytes →
+      Starts start seals (plain_blocks start bytes) bytes =
+      λ bytes is. laws.starts bytes volume.sound volume.fresh volume.apart volume.whole lawful
+      volume.nothing is (own.whole bytes is) (own.are_bytes bytes is) in
       record {
         start = start;
         seals = seals;
         final = final;
         run = run;
         failed = failed;
-        memory = memory;
         played = played;
         volume = volume;
-        sessions = subst (λ (a : ℕ). AreSessions (record { number = 0; size = size_of start.map; atom = a }) ⊥ played) atom_same
-            (subst (λ (s : ℕ). AreSessions (record { number = 0; size = s; atom = atom }) ⊥ played) size_same (sessions_unspent _ never played sessions));
+        sessions = subst (λ (a : ℕ).
+            AreSessions (record { number = 0; size = size_of start.map; atom = a }) ⊥ played)
+            atom_same
+            (subst (λ (s : ℕ). AreSessions (record { number = 0; size = s; atom = atom }) ⊥ played)
+            size_same (sessions_unspent _ never played sessions));
         rise = rise;
         served = served;
         operations = tagged_of played;
@@ -147,43 +212,34 @@ module _ {D L : Type 0} (device : D → Device) (state : L → LinkState) (disk 
         in_turn = untagged-tagged_of played;
         idle = idle;
         back_is = (back, is_back, back_is, same_size);
-        history = λ bytes is. history_of start seals final run (tagged_of played) bytes laws (starts bytes is) did;
-        stops = may_stop start seals final run (tagged_of played) laws own volume.whole volume.nothing starts did;
+        history = λ bytes is.
+            history_of start seals final run (tagged_of played) bytes laws (starts bytes is)
+            did;
+        stops = may_stop start seals final run (tagged_of played) laws own volume.whole
+            volume.nothing starts did;
         cause_is = cause_is;
-        broke = subst (λ s. s.broken ≡ true → Rose start.disk.faults s.disk.faults) did.last (laws.breaks volume.fresh did.is);
-        errors = λ earlier later one is. laws.errors earlier later one volume.fresh (subst (λ r. IsRun start r) is did.is);
-        fails = λ earlier later is. laws.events earlier later volume.fresh (subst (λ r. IsRun start r) is did.is);
+        broke = subst (λ s. s.broken ≡ true → Rose start.disk.faults s.disk.faults) did.last
+            (laws.breaks volume.fresh did.is);
+        errors = λ earlier later one is.
+            laws.errors earlier later one volume.fresh (subst (λ r. IsRun start r) is did.is);
+        fails = λ earlier later is.
+            laws.events earlier later volume.fresh (subst (λ r. IsRun start r) is did.is);
         complete = λ stood low links_stood.
-            let fine = laws.faultless volume.sound volume.fresh lawful did.is (untagged (tagged_of played)) (laws.answers final (tagged_of played) did)
+            let fine = laws.faultless volume.sound volume.fresh lawful did.is
+            (untagged (tagged_of played)) (laws.answers final (tagged_of played) did)
             (ap (λ s. s.disk.faults) did.last ∙ stood) (omega (arith, stood, low)) in
             let unbroken = ap (λ s. s.broken) (sym did.last) ∙ fine.1 in
-            let calm = no_link_failed state begun outcome.links outcome.ends failed memory played served link links_stood in
-            (fine.0, cause_is ∙ ap (λ b. cause_of b failed memory) unbroken ∙ ap (λ f. cause_of false f memory) calm);
+            let calm = no_link_failed state begun outcome.links outcome.ends failed outcome.memory
+            played served link links_stood in (
+              fine.0,
+              cause_is ∙ ap (λ b. cause_of b failed outcome.memory) unbroken
+                  ∙ ap (λ f. cause_of false f outcome.memory) calm,
+            );
       }
 
-module _ {D L : Type 0} (device : D → Device) (state : L → LinkState) where
-  -- what came after the bay gave the disk came after it was asked
-  pub ended_earlier : (address : List ℕ) (sessions : ℕ) (disk : D) (old mid new : Holdings D) (outcome : Outcome D L) →
-      mid.inputs ≡ old.inputs → mid.faults ≡ old.faults →
-      Serves device state address sessions disk mid new outcome → Serves device state address sessions disk old new outcome
-  ended_earlier address sessions disk old mid new outcome same stood ended = ⊎_elim
-      (λ served. inl (record {
-        begun = served.begun;
-        blocks = served.blocks;
-        given = rw (← same) served.given;
-        stood = served.stood ∙ stood;
-        ran = served.ran;
-      }))
-      (λ stopped. inr (record {
-        links = stopped.links;
-        outcome_is = stopped.outcome_is;
-        links_are = rw (← same) stopped.links_are;
-        why = rw (← stood) stopped.why;
-      }))
-      ended
-
 -- what a command left that asked for a disk, and then perhaps for links
-pub leaves_rest : {D : Type 0} (serve : Serve) (old mid new : Holdings D) → LeavesOtherDisks serve.disk old mid →
+pub leaves_rest : {D : Type 0} (serve : Serve) (old mid new : Holdings D) →
+    LeavesOtherDisks serve.disk old mid →
     LeavesOtherClients serve.address mid new → LeavesRest serve old new
 leaves_rest serve old mid new first then = record {
   disks = λ other differ. ap (λ shelf. shelf other) then.disks ∙ first.disks other differ;
@@ -191,33 +247,42 @@ leaves_rest serve old mid new first then = record {
   clients = λ other differ. then.clients other differ ∙ ap (λ inputs. inputs other) first.clients;
 }
 
-pub leaves_all : {D : Type 0} (serve : Serve) (old new : Holdings D) → LeavesAll old new → LeavesRest serve old new
+pub leaves_all : {D : Type 0} (serve : Serve) (old new : Holdings D) → LeavesAll old new →
+    LeavesRest serve old new
 leaves_all serve old new leaves = record {
   disks = λ other differ. ap (λ shelf. shelf other) leaves.disks;
   keys = leaves.keys;
   clients = λ other differ. ap (λ inputs. inputs other) leaves.clients;
 }
 
--- a command that got no disk, and so served nothing
-pub no_disk : {D L : Type 0} (old new : Holdings D) (outcome : Outcome D L) (cause : Cause) → outcome ≡ unserved cause None [] →
-    LeavesAll old new → IsStopped 1 old.faults new.faults cause → HasNoDisk old new outcome
-no_disk old new outcome cause is leaves why = record {
-  outcome_is = is ∙ ap (λ o. unserved o.cause None []) (sym is);
-  leaves = leaves;
-  why = subst (λ (c : Cause). IsStopped 1 old.faults new.faults c) (sym (ap (λ o. o.cause) is)) why;
-}
+-- a link's share of the sessions is no more than these
+share_few : (sessions k count : ℕ) → IsShare 4 sessions k count → count ≤ sessions
+share_few sessions k zero below = omega arith
+share_few sessions k (suc n) below = omega (arith, below n (omega arith))
+
+-- links that a bay gave for so many sessions have no more of them each
+pub links_few : {L : Type 0} (state : L → LinkState) (sessions : ℕ) (links : List L) →
+    AreBounded state 4 sessions links → length links ≡ 4 → sessions ≤ 65535 →
+    (k : ℕ) (link : L) → k < length links → (state (slice_index_or links k link)).bound ≤ 65535
+links_few state sessions links bounded count few k link inside =
+    le_trans (share_few sessions k _ (bounded k link (omega arith))) few
 
 -- what is handed back without a session, by its links
 abbrev pub unserved_of : {D L : Type 0} → Cause → Option D → List L → Outcome D L
 unserved_of cause disk links = unserved cause disk links
 
-abbrev pub handed_back : {D L : Type 0} → Cause → Option D → List L → List (List SessionEnd) → Outcome D L
-handed_back cause disk links ends = record { cause = cause; disk = disk; links = links; ends = ends }
+abbrev pub handed_back : {D L : Type 0} → Cause → Bool → Option D → List L →
+    List (List SessionEnd) → Outcome D L
+handed_back cause memory disk links ends =
+    record { cause = cause; memory = memory; disk = disk; links = links; ends = ends }
 
 -- what is handed back is the same where each part is
-pub same_outcome : {D L : Type 0} (cause : Cause) (disk disk' : Option D) (links links' : List L) (ends ends' : List (List SessionEnd)) →
+pub same_outcome : {D L : Type 0} (cause : Cause) (memory memory' : Bool) (disk disk' : Option D)
+    (links links' : List L) (ends ends' : List (List SessionEnd)) → memory ≡ memory' →
     disk ≡ disk' → links ≡ links' → ends ≡ ends' →
-    handed_back cause disk links ends ≡ handed_back cause disk' links' ends'
-same_outcome {D} {L} cause disk disk' links links' ends ends' a b c =
-    ap (λ (d : Option D). handed_back cause d links ends) a ∙ ap (λ (l : List L). handed_back cause disk' l ends) b
-    ∙ ap (λ (e : List (List SessionEnd)). handed_back cause disk' links' e) c
+    handed_back cause memory disk links ends ≡ handed_back cause memory' disk' links' ends'
+same_outcome {D} {L} cause memory memory' disk disk' links links' ends ends' m a b c =
+    ap (λ (w : Bool). handed_back cause w disk links ends) m
+    ∙ ap (λ (d : Option D). handed_back cause memory' d links ends) a
+    ∙ ap (λ (l : List L). handed_back cause memory' disk' l ends) b
+    ∙ ap (λ (e : List (List SessionEnd)). handed_back cause memory' disk' links' e) c

@@ -19,7 +19,8 @@ AskedCase export k old new Failed played =
 AskedCase export k old new Memory played = (played ≡ []) × (new ≡ old)
 
 -- a link of the number `k` was asked
-pub record AskedIs (export : Export) (may_spend : Type 0) (k : ℕ) (old new : LinkState) (old_ends new_ends : List SessionEnd)
+pub record AskedIs (export : Export) (may_spend : Type 0) (k : ℕ) (old new : LinkState)
+    (old_ends new_ends : List SessionEnd)
     (result : Asked) (played : List Played) : Type 0 where
   pub sessions : AreSessions export may_spend played
   pub goes : Goes old new played

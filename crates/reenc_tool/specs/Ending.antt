@@ -4,7 +4,8 @@ use Rattle.base_terms.specs.Causes.{Rose}
 use Rattle.reenc_tool.specs.declared.ended.Cause.{Cause}
 use Rattle.reenc_tool.specs.declared.ended.Cause.TheVariants.{Fine, Output, Memory}
 
--- The cause stays, but where all was fine and the line could not be put, or memory was wanted for it.
+-- The cause stays, but where all was fine and the line could not be put, or memory was wanted for
+-- it.
 -- All stays fine only where putting the line met no fault.
 abbrev pub EndsAs : Cause → ℕ → ℕ → Cause → Type 0
 EndsAs cause before now result =

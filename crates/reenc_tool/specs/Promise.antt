@@ -1,7 +1,12 @@
 -- What a command did.
-use Rattle.std.specs.Prelude.{ℕ, ◌≡◌, ◌≢◌, ◌-◌, ◌^◌, ◌<◌, ◌≤◌, ◌⊎◌, ◌==◌, Bool, true, if◌then◌else◌, List, [], ◌∷◌, ◌++◌, length, map, slice_index_or, Option, Some, None}
+use Rattle.std.specs.Prelude.{ℕ, ◌≡◌, ◌≢◌, ◌-◌, ◌^◌, ◌<◌, ◌≤◌, ◌⊎◌, ◌==◌, Bool, true, false}
+use Rattle.std.specs.Prelude.{if◌then◌else◌, List, [], ◌∷◌, ◌++◌, length, map, slice_index_or}
+use Rattle.std.specs.Prelude.{Option, Some, None, Result, Ok, Err}
 use Rattle.base_terms.specs.Causes.{Rose}
-use Rattle.bays.specs.Bays.{AreBounded, AreFresh, Holdings, LeavesAll}
+use Rattle.bays.specs.declared.bay.BayFault.{BayFault}
+use Rattle.bays.specs.declared.bay.BayFault.TheVariants as BayFaults
+use Rattle.bays.specs.Bays.{AreBounded, AreFresh, FaultCounts, Holdings, LeavesAll}
+use Rattle.bays.specs.Bays.{LeavesOtherDisks}
 use Rattle.bays.specs.Stories.{LinkState, Script}
 use Rattle.nbd_session.specs.declared.ending.SessionEnd.{SessionEnd}
 use Rattle.plain_disk.specs.Outcomes.{AreServed}
@@ -25,8 +30,10 @@ use Rattle.volume_machine.specs.Beginnings.{IsWholeDisk}
 use Rattle.volume_laws.specs.Contents.{plain_blocks}
 use Rattle.volume_machine.specs.declared.keys.Keys.{Keys}
 use Rattle.reenc_tool.specs.declared.ended.Cause.{Cause}
-use Rattle.reenc_tool.specs.declared.ended.Cause.TheVariants.{Fine, Usage, Device, NoFit, Link, Output, Memory}
-use Rattle.reenc_tool.specs.declared.ended.Failing.TheVariants as Failing
+use Rattle.reenc_tool.specs.declared.ended.Cause.TheVariants.{Fine, Usage, Device, NoFit, Link}
+use Rattle.reenc_tool.specs.declared.ended.Cause.TheVariants.{Output, Memory}
+use Rattle.reenc_tool.specs.declared.ended.Failing.{Failing}
+use Rattle.reenc_tool.specs.declared.ended.Failing.TheVariants.{Opening, Listening, Writing}
 use Rattle.reenc_tool.specs.declared.ended.Ended.{Ended}
 use Rattle.reenc_tool.specs.declared.ended.Fit.TheVariants.{Blocks}
 use Rattle.reenc_tool.specs.Lanes.{Served}
@@ -38,7 +45,8 @@ abbrev pub PlainKeys : Type 0
 PlainKeys = Keys (DiskCipher Aes)
 
 -- the volume of a disk, as it is, before any operation
-pub record IsPlainVolume (device : DiskState) (seals : Seals) (start : State PlainKeys) : Type 0 where
+pub record IsPlainVolume (device : DiskState) (seals : Seals) (start : State PlainKeys) : Type
+    0 where
   pub fresh : IsFresh start
   pub sound : IsSound start
   pub size : start.map.atom ≡ device.size
@@ -51,27 +59,33 @@ pub record IsPlainVolume (device : DiskState) (seals : Seals) (start : State Pla
 -- the cause of the end of sessions: the volume is broken, so many links failed, memory was wanted
 abbrev pub cause_of : Bool → ℕ → Bool → Cause
 cause_of broken failed memory =
-    if broken then Device Failing.Disk
+    if broken then Device Writing
     else (if failed == 0 then (if memory then Memory else Fine) else Link failed)
 
 -- Where the disk told its bytes and tables, and each atom held its value for certain, a stop after
--- each event leaves only contents that the plain disk allows there; and each table that the disk tells
+-- each event leaves only contents that the plain disk allows there; and each table that the disk
+-- tells
 -- in the end is one after some of the events.
 abbrev pub MayStop : State PlainKeys → Seals → List (Happening PlainKeys) → List Exchange → Type 0
-MayStop start seals run exchanges = (bytes : List ℕ) (before : Told) → start.disk.values ≡ Some bytes →
+MayStop start seals run exchanges = (bytes : List ℕ) (before : Told) →
+    start.disk.values ≡ Some bytes →
     start.disk.told ≡ Some before → AreSettled before.now →
     StartsCovered start seals (plain_blocks start bytes)
     × StopsAlong start seals (plain_blocks start bytes) run exchanges
     × ((now : Told) → (last_of start run).disk.told ≡ Some now → TellsRun start run now)
 
--- After each event of a run an operation has failed, and the volume is broken, exactly where events of
+-- After each event of a run an operation has failed, and the volume is broken, exactly where events
+-- of
 -- theirs failed, and sides, keys and places are those of the start.
 abbrev pub GoesAlong : State PlainKeys → List (Happening PlainKeys) → Type 0
-GoesAlong start run = (earlier later : List (Happening PlainKeys)) → run ≡ earlier ++ later → GoesByEvents start earlier
+GoesAlong start run = (earlier later : List (Happening PlainKeys)) → run ≡ earlier ++ later →
+    GoesByEvents start earlier
 
 -- each operation that isn't wrong is answered 5 exactly where it has failed
 abbrev pub ErrorsAreExact : State PlainKeys → Seals → List (Happening PlainKeys) → Type 0
-ErrorsAreExact start seals run = (earlier later : List (Happening PlainKeys)) (one : Happening PlainKeys) → run ≡ earlier ++ one ∷ later →
+ErrorsAreExact start seals run =
+    (earlier later : List (Happening PlainKeys)) (one : Happening PlainKeys) →
+    run ≡ earlier ++ one ∷ later →
     DeviceErrorsAreExact seals start earlier one
 
 -- no link's count of faults moved, nor stands at its last value
@@ -80,9 +94,11 @@ StoodStill {L} state olds news = (k : ℕ) (link : L) → k < length olds →
     ((state (slice_index_or news k link)).faults ≡ (state (slice_index_or olds k link)).faults)
     × ((state (slice_index_or news k link)).faults < 2 ^ 64 - 1)
 
--- what a command hands back: its cause, its disk and its links, with the ends of each link's sessions
+-- what a command hands back: its cause, whether memory was wanted for a session's end, its disk and
+-- its links, with the ends of each link's sessions
 pub record Outcome (D L : Type 0) : Type 0 where
   pub cause : Cause
+  pub memory : Bool
   pub disk : Option D
   pub links : List L
   pub ends : List (List SessionEnd)
@@ -90,6 +106,7 @@ pub record Outcome (D L : Type 0) : Type 0 where
 abbrev pub outcome_of : {D L : Type 0} → Ended D L → Outcome D L
 outcome_of ended = record {
   cause = ended.cause;
+  memory = ended.memory;
   disk = ended.disk;
   links = ended.links.items;
   ends = map (λ list. list.items) ended.sessions.items;
@@ -97,31 +114,33 @@ outcome_of ended = record {
 
 -- what a command hands back that served no session
 abbrev pub unserved : {D L : Type 0} → Cause → Option D → List L → Outcome D L
-unserved cause disk links = record { cause = cause; disk = disk; links = links; ends = [] }
+unserved cause disk links =
+    record { cause = cause; memory = false; disk = disk; links = links; ends = [] }
 
 -- Sessions were served on a disk that was handed in, over these links. What the clients were put are
 -- the answers of one plain disk that was asked their operations in one history.
-pub record Ran {D L : Type 0} (device : D → DiskState) (state : L → LinkState) (disk : D) (begun : List L)
+pub record Ran {D L : Type 0} (device : D → DiskState) (state : L → LinkState) (disk : D)
+    (begun : List L)
     (outcome : Outcome D L) : Type 0 where
   pub start : State PlainKeys
   pub seals : Seals
   pub final : State PlainKeys
   pub run : List (Happening PlainKeys)
   pub failed : ℕ
-  pub memory : Bool
   pub played : List Played
   -- the volume of the disk, and the sessions and links that tell of its operations; no session ends
   -- since the port is spent
   pub volume : IsPlainVolume (device disk) seals start
-  pub sessions : AreSessions (record { number = 0; size = size_of start.map; atom = start.map.atom }) ⊥ played
+  pub sessions : AreSessions
+      (record { number = 0; size = size_of start.map; atom = start.map.atom }) ⊥ played
   pub rise : NumbersRise 0 played
-  pub served : Served state begun outcome.links outcome.ends failed memory played
-  -- the run of events that executed the operations, each of which makes at most one call of the disk,
-  -- and the disk, which is handed back as they left it
+  pub served : Served state begun outcome.links outcome.ends failed outcome.memory played
+  -- the run of events that executed the operations, each of which makes at most one call of the
+  -- disk, and the disk, which is handed back as they left it
   pub operations : List Tagged
   pub did : Executes seals start final run operations
-  -- of each session they are just those that it submitted, each once and in order; each is a session's; and
-  -- the sessions followed one another
+  -- of each session they are just those that it submitted, each once and in order; each is some
+  -- session's; and the sessions followed one another
   pub each : HasEach operations played
   pub known : IsOfSessions played operations
   pub in_turn : untagged operations ≡ operations_of played
@@ -131,71 +150,109 @@ pub record Ran {D L : Type 0} (device : D → DiskState) (state : L → LinkStat
       × ((device back).size ≡ (device disk).size)
   -- one history: legal from what the disk told when it was handed in
   pub history : (bytes : List ℕ) → start.disk.values ≡ Some bytes →
-      (left : List Block) × Legal start.map.atom (plain_blocks start bytes) (untagged operations) left
+      (left : List Block) × Legal start.map.atom (plain_blocks start bytes) (untagged operations)
+      left
   -- stops: wherever the run stops, the disk holds what this history allows there
   pub stops : MayStop start seals run (untagged operations)
   -- the cause, and when it may come
-  pub cause_is : outcome.cause ≡ cause_of final.broken failed memory
+  pub cause_is : outcome.cause ≡ cause_of final.broken failed outcome.memory
   pub broke : final.broken ≡ true → Rose start.disk.faults final.disk.faults
   -- error 5, and when an operation has failed and the volume is broken
   pub errors : ErrorsAreExact start seals run
   pub fails : GoesAlong start run
   -- where no count moved, each operation was served, and only want of memory ends it otherwise
-  pub complete : final.disk.faults ≡ start.disk.faults → final.disk.faults < 2 ^ 64 - 1 → StoodStill state begun outcome.links →
-      AreServed start.map.atom (size_of start.map) (untagged operations) × (outcome.cause ≡ (if memory then Memory else Fine))
+  pub complete : final.disk.faults ≡ start.disk.faults → final.disk.faults < 2 ^ 64 - 1 →
+      StoodStill state begun outcome.links →
+      AreServed start.map.atom (size_of start.map) (untagged operations)
+      × (outcome.cause ≡ (if outcome.memory then Memory else Fine))
 
--- Four links, as a bay gives them: each has its share of the inputs ahead, where the bay tells them,
--- and at most as many connections as there are to be sessions.
-pub record AreGiven {L : Type 0} (state : L → LinkState) (inputs : Option (List Script)) (sessions : ℕ) (links : List L) : Type 0 where
+-- Four links, as a bay gives them: each has its share of the inputs ahead, where the bay tells
+-- them,
+-- and no more connections to come than its share of the sessions.
+pub record AreGiven {L : Type 0} (state : L → LinkState) (inputs : Option (List Script))
+    (sessions : ℕ) (links : List L) : Type 0 where
   pub workers : length links ≡ 4
   pub fresh : AreFresh state inputs 4 sessions links
   pub few : AreBounded state 4 sessions links
 
--- Sessions were served on a disk that has a block, over the links to the clients of an address, which
--- a bay gave without a fault.
-pub record WasServed {D L : Type 0} (device : D → DiskState) (state : L → LinkState) (address : List ℕ) (sessions : ℕ)
-    (disk : D) (old new : Holdings D) (outcome : Outcome D L) : Type 0 where
-  pub begun : List L
-  pub blocks : 0 < (device disk).atoms
-  pub given : AreGiven state (old.inputs address) sessions begun
-  pub stood : new.faults ≡ old.faults
-  pub ran : Ran device state disk begun outcome
+-- the cause of a command that was given nothing: what it asked for failed, or memory was wanted
+abbrev pub cause_of_fault : Failing → BayFault → Cause
+cause_of_fault failing BayFaults.Failed = Device failing
+cause_of_fault failing BayFaults.Memory = Memory
 
--- Why no session was served on a disk of so many atoms, by a bay's count of faults. That the disk has
--- no block comes before the links are asked for.
-abbrev pub IsStopped : ℕ → ℕ → ℕ → Cause → Type 0
-IsStopped atoms before now (Device Failing.Bay) = (0 < atoms) × Rose before now
-IsStopped atoms before now (NoFit what number limit) = (atoms ≡ 0) × (what ≡ Blocks) × (number ≡ atoms) × (limit ≡ 1) × (now ≡ before)
-IsStopped atoms before now Memory = before ≤ now
-IsStopped atoms before now _ = ⊥
+-- what asking a bay for a disk, and for links, does: from the bay before by what was asked for and
+-- answered to the bay after
+abbrev pub AsksDisk : Type 0 → Type 0 → Type 1
+AsksDisk B D = B → List ℕ → ℕ → Result D BayFault → B → Type 0
 
--- No session was served on the disk, which is handed back as it was; so are the links, where memory
--- was wanted once the bay had given them.
-pub record WasStopped {D L : Type 0} (device : D → DiskState) (state : L → LinkState) (address : List ℕ) (sessions : ℕ)
-    (disk : D) (old new : Holdings D) (outcome : Outcome D L) : Type 0 where
-  pub links : List L
-  pub outcome_is : outcome ≡ unserved outcome.cause (Some disk) links
-  pub links_are : (links ≡ []) ⊎ ((outcome.cause ≡ Memory) × AreGiven state (old.inputs address) sessions links)
-  pub why : IsStopped (device disk).atoms old.faults new.faults outcome.cause
+abbrev pub AsksLinks : Type 0 → Type 0 → Type 1
+AsksLinks B L = B → List ℕ → ℕ → ℕ → Result (List L) BayFault → B → Type 0
 
--- the disk that a bay gave was served or not
-abbrev pub Serves : {D L : Type 0} → (D → DiskState) → (L → LinkState) → List ℕ → ℕ → D → Holdings D → Holdings D → Outcome D L → Type 0
-Serves device state address sessions disk old new outcome =
-    WasServed device state address sessions disk old new outcome ⊎ WasStopped device state address sessions disk old new outcome
-
--- it is the disk of the name that the words say, with atoms of the size that they say
-pub record OnDisk {D L : Type 0} (device : D → DiskState) (state : L → LinkState) (serve : Serve) (old new : Holdings D)
+-- The disk has no block, which comes before the links are asked for: nothing more was asked.
+pub record HasNoBlock {B D L : Type 0} (device : D → DiskState) (disk : D) (between new : B)
     (outcome : Outcome D L) : Type 0 where
-  pub disk : D
-  pub kept : (kept : D) → old.shelf serve.disk ≡ Some kept → disk ≡ kept
-  pub atom_is : (device disk).size ≡ serve.atom
-  pub ended : Serves device state serve.address serve.sessions disk old new outcome
+  pub none : (device disk).atoms ≡ 0
+  pub stands : new ≡ between
+  pub outcome_is : outcome ≡ unserved (NoFit Blocks 0 1) (Some disk) []
 
--- a bay gave no disk, and lost nothing
-pub record HasNoDisk {D L : Type 0} (old new : Holdings D) (outcome : Outcome D L) : Type 0 where
-  pub outcome_is : outcome ≡ unserved outcome.cause None []
-  pub leaves : LeavesAll old new
-  pub why : IsStopped 1 old.faults new.faults outcome.cause
+-- The disk has a block, and the bay was asked once for links and gave none. Its count of faults
+-- rose
+-- where it failed, and stands where memory was wanted.
+pub record HasNoLinks {B D L : Type 0} (device : D → DiskState) (holdings : B → Holdings D)
+    (asks_links : AsksLinks B L) (serve : Serve) (disk : D) (between new : B)
+    (outcome : Outcome D L) : Type 0 where
+  pub blocks : 0 < (device disk).atoms
+  pub fault : BayFault
+  pub asked : asks_links between serve.address 4 serve.sessions (Err fault) new
+  pub count : FaultCounts fault (holdings between).faults (holdings new).faults
+  pub outcome_is : outcome ≡ unserved (cause_of_fault Listening fault) (Some disk) []
+
+-- The disk has a block, and the bay was asked once for links and gave them. Sessions were served
+-- over
+-- them; or memory was wanted before the first, and disk and links are handed back as they were.
+pub record HasLinks {B D L : Type 0} (device : D → DiskState) (state : L → LinkState)
+    (holdings : B → Holdings D) (asks_links : AsksLinks B L) (serve : Serve) (disk : D)
+    (between new : B) (outcome : Outcome D L) : Type 0 where
+  pub blocks : 0 < (device disk).atoms
+  pub begun : List L
+  pub asked : asks_links between serve.address 4 serve.sessions (Ok begun) new
+  pub stood : (holdings new).faults ≡ (holdings between).faults
+  pub given : AreGiven state ((holdings between).inputs serve.address) serve.sessions begun
+  pub ended : Ran device state disk begun outcome ⊎ (outcome ≡ unserved Memory (Some disk) begun)
+
+-- what came of the disk that a bay gave
+abbrev pub Serves : {B D L : Type 0} → (D → DiskState) → (L → LinkState) → (B → Holdings D) →
+    AsksLinks B L → Serve → D → B → B → Outcome D L → Type 0
+Serves device state holdings asks_links serve disk between new outcome =
+    HasNoBlock device disk between new outcome
+    ⊎ (HasNoLinks device holdings asks_links serve disk between new outcome
+    ⊎ HasLinks device state holdings asks_links serve disk between new outcome)
+
+-- The bay was asked once for the disk that the words name, with atoms of the size that they say,
+-- and
+-- gave it: it is the one on its shelf, which all else left.
+pub record HasDisk {B D L : Type 0} (device : D → DiskState) (state : L → LinkState)
+    (holdings : B → Holdings D) (asks_disk : AsksDisk B D) (asks_links : AsksLinks B L)
+    (serve : Serve) (old new : B) (outcome : Outcome D L) : Type 0 where
+  pub disk : D
+  pub between : B
+  pub asked : asks_disk old serve.disk serve.atom (Ok disk) between
+  pub kept : (kept : D) → (holdings old).shelf serve.disk ≡ Some kept → disk ≡ kept
+  pub atom_is : (device disk).size ≡ serve.atom
+  pub stood : (holdings between).faults ≡ (holdings old).faults
+  pub leaves : LeavesOtherDisks serve.disk (holdings old) (holdings between)
+  pub ended : Serves device state holdings asks_links serve disk between new outcome
+
+-- It was asked once for that disk and gave none, and lost nothing. Its count of faults rose where
+-- it
+-- failed, and stands where memory was wanted.
+pub record HasNoDisk {B D L : Type 0} (holdings : B → Holdings D) (asks_disk : AsksDisk B D)
+    (serve : Serve) (old new : B) (outcome : Outcome D L) : Type 0 where
+  pub fault : BayFault
+  pub asked : asks_disk old serve.disk serve.atom (Err fault) new
+  pub leaves : LeavesAll (holdings old) (holdings new)
+  pub count : FaultCounts fault (holdings old).faults (holdings new).faults
+  pub outcome_is : outcome ≡ unserved (cause_of_fault Opening fault) None []
 
 -- a command leaves all of a bay but the disk and the clients that it asked for
 pub record LeavesRest {D : Type 0} (serve : Serve) (old new : Holdings D) : Type 0 where
@@ -204,11 +261,13 @@ pub record LeavesRest {D : Type 0} (serve : Serve) (old new : Holdings D) : Type
   pub clients : (other : List ℕ) → other ≢ serve.address → new.inputs other ≡ old.inputs other
 
 -- a command did what its words ask for, or stopped before it had a disk
-abbrev pub Came : {D L : Type 0} → (D → DiskState) → (L → LinkState) → List (List ℕ) → Holdings D → Holdings D → Outcome D L → Type 0
-Came device state words old new outcome =
+abbrev pub Came : {B D L : Type 0} → (D → DiskState) → (L → LinkState) → (B → Holdings D) →
+    AsksDisk B D → AsksLinks B L → List (List ℕ) → B → B → Outcome D L → Type 0
+Came device state holdings asks_disk asks_links words old new outcome =
     (NotServe words × (outcome ≡ unserved Usage None []) × (new ≡ old))
-    ⊎ ((serve : Serve) × IsServe words serve × LeavesRest serve old new
-    × (OnDisk device state serve old new outcome ⊎ HasNoDisk old new outcome))
+    ⊎ ((serve : Serve) × IsServe words serve × LeavesRest serve (holdings old) (holdings new)
+    × (HasDisk device state holdings asks_disk asks_links serve old new outcome
+    ⊎ HasNoDisk holdings asks_disk serve old new outcome))
 
 -- `serve` on a plain disk has no disk of headers, and no pass
 abbrev pub HasNoOther : {D P : Type 0} → Option D → Option P → Option P → Type 0

@@ -1,5 +1,6 @@
 -- Sessions that were served, and how links tell of them.
-use Rattle.std.specs.Prelude.{ℕ, ◌≡◌, ◌+◌, ◌<◌, ◌≤◌, ◌⊎◌, suc, ◌==◌, if◌then◌else◌, List, [], ◌∷◌, ◌++◌, map, Some}
+use Rattle.std.specs.Prelude.{ℕ, ◌≡◌, ◌+◌, ◌<◌, ◌≤◌, ◌⊎◌, suc, ◌==◌, if◌then◌else◌, List, [], ◌∷◌, map}
+use Rattle.std.specs.Prelude.{◌++◌, Some}
 use Rattle.bays.specs.Stories.{Script, Handed, LinkState, Story}
 use Rattle.nbd_session.specs.declared.ending.Ending.TheVariants.{PortSpent, WriteFault}
 use Rattle.nbd_session.specs.declared.ending.SessionEnd.{SessionEnd}
@@ -24,7 +25,8 @@ pub record Played : Type 0 where
 abbrev pub numbered : Export → ℕ → Export
 numbered export number = record { number = number; size = export.size; atom = export.atom }
 
--- It is a session. All that it put has gone out, unless its sink failed; and it ended since the port
+-- It is a session. All that it put has gone out, unless its sink failed; and it ended since the
+-- port
 -- is spent only where the port may be.
 pub record IsPlayed (export : Export) (may_spend : Type 0) (one : Played) : Type 0 where
   pub session : IsSession (numbered export one.end.number) one.end one.before one.after one.log
@@ -34,7 +36,8 @@ pub record IsPlayed (export : Export) (may_spend : Type 0) (one : Played) : Type
 -- each of them is a session
 unfoldable pub AreSessions : Export → Type 0 → List Played → Type 0
 AreSessions export may_spend [] = Unit {0}
-AreSessions export may_spend (played ∷ rest) = IsPlayed export may_spend played × AreSessions export may_spend rest
+AreSessions export may_spend (played ∷ rest) = IsPlayed export may_spend played
+    × AreSessions export may_spend rest
 
 -- the operations that were submitted, session after session
 unfoldable pub operations_of : List Played → List Exchange
@@ -43,7 +46,8 @@ operations_of (played ∷ rest) = exchanges_of played.log.turns ++ operations_of
 
 -- the same, each with the number of its session
 abbrev pub tagged : ℕ → List Exchange → List Tagged
-tagged number exchanges = map (λ exchange. record { session = number; exchange = exchange }) exchanges
+tagged number exchanges =
+    map (λ exchange. record { session = number; exchange = exchange }) exchanges
 
 unfoldable pub tagged_of : List Played → List Tagged
 tagged_of [] = []
@@ -83,8 +87,14 @@ beginning script =
 
 abbrev pub handing_back : Handed → SessionEnd → Moment
 handing_back handed end =
-    moment (record { given = Some handed.given; left = Some handed.left; faults = handed.in_faults })
-    (record { had = Some handed.had; held_back = handed.held_back; faults = handed.out_faults }) end.taken end.put
+    moment (record {
+      given = Some handed.given;
+      left = Some handed.left;
+      faults =
+          handed.in_faults;
+    })
+    (record { had = Some handed.had; held_back = handed.held_back; faults = handed.out_faults })
+    end.taken end.put
 
 -- A link that told a story tells the next one: each session took the first connection ahead, and it
 -- was handed back as the session left it.
@@ -97,12 +107,14 @@ Plays old new (played ∷ rest) =
 
 -- where a link tells its story, it goes on by these sessions
 abbrev pub Goes : LinkState → LinkState → List Played → Type 0
-Goes old new played = (story : Story) → old.story ≡ Some story → (next : Story) × (new.story ≡ Some next) × Plays story next played
+Goes old new played = (story : Story) → old.story ≡ Some story → (next : Story)
+    × (new.story ≡ Some next) × Plays story next played
 
 -- the numbers of the sessions rise, from at least `least`
 unfoldable pub NumbersRise : ℕ → List Played → Type 0
 NumbersRise least [] = Unit {0}
-NumbersRise least (played ∷ rest) = (least ≤ played.end.number) × NumbersRise (suc played.end.number) rest
+NumbersRise least (played ∷ rest) = (least ≤ played.end.number)
+    × NumbersRise (suc played.end.number) rest
 
 -- all sessions have lower numbers than this
 unfoldable pub NumbersBelow : ℕ → List Played → Type 0
@@ -112,8 +124,10 @@ NumbersBelow most (played ∷ rest) = (played.end.number < most) × NumbersBelow
 -- the numbers of the sessions are `number`, `number + step` and so on
 unfoldable pub AreNumbered : ℕ → ℕ → List Played → Type 0
 AreNumbered step number [] = Unit {0}
-AreNumbered step number (played ∷ rest) = (played.end.number ≡ number) × AreNumbered step (number + step) rest
+AreNumbered step number (played ∷ rest) = (played.end.number ≡ number)
+    × AreNumbered step (number + step) rest
 
 -- at most one session, of this link and of this number
 abbrev pub IsOneOf : ℕ → ℕ → List Played → Type 0
-IsOneOf k number played = (played ≡ []) ⊎ ((one : Played) × (played ≡ one ∷ []) × (one.link ≡ k) × (one.end.number ≡ number))
+IsOneOf k number played = (played ≡ [])
+    ⊎ ((one : Played) × (played ≡ one ∷ []) × (one.link ≡ k) × (one.end.number ≡ number))

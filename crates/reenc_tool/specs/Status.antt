@@ -1,7 +1,8 @@
 -- The exit statuses of a command.
 use Rattle.std.specs.Prelude.{ℕ}
 use Rattle.reenc_tool.specs.declared.ended.Cause.{Cause}
-use Rattle.reenc_tool.specs.declared.ended.Cause.TheVariants.{Fine, Usage, Device, NoFit, Link, Output, Memory}
+use Rattle.reenc_tool.specs.declared.ended.Cause.TheVariants.{Fine, Usage, Device, NoFit, Link}
+use Rattle.reenc_tool.specs.declared.ended.Cause.TheVariants.{Output, Memory}
 
 abbrev pub status_of : Cause → ℕ
 status_of Fine = 0

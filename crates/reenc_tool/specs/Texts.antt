@@ -1,9 +1,11 @@
 -- The line that a command prints.
-use Rattle.std.specs.Prelude.{ℕ, ◌≡◌, ◌+◌, ◌-◌, ◌^◌, ◌<◌, min, List, [], ◌∷◌, ◌++◌, take, fold, codes, Option, Some}
+use Rattle.std.specs.Prelude.{ℕ, ◌≡◌, ◌+◌, ◌-◌, ◌^◌, ◌<◌, min, List, [], ◌∷◌, ◌++◌, take, fold}
+use Rattle.std.specs.Prelude.{codes, Option, Some}
 use Rattle.std.specs.Fmt.{decimal}
 use Rattle.io_edge.specs.Outlet.{Outlet}
 use Rattle.reenc_tool.specs.declared.ended.Cause.{Cause}
-use Rattle.reenc_tool.specs.declared.ended.Cause.TheVariants.{Fine, Usage, Device, NoFit, Link, Output, Memory}
+use Rattle.reenc_tool.specs.declared.ended.Cause.TheVariants.{Fine, Usage, Device, NoFit, Link}
+use Rattle.reenc_tool.specs.declared.ended.Cause.TheVariants.{Output, Memory}
 
 -- how many sessions lists hold, up to the last value of 64 bits
 abbrev pub sessions_in : {E : Type 0} → (E → ℕ) → List E → ℕ
@@ -22,7 +24,8 @@ fault_line (Link failed) = codes "fault 10 Link" ++ 10 ∷ []
 fault_line Output = []
 fault_line Memory = codes "fault 13 Memory" ++ 10 ∷ []
 
--- the line of a command whose cause was fine, by its cause after the line: where memory was wanted for
+-- the line of a command whose cause was fine, by its cause after the line: where memory was wanted
+-- for
 -- it, and else the line that was to be
 abbrev pub line_when_fine : Cause → ℕ → List ℕ
 line_when_fine Memory count = fault_line Memory
@@ -41,6 +44,7 @@ line_of Memory after count = fault_line Memory
 -- a front of the line was put; where the sink didn't fail all of it was, and has gone out
 pub record Prints (old new : Outlet) (line : List ℕ) : Type 0 where
   pub front : (had : List ℕ) → old.had ≡ Some had → (k : ℕ) × (new.had ≡ Some (had ++ take k line))
-  pub whole : (had : List ℕ) → old.had ≡ Some had → new.faults ≡ old.faults → new.faults < 2 ^ 64 - 1 →
+  pub whole : (had : List ℕ) → old.had ≡ Some had → new.faults ≡ old.faults →
+      new.faults < 2 ^ 64 - 1 →
       new.had ≡ Some (had ++ line)
   pub out : new.faults ≡ old.faults → new.faults < 2 ^ 64 - 1 → new.held_back ≡ []

@@ -1,5 +1,7 @@
 -- The words of a command line.
-use Rattle.std.specs.Prelude.{ℕ, ◌≡◌, ◌+◌, ◌*◌, ◌-◌, ◌^◌, ◌⊎◌, ◌==◌, ◌||◌, nat_lt, Bool, true, false, not, if◌then◌else◌, min, List, [], ◌∷◌, length, fold, codes, slice_index_or, Option, Some, None}
+use Rattle.std.specs.Prelude.{ℕ, ◌≡◌, ◌+◌, ◌*◌, ◌-◌, ◌^◌, ◌⊎◌, ◌==◌, ◌||◌, nat_lt, Bool, true}
+use Rattle.std.specs.Prelude.{false, not, if◌then◌else◌, min, List, [], ◌∷◌, length, fold, codes}
+use Rattle.std.specs.Prelude.{slice_index_or, Option, Some, None}
 use Rattle.std.specs.List.{list_all}
 use Rattle.std.specs.Char.{is_ascii_digit}
 
@@ -14,7 +16,8 @@ is_plain (first ∷ rest) = not (first == 45)
 
 -- the sizes of an atom
 abbrev pub IsAtomText : List ℕ → ℕ → Type 0
-IsAtomText word atom = ((word ≡ codes "512") × (atom ≡ 512)) ⊎ ((word ≡ codes "4096") × (atom ≡ 4096))
+IsAtomText word atom = ((word ≡ codes "512") × (atom ≡ 512))
+    ⊎ ((word ≡ codes "4096") × (atom ≡ 4096))
 
 -- the number of decimal digits
 abbrev pub number_of : List ℕ → ℕ
@@ -22,7 +25,8 @@ number_of digits = fold (λ number digit. number * 10 + (digit - 48)) 0 digits
 
 -- the same with each step up to the last value of 64 bits
 abbrev pub capped_number : List ℕ → ℕ
-capped_number digits = fold (λ number digit. min (min (number * 10) (2 ^ 64 - 1) + (digit - 48)) (2 ^ 64 - 1)) 0 digits
+capped_number digits =
+    fold (λ number digit. min (min (number * 10) (2 ^ 64 - 1) + (digit - 48)) (2 ^ 64 - 1)) 0 digits
 
 -- a number from 1 to 65535
 abbrev pub ranged : ℕ → Option ℕ

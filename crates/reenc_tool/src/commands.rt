@@ -1,6 +1,8 @@
-ghost use Rattle.std.specs.Prelude.{◌≡◌, ◌<◌, ◌≤◌, ◌⊎◌, ℕ, List, [], length, map, slice_index_or, string_bytes, vec_len, Some, None, false, IfOk};
-ghost use Rattle.bays.specs.Bays.{Holdings, LeavesOtherClients};
-ghost use Rattle.reenc_tool.specs.Promise.{Came, HasNoOther, Outcome, Ran, Serves, cause_of, outcome_of, unserved};
+ghost use Rattle.std.specs.Prelude.{◌≡◌, ◌<◌, ◌≤◌, ◌⊎◌, ℕ, List, [], length, map, slice_index_or};
+ghost use Rattle.std.specs.Prelude.{string_bytes, vec_len, Some, None, false, IfOk};
+ghost use Rattle.bays.specs.Bays.{LeavesOtherClients};
+ghost use Rattle.reenc_tool.specs.Promise.{Came, HasNoOther, Outcome, Ran, Serves, cause_of};
+ghost use Rattle.reenc_tool.specs.Promise.{cause_of_fault, outcome_of, unserved};
 ghost use Rattle.reenc_tool.specs.Ending.{EndsAs};
 ghost use Rattle.reenc_tool.specs.Status.{status_of};
 ghost use Rattle.reenc_tool.specs.Texts.{Prints, line_of, sessions_in};
@@ -37,7 +39,8 @@ const LANES: u32 = 2;
 /// Serves sessions over links on a disk that has a block, and hands both back.
 fn serve_disk<D: Disk, L: Link>(alloc: Global, disk: D, mut links: Vec<L>) -> Ended<D, L>
     requires count { length links.items ≡ 4 }
-    requires bound { (k : ℕ) (link : L) → k < length links.items → (L.state (slice_index_or links.items k link)).bound ≤ 65535 }
+    requires bound { (k : ℕ) (link : L) → k < length links.items →
+        (L.state (slice_index_or links.items k link)).bound ≤ 65535 }
     ensures status { result.status ≡ status_of result.cause }
     ensures other { HasNoOther result.header result.pass result.demo }
     ensures ended { Ran D.device L.state disk links.items (outcome_of result)
@@ -69,6 +72,7 @@ fn serve_disk<D: Disk, L: Link>(alloc: Global, disk: D, mut links: Vec<L>) -> En
     Ended {
         status: cause.status(),
         cause,
+        memory: trouble.memory,
         disk: Some(volume.into_disk()),
         header: None,
         pass: None,
@@ -82,7 +86,7 @@ fn cause(broken: bool, trouble: Trouble) -> Cause
     ensures { result ≡ cause_of broken trouble.failed trouble.memory }
 {
     if broken {
-        Cause::Device(Failing::Disk)
+        Cause::Device(Failing::Writing)
     } else if trouble.failed != 0 {
         Cause::Link {
             failed: trouble.failed,
@@ -94,10 +98,21 @@ fn cause(broken: bool, trouble: Trouble) -> Cause
     }
 }
 
+/// The cause of a command to which the bay gave nothing.
+fn cause_by(failing: Failing, fault: BayFault) -> Cause
+    ensures { result ≡ cause_of_fault failing fault }
+{
+    match fault {
+        BayFault::Failed => Cause::Device(failing),
+        BayFault::Memory => Cause::Memory,
+    }
+}
+
 /// An empty list for each link.
 fn empty_lists(alloc: Global, count: usize) -> Result<Vec<Vec<SessionEnd>>, AllocError>
     ensures length { IfOk result (λ lists. length lists.items ≡ count) }
-    ensures empty { IfOk result (λ lists. (k : ℕ) (list : _) → k < count → (slice_index_or lists.items k list).items ≡ []) }
+    ensures empty { IfOk result
+        (λ lists. (k : ℕ) (list : _) → k < count → (slice_index_or lists.items k list).items ≡ []) }
 {
     let mut lists = Vec::with_capacity(alloc, count)?;
     for made in 0..count {
@@ -115,6 +130,7 @@ fn unserved<D, L>(alloc: Global, cause: Cause, disk: Option<D>, links: Vec<L>) -
     Ended {
         status: cause.status(),
         cause,
+        memory: false,
         disk,
         header: None,
         pass: None,
@@ -134,9 +150,16 @@ fn serve_plain<B: Bay>(
     requires { command.now.sessions ≤ 65535 }
     ensures status { result.status ≡ status_of result.cause }
     ensures other { HasNoOther result.header result.pass result.demo }
-    ensures leaves { LeavesOtherClients command.now.address.now (B.holdings bay.old) (B.holdings bay.new) }
-    ensures ended { Serves B.Disk.device B.Link.state command.now.address.now command.now.sessions disk
-        (B.holdings bay.old) (B.holdings bay.new) (outcome_of result) }
+    ensures leaves { LeavesOtherClients command.now.address.now (B.holdings bay.old)
+        (B.holdings bay.new) }
+    ensures ended { Serves B.Disk.device B.Link.state B.holdings B.asks_links
+        (record {
+          disk = command.now.disk.now;
+          atom = command.now.atom;
+          address = command.now.address.now;
+          sessions = command.now.sessions;
+        })
+        disk bay.old bay.new (outcome_of result) }
 {
     if disk.atoms() == 0 {
         let cause = Cause::NoFit {
@@ -148,11 +171,10 @@ fn serve_plain<B: Bay>(
     }
     match bay.links(alloc, command.address, WORKERS, command.sessions) {
         Ok(links) => serve_disk(alloc, disk, links),
-        Err(BayFault::Failed) => {
-            let cause = Cause::Device(Failing::Bay);
+        Err(fault) => {
+            let cause = cause_by(Failing::Listening, fault);
             unserved(alloc, cause, Some(disk), Vec::new(alloc))
         }
-        Err(BayFault::Memory) => unserved(alloc, Cause::Memory, Some(disk), Vec::new(alloc)),
     }
 }
 
@@ -160,8 +182,8 @@ fn serve_plain<B: Bay>(
 fn execute<B: Bay>(alloc: Global, words: &[String], bay: &mut B) -> Ended<B::Disk, B::Link>
     ensures status { result.status ≡ status_of result.cause }
     ensures other { HasNoOther result.header result.pass result.demo }
-    ensures came { Came B.Disk.device B.Link.state (map string_bytes words.now)
-        (B.holdings bay.old) (B.holdings bay.new) (outcome_of result) }
+    ensures came { Came B.Disk.device B.Link.state B.holdings B.asks_disk B.asks_links
+        (map string_bytes words.now) bay.old bay.new (outcome_of result) }
     ensures unasked { NotServe (map string_bytes words.now) → bay.new ≡ bay.old }
 {
     let Some(command) = read_words(words) else {
@@ -169,24 +191,25 @@ fn execute<B: Bay>(alloc: Global, words: &[String], bay: &mut B) -> Ended<B::Dis
     };
     match bay.disk(alloc, command.disk, command.atom) {
         Ok(disk) => serve_plain(alloc, bay, disk, &command),
-        Err(BayFault::Failed) => {
-            unserved(alloc, Cause::Device(Failing::Bay), None, Vec::new(alloc))
+        Err(fault) => {
+            let cause = cause_by(Failing::Opening, fault);
+            unserved(alloc, cause, None, Vec::new(alloc))
         }
-        Err(BayFault::Memory) => unserved(alloc, Cause::Memory, None, Vec::new(alloc)),
     }
 }
 
-/// Runs the command that the words behind the program's name ask for, and prints one line: `served S
-/// sessions`, or `fault N NAME` with the status and the cause. The words are `serve DISK --plain --atom
-/// 512|4096 --listen ADDRESS --sessions n`, in this order, with n from 1 to 65535.
+/// Runs the command that the words behind the program's name ask for, and prints one line: `served
+/// S sessions`, or `fault N NAME` with the status and the cause. The words are `serve DISK --plain
+/// --atom 512|4096 --listen ADDRESS --sessions n`, in this order, with n from 1 to 65535.
 ///
-/// What holds at the end is `Came` of `specs/`, before the line is printed: where sessions were served
-/// they are sessions of the protocol over the bytes that the links' connections gave, and their
-/// operations are one legal history of the plain disk that was handed in. The disk's tables are those
-/// of the operations' device calls, and wherever the run stops the disk holds what that history allows.
-/// Each cause has its reason. No other disk, key file or client of the bay is touched. The line changes the cause only where all was fine: to `Output` where it
-/// can't be put and pushed out, to `Memory` where memory is wanted for it. Words that ask for nothing
-/// leave the bay as it was. The seeds aren't drawn from.
+/// What holds at the end is `Came` of `specs/`, before the line is printed: where sessions were
+/// served they are sessions of the protocol over the bytes that the links' connections gave, and
+/// their operations are one legal history of the plain disk that was handed in. The disk's tables
+/// are those of the operations' device calls, and wherever the run stops the disk holds what that
+/// history allows. Each cause has its reason. The bay is asked once for the disk, then once for
+/// four links, and for nothing else. The line changes the cause only where all was fine: to
+/// `Output` where it can't be put and pushed out, to `Memory` where memory is wanted for it. Words
+/// that ask for nothing leave the bay as it was. The seeds aren't drawn from.
 pub fn run<W: Threads + Wait + Sync, B: Bay, R: Seeds, O: Sink, G: Gate>(
     _rt: &W,
     alloc: Global,
@@ -198,9 +221,10 @@ pub fn run<W: Threads + Wait + Sync, B: Bay, R: Seeds, O: Sink, G: Gate>(
 ) -> Ended<B::Disk, B::Link>
     ensures status { result.status ≡ status_of result.cause }
     ensures other { HasNoOther result.header result.pass result.demo }
-    ensures run { (cause : Cause) × EndsAs cause (O.outlet out.old).faults (O.outlet out.new).faults result.cause
-        × Came B.Disk.device B.Link.state (map string_bytes words.now)
-        (B.holdings bay.old) (B.holdings bay.new) (record (outcome_of result) { cause = cause })
+    ensures run { (cause : Cause)
+        × EndsAs cause (O.outlet out.old).faults (O.outlet out.new).faults result.cause
+        × Came B.Disk.device B.Link.state B.holdings B.asks_disk B.asks_links
+        (map string_bytes words.now) bay.old bay.new (record (outcome_of result) { cause = cause })
         × Prints (O.outlet out.old) (O.outlet out.new)
         (line_of cause result.cause (sessions_in (λ list. vec_len list) result.sessions.items)) }
     ensures unasked { NotServe (map string_bytes words.now) → bay.new ≡ bay.old }

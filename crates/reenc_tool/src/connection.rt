@@ -17,8 +17,8 @@ pub enum Asked {
     Memory,
 }
 
-/// Asks a link for its next connection and serves it. The room for the session's end is taken before
-/// the link is asked.
+/// Asks a link for its next connection and serves it. The room for the session's end is taken
+/// before the link is asked.
 pub fn serve_next<L: Link, P: SharedPort>(
     alloc: Global,
     link: &mut L,
@@ -26,7 +26,8 @@ pub fn serve_next<L: Link, P: SharedPort>(
     port: &mut P,
     export: &Export,
 ) -> Asked
-    ensures { (k : ℕ) → (played : List Played) × AskedIs export.now ((spent : P) × P.is_spent spent) k
+    ensures { (k : ℕ) → (played : List Played)
+        × AskedIs export.now ((spent : P) × P.is_spent spent) k
         (L.state link.old) (L.state link.new) ends.old.items ends.new.items result played
         × P.executed port.old port.new (tagged_of played) }
 {

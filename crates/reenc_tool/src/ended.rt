@@ -8,8 +8,8 @@ use nbd_session::SessionEnd;
 /// command's steps; `Output` comes only in place of `Fine`.
 #[derive(Clone, Copy, Debug, PartialEq, Eq)]
 pub enum Cause {
-    /// It did what it was asked: status 0. A session that failed, or a client's failed read, changes
-    /// nothing in that.
+    /// It did what it was asked: status 0. A session that failed, or a client's failed read,
+    /// changes nothing in that.
     Fine,
     /// The words ask for nothing: status 1.
     Usage,
@@ -28,10 +28,12 @@ pub enum Cause {
 /// What failed of the outside.
 #[derive(Clone, Copy, Debug, PartialEq, Eq)]
 pub enum Failing {
-    /// The bay gave no disk, or no links.
-    Bay,
+    /// The bay gave no disk.
+    Opening,
+    /// The bay gave no links.
+    Listening,
     /// A write or a sync of the disk failed.
-    Disk,
+    Writing,
 }
 
 /// What doesn't fit.
@@ -90,6 +92,9 @@ pub struct Ended<D, L> {
     /// The exit status, which the cause determines.
     pub status: u8,
     pub cause: Cause,
+    /// Whether memory was wanted for a session's end: then clients may have been left, of each
+    /// link.
+    pub memory: bool,
     /// The disk that the bay gave.
     pub disk: Option<D>,
     /// The disk of a detached header. No command asks for one yet.
@@ -107,6 +112,7 @@ impl<D, L> Ended<D, L> {
     pub fn ending_by(self, cause: Cause) -> Ended<D, L>
         ensures status { result.status ≡ status_of cause }
         ensures cause { result.cause ≡ cause }
+        ensures memory { result.memory ≡ self.memory }
         ensures disk { result.disk ≡ self.disk }
         ensures sessions { result.sessions ≡ self.sessions }
         ensures links { result.links ≡ self.links }
@@ -115,6 +121,7 @@ impl<D, L> Ended<D, L> {
         ensures demo { result.demo ≡ self.demo }
     {
         let Ended {
+            memory,
             disk,
             header,
             pass,
@@ -126,6 +133,7 @@ impl<D, L> Ended<D, L> {
         Ended {
             status: cause.status(),
             cause,
+            memory,
             disk,
             header,
             pass,

@@ -1,7 +1,9 @@
-ghost use Rattle.std.specs.Prelude.{◌≡◌, ◌<◌, ◌≤◌, ◌+◌, ◌*◌, ◌^◌, ◌-◌, ℕ, false, true, List, [], ◌++◌, fold, length, map, min, slice_index_or};
+ghost use Rattle.std.specs.Prelude.{◌≡◌, ◌<◌, ◌≤◌, ◌+◌, ◌*◌, ◌^◌, ◌-◌, ℕ, false, true, List, []};
+ghost use Rattle.std.specs.Prelude.{◌++◌, fold, length, map, min, slice_index_or};
 ghost use Rattle.nbd_session.specs.declared.ending.SessionEnd.{SessionEnd};
-ghost use Rattle.reenc_tool.specs.Lanes.{Lanes, Served, TurnIs, failed_bit, failed_in};
-ghost use Rattle.reenc_tool.specs.Sessions.{Played, AreOfLinks, AreSessions, NumbersBelow, NumbersRise, tagged_of};
+ghost use Rattle.reenc_tool.specs.Lanes.{HasLive, Lanes, Served, TurnIs, failed_bit, failed_in};
+ghost use Rattle.reenc_tool.specs.Sessions.{Played, AreOfLinks, AreSessions, NumbersBelow};
+ghost use Rattle.reenc_tool.specs.Sessions.{NumbersRise, tagged_of};
 
 use crate::connection::{Asked, serve_next};
 use crate::port::SharedPort;
@@ -92,12 +94,17 @@ fn serve_round<L: Link, P: SharedPort>(
     requires numbers { export.now.number + 16 < 2 ^ 64 }
     ensures { (played : List Played) × P.executed port.old port.new (tagged_of played)
         × AreSessions export.now ((spent : P) × P.is_spent spent) played
-        × NumbersRise export.now.number played × NumbersBelow (export.now.number + length links.old.items) played
+        × NumbersRise export.now.number played
+        × NumbersBelow (export.now.number + length links.old.items) played
         × AreOfLinks (length links.old.items) played
-        × ((olds : List L) (turns : ℕ) (all : List Played) → export.now.number ≡ length olds * turns →
-        Lanes L.state (λ list. list.items) (λ _. turns) olds links.old.items ends.old.items standings.old all →
-        (turned : ℕ → ℕ) × Lanes L.state (λ list. list.items) turned olds links.new.items ends.new.items standings.new (all ++ played)
-        × (result ≡ false → (k : ℕ) → k < length olds → turned k ≡ turns + 1)) }
+        × ((olds : List L) (turns : ℕ) (all : List Played) →
+        export.now.number ≡ length olds * turns →
+        Lanes L.state (λ list. list.items) (λ _. turns) olds links.old.items ends.old.items
+        standings.old all →
+        (turned : ℕ → ℕ) × Lanes L.state (λ list. list.items) turned olds links.new.items
+        ends.new.items standings.new (all ++ played)
+        × (result ≡ false → (k : ℕ) → k < length olds → turned k ≡ turns + 1))
+        × (result ≡ true → HasLive (length links.old.items) standings.new) }
 {
     for k in 0..links.len() {
         let turn = Export {
@@ -119,11 +126,11 @@ fn serve_round<L: Link, P: SharedPort>(
     false
 }
 
-/// Serves the sessions of all links, one after the other, until each link has no more or has failed
-/// itself. The links are asked in turn from the first one; one that has no more, or failed, is asked
-/// no more, and the others go on. The link `k` of `n` serves the sessions of the numbers `k`, `k + n`,
-/// `k + 2 * n` and so on. Where memory is wanted for a session's end, no further connection is asked
-/// for.
+/// Serves the sessions of all links, one after the other, until each link has no more or has
+/// failed itself. The links are asked in turn from the first one; one that has no more, or failed,
+/// is asked no more, and the others go on. The link `k` of `n` serves the sessions of the numbers
+/// `k`, `k + n`, `k + 2 * n` and so on. Where memory is wanted for a session's end, no further
+/// connection is asked for.
 pub fn serve_links<L: Link, P: SharedPort>(
     alloc: Global,
     links: &mut Vec<L>,
@@ -134,12 +141,16 @@ pub fn serve_links<L: Link, P: SharedPort>(
 ) -> Trouble
     requires links { length links.old.items ≤ 16 }
     requires lists { length ends.old.items ≡ length links.old.items }
-    requires empty { (k : ℕ) (list : _) → k < length links.old.items → (slice_index_or ends.old.items k list).items ≡ [] }
-    requires bound { (k : ℕ) (link : L) → k < length links.old.items → (L.state (slice_index_or links.old.items k link)).bound ≤ 65535 }
+    requires empty { (k : ℕ) (list : _) → k < length links.old.items →
+        (slice_index_or ends.old.items k list).items ≡ [] }
+    requires bound { (k : ℕ) (link : L) → k < length links.old.items →
+        (L.state (slice_index_or links.old.items k link)).bound ≤ 65535 }
     ensures { (played : List Played) × P.executed port.old port.new (tagged_of played)
-        × AreSessions (record { number = 0; size = size; atom = atom }) ((spent : P) × P.is_spent spent) played
+        × AreSessions (record { number = 0; size = size; atom = atom })
+        ((spent : P) × P.is_spent spent) played
         × NumbersRise 0 played
-        × Served L.state links.old.items links.new.items (map (λ list. list.items) ends.new.items) result.failed result.memory played }
+        × Served L.state links.old.items links.new.items (map (λ list. list.items) ends.new.items)
+        result.failed result.memory played }
 {
     let count = links.len();
     let mut standings = [Standing::Live; MAX_LINKS];

@@ -18,8 +18,8 @@ pub fn count_sessions(lists: &[Vec<SessionEnd>]) -> usize
         .fold(0usize, |count, list| count.saturating_add(list.len()))
 }
 
-/// Prints the line of a command that ended so, and says how it ends: where all was fine and the line
-/// can't be put and pushed out, by `Output`; where memory is wanted for it, by `Memory`.
+/// Prints the line of a command that ended so, and says how it ends: where all was fine and the
+/// line can't be put and pushed out, by `Output`; where memory is wanted for it, by `Memory`.
 pub fn print<O: Sink>(alloc: Global, out: &mut O, cause: Cause, sessions: usize) -> Cause
     ensures cause { EndsAs cause (O.outlet out.old).faults (O.outlet out.new).faults result }
     ensures line { Prints (O.outlet out.old) (O.outlet out.new) (line_of cause result sessions) }

@@ -1,7 +1,9 @@
-ghost use Rattle.std.specs.Prelude.{◌≡◌, ◌≢◌, ◌<◌, ℕ, List, map, length, slice_index_or, string_bytes, IsTrue, false, Option, MatchOption};
+ghost use Rattle.std.specs.Prelude.{◌≡◌, ◌≢◌, ◌<◌, ℕ, List, map, length, slice_index_or};
+ghost use Rattle.std.specs.Prelude.{string_bytes, IsTrue, false, Option, MatchOption};
 ghost use Rattle.std.specs.Char.{is_ascii_digit};
 ghost use Rattle.std.specs.List.{list_all};
-ghost use Rattle.reenc_tool.specs.Words.{IsAtomText, IsServe, NotServe, capped_number, count_of, is_plain, number_of, ranged, word_of};
+ghost use Rattle.reenc_tool.specs.Words.{IsAtomText, IsServe, NotServe, capped_number, count_of};
+ghost use Rattle.reenc_tool.specs.Words.{is_plain, number_of, ranged, word_of};
 
 use crate::serving::MAX_SESSIONS;
 
@@ -17,8 +19,14 @@ pub struct Command<'a> {
 /// Reads the words behind the program's name: `serve DISK --plain --atom 512|4096 --listen ADDRESS
 /// --sessions n`, in this order, with n from 1 to 65535. None of all other words.
 pub fn read_words(words: &[String]) -> Option<Command<'_>>
-    ensures { MatchOption result (NotServe (map string_bytes words.now)) (λ command. IsServe (map string_bytes words.now)
-        (record { disk = command.disk.now; atom = command.atom; address = command.address.now; sessions = command.sessions })) }
+    ensures { MatchOption result (NotServe (map string_bytes words.now))
+        (λ command. IsServe (map string_bytes words.now)
+        (record {
+          disk = command.disk.now;
+          atom = command.atom;
+          address = command.address.now;
+          sessions = command.sessions;
+        })) }
 {
     if words.len() != 9 {
         return None;
@@ -86,7 +94,8 @@ fn is_plain(word: &[u8]) -> bool
 }
 
 fn read_atom(word: &[u8]) -> Option<u32>
-    ensures { MatchOption result ((atom : ℕ) → IsAtomText word.now atom → ⊥) (λ atom. IsAtomText word.now atom) }
+    ensures { MatchOption result ((atom : ℕ) → IsAtomText word.now atom → ⊥)
+        (λ atom. IsAtomText word.now atom) }
 {
     if word == b"512".as_slice() {
         return Some(512);

@@ -1,42 +1,45 @@
--- No link has more sessions than there are.
-use Rattle.std.proofs.Common.{◌≡◌, ◌==◌, ◌++◌, [], ◌∷◌, length, ◌+◌, ◌-◌, ◌/◌, ◌<◌, ◌≤◌, ℕ, Bool, true, false, List, slice_index_or, nat_lt, if◌then◌else◌, refl, arith, div-le_self, le_trans}
+-- The shares of links, and what all links have.
+use Rattle.std.proofs.Common.{◌≡◌, ◌==◌, ◌++◌, [], ◌∷◌, length, ◌+◌, ◌*◌, ◌-◌, ◌/◌, ◌<◌, ◌≤◌, ℕ}
+use Rattle.std.proofs.Common.{Bool, true, false, List, slice_index_or, nat_lt, if◌then◌else◌, refl}
+use Rattle.std.proofs.Common.{arith}
+use Rattle.std.proofs.Math.Nat.{mul-div-le, mul-le-mul_left}
 use Rattle.std.proofs.lemmas.Bool.{ltb-true, eqb-true, eqb-false}
 use Rattle.std.proofs.lemmas.List.{get_or_append_left, get_or_push}
+use Rattle.bays.specs.Bays.{AreBounded, IsShare}
+use Rattle.bays.specs.Stories.{LinkState}
 use Rattle.reencd.specs.Shares.{share_of, AreShared}
 
--- a share is no more than the whole
-pub share_within : (workers sessions k : ℕ) → share_of workers sessions k ≤ sessions
-share_within workers sessions k = by_test (nat_lt k sessions) refl
+-- so many sessions are a link's share
+share_is : (workers sessions k : ℕ) → IsShare workers sessions k (share_of workers sessions k)
+share_is workers sessions k n less = by_test (nat_lt k sessions) refl less
   where
     by_test : (b : Bool) → nat_lt k sessions ≡ b →
-        (if b then (sessions - 1 - k) / workers + 1 else 0) ≤ sessions
-    by_test true is =
-        omega (arith, div-le_self (sessions - 1 - k) workers, ltb-true k sessions is)
-    by_test false is = omega arith
+        n < (if b then (sessions - 1 - k) / workers + 1 else 0) → k + workers * n < sessions
+    by_test true is below =
+        let most : workers * n ≤ workers * ((sessions - 1 - k) / workers) =
+        mul-le-mul_left workers (omega (arith, below)) in
+        omega (arith, most, mul-div-le (sessions - 1 - k) workers, ltb-true k sessions is)
+    by_test false is below = absurd (omega (arith, below))
 
-module _ {L : Type 0} (left : L → ℕ) (workers sessions : ℕ) where
-  -- the first n links have their shares
-  abbrev pub HaveShares : List L → ℕ → Type 0
-  HaveShares links n =
-      (k : ℕ) (link : L) → k < n → left (slice_index_or links k link) ≡ share_of workers sessions k
+-- links that have their shares of so many sessions have no more than their shares of more
+pub bounded_by_shares : {L : Type 0} (state : L → LinkState) (workers sessions most : ℕ)
+    (links : List L) → sessions ≤ most →
+    AreShared (λ link. (state link).bound) workers sessions links →
+    AreBounded state workers most links
+bounded_by_shares state workers sessions most links few shared k link inside n less =
+    let below : k + workers * n < sessions =
+    share_is workers sessions k n (omega (arith, shared k link inside, less)) in
+    omega (arith, below, few)
 
-  -- of links to which at most so many sessions were dealt each has at most so many
-  pub shares_within : (most : ℕ) (links : List L) → sessions ≤ most →
-      AreShared left workers sessions links → (k : ℕ) (link : L) → k < workers →
-      left (slice_index_or links k link) ≤ most
-  shares_within most links few shared k link inside =
-      rw (shared k link inside) (le_trans (share_within workers sessions k) few)
-
-  -- a link with the next worker's share joins those before it
-  pub shared_more : (n : ℕ) (links : List L) (next : L) → length links ≡ n → HaveShares links n →
-      left next ≡ share_of workers sessions n → HaveShares (links ++ next ∷ []) (n + 1)
-  shared_more n links next count before last k link below = each (k == n) refl
-    where
-      each : (b : Bool) → (k == n) ≡ b →
-          left (slice_index_or (links ++ next ∷ []) k link) ≡ share_of workers sessions k
-      each true same =
-          let e : k ≡ n = eqb-true k n same in
-          rw (e, get_or_push links next link n count) last
-      each false other =
-          let less : k < n = omega (arith, eqb-false k n other) in
-          rw (get_or_append_left links (next ∷ []) link k (omega arith)) (before k link less)
+-- what the first links have each in its place, and the next one has, all have
+pub all_more : {L : Type 0} (P : ℕ → L → Type 0) (n : ℕ) (links : List L) (next : L) →
+    length links ≡ n → ((k : ℕ) (link : L) → k < n → P k (slice_index_or links k link)) →
+    P n next → (k : ℕ) (link : L) → k < n + 1 → P k (slice_index_or (links ++ next ∷ []) k link)
+all_more P n links next count before last k link below = each (k == n) refl
+  where
+    each : (b : Bool) → (k == n) ≡ b → P k (slice_index_or (links ++ next ∷ []) k link)
+    each true same =
+        let e : k ≡ n = eqb-true k n same in rw (e, get_or_push links next link n count) last
+    each false other =
+        let less : k < n = omega (arith, eqb-false k n other) in
+        rw (get_or_append_left links (next ∷ []) link k (omega arith)) (before k link less)

@@ -1,34 +1,36 @@
-ghost use Rattle.std.specs.Prelude.{◌≡◌, ◌≢◌, ◌<◌, ◌≤◌, ◌⊎◌, ℕ, Ok, Err, IfOk, IfErr, MatchResult, codes, length, min, slice_index_or};
+ghost use Rattle.std.specs.Prelude.{◌≡◌, ◌≢◌, ◌<◌, ◌≤◌, ◌⊎◌, ℕ, Ok, Err, IfOk, IfErr};
+ghost use Rattle.std.specs.Prelude.{MatchResult, codes, length, min, slice_index_or};
 ghost use Rattle.std.specs.IoError.{error_kind};
 ghost use Rattle.std.specs.declared.io.Error.{Error};
-ghost use Rattle.base_terms.specs.Causes.{Rose};
-ghost use Rattle.bays.specs.Bays.{HasBayCause};
+ghost use Rattle.bays.specs.Bays.{AreBounded, FaultCounts, HasBayCause};
 ghost use Rattle.file_disk.specs.Opening.{OpensLocked};
 ghost use Rattle.file_disk.specs.Sizes.{whole_atoms};
 ghost use Rattle.sector_disk.specs.Geometry.{IsAtom};
+ghost use Rattle.reencd.specs.Doors.{HaveDoors, Listens, SharesDoor};
 ghost use Rattle.reencd.specs.Shares.{AreShared, share_of};
-ghost use Rattle.reencd.specs.Untold.{untold_bay};
+ghost use Rattle.reencd.specs.Untold.{CountsOne, FaultIs, untold_bay, untold_link};
+ghost use Rattle.reencd.specs.declared.door.Door.{Door};
 
+use crate::door::Door;
 use crate::host_file::HostFile;
-use crate::host_link::{Door, HostLink};
+use crate::host_link::HostLink;
+use crate::network::Network;
 use crate::notices::{announce, complain};
 use base_terms::Bytes;
 use bays::{Bay, BayFault};
 use file_disk::{FileDisk, FileSystem, open_locked};
 use std::alloc::Global;
-use std::fs::{File, Files};
-use std::io::{self, ErrorKind, Read, Stderr, Stdin, Stdout};
-use std::net::{Net, TcpListener, TcpStream};
+use std::io::{self, ErrorKind, Stderr, Stdin, Stdout};
 
 /// The most bytes that are taken of a key file.
-const MAX_KEY: u64 = 513;
+const MAX_KEY: u32 = 513;
 
 /// The machine as a bay. A disk is the file or block device of its name, locked while it is open; a
 /// key is the file of its name. An address is `HOST:PORT`, where clients connect by TCP (port 0 is
 /// any that is free), or `stdio`, where standard input and output are the one client. What the
 /// system refuses is said on standard error, and so is where clients may connect.
 #[derive(Drop)]
-pub struct HostBay<R: FileSystem + Files<File = File> + Net<Stream = TcpStream> + Drop> {
+pub struct HostBay<R: FileSystem + Network + Drop> {
     machine: R,
     input: Stdin,
     output: Stdout,
@@ -36,7 +38,7 @@ pub struct HostBay<R: FileSystem + Files<File = File> + Net<Stream = TcpStream> 
     faults: u64,
 }
 
-impl<R: FileSystem + Files<File = File> + Net<Stream = TcpStream> + Drop> HostBay<R> {
+impl<R: FileSystem + Network + Drop> HostBay<R> {
     /// A bay of this machine, with these standard streams.
     pub fn new(machine: R, input: Stdin, output: Stdout, errors: Stderr) -> HostBay<R>
         ensures { result.faults ≡ 0 }
@@ -52,9 +54,9 @@ impl<R: FileSystem + Files<File = File> + Net<Stream = TcpStream> + Drop> HostBa
 
     /// Tells what the system refused, and counts it where it isn't want of memory.
     fn refused(&mut self, alloc: Global, what: &str, error: &io::Error) -> BayFault
-        ensures later { self.old.faults ≤ self.new.faults }
-        ensures rose { result ≡ BayFault.Failed → Rose self.old.faults self.new.faults }
-        ensures reason { result ≡ BayFault.Failed → error_kind error.now ≢ ErrorKind.OutOfMemory }
+        ensures counts { CountsOne result self.old.faults self.new.faults }
+        ensures cause { FaultCounts result self.old.faults self.new.faults }
+        ensures reason { FaultIs result error.now }
     {
         complain(alloc, self.errors, what, error);
         if error.kind() == ErrorKind::OutOfMemory {
@@ -83,19 +85,8 @@ impl<R: FileSystem + Files<File = File> + Net<Stream = TcpStream> + Drop> HostBa
         }
     }
 
-    /// The whole file of that name, cut behind the most bytes of a key.
-    fn read_key(&self, alloc: Global, name: &str) -> io::Result<Bytes>
-        ensures { IfOk result (λ bytes. length bytes ≤ 513) }
-    {
-        let file = File::open(&self.machine, name)?;
-        let mut bytes = Vec::with_capacity(alloc, MAX_KEY as usize)?;
-        file.take(MAX_KEY).read_to_end(&mut bytes)?;
-        bytes.truncate(MAX_KEY as usize);
-        Ok(Bytes::new(bytes))
-    }
-
     /// The links of an address. Standard input and output are one session, whatever was asked for.
-    #[tactic(auto, using(crate::proofs::ShareLemmas::shares_within))]
+    #[tactic(auto, using(crate::proofs::ShareLemmas::bounded_by_shares))]
     fn open_links(
         &self,
         alloc: Global,
@@ -109,16 +100,30 @@ impl<R: FileSystem + Files<File = File> + Net<Stream = TcpStream> + Drop> HostBa
             IfOk result (λ links. AreShared (λ link. link.left) workers sessions links.items) }
         ensures standard { address.now ≡ codes "stdio" → IfOk result
             (λ links. AreShared (λ link. link.left) workers (min sessions 1) links.items) }
-        ensures bound { IfOk result (λ links. (k : ℕ) (link : _) → k < workers →
-            (slice_index_or links.items k link).left ≤ sessions) }
+        ensures streams { address.now ≡ codes "stdio" → IfOk result (λ links. HaveDoors
+            R.Listener.shares (λ link. link.door) (Door.Standard self.now.input self.now.output)
+            workers links.items) }
+        ensures doors { address.now ≢ codes "stdio" → IfOk result (λ links. (listener : R.Listener)
+            × R.listens self.now.machine address.now (Ok listener)
+            × HaveDoors R.Listener.shares (λ link. link.door) (Door.Listening listener)
+            workers links.items) }
+        ensures bound { IfOk result (λ links. AreBounded
+            (λ link. untold_link link.left link.lent link.faults) workers sessions links.items) }
+        ensures refused { IfErr result (λ error. (error_kind error ≡ ErrorKind.OutOfMemory)
+            ⊎ Listens (R.listens self.now.machine address.now) R.Listener.shares error) }
     {
         if address == "stdio" {
             let door = Door::Standard(self.input, self.output);
-            return self.share_door(alloc, address, door, workers, sessions.min(1));
+            return self.share_door(alloc, address, &door, workers, sessions.min(1));
         }
-        let listener = TcpListener::bind(&self.machine, address)?;
-        announce(self.errors, &listener);
-        self.share_door(alloc, address, Door::Listener(listener), workers, sessions)
+        match self.machine.listen(address) {
+            Ok(listener) => {
+                announce(self.errors, &listener);
+                let door = Door::Listening(listener);
+                self.share_door(alloc, address, &door, workers, sessions)
+            }
+            Err(error) => Err(error),
+        }
     }
 
     /// A link for each worker, all with the same door, to which the sessions are dealt in turn.
@@ -126,7 +131,7 @@ impl<R: FileSystem + Files<File = File> + Net<Stream = TcpStream> + Drop> HostBa
         &self,
         alloc: Global,
         address: &str,
-        door: Door<R::Listener>,
+        door: &Door<R::Listener>,
         workers: u32,
         sessions: u32,
     ) -> io::Result<Vec<HostLink<R>>>
@@ -134,12 +139,20 @@ impl<R: FileSystem + Files<File = File> + Net<Stream = TcpStream> + Drop> HostBa
         ensures count { IfOk result (λ links. length links.items ≡ workers) }
         ensures shared { IfOk result
             (λ links. AreShared (λ link. link.left) workers sessions links.items) }
+        ensures doors { IfOk result
+            (λ links. HaveDoors R.Listener.shares (λ link. link.door) door.now workers links.items) }
+        ensures refused { IfErr result (λ error. (error_kind error ≡ ErrorKind.OutOfMemory)
+            ⊎ SharesDoor R.Listener.shares door.now (Err error)) }
     {
         let mut links = Vec::with_capacity(alloc, workers as usize)?;
         for k in 0..workers {
             let address = String::from_str(alloc, address)?;
             let share = share_for(workers, sessions, k);
-            links.push(HostLink::new(alloc, self.errors, address, door.try_clone()?, share))?;
+            let own = match door.share() {
+                Ok(own) => own,
+                Err(error) => return Err(error),
+            };
+            links.push(HostLink::new(alloc, self.errors, address, own, share))?;
         }
         Ok(links)
     }
@@ -157,12 +170,18 @@ fn share_for(workers: u32, sessions: u32, k: u32) -> u32
     }
 }
 
-impl<R: FileSystem + Files<File = File> + Net<Stream = TcpStream> + Drop> Bay for HostBay<R> {
+impl<R: FileSystem + Network + Drop> Bay for HostBay<R> {
     type Disk = FileDisk<HostFile<R::Opened>>;
 
     type Link = HostLink<R>;
 
     ghost holdings = { λ bay. untold_bay bay.faults };
+
+    ghost asks_disk = { λ _ _ _ _ _. Unit {0} };
+
+    ghost asks_key = { λ _ _ _ _. Unit {0} };
+
+    ghost asks_links = { λ _ _ _ _ _ _. Unit {0} };
 
     fn disk(&mut self, alloc: Global, name: &str, atom: u32) -> Result<Self::Disk, BayFault>
         requires { IsAtom atom }
@@ -174,6 +193,7 @@ impl<R: FileSystem + Files<File = File> + Net<Stream = TcpStream> + Drop> Bay fo
         ensures refused { IfErr result (λ fault. fault ≡ BayFault.Failed → (error : Error)
             × OpensLocked (R.opens self.old.machine name.now) R.Opened.locks
             R.Opened.measures (Err error)) }
+        ensures one { IfErr result (λ fault. CountsOne fault self.old.faults self.new.faults) }
         ensures cause { HasBayCause self.old.faults self.new.faults result }
     {
         match self.open_file(alloc, name) {
@@ -184,9 +204,14 @@ impl<R: FileSystem + Files<File = File> + Net<Stream = TcpStream> + Drop> Bay fo
 
     fn key(&mut self, alloc: Global, name: &str) -> Result<Bytes, BayFault>
         ensures cut { IfOk result (λ bytes. length bytes ≤ 513) }
+        ensures read { IfOk result
+            (λ bytes. R.reads_front self.old.machine name.now 513 (Ok bytes)) }
+        ensures refused { IfErr result (λ fault. fault ≡ BayFault.Failed → (error : Error)
+            × R.reads_front self.old.machine name.now 513 (Err error)) }
+        ensures one { IfErr result (λ fault. CountsOne fault self.old.faults self.new.faults) }
         ensures cause { HasBayCause self.old.faults self.new.faults result }
     {
-        match self.read_key(alloc, name) {
+        match self.machine.read_front(alloc, name, MAX_KEY) {
             Ok(key) => Ok(key),
             Err(error) => Err(self.refused(alloc, name, &error)),
         }
@@ -205,8 +230,18 @@ impl<R: FileSystem + Files<File = File> + Net<Stream = TcpStream> + Drop> Bay fo
             IfOk result (λ links. AreShared (λ link. link.left) workers sessions links.items) }
         ensures standard { address.now ≡ codes "stdio" → IfOk result
             (λ links. AreShared (λ link. link.left) workers (min sessions 1) links.items) }
-        ensures bound { IfOk result (λ links. (k : ℕ) (link : _) → k < workers →
-            (slice_index_or links.items k link).left ≤ sessions) }
+        ensures streams { address.now ≡ codes "stdio" → IfOk result (λ links. HaveDoors
+            R.Listener.shares (λ link. link.door) (Door.Standard self.old.input self.old.output)
+            workers links.items) }
+        ensures doors { address.now ≢ codes "stdio" → IfOk result (λ links. (listener : R.Listener)
+            × R.listens self.old.machine address.now (Ok listener)
+            × HaveDoors R.Listener.shares (λ link. link.door) (Door.Listening listener)
+            workers links.items) }
+        ensures refused { IfErr result (λ fault. fault ≡ BayFault.Failed → (error : Error)
+            × Listens (R.listens self.old.machine address.now) R.Listener.shares error) }
+        ensures bound { IfOk result (λ links. AreBounded
+            (λ link. untold_link link.left link.lent link.faults) workers sessions links.items) }
+        ensures one { IfErr result (λ fault. CountsOne fault self.old.faults self.new.faults) }
         ensures cause { HasBayCause self.old.faults self.new.faults result }
     {
         match self.open_links(alloc, address, workers, sessions) {

@@ -1,17 +1,23 @@
-ghost use Rattle.std.specs.Prelude.{◌≡◌, ◌+◌, ◌^◌, ◌<◌, None, Ok, IfOk, IfNone};
+ghost use Rattle.std.specs.Prelude.{◌≡◌, ◌+◌, ◌^◌, ◌<◌, ◌⊎◌, [], None, Ok, Err, IfOk, IfErr, IfSome, IfNone};
+ghost use Rattle.std.specs.Prelude.{IsErr};
+ghost use Rattle.std.specs.Io.Buffered.{reader_buffer, reader_inner};
+ghost use Rattle.std.specs.IoError.{error_kind};
+ghost use Rattle.std.specs.declared.io.Error.{Error};
 ghost use Rattle.base_terms.specs.Causes.{HasCause};
 ghost use Rattle.bays.specs.Stories.{CountsGiven, HasNoneAhead};
 ghost use Rattle.io_edge.specs.Faults.{Counts};
+ghost use Rattle.reencd.specs.Doors.{MeetsAt};
 ghost use Rattle.reencd.specs.Untold.{untold_link};
 
+use crate::door::Door;
+use crate::network::{Listener, Network};
 use crate::notices::complain;
 use crate::streams::{HostReader, HostWriter};
 use base_terms::Failed;
 use bays::Link;
 use io_edge::{GatheringWriter, StdSink, StdSource};
 use std::alloc::Global;
-use std::io::{self, BufReader, ErrorKind, Stderr, Stdin, Stdout};
-use std::net::{Net, OpenListener, TcpStream};
+use std::io::{self, BufReader, ErrorKind, Stderr};
 
 /// How many bytes a connection reads ahead and holds back at most.
 const ROOM: usize = 8192;
@@ -25,40 +31,42 @@ pub type HostSource = StdSource<BufReader<HostReader>>;
 /// long one is not.
 pub type HostSink = StdSink<GatheringWriter<HostWriter>>;
 
-/// A source and a sink over the two ends of a connection. It fails only where memory is wanted.
+/// A source and a sink over the two ends of a connection, of which nothing was read or written.
 fn connection(
     alloc: Global,
     reader: HostReader,
     writer: HostWriter,
-) -> io::Result<(HostSource, HostSink)> {
+) -> io::Result<(HostSource, HostSink)>
+    ensures reader { IfOk result (λ c. reader_inner c.0.inner ≡ reader) }
+    ensures writer { IfOk result (λ c. c.1.inner.writer ≡ writer) }
+    ensures unread { IfOk result (λ c. reader_buffer c.0.inner ≡ []) }
+    ensures holds_nothing { IfOk result (λ c. c.1.inner.held.items ≡ []) }
+    ensures err { IfErr result (λ e. error_kind e ≡ ErrorKind.OutOfMemory) }
+{
     let source = StdSource::new(BufReader::with_capacity(alloc, ROOM, reader)?);
     let sink = StdSink::new(GatheringWriter::new(alloc, ROOM, writer)?);
     Ok((source, sink))
 }
 
-/// Where a link's clients come in.
-#[derive(Drop)]
-pub enum Door<L: Drop> {
-    /// Standard input and output are the one client.
-    Standard(Stdin, Stdout),
-    /// Each client connects to the listener.
-    Listener(L),
-}
-
-impl<L: OpenListener + Drop> Door<L> {
-    /// Another handle of the same door.
-    pub fn try_clone(&self) -> io::Result<Door<L>> {
-        match self {
-            Door::Standard(input, output) => Ok(Door::Standard(*input, *output)),
-            Door::Listener(listener) => Ok(Door::Listener(listener.try_clone()?)),
-        }
+/// The connection of the next client at a door.
+fn admit<L: Listener>(alloc: Global, door: &Door<L>) -> io::Result<(HostSource, HostSink)>
+    ensures met { IfOk result (λ c. MeetsAt L.meets door.now
+        (Ok (reader_inner c.0.inner, c.1.inner.writer))) }
+    ensures unread { IfOk result (λ c. reader_buffer c.0.inner ≡ []) }
+    ensures holds_nothing { IfOk result (λ c. c.1.inner.held.items ≡ []) }
+    ensures err { IfErr result (λ e. (error_kind e ≡ ErrorKind.OutOfMemory)
+        ⊎ MeetsAt L.meets door.now (Err e)) }
+{
+    match door.meet() {
+        Ok((reader, writer)) => connection(alloc, reader, writer),
+        Err(error) => Err(error),
     }
 }
 
 /// A link of the machine. It gives as many connections as its sessions are, one after the other,
 /// and then none. Where the system refuses one, that is said on standard error.
 #[derive(Drop)]
-pub struct HostLink<R: Net<Stream = TcpStream>> {
+pub struct HostLink<R: Network> {
     door: Door<R::Listener>,
     address: String,
     alloc: Global,
@@ -69,7 +77,7 @@ pub struct HostLink<R: Net<Stream = TcpStream>> {
     ghost few: { lent + left < 2 ^ 32 },
 }
 
-impl<R: Net<Stream = TcpStream>> HostLink<R> {
+impl<R: Network> HostLink<R> {
     /// A link whose clients come in by this door, `sessions` of them. The address is what is told
     /// of it on standard error.
     pub fn new(
@@ -79,6 +87,7 @@ impl<R: Net<Stream = TcpStream>> HostLink<R> {
         door: Door<R::Listener>,
         sessions: u32,
     ) -> HostLink<R>
+        ensures door { result.door ≡ door }
         ensures bound { result.left ≡ sessions }
         ensures lent { result.lent ≡ 0 }
         ensures faults { result.faults ≡ 0 }
@@ -95,48 +104,15 @@ impl<R: Net<Stream = TcpStream>> HostLink<R> {
     }
 }
 
-/// The next client at the door.
-fn admit<R: Net<Stream = TcpStream>>(
-    alloc: Global,
-    door: &Door<R::Listener>,
-) -> io::Result<(HostSource, HostSink)> {
-    match door {
-        Door::Standard(input, output) => connection(
-            alloc,
-            HostReader::Standard(*input),
-            HostWriter::Standard(*output),
-        ),
-        Door::Listener(listener) => {
-            let stream = accept(listener)?;
-            let _ = stream.set_nodelay(true);
-            let reader = HostReader::Socket(stream.try_clone()?);
-            connection(alloc, reader, HostWriter::Socket(stream))
-        }
-    }
-}
-
-/// The next client of the listener. One that went away before it was met is passed over.
-fn accept<L: OpenListener>(listener: &L) -> io::Result<L::Stream> {
-    for _ in 0..u64::MAX {
-        match listener.accept() {
-            Ok((stream, _)) => return Ok(stream),
-            Err(error) => {
-                if error.kind() != ErrorKind::ConnectionAborted {
-                    return Err(error);
-                }
-            }
-        }
-    }
-    Err(io::Error::from(ErrorKind::ConnectionAborted))
-}
-
-impl<R: Net<Stream = TcpStream>> Link for HostLink<R> {
+impl<R: Network> Link for HostLink<R> {
     type In = HostSource;
 
     type Out = HostSink;
 
     ghost state = { λ link. untold_link link.left link.lent link.faults };
 
+    /// The next client at the link's door. It fails only where that can't be had, or memory is
+    /// wanted for the connection.
     fn next(&mut self) -> Result<Option<(Self::In, Self::Out)>, Failed>
         ensures ends { self.old.left ≡ 0 → result ≡ Ok None }
         ensures at_end { IfOk result (λ given. IfNone given
@@ -145,11 +121,21 @@ impl<R: Net<Stream = TcpStream>> Link for HostLink<R> {
             (untold_link self.new.left self.new.lent self.new.faults) result }
         ensures cause { HasCause self.old.faults self.new.faults result }
         ensures faults { Counts self.old.faults self.new.faults result }
+        ensures door { self.new.door ≡ self.old.door }
+        ensures met { IfOk result (λ given. IfSome given (λ c. MeetsAt R.Listener.meets self.old.door
+            (Ok (reader_inner c.0.inner, c.1.inner.writer)))) }
+        ensures unread { IfOk result (λ given. IfSome given
+            (λ c. reader_buffer c.0.inner ≡ [])) }
+        ensures holds_nothing { IfOk result (λ given. IfSome given
+            (λ c. c.1.inner.held.items ≡ [])) }
+        ensures refused { IsErr result → (error : Error)
+            × ((error_kind error ≡ ErrorKind.OutOfMemory)
+            ⊎ MeetsAt R.Listener.meets self.old.door (Err error)) }
     {
         if self.left == 0 {
             return Ok(None);
         }
-        match admit::<R>(self.alloc, &self.door) {
+        match admit(self.alloc, &self.door) {
             Ok(connection) => {
                 self.left -= 1;
                 self.lent += 1;
@@ -168,6 +154,7 @@ impl<R: Net<Stream = TcpStream>> Link for HostLink<R> {
         ensures bound { self.new.left ≡ self.old.left }
         ensures lent { self.new.lent + 1 ≡ self.old.lent }
         ensures faults { self.new.faults ≡ self.old.faults }
+        ensures door { self.new.door ≡ self.old.door }
     {
         self.lent -= 1;
     }

@@ -3,9 +3,11 @@
 //! stands here is the trusted edge to the machine.
 #![tactic(auto)]
 
+mod door;
 mod host_bay;
 mod host_file;
 mod host_link;
+mod network;
 mod notices;
 mod streams;
 #[cfg(test)]
@@ -14,13 +16,12 @@ mod tests;
 use file_disk::FileSystem;
 use host_bay::HostBay;
 use io_edge::{OpenGate, OsSeeds, Seeds, Sink, StdSink};
+use network::Network;
 use notices::explain;
 use reenc_tool::{Cause, run};
 use std::alloc::Global;
 use std::env;
-use std::fs::{File, Files};
 use std::io::{ErrorKind, Stderr};
-use std::net::{Net, TcpStream};
 use std::process::ExitCode;
 use std::sync::Wait;
 use std::thread::Threads;
@@ -49,12 +50,7 @@ fn main(rt: HostRuntime) -> ExitCode {
 }
 
 /// Runs the command of the words over the machine's bay, and tells why it ended as it did.
-fn command<
-    W: Threads + Wait + Sync,
-    R: FileSystem + Files<File = File> + Net<Stream = TcpStream> + Drop,
-    S: Seeds,
-    O: Sink,
->(
+fn command<W: Threads + Wait + Sync, R: FileSystem + Network + Drop, S: Seeds, O: Sink>(
     rt: &W,
     alloc: Global,
     words: &[String],

@@ -1,7 +1,7 @@
+use crate::network::Listener;
 use reenc_tool::{Cause, Fit};
 use std::alloc::Global;
 use std::io::{self, Stderr};
-use std::net::OpenListener;
 
 /// How the program is called.
 const USAGE: &str =
@@ -25,8 +25,8 @@ fn without_number(text: &str) -> &str {
 }
 
 /// Says in one line on standard error where clients may connect from now on.
-pub fn announce(errors: Stderr, listener: &impl OpenListener) {
-    if let Ok(address) = listener.local_addr() {
+pub fn announce(errors: Stderr, listener: &impl Listener) {
+    if let Ok(address) = listener.address() {
         let _ = eprintln!(errors; "reencd: listening on {address}");
     }
 }

@@ -1,7 +1,10 @@
 ghost use Rattle.std.specs.Prelude.{None};
 
+use crate::door::Door;
 use crate::host_bay::HostBay;
-use crate::host_link::{Door, HostLink};
+use crate::host_link::HostLink;
+use crate::network::{Listener, Network, accept};
+use crate::streams::{HostReader, HostWriter};
 use base_terms::Failed;
 use bays::{Bay, BayFault, Link};
 use io_edge::{ListSink, OsSeeds};
@@ -234,20 +237,36 @@ impl OpenListener for Deaf {
     }
 }
 
+impl Listener for Deaf {
+    ghost meets = { λ _ _. Unit {0} };
+
+    ghost shares = { λ _ _. Unit {0} };
+
+    fn meet(&self) -> io::Result<(HostReader, HostWriter)> {
+        let stream = accept(self)?;
+        let reader = HostReader::Socket(stream.try_clone()?);
+        Ok((reader, HostWriter::Socket(stream)))
+    }
+
+    fn share(&self) -> io::Result<Deaf> {
+        Err(io::Error::from(ErrorKind::Unsupported))
+    }
+
+    fn address(&self) -> io::Result<SocketAddr> {
+        Err(io::Error::from(ErrorKind::Unsupported))
+    }
+}
+
 /// A network of such listeners.
 #[derive(Drop)]
 struct Silent;
 
-impl Net for Silent {
-    type Stream = TcpStream;
-
+impl Network for Silent {
     type Listener = Deaf;
 
-    fn bind(&self, _address: SocketAddr) -> io::Result<Deaf> {
-        Err(io::Error::from(ErrorKind::Unsupported))
-    }
+    ghost listens = { λ _ _ _. Unit {0} };
 
-    fn connect(&self, _address: SocketAddr) -> io::Result<TcpStream> {
+    fn listen(&self, _address: &str) -> io::Result<Deaf> {
         Err(io::Error::from(ErrorKind::Unsupported))
     }
 }
@@ -255,7 +274,7 @@ impl Net for Silent {
 #[test]
 fn a_listener_that_fails_is_a_fault_of_its_link(rt: HostRuntime) -> Result<(), Fail> {
     let gone = Rc::new(rt.alloc(), Cell::new(3))?;
-    let door = Door::Listener(Deaf {
+    let door = Door::Listening(Deaf {
         gone: gone.clone()?,
     });
     let address = String::from_str(rt.alloc(), "somewhere")?;

@@ -63,6 +63,8 @@ impl<B: BlockCipher> SectorCipher for DiskCipher<B> {
 
     ghost some_sector = { λ d. d.some };
 
+    ghost sector_units = { λ d. d.units };
+
     ghost sealed_length = { λ d. (disk_seals B.sealed B.opened B.sealed_block B.unseal_undoes_seal d).lengths };
 
     ghost opened_length = { λ d. (disk_opens B.sealed B.opened

@@ -3,9 +3,11 @@
 ghost use Rattle.std.specs.Prelude.{◌≡◌, IfOk};
 
 use super::*;
+use crate::keys::{cbc_essiv_under, xts_under};
 use aes_core::Aes;
 use cipher_laws::{SectorCipher, SectorMode};
 use sha2::{Digest, Sha256};
+use std::alloc::Global;
 use std::process::Abort;
 use std::test::Fail;
 use xts_mode::Xts;
@@ -116,7 +118,7 @@ fn xts_seals_the_standards_long_sectors(rt: HostRuntime) -> Result<(), Fail> {
 
 // The SHA-256 of 8192 bytes, 0 to 250 again and again, sealed from the IV number 12_3456_789a on,
 // under a key that counts from 0: the cipher, the key's bytes, a sector's bytes. Made with Python's
-// `cryptography` 48 (OpenSSL 3.0), sector by sector.
+// `cryptography` 48 (OpenSSL 4.0), sector by sector.
 const SEALED_SECTORS: [(Spec, usize, u32, &str); 16] = [
     (
         Spec::AesXtsPlain64,
@@ -224,6 +226,140 @@ fn sectors_are_sealed_as_elsewhere(rt: HostRuntime) -> Result<(), Fail> {
         assert!(rt; bytes.len() == 8192 && bytes.len() % sector_size as usize == 0);
         context.seal_atom(0x12_3456_789a, &mut bytes);
         assert_eq!(rt; digest_of(&rt, &bytes)?.as_str(), digest);
+    }
+    Ok(())
+}
+
+// The SHA-256 of 16 bytes, 32 bytes and so on up to 272, the first of 0 to 250 again and again,
+// sealed as one sector with the number 12_3456_789a: by AES-256-XTS under a key of 64 bytes that
+// counts from 0, and by AES-256-CBC-ESSIV under one of 32. Made with Python's `cryptography` 48
+// (OpenSSL 4.0), XTS also from single blocks.
+const SEALED_LENGTHS: [(&str, &str); 17] = [
+    (
+        "75ce411e9f084704cb86c835dff732991509f5bab1a4a0f2b9d5f66a60d5b7fc",
+        "d353818cd4866c5251f8f6592c33809ce308ed0bad809282c7926d079804c673",
+    ),
+    (
+        "7467281665824e50d02554708c8c6895dbe4a0746ee8f99ef75abc2b3c4bdf07",
+        "4ff4da3d7d5320cde0fc3c88c50ab82f82d883e290e94c19785a3c09fe75cd4d",
+    ),
+    (
+        "adfedb21aaa880f6304fa20c1ab7f2a05157b8a0fbc32d9f317348cf73c73cbb",
+        "fcf7c4472cab754da48670bc2865e01814af63ffc01aace287780f0d1970ebd7",
+    ),
+    (
+        "041c66cf3343d257cacd54be23311d216b02776c0b1dd21764e0e1995965e07d",
+        "2029d2f956d9991f33294abc0bc2135d44ac453b2fde686bce62028ebb50c6f2",
+    ),
+    (
+        "c108945b2db9b07daad960f60b6a468edbda6c2e551a324bb9001a3a6a33cb6c",
+        "a0f8c4ab93e9cb53df0e2d01c3c5ac903921960b9fff677d2cf97ca3394a1ce1",
+    ),
+    (
+        "79f22b1f8a66460f00b61e9bc424ec813ad8bb838e2f4e1d5d985f7d16babacb",
+        "1ef9658280192f9322c26502f99f316be778a5f52368a5e6e453a1c0ace63880",
+    ),
+    (
+        "322ba075cbb415d8a1276503704df37439042b558d71d7dc00a1b5f22ab694b3",
+        "d19556387750f65d100937a51312ab91126c2cd93f842e4f6fad2c1a7c846941",
+    ),
+    (
+        "c831cd17a0f3dbee606ffbfd3ac797483d888c6d84a94c551f63de9fc87b6ad6",
+        "61f1e315fc11ad943e9aa5c5aec88685d079ec1fee8b4eb2a4a63ef9e634064f",
+    ),
+    (
+        "9bf60d79668dd8bcc87277c4b9d2b60539039e67cc6efdf19461907c1317d88c",
+        "298d9d6dedc06085f31e4b97600948dd1b17e6a2c1b815905eacca6161e355b1",
+    ),
+    (
+        "94e3c427cbba555a85b28b9d93244e43249fe7595522e0c898de48f719c9571b",
+        "911d8a19ec645f4cb33c14a15e99a99e2616b11db8f82a70037c0c3b577fe73f",
+    ),
+    (
+        "f177977325b6c47855da7fb72968898931e9e881de4514be8cd2cb0e2eb09b7f",
+        "35ca33dd2d61ac38c88885c8e7bd2c96b55cb6bb2252fc2db81099260a7b06c6",
+    ),
+    (
+        "fe1434057314ecddf981df3d963b577ee9ce0add189bf160cf7c3e01f46c58da",
+        "f2c692c72ee7ef291cf028ec02fbbcca63aa46f1efe56d8027a0f69ef0bf522a",
+    ),
+    (
+        "b553e6abdeb54c6ea8c272abe0d1a30a93bbc1e236151a6464fbefb8ac712156",
+        "fa652164646fbc73f235ea1da1d2d4f983226f7ba4c13ccbfe292fdf01d493fd",
+    ),
+    (
+        "de861fe10992c21ec8316089cd6c8a1b12addae99cac9b2b3188924a70e38572",
+        "d2b1c8df884cc6492d14cbb3c8b05f0f23e3b4939731eea0898961cc9f8a6f4c",
+    ),
+    (
+        "c396caeccf6a36e4aab621442493a03b6d5d07801fbe042c79178e7754bdbff2",
+        "71f1679de3bc02bb798daed78046f21584553ac7f7b261ec79fce3326428fa20",
+    ),
+    (
+        "b2765406b7a8a6096e95213d144d6c34e2609ccf8bb32d483db4188433cd8cba",
+        "25f5d93ed35b4f335d10312306564df26aa2f0cde3c46fe863675b2a39971b3d",
+    ),
+    (
+        "6d68d19320ef1db0542cc261c4e49322a7009175ececd85dc2f7ddd192f678a0",
+        "1a34dac0e558e85e89e97ed75dc07c8ad27abf8b22c9d90450d9698422a82809",
+    ),
+];
+
+// Seals the bytes as one sector, compares the digest, and unseals them.
+fn goes_out_and_back<M: SectorMode>(
+    rt: &impl Abort,
+    alloc: Global,
+    mode: &M,
+    plain: &[u8],
+    digest: &str,
+) -> Result<(), Fail> {
+    let mut bytes = Vec::from_slice(alloc, plain)?;
+    assert!(rt; bytes.len() % 16 == 0);
+    mode.seal_sector(0x12_3456_789a, &mut bytes);
+    let sealed = hex::encode(alloc, Sha256::digest(&bytes))?;
+    assert_eq!(rt; sealed.as_str(), digest);
+    assert!(rt; bytes.len() % 16 == 0);
+    mode.unseal_sector(0x12_3456_789a, &mut bytes);
+    assert!(rt; bytes.as_slice() == plain);
+    Ok(())
+}
+
+#[test]
+fn sectors_of_each_length_are_sealed_as_elsewhere(rt: HostRuntime) -> Result<(), Fail> {
+    let xts = xts_under(&counting_key(&rt, 64)?)?;
+    let cbc = cbc_essiv_under(&counting_key(&rt, 32)?)?;
+    let plain = counting_bytes(&rt, 272)?;
+    assert!(rt; plain.len() == 272);
+    for (place, (xts_digest, cbc_digest)) in SEALED_LENGTHS.iter().enumerate() {
+        assert!(rt; place < 17);
+        let sector = &plain[..16 * (place + 1)];
+        goes_out_and_back(&rt, rt.alloc(), &xts, sector, xts_digest)?;
+        goes_out_and_back(&rt, rt.alloc(), &cbc, sector, cbc_digest)?;
+    }
+    Ok(())
+}
+
+#[test]
+fn parts_make_no_difference(rt: HostRuntime) -> Result<(), Fail> {
+    for (spec, key) in [(Spec::AesXtsPlain64, 64), (Spec::AesCbcEssivSha256, 32)] {
+        let context = context_of(&rt, spec, &counting_key(&rt, key)?, 512)?;
+        let plain = counting_bytes(&rt, 7168)?;
+        let mut one_by_one = plain.clone()?;
+        for place in 0..7usize {
+            let at = 1024 * place;
+            assert!(rt; one_by_one.len() == 7168);
+            context.seal_atom(5 + 2 * place as u64, &mut one_by_one[at..at + 1024]);
+        }
+        for parts in [1, 3, 7, 16] {
+            let mut bytes = plain.clone()?;
+            assert!(rt; bytes.len() == 7168);
+            seal_many(&rt, &context, 5, 1024, &mut bytes, parts);
+            assert!(rt; bytes == one_by_one, "sealed in {parts}");
+            assert!(rt; bytes.len() == 7168);
+            unseal_many(&rt, &context, 5, 1024, &mut bytes, parts);
+            assert!(rt; bytes == plain, "unsealed in {parts}");
+        }
+        seal_many(&rt, &context, 5, 1024, &mut [], 3);
     }
     Ok(())
 }

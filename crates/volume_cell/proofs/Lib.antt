@@ -4,3 +4,4 @@ pub mod Families
 pub mod Stories
 pub mod Turns
 pub mod Asked
+pub mod Drawn

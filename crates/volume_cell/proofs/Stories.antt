@@ -9,7 +9,7 @@ use Rattle.volume_cell.specs.declared.knowledge.Knowledge.{Knowledge}
 use Rattle.volume_cell.specs.declared.knowledge.Stage.{Stage}
 use Rattle.volume_cell.specs.declared.knowledge.Stage.TheVariants.{Ready, InTurn, Retired}
 use Rattle.volume_cell.specs.Histories.{Begins, entry, call, calls_of, has_account, accounted}
-use Rattle.volume_cell.specs.Knowing.{IsLive, accounts, longer, IsWhole, knowing, taking, having_asked, next_name, having_split, split_off, having_joined, gone}
+use Rattle.volume_cell.specs.Knowing.{IsLive, HasCalls, accounts, longer, IsWhole, knowing, taking, having_asked, next_name, having_split, split_off, having_joined, gone}
 use Rattle.volume_cell.specs.Exclusion.{Phase, At, Family}
 use Rattle.volume_cell.specs.History.{Stands, IsInformed, IsKept, Historic}
 use Rattle.volume_cell.proofs.Lists.{begins_same, begins_all, begins_more, at_end, begins_through, longer_begins, begins_longer, begins_longer_too, shorter_begins-longer}
@@ -44,12 +44,21 @@ module _ {S E O : Type 0} where
   informed_split : (h : List (Entry E O)) (v : Knowledge S E O) → IsInformed h v → IsInformed h (having_split v)
   informed_split h v i = record { known = i.known; met = i.met; turning = i.turning; calls = i.calls; seen = i.seen }
 
+  -- a pass that knows the calls of all its accounts knows its own
+  pub own-of : (v : Knowledge S E O) → HasCalls v → calls_of v.name v.history ≡ v.calls
+  own-of v all = all v.name (has-own v.name v.name v.calls v.joined refl) ∙ accounted-own v.name v.name v.calls v.joined refl
+
+  -- and it still does after a call of its own
+  pub calls-asked : (v : Knowledge S E O) (e : E) (o : O) → HasCalls v → HasCalls (having_asked e o v)
+  calls-asked v e o all n has = ⊎_elim
+      (λ (own : n ≡ v.name). subst (λ (m : List ℕ). calls_of m (v.history ++ entry v.name e o ∷ []) ≡ accounted m (accounts (having_asked e o v))) (sym own)
+      (calls_of-own v.name e o v.history ∙ (ap (λ (l : List (Call E O)). l ++ call e o ∷ []) (own-of v all) ∙ sym (accounted-own v.name v.name (v.calls ++ call e o ∷ []) v.joined refl))))
+      (λ other. calls_of-other n v.name e o v.history other ∙ (all n (own-call n v.name v.calls (v.calls ++ call e o ∷ []) v.joined has) ∙ accounted-other n v.name v.calls (v.calls ++ call e o ∷ []) v.joined other))
+      (names-differ-or-not n v.name)
+
   -- a pass knows its own calls
   pub own-calls : (h : List (Entry E O)) (v : Knowledge S E O) → IsInformed h v → (calls_of v.name h ≡ v.calls) × (calls_of v.name v.history ≡ v.calls)
-  own-calls h v i = (
-    i.calls v.name (has-own v.name v.name v.calls v.joined refl) ∙ accounted-own v.name v.name v.calls v.joined refl,
-    i.seen v.name (has-own v.name v.name v.calls v.joined refl) ∙ accounted-own v.name v.name v.calls v.joined refl,
-  )
+  own-calls h v i = (own-of (knowing h v) i.calls, own-of v i.seen)
 
   -- after a call of its own
   informed_asked : (h : List (Entry E O)) (v : Knowledge S E O) (e : E) (o : O) → IsInformed h v → v.history ≡ h → IsInformed (h ++ entry v.name e o ∷ []) (having_asked e o v)
@@ -62,11 +71,7 @@ module _ {S E O : Type 0} where
   }
     where
       now : (n : List ℕ) → has_account n (accounts (having_asked e o v)) ≡ true → calls_of n (h ++ entry v.name e o ∷ []) ≡ accounted n (accounts (having_asked e o v))
-      now n has = ⊎_elim
-          (λ (own : n ≡ v.name). subst (λ (m : List ℕ). calls_of m (h ++ entry v.name e o ∷ []) ≡ accounted m (accounts (having_asked e o v))) (sym own)
-          (calls_of-own v.name e o h ∙ (ap (λ (l : List (Call E O)). l ++ call e o ∷ []) (own-calls h v i).0 ∙ sym (accounted-own v.name v.name (v.calls ++ call e o ∷ []) v.joined refl))))
-          (λ other. calls_of-other n v.name e o h other ∙ (i.calls n (own-call n v.name v.calls (v.calls ++ call e o ∷ []) v.joined has) ∙ accounted-other n v.name v.calls (v.calls ++ call e o ∷ []) v.joined other))
-          (names-differ-or-not n v.name)
+      now = calls-asked (knowing h v) e o i.calls
 
   -- after a call of another
   informed_others : (h : List (Entry E O)) (u : Knowledge S E O) (m : List ℕ) (e : E) (o : O) → IsInformed h u → has_account m (accounts u) ≡ false → (u.stage ≡ InTurn → ⊥) → IsInformed (h ++ entry m e o ∷ []) u

@@ -119,7 +119,7 @@ module _ {M S E O : Type 0} (start_of : M → S) (stands_for : M → List (Entry
               (family_goes r.exclusion.first s.views id v w r.exclusion.family at (goes-knowing v h));
           historic = historic_goes stands_for h r.phase r.phase s.views id v w r.historic at live (informed_now h v i) (λ n. refl) r.historic.stands;
         },
-        record { history = h; is = refl; later = i.known; long = ap (λ (x : ℕ). x / 2) (first-word s r) ∙ halves r.phase (length h); calls = (own-calls h v i).0 },
+        record { history = h; is = refl; later = i.known; long = ap (λ (x : ℕ). x / 2) (first-word s r) ∙ halves r.phase (length h); calls = i.calls },
       )
 
   -- a load confirms what was learned
@@ -191,7 +191,7 @@ module _ {M S E O : Type 0} (start_of : M → S) (stands_for : M → List (Entry
               is = refl;
               long = omega (arith, e);
               later = i.known;
-              calls = (own-calls h v i).0;
+              calls = i.calls;
               stands = t.stands;
               start = x.family.starts id v at (ready-live v.stage ready) ∙ ap Some (sym x.from);
             }),

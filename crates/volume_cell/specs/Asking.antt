@@ -6,9 +6,14 @@ use Rattle.volume_cell.specs.declared.history.Entry.{Entry}
 use Rattle.volume_cell.specs.declared.held.Held.{Held}
 use Rattle.volume_cell.specs.declared.knowledge.Knowledge.{Knowledge}
 use Rattle.volume_cell.specs.Histories.{Begins, entry, calls_of, IsNoted}
-use Rattle.volume_cell.specs.Knowing.{knowing, taking}
+use Rattle.volume_cell.specs.Knowing.{HasCalls, knowing, taking}
 
 module _ {M S E O : Type 0} where
+  -- nothing changed that the pass knows and holds
+  pub record IsSameSeat (before after : Seat (Held M E O) (Knowledge S E O)) : Type 0 where
+    pub table : after.table_id ≡ before.table_id
+    pub is : after.me ≡ before.me
+
   -- the pass has looked at the history, and no more
   pub record HasLooked (before after : Seat (Held M E O) (Knowledge S E O)) : Type 0 where
     pub table : after.table_id ≡ before.table_id
@@ -19,7 +24,8 @@ module _ {M S E O : Type 0} where
   -- the history that the pass knows is full
   pub record IsFull (limit : ℕ) (before after : Seat (Held M E O) (Knowledge S E O)) : Type 0 where
     pub looked : HasLooked before after
-    pub calls : calls_of before.me.0.name looked.history ≡ before.me.0.calls
+    pub calls : HasCalls after.me.0
+    pub own : calls_of after.me.0.name after.me.0.history ≡ after.me.0.calls
     pub full : length looked.history ≡ limit
 
   module _ (start_of : M → S) (stands_for : M → List (Entry E O) → Type 0) where
@@ -30,7 +36,7 @@ module _ {M S E O : Type 0} where
       pub held : Held M E O
       pub is : after.me ≡ (taking history before.me.0, (0, held) ∷ [])
       pub later : Begins before.me.0.history history
-      pub calls : calls_of before.me.0.name history ≡ before.me.0.calls
+      pub calls : HasCalls (taking history before.me.0)
       pub stands : stands_for held.machine history
       pub start : before.me.0.start ≡ Some (start_of held.machine)
       pub room : length history < limit

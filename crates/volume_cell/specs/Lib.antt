@@ -5,3 +5,4 @@ pub mod History
 pub mod Steps
 pub mod Asking
 pub mod Passes
+pub mod Numbered

@@ -6,6 +6,7 @@ use Rattle.volume_cell.specs.declared.history.Entry.{Entry}
 use Rattle.volume_cell.specs.declared.held.Held.{Held}
 use Rattle.volume_cell.specs.declared.knowledge.Knowledge.{Knowledge}
 use Rattle.volume_cell.specs.declared.knowledge.Stage.TheVariants.{Ready}
+use Rattle.volume_cell.specs.declared.shared.Shared.{Shared}
 use Rattle.volume_cell.specs.declared.spent.Spent.{Spent}
 use Rattle.volume_cell.specs.Histories.{Begins, call, entry, calls_of, accounted}
 use Rattle.volume_cell.specs.Knowing.{accounts}
@@ -15,11 +16,15 @@ module _ {M S E O : Type 0} where
   abbrev pub known : Seat (Held M E O) (Knowledge S E O) → Knowledge S E O
   known p = p.me.0
 
-  -- the pass is of this cell, and can ask for a turn
-  pub record IsPassOf (cell : TableId) (p : Seat (Held M E O) (Knowledge S E O)) : Type 0 where
+  -- the pass is of the cell with this table, and can ask for a turn
+  pub record IsReady (cell : TableId) (p : Seat (Held M E O) (Knowledge S E O)) : Type 0 where
     pub table : p.table_id ≡ cell
     pub ready : p.me.0.stage ≡ Ready
     pub empty : p.me.1 ≡ []
+
+  -- the pass is of this cell, and can ask for a turn
+  abbrev pub IsPassOf : {P : Type 0} → Shared M (Held M E O) (Knowledge S E O) P → Seat (Held M E O) (Knowledge S E O) → Type 0
+  IsPassOf cell p = IsReady cell.table.shared.table_id p
 
 module _ {S E O : Type 0} where
   -- the same pass, of which nothing was split off and to which nothing was joined in between

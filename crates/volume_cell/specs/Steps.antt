@@ -5,7 +5,7 @@ use Rattle.volume_cell.specs.declared.history.Entry.{Entry}
 use Rattle.volume_cell.specs.declared.held.Held.{Held}
 use Rattle.volume_cell.specs.declared.held.Note.{Note}
 use Rattle.volume_cell.specs.declared.knowledge.Knowledge.{Knowledge}
-use Rattle.volume_cell.specs.Histories.{Begins, calls_of}
+use Rattle.volume_cell.specs.Histories.{Begins}
 use Rattle.volume_cell.specs.Knowing.{HasCalls, knowing, taking, having_asked}
 
 -- what a seat knows and holds
@@ -23,7 +23,7 @@ module _ {M S E O : Type 0} where
     pub is : m' ≡ (knowing history m.0, m.1)
     pub later : Begins m.0.history history
     pub long : r / 2 ≡ length history
-    pub calls : calls_of m.0.name history ≡ m.0.calls
+    pub calls : HasCalls (knowing history m.0)
 
   abbrev pub learns : Step (Held M E O) → Seated M S E O → ℕ → Seated M S E O → Type 0
   learns st m r m' = Learns m r m'
@@ -45,7 +45,7 @@ module _ {M S E O : Type 0} where
       pub is : m' ≡ (taking history m.0, (0, held) ∷ m.1)
       pub later : Begins m.0.history history
       pub long : r / 2 ≡ length history
-      pub calls : calls_of m.0.name history ≡ m.0.calls
+      pub calls : HasCalls (taking history m.0)
       pub stands : stands_for held.machine history
       pub start : m.0.start ≡ Some (start_of held.machine)
 

@@ -3,29 +3,45 @@ ghost use Rattle.std.specs.Prelude.{◌≡◌, ℕ, List, ◌+◌, ◌-◌, ◌^
 ghost use Rattle.volume_cell.specs.Histories.{Begins, calls_of};
 ghost use Rattle.volume_cell.specs.Knowing.{IsWhole, HasCalls, having_split, split_off, having_joined, retired, beginning};
 ghost use Rattle.volume_cell.specs.Passes.{known, IsPassOf, IsSamePass, IsAnswered, IsSpent, IsAccounted};
-ghost use Rattle.volume_cell.specs.Asking.{HasLooked, HasTaken, IsFull, CanAct, HasActed};
+ghost use Rattle.volume_cell.specs.Asking.{IsSameSeat, HasLooked, HasTaken, IsFull, CanAct, HasActed};
 
 use crate::held::Held;
 use crate::knowledge::Knowledge;
 use crate::machine::Machine;
 use crate::rule::{Confirm, Give, Learn, OneHistory, Part, Retire, Reunite, Stay, Take, Terms};
+use crate::shared::Shared;
 use crate::spent::Spent;
-use atomic_table::{Refused, Seat, Table, TableRule};
+use atomic_table::{Refused, Seat, Table};
 use std::alloc::{AllocFailed, Global};
 use std::hint;
 use std::snapshot::Snapshot;
 use std::sync::Wait;
 use std::thread::Threads;
 
-/// How often a thread that finds the machine out looks again before it sleeps.
-const LOOKS: u32 = 100;
-
 /// The word that tells how many entries the history has, doubled, and one more while the machine
 /// is out.
 const ENTRIES: usize = 0;
 
-/// The word that tells how many threads sleep until the machine is back.
-const SLEEPERS: usize = 1;
+/// The word that tells of the threads that sleep until the machine is back: one of the four below.
+const MARK: usize = 1;
+
+/// No thread sleeps, or one was woken and does not have the machine yet.
+const NOBODY: u64 = 0;
+
+/// A thread may sleep.
+const SLEEPS: u64 = 1;
+
+/// A thread may sleep that was woken in vain too often.
+const URGES: u64 = 2;
+
+/// Only a thread that has slept may take the machine.
+const LEFT: u64 = 3;
+
+/// How often a thread that finds the machine out looks again before it sleeps.
+const LOOKS: u32 = 100;
+
+/// How often a thread is woken in vain before it asks that the machine be left to those that slept.
+const VAIN_WAKES: u32 = 2;
 
 /// A machine under many threads.
 pub type Cell<M> = Shared<
@@ -41,15 +57,6 @@ pub type Pass<M> = Seat<
     Held<M, <M as Machine>::Event, <M as Machine>::Outcome>,
     Knowledge<<M as Machine>::Start, <M as Machine>::Event, <M as Machine>::Outcome>,
 >;
-
-/// A cell, by its types: the machine, what lies in the cell, what a pass knows, and the rule.
-#[derive(Drop)]
-pub struct Shared<M, H, V, P: TableRule<H, V, Terms<M>>> {
-    table: Table<H, V, Terms<M>, P, Global>,
-    limit: u64,
-    ghost terms: { (limit ≡ table.shared.key.limit) × (limit < 2 ^ 63 - 1) },
-    ghost sizes: { (table.shared.table_id.words ≡ 2) × (table.shared.table_id.slots ≡ 1) },
-}
 
 /// The machine that lay alone in what a table refused.
 fn only_machine<M: Machine>(refused: Refused<Held<M, M::Event, M::Outcome>, Global>) -> M
@@ -70,7 +77,7 @@ impl<M: Machine> Cell<M> {
     pub fn new(alloc: Global, machine: M, limit: u64) -> Result<(Cell<M>, Pass<M>), AllocFailed<M>>
         requires machine { M.stands_for machine [] }
         requires limit { (1 ≤ limit) × (limit < 2 ^ 63 - 1) }
-        ensures pass { IfOk result (λ made. IsPassOf made.0.table.shared.table_id made.1 × (known made.1 ≡ beginning (M.start machine))) }
+        ensures pass { IfOk result (λ made. IsPassOf made.0 made.1 × (known made.1 ≡ beginning (M.start machine))) }
         ensures limit { IfOk result (λ made. made.0.limit ≡ limit) }
         ensures back { IfErr result (λ refused. refused.value ≡ machine) }
     {
@@ -106,67 +113,111 @@ impl<M: Machine> Cell<M> {
         pass: &mut Pass<M>,
         event: M::Event,
     ) -> Result<M::Outcome, Spent<M::Event>>
-        requires pass { IsPassOf self.now.table.shared.table_id pass.old }
+        requires pass { IsPassOf self.now pass.old }
         requires fits { (start : M.Start) → (known pass.old).start ≡ Some start → M.fits start (known pass.old).name (known pass.old).calls event }
-        ensures pass { IsPassOf self.now.table.shared.table_id pass.new }
+        ensures pass { IsPassOf self.now pass.new }
         ensures same { IsSamePass (known pass.old) (known pass.new) }
         ensures answer { MatchResult result (IsAnswered self.now.limit (known pass.old) (known pass.new) event) (IsSpent self.now.limit (known pass.old) (known pass.new) event) }
         ensures own { calls_of (known pass.new).name (known pass.new).history ≡ (known pass.new).calls }
+        ensures calls { HasCalls (known pass.new) }
     {
         if !self.take(rt, pass) {
             return Err(Spent { event });
         }
         let outcome = self.act(rt, pass, event);
         self.table.shared.fetch_add::<Give>(pass, ENTRIES, 1);
-        self.wake();
+        self.wake(pass);
         Ok(outcome)
     }
 
     /// Takes the machine, and waits for it while it is out. False where the history is full.
     fn take<R: Wait>(&self, rt: &R, pass: &mut Pass<M>) -> bool
-        requires { IsPassOf self.now.table.shared.table_id pass.old }
+        requires { IsPassOf self.now pass.old }
         ensures { MatchBool result (HasTaken M.start M.stands_for self.now.limit pass.old pass.new) (IsFull self.now.limit pass.old pass.new) }
     {
         let shared = &self.table.shared;
         let mut looks = LOOKS;
+        let mut sleeps = 0;
         for _ in rt.forever() {
             let word = shared.load::<Learn>(pass, ENTRIES);
             if word == self.limit * 2 {
                 // Nobody gives the machine back any more, so the next one that sleeps is woken here.
-                self.wake();
+                self.mark_again(pass, sleeps);
+                self.wake(pass);
                 return false;
             }
-            if word % 2 == 0 && word / 2 < self.limit {
-                let found = shared.compare_exchange::<Take<M>>(pass, ENTRIES, word, word + 1);
-                if found == word {
-                    return true;
-                }
-            } else if looks > 0 {
+            if self.try_take(pass, word, sleeps) {
+                self.mark_again(pass, sleeps);
+                return true;
+            }
+            if looks > 0 && shared.peek(MARK) == NOBODY {
                 looks -= 1;
                 hint::spin_loop();
             } else {
-                self.sleep(rt, pass, word);
+                self.sleep(rt, pass, sleeps);
+                sleeps = sleeps.saturating_add(1);
+                looks = LOOKS;
             }
         }
         unreachable!()
     }
 
-    /// Sleeps while the first word is the one that was found, which the thread that gives the
-    /// machine back changes. It may also return for no reason.
-    fn sleep<R: Wait>(&self, rt: &R, pass: &mut Pass<M>, word: u64)
-        requires { pass.old.table_id ≡ self.now.table.shared.table_id }
-        ensures { (pass.new.table_id ≡ pass.old.table_id) × (pass.new.me ≡ pass.old.me) }
+    /// Takes the machine, if it is at home, the first word is still the one that was found, and the
+    /// machine is not left to others.
+    fn try_take(&self, pass: &mut Pass<M>, word: u64, sleeps: u32) -> bool
+        requires { IsPassOf self.now pass.old }
+        ensures { MatchBool result (HasTaken M.start M.stands_for self.now.limit pass.old pass.new) (IsSameSeat pass.old pass.new) }
     {
         let shared = &self.table.shared;
-        shared.fetch_add::<Stay>(pass, SLEEPERS, 1);
-        shared.park(rt, ENTRIES, (word % (1 << 32)) as u32);
-        shared.fetch_sub::<Stay>(pass, SLEEPERS, 1);
+        if sleeps == 0 && shared.peek(MARK) == LEFT {
+            return false;
+        }
+        if word % 2 == 0 && word / 2 < self.limit {
+            let found = shared.compare_exchange::<Take<M>>(pass, ENTRIES, word, word + 1);
+            return found == word;
+        }
+        false
     }
 
-    /// Wakes a thread that sleeps until the machine is back.
-    fn wake(&self) {
-        if self.table.shared.peek(SLEEPERS) != 0 {
-            self.table.shared.wake_one(ENTRIES);
+    /// Sleeps until it is woken, unless the machine can be taken. It may also return for no reason.
+    fn sleep<R: Wait>(&self, rt: &R, pass: &mut Pass<M>, sleeps: u32)
+        requires { pass.old.table_id ≡ self.now.table.shared.table_id }
+        ensures { IsSameSeat pass.old pass.new }
+    {
+        let shared = &self.table.shared;
+        let wanted = if sleeps < VAIN_WAKES { SLEEPS } else { URGES };
+        let mark = shared.fetch_max::<Stay>(pass, MARK, wanted).max(wanted);
+        // Who gives the machine back after this look finds the mark.
+        let is_out = shared.peek(ENTRIES) % 2 == 1;
+        if is_out || (sleeps == 0 && mark == LEFT) {
+            shared.park(rt, MARK, (mark % (1 << 32)) as u32);
+        }
+    }
+
+    /// Sets the mark anew, where the thread has slept: others may sleep yet.
+    fn mark_again(&self, pass: &mut Pass<M>, sleeps: u32)
+        requires { pass.old.table_id ≡ self.now.table.shared.table_id }
+        ensures { IsSameSeat pass.old pass.new }
+    {
+        if sleeps > 0 {
+            self.table.shared.store::<Stay>(pass, MARK, SLEEPS);
+        }
+    }
+
+    /// Wakes a thread, where one may sleep, and takes the mark away, so that nobody else wakes one
+    /// before that thread has had the machine. Where the mark has changed, another sees to it.
+    fn wake(&self, pass: &mut Pass<M>)
+        requires { pass.old.table_id ≡ self.now.table.shared.table_id }
+        ensures { IsSameSeat pass.old pass.new }
+    {
+        let shared = &self.table.shared;
+        let mark = shared.peek(MARK);
+        if mark == NOBODY {
+            return;
+        }
+        let next = if mark == URGES { LEFT } else { NOBODY };
+        if shared.compare_exchange::<Stay>(pass, MARK, mark, next) == mark {
+            shared.wake_one(MARK);
         }
     }
 
@@ -187,9 +238,9 @@ impl<M: Machine> Cell<M> {
 
     /// A new pass, which knows what this one knows and has made no calls.
     pub fn split(&self, pass: &mut Pass<M>) -> Pass<M>
-        requires pass { IsPassOf self.now.table.shared.table_id pass.old }
-        ensures pass { IsPassOf self.now.table.shared.table_id pass.new × (known pass.new ≡ having_split (known pass.old)) }
-        ensures new { IsPassOf self.now.table.shared.table_id result × (known result ≡ split_off (known pass.old)) }
+        requires pass { IsPassOf self.now pass.old }
+        ensures pass { IsPassOf self.now pass.new × (known pass.new ≡ having_split (known pass.old)) }
+        ensures new { IsPassOf self.now result × (known result ≡ split_off (known pass.old)) }
     {
         self.table.shared.split_seat::<Part>(pass)
     }
@@ -197,10 +248,10 @@ impl<M: Machine> Cell<M> {
     /// Joins a pass, of which every pass that was split off it was joined back, into the one that
     /// it was split off.
     pub fn join(&self, pass: &mut Pass<M>, other: Pass<M>)
-        requires passes { IsPassOf self.now.table.shared.table_id pass.old × IsPassOf self.now.table.shared.table_id other }
+        requires passes { IsPassOf self.now pass.old × IsPassOf self.now other }
         requires child { (number : ℕ) × ((known other).name ≡ (known pass.old).name ++ number ∷ []) }
         requires whole { IsWhole (known other) }
-        ensures pass { IsPassOf self.now.table.shared.table_id pass.new × (known pass.new ≡ having_joined (known pass.old) (known other)) }
+        ensures pass { IsPassOf self.now pass.new × (known pass.new ≡ having_joined (known pass.old) (known other)) }
         ensures own { Begins (known pass.old).history (known pass.new).history }
         ensures its { Begins (known other).history (known pass.new).history }
         ensures calls { HasCalls (known pass.new) }
@@ -211,7 +262,7 @@ impl<M: Machine> Cell<M> {
 
     /// The machine, and what the first pass knows, into which every other pass was joined.
     pub fn close(self, mut pass: Pass<M>) -> (M, Pass<M>)
-        requires pass { IsPassOf self.table.shared.table_id pass }
+        requires pass { IsPassOf self pass }
         requires first { (known pass).name ≡ [] }
         requires whole { IsWhole (known pass) }
         ensures pass { known result.1 ≡ retired (known pass) }

@@ -33,7 +33,8 @@ pub struct Knowledge<S, E, O> {
     pub name: LinkedList<u32>,
     /// The history as far as it is known.
     pub history: LinkedList<Entry<E, O>>,
-    /// Where a pass was joined into this one, the shorter of the two histories that they knew.
+    /// Where a pass was joined into this one, the shorter of the two histories that they knew. It
+    /// serves `join` alone, and what a turn leaves here is open.
     pub met: LinkedList<Entry<E, O>>,
     /// The pass's own calls.
     pub calls: LinkedList<Call<E, O>>,

@@ -8,7 +8,7 @@
 //! The layer above may rely on this.
 //! - A turn answers the last entry of the history that the pass then knows. That history begins
 //!   with what the pass knew, and under the pass's name it has the pass's own calls, each once and
-//!   in order.
+//!   in order. So it has under the name of each pass that was joined into it that pass's calls.
 //! - A turn is refused exactly where the history has as many entries as the cell was made for. The
 //!   event comes back.
 //! - A pass that is split off another knows what that knows, has a name of its own, and has made
@@ -18,10 +18,14 @@
 //!   and has the start of the machine that the cell was made with. Of each name, that history has
 //!   just the calls that were made under it.
 //!
-//! A turn that finds the machine at home makes four atomic steps and no call of the system: a
-//! look, a compare-and-exchange that takes the machine, an addition that gives it back, and a look
-//! whether somebody sleeps. A thread that finds the machine out looks again a hundred times and
-//! then sleeps until it is back. That a turn comes, in which order and when is not promised.
+//! What follows is read off the code and said by no clause. A turn that finds the machine at home
+//! and nobody asleep makes five atomic steps and no call of the system: a look at the history, one
+//! at the mark of those that sleep, a compare-and-exchange that takes the machine, an addition that
+//! gives it back, and a look at the mark. A thread that does not get the machine looks again, at
+//! most a hundred times and not while another sleeps, and then sleeps. Whoever gives the machine
+//! back wakes one thread, and nobody wakes another before that one has had it. A thread that was
+//! woken twice in vain asks that the machine be left to those that slept. That a turn comes, in
+//! which order and when is not promised.
 //!
 //! The rule of the cell has two parts, each a module of `specs/`: `Exclusion` says that one pass at
 //! a time has the machine and that no two passes share a name, `History` that there is one history
@@ -34,12 +38,14 @@ mod history;
 mod knowledge;
 mod machine;
 mod rule;
+mod shared;
 mod spent;
 #[cfg(test)]
 mod tests;
 
-pub use cell::{Cell, Pass, Shared};
+pub use cell::{Cell, Pass};
 pub use history::{Call, Entry};
 pub use knowledge::{Account, Knowledge, Stage};
 pub use machine::Machine;
+pub use shared::Shared;
 pub use spent::Spent;

@@ -16,8 +16,8 @@ use volume_machine::Ask;
 /// The lane on which operations are executed.
 pub(crate) const LANE: u32 = 0;
 
-/// Begins an operation of a session on the blocks that the volume has given it. It is the only one, so that it
-/// never waits.
+/// Begins an operation of a session on the blocks that the volume has given it. It is the only one,
+/// so that it never waits.
 pub(crate) fn begin<D: Disk, C: SectorCipher + Copy>(
     volume: &mut Volume<D, C>,
     session: u64,

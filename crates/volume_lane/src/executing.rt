@@ -21,8 +21,8 @@ use std::alloc::{AllocError, Global};
 use volume_core::{Settled, Volume};
 use volume_machine::Ask;
 
-/// Executes one operation of a session on the first lane of a volume on which no operation is under way, and
-/// answers it.
+/// Executes one operation of a session on the first lane of a volume on which no operation is under
+/// way, and answers it.
 ///
 /// A wrong operation is refused with its number, and else one on a broken volume with 5. Else its
 /// pieces of at most 1 MiB are read or written in order, up to the first that fails; a write with

@@ -7,23 +7,31 @@ use std::alloc::{AllocError, Global};
 /// memory and operations are left. The buffer of each body is overwritten and given back.
 #[derive(Drop)]
 pub struct Blocks {
-    pub bytes: [u8; 2048],
-    pub has_memory: bool,
-    pub operations: u32,
-    pub forced: bool,
+    bytes: [u8; 2048],
+    has_memory: bool,
+    operations: u32,
+    forced: bool,
     /// How many bytes the buffer of the last body could hold.
-    pub capacity: usize,
+    capacity: usize,
 }
 
 impl Blocks {
-    pub fn new() -> Blocks {
+    pub fn new(has_memory: bool, operations: u32) -> Blocks {
         Blocks {
             bytes: [0; 2048],
-            has_memory: true,
-            operations: 99,
+            has_memory,
+            operations,
             forced: false,
             capacity: 0,
         }
+    }
+
+    /// Whether it begins with these bytes, its last write was forced or not, and the buffer of the
+    /// last body could hold so many, where the number is given.
+    pub fn has(&self, front: &[u8], forced: bool, capacity: Option<usize>) -> bool {
+        self.bytes.get(..front.len()) == Some(front)
+            && self.forced == forced
+            && capacity.is_none_or(|wanted| wanted == self.capacity)
     }
 
     /// The buffer of a write's body, overwritten; an empty one of another operation.

@@ -22,8 +22,8 @@ const ATOMS: u64 = 16;
 /// How many requests a walk has.
 const REQUESTS: u64 = 500;
 
-/// The most device calls and written atoms of a walk, of at most 2 and 4 a request, and of the reads
-/// that look at each atom in the end.
+/// The most device calls and written atoms of a walk, of at most 2 and 4 a request, and of the
+/// reads that look at each atom in the end.
 const ROOM: u64 = REQUESTS * 6 + ATOMS;
 
 const READ: u16 = 0;

@@ -1,4 +1,4 @@
-use Rattle.cipher_laws.proofs.EightLemmas.{each_of_eight}
+use Rattle.cipher_laws.specs.EachOfEight.{each_of_eight}
 use Rattle.aes_core.proofs.transposition.turned.Goals as goal
 
 pub returns : goal.returns

@@ -7,7 +7,8 @@ invariant-loop-connection l = record {
   count : length l.links ≡ length l.initial.links;
   within : length l.connections.items ≤ length l.initial.connections.items;
   front : l.connections.items ≡ take (length l.connections.items) l.initial.connections.items;
-  dealt : HaveShares l.initial.connections.items (length l.connections.items) l.initial.links l.links;
+  dealt : HaveShares l.initial.connections.items (length l.connections.items) l.initial.links
+      l.links;
 }
 
 abbrev pub decreases-loop-connection : goal.decreases-loop-connection

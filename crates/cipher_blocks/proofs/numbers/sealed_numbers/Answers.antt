@@ -1,6 +1,6 @@
-use Rattle.std.proofs.Common.{◌≡◌, ℕ, ◌+◌, ◌*◌, ◌<◌, ◌^◌, ◌∙◌, ap, lit<}
+use Rattle.std.proofs.Common.{◌≡◌, ◌+◌, ◌*◌, ◌<◌, ◌^◌, ◌∙◌, ap, lit<}
 use Rattle.cipher_laws.specs.Eight.{block}
-use Rattle.cipher_laws.proofs.EightLemmas.{each_of_eight}
+use Rattle.cipher_laws.specs.EachOfEight.{each_of_eight}
 use Rattle.cipher_blocks.specs.Blocks.{number_block}
 use Rattle.cipher_blocks.proofs.numbers.sealed_numbers.Goals as goal
 

@@ -1,11 +1,10 @@
 use Rattle.std.proofs.Common.{rules, length-drop, ◌≡◌, ◌+◌, ◌-◌, ◌*◌, ◌/◌, ◌%◌, ◌<◌, ◌≤◌, ◌^◌, ℕ, List, [], length, take, drop, arith, ap, subst, sym, ◌∙◌, slice_index_or}
 use Rattle.std.proofs.lemmas.List.{length-take-le}
 use Rattle.std.proofs.lemmas.Grind.{common_steps}
-use Rattle.cipher_laws.specs.Eight.{block}
-use Rattle.cipher_blocks.specs.Blocks.{number_block}
 use Rattle.cipher_blocks.specs.Numbers.{AreReady}
 use Rattle.cipher_blocks.proofs.NumberLemmas.{ready_first, ready_now, ready_next}
-use Rattle.cipher_blocks.proofs.RowLemmas.{whole_sectors, sectors_within, units_within, row_first, row_more, row_last}
+use Rattle.cipher_blocks.specs.RowLaws.{whole_sectors, sectors_within, units_within}
+use Rattle.cipher_blocks.proofs.RowLemmas.{row_first, row_more, row_last}
 use Rattle.cipher_blocks.proofs.rows.change_sectors.Goals as goal
 use Rattle.cipher_blocks.proofs.rows.change_sectors.Goals.{then-i-eq0, else-i-eq0}
 

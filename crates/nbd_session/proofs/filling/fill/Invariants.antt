@@ -5,7 +5,8 @@ use Rattle.nbd_session.proofs.filling.fill.Given as goal
 abbrev pub invariant-loop-count : goal.invariant-loop-count
 invariant-loop-count g l = record {
   inside : l.count ≤ length l.buf;
-  took : Took (g.S.Source.intake l.initial.source) (g.S.Source.intake l.source) (take l.count l.buf);
+  took : Took (g.S.Source.intake l.initial.source) (g.S.Source.intake l.source)
+      (take l.count l.buf);
   held : (g.S.Source.intake l.source).faults ≡ (g.S.Source.intake l.initial.source).faults;
 }
 

@@ -1,6 +1,7 @@
 use Rattle.std.proofs.Common.{⊎_elim, [], ◌++◌, false, refl, None, arith, length, length-append}
 use Rattle.nbd_session.specs.declared.options.Course.TheVariants.{GoesOn, Begins, Ends}
-use Rattle.nbd_session.proofs.OptionLemmas.{answers-none, answers-more, answers-on, answers-too_many}
+use Rattle.nbd_session.proofs.OptionLemmas.{answers-none, answers-more, answers-on}
+use Rattle.nbd_session.proofs.OptionLemmas.{answers-too_many}
 use Rattle.nbd_session.proofs.negotiation.agree.Goals as goal
 
 pub loop-number-init : goal.loop-number-init
@@ -20,8 +21,10 @@ loop-number-preserved g c =
         old.1 ++ new.2,
         old.2 ++ new.3,
         omega (arith, length-append old.0 new.0, old.3, new.6 refl),
-        answers-more c.args.export.now c.args.no_zeroes _ _ _ GoesOn (length old.0) old.0 new.0 None old.1 new.2 old.2 new.3 [] false old.4 refl
-            (answers-on c.args.export.now c.args.no_zeroes _ _ (length old.0) new.0 new.1 new.2 new.3 new.4 new.5 (new.7 (length old.0) (omega (arith, old.3)))),
+        answers-more c.args.export.now c.args.no_zeroes _ _ _ GoesOn (length old.0) old.0 new.0 None
+            old.1 new.2 old.2 new.3 [] false old.4 refl
+            (answers-on c.args.export.now c.args.no_zeroes _ _ (length old.0) new.0 new.1 new.2
+            new.3 new.4 new.5 (new.7 (length old.0) (omega (arith, old.3)))),
       );
     }
 
@@ -35,7 +38,8 @@ returns-in-Begins-clause-agrees g c =
       old.2 ++ new.3,
       new.4,
       new.5,
-      answers-more c.args.export.now c.args.no_zeroes _ _ _ Begins (length old.0) old.0 new.0 new.1 old.1 new.2 old.2 new.3 new.4 new.5 old.4 refl
+      answers-more c.args.export.now c.args.no_zeroes _ _ _ Begins (length old.0) old.0 new.0 new.1
+          old.1 new.2 old.2 new.3 new.4 new.5 old.4 refl
           (new.7 (length old.0) (omega (arith, old.3))),
     )
 
@@ -49,11 +53,20 @@ returns-in-Ends-clause-agrees g c =
       old.2 ++ new.3,
       new.4,
       new.5,
-      answers-more c.args.export.now c.args.no_zeroes _ _ _ (Ends c.in-Ends.ending) (length old.0) old.0 new.0 new.1 old.1 new.2 old.2 new.3 new.4 new.5 old.4 refl
+      answers-more c.args.export.now c.args.no_zeroes _ _ _ (Ends c.in-Ends.ending) (length old.0)
+          old.0 new.0 new.1 old.1 new.2 old.2 new.3 new.4 new.5 old.4 refl
           (new.7 (length old.0) (omega (arith, old.3))),
     )
 
 pub returns-clause-agrees : goal.returns-clause-agrees
 returns-clause-agrees g c =
-    let all = c.loop-number.invariant.answered in
-    (all.0, None, all.1, all.2, [], false, answers-too_many c.args.export.now c.args.no_zeroes _ _ all.0 all.1 all.2 all.4 (omega (arith, all.3)))
+    let all = c.loop-number.invariant.answered in (
+      all.0,
+      None,
+      all.1,
+      all.2,
+      [],
+      false,
+      answers-too_many c.args.export.now c.args.no_zeroes _ _ all.0 all.1 all.2 all.4
+          (omega (arith, all.3)),
+    )

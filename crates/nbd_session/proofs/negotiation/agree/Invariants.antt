@@ -9,9 +9,11 @@ use Rattle.nbd_session.proofs.negotiation.agree.Given as goal
 abbrev pub invariant-loop-number : goal.invariant-loop-number
 invariant-loop-number g l = record {
   out : IsOut (g.K.Sink.outlet l.sink);
-  answered : (options : List ClientOption) × (taken : List ℕ) × (whole : List ℕ) × (length options ≡ l.number)
+  answered : (options : List ClientOption) × (taken : List ℕ) × (whole : List ℕ)
+      × (length options ≡ l.number)
       × Answers l.export l.no_zeroes 0
-      (moment (g.S.Source.intake l.initial.source) (g.K.Sink.outlet l.initial.sink) l.initial.tally.taken l.initial.tally.put)
+      (moment (g.S.Source.intake l.initial.source) (g.K.Sink.outlet l.initial.sink)
+      l.initial.tally.taken l.initial.tally.put)
       (moment (g.S.Source.intake l.source) (g.K.Sink.outlet l.sink) l.tally.taken l.tally.put)
       GoesOn options None taken whole [] false;
 }

@@ -1,5 +1,6 @@
 use Rattle.std.proofs.Common.{arith}
-use Rattle.nbd_session.proofs.HeadLemmas.{behind-asks, behind-refuses, behind-cut, behind-fault, data-as, flags-refused, memory-refused}
+use Rattle.nbd_session.proofs.HeadLemmas.{behind-asks, behind-refuses, behind-cut, behind-fault}
+use Rattle.nbd_session.proofs.HeadLemmas.{data-as, flags-refused, memory-refused}
 use Rattle.nbd_session.proofs.requests.behind_head.Goals as goal
 
 pub refuse-requires-clause-refused : goal.refuse-requires-clause-refused
@@ -7,22 +8,27 @@ refuse-requires-clause-refused g c = λ body size. flags-refused c.args.head.now
 
 pub refuse-requires-in-NoMemory-clause-refused : goal.refuse-requires-in-NoMemory-clause-refused
 refuse-requires-in-NoMemory-clause-refused g c = λ body size.
-    memory-refused c.args.head.now body (omega arith) (data-as _ _ _ _ _ c.data_length.ensures c.in-NoMemory.ensures).1.by_case.0
+    memory-refused c.args.head.now body (omega arith)
+    (data-as _ _ _ _ _ c.data_length.ensures c.in-NoMemory.ensures).1.by_case.0
 
 pub returns-in-Some : goal.returns-in-Some
 returns-in-Some g c =
-    behind-asks _ _ c.args.head.now c.in-Whole.body c.in-Some.op c.requires.head c.requires.goes_on c.in-Some.ensures (data-as _ _ _ _ _ c.data_length.ensures c.in-Whole.ensures)
+    behind-asks _ _ c.args.head.now c.in-Whole.body c.in-Some.op c.requires.head c.requires.goes_on
+    c.in-Some.ensures (data-as _ _ _ _ _ c.data_length.ensures c.in-Whole.ensures)
 
 pub returns-in-None : goal.returns-in-None
 returns-in-None g c =
-    behind-refuses _ _ c.args.head.now c.in-Whole.body c.requires.head c.requires.goes_on c.in-None.ensures (data-as _ _ _ _ _ c.data_length.ensures c.in-Whole.ensures)
+    behind-refuses _ _ c.args.head.now c.in-Whole.body c.requires.head c.requires.goes_on
+    c.in-None.ensures (data-as _ _ _ _ _ c.data_length.ensures c.in-Whole.ensures)
 
 pub returns-in-Ended : goal.returns-in-Ended
 returns-in-Ended g c =
     let more = data-as _ _ _ _ _ c.data_length.ensures c.in-Ended.ensures in
-    behind-cut _ _ c.args.head.now c.in-Ended.n more.0 c.requires.head c.requires.goes_on more.1.takes more.1.by_case.0 more.1.by_case.1 more.1.by_case.2 more.1.by_case.3
+    behind-cut _ _ c.args.head.now c.in-Ended.n more.0 c.requires.head c.requires.goes_on
+    more.1.takes more.1.by_case.0 more.1.by_case.1 more.1.by_case.2 more.1.by_case.3
 
 pub returns-in-Fault : goal.returns-in-Fault
 returns-in-Fault g c =
     let more = data-as _ _ _ _ _ c.data_length.ensures c.in-Fault.ensures in
-    behind-fault _ _ c.args.head.now more.0 c.requires.head c.requires.goes_on more.1.takes more.1.by_case.0 more.1.by_case.1
+    behind-fault _ _ c.args.head.now more.0 c.requires.head c.requires.goes_on more.1.takes
+    more.1.by_case.0 more.1.by_case.1

@@ -1,8 +1,11 @@
 use Rattle.std.proofs.Common.{List, [], ◌∷◌, Some, ◌∙◌, false, true, refl, sym, subst}
+use Rattle.base_terms.specs.ErrorNumbers.{no_memory}
 use Rattle.plain_disk.specs.Plain.{Exchange}
 use Rattle.plain_disk.specs.declared.operation.Reply.TheVariants.{Errno}
 use Rattle.nbd_session.specs.Turns.{Turn}
-use Rattle.nbd_session.proofs.RequestLemmas.{serves-stop, serves-spent, serves-turn, refused-answered, refused-exchanges, exchanges_of-none, exchanges_of-one}
+use Rattle.nbd_session.proofs.RequestLemmas.{serves-stop, serves-spent, serves-turn}
+use Rattle.nbd_session.proofs.RequestLemmas.{refused-answered, refused-exchanges, exchanges_of-none}
+use Rattle.nbd_session.proofs.RequestLemmas.{exchanges_of-one}
 use Rattle.nbd_session.proofs.session.serve_request.Goals as goal
 
 pub returns-in-Stop-clause-served : goal.returns-in-Stop-clause-served
@@ -14,7 +17,8 @@ returns-in-Stop-clause-served g c =
       [],
       next.1,
       (λ e. absurd (cc)),
-      subst (λ (done : List Exchange). g.P.Port.did c.args.port.now c.args.port.now done) (sym exchanges_of-none) (g.met.P.Port.did_none c.args.port.now),
+      subst (λ (done : List Exchange). g.P.Port.did c.args.port.now c.args.port.now done)
+          (sym exchanges_of-none) (g.met.P.Port.did_none c.args.port.now),
       λ n fewer. serves-stop _ _ _ _ c.in-Stop.ending next.0 next.1 n next.2 fewer,
     )
 
@@ -22,15 +26,24 @@ pub returns-in-Refuse-clause-served : goal.returns-in-Refuse-clause-served
 returns-in-Refuse-clause-served g c =
     let next = c.in-Refuse.ensures in
     let is = next.2.by_case in
-    let turn : Turn = record { cookie = c.in-Refuse.cookie; asked = is.0; reply = Errno c.in-Refuse.number; tried = 0; submitted = false } in
-    let served = serves-turn _ _ _ _ _ _ turn next.0 c.answer.result next.2.takes is.3 is.1 (refused-answered is.0 c.in-Refuse.number is.2) c.answer.ensures.replies in (
+    let turn : Turn = record {
+      cookie = c.in-Refuse.cookie;
+      asked = is.0;
+      reply =
+          Errno c.in-Refuse.number;
+      tried = 0;
+      submitted = false;
+    } in
+    let served = serves-turn _ _ _ _ _ _ turn next.0 c.answer.result next.2.takes is.3 is.1
+    (refused-answered is.0 c.in-Refuse.number is.2) c.answer.ensures.replies in (
       turn ∷ [],
       next.0,
       served.0,
       served.1,
       false,
       (λ e. refl),
-      subst (λ (done : List Exchange). g.P.Port.did c.args.port.now c.args.port.now done) (sym (exchanges_of-one turn ∙ refused-exchanges is.0 c.in-Refuse.number))
+      subst (λ (done : List Exchange). g.P.Port.did c.args.port.now c.args.port.now done)
+          (sym (exchanges_of-one turn ∙ refused-exchanges is.0 c.in-Refuse.number))
           (g.met.P.Port.did_none c.args.port.now),
       served.2,
     )
@@ -39,15 +52,24 @@ pub returns-in-Ok-Replied-clause-served : goal.returns-in-Ok-Replied-clause-serv
 returns-in-Ok-Replied-clause-served g c =
     let next = c.in-Ask.ensures in
     let did = c.in-Ok-Replied.ensures.ok in
-    let turn : Turn = record { cookie = c.in-Ask.cookie; asked = Some c.in-Ask.op; reply = c.in-Ok-Replied.reply; tried = did.0; submitted = true } in
-    let served = serves-turn _ _ _ _ _ _ turn next.0 c.answer-ending.result next.2.takes next.2.by_case.1 next.2.by_case.0 tt c.answer-ending.ensures.replies in (
+    let turn : Turn = record {
+      cookie = c.in-Ask.cookie;
+      asked = Some c.in-Ask.op;
+      reply =
+          c.in-Ok-Replied.reply;
+      tried = did.0;
+      submitted = true;
+    } in
+    let served = serves-turn _ _ _ _ _ _ turn next.0 c.answer-ending.result next.2.takes
+    next.2.by_case.1 next.2.by_case.0 tt c.answer-ending.ensures.replies in (
       turn ∷ [],
       next.0,
       served.0,
       served.1,
       false,
       (λ e. refl),
-      subst (λ (done : List Exchange). g.P.Port.did c.args.port.now c.submit.new.self done) (sym (exchanges_of-one turn)) (rw c.in-Ok-Replied.field-0-is at did.1),
+      subst (λ (done : List Exchange). g.P.Port.did c.args.port.now c.submit.new.self done)
+          (sym (exchanges_of-one turn)) (rw c.in-Ok-Replied.field-0-is at did.1),
       served.2,
     )
 
@@ -61,21 +83,31 @@ returns-in-Ok-Spent-clause-served g c =
       [],
       false,
       (λ e. absurd (cc)),
-      subst (λ (done : List Exchange). g.P.Port.did c.args.port.now c.submit.new.self done) (sym exchanges_of-none) (rw c.in-Ok-Spent.field-0-is at did.1),
+      subst (λ (done : List Exchange). g.P.Port.did c.args.port.now c.submit.new.self done)
+          (sym exchanges_of-none) (rw c.in-Ok-Spent.field-0-is at did.1),
       λ n fewer. serves-spent _ _ _ _ c.in-Ask.cookie c.in-Ask.op next.0 next.1 n next.2 fewer,
     )
 
 pub returns-in-Err-clause-served : goal.returns-in-Err-clause-served
 returns-in-Err-clause-served g c =
     let next = c.in-Ask.ensures in
-    let turn : Turn = record { cookie = c.in-Ask.cookie; asked = Some c.in-Ask.op; reply = Errno 12; tried = 0; submitted = false } in
-    let served = serves-turn _ _ _ _ _ _ turn next.0 c.answer-in-Err.result next.2.takes next.2.by_case.1 next.2.by_case.0 (refl, refl) c.answer-in-Err.ensures.replies in (
+    let turn : Turn = record {
+      cookie = c.in-Ask.cookie;
+      asked = Some c.in-Ask.op;
+      reply =
+          Errno no_memory;
+      tried = 0;
+      submitted = false;
+    } in
+    let served = serves-turn _ _ _ _ _ _ turn next.0 c.answer-in-Err.result next.2.takes
+    next.2.by_case.1 next.2.by_case.0 (refl, refl) c.answer-in-Err.ensures.replies in (
       turn ∷ [],
       next.0,
       served.0,
       served.1,
       false,
       (λ e. refl),
-      subst (λ (done : List Exchange). g.P.Port.did c.args.port.now c.submit.new.self done) (sym (exchanges_of-one turn)) c.in-Err.ensures.err,
+      subst (λ (done : List Exchange). g.P.Port.did c.args.port.now c.submit.new.self done)
+          (sym (exchanges_of-one turn)) c.in-Err.ensures.err,
       served.2,
     )

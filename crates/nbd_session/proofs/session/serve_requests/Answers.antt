@@ -1,6 +1,8 @@
-use Rattle.std.proofs.Common.{⊎_elim, List, [], ◌++◌, false, refl, sym, subst, None, Some, arith, length, length-append}
+use Rattle.std.proofs.Common.{⊎_elim, List, [], ◌++◌, false, refl, sym, subst, None, Some, arith}
+use Rattle.std.proofs.Common.{length, length-append}
 use Rattle.plain_disk.specs.Plain.{Exchange}
-use Rattle.nbd_session.proofs.RequestLemmas.{serves-none, serves-more, serves-on, serves-too_many, exchanges_of-append, exchanges_of-none}
+use Rattle.nbd_session.proofs.RequestLemmas.{serves-none, serves-more, serves-on, serves-too_many}
+use Rattle.nbd_session.proofs.RequestLemmas.{exchanges_of-append, exchanges_of-none}
 use Rattle.nbd_session.proofs.session.serve_requests.Goals as goal
 
 pub loop-number-init : goal.loop-number-init
@@ -11,7 +13,8 @@ loop-number-init g c = record {
     [],
     [],
     refl,
-    subst (λ (done : List Exchange). g.P.Port.did c.args.port.now c.args.port.now done) (sym exchanges_of-none) (g.met.P.Port.did_none c.args.port.now),
+    subst (λ (done : List Exchange). g.P.Port.did c.args.port.now c.args.port.now done)
+        (sym exchanges_of-none) (g.met.P.Port.did_none c.args.port.now),
     serves-none _,
   );
 }
@@ -25,9 +28,12 @@ returns-in-Some-clause-served g c =
       old.2 ++ new.2,
       new.3,
       new.4,
-      subst (λ (done : List Exchange). g.P.Port.did c.args.port.now c.serve_request.new.port done) (sym (exchanges_of-append old.0 new.0))
-          (g.met.P.Port.did_more c.args.port.now c.loop-number.port c.serve_request.new.port _ _ old.4 new.6),
-      serves-more _ _ _ (Some c.in-Some.ending) (length old.0) old.0 new.0 old.1 new.1 old.2 new.2 new.3 new.4 old.5 refl (new.7 (length old.0) (omega (arith, old.3))),
+      subst (λ (done : List Exchange). g.P.Port.did c.args.port.now c.serve_request.new.port done)
+          (sym (exchanges_of-append old.0 new.0))
+          (g.met.P.Port.did_more c.args.port.now c.loop-number.port c.serve_request.new.port _ _
+          old.4 new.6),
+      serves-more _ _ _ (Some c.in-Some.ending) (length old.0) old.0 new.0 old.1 new.1 old.2 new.2
+          new.3 new.4 old.5 refl (new.7 (length old.0) (omega (arith, old.3))),
     )
 
 pub loop-number-preserved : goal.loop-number-preserved
@@ -41,14 +47,25 @@ loop-number-preserved g c =
         old.1 ++ new.1,
         old.2 ++ new.2,
         omega (arith, length-append old.0 new.0, old.3, new.5 refl),
-        subst (λ (done : List Exchange). g.P.Port.did c.args.port.now c.serve_request.new.port done) (sym (exchanges_of-append old.0 new.0))
-            (g.met.P.Port.did_more c.args.port.now c.loop-number.port c.serve_request.new.port _ _ old.4 new.6),
-        serves-more _ _ _ None (length old.0) old.0 new.0 old.1 new.1 old.2 new.2 [] false old.5 refl
-            (serves-on _ _ (length old.0) new.0 new.1 new.2 new.3 new.4 (new.7 (length old.0) (omega (arith, old.3)))),
+        subst (λ (done : List Exchange). g.P.Port.did c.args.port.now c.serve_request.new.port done)
+            (sym (exchanges_of-append old.0 new.0))
+            (g.met.P.Port.did_more c.args.port.now c.loop-number.port c.serve_request.new.port _ _
+            old.4 new.6),
+        serves-more _ _ _ None (length old.0) old.0 new.0 old.1 new.1 old.2 new.2 [] false old.5
+            refl
+            (serves-on _ _ (length old.0) new.0 new.1 new.2 new.3 new.4
+            (new.7 (length old.0) (omega (arith, old.3)))),
       );
     }
 
 pub returns-clause-served : goal.returns-clause-served
 returns-clause-served g c =
-    let all = c.loop-number.invariant.served in
-    (all.0, all.1, all.2, [], false, all.4, serves-too_many _ _ all.0 all.1 all.2 all.5 (omega (arith, all.3)))
+    let all = c.loop-number.invariant.served in (
+      all.0,
+      all.1,
+      all.2,
+      [],
+      false,
+      all.4,
+      serves-too_many _ _ all.0 all.1 all.2 all.5 (omega (arith, all.3)),
+    )

@@ -17,17 +17,21 @@ returns-clause-session g c = rw c.end_of.ensures.is (elim c.match-negotiate.bran
       rw (w.source-is, w.sink-is, w.port-is, w.tally-is, w.ending-is) (
         served-log n.0 s.0 s.1 s.2 s.3 s.4,
         s.5,
-        session-served c.args.export.now _ _ _ w.serve_requests-ending.result n.0 s.0 s.1 s.2 s.3 s.4 refl refl
-            (rw w.tally-is at c.end_of.ensures.taken_fits) (rw w.tally-is at c.end_of.ensures.put_fits) n.1 s.6,
+        session-served c.args.export.now _ _ _ w.serve_requests-ending.result n.0 s.0 s.1 s.2 s.3
+            s.4 refl refl
+            (rw w.tally-is at c.end_of.ensures.taken_fits)
+            (rw w.tally-is at c.end_of.ensures.put_fits) n.1 s.6,
       )
   | in-Err w ↦
       let n = w.in-Err.ensures.negotiates in
       rw (w.source-is, w.sink-is, w.port-is, w.tally-is, w.ending-is) (
         n.0,
-        subst (λ (done : List Exchange). g.P.Port.did c.args.port.now c.args.port.now done) (sym (ap exchanges_of n.1.none_asked ∙ exchanges_of-none))
+        subst (λ (done : List Exchange). g.P.Port.did c.args.port.now c.args.port.now done)
+            (sym (ap exchanges_of n.1.none_asked ∙ exchanges_of-none))
             (g.met.P.Port.did_none c.args.port.now),
         session-early c.args.export.now _ _ w.in-Err.ending n.0 refl refl
-            (rw w.tally-is at c.end_of.ensures.taken_fits) (rw w.tally-is at c.end_of.ensures.put_fits) n.1,
+            (rw w.tally-is at c.end_of.ensures.taken_fits)
+            (rw w.tally-is at c.end_of.ensures.put_fits) n.1,
       )
 ])
 
@@ -36,11 +40,14 @@ returns-clause-spent g c = rw c.end_of.ensures.is (elim c.match-negotiate.branch
   | in-Ok w ↦ rw (w.port-is, w.ending-is) w.serve_requests-ending.ensures.spent
   | in-Err w ↦
       let n = w.in-Err.ensures.negotiates in
-      rw (w.port-is, w.ending-is) (λ is. absurd (unserved-unspent n.0.stage n.0 (subst (λ (e : Ending). IsUnserved n.0.stage n.0 e) is n.1.by_case)))
+      rw (w.port-is, w.ending-is)
+      (λ is. absurd (unserved-unspent n.0.stage n.0
+      (subst (λ (e : Ending). IsUnserved n.0.stage n.0 e) is n.1.by_case)))
 ])
 
 pub returns-clause-out : goal.returns-clause-out
 returns-clause-out g c = rw c.end_of.ensures.is (elim c.match-negotiate.branch [
   | in-Ok w ↦ rw (w.sink-is, w.ending-is) w.serve_requests-ending.ensures.out
-  | in-Err w ↦ rw (w.sink-is, w.ending-is) (⊎_elim (λ is. inl (cc)) (λ out. inr out) w.in-Err.ensures.out)
+  | in-Err w ↦ rw (w.sink-is, w.ending-is)
+      (⊎_elim (λ is. inl (cc)) (λ out. inr out) w.in-Err.ensures.out)
 ])

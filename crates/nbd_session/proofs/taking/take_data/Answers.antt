@@ -5,7 +5,11 @@ use Rattle.nbd_session.proofs.taking.take_data.Goals as goal
 pub returns-then-length-eq0 : goal.returns-then-length-eq0
 returns-then-length-eq0 g c = (
   [],
-  record { takes = takes_none _; by_case = (c.new-then-length-eq0.ensures ∙ c.new.ensures.items, omega arith, refl) },
+  record {
+    takes = takes_none _;
+    by_case =
+        (c.new-then-length-eq0.ensures ∙ c.new.ensures.items, omega arith, refl);
+  },
 )
 
 pub returns-then-is_err : goal.returns-then-is_err

@@ -1,6 +1,7 @@
-use Rattle.std.proofs.Common.{ap, refl, ◌∙◌, inl, inr, Err, arith}
+use Rattle.std.proofs.Common.{ap, ◌∙◌, inl, inr, None, []}
+use Rattle.reenc_tool.specs.Promise.{unserved}
 use Rattle.reenc_tool.specs.Words.{Serve}
-use Rattle.reenc_tool.proofs.RunLemmas.{ended_earlier, leaves_all, leaves_rest, no_disk, unserved_of}
+use Rattle.reenc_tool.proofs.RunLemmas.{leaves_all, leaves_rest, unserved_of}
 use Rattle.reenc_tool.proofs.commands.execute.Goals as goal
 
 pub returns-in-Ok-clause-came : goal.returns-in-Ok-clause-came
@@ -15,19 +16,22 @@ returns-in-Ok-clause-came g c =
     inr (
       serve,
       c.in-Some.ensures,
-      leaves_rest serve (g.B.Bay.holdings c.args.bay.now) (g.B.Bay.holdings c.disk.new.self) (g.B.Bay.holdings c.serve_plain.new.bay) left
-          c.serve_plain.ensures.leaves,
+      leaves_rest serve (g.B.Bay.holdings c.args.bay.now) (g.B.Bay.holdings c.disk.new.self)
+          (g.B.Bay.holdings c.serve_plain.new.bay) left c.serve_plain.ensures.leaves,
       inl (record {
         disk = c.in-Ok.disk;
+        between = c.disk.new.self;
+        asked = c.in-Ok.ensures.asked;
         kept = c.in-Ok.ensures.told;
         atom_is = c.in-Ok.ensures.atom;
-        ended = ended_earlier _ _ serve.address serve.sessions c.in-Ok.disk (g.B.Bay.holdings c.args.bay.now) (g.B.Bay.holdings c.disk.new.self)
-            (g.B.Bay.holdings c.serve_plain.new.bay) _ left.clients (c.in-Ok.ensures.cause.held refl) c.serve_plain.ensures.ended;
+        stood = c.in-Ok.ensures.cause;
+        leaves = left;
+        ended = c.serve_plain.ensures.ended;
       }),
     )
 
-pub returns-in-Err-Failed-clause-came : goal.returns-in-Err-Failed-clause-came
-returns-in-Err-Failed-clause-came g c =
+pub returns-in-Err-clause-came : goal.returns-in-Err-clause-came
+returns-in-Err-clause-came g c =
     let serve : Serve = record {
       disk = c.in-Some.command.disk.now;
       atom = c.in-Some.command.atom;
@@ -37,34 +41,21 @@ returns-in-Err-Failed-clause-came g c =
     inr (
       serve,
       c.in-Some.ensures,
-      leaves_all serve (g.B.Bay.holdings c.args.bay.now) (g.B.Bay.holdings c.disk.new.self) c.in-Err-Failed.ensures.leaves,
-      inr (no_disk (g.B.Bay.holdings c.args.bay.now) (g.B.Bay.holdings c.disk.new.self) _ _
-          (c.unserved-in-Err-Failed.ensures.outcome ∙ ap (unserved_of _ _) c.new-in-Err-Failed.ensures.items) c.in-Err-Failed.ensures.leaves
-          (omega arith, c.in-Err-Failed.ensures.cause.failed (ap Err c.in-Err-Failed.field-0-is))),
-    )
-
-pub returns-in-Err-Memory-clause-came : goal.returns-in-Err-Memory-clause-came
-returns-in-Err-Memory-clause-came g c =
-    let serve : Serve = record {
-      disk = c.in-Some.command.disk.now;
-      atom = c.in-Some.command.atom;
-      address = c.in-Some.command.address.now;
-      sessions = c.in-Some.command.sessions;
-    } in
-    inr (
-      serve,
-      c.in-Some.ensures,
-      leaves_all serve (g.B.Bay.holdings c.args.bay.now) (g.B.Bay.holdings c.disk.new.self) c.in-Err-Memory.ensures.leaves,
-      inr (no_disk (g.B.Bay.holdings c.args.bay.now) (g.B.Bay.holdings c.disk.new.self) _ _
-          (c.unserved-in-Err-Memory.ensures.outcome ∙ ap (unserved_of _ _) c.new-in-Err-Memory.ensures.items) c.in-Err-Memory.ensures.leaves
-          c.in-Err-Memory.ensures.cause.later),
+      leaves_all serve (g.B.Bay.holdings c.args.bay.now) (g.B.Bay.holdings c.disk.new.self)
+          c.in-Err.ensures.leaves,
+      inr (record {
+        fault = c.in-Err.fault;
+        asked = c.in-Err.ensures.asked;
+        leaves = c.in-Err.ensures.leaves;
+        count = c.in-Err.ensures.cause;
+        outcome_is = c.unserved-in-Err.ensures.outcome
+            ∙ ap (unserved_of _ _) c.new-in-Err.ensures.items
+            ∙ ap (λ cause. unserved cause None []) c.cause_by-cause.ensures;
+      }),
     )
 
 pub returns-in-Ok-clause-unasked : goal.returns-in-Ok-clause-unasked
 returns-in-Ok-clause-unasked g c = λ not_serve. absurd (not_serve _ c.in-Some.ensures)
 
-pub returns-in-Err-Failed-clause-unasked : goal.returns-in-Err-Failed-clause-unasked
-returns-in-Err-Failed-clause-unasked g c = λ not_serve. absurd (not_serve _ c.in-Some.ensures)
-
-pub returns-in-Err-Memory-clause-unasked : goal.returns-in-Err-Memory-clause-unasked
-returns-in-Err-Memory-clause-unasked g c = λ not_serve. absurd (not_serve _ c.in-Some.ensures)
+pub returns-in-Err-clause-unasked : goal.returns-in-Err-clause-unasked
+returns-in-Err-clause-unasked g c = λ not_serve. absurd (not_serve _ c.in-Some.ensures)

@@ -15,12 +15,22 @@ returns-clause-run g c =
     let is = c.ending_by.ensures in
     let sessions = ap (λ lists. lists.items) is.sessions in (
       ended.cause,
-      subst (λ (cause : Cause). EndsAs ended.cause before.faults after.faults cause) (sym is.cause) c.print-cause.ensures.cause,
-      subst (λ (o : Outcome _ _). Came g.B.Disk.Disk.device g.B.Link.Link.state (map string_bytes c.args.words.now) (g.B.Bay.holdings c.args.bay.now)
-          (g.B.Bay.holdings c.execute-ended.new.bay) o)
-          (same_outcome ended.cause _ _ _ _ _ _ (sym is.disk) (ap (λ links. links.items) (sym is.links)) (ap (λ ends. map (λ list. list.items) ends.items) (sym is.sessions))) c.execute-ended.ensures.came,
+      subst (λ (cause : Cause). EndsAs ended.cause before.faults after.faults cause) (sym is.cause)
+          c.print-cause.ensures.cause,
+      subst (λ (o : Outcome _ _). Came g.B.Disk.Disk.device g.B.Link.Link.state g.B.Bay.holdings
+          g.B.Bay.asks_disk g.B.Bay.asks_links (map string_bytes c.args.words.now) c.args.bay.now
+          c.execute-ended.new.bay o)
+          (same_outcome ended.cause _ _ _ _ _ _ _ _ (sym is.memory) (sym is.disk)
+          (ap (λ links. links.items) (sym is.links))
+          (ap (λ ends. map (λ list. list.items) ends.items) (sym is.sessions)))
+          c.execute-ended.ensures.came,
       subst (λ (cause : Cause). Prints before after
-          (line_of ended.cause cause (sessions_in (λ list. vec_len list) c.ending_by.result.sessions.items))) (sym is.cause)
-          (subst (λ (count : ℕ). Prints before after (line_of ended.cause c.print-cause.result count))
-          (c.count_sessions.ensures ∙ ap (sessions_in (λ list. vec_len list)) (c.as_slice.ensures.value ∙ sym sessions)) c.print-cause.ensures.line),
+          (line_of ended.cause cause
+          (sessions_in (λ list. vec_len list) c.ending_by.result.sessions.items)))
+          (sym is.cause)
+          (subst (λ (count : ℕ).
+          Prints before after (line_of ended.cause c.print-cause.result count))
+          (c.count_sessions.ensures
+          ∙ ap (sessions_in (λ list. vec_len list)) (c.as_slice.ensures.value ∙ sym sessions))
+          c.print-cause.ensures.line),
     )

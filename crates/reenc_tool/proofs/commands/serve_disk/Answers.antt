@@ -17,13 +17,15 @@ returns-clause-ended g c =
     let atom_is = made.map.atom in
     inl (ran_of g.D.Disk.device g.L.Link.state c.args.disk c.into_disk.result c.args.links.items
     (some_element c.args.links.items 0 (omega (arith, c.requires.count))) _ start _ final did.run
-    c.serve_links-trouble.result.failed c.serve_links-trouble.result.memory s.0 _ _
+    c.serve_links-trouble.result.failed s.0 _ _
     (record {
       served = c.every_run_is_served.ensures start _;
-      answers = λ final operations did. c.executions_join.ensures.untagged _ start final _ operations did;
+      answers = λ final operations did.
+          c.executions_join.ensures.untagged _ start final _ operations did;
       events = c.failures_go_by_events.ensures.along start;
       errors = c.device_errors_are_exact.ensures start _;
-      stops = λ blocks bytes exchanges. c.runs_stop_anywhere.ensures start _ blocks bytes did.run exchanges;
+      stops = λ blocks bytes exchanges.
+          c.runs_stop_anywhere.ensures start _ blocks bytes did.run exchanges;
       tables = λ now. c.tables_are_of_events.ensures start did.run now;
       faultless = c.runs_fail_by_faults.ensures.served start _ did.run;
       breaks = c.runs_fail_by_faults.ensures.broken start did.run;
@@ -36,7 +38,8 @@ returns-clause-ended g c =
       size = atom_is;
       disk = made.disk;
       whole = subst (λ (d : Device). IsWholeDisk start.map.atom d.atoms start.map) (sym made.disk)
-          (subst (λ (a : ℕ). IsWholeDisk a (g.D.Disk.device c.args.disk).atoms start.map) (sym atom_is) made.map);
+          (subst (λ (a : ℕ). IsWholeDisk a (g.D.Disk.device c.args.disk).atoms start.map)
+          (sym atom_is) made.map);
       apart = made.apart;
       nothing = made.keys;
     })
@@ -49,7 +52,12 @@ returns-clause-ended g c =
       even = λ told is. g.met.D.Disk.even c.args.disk told is;
     })
     did.executes c.serve_links-trouble.new.port.idle
-    (ap (λ p. p.blocks * c.from.result) c.progress-blocks.ensures ∙ ap (λ a. start.map.blocks * a) (c.from.ensures ∙ ap (λ p. p.atom) c.progress-blocks.ensures))
+    (ap (λ p. p.blocks * c.from.result) c.progress-blocks.ensures
+    ∙ ap (λ a. start.map.blocks * a)
+    (c.from.ensures ∙ ap (λ p. p.atom) c.progress-blocks.ensures))
     (ap (λ p. p.atom) c.progress-blocks.ensures)
-    (λ spent. spent.1) s.2 s.3 s.4 refl c.into_disk.ensures.disk (c.into_disk.ensures.size ∙ ap (λ m. m.atom) did.map_is ∙ atom_is)
-    (c.cause-cause.ensures ∙ ap (λ p. cause_of p.broken c.serve_links-trouble.result.failed c.serve_links-trouble.result.memory) c.progress.ensures))
+    (λ spent. spent.1) s.2 s.3 s.4 refl c.into_disk.ensures.disk
+    (c.into_disk.ensures.size ∙ ap (λ m. m.atom) did.map_is ∙ atom_is)
+    (c.cause-cause.ensures
+    ∙ ap (λ p. cause_of p.broken c.serve_links-trouble.result.failed
+    c.serve_links-trouble.result.memory) c.progress.ensures))

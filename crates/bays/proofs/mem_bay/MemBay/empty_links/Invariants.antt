@@ -7,5 +7,7 @@ abbrev pub invariant-loop-worker : goal.invariant-loop-worker
 invariant-loop-worker l = record {
   room : vec_capacity l.links ≡ l.workers;
   count : length l.links.items ≡ l.worker;
-  empty : (k : ℕ) (d : Line) → k < l.worker → slice_index_or l.links.items k d ≡ new_line [] (length l.self.connections) (fails_of l.self.link_fails k);
+  empty : (k : ℕ) (d : Line) → k < l.worker →
+      slice_index_or l.links.items k d ≡ new_line [] (length l.self.connections)
+      (fails_of l.self.link_fails k);
 }

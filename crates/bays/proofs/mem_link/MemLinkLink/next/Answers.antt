@@ -14,4 +14,5 @@ returns-clause-told c =
       room = c.self.inside.room;
       plan = c.is_failing.new.self;
     } in
-    tells_first _ c.pop_front.new.self.items c.args.self.now left first refl (ap (λ l. l.handed) c.self.view_is)
+    tells_first _ c.pop_front.new.self.items c.args.self.now left first refl
+    (ap (λ l. l.handed) c.self.view_is)

@@ -1,6 +1,7 @@
 use Rattle.std.proofs.Common.{arith}
 use Rattle.std.proofs.lemmas.Grind.{common_steps}
-use Rattle.io_edge.proofs.WriteLemmas.{more_within, none_written, more_written, through_all, through_refused, through_tired}
+use Rattle.io_edge.proofs.WriteLemmas.{more_within, none_written, more_written, through_all}
+use Rattle.io_edge.proofs.WriteLemmas.{through_refused, through_tired}
 use Rattle.io_edge.proofs.gathering.GatheringWriter.write_through.Goals as goal
 
 pub loop-init : goal.loop-init

@@ -1,6 +1,8 @@
-use Rattle.std.proofs.Common.{◌≡◌, ◌∙◌, arith}
+use Rattle.std.proofs.Common.{◌≡◌, ◌∙◌, Ok, sym, subst, arith}
 use Rattle.std.proofs.lemmas.Grind.{common_steps}
-use Rattle.reencd.proofs.ShareLemmas.{shared_more}
+use Rattle.reencd.specs.Doors.{SharesDoor}
+use Rattle.reencd.specs.Shares.{share_of}
+use Rattle.reencd.proofs.ShareLemmas.{all_more}
 use Rattle.reencd.proofs.host_bay.HostBay.share_door.Goals as goal
 
 pub loop-k-preserved : goal.loop-k-preserved
@@ -8,7 +10,14 @@ loop-k-preserved g c = record {
   count = grind (arith, common_steps);
   shared = λ j link below.
       rw c.in_ok-push.ensures.items
-      (shared_more (λ link. link.left) c.args.workers c.args.sessions c.loop-k.k
+      (all_more (λ k link. link.left ≡ share_of c.args.workers c.args.sessions k) c.loop-k.k
       c.loop-k.links.items c.new.result c.loop-k.invariant.count c.loop-k.invariant.shared
       (c.new.ensures.bound ∙ c.share_for-share.ensures) j link below);
+  doors = λ j link below.
+      rw c.in_ok-push.ensures.items
+      (all_more (λ _ link. SharesDoor g.R.Listener.Listener.shares c.args.door.now (Ok link.door))
+      c.loop-k.k c.loop-k.links.items c.new.result c.loop-k.invariant.count
+      c.loop-k.invariant.doors
+      (subst (λ door. SharesDoor g.R.Listener.Listener.shares c.args.door.now (Ok door))
+      (sym c.new.ensures.door) c.in-Ok.ensures) j link below);
 }

@@ -1,4 +1,5 @@
-use Rattle.std.proofs.Common.{◌≡◌, ◌<◌, ℕ, length, slice_index_or}
+use Rattle.std.proofs.Common.{◌≡◌, ◌<◌, ℕ, Ok, length, slice_index_or}
+use Rattle.reencd.specs.Doors.{SharesDoor}
 use Rattle.reencd.specs.Shares.{share_of}
 use Rattle.reencd.proofs.host_bay.HostBay.share_door.Given as goal
 
@@ -7,4 +8,6 @@ invariant-loop-k g l = record {
   count : length l.links.items ≡ l.k;
   shared : (j : ℕ) (link : _) → j < l.k →
       (slice_index_or l.links.items j link).left ≡ share_of l.workers l.sessions j;
+  doors : (j : ℕ) (link : _) → j < l.k →
+      SharesDoor g.R.Listener.Listener.shares l.door (Ok (slice_index_or l.links.items j link).door);
 }

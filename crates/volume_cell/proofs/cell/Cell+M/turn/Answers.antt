@@ -1,5 +1,5 @@
 use Rattle.std.proofs.Common.{◌-◌, ◌^◌, ◌<◌, arith, ◌∙◌, subst}
-use Rattle.volume_cell.proofs.Asked.{can-act, may-give, asked-pass, asked-same, asked-answer, asked-own}
+use Rattle.volume_cell.proofs.Asked.{can-act, may-give, asked-pass, asked-same, asked-answer, asked-own, asked-calls}
 use Rattle.volume_cell.proofs.cell.Cell+M.turn.Goals as goal
 
 pub act-outcome-requires-clause-can : goal.act-outcome-requires-clause-can
@@ -13,13 +13,16 @@ fetch_add-requires g c = let t = c.if-not-take.ensures in let a = c.act-outcome.
 )
 
 pub returns-clause-pass : goal.returns-clause-pass
-returns-clause-pass g c = asked-pass g.M.Machine.start g.M.Machine.stands_for _ c.args.self.now.table.shared.table_id.slots c.fetch_add.result c.args.pass.now c.take.new.pass c.act-outcome.new.pass c.fetch_add.new.seat c.args.event c.act-outcome.result c.if-not-take.ensures c.act-outcome.ensures c.fetch_add.ensures.2 c.fetch_add.ensures.0 _ c.requires.pass
+returns-clause-pass g c = asked-pass g.M.Machine.start g.M.Machine.stands_for _ c.args.self.now.table.shared.table_id.slots c.fetch_add.result c.args.pass.now c.take.new.pass c.act-outcome.new.pass c.wake.new.pass c.args.event c.act-outcome.result c.if-not-take.ensures c.act-outcome.ensures (λ h n i k. c.wake.ensures.is ∙ c.fetch_add.ensures.2 h n i k) (c.wake.ensures.table ∙ c.fetch_add.ensures.0) _ c.requires.pass
 
 pub returns-clause-same : goal.returns-clause-same
-returns-clause-same g c = asked-same g.M.Machine.start g.M.Machine.stands_for _ c.args.self.now.table.shared.table_id.slots c.fetch_add.result c.args.pass.now c.take.new.pass c.act-outcome.new.pass c.fetch_add.new.seat c.args.event c.act-outcome.result c.if-not-take.ensures c.act-outcome.ensures c.fetch_add.ensures.2 c.fetch_add.ensures.0
+returns-clause-same g c = asked-same g.M.Machine.start g.M.Machine.stands_for _ c.args.self.now.table.shared.table_id.slots c.fetch_add.result c.args.pass.now c.take.new.pass c.act-outcome.new.pass c.wake.new.pass c.args.event c.act-outcome.result c.if-not-take.ensures c.act-outcome.ensures (λ h n i k. c.wake.ensures.is ∙ c.fetch_add.ensures.2 h n i k) (c.wake.ensures.table ∙ c.fetch_add.ensures.0)
 
 pub returns-clause-answer : goal.returns-clause-answer
-returns-clause-answer g c = asked-answer g.M.Machine.start g.M.Machine.stands_for _ c.args.self.now.table.shared.table_id.slots c.fetch_add.result c.args.pass.now c.take.new.pass c.act-outcome.new.pass c.fetch_add.new.seat c.args.event c.act-outcome.result c.if-not-take.ensures c.act-outcome.ensures c.fetch_add.ensures.2 c.fetch_add.ensures.0
+returns-clause-answer g c = asked-answer g.M.Machine.start g.M.Machine.stands_for _ c.args.self.now.table.shared.table_id.slots c.fetch_add.result c.args.pass.now c.take.new.pass c.act-outcome.new.pass c.wake.new.pass c.args.event c.act-outcome.result c.if-not-take.ensures c.act-outcome.ensures (λ h n i k. c.wake.ensures.is ∙ c.fetch_add.ensures.2 h n i k) (c.wake.ensures.table ∙ c.fetch_add.ensures.0)
 
 pub returns-clause-own : goal.returns-clause-own
-returns-clause-own g c = asked-own g.M.Machine.start g.M.Machine.stands_for _ c.args.self.now.table.shared.table_id.slots c.fetch_add.result c.args.pass.now c.take.new.pass c.act-outcome.new.pass c.fetch_add.new.seat c.args.event c.act-outcome.result c.if-not-take.ensures c.act-outcome.ensures c.fetch_add.ensures.2 c.fetch_add.ensures.0
+returns-clause-own g c = asked-own g.M.Machine.start g.M.Machine.stands_for _ c.args.self.now.table.shared.table_id.slots c.fetch_add.result c.args.pass.now c.take.new.pass c.act-outcome.new.pass c.wake.new.pass c.args.event c.act-outcome.result c.if-not-take.ensures c.act-outcome.ensures (λ h n i k. c.wake.ensures.is ∙ c.fetch_add.ensures.2 h n i k) (c.wake.ensures.table ∙ c.fetch_add.ensures.0)
+
+pub returns-clause-calls : goal.returns-clause-calls
+returns-clause-calls g c = asked-calls g.M.Machine.start g.M.Machine.stands_for _ c.args.self.now.table.shared.table_id.slots c.fetch_add.result c.args.pass.now c.take.new.pass c.act-outcome.new.pass c.wake.new.pass c.args.event c.act-outcome.result c.if-not-take.ensures c.act-outcome.ensures (λ h n i k. c.wake.ensures.is ∙ c.fetch_add.ensures.2 h n i k) (c.wake.ensures.table ∙ c.fetch_add.ensures.0)

@@ -1,0 +1,4 @@
+pub mod Areas
+pub mod Headers
+pub mod Commits
+pub mod Promises

@@ -1,0 +1,34 @@
+use Rattle.std.proofs.Common.{ap, ◌∙◌, arith, inl, inr, Some, []}
+use Rattle.reenc_tool.specs.Promise.{unserved}
+use Rattle.reenc_tool.proofs.RunLemmas.{links_few, unserved_of}
+use Rattle.reenc_tool.proofs.commands.serve_plain.Goals as goal
+
+pub serve_disk-requires-clause-bound : goal.serve_disk-requires-clause-bound
+serve_disk-requires-clause-bound g c =
+    links_few g.B.Link.Link.state c.args.command.now.sessions c.in-Ok.links.items
+    c.in-Ok.ensures.bound c.in-Ok.ensures.count c.requires
+
+pub returns-in-Ok-clause-ended : goal.returns-in-Ok-clause-ended
+returns-in-Ok-clause-ended g c = inr (inr (record {
+  blocks = omega (arith, c.atoms.ensures.is);
+  begun = c.in-Ok.links.items;
+  asked = c.in-Ok.ensures.asked;
+  stood = c.in-Ok.ensures.cause;
+  given = record {
+    workers = c.in-Ok.ensures.count;
+    fresh = c.in-Ok.ensures.fresh;
+    few = c.in-Ok.ensures.bound;
+  };
+  ended = c.serve_disk.ensures.ended;
+}))
+
+pub returns-in-Err-clause-ended : goal.returns-in-Err-clause-ended
+returns-in-Err-clause-ended g c = inr (inl (record {
+  blocks = omega (arith, c.atoms.ensures.is);
+  fault = c.in-Err.fault;
+  asked = c.in-Err.ensures.asked;
+  count = c.in-Err.ensures.cause;
+  outcome_is = c.unserved-in-Err.ensures.outcome
+      ∙ ap (unserved_of _ _) c.new-in-Err.ensures.items
+      ∙ ap (λ cause. unserved cause (Some c.args.disk) []) c.cause_by-cause.ensures;
+}))

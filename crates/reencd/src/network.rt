@@ -1,0 +1,87 @@
+ghost use Rattle.std.specs.Prelude.{ℕ, List, Result};
+ghost use Rattle.std.specs.declared.io.Error.{Error};
+ghost use Rattle.reencd.specs.declared.streams.HostReader.{HostReader};
+ghost use Rattle.reencd.specs.declared.streams.HostWriter.{HostWriter};
+
+use crate::streams::{HostReader, HostWriter};
+use std::io::{self, ErrorKind};
+use std::net::{OpenListener, SocketAddr, TcpListener};
+
+/// Where clients come in. What its calls do is a matter of the system.
+pub trait Listener: Drop {
+    /// What waiting for the next client gives.
+    ghost meets: { Self → Result (HostReader × HostWriter) Error → Type 0 };
+
+    /// What taking another handle of it gives.
+    ghost shares: { Self → Result Self Error → Type 0 };
+
+    /// The two ends of the next client's connection, of which nothing was read or written.
+    fn meet(&self) -> io::Result<(HostReader, HostWriter)>
+        ensures { meets self.now result };
+
+    /// Another handle of it, at which the same clients come in.
+    fn share(&self) -> io::Result<Self>
+        ensures { shares self.now result };
+
+    /// Where it listens.
+    fn address(&self) -> io::Result<SocketAddr>;
+}
+
+/// Where addresses are listened at. What listening does is a matter of the system.
+pub trait Network {
+    type Listener: Listener;
+
+    /// What listening at an address gives.
+    ghost listens: { Self → List ℕ → Result Self.Listener Error → Type 0 };
+
+    /// Listens at the address, `HOST:PORT`.
+    fn listen(&self, address: &str) -> io::Result<Self::Listener>
+        ensures { listens self.now address.now result };
+}
+
+impl Listener for TcpListener {
+    ghost meets = { λ _ _. Unit {0} };
+
+    ghost shares = { λ _ _. Unit {0} };
+
+    fn meet(&self) -> io::Result<(HostReader, HostWriter)> {
+        let stream = accept(self)?;
+        let _ = stream.set_nodelay(true);
+        let reader = HostReader::Socket(stream.try_clone()?);
+        Ok((reader, HostWriter::Socket(stream)))
+    }
+
+    fn share(&self) -> io::Result<TcpListener> {
+        self.try_clone()
+    }
+
+    fn address(&self) -> io::Result<SocketAddr> {
+        self.local_addr()
+    }
+}
+
+/// The next client of the listener. One that went away before it was met is passed over.
+pub fn accept<L: OpenListener>(listener: &L) -> io::Result<L::Stream> {
+    for _ in 0..u64::MAX {
+        match listener.accept() {
+            Ok((stream, _)) => return Ok(stream),
+            Err(error) => {
+                if error.kind() != ErrorKind::ConnectionAborted {
+                    return Err(error);
+                }
+            }
+        }
+    }
+    Err(io::Error::from(ErrorKind::ConnectionAborted))
+}
+
+/// The network of the machine.
+impl Network for HostRuntime {
+    type Listener = TcpListener;
+
+    ghost listens = { λ _ _ _. Unit {0} };
+
+    fn listen(&self, address: &str) -> io::Result<TcpListener> {
+        TcpListener::bind(self, address)
+    }
+}
