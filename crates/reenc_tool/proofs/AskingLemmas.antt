@@ -12,7 +12,7 @@ use Rattle.nbd_session.specs.Putting.{IsOut}
 use Rattle.nbd_session.specs.Session.{Log, IsSession}
 use Rattle.nbd_session.specs.Turns.{exchanges_of}
 use Rattle.reenc_tool.specs.Sessions.{Played, IsPlayed, AreSessions, Goes, Plays, numbered}
-use Rattle.reenc_tool.specs.Sessions.{operations_of}
+use Rattle.reenc_tool.specs.Sessions.{tagged, tagged_of}
 
 pub goes_none : (old new : LinkState) →
     ((story : Story) → old.story ≡ Some story → new.story ≡ Some story) → Goes old new []
@@ -127,10 +127,11 @@ sessions_unspent export never (one ∷ rest) sessions = (
   sessions_unspent export never rest sessions.1,
 )
 
-pub operations_of-none : operations_of [] ≡ []
-unfolding operations_of
-operations_of-none = refl
+pub tagged_of-none : tagged_of [] ≡ []
+unfolding tagged_of
+tagged_of-none = refl
 
-pub operations_of-one : (one : Played) → operations_of (one ∷ []) ≡ exchanges_of one.log.turns
-unfolding operations_of
-operations_of-one one = append-nil (exchanges_of one.log.turns)
+pub tagged_of-one : (one : Played) →
+    tagged_of (one ∷ []) ≡ tagged one.end.number (exchanges_of one.log.turns)
+unfolding tagged_of
+tagged_of-one one = append-nil (tagged one.end.number (exchanges_of one.log.turns))

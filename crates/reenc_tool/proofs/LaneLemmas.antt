@@ -17,7 +17,7 @@ use Rattle.reenc_tool.specs.declared.serving.Standing.{Standing}
 use Rattle.reenc_tool.specs.declared.serving.Standing.TheVariants.{Live, Ended, Failed}
 use Rattle.reenc_tool.specs.Lanes.{IsPassedOver, IsServed, Lane, Lanes, StandsBy, TurnCase, TurnIs}
 use Rattle.reenc_tool.specs.Sessions.{Played, AreNumbered, AreSessions, Goes, IsOneOf, Plays}
-use Rattle.reenc_tool.specs.Sessions.{of_link, operations_of}
+use Rattle.reenc_tool.specs.Sessions.{of_link, tagged, tagged_of}
 
 pub Plays-append : (a b c : Story) (xs ys : List Played) → Plays a b xs → Plays b c ys →
     Plays a c (xs ++ ys)
@@ -41,13 +41,14 @@ AreSessions-append export may_spend [] ys first second = second
 AreSessions-append export may_spend (x ∷ xs) ys first second =
     (first.0, AreSessions-append export may_spend xs ys first.1 second)
 
-pub operations_of-append : (xs ys : List Played) →
-    operations_of (xs ++ ys) ≡ operations_of xs ++ operations_of ys
-unfolding operations_of
-operations_of-append [] ys = refl
-operations_of-append (x ∷ xs) ys =
-    ap (λ t. exchanges_of x.log.turns ++ t) (operations_of-append xs ys)
-    ∙ sym (append_assoc (exchanges_of x.log.turns) (operations_of xs) (operations_of ys))
+pub tagged_of-append : (xs ys : List Played) →
+    tagged_of (xs ++ ys) ≡ tagged_of xs ++ tagged_of ys
+unfolding tagged_of
+tagged_of-append [] ys = refl
+tagged_of-append (x ∷ xs) ys =
+    let own = tagged x.end.number (exchanges_of x.log.turns) in
+    ap (λ t. own ++ t) (tagged_of-append xs ys)
+    ∙ sym (append_assoc own (tagged_of xs) (tagged_of ys))
 
 cons-if : (b : Bool) (x : Played) (xs ys : List Played) →
     (if b then x ∷ (xs ++ ys) else xs ++ ys) ≡ (if b then x ∷ xs else xs) ++ ys

@@ -1,4 +1,5 @@
 mod AskingLemmas
+mod HistoryLemmas
 mod LaneLemmas
 mod RoundLemmas
 mod RunLemmas

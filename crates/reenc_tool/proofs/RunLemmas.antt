@@ -19,8 +19,8 @@ use Rattle.volume_laws.specs.Executing.{BreaksByFaults}
 use Rattle.volume_machine.specs.States.{IsIdle}
 use Rattle.volume_laws.specs.Promises.{DeviceErrorsAreExact, Starts, StartsCovered, ServesEachRun}
 use Rattle.volume_laws.specs.Promises.{GoesByEvents}
+use Rattle.volume_machine.specs.Answers.{AreExchanges, Tagged, untagged}
 use Rattle.volume_machine.specs.Runs.{Happening, IsRun, last_of, answered_in, no_plain}
-use Rattle.volume_machine.specs.Runs.{AreExchanges}
 use Rattle.volume_machine.specs.Beginnings.{ChangeNothing}
 use Rattle.volume_machine.specs.Seals.{Seals, AreLawful}
 use Rattle.volume_machine.specs.Sound.{IsSound, AreApart}
@@ -32,10 +32,11 @@ use Rattle.reenc_tool.specs.declared.ended.Cause.{Cause}
 use Rattle.reenc_tool.specs.declared.serving.Standing.{Standing}
 use Rattle.reenc_tool.specs.declared.serving.Standing.TheVariants.{Live, Ended, Failed}
 use Rattle.reenc_tool.specs.Lanes.{IsServed, Served, StandsBy, failed_bit, failed_in}
-use Rattle.reenc_tool.specs.Sessions.{Played, AreSessions, NumbersRise, operations_of}
+use Rattle.reenc_tool.specs.Sessions.{Played, AreSessions, NumbersRise, tagged_of}
 use Rattle.reenc_tool.specs.Promise.{IsPlainVolume, LeavesRest, MayStop, Outcome, PlainKeys, Ran}
 use Rattle.reenc_tool.specs.Promise.{StoodStill, cause_of, unserved}
 use Rattle.reenc_tool.specs.Words.{Serve}
+use Rattle.reenc_tool.proofs.HistoryLemmas.{each_of, known_of, untagged-tagged_of}
 use Rattle.reenc_tool.proofs.AskingLemmas.{sessions_unspent}
 use Rattle.reenc_tool.proofs.TextLemmas.{not_rose}
 
@@ -104,6 +105,9 @@ tells_start device seals start volume tells =
 pub record VolumeLaws (start : State PlainKeys) (seals : Seals)
     (run : List (Happening PlainKeys)) : Type 0 where
   pub served : ServesEachRun start seals
+  pub answers : (final : State PlainKeys) (operations : List Tagged) →
+      Executes seals start final run operations →
+      AreExchanges (answered_in seals start no_plain run) (untagged operations)
   pub events : (earlier later : List (Happening PlainKeys)) → IsFresh start →
       IsRun start (earlier ++ later) → GoesByEvents start earlier
   pub errors : (earlier later : List (Happening PlainKeys)) (one : Happening PlainKeys) →
@@ -132,23 +136,23 @@ pub record VolumeLaws (start : State PlainKeys) (seals : Seals)
 
 -- one history
 history_of : (start : State PlainKeys) (seals : Seals) (final : State PlainKeys)
-    (run : List (Happening PlainKeys)) (exchanges : List Exchange) (bytes : List ℕ) →
+    (run : List (Happening PlainKeys)) (operations : List Tagged) (bytes : List ℕ) →
     VolumeLaws start seals run → Starts start seals (plain_blocks start bytes) bytes →
-    Executes seals start final run exchanges →
-    (left : List Block) × Legal start.map.atom (plain_blocks start bytes) exchanges left
-history_of start seals final run exchanges bytes laws starts did =
-    let served = laws.served (plain_blocks start bytes) bytes run exchanges starts did.is
-    (did.answers no_plain) in (served.left, served.legal)
+    Executes seals start final run operations →
+    (left : List Block) × Legal start.map.atom (plain_blocks start bytes) (untagged operations) left
+history_of start seals final run operations bytes laws starts did =
+    let served = laws.served (plain_blocks start bytes) bytes run (untagged operations) starts
+    did.is (laws.answers final operations did) in (served.left, served.legal)
 
 -- stops
 may_stop : (start : State PlainKeys) (seals : Seals) (final : State PlainKeys)
-    (run : List (Happening PlainKeys)) (exchanges : List Exchange) →
+    (run : List (Happening PlainKeys)) (operations : List Tagged) →
     VolumeLaws start seals run → VolumeTells start.map.atom start.disk →
     IsWholeDisk start.map.atom start.disk.atoms start.map → ChangeNothing seals →
     ((bytes : List ℕ) → start.disk.values ≡ Some bytes →
     Starts start seals (plain_blocks start bytes) bytes) →
-    Executes seals start final run exchanges → MayStop start seals run exchanges
-may_stop start seals final run exchanges laws tells whole nothing starts did =
+    Executes seals start final run operations → MayStop start seals run (untagged operations)
+may_stop start seals final run operations laws tells whole nothing starts did =
     λ bytes before values was settled. (
       laws.covered bytes whole nothing (tells.whole bytes values) (tells.are_bytes bytes values)
           (λ other is. (let same : other ≡ before = cc in (
@@ -156,8 +160,8 @@ may_stop start seals final run exchanges laws tells whole nothing starts did =
             (let agrees = tells.agrees other is in cc),
             tells.even other is,
           ))),
-      laws.stops (plain_blocks start bytes) bytes exchanges (starts bytes values) did.is
-          (did.answers no_plain),
+      laws.stops (plain_blocks start bytes) bytes (untagged operations) (starts bytes values)
+          did.is (laws.answers final operations did),
       (λ now told. laws.tables now did.is told),
     )
 
@@ -170,7 +174,7 @@ module _ {D L : Type 0} (device : D → Device) (state : L → LinkState) (disk 
       VolumeLaws start seals run →
       IsPlainVolume (device disk) seals start → AreLawful start.map.atom seals →
       DiskTells (device disk) →
-      Executes seals start final run (operations_of played) → IsIdle final →
+      Executes seals start final run (tagged_of played) → IsIdle final →
       size ≡ size_of start.map → atom ≡ start.map.atom →
       (may_spend → ⊥) → AreSessions (record { number = 0; size = size; atom = atom }) may_spend
       played → NumbersRise 0 played →
@@ -201,13 +205,17 @@ module _ {D L : Type 0} (device : D → Device) (state : L → LinkState) (disk 
             size_same (sessions_unspent _ never played sessions));
         rise = rise;
         served = served;
+        operations = tagged_of played;
         did = did;
+        each = each_of played rise;
+        known = known_of played;
+        in_turn = untagged-tagged_of played;
         idle = idle;
         back_is = (back, is_back, back_is, same_size);
         history = λ bytes is.
-            history_of start seals final run (operations_of played) bytes laws (starts bytes is)
+            history_of start seals final run (tagged_of played) bytes laws (starts bytes is)
             did;
-        stops = may_stop start seals final run (operations_of played) laws own volume.whole
+        stops = may_stop start seals final run (tagged_of played) laws own volume.whole
             volume.nothing starts did;
         cause_is = cause_is;
         broke = subst (λ s. s.broken ≡ true → Rose start.disk.faults s.disk.faults) did.last
@@ -217,8 +225,8 @@ module _ {D L : Type 0} (device : D → Device) (state : L → LinkState) (disk 
         fails = λ earlier later is.
             laws.events earlier later volume.fresh (subst (λ r. IsRun start r) is did.is);
         complete = λ stood low links_stood.
-            let fine = laws.faultless volume.sound volume.fresh lawful did.is (operations_of played)
-            (did.answers no_plain)
+            let fine = laws.faultless volume.sound volume.fresh lawful did.is
+            (untagged (tagged_of played)) (laws.answers final (tagged_of played) did)
             (ap (λ s. s.disk.faults) did.last ∙ stood) (omega (arith, stood, low)) in
             let unbroken = ap (λ s. s.broken) (sym did.last) ∙ fine.1 in
             let calm = no_link_failed state begun outcome.links outcome.ends failed outcome.memory

@@ -15,6 +15,7 @@ use Rattle.aes_core.specs.declared.cipher.Aes.{Aes}
 use Rattle.sector_cipher.specs.declared.disk.DiskCipher.{DiskCipher}
 use Rattle.sector_disk.specs.Cells.{AreSettled}
 use Rattle.sector_disk.specs.Steps.{Told}
+use Rattle.volume_machine.specs.Answers.{Tagged, untagged}
 use Rattle.volume_machine.specs.Beginnings.{IsFresh}
 use Rattle.volume_laws.specs.Executing.{Executes, StopsAlong, TellsRun}
 use Rattle.volume_machine.specs.States.{IsIdle}
@@ -36,7 +37,7 @@ use Rattle.reenc_tool.specs.declared.ended.Failing.TheVariants.{Opening, Listeni
 use Rattle.reenc_tool.specs.declared.ended.Ended.{Ended}
 use Rattle.reenc_tool.specs.declared.ended.Fit.TheVariants.{Blocks}
 use Rattle.reenc_tool.specs.Lanes.{Served}
-use Rattle.reenc_tool.specs.Sessions.{Played, AreSessions, NumbersRise, operations_of}
+use Rattle.reenc_tool.specs.Sessions.{Played, AreSessions, HasEach, IsOfSessions, NumbersRise, operations_of}
 use Rattle.reenc_tool.specs.Words.{Serve, IsServe, NotServe}
 
 -- the keys of a volume that changes nothing: contexts of ciphers over AES
@@ -116,9 +117,8 @@ abbrev pub unserved : {D L : Type 0} → Cause → Option D → List L → Outco
 unserved cause disk links =
     record { cause = cause; memory = false; disk = disk; links = links; ends = [] }
 
--- Sessions were served on a disk that was handed in, over these links. What the clients were put
--- are
--- the answers of one plain disk that was asked their operations, session after session.
+-- Sessions were served on a disk that was handed in, over these links. What the clients were put are
+-- the answers of one plain disk that was asked their operations in one history.
 pub record Ran {D L : Type 0} (device : D → DiskState) (state : L → LinkState) (disk : D)
     (begun : List L)
     (outcome : Outcome D L) : Type 0 where
@@ -136,19 +136,24 @@ pub record Ran {D L : Type 0} (device : D → DiskState) (state : L → LinkStat
   pub rise : NumbersRise 0 played
   pub served : Served state begun outcome.links outcome.ends failed outcome.memory played
   -- the run of events that executed the operations, each of which makes at most one call of the
-  -- disk,
-  -- and the disk, which is handed back as they left it
-  pub did : Executes seals start final run (operations_of played)
-  -- none is under way at the end: each operation that began was answered, so it is a session's
+  -- disk, and the disk, which is handed back as they left it
+  pub operations : List Tagged
+  pub did : Executes seals start final run operations
+  -- of each session they are just those that it submitted, each once and in order; each is some
+  -- session's; and the sessions followed one another
+  pub each : HasEach operations played
+  pub known : IsOfSessions played operations
+  pub in_turn : untagged operations ≡ operations_of played
+  -- none is under way at the end: each operation that began was answered
   pub idle : IsIdle final
   pub back_is : (back : D) × (outcome.disk ≡ Some back) × (device back ≡ final.disk)
       × ((device back).size ≡ (device disk).size)
   -- one history: legal from what the disk told when it was handed in
   pub history : (bytes : List ℕ) → start.disk.values ≡ Some bytes →
-      (left : List Block) × Legal start.map.atom (plain_blocks start bytes) (operations_of played)
+      (left : List Block) × Legal start.map.atom (plain_blocks start bytes) (untagged operations)
       left
   -- stops: wherever the run stops, the disk holds what this history allows there
-  pub stops : MayStop start seals run (operations_of played)
+  pub stops : MayStop start seals run (untagged operations)
   -- the cause, and when it may come
   pub cause_is : outcome.cause ≡ cause_of final.broken failed outcome.memory
   pub broke : final.broken ≡ true → Rose start.disk.faults final.disk.faults
@@ -158,7 +163,7 @@ pub record Ran {D L : Type 0} (device : D → DiskState) (state : L → LinkStat
   -- where no count moved, each operation was served, and only want of memory ends it otherwise
   pub complete : final.disk.faults ≡ start.disk.faults → final.disk.faults < 2 ^ 64 - 1 →
       StoodStill state begun outcome.links →
-      AreServed start.map.atom (size_of start.map) (operations_of played)
+      AreServed start.map.atom (size_of start.map) (untagged operations)
       × (outcome.cause ≡ (if outcome.memory then Memory else Fine))
 
 -- Four links, as a bay gives them: each has its share of the inputs ahead, where the bay tells

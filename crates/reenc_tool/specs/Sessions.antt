@@ -1,5 +1,5 @@
 -- Sessions that were served, and how links tell of them.
-use Rattle.std.specs.Prelude.{ℕ, ◌≡◌, ◌+◌, ◌<◌, ◌≤◌, ◌⊎◌, suc, ◌==◌, if◌then◌else◌, List, [], ◌∷◌}
+use Rattle.std.specs.Prelude.{ℕ, ◌≡◌, ◌+◌, ◌<◌, ◌≤◌, ◌⊎◌, suc, ◌==◌, if◌then◌else◌, List, [], ◌∷◌, map}
 use Rattle.std.specs.Prelude.{◌++◌, Some}
 use Rattle.bays.specs.Stories.{Script, Handed, LinkState, Story}
 use Rattle.nbd_session.specs.declared.ending.Ending.TheVariants.{PortSpent, WriteFault}
@@ -10,6 +10,7 @@ use Rattle.nbd_session.specs.Putting.{IsOut}
 use Rattle.nbd_session.specs.Session.{Log, IsSession}
 use Rattle.nbd_session.specs.Turns.{exchanges_of}
 use Rattle.plain_disk.specs.Plain.{Exchange}
+use Rattle.volume_machine.specs.Answers.{Tagged, of_session}
 
 -- a session that was served: the link that its connection came from, how it ended, its log, and the
 -- moments of its source and sink before and after
@@ -42,6 +43,31 @@ AreSessions export may_spend (played ∷ rest) = IsPlayed export may_spend playe
 unfoldable pub operations_of : List Played → List Exchange
 operations_of [] = []
 operations_of (played ∷ rest) = exchanges_of played.log.turns ++ operations_of rest
+
+-- the same, each with the number of its session
+abbrev pub tagged : ℕ → List Exchange → List Tagged
+tagged number exchanges =
+    map (λ exchange. record { session = number; exchange = exchange }) exchanges
+
+unfoldable pub tagged_of : List Played → List Tagged
+tagged_of [] = []
+tagged_of (played ∷ rest) = tagged played.end.number (exchanges_of played.log.turns) ++ tagged_of rest
+
+-- a history has of each session just the operations that it submitted, each once and in order
+unfoldable pub HasEach : List Tagged → List Played → Type 0
+HasEach history [] = Unit {0}
+HasEach history (played ∷ rest) =
+    (of_session played.end.number history ≡ exchanges_of played.log.turns) × HasEach history rest
+
+-- a session of this number was served
+unfoldable pub HasNumber : ℕ → List Played → Type 0
+HasNumber number [] = ⊥
+HasNumber number (played ∷ rest) = (played.end.number ≡ number) ⊎ HasNumber number rest
+
+-- each of its operations is some session's
+unfoldable pub IsOfSessions : List Played → List Tagged → Type 0
+IsOfSessions played [] = Unit {0}
+IsOfSessions played (one ∷ history) = HasNumber one.session played × IsOfSessions played history
 
 -- the sessions of one link
 unfoldable pub of_link : ℕ → List Played → List Played

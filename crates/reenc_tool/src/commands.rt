@@ -24,8 +24,9 @@ use std::sync::Wait;
 use std::thread::Threads;
 use volume_core::{Progress, Volume};
 use volume_laws::{
-    device_errors_are_exact, every_run_is_served, failures_go_by_events, keys_seal_lawfully,
-    plain_volumes_start, runs_fail_by_faults, runs_stop_anywhere, tables_are_of_events,
+    device_errors_are_exact, every_run_is_served, executions_join, failures_go_by_events,
+    keys_seal_lawfully, plain_volumes_start, runs_fail_by_faults, runs_stop_anywhere,
+    tables_are_of_events,
 };
 
 /// How many links serve a command.
@@ -55,6 +56,7 @@ fn serve_disk<D: Disk, L: Link>(alloc: Global, disk: D, mut links: Vec<L>) -> En
     let keys = volume.keys();
     keys_seal_lawfully::<Context>();
     every_run_is_served::<Context>();
+    executions_join::<Context>();
     failures_go_by_events::<Context>();
     device_errors_are_exact::<Context>();
     runs_stop_anywhere::<Context>();
@@ -63,9 +65,9 @@ fn serve_disk<D: Disk, L: Link>(alloc: Global, disk: D, mut links: Vec<L>) -> En
     plain_volumes_start::<Context>();
     let Progress { blocks, atom, .. } = volume.progress();
     let size = blocks * u64::from(atom);
-    let mut port = VolumePort { volume };
+    let mut port = VolumePort { volume, session: 0 };
     let trouble = serve_links(alloc, &mut links, &mut sessions, &mut port, size, atom);
-    let VolumePort { volume } = port;
+    let VolumePort { volume, .. } = port;
     let cause = cause(volume.progress().broken, trouble);
     Ended {
         status: cause.status(),

@@ -1,9 +1,10 @@
 ghost use Rattle.std.specs.Prelude.{ℕ, List};
-ghost use Rattle.reenc_tool.specs.Sessions.{Played, operations_of};
+ghost use Rattle.reenc_tool.specs.Sessions.{Played, tagged_of};
 ghost use Rattle.reenc_tool.specs.Asking.{AskedIs};
 
+use crate::port::SharedPort;
 use bays::Link;
-use nbd_session::{Export, Port, SessionEnd, serve_session};
+use nbd_session::{Export, SessionEnd, serve_session};
 use std::alloc::Global;
 
 /// What came of asking a link for its next connection: it was served, there is none, the link
@@ -18,7 +19,7 @@ pub enum Asked {
 
 /// Asks a link for its next connection and serves it. The room for the session's end is taken
 /// before the link is asked.
-pub fn serve_next<L: Link, P: Port>(
+pub fn serve_next<L: Link, P: SharedPort>(
     alloc: Global,
     link: &mut L,
     ends: &mut Vec<SessionEnd>,
@@ -28,13 +29,14 @@ pub fn serve_next<L: Link, P: Port>(
     ensures { (k : ℕ) → (played : List Played)
         × AskedIs export.now ((spent : P) × P.is_spent spent) k
         (L.state link.old) (L.state link.new) ends.old.items ends.new.items result played
-        × P.did port.old port.new (operations_of played) }
+        × P.executed port.old port.new (tagged_of played) }
 {
     if ends.reserve(1).is_err() {
         return Asked::Memory;
     }
     match link.next() {
         Ok(Some((mut source, mut sink))) => {
+            port.begin(export.number);
             let end = serve_session(alloc, &mut source, &mut sink, port, export);
             link.done(source, sink);
             let Ok(()) = ends.push(end) else {

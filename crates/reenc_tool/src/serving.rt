@@ -3,11 +3,12 @@ ghost use Rattle.std.specs.Prelude.{◌++◌, fold, length, map, min, slice_inde
 ghost use Rattle.nbd_session.specs.declared.ending.SessionEnd.{SessionEnd};
 ghost use Rattle.reenc_tool.specs.Lanes.{HasLive, Lanes, Served, TurnIs, failed_bit, failed_in};
 ghost use Rattle.reenc_tool.specs.Sessions.{Played, AreOfLinks, AreSessions, NumbersBelow};
-ghost use Rattle.reenc_tool.specs.Sessions.{NumbersRise, operations_of};
+ghost use Rattle.reenc_tool.specs.Sessions.{NumbersRise, tagged_of};
 
 use crate::connection::{Asked, serve_next};
+use crate::port::SharedPort;
 use bays::Link;
-use nbd_session::{Export, Port, SessionEnd};
+use nbd_session::{Export, SessionEnd};
 use std::alloc::Global;
 
 /// The most links that are served.
@@ -48,7 +49,7 @@ pub struct Trouble {
 
 /// Gives a link its turn, unless it is closed: its next connection is served, or it is closed since
 /// it has none or failed. Says whether memory was wanted before the link was asked.
-fn serve_turn<L: Link, P: Port>(
+fn serve_turn<L: Link, P: SharedPort>(
     alloc: Global,
     link: &mut L,
     ends: &mut Vec<SessionEnd>,
@@ -56,7 +57,7 @@ fn serve_turn<L: Link, P: Port>(
     port: &mut P,
     export: &Export,
 ) -> bool
-    ensures { (k : ℕ) → (played : List Played) × P.did port.old port.new (operations_of played)
+    ensures { (k : ℕ) → (played : List Played) × P.executed port.old port.new (tagged_of played)
         × TurnIs export.now ((spent : P) × P.is_spent spent) k (L.state link.old) (L.state link.new)
         ends.old.items ends.new.items standing.old standing.new result played }
 {
@@ -80,7 +81,7 @@ fn serve_turn<L: Link, P: Port>(
 
 /// Gives each link its turn, in order, up to a want of memory, and says whether there was one. The
 /// sessions of the turns are numbered from `export.number` on.
-fn serve_round<L: Link, P: Port>(
+fn serve_round<L: Link, P: SharedPort>(
     alloc: Global,
     links: &mut Vec<L>,
     ends: &mut Vec<Vec<SessionEnd>>,
@@ -91,7 +92,7 @@ fn serve_round<L: Link, P: Port>(
     requires links { length links.old.items ≤ 16 }
     requires lists { length ends.old.items ≡ length links.old.items }
     requires numbers { export.now.number + 16 < 2 ^ 64 }
-    ensures { (played : List Played) × P.did port.old port.new (operations_of played)
+    ensures { (played : List Played) × P.executed port.old port.new (tagged_of played)
         × AreSessions export.now ((spent : P) × P.is_spent spent) played
         × NumbersRise export.now.number played
         × NumbersBelow (export.now.number + length links.old.items) played
@@ -130,7 +131,7 @@ fn serve_round<L: Link, P: Port>(
 /// is asked no more, and the others go on. The link `k` of `n` serves the sessions of the numbers
 /// `k`, `k + n`, `k + 2 * n` and so on. Where memory is wanted for a session's end, no further
 /// connection is asked for.
-pub fn serve_links<L: Link, P: Port>(
+pub fn serve_links<L: Link, P: SharedPort>(
     alloc: Global,
     links: &mut Vec<L>,
     ends: &mut Vec<Vec<SessionEnd>>,
@@ -144,7 +145,7 @@ pub fn serve_links<L: Link, P: Port>(
         (slice_index_or ends.old.items k list).items ≡ [] }
     requires bound { (k : ℕ) (link : L) → k < length links.old.items →
         (L.state (slice_index_or links.old.items k link)).bound ≤ 65535 }
-    ensures { (played : List Played) × P.did port.old port.new (operations_of played)
+    ensures { (played : List Played) × P.executed port.old port.new (tagged_of played)
         × AreSessions (record { number = 0; size = size; atom = atom })
         ((spent : P) × P.is_spent spent) played
         × NumbersRise 0 played

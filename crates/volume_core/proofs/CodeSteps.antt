@@ -8,7 +8,7 @@ use Rattle.volume_machine.specs.Events.{Event, Outcome, admits, asks, reads, wri
 use Rattle.volume_machine.specs.Pieces.{failing, settling}
 use Rattle.volume_machine.specs.Sound.{IsSound}
 use Rattle.volume_machine.specs.States.{State, open_at}
-use Rattle.volume_machine.specs.Steps.{Step, Meets, Has, HasPiece, Goes, after_settle}
+use Rattle.volume_machine.specs.Steps.{Step, Can, Meets, Has, HasPiece, Goes, after_settle}
 use Rattle.sector_disk.specs.Devices.{succeeded, failed_call}
 use Rattle.volume_core.specs.Volumes.{IsVolume}
 use Rattle.volume_machine.specs.declared.ask.Ask.{Ask}
@@ -50,32 +50,31 @@ pub record Runs {K : Type 0} (state : State K) (lane : ℕ) : Type 0 where
   pub is : open_at state.lanes lane ≡ Some o
 
 pub runs-asks : {K : Type 0} (state : State K) (lane : ℕ) → Meets state (asks lane) → Has state lane (λ o. has_lock o.ask ≡ true)
-unfolding Meets
-runs-asks state lane meets = meets
+unfolding Can
+runs-asks state lane meets = meets.can
 
 pub runs-finishes : {K : Type 0} (state : State K) (lane : ℕ) → Meets state (finishes lane) → Has state lane (λ o. has_lock o.ask ≡ true)
-unfolding Meets
-runs-finishes state lane meets = (let (o, is, has) = meets.0 in (o, is, has.0))
+unfolding Can
+runs-finishes state lane meets = (let (o, is, can) = meets.can.0 in (o, is, can.locks))
 
-pub runs-reads : {K : Type 0} (state : State K) (lane : ℕ) → Meets state (reads lane) → Has state lane (λ o. HasPiece o)
-unfolding Meets
-runs-reads state lane meets = (let (o, is, has) = meets.0 in (o, is, has.1))
+pub runs-reads : {K : Type 0} (state : State K) (lane len : ℕ) → Meets state (reads lane len) → Has state lane (λ o. HasPiece o)
+unfolding Can
+runs-reads state lane len meets = (let (o, is, can) = meets.can.0 in (o, is, can.has))
 
 pub runs-writes : {K : Type 0} (state : State K) (lane : ℕ) (bytes : List ℕ) → Meets state (writes lane bytes) → Has state lane (λ o. HasPiece o)
-unfolding Meets
-runs-writes state lane bytes meets = (let (o, is, has) = meets.0 in (o, is, has.1))
+unfolding Can
+runs-writes state lane bytes meets = (let (o, is, can) = meets.can.0 in (o, is, can.has))
 
 pub runs-settles : {K : Type 0} (state : State K) (lane : ℕ) → Meets state (settles lane) → Runs state lane
-unfolding Meets
-runs-settles state lane meets = (let (o, is, can) = meets in record { o = o; is = is })
+unfolding Can
+runs-settles state lane meets = (let (o, is, can) = meets.can in record { o = o; is = is })
 
-pub lane-admits : {K : Type 0} (state : State K) (lane : ℕ) (ask : Ask) → Meets state (admits lane ask) → lane < length state.lanes
-unfolding Meets
-lane-admits state lane ask meets = (let below = meets.0 in omega (arith, below))
+pub lane-admits : {K : Type 0} (state : State K) (lane session : ℕ) (ask : Ask) → Meets state (admits lane session ask) → lane < length state.lanes
+lane-admits state lane session ask meets = (let below = meets.client in omega (arith, below))
 
-pub free-admits : {K : Type 0} (state : State K) (lane : ℕ) (ask : Ask) → Meets state (admits lane ask) → open_at state.lanes lane ≡ None
-unfolding Meets
-free-admits state lane ask meets = meets.1
+pub free-admits : {K : Type 0} (state : State K) (lane session : ℕ) (ask : Ask) → Meets state (admits lane session ask) → open_at state.lanes lane ≡ None
+unfolding Can
+free-admits state lane session ask meets = meets.can
 
 -- a step leaves a volume
 pub volume-kept : {C : Type 0} (sector : C → ℕ) (size now : ℕ) (old new : State (Keys C)) (event : Event) (outcome : Outcome) → IsVolume sector size old →

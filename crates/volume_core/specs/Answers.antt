@@ -1,12 +1,8 @@
 -- The outcomes that the answers of calls tell, and what else they give.
-use Rattle.std.specs.Prelude.{ℕ, ◌≡◌, List, length, Some, Bool, nat_eq}
+use Rattle.std.specs.Prelude.{ℕ, ◌≡◌, List, Bool, nat_eq}
 use Rattle.segment_map.specs.declared.map.Map.{Map}
-use Rattle.segment_map.specs.declared.map.Piece.{Piece}
 use Rattle.segment_map.specs.Sides.{left_of}
 use Rattle.volume_machine.specs.Events.{Outcome, held, waits, refused, got, done, device, broken}
-use Rattle.volume_machine.specs.Pieces.{IsPieceOf, size_of_piece}
-use Rattle.volume_machine.specs.States.{State, open_at}
-use Rattle.volume_core.specs.declared.answers.Grant.{Grant}
 use Rattle.volume_core.specs.declared.answers.Admitted.{Admitted}
 use Rattle.volume_core.specs.declared.answers.Admitted.TheVariants as Admit
 use Rattle.volume_core.specs.declared.answers.Asked.{Asked}
@@ -17,15 +13,14 @@ use Rattle.volume_core.specs.declared.answers.PieceWritten.{PieceWritten}
 use Rattle.volume_core.specs.declared.answers.PieceWritten.TheVariants as Write
 use Rattle.volume_core.specs.declared.answers.Settled.{Settled}
 use Rattle.volume_core.specs.declared.answers.Settled.TheVariants as Settle
-use Rattle.volume_machine.specs.declared.open.Open.{Open}
 
 abbrev pub outcome_of_admitted : Admitted → Outcome
-outcome_of_admitted (Admit.Held grant) = held
+outcome_of_admitted (Admit.Held grant) = held grant
 outcome_of_admitted (Admit.Waiting lane) = waits lane
 outcome_of_admitted (Admit.Refused number) = refused number
 
 abbrev pub outcome_of_asked : Asked → Outcome
-outcome_of_asked (Ask.Held grant) = held
+outcome_of_asked (Ask.Held grant) = held grant
 outcome_of_asked (Ask.Waiting lane) = waits lane
 
 abbrev pub outcome_of_read : PieceRead → Outcome
@@ -43,22 +38,6 @@ outcome_of_settled Settle.Done = done
 outcome_of_settled Settle.Device = device
 outcome_of_settled Settle.Broken = broken
 
--- a grant tells the map, and the blocks of the lane's operation
-pub record IsGrant {K : Type 0} (state : State K) (lane : ℕ) (grant : Grant) : Type 0 where
-  pub map : grant.map ≡ state.map
-  pub o : Open
-  pub is : open_at state.lanes lane ≡ Some o
-  pub range : grant.range ≡ o.range
-
-abbrev pub GrantsAdmitted : {K : Type 0} → State K → ℕ → Admitted → Type 0
-GrantsAdmitted state lane (Admit.Held grant) = IsGrant state lane grant
-GrantsAdmitted state lane (Admit.Waiting other) = Unit {0}
-GrantsAdmitted state lane (Admit.Refused number) = Unit {0}
-
-abbrev pub GrantsAsked : {K : Type 0} → State K → ℕ → Asked → Type 0
-GrantsAsked state lane (Ask.Held grant) = IsGrant state lane grant
-GrantsAsked state lane (Ask.Waiting other) = Unit {0}
-
 -- the buffer that a call gives back
 abbrev pub buffer_of_read : PieceRead → List ℕ
 buffer_of_read (Read.Got bytes) = bytes
@@ -75,14 +54,6 @@ abbrev pub KeepsBuffer : List ℕ → PieceRead → Type 0
 KeepsBuffer before (Read.Got bytes) = Unit {0}
 KeepsBuffer before (Read.Device bytes) = Unit {0}
 KeepsBuffer before (Read.Broken bytes) = bytes ≡ before
-
--- a buffer for the next piece of the lane's operation
-pub record FitsPiece {K : Type 0} (state : State K) (lane : ℕ) (buffer : List ℕ) : Type 0 where
-  pub o : Open
-  pub is : open_at state.lanes lane ≡ Some o
-  pub piece : Piece
-  pub next : IsPieceOf state.map o piece
-  pub size : length buffer ≡ size_of_piece state.map piece
 
 -- whether no old block is left
 abbrev pub is_idle : Map → Bool

@@ -10,5 +10,6 @@
 mod answers;
 mod volume;
 
-pub use answers::{Admitted, Asked, Grant, PieceRead, PieceWritten, Progress, Settled};
+pub use answers::{Admitted, Asked, PieceRead, PieceWritten, Progress, Settled};
 pub use volume::Volume;
+pub use volume_machine::Grant;

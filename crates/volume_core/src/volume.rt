@@ -1,7 +1,7 @@
 // A volume: its disk, its map and keys, and the operations under way on it.
 
 ghost use Rattle.std.specs.Prelude.{◌≡◌, ◌<◌, false, [], length, ℕ, None, replicate, IfOk, IfErr, OnOk};
-ghost use Rattle.volume_core.specs.Answers.{outcome_of_admitted, outcome_of_asked, outcome_of_read, outcome_of_written, outcome_of_settled, GrantsAdmitted, GrantsAsked, buffer_of_read, buffer_of_written, KeepsBuffer, FitsPiece, is_idle};
+ghost use Rattle.volume_core.specs.Answers.{outcome_of_admitted, outcome_of_asked, outcome_of_read, outcome_of_written, outcome_of_settled, buffer_of_read, buffer_of_written, KeepsBuffer, is_idle};
 ghost use Rattle.volume_machine.specs.Asks.{range_of};
 ghost use Rattle.volume_machine.specs.Beginnings.{IsFresh};
 ghost use Rattle.volume_machine.specs.Events.{admits, asks, reads, writes, settles, finishes, done, refused};
@@ -11,8 +11,8 @@ ghost use Rattle.volume_machine.specs.Sound.{AreApart, IsSound, MapFits};
 ghost use Rattle.volume_machine.specs.Steps.{IsReadyFor, Step, Meets};
 ghost use Rattle.volume_machine.specs.Beginnings.{IsWholeDisk, new_volume};
 
-use crate::answers::{Admitted, Asked, Grant, PieceRead, PieceWritten, Progress, Settled};
-use base_terms::{Bytes, Failed};
+use crate::answers::{Admitted, Asked, PieceRead, PieceWritten, Progress, Settled};
+use base_terms::{Bytes, DEVICE_ERROR, Failed};
 use block_range::BlockRange;
 use cipher_laws::SectorCipher;
 use disk_views::read_into;
@@ -22,10 +22,7 @@ use sector_disk::Disk;
 use segment_map::{Direction, Map};
 use std::alloc::{AllocError, Global};
 use std::marker::Model;
-use volume_machine::{Ask, Keys, Open, Prepared, open_of, set_lane};
-
-/// The number of an error of the device.
-const DEVICE_ERROR: u32 = 5;
+use volume_machine::{Ask, Grant, Keys, Open, Prepared, open_of, set_lane};
 
 /// A volume on a disk: a map says where each of its blocks lies and under which key, and its lanes
 /// have operations under way. A lane has one operation at a time, from its `admit` on: a read or a
@@ -200,8 +197,8 @@ impl<D: Disk, C: SectorCipher + Copy> Volume<D, C> {
         ensures ready { OnOk result (IsReadyFor self.now ask) }
         ensures blocks { IfOk result (λ range. range ≡ range_of self.now.map.atom ask) }
         ensures sound { IsSound self.now }
-        ensures refused { IfErr result (λ number. (lane : ℕ) →
-            Step self.now (admits lane ask) (refused number) self.now) }
+        ensures refused { IfErr result (λ number. (lane session : ℕ) →
+            Step self.now (admits lane session ask) (refused number) self.now) }
     {
         let Map { atom, blocks, .. } = self.map;
         if let Some(number) = ask.wrong(atom, blocks * u64::from(atom)) {
@@ -213,15 +210,14 @@ impl<D: Disk, C: SectorCipher + Copy> Volume<D, C> {
         Ok(ask.range(atom))
     }
 
-    /// Begins an operation on a lane that has none. One that `judge` refuses is refused with its
-    /// number, and nothing was done; any other begins as by `enter`.
-    pub fn admit(&mut self, lane: u32, ask: Ask) -> Admitted
-        requires { Meets self.old (admits lane ask) }
-        ensures step { Step self.old (admits lane ask) (outcome_of_admitted result) self.new }
-        ensures grant { GrantsAdmitted self.new lane result }
+    /// Begins an operation of a session on a lane that has none. One that `judge` refuses is refused
+    /// with its number, and nothing was done; any other begins as by `enter`.
+    pub fn admit(&mut self, lane: u32, session: u64, ask: Ask) -> Admitted
+        requires { Meets self.old (admits lane session ask) }
+        ensures { Step self.old (admits lane session ask) (outcome_of_admitted result) self.new }
     {
         match self.judge(ask) {
-            Ok(range) => match self.enter(lane, ask, range) {
+            Ok(range) => match self.enter(lane, session, ask, range) {
                 Asked::Held(grant) => Admitted::Held(grant),
                 Asked::Waiting(other) => Admitted::Waiting(other),
             },
@@ -232,14 +228,13 @@ impl<D: Disk, C: SectorCipher + Copy> Volume<D, C> {
     /// Begins an operation that `judge` has given its blocks, on a lane that has none: the event of an
     /// `admit` that refuses nothing. A read or a write enters the table of locks behind all others,
     /// and has its blocks where no earlier entry conflicts. A flush has no blocks and never waits.
-    pub fn enter(&mut self, lane: u32, ask: Ask, range: BlockRange) -> Asked
-        requires meets { Meets self.old (admits lane ask) }
+    pub fn enter(&mut self, lane: u32, session: u64, ask: Ask, range: BlockRange) -> Asked
+        requires meets { Meets self.old (admits lane session ask) }
         requires ready { IsReadyFor self.old ask }
         requires blocks { range ≡ range_of self.old.map.atom ask }
-        ensures step { Step self.old (admits lane ask) (outcome_of_asked result) self.new }
-        ensures grant { GrantsAsked self.new lane result }
+        ensures { Step self.old (admits lane session ask) (outcome_of_asked result) self.new }
     {
-        set_lane(&mut self.lanes, lane, Some(Open::new(ask, range)));
+        set_lane(&mut self.lanes, lane, Some(Open::new(session, ask, range)));
         let map = self.map;
         if !ask.has_lock() {
             return Asked::Held(Grant { map, range });
@@ -253,8 +248,7 @@ impl<D: Disk, C: SectorCipher + Copy> Volume<D, C> {
     /// Tells where the read or write of a lane stands now.
     pub fn ask(&self, lane: u32) -> Asked
         requires { Meets self.now (asks lane) }
-        ensures step { Step self.now (asks lane) (outcome_of_asked result) self.now }
-        ensures grant { GrantsAsked self.now lane result }
+        ensures { Step self.now (asks lane) (outcome_of_asked result) self.now }
     {
         let open = open_of(&self.lanes, lane);
         match self.table.ask(lane) {
@@ -269,9 +263,8 @@ impl<D: Disk, C: SectorCipher + Copy> Volume<D, C> {
     /// Reads the next piece of a lane's read, which holds its blocks, into a buffer of its size. The
     /// bytes come sealed, as they lie on the disk.
     pub fn piece_read(&mut self, lane: u32, bytes: Bytes) -> PieceRead
-        requires meets { Meets self.old (reads lane) }
-        requires fits { FitsPiece self.old lane bytes }
-        ensures step { Step self.old (reads lane) (outcome_of_read result) self.new }
+        requires { Meets self.old (reads lane (length bytes)) }
+        ensures step { Step self.old (reads lane (length bytes)) (outcome_of_read result) self.new }
         ensures buffer { length (buffer_of_read result) ≡ length bytes }
         ensures kept { KeepsBuffer bytes result }
     {

@@ -36,8 +36,8 @@ piece-behind seal unseal old now new first more one other =
     goes-on (seals_of seal unseal old.map.atom old.keys) old now new first more one
     (subst (λ s. GoesOn s now new more) (same-seals seal unseal old now one.map one.keys) other)
 
-pub alone-by : {K : Type 0} (old now new : State K) (ask : Ask) (at : ℕ) → now.map ≡ old.map → IsAlone new (going now.map.atom ask at) → IsAlone new (going old.map.atom ask at)
-alone-by old now new ask at same alone = rw same at alone
+pub alone-by : {K : Type 0} (old now new : State K) (session : ℕ) (ask : Ask) (at : ℕ) → now.map ≡ old.map → IsAlone new (going now.map.atom session ask at) → IsAlone new (going old.map.atom session ask at)
+alone-by old now new session ask at same alone = rw same at alone
 
 -- sizes of pieces in a row
 pub size-more : (start at count next atom : ℕ) → start ≤ at → next ≡ at + count → (at - start) * atom + count * atom ≡ (next - start) * atom
@@ -60,10 +60,10 @@ pub piece-of-body : (body : List ℕ) (from size to : ℕ) → to ≡ from + siz
 piece-of-body body from size to is = rw is (sym (take-add from size body))
 
 -- what a failed piece tried of the body
-pub tried-behind : {C : Type 0} (seal unseal : C → ℕ → List ℕ → List ℕ) (old now new : State (Keys C)) (ask : Ask) (body piece : List ℕ) (from size : ℕ) →
-    GoesOn (seals_of seal unseal old.map.atom old.keys) old now (take from body) → HasTried (seals_of seal unseal now.map.atom now.keys) now new ask piece →
-    piece ≡ take size (drop from body) → from + size ≤ length body → length piece ≡ size → HasTried (seals_of seal unseal old.map.atom old.keys) old new ask body
-tried-behind seal unseal old now new ask body piece from size one tried is within long =
+pub tried-behind : {C : Type 0} (seal unseal : C → ℕ → List ℕ → List ℕ) (old now new : State (Keys C)) (session : ℕ) (ask : Ask) (body piece : List ℕ) (from size : ℕ) →
+    GoesOn (seals_of seal unseal old.map.atom old.keys) old now (take from body) → HasTried (seals_of seal unseal now.map.atom now.keys) now new session ask piece →
+    piece ≡ take size (drop from body) → from + size ≤ length body → length piece ≡ size → HasTried (seals_of seal unseal old.map.atom old.keys) old new session ask body
+tried-behind seal unseal old now new session ask body piece from size one tried is within long =
     let seals = seals_of seal unseal old.map.atom old.keys in
     let few = tried.within in
     let some : tried.n ≤ size = omega (arith, few, long) in

@@ -11,9 +11,10 @@ use Rattle.volume_machine.specs.States.{IsIdle}
 use Rattle.volume_machine.specs.Pieces.{IsComplete, IsPieceOf}
 use Rattle.volume_machine.specs.Runs.{Happening, IsRun, last_of, answered_in, plain_in}
 use Rattle.volume_machine.specs.Seals.{Seals}
-use Rattle.volume_machine.specs.States.{State, open_at}
+use Rattle.volume_machine.specs.States.{State, IsClient, open_at}
 use Rattle.volume_machine.specs.Steps.{Step, Holds, IsReadyFor}
 use Rattle.volume_machine.specs.declared.ask.Ask.{Ask}
+use Rattle.volume_machine.specs.declared.grant.Grant.{Grant}
 use Rattle.volume_machine.specs.declared.ask.Ask.TheVariants.{Read, Write, Flush}
 use Rattle.volume_machine.specs.declared.open.Open.{Open}
 
@@ -24,11 +25,12 @@ ask_of (Ops.Write offset body fua) = Write offset (length body) fua
 ask_of Ops.Flush = Flush
 
 -- an operation of which all pieces before block `at` were made, over blocks of `atom` bytes
-abbrev pub going : ℕ → Ask → ℕ → Open
-going atom ask at = record { ask = ask; range = range_of atom ask; next = at; settled = false; failed = false }
+abbrev pub going : ℕ → ℕ → Ask → ℕ → Open
+going atom session ask at = record { session = session; ask = ask; range = range_of atom ask; next = at; settled = false; failed = false }
 
 -- an operation holds its blocks on the first lane, and no other lane has one
 pub record IsAlone {K : Type 0} (state : State K) (o : Open) : Type 0 where
+  pub client : IsClient state 0
   pub own : open_at state.lanes 0 ≡ Some o
   pub others : (lane : ℕ) → lane ≢ 0 → open_at state.lanes lane ≡ None
   pub holds : Holds state 0
@@ -46,78 +48,82 @@ pub record GoesOn {K : Type 0} (seals : Seals) (old new : State K) (more : List 
   pub count : length new.lanes ≡ length old.lanes
 
 -- one of the operation's events has failed
-pub record HasFailed {K : Type 0} (state : State K) (ask : Ask) : Type 0 where
+pub record HasFailed {K : Type 0} (state : State K) (session : ℕ) (ask : Ask) : Type 0 where
   pub o : Open
   pub alone : IsAlone state o
+  pub session_is : o.session ≡ session
   pub ask_is : o.ask ≡ ask
   pub failed : o.failed ≡ true
 
 -- a front of a write's body was tried, perhaps all of it, and one of its events failed
-pub record HasTried {K : Type 0} (seals : Seals) (old new : State K) (ask : Ask) (body : List ℕ) : Type 0 where
+pub record HasTried {K : Type 0} (seals : Seals) (old new : State K) (session : ℕ) (ask : Ask) (body : List ℕ) : Type 0 where
   pub n : ℕ
   pub within : n ≤ length body
   pub goes_on : GoesOn seals old new (take n body)
-  pub has_failed : HasFailed new ask
+  pub has_failed : HasFailed new session ask
 
 -- an operation that isn't refused has begun
-pub record HasBegun {K : Type 0} (old new : State K) (ask : Ask) : Type 0 where
-  pub step : Step old (admits 0 ask) held new
+pub record HasBegun {K : Type 0} (old new : State K) (session : ℕ) (ask : Ask) : Type 0 where
+  pub grant : Grant
+  pub step : Step old (admits 0 session ask) (held grant) new
   pub ready : IsReadyFor old ask
-  pub own : open_at new.lanes 0 ≡ Some (going old.map.atom ask (range_of old.map.atom ask).start)
+  pub own : open_at new.lanes 0 ≡ Some (going old.map.atom session ask (range_of old.map.atom ask).start)
   pub others : (lane : ℕ) → lane ≢ 0 → open_at new.lanes lane ≡ None
-  pub alone : has_lock ask ≡ true → IsAlone new (going old.map.atom ask (range_of old.map.atom ask).start)
+  pub alone : has_lock ask ≡ true → IsAlone new (going old.map.atom session ask (range_of old.map.atom ask).start)
   pub map : new.map ≡ old.map
   pub keys : new.keys ≡ old.keys
   pub count : length new.lanes ≡ length old.lanes
 
--- an operation was executed and answered so
-pub record HasExecuted {K : Type 0} (seals : Seals) (old new : State K) (op : Op) (reply : Reply) : Type 0 where
+-- an operation of a session was executed and answered so
+pub record HasExecuted {K : Type 0} (seals : Seals) (old new : State K) (session : ℕ) (op : Op) (reply : Reply) : Type 0 where
   pub run : List (Happening K)
   pub n : ℕ
-  pub executes : Executes seals old new run (record { op = op; reply = reply; tried = n } ∷ [])
+  pub executes : Executes seals old new run
+      (record { session = session; exchange = record { op = op; reply = reply; tried = n } } ∷ [])
   pub idle : IsIdle new
   pub map : new.map ≡ old.map
   pub keys : new.keys ≡ old.keys
   pub count : length new.lanes ≡ length old.lanes
 
 -- all events of the operation but its finish are behind it, and none has failed
-pub record HasAll {K : Type 0} (state : State K) (ask : Ask) : Type 0 where
+pub record HasAll {K : Type 0} (state : State K) (session : ℕ) (ask : Ask) : Type 0 where
   pub o : Open
   pub alone : IsAlone state o
+  pub session_is : o.session ≡ session
   pub ask_is : o.ask ≡ ask
   pub whole : o.failed ≡ false
   pub complete : IsComplete o
 
 -- an operation has begun, and all its events but its finish are behind it, in which it has read or
 -- written these bytes
-pub record HasMade {K : Type 0} (seals : Seals) (old new : State K) (ask : Ask) (bytes : List ℕ) : Type 0 where
+pub record HasMade {K : Type 0} (seals : Seals) (old new : State K) (session : ℕ) (ask : Ask) (bytes : List ℕ) : Type 0 where
   pub first : State K
-  pub begun : HasBegun old first ask
+  pub begun : HasBegun old first session ask
   pub goes_on : GoesOn seals first new bytes
-  pub all : HasAll new ask
+  pub all : HasAll new session ask
 
 -- an operation has begun, and one of its events has failed
-pub record HasMissed {K : Type 0} (seals : Seals) (old new : State K) (ask : Ask) : Type 0 where
+pub record HasMissed {K : Type 0} (seals : Seals) (old new : State K) (session : ℕ) (ask : Ask) : Type 0 where
   pub first : State K
-  pub begun : HasBegun old first ask
+  pub begun : HasBegun old first session ask
   pub more : List ℕ
   pub goes_on : GoesOn seals first new more
-  pub has_failed : HasFailed new ask
+  pub has_failed : HasFailed new session ask
 
 -- a write has begun, and all its pieces were written
-pub record HasWritten {K : Type 0} (seals : Seals) (old new : State K) (ask : Ask) (body : List ℕ) : Type 0 where
+pub record HasWritten {K : Type 0} (seals : Seals) (old new : State K) (session : ℕ) (ask : Ask) (body : List ℕ) : Type 0 where
   pub first : State K
-  pub begun : HasBegun old first ask
+  pub begun : HasBegun old first session ask
   pub goes_on : GoesOn seals first new body
-  pub alone : IsAlone new (going old.map.atom ask (range_of old.map.atom ask).end)
+  pub alone : IsAlone new (going old.map.atom session ask (range_of old.map.atom ask).end)
 
 -- a write has begun, and one of its events has failed
-pub record WasTried {K : Type 0} (seals : Seals) (old new : State K) (ask : Ask) (body : List ℕ) : Type 0 where
+pub record WasTried {K : Type 0} (seals : Seals) (old new : State K) (session : ℕ) (ask : Ask) (body : List ℕ) : Type 0 where
   pub first : State K
-  pub begun : HasBegun old first ask
-  pub tried : HasTried seals first new ask body
+  pub begun : HasBegun old first session ask
+  pub tried : HasTried seals first new session ask body
 
 -- a piece is the next of the operation under way
-pub record IsNext {K : Type 0} (state : State K) (ask : Ask) (piece : Piece) : Type 0 where
-  pub alone : IsAlone state (going state.map.atom ask piece.first)
-  pub next : IsPieceOf state.map (going state.map.atom ask piece.first) piece
+pub record IsNext {K : Type 0} (state : State K) (session : ℕ) (ask : Ask) (piece : Piece) : Type 0 where
+  pub alone : IsAlone state (going state.map.atom session ask piece.first)
+  pub next : IsPieceOf state.map (going state.map.atom session ask piece.first) piece

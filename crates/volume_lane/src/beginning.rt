@@ -16,13 +16,11 @@ use volume_machine::Ask;
 /// The lane on which operations are executed.
 pub(crate) const LANE: u32 = 0;
 
-/// The number of an error of the device.
-pub(crate) const DEVICE_ERROR: u32 = 5;
-
-/// Begins an operation on the blocks that the volume has given it. It is the only one, so that it
-/// never waits.
+/// Begins an operation of a session on the blocks that the volume has given it. It is the only one,
+/// so that it never waits.
 pub(crate) fn begin<D: Disk, C: SectorCipher + Copy>(
     volume: &mut Volume<D, C>,
+    session: u64,
     ask: Ask,
     blocks: BlockRange,
 ) -> Grant
@@ -31,11 +29,11 @@ pub(crate) fn begin<D: Disk, C: SectorCipher + Copy>(
     requires sound { IsSound volume.old }
     requires ready { IsReadyFor volume.old ask }
     requires blocks { blocks ≡ range_of volume.old.map.atom ask }
-    ensures begun { HasBegun volume.old volume.new ask }
+    ensures begun { HasBegun volume.old volume.new session ask }
     ensures map { result.map ≡ volume.old.map }
     ensures range { result.range ≡ blocks }
 {
-    match volume.enter(LANE, ask, blocks) {
+    match volume.enter(LANE, session, ask, blocks) {
         Asked::Held(grant) => grant,
         Asked::Waiting(_) => unreachable!(),
     }

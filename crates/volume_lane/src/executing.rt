@@ -10,10 +10,10 @@ ghost use Rattle.volume_machine.specs.declared.keys.Keys.{Keys};
 ghost use Rattle.volume_machine.specs.Steps.{IsReadyFor};
 ghost use Rattle.volume_lane.specs.Lane.{HasExecuted, ask_of};
 
-use crate::beginning::{DEVICE_ERROR, LANE, begin};
+use crate::beginning::{LANE, begin};
 use crate::reading::read;
 use crate::writing::write;
-use base_terms::Bytes;
+use base_terms::{Bytes, DEVICE_ERROR};
 use cipher_laws::SectorCipher;
 use plain_disk::{Op, Reply};
 use sector_disk::Disk;
@@ -21,8 +21,8 @@ use std::alloc::{AllocError, Global};
 use volume_core::{Settled, Volume};
 use volume_machine::Ask;
 
-/// Executes one operation on the first lane of a volume on which no operation is under way, and
-/// answers it.
+/// Executes one operation of a session on the first lane of a volume on which no operation is under
+/// way, and answers it.
 ///
 /// A wrong operation is refused with its number, and else one on a broken volume with 5. Else its
 /// pieces of at most 1 MiB are read or written in order, up to the first that fails; a write with
@@ -38,6 +38,7 @@ use volume_machine::Ask;
 pub fn execute<D: Disk, C: SectorCipher + Copy>(
     alloc: Global,
     volume: &mut Volume<D, C>,
+    session: u64,
     op: Op,
     spare: Bytes,
 ) -> Result<(Reply, Bytes), AllocError>
@@ -45,7 +46,10 @@ pub fn execute<D: Disk, C: SectorCipher + Copy>(
     requires idle { IsIdle volume.old }
     ensures executes { IfOk result (λ done. (run : List (Happening (Keys C))) × (n : ℕ)
         × Executes (seals_of C.sealed C.opened volume.old.map.atom volume.old.keys)
-        volume.old volume.new run (record { op = op; reply = done.0; tried = n } ∷ [])) }
+        volume.old volume.new run (record {
+          session = session;
+          exchange = record { op = op; reply = done.0; tried = n };
+        } ∷ [])) }
     ensures idle { IsIdle volume.new }
     ensures map { volume.new.map ≡ volume.old.map }
     ensures keys { volume.new.keys ≡ volume.old.keys }
@@ -54,21 +58,21 @@ pub fn execute<D: Disk, C: SectorCipher + Copy>(
     ensures memory { OnErr result (IsReadyFor volume.old (ask_of op)) }
 {
     match op {
-        Op::Read { offset, length } => read(alloc, volume, offset, length, spare),
-        Op::Write { offset, body, fua } => write(alloc, volume, offset, body, fua),
-        Op::Flush => Ok((flush(volume), spare)),
+        Op::Read { offset, length } => read(alloc, volume, session, offset, length, spare),
+        Op::Write { offset, body, fua } => write(alloc, volume, session, offset, body, fua),
+        Op::Flush => Ok((flush(volume, session), spare)),
     }
 }
 
 /// Waits until what was written is certain to be kept.
-fn flush<D: Disk, C: SectorCipher + Copy>(volume: &mut Volume<D, C>) -> Reply
+fn flush<D: Disk, C: SectorCipher + Copy>(volume: &mut Volume<D, C>, session: u64) -> Reply
     requires lanes { 1 < length volume.old.lanes }
     requires idle { IsIdle volume.old }
     ensures { HasExecuted (seals_of C.sealed C.opened volume.old.map.atom volume.old.keys)
-        volume.old volume.new Ops.Flush result }
+        volume.old volume.new session Ops.Flush result }
 {
     match volume.judge(Ask::Flush) {
-        Ok(blocks) => begin(volume, Ask::Flush, blocks),
+        Ok(blocks) => begin(volume, session, Ask::Flush, blocks),
         Err(number) => return Reply::Errno(number),
     };
     match volume.settle(LANE) {

@@ -11,9 +11,9 @@ ghost use Rattle.volume_machine.specs.declared.ask.Ask.TheVariants as Asks;
 ghost use Rattle.volume_lane.specs.Lane.{GoesOn, HasAll, HasExecuted, HasFailed, HasMade, HasMissed, IsAlone, IsNext, going};
 ghost use Rattle.volume_lane.specs.Spares.{AreEnough};
 
-use crate::beginning::{DEVICE_ERROR, LANE, begin};
+use crate::beginning::{LANE, begin};
 use crate::spares::{emptied, fitting, only_piece, resized, spares_for};
-use base_terms::Bytes;
+use base_terms::{Bytes, DEVICE_ERROR};
 use block_range::BlockRange;
 use cipher_laws::SectorCipher;
 use plain_disk::{Op, Reply};
@@ -29,6 +29,7 @@ use volume_machine::Ask;
 pub(crate) fn read<D: Disk, C: SectorCipher + Copy>(
     alloc: Global,
     volume: &mut Volume<D, C>,
+    session: u64,
     offset: u64,
     len: u32,
     spare: Bytes,
@@ -37,7 +38,7 @@ pub(crate) fn read<D: Disk, C: SectorCipher + Copy>(
     requires idle { IsIdle volume.old }
     ensures executed { IfOk result (λ done. HasExecuted
         (seals_of C.sealed C.opened volume.old.map.atom volume.old.keys)
-        volume.old volume.new (Ops.Read offset len) done.0) }
+        volume.old volume.new session (Ops.Read offset len) done.0) }
     ensures err { OnErr result (volume.new ≡ volume.old) }
     ensures memory { OnErr result (IsReadyFor volume.old (Asks.Read offset len)) }
 {
@@ -49,7 +50,7 @@ pub(crate) fn read<D: Disk, C: SectorCipher + Copy>(
         Ok(blocks) => blocks,
         Err(number) => return Ok((Reply::Errno(number), spare)),
     };
-    let content = read_blocks(alloc, volume, ask, blocks, spare)?;
+    let content = read_blocks(alloc, volume, session, ask, blocks, spare)?;
     let empty = Bytes::new(Vec::new(alloc));
     match content {
         Some(bytes) => {
@@ -68,6 +69,7 @@ pub(crate) fn read<D: Disk, C: SectorCipher + Copy>(
 fn read_blocks<D: Disk, C: SectorCipher + Copy>(
     alloc: Global,
     volume: &mut Volume<D, C>,
+    session: u64,
     ask: Ask,
     blocks: BlockRange,
     spare: Bytes,
@@ -79,37 +81,38 @@ fn read_blocks<D: Disk, C: SectorCipher + Copy>(
     requires blocks { blocks ≡ range_of volume.old.map.atom ask }
     ensures made { IfOk result (λ content. IfSome content (HasMade
         (seals_of C.sealed C.opened volume.old.map.atom volume.old.keys)
-        volume.old volume.new ask)) }
+        volume.old volume.new session ask)) }
     ensures missed { IfOk result (λ content. IfNone content (HasMissed
         (seals_of C.sealed C.opened volume.old.map.atom volume.old.keys)
-        volume.old volume.new ask)) }
+        volume.old volume.new session ask)) }
     ensures err { OnErr result (volume.new ≡ volume.old) }
 {
     let map = volume.map();
     if let Some(piece) = only_piece(map, blocks) {
         let size = piece.count as usize * map.atom as usize;
         let buffer = resized(spare, size)?;
-        begin(volume, ask, blocks);
-        return Ok(read_piece(volume, ask, piece, buffer));
+        begin(volume, session, ask, blocks);
+        return Ok(read_piece(volume, session, ask, piece, buffer));
     }
     let size = (blocks.end - blocks.start) as usize * map.atom as usize;
     let content = emptied(spare, size)?;
     let spares = spares_for(alloc, map, blocks)?;
-    let grant = begin(volume, ask, blocks);
-    Ok(read_pieces(alloc, volume, ask, grant, content, spares))
+    let grant = begin(volume, session, ask, blocks);
+    Ok(read_pieces(alloc, volume, session, ask, grant, content, spares))
 }
 
 /// Reads all pieces of a read that has begun into the content, up to the first that fails.
 fn read_pieces<D: Disk, C: SectorCipher + Copy>(
     alloc: Global,
     volume: &mut Volume<D, C>,
+    session: u64,
     ask: Ask,
     grant: Grant,
     mut content: Vec<u8>,
     mut spares: VecDeque<Bytes>,
 ) -> Option<Bytes>
     requires reads { IsRead ask }
-    requires alone { IsAlone volume.old (going volume.old.map.atom ask grant.range.start) }
+    requires alone { IsAlone volume.old (going volume.old.map.atom session ask grant.range.start) }
     requires range { grant.range ≡ range_of volume.old.map.atom ask }
     requires map { grant.map ≡ volume.old.map }
     requires none { content.items ≡ [] }
@@ -121,14 +124,20 @@ fn read_pieces<D: Disk, C: SectorCipher + Copy>(
     ensures missed { IfNone result ((more : List ℕ) × GoesOn
         (seals_of C.sealed C.opened volume.old.map.atom volume.old.keys)
         volume.old volume.new more) }
-    ensures all { OnSome result (HasAll volume.new ask) }
-    ensures failed { IfNone result (HasFailed volume.new ask) }
+    ensures all { OnSome result (HasAll volume.new session ask) }
+    ensures failed { IfNone result (HasFailed volume.new session ask) }
 {
     let mut buffer = Bytes::new(Vec::new(alloc));
     let mut at = grant.range.start;
     'pieces: while let Some(piece) = grant.piece(at) {
         let size = piece.count as usize * grant.map.atom as usize;
-        let bytes = match read_piece(volume, ask, piece, fitting(buffer, &mut spares, size)) {
+        let bytes = match read_piece(
+            volume,
+            session,
+            ask,
+            piece,
+            fitting(buffer, &mut spares, size),
+        ) {
             Some(bytes) => bytes,
             None => return None,
         };
@@ -145,12 +154,13 @@ fn read_pieces<D: Disk, C: SectorCipher + Copy>(
 /// Reads the next piece of a read under way into a buffer of its size, and opens it there.
 fn read_piece<D: Disk, C: SectorCipher + Copy>(
     volume: &mut Volume<D, C>,
+    session: u64,
     ask: Ask,
     piece: Piece,
     buffer: Bytes,
 ) -> Option<Bytes>
     requires reads { IsRead ask }
-    requires next { IsNext volume.old ask piece }
+    requires next { IsNext volume.old session ask piece }
     requires size { length buffer ≡ size_of_piece volume.old.map piece }
     ensures got { IfSome result (λ bytes. GoesOn
         (seals_of C.sealed C.opened volume.old.map.atom volume.old.keys)
@@ -159,8 +169,8 @@ fn read_piece<D: Disk, C: SectorCipher + Copy>(
         (seals_of C.sealed C.opened volume.old.map.atom volume.old.keys)
         volume.old volume.new []) }
     ensures goes_on { OnSome result (IsAlone volume.new
-        (going volume.old.map.atom ask (piece.first + piece.count))) }
-    ensures failed { IfNone result (HasFailed volume.new ask) }
+        (going volume.old.map.atom session ask (piece.first + piece.count))) }
+    ensures failed { IfNone result (HasFailed volume.new session ask) }
     ensures length { IfSome result (λ bytes. length bytes ≡ size_of_piece volume.old.map piece) }
 {
     let map = volume.map();

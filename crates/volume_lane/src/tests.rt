@@ -31,7 +31,7 @@ struct Idle<D: Disk> {
 impl<D: Disk> Idle<D> {
     fn execute(&mut self, alloc: Global, op: Op) -> Result<Reply, AllocError> {
         let spare = mem::replace(&mut self.spare, Bytes::new(Vec::new(alloc)));
-        let (reply, buffer) = execute(alloc, &mut self.volume, op, spare)?;
+        let (reply, buffer) = execute(alloc, &mut self.volume, 3, op, spare)?;
         self.spare = buffer;
         Ok(reply)
     }

@@ -12,9 +12,9 @@ ghost use Rattle.volume_machine.specs.declared.ask.Ask.TheVariants as Asks;
 ghost use Rattle.volume_lane.specs.Lane.{GoesOn, HasExecuted, HasMade, HasTried, HasWritten, IsAlone, IsNext, WasTried, going};
 ghost use Rattle.volume_lane.specs.Spares.{AreEnough};
 
-use crate::beginning::{DEVICE_ERROR, LANE, begin};
+use crate::beginning::{LANE, begin};
 use crate::spares::{fitting, only_piece, spares_for};
-use base_terms::Bytes;
+use base_terms::{Bytes, DEVICE_ERROR};
 use block_range::BlockRange;
 use cipher_laws::SectorCipher;
 use plain_disk::{Op, Reply};
@@ -29,6 +29,7 @@ use volume_machine::{Ask, Prepared};
 pub(crate) fn write<D: Disk, C: SectorCipher + Copy>(
     alloc: Global,
     volume: &mut Volume<D, C>,
+    session: u64,
     offset: u64,
     body: Bytes,
     fua: bool,
@@ -37,7 +38,7 @@ pub(crate) fn write<D: Disk, C: SectorCipher + Copy>(
     requires idle { IsIdle volume.old }
     ensures executed { IfOk result (λ done. HasExecuted
         (seals_of C.sealed C.opened volume.old.map.atom volume.old.keys)
-        volume.old volume.new (Ops.Write offset body fua) done.0) }
+        volume.old volume.new session (Ops.Write offset body fua) done.0) }
     ensures err { OnErr result (volume.new ≡ volume.old) }
     ensures memory { OnErr result (IsReadyFor volume.old (Asks.Write offset (length body) fua)) }
 {
@@ -51,7 +52,7 @@ pub(crate) fn write<D: Disk, C: SectorCipher + Copy>(
         Err(number) => return Ok((Reply::Errno(number), body)),
     };
     let is_forced = fua && !body.is_empty();
-    match write_for_good(alloc, volume, ask, blocks, body, is_forced)? {
+    match write_for_good(alloc, volume, session, ask, blocks, body, is_forced)? {
         Some(buffer) => {
             volume.finish(LANE);
             Ok((Reply::Done, buffer))
@@ -68,6 +69,7 @@ pub(crate) fn write<D: Disk, C: SectorCipher + Copy>(
 fn write_for_good<D: Disk, C: SectorCipher + Copy>(
     alloc: Global,
     volume: &mut Volume<D, C>,
+    session: u64,
     ask: Ask,
     blocks: BlockRange,
     body: Bytes,
@@ -82,13 +84,13 @@ fn write_for_good<D: Disk, C: SectorCipher + Copy>(
     requires body { length body ≡ (blocks.end - blocks.start) * volume.old.map.atom }
     ensures made { IfOk result (λ done. OnSome done (HasMade
         (seals_of C.sealed C.opened volume.old.map.atom volume.old.keys)
-        volume.old volume.new ask body)) }
+        volume.old volume.new session ask body)) }
     ensures tried { IfOk result (λ done. IfNone done (WasTried
         (seals_of C.sealed C.opened volume.old.map.atom volume.old.keys)
-        volume.old volume.new ask body)) }
+        volume.old volume.new session ask body)) }
     ensures err { OnErr result (volume.new ≡ volume.old) }
 {
-    let Some(buffer) = write_blocks(alloc, volume, ask, blocks, body.into_vec())? else {
+    let Some(buffer) = write_blocks(alloc, volume, session, ask, blocks, body.into_vec())? else {
         return Ok(None);
     };
     if !is_forced {
@@ -106,6 +108,7 @@ fn write_for_good<D: Disk, C: SectorCipher + Copy>(
 fn write_blocks<D: Disk, C: SectorCipher + Copy>(
     alloc: Global,
     volume: &mut Volume<D, C>,
+    session: u64,
     ask: Ask,
     blocks: BlockRange,
     body: Vec<u8>,
@@ -118,20 +121,20 @@ fn write_blocks<D: Disk, C: SectorCipher + Copy>(
     requires body { length body.items ≡ (blocks.end - blocks.start) * volume.old.map.atom }
     ensures written { IfOk result (λ done. OnSome done (HasWritten
         (seals_of C.sealed C.opened volume.old.map.atom volume.old.keys)
-        volume.old volume.new ask body.items)) }
+        volume.old volume.new session ask body.items)) }
     ensures tried { IfOk result (λ done. IfNone done (WasTried
         (seals_of C.sealed C.opened volume.old.map.atom volume.old.keys)
-        volume.old volume.new ask body.items)) }
+        volume.old volume.new session ask body.items)) }
     ensures err { OnErr result (volume.new ≡ volume.old) }
 {
     let map = volume.map();
     if let Some(piece) = only_piece(map, blocks) {
-        begin(volume, ask, blocks);
-        return Ok(write_piece(volume, ask, piece, body));
+        begin(volume, session, ask, blocks);
+        return Ok(write_piece(volume, session, ask, piece, body));
     }
     let spares = spares_for(alloc, map, blocks)?;
-    let grant = begin(volume, ask, blocks);
-    if write_pieces(alloc, volume, ask, grant, body.as_slice(), spares) {
+    let grant = begin(volume, session, ask, blocks);
+    if write_pieces(alloc, volume, session, ask, grant, body.as_slice(), spares) {
         return Ok(Some(Bytes::new(body)));
     }
     Ok(None)
@@ -142,13 +145,14 @@ fn write_blocks<D: Disk, C: SectorCipher + Copy>(
 fn write_pieces<D: Disk, C: SectorCipher + Copy>(
     alloc: Global,
     volume: &mut Volume<D, C>,
+    session: u64,
     ask: Ask,
     grant: Grant,
     body: &[u8],
     mut spares: VecDeque<Bytes>,
 ) -> bool
     requires writes { IsWrite ask }
-    requires alone { IsAlone volume.old (going volume.old.map.atom ask grant.range.start) }
+    requires alone { IsAlone volume.old (going volume.old.map.atom session ask grant.range.start) }
     requires range { grant.range ≡ range_of volume.old.map.atom ask }
     requires map { grant.map ≡ volume.old.map }
     requires body { length body.now ≡ (grant.range.end - grant.range.start) * grant.map.atom }
@@ -156,10 +160,10 @@ fn write_pieces<D: Disk, C: SectorCipher + Copy>(
     ensures done { result ≡ true → GoesOn
         (seals_of C.sealed C.opened volume.old.map.atom volume.old.keys)
         volume.old volume.new body.now }
-    ensures all { result ≡ true → IsAlone volume.new (going volume.old.map.atom ask grant.range.end) }
+    ensures all { result ≡ true → IsAlone volume.new (going volume.old.map.atom session ask grant.range.end) }
     ensures failed { result ≡ false → HasTried
         (seals_of C.sealed C.opened volume.old.map.atom volume.old.keys)
-        volume.old volume.new ask body.now }
+        volume.old volume.new session ask body.now }
 {
     let mut buffer = Bytes::new(Vec::new(alloc));
     let mut at = grant.range.start;
@@ -167,7 +171,7 @@ fn write_pieces<D: Disk, C: SectorCipher + Copy>(
     'pieces: while let Some(piece) = grant.piece(at) {
         let size = piece.count as usize * grant.map.atom as usize;
         let bytes = filled(fitting(buffer, &mut spares, size), &body[from..from + size]);
-        buffer = match write_piece(volume, ask, piece, bytes) {
+        buffer = match write_piece(volume, session, ask, piece, bytes) {
             Some(bytes) => bytes,
             None => return false,
         };
@@ -181,21 +185,22 @@ fn write_pieces<D: Disk, C: SectorCipher + Copy>(
 /// where this succeeds.
 fn write_piece<D: Disk, C: SectorCipher + Copy>(
     volume: &mut Volume<D, C>,
+    session: u64,
     ask: Ask,
     piece: Piece,
     bytes: Vec<u8>,
 ) -> Option<Bytes>
     requires writes { IsWrite ask }
-    requires next { IsNext volume.old ask piece }
+    requires next { IsNext volume.old session ask piece }
     requires size { length bytes.items ≡ size_of_piece volume.old.map piece }
     ensures done { OnSome result (GoesOn
         (seals_of C.sealed C.opened volume.old.map.atom volume.old.keys)
         volume.old volume.new bytes.items) }
     ensures tried { IfNone result (HasTried
         (seals_of C.sealed C.opened volume.old.map.atom volume.old.keys)
-        volume.old volume.new ask bytes.items) }
+        volume.old volume.new session ask bytes.items) }
     ensures goes_on { OnSome result (IsAlone volume.new
-        (going volume.old.map.atom ask (piece.first + piece.count))) }
+        (going volume.old.map.atom session ask (piece.first + piece.count))) }
     ensures length { IfSome result (λ buffer. length buffer ≡ length bytes.items) }
 {
     let map = volume.map();

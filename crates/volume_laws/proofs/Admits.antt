@@ -1,13 +1,16 @@
 -- Operations that begin, and those that wait: what holds between events goes on to hold.
 use Rattle.std.proofs.Common.{◌≡◌, ◌≢◌, inl, inr, ℕ, suc, ◌-◌, ◌*◌, ◌<◌, ◌≤◌, true, false, List, [], length, Option, Some, None, refl, sym, ◌∙◌, ap, subst, arith, nat_eq}
 use Rattle.plain_disk.specs.Plain.{Block}
+use Rattle.range_lock.specs.declared.Standing.{Standing}
+use Rattle.range_lock.specs.declared.Standing.TheVariants.{Held}
 use Rattle.range_lock.specs.Locks.{IsStanding}
 use Rattle.volume_machine.specs.declared.ask.Ask.{Ask}
 use Rattle.volume_machine.specs.declared.open.Open.{Open}
-use Rattle.volume_machine.specs.Asks.{has_lock, wrong_ask, entry_of}
+use Rattle.volume_machine.specs.Asks.{range_of, has_lock, wrong_ask, entry_of}
 use Rattle.volume_laws.specs.Contents.{IsTriedBy}
 use Rattle.volume_machine.specs.Events.{Outcome, held, waits}
-use Rattle.volume_machine.specs.Runs.{with_plain, by_admit}
+use Rattle.volume_machine.specs.Answers.{by_admit}
+use Rattle.volume_machine.specs.Runs.{with_plain}
 use Rattle.volume_machine.specs.Seals.{Seals}
 use Rattle.disk_views.specs.Parts.{AreBlocks}
 use Rattle.volume_machine.specs.Sound.{IsSound}
@@ -91,49 +94,49 @@ knows_nothing state plain left lane o none first ordered unsettled unfailed = re
 }
 
 -- which entries hold stays when another enters
-pub holds_admitted : {K : Type 0} (old new : State K) (lane : ℕ) (ask : Ask) (outcome : Outcome) → IsAdmitted old lane ask outcome new →
+pub holds_admitted : {K : Type 0} (old new : State K) (lane session : ℕ) (ask : Ask) (outcome : Outcome) → IsAdmitted old lane session ask outcome new →
     (k : ℕ) → k ≢ lane → Holds old k → Holds new k
-holds_admitted old new lane ask outcome is k other holds = elim (either (has_lock ask)) [
+holds_admitted old new lane session ask outcome is k other holds = elim (either (has_lock ask)) [
   | inl has ↦ (let enters = match_true (has_lock ask) _ _ has is.enters in
       rw enters.0 (holds-more k old.entries (entry_of old.map.atom lane ask) (λ same. other (sym same)) holds))
   | inr has_none ↦ (let enters = match_false (has_lock ask) _ _ has_none is.enters in rw enters.0 holds)
 ]
 
-pub logic_admitted : {K : Type 0} (old new : State K) (plain : ℕ → List ℕ) (left : List Block) (lane : ℕ) (ask : Ask) (outcome : Outcome) →
-    Logic old plain left → IsSound new → wrong_ask old.map.atom (size_of old.map) ask ≡ None → IsAdmitted old lane ask outcome new →
+pub logic_admitted : {K : Type 0} (old new : State K) (plain : ℕ → List ℕ) (left : List Block) (lane session : ℕ) (ask : Ask) (outcome : Outcome) →
+    Logic old plain left → IsSound new → wrong_ask old.map.atom (size_of old.map) ask ≡ None → IsAdmitted old lane session ask outcome new →
     Logic new (with_plain plain lane []) left
-logic_admitted old new plain left lane ask outcome logic sound proper is =
-    let under_way = begins old.map ask logic.sound.fits.known proper in record {
+logic_admitted old new plain left lane session ask outcome logic sound proper is =
+    let under_way = begins old.map session ask logic.sound.fits.known proper in record {
       sound = sound;
       are = rw is.goes.map logic.are;
       sure = λ whole b below. logic.sure (sym is.goes.broken_is ∙ whole) b (subst (λ m. b < m.blocks) is.goes.map below);
-      lanes = lanes_still old plain new (with_plain plain lane []) left lane (Some (begun old.map.atom ask)) is.goes.map is.goes.lane_is
-          (plain-other plain lane []) (holds_admitted old new lane ask outcome is) (λ was. is.goes.broken_is ∙ was)
-          (λ o same. let e : o ≡ begun old.map.atom ask = cc in
-          rw e (knows_nothing new (with_plain plain lane []) left lane (begun old.map.atom ask) (plain-own plain lane []) refl
+      lanes = lanes_still old plain new (with_plain plain lane []) left lane (Some (begun old.map.atom session ask)) is.goes.map is.goes.lane_is
+          (plain-other plain lane []) (holds_admitted old new lane session ask outcome is) (λ was. is.goes.broken_is ∙ was)
+          (λ o same. let e : o ≡ begun old.map.atom session ask = cc in
+          rw e (knows_nothing new (with_plain plain lane []) left lane (begun old.map.atom session ask) (plain-own plain lane []) refl
           (let from = under_way.begun in let to = under_way.within in omega (arith, from, to)) refl refl))
           logic.lanes;
     }
 
-pub shown_admitted : {K : Type 0} (old new : State K) (seals : Seals) (plain : ℕ → List ℕ) (left : List Block) (lane : ℕ) (ask : Ask) (outcome : Outcome) (view next : View) →
-    0 < old.map.atom → open_at old.lanes lane ≡ None → IsAdmitted old lane ask outcome new → IsUnchanged view next →
+pub shown_admitted : {K : Type 0} (old new : State K) (seals : Seals) (plain : ℕ → List ℕ) (left : List Block) (lane session : ℕ) (ask : Ask) (outcome : Outcome) (view next : View) →
+    0 < old.map.atom → open_at old.lanes lane ≡ None → IsAdmitted old lane session ask outcome new → IsUnchanged view next →
     Shown old seals plain left view → Shown new seals (with_plain plain lane []) left next
-shown_admitted old new seals plain left lane ask outcome view next some free is same shown =
+shown_admitted old new seals plain left lane session ask outcome view next some free is same shown =
     shown_kept old plain new (with_plain plain lane []) seals left view next is.goes.map
-    (writes_stay old plain new (with_plain plain lane []) lane (Some (begun old.map.atom ask)) is.goes.map is.goes.lane_is
+    (writes_stay old plain new (with_plain plain lane []) lane (Some (begun old.map.atom session ask)) is.goes.map is.goes.lane_is
     (plain-other plain lane []) (λ b value. idle old plain lane b value free)
     (λ b value. untried new (with_plain plain lane []) lane b value (rw is.goes.map some) (plain-own plain lane []))
-    (λ o begins_so forced settled. let e : o ≡ begun old.map.atom ask = cc in let never : false ≡ true = subst (λ p. p.settled ≡ true) e settled in cc))
+    (λ o begins_so forced settled. let e : o ≡ begun old.map.atom session ask = cc in let never : false ≡ true = subst (λ p. p.settled ≡ true) e settled in cc))
     (λ whole. (sym is.goes.broken_is ∙ whole, same.current)) same.candidates shown
 
 -- an operation that was admitted isn't answered yet
-pub unanswered : {K : Type 0} (old new : State K) (lane : ℕ) (ask : Ask) (outcome : Outcome) → IsAdmitted old lane ask outcome new → by_admit ask outcome ≡ []
-unanswered old new lane ask outcome is = elim (either (has_lock ask)) [
-  | inl has ↦ standing_tells ask outcome (IsStanding old.entries (entry_of old.map.atom lane ask)) (match_true (has_lock ask) _ _ has is.enters).1
-  | inr has_none ↦ rw (match_false (has_lock ask) _ _ has_none is.enters).1 refl
+pub unanswered : {K : Type 0} (old new : State K) (lane session : ℕ) (ask : Ask) (outcome : Outcome) → IsAdmitted old lane session ask outcome new → by_admit session ask outcome ≡ []
+unanswered old new lane session ask outcome is = elim (either (has_lock ask)) [
+  | inl has ↦ standing_tells outcome (IsStanding old.entries (entry_of old.map.atom lane ask)) (match_true (has_lock ask) _ _ has is.enters).1
+  | inr has_none ↦ standing_tells outcome (λ standing. standing ≡ Held) (match_false (has_lock ask) _ _ has_none is.enters).1
 ]
   where
-    standing_tells : (ask : Ask) (outcome : Outcome) (stands : _) → TellsStanding stands outcome → by_admit ask outcome ≡ []
-    standing_tells ask held stands tells = refl
-    standing_tells ask (waits other) stands tells = refl
-    standing_tells ask _ stands tells = absurd tells
+    standing_tells : (outcome : Outcome) (stands : Standing → Type 0) → TellsStanding old (range_of old.map.atom ask) stands outcome → by_admit session ask outcome ≡ []
+    standing_tells (held grant) stands tells = refl
+    standing_tells (waits other) stands tells = refl
+    standing_tells _ stands tells = absurd tells

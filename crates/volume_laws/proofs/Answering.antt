@@ -12,7 +12,7 @@ use Rattle.base_terms.proofs.BlockLemmas.{changed-nil}
 use Rattle.volume_machine.specs.declared.ask.Ask.{Ask}
 use Rattle.volume_machine.specs.declared.ask.Ask.TheVariants.{Read, Write, Flush}
 use Rattle.volume_machine.specs.Asks.{wrong_ask}
-use Rattle.volume_machine.specs.Runs.{Answered, refusal, Asked, IsExchange, AreExchanges}
+use Rattle.volume_machine.specs.Answers.{Answered, refusal, Asked, IsExchange, AreExchanges}
 use Rattle.disk_views.proofs.Blockwise.{block_at-take}
 use Rattle.disk_views.proofs.Entries.{length-blocks_of, blocks_of-at}
 use Rattle.volume_machine.proofs.Locking.{either}
@@ -36,8 +36,8 @@ wrong_asked atom size (Write offset len fua) plain op (body, is, long, begins) =
 wrong_asked atom size Flush plain op is = rw is refl
 
 -- a wrong operation
-pub step_wrong : (atom blocks number : ℕ) (left : List Block) (ask : Ask) (exchange : Exchange) → length left ≡ blocks → wrong_ask atom (blocks * atom) ask ≡ Some number →
-    IsExchange (refusal ask number) exchange → Step atom left exchange left
+pub step_wrong : {session : ℕ} (atom blocks number : ℕ) (left : List Block) (ask : Ask) (exchange : Exchange) → length left ≡ blocks → wrong_ask atom (blocks * atom) ask ≡ Some number →
+    IsExchange (refusal session ask number) exchange → Step atom left exchange left
 unfolding Step
 step_wrong atom blocks number left ask exchange count wrong is =
     let why : wrong_of atom (length left * atom) exchange.op ≡ Some number =
@@ -54,7 +54,7 @@ proper_goes atom blocks left next one exchange count proper is goes =
     rw why goes
 
 -- refused on a broken volume
-refused_goes : (atom : ℕ) (left : List Block) (ask : Ask) (exchange : Exchange) → IsExchange (refusal ask 5) exchange → 0 < atom →
+refused_goes : {session : ℕ} (atom : ℕ) (left : List Block) (ask : Ask) (exchange : Exchange) → IsExchange (refusal session ask 5) exchange → 0 < atom →
     ProperStep atom left exchange.op exchange.reply exchange.tried left
 unfolding ProperStep WriteStep blocks_of
 refused_goes atom left (Read offset len) exchange is some = rw (is.op, is.reply) (refl, refl)
@@ -65,10 +65,10 @@ refused_goes atom left (Write offset len fua) exchange is some =
     rw (op, is.reply, is.tried) (refl, omega arith, no_rest, rw no_blocks (sym (changed-nil tried left (offset / atom))))
 refused_goes atom left Flush exchange is some = rw (is.op, is.reply) (refl, refl)
 
-pub step_refused : (atom blocks : ℕ) (left : List Block) (ask : Ask) (exchange : Exchange) → length left ≡ blocks → wrong_ask atom (blocks * atom) ask ≡ None → 0 < atom →
-    IsExchange (refusal ask 5) exchange → Step atom left exchange left
-step_refused atom blocks left ask exchange count proper some is =
-    proper_goes atom blocks left left (refusal ask 5) exchange count proper is (refused_goes atom left ask exchange is some)
+pub step_refused : {session : ℕ} (atom blocks : ℕ) (left : List Block) (ask : Ask) (exchange : Exchange) → length left ≡ blocks → wrong_ask atom (blocks * atom) ask ≡ None → 0 < atom →
+    IsExchange (refusal session ask 5) exchange → Step atom left exchange left
+step_refused {session} atom blocks left ask exchange count proper some is =
+    proper_goes atom blocks left left (refusal session ask 5) exchange count proper is (refused_goes atom left ask exchange is some)
 
 -- the first blocks of a text are those of its front
 pub blocks_of-front : (atom m : ℕ) (text front : List ℕ) → take (m * atom) text ≡ front → blocks_of atom m text ≡ blocks_of atom m front
@@ -101,39 +101,39 @@ pub write_whole : (atom size offset len : ℕ) (fua : Bool) → IsAtom atom → 
 write_whole atom size offset len fua known proper = range_whole atom size offset len 28 known proper
 
 -- a read that was answered by its bytes, and one that was answered by 5
-read_goes : (atom offset len : ℕ) (left : List Block) (plain : List ℕ) (exchange : Exchange) →
-    IsExchange (record { ask = Read offset len; plain = plain; reply = Content plain }) exchange →
+read_goes : {session : ℕ} (atom offset len : ℕ) (left : List Block) (plain : List ℕ) (exchange : Exchange) →
+    IsExchange (record { session = session; ask = Read offset len; plain = plain; reply = Content plain }) exchange →
     plain ≡ take len (drop offset (newest_bytes left)) → AreSure (take (len / atom) (drop (offset / atom) left)) →
     ProperStep atom left exchange.op exchange.reply exchange.tried left
 unfolding ProperStep
 read_goes atom offset len left plain exchange is right sure = rw (is.op, is.reply) (refl, right, sure)
 
-pub step_read : (atom blocks offset len : ℕ) (left : List Block) (plain : List ℕ) (exchange : Exchange) → length left ≡ blocks →
+pub step_read : {session : ℕ} (atom blocks offset len : ℕ) (left : List Block) (plain : List ℕ) (exchange : Exchange) → length left ≡ blocks →
     wrong_ask atom (blocks * atom) (Read offset len) ≡ None →
-    IsExchange (record { ask = Read offset len; plain = plain; reply = Content plain }) exchange →
+    IsExchange (record { session = session; ask = Read offset len; plain = plain; reply = Content plain }) exchange →
     plain ≡ take len (drop offset (newest_bytes left)) → AreSure (take (len / atom) (drop (offset / atom) left)) → Step atom left exchange left
-step_read atom blocks offset len left plain exchange count proper is right sure =
-    proper_goes atom blocks left left (record { ask = Read offset len; plain = plain; reply = Content plain }) exchange count proper is
+step_read {session} atom blocks offset len left plain exchange count proper is right sure =
+    proper_goes atom blocks left left (record { session = session; ask = Read offset len; plain = plain; reply = Content plain }) exchange count proper is
     (read_goes atom offset len left plain exchange is right sure)
 
-unread_goes : (atom offset len : ℕ) (left : List Block) (plain : List ℕ) (exchange : Exchange) →
-    IsExchange (record { ask = Read offset len; plain = plain; reply = Errno 5 }) exchange → ProperStep atom left exchange.op exchange.reply exchange.tried left
+unread_goes : {session : ℕ} (atom offset len : ℕ) (left : List Block) (plain : List ℕ) (exchange : Exchange) →
+    IsExchange (record { session = session; ask = Read offset len; plain = plain; reply = Errno 5 }) exchange → ProperStep atom left exchange.op exchange.reply exchange.tried left
 unfolding ProperStep
 unread_goes atom offset len left plain exchange is = rw (is.op, is.reply) (refl, refl)
 
-pub step_unread : (atom blocks offset len : ℕ) (left : List Block) (plain : List ℕ) (exchange : Exchange) → length left ≡ blocks →
+pub step_unread : {session : ℕ} (atom blocks offset len : ℕ) (left : List Block) (plain : List ℕ) (exchange : Exchange) → length left ≡ blocks →
     wrong_ask atom (blocks * atom) (Read offset len) ≡ None →
-    IsExchange (record { ask = Read offset len; plain = plain; reply = Errno 5 }) exchange → Step atom left exchange left
-step_unread atom blocks offset len left plain exchange count proper is =
-    proper_goes atom blocks left left (record { ask = Read offset len; plain = plain; reply = Errno 5 }) exchange count proper is
+    IsExchange (record { session = session; ask = Read offset len; plain = plain; reply = Errno 5 }) exchange → Step atom left exchange left
+step_unread {session} atom blocks offset len left plain exchange count proper is =
+    proper_goes atom blocks left left (record { session = session; ask = Read offset len; plain = plain; reply = Errno 5 }) exchange count proper is
     (unread_goes atom offset len left plain exchange is)
 
 -- what a write that is done, and one that failed, does to its blocks
 abbrev pub change_of : Bool → Block → List ℕ → Block
 change_of fua = if fua then written_for_good else written
 
-write_goes : (atom count offset len : ℕ) (fua : Bool) (left : List Block) (plain : List ℕ) (exchange : Exchange) →
-    IsExchange (record { ask = Write offset len fua; plain = plain; reply = Done }) exchange → length plain ≡ len → length plain ≡ count * atom → len / atom ≡ count →
+write_goes : {session : ℕ} (atom count offset len : ℕ) (fua : Bool) (left : List Block) (plain : List ℕ) (exchange : Exchange) →
+    IsExchange (record { session = session; ask = Write offset len fua; plain = plain; reply = Done }) exchange → length plain ≡ len → length plain ≡ count * atom → len / atom ≡ count →
     ProperStep atom left exchange.op exchange.reply exchange.tried (changed (change_of fua) left (offset / atom) (blocks_of atom count plain))
 unfolding ProperStep WriteStep
 write_goes atom count offset len fua left plain exchange is long whole counted =
@@ -143,17 +143,17 @@ write_goes atom count offset len fua left plain exchange is long whole counted =
     ap (λ n. blocks_of atom (n / atom) body) long ∙ ap (λ n. blocks_of atom n body) counted ∙ blocks_of-front atom count body plain front in
     rw (op, is.reply, is.tried) (long ∙ sym body_long, ap (λ bs. changed (change_of fua) left (offset / atom) bs) (sym same))
 
-pub step_written : (atom blocks count offset len : ℕ) (fua : Bool) (left : List Block) (plain : List ℕ) (exchange : Exchange) → length left ≡ blocks →
+pub step_written : {session : ℕ} (atom blocks count offset len : ℕ) (fua : Bool) (left : List Block) (plain : List ℕ) (exchange : Exchange) → length left ≡ blocks →
     wrong_ask atom (blocks * atom) (Write offset len fua) ≡ None →
-    IsExchange (record { ask = Write offset len fua; plain = plain; reply = Done }) exchange → length plain ≡ len → length plain ≡ count * atom → len / atom ≡ count →
+    IsExchange (record { session = session; ask = Write offset len fua; plain = plain; reply = Done }) exchange → length plain ≡ len → length plain ≡ count * atom → len / atom ≡ count →
     Step atom left exchange (changed (change_of fua) left (offset / atom) (blocks_of atom count plain))
-step_written atom blocks count offset len fua left plain exchange size proper is long whole counted =
+step_written {session} atom blocks count offset len fua left plain exchange size proper is long whole counted =
     proper_goes atom blocks left (changed (change_of fua) left (offset / atom) (blocks_of atom count plain))
-    (record { ask = Write offset len fua; plain = plain; reply = Done }) exchange size proper is
+    (record { session = session; ask = Write offset len fua; plain = plain; reply = Done }) exchange size proper is
     (write_goes atom count offset len fua left plain exchange is long whole counted)
 
-unwritten_goes : (atom count offset len : ℕ) (fua : Bool) (left : List Block) (plain : List ℕ) (exchange : Exchange) →
-    IsExchange (record { ask = Write offset len fua; plain = plain; reply = Errno 5 }) exchange → length plain ≤ len → length plain ≡ count * atom → 0 < atom →
+unwritten_goes : {session : ℕ} (atom count offset len : ℕ) (fua : Bool) (left : List Block) (plain : List ℕ) (exchange : Exchange) →
+    IsExchange (record { session = session; ask = Write offset len fua; plain = plain; reply = Errno 5 }) exchange → length plain ≤ len → length plain ≡ count * atom → 0 < atom →
     ProperStep atom left exchange.op exchange.reply exchange.tried (changed tried left (offset / atom) (blocks_of atom count plain))
 unfolding ProperStep WriteStep
 unwritten_goes atom count offset len fua left plain exchange is most whole some =
@@ -165,26 +165,26 @@ unwritten_goes atom count offset len fua left plain exchange is most whole some 
     ap (λ n. blocks_of atom n body) counted ∙ blocks_of-front atom count body plain front in
     rw (op, is.reply, is.tried) (refl, rw body_long most, even, ap (λ bs. changed tried left (offset / atom) bs) (sym same))
 
-pub step_unwritten : (atom blocks count offset len : ℕ) (fua : Bool) (left : List Block) (plain : List ℕ) (exchange : Exchange) → length left ≡ blocks →
+pub step_unwritten : {session : ℕ} (atom blocks count offset len : ℕ) (fua : Bool) (left : List Block) (plain : List ℕ) (exchange : Exchange) → length left ≡ blocks →
     wrong_ask atom (blocks * atom) (Write offset len fua) ≡ None → 0 < atom →
-    IsExchange (record { ask = Write offset len fua; plain = plain; reply = Errno 5 }) exchange → length plain ≤ len → length plain ≡ count * atom →
+    IsExchange (record { session = session; ask = Write offset len fua; plain = plain; reply = Errno 5 }) exchange → length plain ≤ len → length plain ≡ count * atom →
     Step atom left exchange (changed tried left (offset / atom) (blocks_of atom count plain))
-step_unwritten atom blocks count offset len fua left plain exchange size proper some is most whole =
+step_unwritten {session} atom blocks count offset len fua left plain exchange size proper some is most whole =
     proper_goes atom blocks left (changed tried left (offset / atom) (blocks_of atom count plain))
-    (record { ask = Write offset len fua; plain = plain; reply = Errno 5 }) exchange size proper is
+    (record { session = session; ask = Write offset len fua; plain = plain; reply = Errno 5 }) exchange size proper is
     (unwritten_goes atom count offset len fua left plain exchange is most whole some)
 
 -- a flush that is done, and one that failed
-flush_goes : (atom : ℕ) (left : List Block) (exchange : Exchange) → IsExchange (record { ask = Flush; plain = []; reply = Done }) exchange →
+flush_goes : {session : ℕ} (atom : ℕ) (left : List Block) (exchange : Exchange) → IsExchange (record { session = session; ask = Flush; plain = []; reply = Done }) exchange →
     ProperStep atom left exchange.op exchange.reply exchange.tried (map flushed left)
 unfolding ProperStep
 flush_goes atom left exchange is = rw (is.op, is.reply) refl
 
-pub step_flushed : (atom blocks : ℕ) (left : List Block) (exchange : Exchange) → length left ≡ blocks →
-    IsExchange (record { ask = Flush; plain = []; reply = Done }) exchange → Step atom left exchange (map flushed left)
-step_flushed atom blocks left exchange count is =
-    proper_goes atom blocks left (map flushed left) (record { ask = Flush; plain = []; reply = Done }) exchange count refl is (flush_goes atom left exchange is)
+pub step_flushed : {session : ℕ} (atom blocks : ℕ) (left : List Block) (exchange : Exchange) → length left ≡ blocks →
+    IsExchange (record { session = session; ask = Flush; plain = []; reply = Done }) exchange → Step atom left exchange (map flushed left)
+step_flushed {session} atom blocks left exchange count is =
+    proper_goes atom blocks left (map flushed left) (record { session = session; ask = Flush; plain = []; reply = Done }) exchange count refl is (flush_goes atom left exchange is)
 
-pub step_unflushed : (atom blocks : ℕ) (left : List Block) (exchange : Exchange) → length left ≡ blocks → 0 < atom →
-    IsExchange (record { ask = Flush; plain = []; reply = Errno 5 }) exchange → Step atom left exchange left
+pub step_unflushed : {session : ℕ} (atom blocks : ℕ) (left : List Block) (exchange : Exchange) → length left ≡ blocks → 0 < atom →
+    IsExchange (record { session = session; ask = Flush; plain = []; reply = Errno 5 }) exchange → Step atom left exchange left
 step_unflushed atom blocks left exchange count some is = step_refused atom blocks left Flush exchange count refl some is

@@ -8,7 +8,8 @@ use Rattle.volume_machine.specs.Asks.{has_lock, wrong_ask}
 use Rattle.volume_machine.specs.Beginnings.{IsFresh}
 use Rattle.volume_machine.specs.Events.{Event, admits, asks, reads, writes, settles, finishes, Outcome, refused, done, device, broken}
 use Rattle.volume_laws.specs.Promises.{fails_in, is_failure, has_failed, GoesByEvents, DeviceErrorsAreExact}
-use Rattle.volume_machine.specs.Runs.{Answered, Happening, IsRun, last_of, answered_by, by_admit, by_settle, by_finish, flush_reply, full_reply, plain_in, no_plain}
+use Rattle.volume_machine.specs.Answers.{Answered, by_admit, by_settle, by_finish, flush_reply, full_reply}
+use Rattle.volume_machine.specs.Runs.{Happening, IsRun, last_of, answered_by, plain_in, no_plain}
 use Rattle.volume_machine.specs.Seals.{Seals}
 use Rattle.volume_machine.specs.States.{State, open_at, size_of}
 use Rattle.volume_machine.specs.Steps.{Step, Meets, AdmitStep, IsAdmitted, SettleStep}
@@ -29,21 +30,21 @@ run-event old (x ∷ earlier) later one (meets, step, is) = run-event x.after ea
 one_answered : (x y : Answered) → x ∷ [] ≡ y ∷ [] → y ≡ x
 one_answered x y same = cc
 
-refused_by : (ask : Ask) (outcome : Outcome) (answered : Answered) → by_admit ask outcome ≡ answered ∷ [] → answered.ask ≡ ask
-refused_by ask (refused number) answered is = ap (λ a. a.ask) (one_answered _ answered is)
-refused_by ask _ answered is = absurd (cc)
+refused_by : (session : ℕ) (ask : Ask) (outcome : Outcome) (answered : Answered) → by_admit session ask outcome ≡ answered ∷ [] → answered.ask ≡ ask
+refused_by session ask (refused number) answered is = ap (λ a. a.ask) (one_answered _ answered is)
+refused_by session ask _ answered is = absurd (cc)
 
-admit_exact : {K : Type 0} (old new : State K) (lane : ℕ) (ask : Ask) (outcome : Outcome) (answered : Answered) → AdmitStep old lane ask outcome new → by_admit ask outcome ≡ answered ∷ [] →
+admit_exact : {K : Type 0} (old new : State K) (lane session : ℕ) (ask : Ask) (outcome : Outcome) (answered : Answered) → AdmitStep old lane session ask outcome new → by_admit session ask outcome ≡ answered ∷ [] →
     wrong_ask old.map.atom (size_of old.map) answered.ask ≡ None → (answered.reply ≡ Errno 5) ↔ (old.broken ≡ true)
-admit_exact old new lane ask outcome answered step is proper =
-    let right : wrong_ask old.map.atom (size_of old.map) ask ≡ None = ap (λ a. wrong_ask old.map.atom (size_of old.map) a) (sym (refused_by ask outcome answered is)) ∙ proper in
-    let judged : MatchBool old.broken ((outcome ≡ refused 5) × (new ≡ old)) (IsAdmitted old lane ask outcome new) =
-    subst (λ w. MatchOption w (MatchBool old.broken ((outcome ≡ refused 5) × (new ≡ old)) (IsAdmitted old lane ask outcome new)) (λ number. (outcome ≡ refused number) × (new ≡ old))) right step in
+admit_exact old new lane session ask outcome answered step is proper =
+    let right : wrong_ask old.map.atom (size_of old.map) ask ≡ None = ap (λ a. wrong_ask old.map.atom (size_of old.map) a) (sym (refused_by session ask outcome answered is)) ∙ proper in
+    let judged : MatchBool old.broken ((outcome ≡ refused 5) × (new ≡ old)) (IsAdmitted old lane session ask outcome new) =
+    subst (λ w. MatchOption w (MatchBool old.broken ((outcome ≡ refused 5) × (new ≡ old)) (IsAdmitted old lane session ask outcome new)) (λ number. (outcome ≡ refused number) × (new ≡ old))) right step in
     elim (either old.broken) [
       | inl broke ↦ (let refusal = match_true old.broken _ _ broke judged in
-          let one : answered ≡ record { ask = ask; plain = []; reply = Errno 5 } = one_answered _ answered (sym (ap (λ o. by_admit ask o) refusal.0) ∙ is) in
+          let one : answered ≡ record { session = session; ask = ask; plain = []; reply = Errno 5 } = one_answered _ answered (sym (ap (λ o. by_admit session ask o) refusal.0) ∙ is) in
           (λ five. broke, λ broke. ap (λ a. a.reply) one))
-      | inr whole ↦ absurd (let none = unanswered old new lane ask outcome (match_false old.broken _ _ whole judged) in cc)
+      | inr whole ↦ absurd (let none = unanswered old new lane session ask outcome (match_false old.broken _ _ whole judged) in cc)
     ]
 
 -- a flush that is answered by its settle
@@ -56,8 +57,8 @@ settle_exact old new lane o _ step = absurd step
 by_settle_is : (o : Open) (outcome : Outcome) (answered : Answered) → by_settle (Some o) outcome ≡ answered ∷ [] → answered.reply ≡ flush_reply outcome
 by_settle_is o outcome answered is = elim (either (has_lock o.ask)) [
   | inl has ↦ absurd (let none : by_settle (Some o) outcome ≡ [] = rw has refl in cc)
-  | inr free ↦ ap (λ a. a.reply) (one_answered (record { ask = o.ask; plain = []; reply = flush_reply outcome }) answered
-      ((let all : record { ask = o.ask; plain = []; reply = flush_reply outcome } ∷ [] ≡ by_settle (Some o) outcome = rw free refl in all) ∙ is))
+  | inr free ↦ ap (λ a. a.reply) (one_answered (record { session = o.session; ask = o.ask; plain = []; reply = flush_reply outcome }) answered
+      ((let all : record { session = o.session; ask = o.ask; plain = []; reply = flush_reply outcome } ∷ [] ≡ by_settle (Some o) outcome = rw free refl in all) ∙ is))
 ]
 
 -- an operation that is answered by its finish
@@ -81,9 +82,9 @@ event_exact : {K : Type 0} (start : State K) (earlier : List (Happening K)) (pla
     GoesByEvents start earlier → Step (last_of start earlier) event outcome new → answered_by (last_of start earlier) event outcome plain ≡ answered ∷ [] →
     wrong_ask (last_of start earlier).map.atom (size_of (last_of start earlier).map) answered.ask ≡ None → (answered.reply ≡ Errno 5) ↔ (has_failed start earlier event outcome ≡ true)
 unfolding Step answered_by
-event_exact start earlier plain new (admits lane ask) outcome answered goes step is proper = admit_exact (last_of start earlier) new lane ask outcome answered step is proper
+event_exact start earlier plain new (admits lane session ask) outcome answered goes step is proper = admit_exact (last_of start earlier) new lane session ask outcome answered step is proper
 event_exact start earlier plain new (asks lane) outcome answered goes step is proper = absurd (cc)
-event_exact start earlier plain new (reads lane) outcome answered goes step is proper = absurd (cc)
+event_exact start earlier plain new (reads lane len) outcome answered goes step is proper = absurd (cc)
 event_exact start earlier plain new (writes lane bytes) outcome answered goes step is proper = absurd (cc)
 event_exact start earlier plain new (settles lane) outcome answered goes (o, at, step) is proper =
     subst (λ r. (r ≡ Errno 5) ↔ (is_failure outcome ≡ true)) (sym (by_settle_is o outcome answered (ap (λ x. by_settle x outcome) (sym at) ∙ is)))

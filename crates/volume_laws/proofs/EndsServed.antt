@@ -10,7 +10,7 @@ use Rattle.volume_machine.specs.declared.open.Open.{Open}
 use Rattle.volume_machine.specs.Asks.{IsRead, IsWrite, IsForced, range_of, has_lock, wrong_ask}
 use Rattle.volume_laws.specs.Contents.{block_in}
 use Rattle.volume_machine.specs.Pieces.{IsComplete}
-use Rattle.volume_machine.specs.Runs.{Answered, by_finish, full_reply, AreExchanges}
+use Rattle.volume_machine.specs.Answers.{Answered, by_finish, full_reply, AreExchanges}
 use Rattle.volume_machine.specs.Seals.{Seals}
 use Rattle.volume_machine.specs.Sound.{IsSound}
 use Rattle.volume_machine.specs.States.{State, open_at, size_of}
@@ -31,7 +31,7 @@ sized state plain left logic = λ b below. (let one = (logic.are.newest b (let c
 -- a read that ends
 read_ended : {K P : Type 0} (seals : Seals) (old new : State K) (plain : ℕ → List ℕ) (left : List Block) (lane : ℕ) (o : Open) (one : Answered) (exchanges : List Exchange) →
     Here P old seals plain left → IsSound new → open_at old.lanes lane ≡ Some o → IsRead o.ask → Ends old new lane → new.disk ≡ old.disk →
-    ((exchange : Exchange) → Rattle.volume_machine.specs.Runs.IsExchange one exchange → Rattle.plain_disk.specs.Plain.Step old.map.atom left exchange left) →
+    ((exchange : Exchange) → Rattle.volume_machine.specs.Answers.IsExchange one exchange → Rattle.plain_disk.specs.Plain.Step old.map.atom left exchange left) →
     AreExchanges (one ∷ []) exchanges → Served P seals old new plain left exchanges
 read_ended seals old new plain left lane o one exchanges here sound at reading goes rests step are = record {
   next = left;
@@ -73,7 +73,7 @@ read_right seals old plain left lane o offset len here at is whole ended =
 write_ended : {K P : Type 0} (seals : Seals) (old new : State K) (plain : ℕ → List ℕ) (left : List Block) (lane : ℕ) (o : Open) (change : Block → List ℕ → Block) (count : ℕ) (one : Answered)
     (exchanges : List Exchange) → Here P old seals plain left → IsSound new → new.disk ≡ old.disk → (it : EndsWrite old new plain left lane o change count) →
     (old.broken ≡ false → (block : Block) (value : List ℕ) → (change block value).unsure ≡ false) →
-    ((exchange : Exchange) → Rattle.volume_machine.specs.Runs.IsExchange one exchange →
+    ((exchange : Exchange) → Rattle.volume_machine.specs.Answers.IsExchange one exchange →
     Rattle.plain_disk.specs.Plain.Step old.map.atom left exchange (ended_blocks old plain left lane o change count)) →
     AreExchanges (one ∷ []) exchanges → Served P seals old new plain left exchanges
 write_ended seals old new plain left lane o change count one exchanges here sound rests it sure step are = record {
@@ -156,12 +156,12 @@ ends_write seals old new plain left lane o change here at writing holds goes new
 -- a write that failed
 failed_write_served : {K P : Type 0} (seals : Seals) (old new : State K) (plain : ℕ → List ℕ) (left : List Block) (lane : ℕ) (o : Open) (offset len : ℕ) (fua : Bool) (exchanges : List Exchange) →
     Here P old seals plain left → IsSound new → open_at old.lanes lane ≡ Some o → o.ask ≡ Write offset len fua → o.failed ≡ true → Holds old lane → Ends old new lane → new.disk ≡ old.disk →
-    AreExchanges (record { ask = Write offset len fua; plain = plain lane; reply = Errno 5 } ∷ []) exchanges → Served P seals old new plain left exchanges
+    AreExchanges (record { session = o.session; ask = Write offset len fua; plain = plain lane; reply = Errno 5 } ∷ []) exchanges → Served P seals old new plain left exchanges
 failed_write_served seals old new plain left lane o offset len fua exchanges here sound at is failed holds goes rests are =
     let knows = here.logic.lanes lane o at in
     let body = knows_body old plain left lane o offset len fua here.logic at is in
     let writing : IsWrite o.ask = rw is tt in
-    write_ended seals old new plain left lane o tried knows.count (record { ask = Write offset len fua; plain = plain lane; reply = Errno 5 }) exchanges here sound rests
+    write_ended seals old new plain left lane o tried knows.count (record { session = o.session; ask = Write offset len fua; plain = plain lane; reply = Errno 5 }) exchanges here sound rests
     (ends_write seals old new plain left lane o tried here at writing holds goes (λ block value. refl) tried_contained (inl tried-keeps))
     (λ was. absurd (let breaks = knows.breaks writing failed in cc))
     (λ exchange is_exchange. subst (λ n. Rattle.plain_disk.specs.Plain.Step old.map.atom left exchange (changed tried left n (blocks_of old.map.atom knows.count (plain lane)))) (sym body.start)
@@ -175,7 +175,7 @@ no_blocks_change change atom n at_block left text none = rw none (changed-nil ch
 -- a write that is done
 written_served : {K P : Type 0} (seals : Seals) (old new : State K) (plain : ℕ → List ℕ) (left : List Block) (lane : ℕ) (o : Open) (offset len : ℕ) (fua : Bool) (exchanges : List Exchange) →
     Here P old seals plain left → IsSound new → open_at old.lanes lane ≡ Some o → o.ask ≡ Write offset len fua → o.failed ≡ false → IsComplete o → Holds old lane → Ends old new lane → new.disk ≡ old.disk →
-    AreExchanges (record { ask = Write offset len fua; plain = plain lane; reply = Done } ∷ []) exchanges → Served P seals old new plain left exchanges
+    AreExchanges (record { session = o.session; ask = Write offset len fua; plain = plain lane; reply = Done } ∷ []) exchanges → Served P seals old new plain left exchanges
 written_served seals old new plain left lane o offset len fua exchanges here sound at is whole complete holds goes rests are =
     let atom = old.map.atom in
     let knows = here.logic.lanes lane o at in
@@ -183,11 +183,11 @@ written_served seals old new plain left lane o offset len fua exchanges here sou
     let writing : IsWrite o.ask = rw is tt in
     let all : knows.count ≡ len / atom = body.all whole complete.pieces in
     let long : length (plain lane) ≡ len = body.size ∙ ap (λ n. n * atom) all ∙ body.whole in
-    let steps : (exchange : Exchange) → Rattle.volume_machine.specs.Runs.IsExchange (record { ask = Write offset len fua; plain = plain lane; reply = Done }) exchange →
+    let steps : (exchange : Exchange) → Rattle.volume_machine.specs.Answers.IsExchange (record { session = o.session; ask = Write offset len fua; plain = plain lane; reply = Done }) exchange →
     Rattle.plain_disk.specs.Plain.Step atom left exchange (changed (change_of fua) left (offset / atom) (blocks_of atom knows.count (plain lane))) =
     λ exchange is_exchange. step_written atom old.map.blocks knows.count offset len fua left (plain lane) exchange here.logic.are.count body.proper is_exchange long body.size (sym all) in
     elim (either (nat_lt 0 len)) [
-      | inl some ↦ write_ended seals old new plain left lane o (change_of fua) knows.count (record { ask = Write offset len fua; plain = plain lane; reply = Done }) exchanges here sound rests
+      | inl some ↦ write_ended seals old new plain left lane o (change_of fua) knows.count (record { session = o.session; ask = Write offset len fua; plain = plain lane; reply = Done }) exchanges here sound rests
           (ends_write seals old new plain left lane o (change_of fua) here at writing holds goes (change_newest fua) (change_has fua) (kept fua is (grind (arith, some))))
           (λ was block value. change_sure fua block value)
           (λ exchange is_exchange. subst (λ n. Rattle.plain_disk.specs.Plain.Step atom left exchange (changed (change_of fua) left n (blocks_of atom knows.count (plain lane)))) (sym body.start) (steps exchange is_exchange))
@@ -197,7 +197,7 @@ written_served seals old new plain left lane o offset len fua exchanges here sou
           let no_count : knows.count ≡ 0 = (let size = body.size in let some_atom = positive old seals plain left here in grind (arith, long, empty, size, some_atom)) in
           let same : (change : Block → List ℕ → Block) (at_block : ℕ) → changed change left at_block (blocks_of atom knows.count (plain lane)) ≡ left =
           λ change at_block. no_blocks_change change atom knows.count at_block left (plain lane) no_count in
-          write_ended seals old new plain left lane o written knows.count (record { ask = Write offset len fua; plain = plain lane; reply = Done }) exchanges here sound rests
+          write_ended seals old new plain left lane o written knows.count (record { session = o.session; ask = Write offset len fua; plain = plain lane; reply = Done }) exchanges here sound rests
           (ends_write seals old new plain left lane o written here at writing holds goes (λ block value. refl) written_contained (inl written-keeps))
           (λ was block value. refl)
           (λ exchange is_exchange. subst (λ bs. Rattle.plain_disk.specs.Plain.Step atom left exchange bs) (same (change_of fua) (offset / atom) ∙ sym (same written o.range.start)) (steps exchange is_exchange))
@@ -212,26 +212,26 @@ written_served seals old new plain left lane o offset len fua exchanges here sou
 -- an operation that ends is answered
 end_by : {K P : Type 0} (seals : Seals) (old new : State K) (plain : ℕ → List ℕ) (left : List Block) (lane : ℕ) (o : Open) (ask : Ask) (exchanges : List Exchange) →
     Here P old seals plain left → IsSound new → open_at old.lanes lane ≡ Some o → o.ask ≡ ask → has_lock ask ≡ true → (o.failed ≡ true) ⊎ ((o.failed ≡ false) × IsComplete o) → Holds old lane → Ends old new lane →
-    new.disk ≡ old.disk → AreExchanges (record { ask = ask; plain = plain lane; reply = if o.failed then Errno 5 else full_reply ask (plain lane) } ∷ []) exchanges → Served P seals old new plain left exchanges
+    new.disk ≡ old.disk → AreExchanges (record { session = o.session; ask = ask; plain = plain lane; reply = if o.failed then Errno 5 else full_reply ask (plain lane) } ∷ []) exchanges → Served P seals old new plain left exchanges
 end_by seals old new plain left lane o (Read offset len) exchanges here sound at is has (inl failed) holds goes rests are =
     let under_way = here.logic.sound.under_way lane o at in
     let proper : wrong_ask old.map.atom (old.map.blocks * old.map.atom) (Read offset len) ≡ None = subst (λ a. wrong_ask old.map.atom (size_of old.map) a ≡ None) is under_way.proper in
-    read_ended seals old new plain left lane o (record { ask = Read offset len; plain = plain lane; reply = Errno 5 }) exchanges here sound at (rw is tt) goes rests
+    read_ended seals old new plain left lane o (record { session = o.session; ask = Read offset len; plain = plain lane; reply = Errno 5 }) exchanges here sound at (rw is tt) goes rests
     (λ exchange is_exchange. step_unread old.map.atom old.map.blocks offset len left (plain lane) exchange here.logic.are.count proper is_exchange)
-    (subst (λ b. AreExchanges (record { ask = Read offset len; plain = plain lane; reply = if b then Errno 5 else Content (plain lane) } ∷ []) exchanges) failed are)
+    (subst (λ b. AreExchanges (record { session = o.session; ask = Read offset len; plain = plain lane; reply = if b then Errno 5 else Content (plain lane) } ∷ []) exchanges) failed are)
 end_by seals old new plain left lane o (Read offset len) exchanges here sound at is has (inr (whole, complete)) holds goes rests are =
     let under_way = here.logic.sound.under_way lane o at in
     let proper : wrong_ask old.map.atom (old.map.blocks * old.map.atom) (Read offset len) ≡ None = subst (λ a. wrong_ask old.map.atom (size_of old.map) a ≡ None) is under_way.proper in
     let right = read_right seals old plain left lane o offset len here at is whole complete.pieces in
-    read_ended seals old new plain left lane o (record { ask = Read offset len; plain = plain lane; reply = Content (plain lane) }) exchanges here sound at (rw is tt) goes rests
+    read_ended seals old new plain left lane o (record { session = o.session; ask = Read offset len; plain = plain lane; reply = Content (plain lane) }) exchanges here sound at (rw is tt) goes rests
     (λ exchange is_exchange. step_read old.map.atom old.map.blocks offset len left (plain lane) exchange here.logic.are.count proper is_exchange right.0 right.1)
-    (subst (λ b. AreExchanges (record { ask = Read offset len; plain = plain lane; reply = if b then Errno 5 else Content (plain lane) } ∷ []) exchanges) whole are)
+    (subst (λ b. AreExchanges (record { session = o.session; ask = Read offset len; plain = plain lane; reply = if b then Errno 5 else Content (plain lane) } ∷ []) exchanges) whole are)
 end_by seals old new plain left lane o (Write offset len fua) exchanges here sound at is has (inl failed) holds goes rests are =
     failed_write_served seals old new plain left lane o offset len fua exchanges here sound at is failed holds goes rests
-    (subst (λ b. AreExchanges (record { ask = Write offset len fua; plain = plain lane; reply = if b then Errno 5 else Done } ∷ []) exchanges) failed are)
+    (subst (λ b. AreExchanges (record { session = o.session; ask = Write offset len fua; plain = plain lane; reply = if b then Errno 5 else Done } ∷ []) exchanges) failed are)
 end_by seals old new plain left lane o (Write offset len fua) exchanges here sound at is has (inr (whole, complete)) holds goes rests are =
     written_served seals old new plain left lane o offset len fua exchanges here sound at is whole complete holds goes rests
-    (subst (λ b. AreExchanges (record { ask = Write offset len fua; plain = plain lane; reply = if b then Errno 5 else Done } ∷ []) exchanges) whole are)
+    (subst (λ b. AreExchanges (record { session = o.session; ask = Write offset len fua; plain = plain lane; reply = if b then Errno 5 else Done } ∷ []) exchanges) whole are)
 end_by seals old new plain left lane o Flush exchanges here sound at is has ended holds goes rests are = absurd (cc)
 
 pub finish_served : {K P : Type 0} (seals : Seals) (old new : State K) (plain : ℕ → List ℕ) (left : List Block) (lane : ℕ) (o : Open) (exchanges : List Exchange) →

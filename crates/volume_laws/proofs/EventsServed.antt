@@ -9,7 +9,8 @@ use Rattle.volume_machine.specs.declared.open.Open.{Open}
 use Rattle.volume_machine.specs.Asks.{IsRead, IsWrite, IsForced, has_lock, wrong_ask}
 use Rattle.volume_machine.specs.Events.{Outcome, refused, got, done, device, broken}
 use Rattle.volume_machine.specs.Pieces.{IsPieceOf, place_of, ArePieceBytes, moved, failing, settling}
-use Rattle.volume_machine.specs.Runs.{with_plain, plain_piece, after_read, after_write, by_admit, flush_reply, refusal, IsExchange, AreExchanges}
+use Rattle.volume_machine.specs.Answers.{by_admit, flush_reply, refusal, IsExchange, AreExchanges}
+use Rattle.volume_machine.specs.Runs.{with_plain, plain_piece, after_read, after_write}
 use Rattle.volume_machine.specs.Seals.{Seals}
 use Rattle.volume_machine.specs.Sound.{IsSound}
 use Rattle.volume_machine.specs.States.{State, open_at, size_of}
@@ -35,13 +36,13 @@ pub record Served {K : Type 0} (P : Type 0) (seals : Seals) (old new : State K) 
   pub map : new.map ≡ old.map
 
 -- an operation that is refused
-refused_served : {K P : Type 0} (seals : Seals) (old new : State K) (plain : ℕ → List ℕ) (left : List Block) (lane : ℕ) (ask : Ask) (number : ℕ) (exchanges : List Exchange) →
+refused_served : {K P : Type 0} (seals : Seals) (old new : State K) (plain : ℕ → List ℕ) (left : List Block) (lane session : ℕ) (ask : Ask) (number : ℕ) (exchanges : List Exchange) →
     Here P old seals plain left → open_at old.lanes lane ≡ None → new ≡ old →
-    ((exchange : Exchange) → IsExchange (refusal ask number) exchange → Rattle.plain_disk.specs.Plain.Step old.map.atom left exchange left) →
-    AreExchanges (refusal ask number ∷ []) exchanges → Served P seals old new (with_plain plain lane []) left exchanges
-refused_served {P = P} seals old new plain left lane ask number exchanges here free same step are = record {
+    ((exchange : Exchange) → IsExchange (refusal session ask number) exchange → Rattle.plain_disk.specs.Plain.Step old.map.atom left exchange left) →
+    AreExchanges (refusal session ask number ∷ []) exchanges → Served P seals old new (with_plain plain lane []) left exchanges
+refused_served {P = P} seals old new plain left lane session ask number exchanges here free same step are = record {
   next = left;
-  legal = legal_one old.map.atom left left (refusal ask number) exchanges are step;
+  legal = legal_one old.map.atom left left (refusal session ask number) exchanges are step;
   here = subst (λ s. Here P s seals (with_plain plain lane []) left) (sym same)
       (here_after old old seals plain (with_plain plain lane []) left left IsUnchanged here refl
       (logic_forgets old plain left lane [] free here.logic) (moves_not old.map.atom here.bytes old.disk old.disk refl here.values)
@@ -49,34 +50,34 @@ refused_served {P = P} seals old new plain left lane ask number exchanges here f
   map = ap (λ s. s.map) same;
 }
 
-admitted_served : {K P : Type 0} (seals : Seals) (old new : State K) (plain : ℕ → List ℕ) (left : List Block) (lane : ℕ) (ask : Ask) (outcome : Outcome) (exchanges : List Exchange) →
-    Here P old seals plain left → IsSound new → open_at old.lanes lane ≡ None → wrong_ask old.map.atom (size_of old.map) ask ≡ None → IsAdmitted old lane ask outcome new →
-    AreExchanges (by_admit ask outcome) exchanges → Served P seals old new (with_plain plain lane []) left exchanges
-admitted_served seals old new plain left lane ask outcome exchanges here sound free proper is are = record {
+admitted_served : {K P : Type 0} (seals : Seals) (old new : State K) (plain : ℕ → List ℕ) (left : List Block) (lane session : ℕ) (ask : Ask) (outcome : Outcome) (exchanges : List Exchange) →
+    Here P old seals plain left → IsSound new → open_at old.lanes lane ≡ None → wrong_ask old.map.atom (size_of old.map) ask ≡ None → IsAdmitted old lane session ask outcome new →
+    AreExchanges (by_admit session ask outcome) exchanges → Served P seals old new (with_plain plain lane []) left exchanges
+admitted_served seals old new plain left lane session ask outcome exchanges here sound free proper is are = record {
   next = left;
-  legal = legal_none old.map.atom left exchanges (subst (λ xs. AreExchanges xs exchanges) (unanswered old new lane ask outcome is) are);
+  legal = legal_none old.map.atom left exchanges (subst (λ xs. AreExchanges xs exchanges) (unanswered old new lane session ask outcome is) are);
   here = here_after old new seals plain (with_plain plain lane []) left left IsUnchanged here is.goes.map
-      (logic_admitted old new plain left lane ask outcome here.logic sound proper is) (moves_not old.map.atom here.bytes old.disk new.disk is.rests here.values)
-      (λ view after unchanged shown. shown_admitted old new seals plain left lane ask outcome view after (positive old seals plain left here) free is unchanged shown);
+      (logic_admitted old new plain left lane session ask outcome here.logic sound proper is) (moves_not old.map.atom here.bytes old.disk new.disk is.rests here.values)
+      (λ view after unchanged shown. shown_admitted old new seals plain left lane session ask outcome view after (positive old seals plain left here) free is unchanged shown);
   map = is.goes.map;
 }
 
-pub admit_by : {K P : Type 0} (seals : Seals) (old new : State K) (plain : ℕ → List ℕ) (left : List Block) (lane : ℕ) (ask : Ask) (outcome : Outcome) (exchanges : List Exchange) (wrong : Option ℕ) →
+pub admit_by : {K P : Type 0} (seals : Seals) (old new : State K) (plain : ℕ → List ℕ) (left : List Block) (lane session : ℕ) (ask : Ask) (outcome : Outcome) (exchanges : List Exchange) (wrong : Option ℕ) →
     wrong_ask old.map.atom (size_of old.map) ask ≡ wrong → Here P old seals plain left → IsSound new → open_at old.lanes lane ≡ None →
-    MatchOption wrong (MatchBool old.broken ((outcome ≡ refused 5) × (new ≡ old)) (IsAdmitted old lane ask outcome new)) (λ number. (outcome ≡ refused number) × (new ≡ old)) →
-    AreExchanges (by_admit ask outcome) exchanges → Served P seals old new (with_plain plain lane []) left exchanges
-admit_by seals old new plain left lane ask outcome exchanges (Some number) is here sound free step are =
-    refused_served seals old new plain left lane ask number exchanges here free step.1
+    MatchOption wrong (MatchBool old.broken ((outcome ≡ refused 5) × (new ≡ old)) (IsAdmitted old lane session ask outcome new)) (λ number. (outcome ≡ refused number) × (new ≡ old)) →
+    AreExchanges (by_admit session ask outcome) exchanges → Served P seals old new (with_plain plain lane []) left exchanges
+admit_by seals old new plain left lane session ask outcome exchanges (Some number) is here sound free step are =
+    refused_served seals old new plain left lane session ask number exchanges here free step.1
     (λ exchange is_exchange. step_wrong old.map.atom old.map.blocks number left ask exchange here.logic.are.count is is_exchange)
-    (subst (λ o. AreExchanges (by_admit ask o) exchanges) step.0 are)
-admit_by seals old new plain left lane ask outcome exchanges None is here sound free step are = elim (either old.broken) [
+    (subst (λ o. AreExchanges (by_admit session ask o) exchanges) step.0 are)
+admit_by seals old new plain left lane session ask outcome exchanges None is here sound free step are = elim (either old.broken) [
   | inl was ↦
-      let refusing = match_true old.broken ((outcome ≡ refused 5) × (new ≡ old)) (IsAdmitted old lane ask outcome new) was step in
-      refused_served seals old new plain left lane ask 5 exchanges here free refusing.1
+      let refusing = match_true old.broken ((outcome ≡ refused 5) × (new ≡ old)) (IsAdmitted old lane session ask outcome new) was step in
+      refused_served seals old new plain left lane session ask 5 exchanges here free refusing.1
       (λ exchange is_exchange. step_refused old.map.atom old.map.blocks left ask exchange here.logic.are.count is (positive old seals plain left here) is_exchange)
-      (subst (λ o. AreExchanges (by_admit ask o) exchanges) refusing.0 are)
-  | inr was ↦ admitted_served seals old new plain left lane ask outcome exchanges here sound free is
-      (match_false old.broken ((outcome ≡ refused 5) × (new ≡ old)) (IsAdmitted old lane ask outcome new) was step) are
+      (subst (λ o. AreExchanges (by_admit session ask o) exchanges) refusing.0 are)
+  | inr was ↦ admitted_served seals old new plain left lane session ask outcome exchanges here sound free is
+      (match_false old.broken ((outcome ≡ refused 5) × (new ≡ old)) (IsAdmitted old lane session ask outcome new) was step) are
 ]
 
 -- an event that answers nothing
@@ -174,12 +175,12 @@ write_served seals old new plain left lane o bytes _ exchanges here sound at wri
 -- a flush that ends
 pub flush_served : {K P : Type 0} (seals : Seals) (old new : State K) (plain : ℕ → List ℕ) (left : List Block) (lane : ℕ) (o : Open) (outcome : Outcome) (exchanges : List Exchange) →
     Here P old seals plain left → IsSound new → open_at old.lanes lane ≡ Some o → o.ask ≡ Flush → SettleStep old lane o outcome new →
-    AreExchanges (record { ask = Flush; plain = []; reply = flush_reply outcome } ∷ []) exchanges → Served P seals old new plain left exchanges
+    AreExchanges (record { session = o.session; ask = Flush; plain = []; reply = flush_reply outcome } ∷ []) exchanges → Served P seals old new plain left exchanges
 flush_served seals old new plain left lane o done exchanges here sound at is step are =
     let free : has_lock o.ask ≡ false = rw is refl in
     let goes = subst (λ x. Goes old new lane old.entries x false) (let e : after_settle o (settling o) ≡ None = rw free refl in e) step.goes in record {
       next = map flushed left;
-      legal = legal_one old.map.atom left (map flushed left) (record { ask = Flush; plain = []; reply = Done }) exchanges are
+      legal = legal_one old.map.atom left (map flushed left) (record { session = o.session; ask = Flush; plain = []; reply = Done }) exchanges are
           (λ exchange is_exchange. step_flushed old.map.atom old.map.blocks left exchange here.logic.are.count is_exchange);
       here = here_after old new seals plain plain left (map flushed left) IsSynced here step.goes.map
           (logic_flushed old new plain left lane here.logic sound goes step.was) (moves_by_sync old.map.atom here.bytes old.disk new.disk step.call here.values)
@@ -190,7 +191,7 @@ flush_served seals old new plain left lane o device exchanges here sound at is s
     let free : has_lock o.ask ≡ false = rw is refl in
     let goes = subst (λ x. Goes old new lane old.entries x true) (let e : after_settle o (failing o) ≡ None = rw free refl in e) step.goes in record {
       next = left;
-      legal = legal_one old.map.atom left left (record { ask = Flush; plain = []; reply = Errno 5 }) exchanges are
+      legal = legal_one old.map.atom left left (record { session = o.session; ask = Flush; plain = []; reply = Errno 5 }) exchanges are
           (λ exchange is_exchange. step_unflushed old.map.atom old.map.blocks left exchange here.logic.are.count (positive old seals plain left here) is_exchange);
       here = here_after old new seals plain plain left left IsThinned here step.goes.map
           (logic_unflushed old new plain left lane true here.logic sound goes (λ whole. absurd (cc))) (moves_by_failed_sync old.map.atom here.bytes old.disk new.disk step.call here.values)
@@ -201,7 +202,7 @@ flush_served seals old new plain left lane o broken exchanges here sound at is s
     let free : has_lock o.ask ≡ false = rw is refl in
     let goes = subst (λ x. Goes old new lane old.entries x true) (let e : after_settle o (failing o) ≡ None = rw free refl in e) step.goes in record {
       next = left;
-      legal = legal_one old.map.atom left left (record { ask = Flush; plain = []; reply = Errno 5 }) exchanges are
+      legal = legal_one old.map.atom left left (record { session = o.session; ask = Flush; plain = []; reply = Errno 5 }) exchanges are
           (λ exchange is_exchange. step_unflushed old.map.atom old.map.blocks left exchange here.logic.are.count (positive old seals plain left here) is_exchange);
       here = here_after old new seals plain plain left left IsUnchanged here step.goes.map
           (logic_unflushed old new plain left lane true here.logic sound goes (λ whole. absurd (cc))) (moves_not old.map.atom here.bytes old.disk new.disk step.rests here.values)

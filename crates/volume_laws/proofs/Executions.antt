@@ -3,7 +3,8 @@ use Rattle.std.proofs.Common.{◌≡◌, ℕ, List, [], ◌∷◌, ◌++◌, ref
 use Rattle.plain_disk.specs.Plain.{Block, Exchange}
 use Rattle.volume_laws.specs.Executing.{Executes, StopsAlong}
 use Rattle.volume_laws.specs.Promises.{Starts}
-use Rattle.volume_machine.specs.Runs.{Answered, Happening, IsRun, last_of, answered_by, answered_in, plain_in, plain_after, no_plain, AreExchanges}
+use Rattle.volume_machine.specs.Answers.{Answered, AreExchanges, AreTagged, Tagged, untagged}
+use Rattle.volume_machine.specs.Runs.{Happening, IsRun, last_of, answered_by, answered_in, plain_in, plain_after, no_plain}
 use Rattle.volume_machine.specs.Seals.{Seals}
 use Rattle.volume_machine.specs.States.{State}
 use Rattle.volume_laws.proofs.RunsServed.{split_exchanges, serves_each_run}
@@ -33,26 +34,33 @@ answered-joined seals old plain (x ∷ xs) ys =
     ∙ sym (append_assoc (answered_by old x.event x.outcome plain) (answered_in seals x.after (plain_after seals old x.event x.outcome plain) xs)
     (answered_in seals (last_of x.after xs) (plain_in seals x.after (plain_after seals old x.event x.outcome plain) xs) ys))
 
-pub exchanges-joined : (xs ys : List Answered) (first rest : List Exchange) → AreExchanges xs first → AreExchanges ys rest → AreExchanges (xs ++ ys) (first ++ rest)
-unfolding AreExchanges
-exchanges-joined [] ys [] rest are_first are_rest = are_rest
-exchanges-joined [] ys (exchange ∷ first) rest are_first are_rest = absurd are_first
-exchanges-joined (x ∷ xs) ys [] rest are_first are_rest = absurd are_first
-exchanges-joined (x ∷ xs) ys (exchange ∷ first) rest are_first are_rest = (are_first.0, exchanges-joined xs ys first rest are_first.1 are_rest)
+tagged-joined : (xs ys : List Answered) (first rest : List Tagged) → AreTagged xs first → AreTagged ys rest → AreTagged (xs ++ ys) (first ++ rest)
+unfolding AreTagged
+tagged-joined [] ys [] rest are_first are_rest = are_rest
+tagged-joined [] ys (tagged ∷ first) rest are_first are_rest = absurd are_first
+tagged-joined (x ∷ xs) ys [] rest are_first are_rest = absurd are_first
+tagged-joined (x ∷ xs) ys (tagged ∷ first) rest (is, session, are_first) are_rest = (is, session, tagged-joined xs ys first rest are_first are_rest)
+
+pub tagged-exchanges : (answered : List Answered) (history : List Tagged) → AreTagged answered history → AreExchanges answered (untagged history)
+unfolding AreTagged AreExchanges untagged
+tagged-exchanges [] [] are = tt
+tagged-exchanges [] (tagged ∷ history) are = absurd are
+tagged-exchanges (one ∷ rest) [] are = absurd are
+tagged-exchanges (one ∷ rest) (tagged ∷ history) (is, session, are) = (is, tagged-exchanges rest history are)
 
 -- nothing executed, and one execution after the other
 pub executes_none : {K : Type 0} (seals : Seals) (state : State K) → Executes seals state state [] []
-unfolding IsRun last_of answered_in AreExchanges
+unfolding IsRun last_of answered_in AreTagged
 executes_none seals state = record { is = tt; last = refl; answers = λ plain. tt }
 
-pub executes_joined : {K : Type 0} (seals : Seals) (old middle new : State K) (xs ys : List (Happening K)) (first rest : List Exchange) →
+pub executes_joined : {K : Type 0} (seals : Seals) (old middle new : State K) (xs ys : List (Happening K)) (first rest : List Tagged) →
     Executes seals old middle xs first → Executes seals middle new ys rest → Executes seals old new (xs ++ ys) (first ++ rest)
 executes_joined seals old middle new xs ys first rest one other = record {
   is = run-joined old xs ys one.is (subst (λ s. IsRun s ys) (sym one.last) other.is);
   last = last-joined old xs ys ∙ ap (λ s. last_of s ys) one.last ∙ other.last;
-  answers = λ plain. subst (λ all. AreExchanges all (first ++ rest)) (sym (answered-joined seals old plain xs ys))
-      (exchanges-joined (answered_in seals old plain xs) (answered_in seals (last_of old xs) (plain_in seals old plain xs) ys) first rest (one.answers plain)
-      (subst (λ s. AreExchanges (answered_in seals s (plain_in seals old plain xs) ys) rest) (sym one.last) (other.answers (plain_in seals old plain xs))));
+  answers = λ plain. subst (λ all. AreTagged all (first ++ rest)) (sym (answered-joined seals old plain xs ys))
+      (tagged-joined (answered_in seals old plain xs) (answered_in seals (last_of old xs) (plain_in seals old plain xs) ys) first rest (one.answers plain)
+      (subst (λ s. AreTagged (answered_in seals s (plain_in seals old plain xs) ys) rest) (sym one.last) (other.answers (plain_in seals old plain xs))));
 }
 
 -- stops along a run

@@ -16,19 +16,20 @@ use Rattle.volume_machine.specs.Beginnings.{IsFresh}
 use Rattle.volume_machine.specs.Events.{Event, admits, asks, reads, writes, settles, finishes, Outcome, refused, got, done, device, broken}
 use Rattle.volume_laws.specs.Executing.{ServesWithoutFaults}
 use Rattle.volume_machine.specs.Pieces.{side_in, IsPieceOf, ArePieceBytes, moved, settling, IsComplete}
-use Rattle.volume_machine.specs.Runs.{Happening, IsRun, last_of, with_plain, plain_piece, after_read, after_write, plain_after, no_plain, answered_by, answered_in, by_admit, by_settle, by_finish, full_reply, refusal, Answered, Asked, IsExchange, AreExchanges}
+use Rattle.volume_machine.specs.Answers.{by_admit, by_settle, by_finish, full_reply, refusal, Answered, Asked, IsExchange, AreExchanges}
+use Rattle.volume_machine.specs.Runs.{Happening, IsRun, last_of, with_plain, plain_piece, after_read, after_write, plain_after, no_plain, answered_by, answered_in}
 use Rattle.volume_machine.specs.Seals.{Seals, AreLawful}
 use Rattle.volume_machine.specs.Sound.{IsSound}
 use Rattle.volume_machine.specs.States.{State, open_at, size_of, begun}
-use Rattle.volume_machine.specs.Steps.{Step, Meets, Goes, IsAdmitted, ReadStep, WriteStep, SettleStep, FinishStep, after_settle, CanSettle}
+use Rattle.volume_machine.specs.Steps.{Step, Can, Meets, Goes, IsAdmitted, ReadStep, WriteStep, SettleStep, FinishStep, after_settle, CanSettle}
 use Rattle.volume_laws.proofs.Admits.{plain-other, plain-own, unanswered}
 use Rattle.volume_machine.proofs.Locking.{either, same_or_not}
 use Rattle.volume_laws.proofs.Reading.{piece_blocks}
 use Rattle.volume_laws.proofs.Answering.{read_whole, wrong_asked}
 use Rattle.volume_laws.proofs.EventsServed.{forced_locks}
 use Rattle.volume_machine.proofs.Soundness.{sound_kept, match_false}
-use Rattle.volume_laws.proofs.Failures.{whole_event}
-use Rattle.volume_laws.proofs.Faults.{faults_event, faults_run}
+use Rattle.volume_machine.proofs.EventEffects.{event_effects}
+use Rattle.volume_laws.proofs.Faults.{faults_run}
 
 -- a count that rose didn't stay below its last value
 rose_not : (before now : ℕ) → Rose before now → now ≡ before → before < 2 ^ 64 - 1 → ⊥
@@ -84,8 +85,8 @@ one_full : (atom size : ℕ) (answered : Answered) → MatchOption (wrong_ask at
 unfolding AreFull
 one_full atom size answered is = (is, tt)
 
-wrong_full : (atom size number : ℕ) (ask : Ask) → wrong_ask atom size ask ≡ Some number → AreFull atom size (refusal ask number ∷ [])
-wrong_full atom size number ask wrong = one_full atom size (refusal ask number) (rw wrong refl)
+wrong_full : (atom size session number : ℕ) (ask : Ask) → wrong_ask atom size ask ≡ Some number → AreFull atom size (refusal session ask number ∷ [])
+wrong_full atom size session number ask wrong = one_full atom size (refusal session ask number) (rw wrong refl)
 
 proper_full : (atom size : ℕ) (answered : Answered) → wrong_ask atom size answered.ask ≡ None → IsFull answered answered.ask → AreFull atom size (answered ∷ [])
 proper_full atom size answered proper full = one_full atom size answered (rw proper full)
@@ -136,8 +137,8 @@ ends_or_settled o p is = elim (either (has_lock o.ask)) [
 
 settle_full : {K : Type 0} (old : State K) (o : Open) → wrong_ask old.map.atom (size_of old.map) o.ask ≡ None → CanSettle o → AreFull old.map.atom (size_of old.map) (by_settle (Some o) done)
 settle_full old o proper (inl is) =
-    subst (λ xs. AreFull old.map.atom (size_of old.map) xs) (let e : record { ask = Flush; plain = []; reply = Done } ∷ [] ≡ by_settle (Some o) done = rw is refl in e)
-    (proper_full old.map.atom (size_of old.map) (record { ask = Flush; plain = []; reply = Done }) refl refl)
+    subst (λ xs. AreFull old.map.atom (size_of old.map) xs) (let e : record { session = o.session; ask = Flush; plain = []; reply = Done } ∷ [] ≡ by_settle (Some o) done = rw is refl in e)
+    (proper_full old.map.atom (size_of old.map) (record { session = o.session; ask = Flush; plain = []; reply = Done }) refl refl)
 settle_full old o proper (inr (forced, ended, unfailed, unsettled)) =
     subst (λ xs. AreFull old.map.atom (size_of old.map) xs) (let has = forced_locks o.ask forced in let e : [] ≡ by_settle (Some o) done = rw has refl in e)
     (none_full old.map.atom (size_of old.map))
@@ -155,7 +156,7 @@ fine_settle old new seals plain lane o _ fine sound at can same below step = abs
 
 -- an operation that ends
 finish_full : {K : Type 0} (old : State K) (seals : Seals) (plain : ℕ → List ℕ) (lane : ℕ) (o : Open) (ask : Ask) → IsFine old seals plain → open_at old.lanes lane ≡ Some o → o.ask ≡ ask → has_lock o.ask ≡ true →
-    (o.failed ≡ true) ⊎ IsComplete o → IsFull (record { ask = ask; plain = plain lane; reply = full_reply ask (plain lane) }) ask
+    (o.failed ≡ true) ⊎ IsComplete o → IsFull (record { session = o.session; ask = ask; plain = plain lane; reply = full_reply ask (plain lane) }) ask
 finish_full old seals plain lane o (Read offset len) fine at is has ended =
     let parts = fine.lanes lane o at in
     let complete : IsComplete o = elim ended [
@@ -177,8 +178,8 @@ fine_finish : {K : Type 0} (old new : State K) (seals : Seals) (plain : ℕ → 
     has_lock o.ask ≡ true → (o.failed ≡ true) ⊎ IsComplete o → FinishStep old lane outcome new → FineAfter old new seals plain (by_finish (Some o) (plain lane))
 fine_finish old new seals plain lane o outcome fine sound at has ended step = record {
   fine = fine_after old new seals plain plain lane (without lane old.entries) None fine sound (subst (λ b. Goes old new lane (without lane old.entries) None b) fine.unbroken step.goes) (λ k other. refl) (λ p is. absurd (cc));
-  full = subst (λ b. AreFull old.map.atom (size_of old.map) (record { ask = o.ask; plain = plain lane; reply = if b then Errno 5 else full_reply o.ask (plain lane) } ∷ [])) (sym (fine.lanes lane o at).0)
-      (proper_full old.map.atom (size_of old.map) (record { ask = o.ask; plain = plain lane; reply = full_reply o.ask (plain lane) }) (fine.sound.under_way lane o at).proper
+  full = subst (λ b. AreFull old.map.atom (size_of old.map) (record { session = o.session; ask = o.ask; plain = plain lane; reply = if b then Errno 5 else full_reply o.ask (plain lane) } ∷ [])) (sym (fine.lanes lane o at).0)
+      (proper_full old.map.atom (size_of old.map) (record { session = o.session; ask = o.ask; plain = plain lane; reply = full_reply o.ask (plain lane) }) (fine.sound.under_way lane o at).proper
       (finish_full old seals plain lane o o.ask fine at refl has ended));
 }
 
@@ -194,48 +195,48 @@ fine_forgets old seals plain lane fine free = record {
   ];
 }
 
-fine_admit : {K : Type 0} (old new : State K) (seals : Seals) (plain : ℕ → List ℕ) (lane : ℕ) (ask : Ask) (outcome : Outcome) (wrong : Option ℕ) → wrong_ask old.map.atom (size_of old.map) ask ≡ wrong →
+fine_admit : {K : Type 0} (old new : State K) (seals : Seals) (plain : ℕ → List ℕ) (lane session : ℕ) (ask : Ask) (outcome : Outcome) (wrong : Option ℕ) → wrong_ask old.map.atom (size_of old.map) ask ≡ wrong →
     IsFine old seals plain → IsSound new → open_at old.lanes lane ≡ None →
-    MatchOption wrong (MatchBool old.broken ((outcome ≡ refused 5) × (new ≡ old)) (IsAdmitted old lane ask outcome new)) (λ number. (outcome ≡ refused number) × (new ≡ old)) →
-    FineAfter old new seals (with_plain plain lane []) (by_admit ask outcome)
-fine_admit old new seals plain lane ask outcome (Some number) is fine sound free step = record {
+    MatchOption wrong (MatchBool old.broken ((outcome ≡ refused 5) × (new ≡ old)) (IsAdmitted old lane session ask outcome new)) (λ number. (outcome ≡ refused number) × (new ≡ old)) →
+    FineAfter old new seals (with_plain plain lane []) (by_admit session ask outcome)
+fine_admit old new seals plain lane session ask outcome (Some number) is fine sound free step = record {
   fine = subst (λ s. IsFine s seals (with_plain plain lane [])) (sym step.1) (fine_forgets old seals plain lane fine free);
-  full = subst (λ o. AreFull old.map.atom (size_of old.map) (by_admit ask o)) (sym step.0) (wrong_full old.map.atom (size_of old.map) number ask is);
+  full = subst (λ o. AreFull old.map.atom (size_of old.map) (by_admit session ask o)) (sym step.0) (wrong_full old.map.atom (size_of old.map) session number ask is);
 }
-fine_admit old new seals plain lane ask outcome None is fine sound free step =
-    let admitted = match_false old.broken ((outcome ≡ refused 5) × (new ≡ old)) (IsAdmitted old lane ask outcome new) fine.unbroken step in record {
-      fine = fine_after old new seals plain (with_plain plain lane []) lane new.entries (Some (begun old.map.atom ask)) fine sound
-          (subst (λ b. Goes old new lane new.entries (Some (begun old.map.atom ask)) b) fine.unbroken admitted.goes) (plain-other plain lane [])
-          (λ o same. let e : o ≡ begun old.map.atom ask = cc in rw e (refl, λ has. ap (λ xs. length xs) (plain-own plain lane []) ∙ (let none : (range_of old.map.atom ask).start - (range_of old.map.atom ask).start ≡ 0 = omega arith in rw none (omega arith))));
-      full = subst (λ xs. AreFull old.map.atom (size_of old.map) xs) (sym (unanswered old new lane ask outcome admitted)) (none_full old.map.atom (size_of old.map));
+fine_admit old new seals plain lane session ask outcome None is fine sound free step =
+    let admitted = match_false old.broken ((outcome ≡ refused 5) × (new ≡ old)) (IsAdmitted old lane session ask outcome new) fine.unbroken step in record {
+      fine = fine_after old new seals plain (with_plain plain lane []) lane new.entries (Some (begun old.map.atom session ask)) fine sound
+          (subst (λ b. Goes old new lane new.entries (Some (begun old.map.atom session ask)) b) fine.unbroken admitted.goes) (plain-other plain lane [])
+          (λ o same. let e : o ≡ begun old.map.atom session ask = cc in rw e (refl, λ has. ap (λ xs. length xs) (plain-own plain lane []) ∙ (let none : (range_of old.map.atom ask).start - (range_of old.map.atom ask).start ≡ 0 = omega arith in rw none (omega arith))));
+      full = subst (λ xs. AreFull old.map.atom (size_of old.map) xs) (sym (unanswered old new lane session ask outcome admitted)) (none_full old.map.atom (size_of old.map));
     }
 
 fine_event : {K : Type 0} (old new : State K) (seals : Seals) (plain : ℕ → List ℕ) (event : Event) (outcome : Outcome) → IsFine old seals plain → Meets old event → Step old event outcome new →
     new.disk.faults ≡ old.disk.faults → old.disk.faults < 2 ^ 64 - 1 → FineAfter old new seals (plain_after seals old event outcome plain) (answered_by old event outcome plain)
-unfolding Meets Step answered_by plain_after
-fine_event old new seals plain (admits lane ask) outcome fine meets step same below =
-    fine_admit old new seals plain lane ask outcome _ refl fine (sound_kept old new (admits lane ask) outcome fine.sound meets step) meets.1 step
+unfolding Can Step answered_by plain_after
+fine_event old new seals plain (admits lane session ask) outcome fine meets step same below =
+    fine_admit old new seals plain lane session ask outcome _ refl fine (sound_kept old new (admits lane session ask) outcome fine.sound meets step) meets.can step
 fine_event old new seals plain (asks lane) outcome fine meets step same below = record {
   fine = subst (λ s. IsFine s seals plain) (sym step.1) fine;
   full = none_full old.map.atom (size_of old.map);
 }
-fine_event old new seals plain (reads lane) outcome fine meets (o, at, step) same below =
-    let (p, is, can) = meets.0 in let one : p ≡ o = cc in record {
-      fine = fine_read old new seals plain lane o outcome fine (sound_kept old new (reads lane) outcome fine.sound meets (o, at, step)) at (subst (λ q. IsRead q.ask) one can.0) same below step;
+fine_event old new seals plain (reads lane len) outcome fine meets (o, at, step) same below =
+    let (p, is, can) = meets.can.0 in let one : p ≡ o = cc in record {
+      fine = fine_read old new seals plain lane o outcome fine (sound_kept old new (reads lane len) outcome fine.sound meets (o, at, step)) at (subst (λ q. IsRead q.ask) one can.reads) same below step;
       full = none_full old.map.atom (size_of old.map);
     }
 fine_event old new seals plain (writes lane bytes) outcome fine meets (o, at, step) same below =
-    let (p, is, can) = meets.0 in let one : p ≡ o = cc in record {
-      fine = fine_write old new seals plain lane o bytes outcome fine (sound_kept old new (writes lane bytes) outcome fine.sound meets (o, at, step)) at (subst (λ q. IsWrite q.ask) one can.0) same below step;
+    let (p, is, can) = meets.can.0 in let one : p ≡ o = cc in record {
+      fine = fine_write old new seals plain lane o bytes outcome fine (sound_kept old new (writes lane bytes) outcome fine.sound meets (o, at, step)) at (subst (λ q. IsWrite q.ask) one can.writes) same below step;
       full = none_full old.map.atom (size_of old.map);
     }
 fine_event old new seals plain (settles lane) outcome fine meets (o, at, step) same below =
-    let (p, is, can) = meets in let one : p ≡ o = cc in
+    let (p, is, can) = meets.can in let one : p ≡ o = cc in
     let after = fine_settle old new seals plain lane o outcome fine (sound_kept old new (settles lane) outcome fine.sound meets (o, at, step)) at (subst (λ q. CanSettle q) one can) same below step in
     record { fine = after.fine; full = subst (λ x. AreFull old.map.atom (size_of old.map) (by_settle x outcome)) (sym at) after.full }
 fine_event old new seals plain (finishes lane) outcome fine meets step same below =
-    let (o, at, can) = meets.0 in
-    let after = fine_finish old new seals plain lane o outcome fine (sound_kept old new (finishes lane) outcome fine.sound meets step) at can.0 can.1 step in
+    let (o, at, can) = meets.can.0 in
+    let after = fine_finish old new seals plain lane o outcome fine (sound_kept old new (finishes lane) outcome fine.sound meets step) at can.locks can.ends step in
     record { fine = after.fine; full = subst (λ x. AreFull old.map.atom (size_of old.map) (by_finish x (plain lane))) (sym at) after.full }
 
 full_joined : (atom size : ℕ) (xs ys : List Answered) → AreFull atom size xs → AreFull atom size ys → AreFull atom size (xs ++ ys)
@@ -243,22 +244,19 @@ unfolding AreFull
 full_joined atom size [] ys first rest = rest
 full_joined atom size (x ∷ xs) ys first rest = (first.0, full_joined atom size xs ys first.1 rest)
 
--- the map stays
-map_event : {K : Type 0} (old new : State K) (seals : Seals) (plain now : ℕ → List ℕ) (event : Event) (outcome : Outcome) → Step old event outcome new → new.map ≡ old.map
-map_event old new seals plain now event outcome step = (whole_event old new event outcome step).map_is
-
 fine_run : {K : Type 0} (start : State K) (seals : Seals) (plain : ℕ → List ℕ) (run : List (Happening K)) → IsFine start seals plain → IsRun start run →
     (last_of start run).disk.faults ≡ start.disk.faults → start.disk.faults < 2 ^ 64 - 1 →
     AreFull start.map.atom (size_of start.map) (answered_in seals start plain run) × ((last_of start run).broken ≡ false)
 unfolding IsRun last_of answered_in
 fine_run start seals plain [] fine is same below = (none_full start.map.atom (size_of start.map), fine.unbroken)
 fine_run start seals plain (one ∷ rest) fine (meets, step, is) same below =
-    let first = faults_event start one.after one.event one.outcome step in
+    let goes = event_effects start one.after one.event one.outcome step in
+    let first = goes.disk.later in
     let behind = faults_run one.after rest is in
     let here : one.after.disk.faults ≡ start.disk.faults = omega (arith, first, behind, same) in
     let after = fine_event start one.after seals plain one.event one.outcome fine meets step here below in
     let later = fine_run one.after seals (plain_after seals start one.event one.outcome plain) rest after.fine is (same ∙ sym here) (omega (arith, here, below)) in
-    let map = map_event start one.after seals plain plain one.event one.outcome step in (
+    let map = goes.map in (
       full_joined start.map.atom (size_of start.map) (answered_by start one.event one.outcome plain)
           (answered_in seals one.after (plain_after seals start one.event one.outcome plain) rest) after.full
           (subst (λ m. AreFull m.atom (size_of m) (answered_in seals one.after (plain_after seals start one.event one.outcome plain) rest)) map later.0),

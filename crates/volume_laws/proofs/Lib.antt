@@ -10,6 +10,7 @@ pub mod Faults
 pub mod Finishing
 pub mod Here
 pub mod Invariant
+pub mod LanesAlone
 pub mod OtherLanes
 pub mod Places
 pub mod PlainBlocks

@@ -5,17 +5,18 @@ use Rattle.sector_disk.specs.Steps.{Told}
 use Rattle.volume_machine.specs.declared.ask.Ask.{Ask}
 use Rattle.volume_machine.specs.declared.ask.Ask.TheVariants.{Read, Write, Flush}
 use Rattle.volume_machine.specs.declared.open.Open.{Open}
-use Rattle.volume_machine.specs.Asks.{IsForced, has_lock}
+use Rattle.volume_machine.specs.Asks.{IsRead, IsWrite, IsForced, has_lock}
 use Rattle.volume_laws.specs.Contents.{block_in, StopsAllowed, IsTriedBy}
 use Rattle.disk_views.specs.Parts.{cell_in, value_in}
 use Rattle.volume_machine.specs.Events.{Event, admits, asks, reads, writes, settles, finishes, Outcome}
 use Rattle.volume_machine.specs.Pieces.{place_in}
 use Rattle.volume_laws.specs.Promises.{Starts, StartsCovered, ServesEachRun}
-use Rattle.volume_machine.specs.Runs.{Happening, IsRun, last_of, answered_in, answered_by, plain_in, plain_after, no_plain, AreExchanges, by_settle, by_finish, flush_reply}
+use Rattle.volume_machine.specs.Answers.{AreExchanges, by_settle, by_finish, flush_reply}
+use Rattle.volume_machine.specs.Runs.{Happening, IsRun, last_of, answered_in, answered_by, plain_in, plain_after, no_plain}
 use Rattle.volume_machine.specs.Seals.{Seals}
 use Rattle.volume_machine.specs.Sound.{IsSound}
 use Rattle.volume_machine.specs.States.{State, open_at}
-use Rattle.volume_machine.specs.Steps.{Step, Meets, SettleStep, CanSettle}
+use Rattle.volume_machine.specs.Steps.{Step, Can, Meets, SettleStep, CanSettle, HasPiece}
 use Rattle.volume_laws.proofs.Admits.{idle}
 use Rattle.volume_laws.proofs.Answering.{legal_none}
 use Rattle.disk_views.proofs.Entries.{image_in}
@@ -32,7 +33,7 @@ settles_served : {K P : Type 0} (seals : Seals) (old new : State K) (plain : ℕ
     AreExchanges (by_settle (Some o) outcome) exchanges → Served P seals old new plain left exchanges
 settles_served seals old new plain left lane o outcome exchanges here sound at (inl is) step are =
     flush_served seals old new plain left lane o outcome exchanges here sound at is step
-    (subst (λ xs. AreExchanges xs exchanges) (let e : by_settle (Some o) outcome ≡ record { ask = Flush; plain = []; reply = flush_reply outcome } ∷ [] = rw is refl in e) are)
+    (subst (λ xs. AreExchanges xs exchanges) (let e : by_settle (Some o) outcome ≡ record { session = o.session; ask = Flush; plain = []; reply = flush_reply outcome } ∷ [] = rw is refl in e) are)
 settles_served seals old new plain left lane o outcome exchanges here sound at (inr (forced, whole, unfailed, unsettled)) step are =
     settle_served seals old new plain left lane o outcome exchanges here sound at forced whole step
     (subst (λ xs. AreExchanges xs exchanges) (let has = locks o.ask forced in let e : by_settle (Some o) outcome ≡ [] = rw has refl in e) are)
@@ -46,29 +47,29 @@ settles_served seals old new plain left lane o outcome exchanges here sound at (
 pub event_served : {K P : Type 0} (seals : Seals) (old new : State K) (plain : ℕ → List ℕ) (left : List Block) (event : Event) (outcome : Outcome) (exchanges : List Exchange) →
     Here P old seals plain left → Meets old event → Step old event outcome new → AreExchanges (answered_by old event outcome plain) exchanges →
     Served P seals old new (plain_after seals old event outcome plain) left exchanges
-unfolding Meets Step answered_by plain_after
-event_served seals old new plain left (admits lane ask) outcome exchanges here meets step are =
-    admit_by seals old new plain left lane ask outcome exchanges _ refl here (sound_kept old new (admits lane ask) outcome here.logic.sound meets step) meets.1 step are
+unfolding Can Step answered_by plain_after
+event_served seals old new plain left (admits lane session ask) outcome exchanges here meets step are =
+    admit_by seals old new plain left lane session ask outcome exchanges _ refl here (sound_kept old new (admits lane session ask) outcome here.logic.sound meets step) meets.can step are
 event_served {P = P} seals old new plain left (asks lane) outcome exchanges here meets step are =
     goes_on seals old new plain left exchanges are (subst (λ s. Here P s seals plain left) (sym step.1) here) (ap (λ s. s.map) step.1)
-event_served seals old new plain left (reads lane) outcome exchanges here meets (o, at, step) are =
-    let (p, is, can) = meets.0 in
+event_served seals old new plain left (reads lane len) outcome exchanges here meets (o, at, step) are =
+    let (p, is, can) = meets.can.0 in
     let same : p ≡ o = cc in
-    read_served seals old new plain left lane o outcome exchanges here (sound_kept old new (reads lane) outcome here.logic.sound meets (o, at, step)) at
-    (subst (λ q. Rattle.volume_machine.specs.Asks.IsRead q.ask) same can.0) (subst (λ q. Rattle.volume_machine.specs.Steps.HasPiece q) same can.1) meets.1 step are
+    read_served seals old new plain left lane o outcome exchanges here (sound_kept old new (reads lane len) outcome here.logic.sound meets (o, at, step)) at
+    (subst (λ q. IsRead q.ask) same can.reads) (subst (λ q. HasPiece q) same can.has) meets.can.1 step are
 event_served seals old new plain left (writes lane bytes) outcome exchanges here meets (o, at, step) are =
-    let (p, is, can) = meets.0 in
+    let (p, is, can) = meets.can.0 in
     let same : p ≡ o = cc in
     write_served seals old new plain left lane o bytes outcome exchanges here (sound_kept old new (writes lane bytes) outcome here.logic.sound meets (o, at, step)) at
-    (subst (λ q. Rattle.volume_machine.specs.Asks.IsWrite q.ask) same can.0) (subst (λ q. Rattle.volume_machine.specs.Steps.HasPiece q) same can.1) meets.1 step are
+    (subst (λ q. IsWrite q.ask) same can.writes) (subst (λ q. HasPiece q) same can.has) meets.can.1 step are
 event_served seals old new plain left (settles lane) outcome exchanges here meets (o, at, step) are =
-    let (p, is, can) = meets in
+    let (p, is, can) = meets.can in
     let same : p ≡ o = cc in
     settles_served seals old new plain left lane o outcome exchanges here (sound_kept old new (settles lane) outcome here.logic.sound meets (o, at, step)) at
     (subst (λ q. CanSettle q) same can) step (subst (λ x. AreExchanges (by_settle x outcome) exchanges) at are)
 event_served seals old new plain left (finishes lane) outcome exchanges here meets step are =
-    let (o, at, can) = meets.0 in
-    finish_served seals old new plain left lane o exchanges here (sound_kept old new (finishes lane) outcome here.logic.sound meets step) at can.0 can.1 meets.1 step.goes step.rests
+    let (o, at, can) = meets.can.0 in
+    finish_served seals old new plain left lane o exchanges here (sound_kept old new (finishes lane) outcome here.logic.sound meets step) at can.locks can.ends meets.can.1 step.goes step.rests
     (subst (λ x. AreExchanges (by_finish x (plain lane)) exchanges) at are)
 
 -- exchanges of two lists of answers, one after the other

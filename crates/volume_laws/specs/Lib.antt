@@ -1,3 +1,4 @@
 pub mod Contents
 pub mod Executing
+pub mod Lanes
 pub mod Promises

@@ -1,5 +1,5 @@
 -- What is promised of every run of events.
-use Rattle.std.specs.Prelude.{ℕ, ◌≡◌, ◌↔◌, Bool, true, false, ◌==◌, ◌||◌, ◌&&◌, if◌then◌else◌, List, [], ◌∷◌, replicate, Some, None}
+use Rattle.std.specs.Prelude.{ℕ, ◌≡◌, ◌↔◌, Bool, true, false, ◌==◌, ◌||◌, if◌then◌else◌, List, [], ◌∷◌, replicate, Some, None}
 use Rattle.base_terms.specs.Blocks.{lengths}
 use Rattle.plain_disk.specs.Plain.{Block, Exchange, AreSure, Legal}
 use Rattle.plain_disk.specs.declared.operation.Reply.TheVariants.{Errno}
@@ -8,8 +8,10 @@ use Rattle.sector_disk.specs.Steps.{Told}
 use Rattle.volume_machine.specs.Asks.{wrong_ask}
 use Rattle.volume_laws.specs.Contents.{AreBlocksOf, StandsFor, StandsNow, StopsAllowed, Covers}
 use Rattle.volume_machine.specs.Beginnings.{IsFresh}
-use Rattle.volume_machine.specs.Events.{Event, admits, asks, reads, writes, settles, finishes, Outcome, device, broken}
-use Rattle.volume_machine.specs.Runs.{Answered, Happening, IsRun, last_of, answered_by, answered_in, plain_in, no_plain, AreExchanges}
+use Rattle.volume_machine.specs.Effects.{breaks}
+use Rattle.volume_machine.specs.Events.{Event, admits, asks, settles, finishes, lane_of, Outcome, device, broken}
+use Rattle.volume_machine.specs.Answers.{Answered, AreExchanges}
+use Rattle.volume_machine.specs.Runs.{Happening, IsRun, last_of, answered_by, answered_in, plain_in, no_plain}
 use Rattle.volume_machine.specs.Seals.{Seals, AreLawful}
 use Rattle.volume_machine.specs.Sound.{IsSound, AreApart}
 use Rattle.volume_machine.specs.States.{State, open_at, size_of}
@@ -60,30 +62,22 @@ is_failure device = true
 is_failure broken = true
 is_failure _ = false
 
--- the outcome is that the device failed
-abbrev pub is_fault : Outcome → Bool
-is_fault device = true
-is_fault _ = false
+-- whether the operation of the event's lane has failed after it, given whether it had before
+abbrev pub has_failed_by : Event → Outcome → Bool → Bool
+has_failed_by (admits lane session ask) outcome before = false
+has_failed_by (asks lane) outcome before = before
+has_failed_by (finishes lane) outcome before = before
+has_failed_by _ outcome before = before || is_failure outcome
 
--- whether an event of the lane's operation failed, given whether an earlier one had
+-- the same of any lane's
 abbrev pub fails : ℕ → Event → Outcome → Bool → Bool
-fails lane (admits other ask) outcome before = if other == lane then false else before
-fails lane (asks other) outcome before = before
-fails lane (reads other) outcome before = before || ((other == lane) && is_failure outcome)
-fails lane (writes other sealed) outcome before = before || ((other == lane) && is_failure outcome)
-fails lane (settles other) outcome before = before || ((other == lane) && is_failure outcome)
-fails lane (finishes other) outcome before = before
+fails lane event outcome before = if lane_of event == lane then has_failed_by event outcome before else before
 
 unfoldable pub fails_in : {K : Type 0} → ℕ → Bool → List (Happening K) → Bool
 fails_in lane before [] = before
 fails_in lane before (one ∷ rest) = fails_in lane (fails lane one.event one.outcome before) rest
 
--- whether the event is a write or a sync that failed
-abbrev pub breaks : Event → Outcome → Bool
-breaks (writes lane sealed) outcome = is_fault outcome
-breaks (settles lane) outcome = is_fault outcome
-breaks _ outcome = false
-
+-- whether a write or a sync has failed
 unfoldable pub breaks_in : {K : Type 0} → Bool → List (Happening K) → Bool
 breaks_in before [] = before
 breaks_in before (one ∷ rest) = breaks_in (before || breaks one.event one.outcome) rest
@@ -100,7 +94,7 @@ pub record GoesByEvents {K : Type 0} (start : State K) (run : List (Happening K)
 -- broken; at the settle of a flush, where that failed; at its finish, where one of its events since
 -- its admit failed
 abbrev pub has_failed : {K : Type 0} → State K → List (Happening K) → Event → Outcome → Bool
-has_failed start earlier (admits lane ask) outcome = (last_of start earlier).broken
+has_failed start earlier (admits lane session ask) outcome = (last_of start earlier).broken
 has_failed start earlier (settles lane) outcome = is_failure outcome
 has_failed start earlier (finishes lane) outcome = fails_in lane false earlier
 has_failed start earlier _ outcome = false

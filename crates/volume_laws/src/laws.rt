@@ -8,15 +8,18 @@ ghost use Rattle.sector_disk.specs.Geometry.{IsAtom};
 ghost use Rattle.sector_disk.specs.Steps.{Told};
 ghost use Rattle.segment_map.specs.declared.Direction.TheVariants.{Forward, Backward};
 ghost use Rattle.segment_map.specs.declared.map.Map.{Map};
+ghost use Rattle.volume_machine.specs.Alone.{MeetsAlone};
 ghost use Rattle.volume_machine.specs.Beginnings.{IsFresh};
 ghost use Rattle.volume_machine.specs.Events.{Event, Outcome, lane_of};
 ghost use Rattle.volume_laws.specs.Executing.{Executes, StopsAlong, TellsRun, ServesWithoutFaults, BreaksByFaults};
+ghost use Rattle.volume_laws.specs.Lanes.{AreAlone, AreMetByLanes, AreSteps, alone_in};
 ghost use Rattle.volume_laws.specs.Promises.{Starts, StartsCovered, TellsSettled, ServesEachRun, GoesByEvents, DeviceErrorsAreExact};
-ghost use Rattle.volume_machine.specs.Runs.{Happening, IsRun, last_of, answered_in, no_plain, AreExchanges};
+ghost use Rattle.volume_machine.specs.Answers.{AreExchanges, Tagged, untagged};
+ghost use Rattle.volume_machine.specs.Runs.{Happening, IsRun, last_of, answered_in, no_plain};
 ghost use Rattle.volume_machine.specs.Beginnings.{ChangeNothing};
 ghost use Rattle.volume_machine.specs.Seals.{Seals, AreLawful, seals_of};
 ghost use Rattle.volume_machine.specs.Sound.{IsSound, AreApart};
-ghost use Rattle.volume_machine.specs.States.{State, open_at};
+ghost use Rattle.volume_machine.specs.States.{State, IsClient, open_at};
 ghost use Rattle.volume_machine.specs.Steps.{Step, Meets, Holds};
 ghost use Rattle.volume_machine.specs.Beginnings.{IsWholeDisk};
 ghost use Rattle.volume_laws.specs.Contents.{plain_blocks};
@@ -76,13 +79,36 @@ pub fn keys_seal_lawfully<C: SectorCipher>()
         AreLawful atom (seals_of C.sealed C.opened atom keys) }
 {}
 
-/// Where nothing was executed nothing was done, and two executions, one after the other, are one.
+/// A lane's own calls tell what it is. Steps whose calls meet their conditions lane by lane, each by that
+/// lane's own calls alone, are a run; after it the operation of each lane, what it has in plain and what it
+/// was granted are those that its own calls tell, and under it was answered what they answer. So where the
+/// next call meets its conditions by its own lane's calls, it meets them in the state.
+pub fn lanes_are_alone<C: SectorCipher>()
+    ensures runs { (start : State (Keys C)) (seals : Seals) (run : List (Happening (Keys C))) →
+        IsSound start → IsFresh start → AreSteps start run → AreMetByLanes start seals run →
+        AreAlone start seals run }
+    ensures next { (start : State (Keys C)) (seals : Seals) (run : List (Happening (Keys C)))
+        (event : Event) → IsSound start → IsFresh start → AreSteps start run →
+        AreMetByLanes start seals run → IsClient start (lane_of event) →
+        MeetsAlone (alone_in start seals (lane_of event) run) event → Meets (last_of start run) event }
+    ensures more { (start : State (Keys C)) (seals : Seals) (run : List (Happening (Keys C)))
+        (one : Happening (Keys C)) → AreMetByLanes start seals run →
+        IsClient start (lane_of one.event) →
+        MeetsAlone (alone_in start seals (lane_of one.event) run) one.event →
+        AreMetByLanes start seals (run ++ one ∷ []) }
+{}
+
+/// Where nothing was executed nothing was done, and two executions, one after the other, are one. What was
+/// executed are the operations that were answered, whatever their sessions.
 pub fn executions_join<C: SectorCipher>()
     ensures none { (seals : Seals) (state : State (Keys C)) → Executes seals state state [] [] }
     ensures joined { (seals : Seals) (old middle new : State (Keys C))
-        (xs ys : List (Happening (Keys C))) (first rest : List Exchange) →
+        (xs ys : List (Happening (Keys C))) (first rest : List Tagged) →
         Executes seals old middle xs first → Executes seals middle new ys rest →
         Executes seals old new (xs ++ ys) (first ++ rest) }
+    ensures untagged { (seals : Seals) (old new : State (Keys C)) (run : List (Happening (Keys C)))
+        (history : List Tagged) → Executes seals old new run history →
+        AreExchanges (answered_in seals old no_plain run) (untagged history) }
 {}
 
 /// A run may stop after each of its events: the operations answered by then are a front of the

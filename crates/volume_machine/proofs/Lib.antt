@@ -1,3 +1,4 @@
+pub mod EventEffects
 pub mod KeyLemmas
 pub mod Locking
 pub mod NextPieces

@@ -14,7 +14,7 @@ use Rattle.volume_machine.specs.Events.{Event, admits, asks, reads, writes, sett
 use Rattle.volume_machine.specs.Pieces.{IsPieceOf, moved, failing, settling}
 use Rattle.volume_machine.specs.Sound.{IsSound, IsUnderWay, entry_in, locks, count_locks}
 use Rattle.volume_machine.specs.States.{State, open_at, size_of, begun}
-use Rattle.volume_machine.specs.Steps.{Step, Meets, Goes, IsAdmitted, AdmitStep, ReadStep, WriteStep, SettleStep, after_settle}
+use Rattle.volume_machine.specs.Steps.{Step, Can, Meets, Goes, IsAdmitted, AdmitStep, ReadStep, WriteStep, SettleStep, after_settle}
 use Rattle.volume_machine.proofs.Locking.{either, same_or_not, is_of-own, is_of-other, find-more, find-last, after-last, after-more, find-without, find-left, after-none, after-without, length-without}
 
 pub match_true : (b : Bool) (A B : Type 0) → b ≡ true → MatchBool b A B → A
@@ -113,8 +113,8 @@ proper-inside atom blocks (Write offset len fua) known proper = range_inside ato
 proper-inside atom blocks Flush known proper = omega arith
 
 -- an operation that isn't wrong, as it begins
-pub begins : (map : Map) (ask : Ask) → IsAtom map.atom → wrong_ask map.atom (size_of map) ask ≡ None → IsUnderWay map (begun map.atom ask)
-begins map ask known proper = record {
+pub begins : (map : Map) (session : ℕ) (ask : Ask) → IsAtom map.atom → wrong_ask map.atom (size_of map) ask ≡ None → IsUnderWay map (begun map.atom session ask)
+begins map session ask known proper = record {
   proper = proper;
   range_is = refl;
   begun = omega arith;
@@ -193,10 +193,10 @@ sound_settled old new lane o now is_broken sound goes atoms is same under_way = 
 ]
 
 -- an operation that entered
-sound_locked : {K : Type 0} (old new : State K) (lane : ℕ) (ask : Ask) → IsSound old → has_lock ask ≡ true → open_at old.lanes lane ≡ None →
+sound_locked : {K : Type 0} (old new : State K) (lane session : ℕ) (ask : Ask) → IsSound old → has_lock ask ≡ true → open_at old.lanes lane ≡ None →
     wrong_ask old.map.atom (size_of old.map) ask ≡ None → new.entries ≡ old.entries ++ entry_of old.map.atom lane ask ∷ [] →
-    Goes old new lane new.entries (Some (begun old.map.atom ask)) old.broken → new.disk ≡ old.disk → IsSound new
-sound_locked old new lane ask sound has free proper entries goes rests =
+    Goes old new lane new.entries (Some (begun old.map.atom session ask)) old.broken → new.disk ≡ old.disk → IsSound new
+sound_locked old new lane session ask sound has free proper entries goes rests =
     let map = goes.map in
     let lanes = goes.lane_is in
     let e = entry_of old.map.atom lane ask in
@@ -221,8 +221,8 @@ sound_locked old new lane ask sound has free proper entries goes rests =
         | inr other ↦ after-more (is_of k) old.entries e (is_of-other k e (λ is. other (sym is))) (sound.once k)
       ]);
       under_way = λ k o is. rw map (elim (same_or_not k lane) [
-        | inl same ↦ (let now : o ≡ begun old.map.atom ask = (let at = sym lanes.own ∙ ap (λ n. open_at new.lanes n) (sym same) ∙ is in cc) in
-            rw now (begins old.map ask sound.fits.known proper))
+        | inl same ↦ (let now : o ≡ begun old.map.atom session ask = (let at = sym lanes.own ∙ ap (λ n. open_at new.lanes n) (sym same) ∙ is in cc) in
+            rw now (begins old.map session ask sound.fits.known proper))
         | inr other ↦ sound.under_way k o (sym (lanes.others k other) ∙ is)
       ]);
     }
@@ -261,34 +261,34 @@ sound_left old new lane o sound is has goes rests =
       ]);
     }
 
-sound_admitted : {K : Type 0} (old new : State K) (lane : ℕ) (ask : Ask) (outcome : Outcome) → IsSound old → open_at old.lanes lane ≡ None →
-    wrong_ask old.map.atom (size_of old.map) ask ≡ None → IsAdmitted old lane ask outcome new → IsSound new
-sound_admitted old new lane ask outcome sound free proper is = elim (either (has_lock ask)) [
+sound_admitted : {K : Type 0} (old new : State K) (lane session : ℕ) (ask : Ask) (outcome : Outcome) → IsSound old → open_at old.lanes lane ≡ None →
+    wrong_ask old.map.atom (size_of old.map) ask ≡ None → IsAdmitted old lane session ask outcome new → IsSound new
+sound_admitted old new lane session ask outcome sound free proper is = elim (either (has_lock ask)) [
   | inl has ↦ (let enters = rw has at is.enters in
-      sound_locked old new lane ask sound has free proper enters.0 is.goes is.rests)
+      sound_locked old new lane session ask sound has free proper enters.0 is.goes is.rests)
   | inr has_none ↦ (let enters = rw has_none at is.enters in
-      sound_goes old new lane (Some (begun old.map.atom ask)) old.broken sound
-      (subst (λ es. Goes old new lane es (Some (begun old.map.atom ask)) old.broken) enters.0 is.goes)
+      sound_goes old new lane (Some (begun old.map.atom session ask)) old.broken sound
+      (subst (λ es. Goes old new lane es (Some (begun old.map.atom session ask)) old.broken) enters.0 is.goes)
       (ap (λ d. d.atoms) is.rests) (rw (free, has_none) refl) (rw (free, has_none) refl)
-      (λ o same. let e : o ≡ begun old.map.atom ask = cc in rw e (begins old.map ask sound.fits.known proper)))
+      (λ o same. let e : o ≡ begun old.map.atom session ask = cc in rw e (begins old.map session ask sound.fits.known proper)))
 ]
 
-pub admit_cases : {K : Type 0} (old new : State K) (lane : ℕ) (ask : Ask) (outcome : Outcome) (wrong : Option ℕ) → wrong_ask old.map.atom (size_of old.map) ask ≡ wrong →
-    AdmitStep old lane ask outcome new → (new ≡ old) ⊎ ((wrong ≡ None) × IsAdmitted old lane ask outcome new)
-admit_cases old new lane ask outcome (Some number) is step = (let refused_step = rw is at step in inl refused_step.1)
-admit_cases old new lane ask outcome None is step =
+pub admit_cases : {K : Type 0} (old new : State K) (lane session : ℕ) (ask : Ask) (outcome : Outcome) (wrong : Option ℕ) → wrong_ask old.map.atom (size_of old.map) ask ≡ wrong →
+    AdmitStep old lane session ask outcome new → (new ≡ old) ⊎ ((wrong ≡ None) × IsAdmitted old lane session ask outcome new)
+admit_cases old new lane session ask outcome (Some number) is step = (let refused_step = rw is at step in inl refused_step.1)
+admit_cases old new lane session ask outcome None is step =
     (let proper = rw is at step in
     elim (either old.broken) [
-      | inl was ↦ inl (match_true old.broken ((outcome ≡ refused 5) × (new ≡ old)) (IsAdmitted old lane ask outcome new) was proper).1
-      | inr was ↦ inr (refl, match_false old.broken ((outcome ≡ refused 5) × (new ≡ old)) (IsAdmitted old lane ask outcome new) was proper)
+      | inl was ↦ inl (match_true old.broken ((outcome ≡ refused 5) × (new ≡ old)) (IsAdmitted old lane session ask outcome new) was proper).1
+      | inr was ↦ inr (refl, match_false old.broken ((outcome ≡ refused 5) × (new ≡ old)) (IsAdmitted old lane session ask outcome new) was proper)
     ])
 
-sound_admit : {K : Type 0} (old new : State K) (lane : ℕ) (ask : Ask) (outcome : Outcome) → IsSound old → open_at old.lanes lane ≡ None →
-    AdmitStep old lane ask outcome new → IsSound new
-sound_admit old new lane ask outcome sound free step =
-    elim (admit_cases old new lane ask outcome (wrong_ask old.map.atom (size_of old.map) ask) refl step) [
+sound_admit : {K : Type 0} (old new : State K) (lane session : ℕ) (ask : Ask) (outcome : Outcome) → IsSound old → open_at old.lanes lane ≡ None →
+    AdmitStep old lane session ask outcome new → IsSound new
+sound_admit old new lane session ask outcome sound free step =
+    elim (admit_cases old new lane session ask outcome (wrong_ask old.map.atom (size_of old.map) ask) refl step) [
       | inl same ↦ rw same sound
-      | inr admitted ↦ sound_admitted old new lane ask outcome sound free admitted.0 admitted.1
+      | inr admitted ↦ sound_admitted old new lane session ask outcome sound free admitted.0 admitted.1
     ]
 
 sound_read : {K : Type 0} (old new : State K) (lane : ℕ) (o : Open) (outcome : Outcome) → IsSound old → open_at old.lanes lane ≡ Some o →
@@ -325,11 +325,11 @@ sound_settle old new lane o _ sound is step = absurd step
 
 -- every event of a sound volume leaves a sound one
 pub sound_kept : {K : Type 0} (old new : State K) (event : Event) (outcome : Outcome) → IsSound old → Meets old event → Step old event outcome new → IsSound new
-unfolding Step Meets
-sound_kept old new (admits lane ask) outcome sound meets step = sound_admit old new lane ask outcome sound meets.1 step
+unfolding Step Can
+sound_kept old new (admits lane session ask) outcome sound meets step = sound_admit old new lane session ask outcome sound meets.can step
 sound_kept old new (asks lane) outcome sound meets step = rw step.1 sound
-sound_kept old new (reads lane) outcome sound meets (o, is, step) = sound_read old new lane o outcome sound is step
+sound_kept old new (reads lane len) outcome sound meets (o, is, step) = sound_read old new lane o outcome sound is step
 sound_kept old new (writes lane bytes) outcome sound meets (o, is, step) = sound_write old new lane o bytes outcome sound is step
 sound_kept old new (settles lane) outcome sound meets (o, is, step) = sound_settle old new lane o outcome sound is step
 sound_kept old new (finishes lane) outcome sound meets step =
-    let (o, is, has) = meets.0 in sound_left old new lane o sound is has.0 step.goes step.rests
+    let (o, is, can) = meets.can.0 in sound_left old new lane o sound is can.locks step.goes step.rests

@@ -1,5 +1,8 @@
+pub mod Alone
+pub mod Answers
 pub mod Asks
 pub mod Beginnings
+pub mod Effects
 pub mod Events
 pub mod Pieces
 pub mod Runs

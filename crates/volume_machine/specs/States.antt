@@ -1,5 +1,5 @@
 -- A volume between two events.
-use Rattle.std.specs.Prelude.{ℕ, ◌≡◌, false, List, Option, None, ◌≢◌, ◌*◌, Bool, length, slice_index_or}
+use Rattle.std.specs.Prelude.{ℕ, suc, ◌≡◌, ◌<◌, false, List, Option, None, ◌≢◌, ◌*◌, Bool, length, slice_index_or}
 use Rattle.range_lock.specs.declared.Entry.{Entry}
 use Rattle.segment_map.specs.declared.map.Map.{Map}
 use Rattle.volume_machine.specs.Asks.{range_of}
@@ -26,15 +26,20 @@ size_of map = map.blocks * map.atom
 abbrev pub open_at : List (Option Open) → ℕ → Option Open
 open_at lanes lane = slice_index_or lanes lane None
 
--- an operation that has just begun
-abbrev pub begun : ℕ → Ask → Open
-begun atom ask = record {
+-- an operation of a session that has just begun, on blocks of `atom` bytes
+abbrev pub begun : ℕ → ℕ → Ask → Open
+begun atom session ask = record {
+  session = session;
   ask = ask;
   range = range_of atom ask;
   next = (range_of atom ask).start;
   settled = false;
   failed = false;
 }
+
+-- a lane of clients: the last one is the conversion's own
+abbrev pub IsClient : {K : Type 0} → State K → ℕ → Type 0
+IsClient state lane = suc lane < length state.lanes
 
 -- the lane's operation changed, and no other
 pub record LaneBecomes (old new : List (Option Open)) (lane : ℕ) (now : Option Open) : Type 0 where

@@ -1,26 +1,34 @@
 -- One event: what it asks of the state before, and what it leaves.
-use Rattle.std.specs.Prelude.{ℕ, suc, ◌≡◌, ◌<◌, ◌⊎◌, Bool, true, false, List, [], ◌∷◌, ◌++◌, length, Option, Some, None, MatchOption, if◌then◌else◌, Result}
+use Rattle.std.specs.Prelude.{ℕ, ◌≡◌, ◌<◌, ◌⊎◌, Bool, true, false, List, [], ◌∷◌, ◌++◌, length, Option, Some, None, MatchOption, if◌then◌else◌, Result}
 use Rattle.std.specs.Bool.{MatchBool}
 use Rattle.base_terms.specs.declared.failed.Failed.{Failed}
+use Rattle.block_range.specs.declared.BlockRange.{BlockRange}
 use Rattle.range_lock.specs.declared.Entry.{Entry}
 use Rattle.range_lock.specs.declared.Standing.{Standing}
 use Rattle.range_lock.specs.declared.Standing.TheVariants.{Held, Waiting}
 use Rattle.range_lock.specs.Locks.{IsStanding, IsStandingOf, without}
+use Rattle.segment_map.specs.declared.map.Map.{Map}
 use Rattle.segment_map.specs.declared.map.Piece.{Piece}
-use Rattle.volume_machine.specs.Asks.{IsRead, IsWrite, IsForced, has_lock, wrong_ask, entry_of}
+use Rattle.volume_machine.specs.Asks.{IsRead, IsWrite, IsForced, range_of, has_lock, wrong_ask, entry_of}
 use Rattle.sector_disk.specs.Devices.{ReadCall, WriteCall, SyncCall, succeeded, failed_call}
-use Rattle.volume_machine.specs.Events.{Event, admits, asks, reads, writes, settles, finishes, Outcome, held, waits, refused, got, done, device, broken}
-use Rattle.volume_machine.specs.Pieces.{IsPieceOf, place_of, ArePieceBytes, moved, failing, settling, IsComplete}
-use Rattle.volume_machine.specs.States.{State, open_at, size_of, begun, LaneBecomes}
+use Rattle.volume_machine.specs.Events.{Event, admits, asks, reads, writes, settles, finishes, lane_of, Outcome, held, waits, refused, got, done, device, broken}
+use Rattle.volume_machine.specs.Pieces.{IsPieceOf, place_of, size_of_piece, ArePieceBytes, moved, failing, settling, IsComplete}
+use Rattle.volume_machine.specs.States.{State, open_at, size_of, begun, IsClient, LaneBecomes}
 use Rattle.volume_machine.specs.declared.ask.Ask.{Ask}
 use Rattle.volume_machine.specs.declared.ask.Ask.TheVariants.{Flush}
+use Rattle.volume_machine.specs.declared.grant.Grant.{Grant}
 use Rattle.volume_machine.specs.declared.open.Open.{Open}
 
--- the outcome tells where the lane's entry stands
-abbrev pub TellsStanding : (Standing → Type 0) → Outcome → Type 0
-TellsStanding stands held = stands Held
-TellsStanding stands (waits lane) = stands (Waiting lane)
-TellsStanding stands _ = ⊥
+-- a grant tells the map of the volume, and the blocks
+pub record IsGrant {K : Type 0} (state : State K) (range : BlockRange) (grant : Grant) : Type 0 where
+  pub map : grant.map ≡ state.map
+  pub range_is : grant.range ≡ range
+
+-- the outcome tells where the entry of these blocks stands
+abbrev pub TellsStanding : {K : Type 0} → State K → BlockRange → (Standing → Type 0) → Outcome → Type 0
+TellsStanding state range stands (held grant) = stands Held × IsGrant state range grant
+TellsStanding state range stands (waits lane) = stands (Waiting lane)
+TellsStanding state range stands _ = ⊥
 
 -- all stays but the table of locks, the lane's operation, whether the volume is broken, and the disk
 pub record Goes {K : Type 0} (old new : State K) (lane : ℕ) (entries : List Entry) (now : Option Open)
@@ -42,22 +50,24 @@ pub record IsReadyFor {K : Type 0} (state : State K) (ask : Ask) : Type 0 where
   pub unbroken : state.broken ≡ false
 
 -- an operation that isn't refused has its entry behind all others; a flush is held without one
-abbrev pub Enters : ℕ → ℕ → Ask → List Entry → List Entry → Outcome → Type 0
-Enters atom lane ask old new outcome =
+abbrev pub Enters : {K : Type 0} → State K → ℕ → Ask → List Entry → Outcome → Type 0
+Enters old lane ask new outcome =
     MatchBool (has_lock ask)
-    ((new ≡ old ++ entry_of atom lane ask ∷ []) × TellsStanding (IsStanding old (entry_of atom lane ask)) outcome)
-    ((new ≡ old) × (outcome ≡ held))
+    ((new ≡ old.entries ++ entry_of old.map.atom lane ask ∷ [])
+    × TellsStanding old (range_of old.map.atom ask) (IsStanding old.entries (entry_of old.map.atom lane ask)) outcome)
+    ((new ≡ old.entries) × TellsStanding old (range_of old.map.atom ask) (λ standing. standing ≡ Held) outcome)
 
-pub record IsAdmitted {K : Type 0} (old : State K) (lane : ℕ) (ask : Ask) (outcome : Outcome) (new : State K) : Type 0 where
-  pub enters : Enters old.map.atom lane ask old.entries new.entries outcome
-  pub goes : Goes old new lane new.entries (Some (begun old.map.atom ask)) old.broken
+pub record IsAdmitted {K : Type 0} (old : State K) (lane session : ℕ) (ask : Ask) (outcome : Outcome)
+    (new : State K) : Type 0 where
+  pub enters : Enters old lane ask new.entries outcome
+  pub goes : Goes old new lane new.entries (Some (begun old.map.atom session ask)) old.broken
   pub rests : Rests old new
 
 -- a wrong operation is refused with its number, any other on a broken volume with 5
-abbrev pub AdmitStep : {K : Type 0} → State K → ℕ → Ask → Outcome → State K → Type 0
-AdmitStep old lane ask outcome new =
+abbrev pub AdmitStep : {K : Type 0} → State K → ℕ → ℕ → Ask → Outcome → State K → Type 0
+AdmitStep old lane session ask outcome new =
     MatchOption (wrong_ask old.map.atom (size_of old.map) ask)
-    (MatchBool old.broken ((outcome ≡ refused 5) × (new ≡ old)) (IsAdmitted old lane ask outcome new))
+    (MatchBool old.broken ((outcome ≡ refused 5) × (new ≡ old)) (IsAdmitted old lane session ask outcome new))
     (λ number. (outcome ≡ refused number) × (new ≡ old))
 
 -- an event of an operation finds the volume broken: it fails without a device call
@@ -128,21 +138,25 @@ pub record FinishStep {K : Type 0} (old : State K) (lane : ℕ) (outcome : Outco
   pub goes : Goes old new lane (without lane old.entries) None old.broken
   pub rests : Rests old new
 
--- the lane's open operation is this
+-- the open operation is this
+abbrev pub HasOpen : Option Open → (Open → Type 0) → Type 0
+HasOpen operation Is = (o : Open) × (operation ≡ Some o) × Is o
+
 abbrev pub Has : {K : Type 0} → State K → ℕ → (Open → Type 0) → Type 0
-Has state lane Is = (o : Open) × (open_at state.lanes lane ≡ Some o) × Is o
+Has state lane Is = HasOpen (open_at state.lanes lane) Is
 
 -- What one event does. The outcome tells, and all that it leaves is computed, but for what the disk
 -- tells.
 unfoldable pub Step : {K : Type 0} → State K → Event → Outcome → State K → Type 0
-Step old (admits lane ask) outcome new = AdmitStep old lane ask outcome new
-Step old (asks lane) outcome new = TellsStanding (IsStandingOf lane old.entries) outcome × (new ≡ old)
-Step old (reads lane) outcome new = Has old lane (λ o. ReadStep old lane o outcome new)
+Step old (admits lane session ask) outcome new = AdmitStep old lane session ask outcome new
+Step old (asks lane) outcome new =
+    Has old lane (λ o. TellsStanding old o.range (IsStandingOf lane old.entries) outcome) × (new ≡ old)
+Step old (reads lane len) outcome new = Has old lane (λ o. ReadStep old lane o outcome new)
 Step old (writes lane bytes) outcome new = Has old lane (λ o. WriteStep old lane o bytes outcome new)
 Step old (settles lane) outcome new = Has old lane (λ o. SettleStep old lane o outcome new)
 Step old (finishes lane) outcome new = FinishStep old lane outcome new
 
--- the lane's operation holds its range
+-- the lane's operation holds its blocks
 abbrev pub Holds : {K : Type 0} → State K → ℕ → Type 0
 Holds state lane = IsStandingOf lane state.entries Held
 
@@ -151,20 +165,42 @@ pub record HasPiece (o : Open) : Type 0 where
   pub some : o.next < o.range.end
   pub goes_on : o.failed ≡ false
 
+-- a read whose next piece has so many bytes
+pub record CanRead (map : Map) (len : ℕ) (o : Open) : Type 0 where
+  pub reads : IsRead o.ask
+  pub has : HasPiece o
+  pub piece : Piece
+  pub next : IsPieceOf map o piece
+  pub size : len ≡ size_of_piece map piece
+
+-- a write whose next piece these bytes are
+pub record CanWrite (map : Map) (bytes : List ℕ) (o : Open) : Type 0 where
+  pub writes : IsWrite o.ask
+  pub has : HasPiece o
+  pub piece : Piece
+  pub next : IsPieceOf map o piece
+  pub are : ArePieceBytes map piece bytes
+
 -- a flush, or a write that is to be kept for certain, all of whose pieces were made
 abbrev pub CanSettle : Open → Type 0
 CanSettle o = (o.ask ≡ Flush)
     ⊎ (IsForced o.ask × (o.next ≡ o.range.end) × (o.failed ≡ false) × (o.settled ≡ false))
 
+-- a read or a write that is complete, or has failed
+pub record CanFinish (o : Open) : Type 0 where
+  pub locks : has_lock o.ask ≡ true
+  pub ends : (o.failed ≡ true) ⊎ IsComplete o
+
+-- what an event's call asks of the lane
+unfoldable pub Can : {K : Type 0} → State K → Event → Type 0
+Can state (admits lane session ask) = open_at state.lanes lane ≡ None
+Can state (asks lane) = Has state lane (λ o. has_lock o.ask ≡ true)
+Can state (reads lane len) = Has state lane (CanRead state.map len) × Holds state lane
+Can state (writes lane bytes) = Has state lane (CanWrite state.map bytes) × Holds state lane
+Can state (settles lane) = Has state lane CanSettle
+Can state (finishes lane) = Has state lane CanFinish × Holds state lane
+
 -- What an event's call asks of the state: the caller's conditions.
-unfoldable pub Meets : {K : Type 0} → State K → Event → Type 0
-Meets state (admits lane ask) = (suc lane < length state.lanes) × (open_at state.lanes lane ≡ None)
-Meets state (asks lane) = Has state lane (λ o. has_lock o.ask ≡ true)
-Meets state (reads lane) = Has state lane (λ o. IsRead o.ask × HasPiece o) × Holds state lane
-Meets state (writes lane bytes) =
-    Has state lane (λ o. IsWrite o.ask × HasPiece o
-    × ((piece : Piece) × IsPieceOf state.map o piece × ArePieceBytes state.map piece bytes))
-    × Holds state lane
-Meets state (settles lane) = Has state lane CanSettle
-Meets state (finishes lane) =
-    Has state lane (λ o. (has_lock o.ask ≡ true) × ((o.failed ≡ true) ⊎ IsComplete o)) × Holds state lane
+pub record Meets {K : Type 0} (state : State K) (event : Event) : Type 0 where
+  pub client : IsClient state (lane_of event)
+  pub can : Can state event

@@ -3,13 +3,10 @@
 ghost use Rattle.std.specs.Prelude.{◌≡◌, ◌+◌, ◌/◌, ◌<◌};
 ghost use Rattle.sector_disk.specs.Geometry.{IsAtom};
 
+use base_terms::{INVALID, NO_SPACE};
 use block_range::BlockRange;
 use plain_disk::{MAX_READ, wrong_range};
 use range_lock::Kind;
-
-const INVALID: u32 = 22;
-
-const NO_SPACE: u32 = 28;
 
 /// What an operation asks for, without the bytes that it writes. Offsets and lengths are in bytes.
 /// With `fua` ("force unit access") a write is answered once it is certain to be kept.

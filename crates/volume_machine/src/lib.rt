@@ -7,13 +7,15 @@
 #![tactic(auto)]
 
 mod ask;
+mod grant;
 mod keys;
 mod laws;
 mod open;
 mod prepared;
 
 pub use ask::Ask;
+pub use grant::Grant;
 pub use keys::Keys;
-pub use laws::volumes_stay_sound;
+pub use laws::{events_have_effects, volumes_stay_sound};
 pub use open::{Open, open_of, set_lane};
 pub use prepared::Prepared;

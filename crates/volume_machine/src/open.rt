@@ -6,10 +6,11 @@ use crate::Ask;
 use block_range::BlockRange;
 use segment_map::Piece;
 
-/// The operation of a lane under way: its blocks, the first of them that no piece has covered yet,
-/// whether it was settled, and whether one of its events failed.
+/// The operation of a lane under way: the session that asked for it, its blocks, the first of them that
+/// no piece has covered yet, whether it was settled, and whether one of its events failed.
 #[derive(Clone, Copy, Debug, PartialEq, Eq)]
 pub struct Open {
+    pub session: u64,
     pub ask: Ask,
     pub range: BlockRange,
     pub next: u64,
@@ -21,9 +22,10 @@ impl Open {
     ghost use Rattle.volume_machine.specs.Pieces.{rest_of, moved, failing, settling};
     ghost use Rattle.volume_machine.specs.Steps.{after_settle};
 
-    /// An operation on these blocks that has just begun.
-    pub fn new(ask: Ask, range: BlockRange) -> Open
+    /// An operation of a session on these blocks that has just begun.
+    pub fn new(session: u64, ask: Ask, range: BlockRange) -> Open
         ensures { result ≡ record {
+          session = session;
           ask = ask;
           range = range;
           next = range.start;
@@ -32,6 +34,7 @@ impl Open {
         } }
     {
         Open {
+            session,
             ask,
             range,
             next: range.start,

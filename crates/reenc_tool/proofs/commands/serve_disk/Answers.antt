@@ -20,6 +20,8 @@ returns-clause-ended g c =
     c.serve_links-trouble.result.failed s.0 _ _
     (record {
       served = c.every_run_is_served.ensures start _;
+      answers = λ final operations did.
+          c.executions_join.ensures.untagged _ start final _ operations did;
       events = c.failures_go_by_events.ensures.along start;
       errors = c.device_errors_are_exact.ensures start _;
       stops = λ blocks bytes exchanges.
@@ -55,7 +57,7 @@ returns-clause-ended g c =
     (c.from.ensures ∙ ap (λ p. p.atom) c.progress-blocks.ensures))
     (ap (λ p. p.atom) c.progress-blocks.ensures)
     (λ spent. spent.1) s.2 s.3 s.4 refl c.into_disk.ensures.disk
-    (c.into_disk.ensures.size ∙ ap (λ m. m.atom) did.map ∙ atom_is)
+    (c.into_disk.ensures.size ∙ ap (λ m. m.atom) did.map_is ∙ atom_is)
     (c.cause-cause.ensures
     ∙ ap (λ p. cause_of p.broken c.serve_links-trouble.result.failed
     c.serve_links-trouble.result.memory) c.progress.ensures))

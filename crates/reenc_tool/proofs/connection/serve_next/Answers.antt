@@ -1,8 +1,9 @@
 use Rattle.std.proofs.Common.{List, [], ◌∷◌, ◌++◌, ◌∙◌, ap, refl, sym, subst, append-nil, arith}
-use Rattle.plain_disk.specs.Plain.{Exchange}
-use Rattle.reenc_tool.specs.Sessions.{Played}
+use Rattle.volume_machine.specs.Answers.{Tagged}
+use Rattle.nbd_session.specs.Turns.{exchanges_of}
+use Rattle.reenc_tool.specs.Sessions.{Played, tagged}
 use Rattle.reenc_tool.proofs.AskingLemmas.{goes_none, goes_one, sessions_none, sessions_one}
-use Rattle.reenc_tool.proofs.AskingLemmas.{operations_of-none, operations_of-one}
+use Rattle.reenc_tool.proofs.AskingLemmas.{tagged_of-none, tagged_of-one}
 use Rattle.reenc_tool.proofs.connection.serve_next.Goals as goal
 
 pub returns-then-is_err : goal.returns-then-is_err
@@ -16,8 +17,8 @@ returns-then-is_err g c = λ k. (
     later = omega arith;
     by_case = (refl, refl);
   },
-  subst (λ (done : List Exchange). g.P.Port.did c.args.port.now c.args.port.now done)
-      (sym operations_of-none) (g.met.P.Port.did_none c.args.port.now),
+  subst (λ (done : List Tagged). g.P.SharedPort.executed c.args.port.now c.args.port.now done)
+      (sym tagged_of-none) (g.met.P.SharedPort.executed_none c.args.port.now),
 )
 
 pub returns-in-Ok-None : goal.returns-in-Ok-None
@@ -37,8 +38,8 @@ returns-in-Ok-None g c = λ k.
           c.in-Ok-None.ensures.cause.held refl,
         );
       },
-      subst (λ (done : List Exchange). g.P.Port.did c.args.port.now c.args.port.now done)
-          (sym operations_of-none) (g.met.P.Port.did_none c.args.port.now),
+      subst (λ (done : List Tagged). g.P.SharedPort.executed c.args.port.now c.args.port.now done)
+          (sym tagged_of-none) (g.met.P.SharedPort.executed_none c.args.port.now),
     )
 
 pub returns-in-Err : goal.returns-in-Err
@@ -52,8 +53,8 @@ returns-in-Err g c = λ k. (
     later = c.in-Err.ensures.cause.later;
     by_case = (refl, c.in-Err.ensures.cause.failed refl, c.in-Err.ensures.counts.bound_is);
   },
-  subst (λ (done : List Exchange). g.P.Port.did c.args.port.now c.args.port.now done)
-      (sym operations_of-none) (g.met.P.Port.did_none c.args.port.now),
+  subst (λ (done : List Tagged). g.P.SharedPort.executed c.args.port.now c.args.port.now done)
+      (sym tagged_of-none) (g.met.P.SharedPort.executed_none c.args.port.now),
 )
 
 pub returns-in-Ok : goal.returns-in-Ok
@@ -88,7 +89,14 @@ returns-in-Ok g c = λ k.
           c.done.ensures.faults ∙ c.in-Ok-Some.ensures.cause.held refl,
         );
       },
-      subst (λ (done : List Exchange).
-          g.P.Port.did c.args.port.now c.serve_session-end.new.port done)
-          (sym (operations_of-one one)) session.1,
+      subst (λ (done : List Tagged).
+          g.P.SharedPort.executed c.args.port.now c.serve_session-end.new.port done)
+          (sym (tagged_of-one one))
+          (g.met.P.SharedPort.executed_more c.args.port.now c.begin.new.self
+          c.serve_session-end.new.port [] _ c.begin.ensures.none
+          (subst (λ n. g.P.SharedPort.executed c.begin.new.self c.serve_session-end.new.port
+          (tagged n (exchanges_of session.0.turns)))
+          (c.begin.ensures.number ∙ sym session.2.number)
+          (g.met.P.SharedPort.of_session c.begin.new.self c.serve_session-end.new.port
+          (exchanges_of session.0.turns) session.1))),
     )

@@ -1,11 +1,11 @@
 use Rattle.std.proofs.Common.{◌+◌, ◌∙◌, true, List, [], ◌++◌, length, refl, sym, subst, arith}
 use Rattle.std.proofs.Math.Nat.{mul-suc}
 use Rattle.std.proofs.lemmas.List.{get_or-replicate}
-use Rattle.plain_disk.specs.Plain.{Exchange}
+use Rattle.volume_machine.specs.Answers.{Tagged}
 use Rattle.reenc_tool.specs.declared.serving.Standing.TheVariants.{Live}
-use Rattle.reenc_tool.specs.Sessions.{NumbersBelow, NumbersRise, operations_of}
-use Rattle.reenc_tool.proofs.AskingLemmas.{operations_of-none, sessions_none}
-use Rattle.reenc_tool.proofs.LaneLemmas.{operations_of-append, AreSessions-append}
+use Rattle.reenc_tool.specs.Sessions.{NumbersBelow, NumbersRise, tagged_of}
+use Rattle.reenc_tool.proofs.AskingLemmas.{tagged_of-none, sessions_none}
+use Rattle.reenc_tool.proofs.LaneLemmas.{tagged_of-append, AreSessions-append}
 use Rattle.reenc_tool.proofs.RoundLemmas.{lanes_start, lanes_same, lanes_done, served_of}
 use Rattle.reenc_tool.proofs.RoundLemmas.{NumbersRise-append, NumbersBelow-later}
 use Rattle.reenc_tool.proofs.RoundLemmas.{NumbersBelow-append, AreOfLinks-append, of_links_none}
@@ -21,8 +21,8 @@ loop-round-init g c = record {
   rounds = omega arith;
   played = (
     [],
-    subst (λ (done : List Exchange). g.P.Port.did c.args.port.now c.args.port.now done)
-        (sym operations_of-none) (g.met.P.Port.did_none c.args.port.now),
+    subst (λ (done : List Tagged). g.P.SharedPort.executed c.args.port.now c.args.port.now done)
+        (sym tagged_of-none) (g.met.P.SharedPort.executed_none c.args.port.now),
     sessions_none _ _,
     tt,
     tt,
@@ -40,10 +40,10 @@ returns-then-serve_round g c =
     let after = new.6 c.args.links.now.items c.loop-round.round old.0 c.loop-round.invariant.rounds
     old.6 in (
       old.0 ++ new.0,
-      subst (λ (done : List Exchange). g.P.Port.did c.args.port.now c.serve_round.new.port done)
-          (sym (operations_of-append old.0 new.0))
-          (g.met.P.Port.did_more c.args.port.now c.loop-round.port c.serve_round.new.port
-          (operations_of old.0) (operations_of new.0) old.1 new.1),
+      subst (λ (done : List Tagged). g.P.SharedPort.executed c.args.port.now c.serve_round.new.port done)
+          (sym (tagged_of-append old.0 new.0))
+          (g.met.P.SharedPort.executed_more c.args.port.now c.loop-round.port c.serve_round.new.port
+          (tagged_of old.0) (tagged_of new.0) old.1 new.1),
       AreSessions-append _ _ old.0 new.0 old.2
           (sessions_numbered _ _ c.loop-round.number new.0 new.2),
       NumbersRise-append 0 c.loop-round.number old.0 new.0 (omega arith) old.3 old.4 new.3,
@@ -74,10 +74,10 @@ loop-round-preserved g c =
       );
       played = (
         old.0 ++ new.0,
-        subst (λ (done : List Exchange). g.P.Port.did c.args.port.now c.serve_round.new.port done)
-            (sym (operations_of-append old.0 new.0))
-            (g.met.P.Port.did_more c.args.port.now c.loop-round.port c.serve_round.new.port
-            (operations_of old.0) (operations_of new.0) old.1 new.1),
+        subst (λ (done : List Tagged). g.P.SharedPort.executed c.args.port.now c.serve_round.new.port done)
+            (sym (tagged_of-append old.0 new.0))
+            (g.met.P.SharedPort.executed_more c.args.port.now c.loop-round.port c.serve_round.new.port
+            (tagged_of old.0) (tagged_of new.0) old.1 new.1),
         AreSessions-append _ _ old.0 new.0 old.2
             (sessions_numbered _ _ c.loop-round.number new.0 new.2),
         NumbersRise-append 0 c.loop-round.number old.0 new.0 (omega arith) old.3 old.4 new.3,

@@ -1,7 +1,7 @@
 use Rattle.std.proofs.Common.{◌≡◌, ◌*◌, ◌≤◌, List, length}
 use Rattle.reenc_tool.specs.Lanes.{Lanes}
 use Rattle.reenc_tool.specs.Sessions.{Played, AreOfLinks, AreSessions, NumbersBelow, NumbersRise}
-use Rattle.reenc_tool.specs.Sessions.{operations_of}
+use Rattle.reenc_tool.specs.Sessions.{tagged_of}
 use Rattle.reenc_tool.proofs.serving.serve_links.Given as goal
 
 abbrev pub invariant-loop-round : goal.invariant-loop-round
@@ -10,7 +10,7 @@ invariant-loop-round g l = record {
   lists : length l.ends.items ≡ length l.initial.links.items;
   low : l.number ≤ 16 * l.round;
   rounds : l.number ≡ length l.initial.links.items * l.round;
-  played : (played : List Played) × g.P.Port.did l.initial.port l.port (operations_of played)
+  played : (played : List Played) × g.P.SharedPort.executed l.initial.port l.port (tagged_of played)
       × AreSessions (record { number = 0; size = l.size; atom = l.atom })
       ((spent : _) × g.P.Port.is_spent spent) played
       × NumbersRise 0 played × NumbersBelow l.number played

@@ -1,9 +1,9 @@
 use Rattle.std.proofs.Common.{◌+◌, ◌*◌, ◌<◌, ◌==◌, if◌then◌else◌, ap, length-set, List, [], ◌++◌}
 use Rattle.std.proofs.Common.{◌∙◌, refl, sym, subst, append-nil, append_assoc, arith, length}
-use Rattle.plain_disk.specs.Plain.{Exchange}
-use Rattle.reenc_tool.specs.Sessions.{NumbersBelow, NumbersRise, operations_of}
-use Rattle.reenc_tool.proofs.AskingLemmas.{operations_of-none, sessions_none}
-use Rattle.reenc_tool.proofs.LaneLemmas.{turns_at, lanes_turn, took_one, operations_of-append}
+use Rattle.volume_machine.specs.Answers.{Tagged}
+use Rattle.reenc_tool.specs.Sessions.{NumbersBelow, NumbersRise, tagged_of}
+use Rattle.reenc_tool.proofs.AskingLemmas.{tagged_of-none, sessions_none}
+use Rattle.reenc_tool.proofs.LaneLemmas.{turns_at, lanes_turn, took_one, tagged_of-append}
 use Rattle.reenc_tool.proofs.LaneLemmas.{AreSessions-append}
 use Rattle.reenc_tool.proofs.RoundLemmas.{live-set, turns_at-none, turns_at-all, turns_at-here}
 use Rattle.reenc_tool.proofs.RoundLemmas.{turns_at-other, turned-here, turned-other, lanes_same}
@@ -19,8 +19,8 @@ loop-k-init g c = record {
   lists = c.requires.lists;
   played = (
     [],
-    subst (λ (done : List Exchange). g.P.Port.did c.args.port.now c.args.port.now done)
-        (sym operations_of-none) (g.met.P.Port.did_none c.args.port.now),
+    subst (λ (done : List Tagged). g.P.SharedPort.executed c.args.port.now c.args.port.now done)
+        (sym tagged_of-none) (g.met.P.SharedPort.executed_none c.args.port.now),
     sessions_none c.args.export.now _,
     tt,
     tt,
@@ -42,10 +42,10 @@ loop-k-preserved g c =
       lists = length-set c.loop-k.ends.items k c.serve_turn.new.ends ∙ c.loop-k.invariant.lists;
       played = (
         old.0 ++ turn.0,
-        subst (λ (done : List Exchange). g.P.Port.did c.args.port.now c.serve_turn.new.port done)
-            (sym (operations_of-append old.0 turn.0))
-            (g.met.P.Port.did_more c.args.port.now c.loop-k.port c.serve_turn.new.port
-            (operations_of old.0) (operations_of turn.0) old.1 turn.1),
+        subst (λ (done : List Tagged). g.P.SharedPort.executed c.args.port.now c.serve_turn.new.port done)
+            (sym (tagged_of-append old.0 turn.0))
+            (g.met.P.SharedPort.executed_more c.args.port.now c.loop-k.port c.serve_turn.new.port
+            (tagged_of old.0) (tagged_of turn.0) old.1 turn.1),
         AreSessions-append c.args.export.now _ old.0 turn.0 old.2
             (sessions_numbered c.args.export.now _ _ turn.0 t.sessions),
         NumbersRise-append c.args.export.now.number (c.args.export.now.number + k) old.0 turn.0
@@ -90,10 +90,10 @@ returns-then-serve_turn g c =
     let turn = c.serve_turn.ensures k in
     let t = turn.2 in (
       old.0 ++ turn.0,
-      subst (λ (done : List Exchange). g.P.Port.did c.args.port.now c.serve_turn.new.port done)
-          (sym (operations_of-append old.0 turn.0))
-          (g.met.P.Port.did_more c.args.port.now c.loop-k.port c.serve_turn.new.port
-          (operations_of old.0) (operations_of turn.0) old.1 turn.1),
+      subst (λ (done : List Tagged). g.P.SharedPort.executed c.args.port.now c.serve_turn.new.port done)
+          (sym (tagged_of-append old.0 turn.0))
+          (g.met.P.SharedPort.executed_more c.args.port.now c.loop-k.port c.serve_turn.new.port
+          (tagged_of old.0) (tagged_of turn.0) old.1 turn.1),
       AreSessions-append c.args.export.now _ old.0 turn.0 old.2
           (sessions_numbered c.args.export.now _ _ turn.0 t.sessions),
       NumbersRise-append c.args.export.now.number (c.args.export.now.number + k) old.0 turn.0

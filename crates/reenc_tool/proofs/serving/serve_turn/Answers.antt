@@ -1,6 +1,6 @@
 use Rattle.std.proofs.Common.{List, [], ⊎_elim, sym, subst}
-use Rattle.plain_disk.specs.Plain.{Exchange}
-use Rattle.reenc_tool.proofs.AskingLemmas.{operations_of-none}
+use Rattle.volume_machine.specs.Answers.{Tagged}
+use Rattle.reenc_tool.proofs.AskingLemmas.{tagged_of-none}
 use Rattle.reenc_tool.proofs.TurnLemmas.{turn_closed, turn_served, turn_ended, turn_failed}
 use Rattle.reenc_tool.proofs.TurnLemmas.{turn_memory}
 use Rattle.reenc_tool.proofs.serving.serve_turn.Goals as goal
@@ -8,8 +8,8 @@ use Rattle.reenc_tool.proofs.serving.serve_turn.Goals as goal
 pub returns-in-Ended : goal.returns-in-Ended
 returns-in-Ended g c = λ k. (
   [],
-  subst (λ (done : List Exchange). g.P.Port.did c.args.port.now c.args.port.now done)
-      (sym operations_of-none) (g.met.P.Port.did_none c.args.port.now),
+  subst (λ (done : List Tagged). g.P.SharedPort.executed c.args.port.now c.args.port.now done)
+      (sym tagged_of-none) (g.met.P.SharedPort.executed_none c.args.port.now),
   turn_closed c.args.export.now _ k (g.L.Link.state c.args.link.now) _ c.args.standing.now
       (λ live. ⊎_elim (λ is. absurd (cc)) (λ is. absurd (cc)) c.in-Ended.is),
 )

@@ -1,9 +1,9 @@
 // The events of lanes, each of which first tests its conditions.
 
-ghost use Rattle.std.specs.Prelude.{◌≡◌, ◌+◌, ◌<◌, ◌≤◌, IsTrue, IfSome, Some};
+ghost use Rattle.std.specs.Prelude.{◌≡◌, ◌+◌, ◌<◌, ◌≤◌, ℕ, IsTrue, IfSome, OnSome, Some};
 ghost use Rattle.volume_machine.specs.Events.{admits, settles, finishes};
 ghost use Rattle.volume_machine.specs.Pieces.{IsPieceOf};
-ghost use Rattle.volume_machine.specs.States.{open_at};
+ghost use Rattle.volume_machine.specs.States.{IsClient, open_at};
 ghost use Rattle.volume_machine.specs.Steps.{Meets, Holds, HasPiece};
 ghost use Rattle.volume_machine.specs.declared.ask.Ask.{Ask};
 
@@ -35,11 +35,17 @@ pub(super) enum Answer {
 
 // What a lane's call asks of the volume.
 
-#[tactic(auto, unfolding(volume_machine::specs::Steps::Meets))]
+#[tactic(auto, unfolding(volume_machine::specs::Steps::Can))]
 pub(super) fn can_admit<D: Disk, C: SectorCipher + Copy>(volume: &Volume<D, C>, lane: u32) -> bool
-    ensures { (ask : Ask) → IsTrue result → Meets volume.now (admits lane ask) }
+    ensures { (session : ℕ) (ask : Ask) → IsTrue result → Meets volume.now (admits lane session ask) }
 {
-    (lane as usize) + 1 < volume.lanes.len() && open_in(volume, lane).is_none()
+    is_client(volume, lane) && open_in(volume, lane).is_none()
+}
+
+fn is_client<D: Disk, C: SectorCipher + Copy>(volume: &Volume<D, C>, lane: u32) -> bool
+    ensures { IsTrue result → IsClient volume.now lane }
+{
+    (lane as usize) + 1 < volume.lanes.len()
 }
 
 fn open_in<D: Disk, C: SectorCipher + Copy>(volume: &Volume<D, C>, lane: u32) -> Option<Open>
@@ -49,6 +55,17 @@ fn open_in<D: Disk, C: SectorCipher + Copy>(volume: &Volume<D, C>, lane: u32) ->
         Some(open) => *open,
         None => None,
     }
+}
+
+// The operation of a lane of clients.
+fn client_open<D: Disk, C: SectorCipher + Copy>(volume: &Volume<D, C>, lane: u32) -> Option<Open>
+    ensures is { IfSome result (λ o. open_at volume.now.lanes lane ≡ Some o) }
+    ensures client { OnSome result (IsClient volume.now lane) }
+{
+    if !is_client(volume, lane) {
+        return None;
+    }
+    open_in(volume, lane)
 }
 
 fn is_held<D: Disk, C: SectorCipher + Copy>(volume: &Volume<D, C>, lane: u32) -> bool
@@ -64,11 +81,12 @@ fn next_piece<D: Disk, C: SectorCipher + Copy>(
 ) -> Option<(Open, Piece)>
     ensures is { IfSome result (λ it. open_at volume.now.lanes lane ≡ Some it.0) }
     ensures has { IfSome result (λ it. HasPiece it.0) }
-    ensures held { IfSome result (λ it. Holds volume.now lane) }
+    ensures client { OnSome result (IsClient volume.now lane) }
+    ensures held { OnSome result (Holds volume.now lane) }
     ensures next { IfSome result (λ it. IsPieceOf volume.now.map it.0 it.1) }
     ensures inside { IfSome result (λ it. it.1.first + it.1.count ≤ volume.now.map.blocks) }
 {
-    let Some(open) = open_in(volume, lane) else {
+    let Some(open) = client_open(volume, lane) else {
         return None;
     };
     if open.failed || open.next >= open.range.end || open.range.end > volume.map.blocks {
@@ -80,11 +98,11 @@ fn next_piece<D: Disk, C: SectorCipher + Copy>(
     Some((open, volume.map.next_piece(open.rest())))
 }
 
-#[tactic(auto, unfolding(volume_machine::specs::Steps::Meets))]
+#[tactic(auto, unfolding(volume_machine::specs::Steps::Can))]
 fn can_settle<D: Disk, C: SectorCipher + Copy>(volume: &Volume<D, C>, lane: u32) -> bool
     ensures { IsTrue result → Meets volume.now (settles lane) }
 {
-    let Some(open) = open_in(volume, lane) else {
+    let Some(open) = client_open(volume, lane) else {
         return false;
     };
     match open.ask {
@@ -96,11 +114,11 @@ fn can_settle<D: Disk, C: SectorCipher + Copy>(volume: &Volume<D, C>, lane: u32)
     }
 }
 
-#[tactic(auto, unfolding(volume_machine::specs::Steps::Meets))]
+#[tactic(auto, unfolding(volume_machine::specs::Steps::Can))]
 fn can_finish<D: Disk, C: SectorCipher + Copy>(volume: &Volume<D, C>, lane: u32) -> bool
     ensures { IsTrue result → Meets volume.now (finishes lane) }
 {
-    let Some(open) = open_in(volume, lane) else {
+    let Some(open) = client_open(volume, lane) else {
         return false;
     };
     if !is_held(volume, lane) {
@@ -126,16 +144,16 @@ pub(super) fn admit<D: Disk, C: SectorCipher + Copy>(
     if !can_admit(volume, lane) {
         return Answer::Unmet;
     }
-    match volume.admit(lane, ask) {
+    match volume.admit(lane, u64::from(lane), ask) {
         Admitted::Held(_) => Answer::Held,
         Admitted::Waiting(other) => Answer::Waiting(other),
         Admitted::Refused(number) => Answer::Refused(number),
     }
 }
 
-#[tactic(auto, unfolding(volume_machine::specs::Steps::Meets))]
+#[tactic(auto, unfolding(volume_machine::specs::Steps::Can))]
 pub(super) fn ask<D: Disk, C: SectorCipher + Copy>(volume: &Volume<D, C>, lane: u32) -> Answer {
-    match open_in(volume, lane) {
+    match client_open(volume, lane) {
         Some(open) if open.ask.has_lock() => {}
         _ => return Answer::Unmet,
     }
@@ -165,7 +183,7 @@ pub(super) fn read<D: Disk, C: SectorCipher + Copy>(
 }
 
 // All bytes of a piece, in plain, or what was answered in their place.
-#[tactic(auto, unfolding(volume_machine::specs::Steps::Meets))]
+#[tactic(auto, unfolding(volume_machine::specs::Steps::Can))]
 pub(super) fn read_bytes<D: Disk, C: SectorCipher + Copy>(
     volume: &mut Volume<D, C>,
     alloc: Global,
@@ -192,7 +210,7 @@ pub(super) fn read_bytes<D: Disk, C: SectorCipher + Copy>(
     }
 }
 
-#[tactic(auto, unfolding(volume_machine::specs::Steps::Meets))]
+#[tactic(auto, unfolding(volume_machine::specs::Steps::Can))]
 pub(super) fn write<D: Disk, C: SectorCipher + Copy>(
     volume: &mut Volume<D, C>,
     alloc: Global,

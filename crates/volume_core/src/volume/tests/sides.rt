@@ -8,7 +8,7 @@ use super::events::{
     Answer, admit, can_admit, finish, read, read_of, settle, small, write, write_of,
 };
 use crate::Volume;
-use crate::answers::{Admitted, Grant, Progress};
+use crate::answers::{Admitted, Progress};
 use block_range::BlockRange;
 use cipher_laws::SectorCipher;
 use sector_cipher::{Context, Spec};
@@ -16,7 +16,7 @@ use sector_disk::{Disk, RamDisk};
 use segment_map::{Direction, Map, Piece, Side};
 use std::alloc::{AllocError, Global};
 use std::test::Fail;
-use volume_machine::{Ask, Keys};
+use volume_machine::{Ask, Grant, Keys};
 
 // Eight blocks whose boundary is in the middle.
 fn eight_blocks(atom: u32, direction: Direction, zone: u64) -> Map
@@ -87,7 +87,7 @@ fn pieces_of_a_write_end_at_the_boundary(rt: HostRuntime) -> Result<(), Fail> {
         let keys = xts_keys(0, 0, 512)?;
         let mut volume = half_converted(rt.alloc(), eight_blocks(512, direction, zone), keys)?;
         assert!(rt; can_admit(&volume, 0));
-        let Admitted::Held(grant) = volume.admit(0, write_of(2, 4)) else {
+        let Admitted::Held(grant) = volume.admit(0, 0, write_of(2, 4)) else {
             panic!(rt; "not held");
         };
         assert_eq!(rt; grant.range, BlockRange { start: 2, end: 6 });

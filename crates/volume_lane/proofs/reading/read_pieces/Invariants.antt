@@ -6,7 +6,7 @@ use Rattle.volume_lane.proofs.reading.read_pieces.Given as goal
 
 abbrev pub invariant-pieces : goal.invariant-pieces
 invariant-pieces g l = record {
-  alone : IsAlone l.volume (going l.initial.volume.map.atom l.ask l.at);
+  alone : IsAlone l.volume (going l.initial.volume.map.atom l.session l.ask l.at);
   goes_on : GoesOn (seals_of g.C.SectorCipher.sealed g.C.SectorCipher.opened l.initial.volume.map.atom l.initial.volume.keys) l.initial.volume l.volume l.content.items;
   starts : l.grant.range.start ≤ l.at;
   within : l.at ≤ l.grant.range.end;

@@ -39,7 +39,7 @@ returns-in-None-clause-failed g c is =
     c.pieces.invariant.starts c.in-Some.ensures.within in
     let from = c.pieces.invariant.from in
     let body = c.requires.body in
-    tried-behind g.C.SectorCipher.sealed g.C.SectorCipher.opened _ _ _ c.args.ask c.args.body.now _ c.pieces.from size c.pieces.invariant.goes_on
+    tried-behind g.C.SectorCipher.sealed g.C.SectorCipher.opened _ _ _ c.args.session c.args.ask c.args.body.now _ c.pieces.from size c.pieces.invariant.goes_on
     c.in-None.ensures.tried (c.filled-bytes.ensures.is ∙ part-of-body c.args.body.now c.pieces.from size)
     (omega (arith, most, from, body)) (c.filled-bytes.ensures.length ∙ c.fitting.ensures.size)
 

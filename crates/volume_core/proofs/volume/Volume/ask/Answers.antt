@@ -19,10 +19,14 @@ invariant_of-result g c =
     let is = rw c.deref.ensures.value at c.open_of-open.ensures in
     record { inside = ends-inside _ c.args.lane c.open_of-open.result c.self.invariant.sound is }
 
-pub returns-in-Held-clause-step : goal.returns-in-Held-clause-step
+pub returns-in-Held : goal.returns-in-Held
 unfolding Step
-returns-in-Held-clause-step g c = rw (← c.self.view_is) (c.in-Held.ensures, refl)
+returns-in-Held g c =
+    let is = rw c.deref.ensures.value at c.open_of-open.ensures in
+    rw (← c.self.view_is) ((c.open_of-open.result, is, (c.in-Held.ensures, record { map = refl; range_is = refl })), refl)
 
-pub returns-in-Waiting-clause-step : goal.returns-in-Waiting-clause-step
+pub returns-in-Waiting : goal.returns-in-Waiting
 unfolding Step
-returns-in-Waiting-clause-step g c = rw (← c.self.view_is) (c.in-Waiting.ensures, refl)
+returns-in-Waiting g c =
+    let is = rw c.deref.ensures.value at c.open_of-open.ensures in
+    rw (← c.self.view_is) ((c.open_of-open.result, is, c.in-Waiting.ensures), refl)
