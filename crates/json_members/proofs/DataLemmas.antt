@@ -1,12 +1,12 @@
 -- Values and members without floats, and how deep they nest.
-use Rattle.std.proofs.Common.{◌≡◌, ℕ, suc, ◌≤◌, List, [], ◌∷◌, map, decimal, Option, Some, None, option_map, Ok, Ordering, Less, Equal, Greater, nat_cmp, Bool, false, refl, subst, arith}
+use Rattle.std.proofs.Common.{◌≡◌, ℕ, suc, ◌≤◌, List, [], ◌∷◌, map, decimal, Option, Some, None, option_map, Ordering, Less, Equal, Greater, nat_cmp, false, refl, subst, arith}
 use Rattle.std.specs.Cmp.Lexicographic.{slice_cmp}
 use Rattle.std.specs.List.{AllByRecursion}
 use Rattle.std.specs.Ordering.{match_ordering}
-use Rattle.serde_json.specs.Data.{Data, string, number, unsigned, array, object, Items, Members, no_members, member, put, depth, items_depth, members_depth}
+use Rattle.serde_json.specs.Data.{Data, string, number, unsigned, array, object, Members, no_members, member, items_depth}
 use Rattle.serde_json.specs.Find.{get_member}
 use Rattle.serde_json.specs.View.{items_of}
-use Rattle.serde_json.specs.Written.{has_float, items_have_float, members_have_float}
+use Rattle.serde_json.specs.Written.{items_have_float}
 use Rattle.json_members.specs.Entries.{objects_onto}
 use Rattle.json_members.specs.Fields.{texts_data, decimals_data}
 use Rattle.json_members.specs.Members.{put_optional, IsPlain, IsPlainData}

@@ -1,14 +1,13 @@
 -- Entries that were read are right.
-use Rattle.std.proofs.Common.{◌≡◌, ℕ, suc, ◌^◌, ◌<◌, ◌≤◌, List, [], ◌∷◌, Option, Some, None, Result, Ok, Err, decimal, nat_cmp, refl, sym, ap, subst, ◌∙◌, arith}
+use Rattle.std.proofs.Common.{◌≡◌, ℕ, suc, ◌^◌, ◌<◌, List, [], ◌∷◌, Some, Result, Ok, Err, decimal, nat_cmp, subst, arith}
 use Rattle.std.specs.BTreeMap.{insert_entry}
 use Rattle.std.specs.List.{AllByRecursion}
-use Rattle.serde_json.specs.Data.{Data, null, boolean, number, string, array, object, Members, no_members, member, depth, members_depth}
+use Rattle.serde_json.specs.Data.{Data, null, boolean, number, string, array, object, Members, no_members, member}
 use Rattle.serde_json.specs.Find.{as_object}
-use Rattle.serde_json.specs.Written.{has_float, members_have_float}
 use Rattle.json_members.specs.declared.faults.JsonFault.{JsonFault}
 use Rattle.json_members.specs.declared.faults.JsonFaultKind.TheVariants.{Kind, Number}
 use Rattle.json_members.specs.Decimals.{number_of}
-use Rattle.json_members.specs.Fields.{◌>>=◌, required, under}
+use Rattle.json_members.specs.Fields.{required, under}
 use Rattle.json_members.specs.Members.{IsPlain, IsPlainData}
 use Rattle.json_members.specs.Entries.{numbered_from, numbered_in, each_of, entry_at, objects_in, IsRising, AreEntries}
 use Rattle.json_members.proofs.DecimalLemmas.{number_of-exact}

@@ -1,5 +1,5 @@
 -- What each kind of member is read as, both ways.
-use Rattle.std.proofs.Common.{◌≡◌, ℕ, ◌+◌, ◌^◌, ◌<◌, List, [], ◌∷◌, map, decimal, bytes_eq, true, option_map, Option, Some, None, Result, Ok, Err, refl, sym, ap, subst, ◌∙◌}
+use Rattle.std.proofs.Common.{◌≡◌, ℕ, ◌+◌, ◌^◌, ◌<◌, List, [], ◌∷◌, map, decimal, bytes_eq, true, option_map, Option, Some, None, Result, Ok, Err, refl, ap, ◌∙◌}
 use Rattle.std.proofs.lemmas.Slice.Eq.{bytes_eq-Decides}
 use Rattle.std.specs.List.{AllByRecursion}
 use Rattle.base64.specs.GeneralPurpose.{encode_of, IsBytes}
@@ -11,7 +11,7 @@ use Rattle.json_members.specs.declared.faults.JsonFault.{JsonFault}
 use Rattle.json_members.specs.declared.faults.JsonFaultKind.{JsonFaultKind}
 use Rattle.json_members.specs.declared.faults.JsonFaultKind.TheVariants.{Missing, Kind, Number, Base64, Unsupported}
 use Rattle.json_members.specs.Decimals.{number_of}
-use Rattle.json_members.specs.Fields.{◌>>=◌, required, under, meant_in, counted_in, word_in, one_word, text_in, number_in, decimal_in, bytes_in, bytes_of, object_in, items_in, texts_in, decimals_in, each_item, text_item, decimal_item, texts_data, decimals_data, optional, optional_at, absent, absent_at}
+use Rattle.json_members.specs.Fields.{required, under, meant_in, counted_in, word_in, one_word, text_in, number_in, decimal_in, bytes_in, bytes_of, object_in, items_in, texts_in, decimals_in, each_item, text_item, decimal_item, texts_data, decimals_data, optional, optional_at, absent, absent_at}
 use Rattle.json_members.specs.Forms.{HasText, HasNumber, HasDecimal, HasBytes, HasObject, HasTexts, HasDecimals, HasOptional}
 use Rattle.json_members.proofs.BytesLemmas.{bytes_of-encode_of, bytes_of-exact}
 use Rattle.json_members.proofs.DecimalLemmas.{number_of-decimal, number_of-exact, chosen_from}

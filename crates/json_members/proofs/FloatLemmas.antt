@@ -1,5 +1,5 @@
 -- A value without floats has no first one, and the first item or member with a float has the first.
-use Rattle.std.proofs.Common.{◌≡◌, ℕ, suc, ◌+◌, ◌<◌, List, [], length, drop, get_or, cond, Bool, true, false, ◌||◌, Option, Some, None, decimal, refl, sym, ap, subst, ◌∙◌, drop-cons, arith}
+use Rattle.std.proofs.Common.{◌≡◌, ℕ, suc, ◌+◌, ◌<◌, List, [], length, drop, get_or, cond, Bool, true, false, ◌||◌, Option, Some, None, decimal, refl, sym, ap, drop-cons, arith}
 use Rattle.serde_json.specs.Data.{Data, null, boolean, number, string, array, object, Items, no_items, item, Members, no_members, member}
 use Rattle.serde_json.specs.Find.{is_float}
 use Rattle.serde_json.specs.View.{view, items_view}

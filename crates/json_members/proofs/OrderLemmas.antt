@@ -1,5 +1,5 @@
 -- Entries by rising number, whatever the order in which they come.
-use Rattle.std.proofs.Common.{◌≡◌, ◌≢◌, ◌⊎◌, inl, inr, ℕ, ◌+◌, ◌^◌, ◌<◌, ◌≤◌, List, [], ◌∷◌, ◌++◌, Bool, true, false, cond, Option, Some, None, Result, Ok, Err, Ordering, Less, Equal, Greater, bytes_eq, nat_cmp, nat_lt, decimal, map, refl, sym, ap, subst, ◌∙◌, append_assoc, arith, true≢false}
+use Rattle.std.proofs.Common.{◌≡◌, ℕ, ◌^◌, ◌<◌, List, [], ◌∷◌, Bool, true, false, Option, Some, None, Result, Ok, Ordering, Less, Equal, Greater, nat_cmp, nat_lt, decimal, map, refl, sym, ap, ◌∙◌, arith, true≢false}
 use Rattle.std.proofs.lemmas.Bool.{ltb-true, ltb-false}
 use Rattle.std.proofs.lemmas.Fmt.{decimal_injective}
 use Rattle.std.proofs.lemmas.Slice.Eq.{bytes_eq-Decides}
@@ -13,9 +13,8 @@ use Rattle.serde_json.specs.Data.{Data, object, Members, no_members, member, put
 use Rattle.serde_json.specs.Find.{get_member}
 use Rattle.serde_json.proofs.Views.{get_member-put_other}
 use Rattle.json_members.specs.declared.faults.JsonFault.{JsonFault}
-use Rattle.json_members.specs.declared.faults.JsonFaultKind.TheVariants.{Number}
 use Rattle.json_members.specs.Decimals.{number_of}
-use Rattle.json_members.specs.Fields.{◌>>=◌, required, under}
+use Rattle.json_members.specs.Fields.{under}
 use Rattle.json_members.specs.Entries.{numbered_from, each_of, entry_at, objects_in, objects_onto, objects_members, IsRising}
 use Rattle.json_members.proofs.DecimalLemmas.{number_of-decimal, number_of-exact}
 use Rattle.json_members.proofs.PutLemmas.{gone_at}

@@ -1,11 +1,11 @@
 -- Members without floats, and how deep they nest, after a member was put or taken out.
-use Rattle.std.proofs.Common.{◌≡◌, ℕ, ◌≤◌, max, List, [], ◌∷◌, Bool, true, false, cond, ◌||◌, ◌&&◌, Option, Some, None, Ordering, Less, Equal, Greater, bytes_eq, is_eq, nat_cmp, refl, sym, ap, subst, ◌∙◌, arith}
+use Rattle.std.proofs.Common.{◌≡◌, ℕ, List, [], ◌∷◌, Bool, true, false, cond, ◌||◌, Option, Some, None, Ordering, Less, Equal, Greater, bytes_eq, is_eq, nat_cmp, refl, sym, ap, subst, ◌∙◌, arith}
 use Rattle.std.proofs.lemmas.Slice.Eq.{bytes_eq-Decides}
 use Rattle.std.proofs.lemmas.Map.Text.{is_eq-slice_cmp}
 use Rattle.std.specs.Cmp.Lexicographic.{slice_cmp}
 use Rattle.std.specs.List.{AllByRecursion}
 use Rattle.std.specs.Ordering.{match_ordering}
-use Rattle.serde_json.specs.Data.{Data, Members, no_members, member, put, depth, members_depth}
+use Rattle.serde_json.specs.Data.{Data, Members, no_members, member, put}
 use Rattle.serde_json.specs.Find.{get_member}
 use Rattle.serde_json.specs.Written.{has_float, members_have_float}
 use Rattle.json_members.proofs.PutLemmas.{gone_at as missing}

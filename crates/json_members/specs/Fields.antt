@@ -3,7 +3,7 @@ use Rattle.std.specs.Prelude.{◌≡◌, ℕ, ◌+◌, ◌==◌, ◌&&◌, nat_l
 use Rattle.std.specs.Str.{bytes_eq}
 use Rattle.base64.specs.GeneralPurpose.{encode_of, decoded_bytes_of}
 use Rattle.base64.specs.Engines.{standard}
-use Rattle.serde_json.specs.Data.{Data, string, object, Items, no_items, item, Members}
+use Rattle.serde_json.specs.Data.{Data, string, Items, no_items, item, Members}
 use Rattle.serde_json.specs.Find.{get_member, as_str, as_array, as_object, as_number, as_u64}
 use Rattle.serde_json.specs.View.{items_of}
 use Rattle.json_members.specs.declared.faults.JsonFault.{JsonFault}

@@ -1,5 +1,5 @@
 -- The first number that isn't whole within 64 bits, in the order of writing.
-use Rattle.std.specs.Prelude.{◌≡◌, ℕ, ◌+◌, List, [], Bool, true, false, Option, Some, None, if◌then◌else◌, decimal}
+use Rattle.std.specs.Prelude.{ℕ, ◌+◌, List, Option, Some, None, if◌then◌else◌, decimal}
 use Rattle.serde_json.specs.Data.{Data, null, boolean, number, string, array, object, Items, no_items, item, Members, no_members, member}
 use Rattle.serde_json.specs.Find.{is_float}
 use Rattle.json_members.specs.Fields.{under}

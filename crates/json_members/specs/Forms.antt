@@ -3,7 +3,7 @@ use Rattle.std.specs.Prelude.{◌≡◌, ℕ, ◌^◌, ◌<◌, List, Option, So
 use Rattle.std.specs.List.{AllByRecursion}
 use Rattle.base64.specs.GeneralPurpose.{encode_of, IsBytes}
 use Rattle.base64.specs.Engines.{standard}
-use Rattle.serde_json.specs.Data.{Data, string, number, unsigned, array, object, Members}
+use Rattle.serde_json.specs.Data.{string, number, unsigned, array, object, Members}
 use Rattle.serde_json.specs.Find.{get_member}
 use Rattle.json_members.specs.Fields.{texts_data, decimals_data}
 

@@ -1,4 +1,4 @@
-ghost use Rattle.std.specs.Prelude.{◌≡◌, [], IfOk, option_map, string_bytes};
+ghost use Rattle.std.specs.Prelude.{◌≡◌, [], false, IfOk, IsOk, option_map, string_bytes};
 ghost use Rattle.serde_json.specs.Written.{has_float, items_have_float, members_have_float};
 ghost use Rattle.json_members.specs.Floats.{float_in, float_in_items, float_in_members};
 ghost use Rattle.serde_json.specs.View.{view, items_view, members_view};
@@ -105,7 +105,8 @@ fn float_path_in_members(
 /// takes no memory.
 #[tactic(auto, using(crate::proofs::FloatLemmas::no_float))]
 pub fn first_float(alloc: Global, value: &Value) -> Result<Option<String>, AllocError>
-    ensures { IfOk result (λ o. option_map string_bytes o ≡ float_in [] (view value.now)) }
+    ensures first { IfOk result (λ o. option_map string_bytes o ≡ float_in [] (view value.now)) }
+    ensures none { has_float (view value.now) ≡ false → IsOk result }
 {
     if any_float(value) {
         float_path(alloc, "", value)

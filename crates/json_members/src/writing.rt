@@ -1,4 +1,6 @@
-ghost use Rattle.std.specs.Prelude.{◌≡◌, OnOk, IfOk, decimal};
+// Members that are set. Where memory runs out the object is as it was.
+
+ghost use Rattle.std.specs.Prelude.{◌≡◌, OnOk, OnErr, IfOk, decimal};
 ghost use Rattle.base64.specs.GeneralPurpose.{encode_of};
 ghost use Rattle.base64.specs.Engines.{standard};
 ghost use Rattle.serde_json.specs.Data.{put as with_member, string, number, unsigned, array, object as object_data};
@@ -19,7 +21,8 @@ pub fn put_text(
     name: &str,
     text: &str,
 ) -> Result<(), AllocError>
-    ensures { OnOk result (object.new ≡ with_member name.now (string text.now) object.old) }
+    ensures ok { OnOk result (object.new ≡ with_member name.now (string text.now) object.old) }
+    ensures err { OnErr result (object.new ≡ object.old) }
 {
     let value = Value::String(String::from_str(alloc, text)?);
     object.put(alloc, name, value)
@@ -27,7 +30,8 @@ pub fn put_text(
 
 /// Sets a member to the decimal text of a number.
 pub fn put_decimal(alloc: Global, object: &mut Object, name: &str, n: u64) -> Result<(), AllocError>
-    ensures { OnOk result (object.new ≡ with_member name.now (string (decimal n)) object.old) }
+    ensures ok { OnOk result (object.new ≡ with_member name.now (string (decimal n)) object.old) }
+    ensures err { OnErr result (object.new ≡ object.old) }
 {
     let value = Value::String(decimal_text(alloc, n)?);
     object.put(alloc, name, value)
@@ -35,7 +39,8 @@ pub fn put_decimal(alloc: Global, object: &mut Object, name: &str, n: u64) -> Re
 
 /// Sets a member to a number.
 pub fn put_number(alloc: Global, object: &mut Object, name: &str, n: u64) -> Result<(), AllocError>
-    ensures { OnOk result (object.new ≡ with_member name.now (number (unsigned n)) object.old) }
+    ensures ok { OnOk result (object.new ≡ with_member name.now (number (unsigned n)) object.old) }
+    ensures err { OnErr result (object.new ≡ object.old) }
 {
     object.put(alloc, name, Value::from(n))
 }
@@ -47,7 +52,8 @@ pub fn put_bytes(
     name: &str,
     bytes: &[u8],
 ) -> Result<(), AllocError>
-    ensures { OnOk result (object.new ≡ with_member name.now (string (encode_of standard bytes.now)) object.old) }
+    ensures ok { OnOk result (object.new ≡ with_member name.now (string (encode_of standard bytes.now)) object.old) }
+    ensures err { OnErr result (object.new ≡ object.old) }
 {
     let value = Value::String(STANDARD.encode(alloc, bytes)?);
     object.put(alloc, name, value)
@@ -60,7 +66,8 @@ pub fn put_object(
     name: &str,
     inner: Object,
 ) -> Result<(), AllocError>
-    ensures { OnOk result (object.new ≡ with_member name.now (object_data inner) object.old) }
+    ensures ok { OnOk result (object.new ≡ with_member name.now (object_data inner) object.old) }
+    ensures err { OnErr result (object.new ≡ object.old) }
 {
     object.put(alloc, name, Value::Object(inner.into_map()))
 }
@@ -82,7 +89,8 @@ pub fn put_texts(
     name: &str,
     texts: &[Text],
 ) -> Result<(), AllocError>
-    ensures { OnOk result (object.new ≡ with_member name.now (array (texts_data texts.now)) object.old) }
+    ensures ok { OnOk result (object.new ≡ with_member name.now (array (texts_data texts.now)) object.old) }
+    ensures err { OnErr result (object.new ≡ object.old) }
 {
     let value = Value::Array(values_of(alloc, texts)?);
     object.put(alloc, name, value)
@@ -105,7 +113,8 @@ pub fn put_decimals(
     name: &str,
     numbers: &[u64],
 ) -> Result<(), AllocError>
-    ensures { OnOk result (object.new ≡ with_member name.now (array (decimals_data numbers.now)) object.old) }
+    ensures ok { OnOk result (object.new ≡ with_member name.now (array (decimals_data numbers.now)) object.old) }
+    ensures err { OnErr result (object.new ≡ object.old) }
 {
     let value = Value::Array(decimal_values(alloc, numbers)?);
     object.put(alloc, name, value)

@@ -1,4 +1,4 @@
-use Rattle.std.proofs.Common.{◌≡◌, ◌∷◌, string_bytes, Some, sym, ap, ◌∙◌}
+use Rattle.std.proofs.Common.{◌≡◌, string_bytes, Some, sym, ap, ◌∙◌}
 use Rattle.serde_json.specs.View.{members_view}
 use Rattle.json_members.specs.Decimals.{number_of}
 use Rattle.json_members.specs.Entries.{viewed, numbered_from}

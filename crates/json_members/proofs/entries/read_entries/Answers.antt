@@ -1,7 +1,7 @@
-use Rattle.std.proofs.Common.{◌≡◌, ◌∷◌, ◌++◌, [], Ok, Err, List, ℕ, sym, ap, subst, ◌∙◌}
+use Rattle.std.proofs.Common.{◌≡◌, ◌∷◌, Ok, sym, ap, subst, ◌∙◌}
 use Rattle.serde_json.specs.View.{view}
 use Rattle.json_members.specs.Fields.{Fails}
-use Rattle.json_members.specs.Entries.{viewed, each_of, entry_at, objects_in}
+use Rattle.json_members.specs.Entries.{viewed, each_of, objects_in}
 use Rattle.json_members.proofs.LoopLemmas.{after, each_more, each_fails, each_done}
 use Rattle.json_members.proofs.entries.read_entries.Goals as goal
 

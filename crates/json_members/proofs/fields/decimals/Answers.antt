@@ -1,4 +1,4 @@
-use Rattle.std.proofs.Common.{◌≡◌, ◌+◌, Ok, drop, sym, ap, subst, ◌∙◌, arith}
+use Rattle.std.proofs.Common.{◌+◌, drop, sym, ap, subst, ◌∙◌, arith}
 use Rattle.serde_json.specs.View.{view, items_view}
 use Rattle.json_members.specs.Fields.{Fails, each_item, decimal_item}
 use Rattle.json_members.proofs.LoopLemmas.{after, item_more, item_fails, items_done}

@@ -1,9 +1,9 @@
-use Rattle.std.proofs.Common.{◌≡◌, ◌+◌, ◌<◌, length, List, ℕ, Option, IfOk, option_map, string_bytes, decimal, true, get_or, sym, ap, subst, ◌∙◌, arith}
+use Rattle.std.proofs.Common.{◌≡◌, ◌<◌, length, List, ℕ, Option, IfOk, option_map, string_bytes, decimal, true, get_or, sym, ap, subst, ◌∙◌, arith}
 use Rattle.std.proofs.lemmas.List.{get_or_default}
 use Rattle.serde_json.specs.View.{view}
 use Rattle.serde_json.specs.Written.{has_float}
 use Rattle.json_members.specs.Fields.{under}
-use Rattle.json_members.specs.Floats.{float_in, float_in_items}
+use Rattle.json_members.specs.Floats.{float_in}
 use Rattle.json_members.proofs.FloatLemmas.{passed_item, found_item}
 use Rattle.json_members.proofs.floats.+float_path.Goals as goal
 
