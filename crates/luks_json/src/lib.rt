@@ -9,6 +9,8 @@
 
 mod config;
 mod digest;
+#[cfg(test)]
+mod fault_tests;
 mod keyslot;
 mod laws;
 mod luks2;
