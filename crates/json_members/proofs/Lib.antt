@@ -1,0 +1,12 @@
+pub mod BytesLemmas
+pub mod DataLemmas
+pub mod DecimalLemmas
+pub mod EntryLemmas
+pub mod FieldLemmas
+pub mod FloatLemmas
+pub mod LoopLemmas
+pub mod MemberLemmas
+pub mod OrderLemmas
+pub mod PlainLemmas
+pub mod PutLemmas
+pub mod ReadLemmas

@@ -1,0 +1,130 @@
+-- The sizes and requirements as the members of an object.
+use Rattle.std.specs.Prelude.{◌≡◌, ℕ, ◌^◌, ◌-◌, ◌<◌, ◌==◌, ◌||◌, not, Bool, true, false, List, [], ◌∷◌, codes, Option, Some, None, option_map, option_and_then, Result, Ok, Err, if◌then◌else◌, decimal, IfSome}
+use Rattle.std.specs.Str.{bytes_eq}
+use Rattle.serde_json.specs.Data.{Data, null, boolean, number, string, array, object, Items, no_items, item, Members}
+use Rattle.serde_json.specs.Find.{get, get_member, as_array}
+use Rattle.json_members.specs.declared.faults.JsonFault.{JsonFault}
+use Rattle.json_members.specs.declared.faults.JsonFaultKind.TheVariants.{Number}
+use Rattle.json_members.specs.Decimals.{number_of}
+use Rattle.json_members.specs.Fields.{◌>>=◌, under, meant_in, decimal_in, texts_in, object_in, optional, texts_data}
+use Rattle.json_members.specs.Forms.{HasDecimal, HasObject, HasTexts, HasOptional}
+use Rattle.json_members.specs.Members.{without_all, put_all, put_optional, Lacks, IsPlain}
+use Rattle.luks_json.specs.declared.config.Config.{Config}
+use Rattle.luks_json.specs.declared.config.Requirements.{Requirements}
+use Rattle.luks_json.specs.declared.keyslot.Origin.{Origin}
+use Rattle.luks_json.specs.declared.keyslot.Origin.TheVariants.{Own, Foreign}
+
+-- ---- from members to the sizes and requirements
+abbrev pub requirements_names : List (List ℕ)
+requirements_names = codes "mandatory" ∷ []
+
+unfoldable pub requirements_of : List ℕ → Members → Result Requirements JsonFault
+requirements_of path ms = do
+  mandatory ← texts_in path (codes "mandatory") ms
+  Ok (record { mandatory = mandatory; rest = without_all requirements_names ms })
+
+unfoldable pub requirements_in : List ℕ → Members → Result Requirements JsonFault
+requirements_in path ms = do
+  inner ← object_in path (codes "requirements") ms
+  requirements_of (under path (codes "requirements")) inner
+
+-- the size of a JSON area in a copy of so many bytes
+abbrev pub only_size : ℕ → ℕ → Option ℕ
+only_size hdr_size n = if n == hdr_size - 4096 then Some n else None
+
+abbrev pub json_size_named : ℕ → List ℕ → Option ℕ
+json_size_named hdr_size text = option_and_then (only_size hdr_size) (number_of text)
+
+abbrev pub config_names : List (List ℕ)
+config_names = codes "json_size" ∷ codes "keyslots_size" ∷ codes "requirements" ∷ []
+
+unfoldable pub config_of : ℕ → List ℕ → Members → Result Config JsonFault
+config_of hdr_size path ms = do
+  json_size ← meant_in Number (json_size_named hdr_size) path (codes "json_size") ms
+  keyslots_size ← decimal_in path (codes "keyslots_size") ms
+  requirements ← optional (codes "requirements") ms (requirements_in path ms)
+  Ok (record { json_size = json_size; keyslots_size = keyslots_size; requirements = requirements; rest = without_all config_names ms })
+
+-- ---- and back
+abbrev pub requirements_fields : Requirements → List (List ℕ × Data)
+requirements_fields r = (codes "mandatory", array (texts_data r.mandatory)) ∷ []
+
+unfoldable pub requirements_members : Requirements → Members
+requirements_members r = put_all (requirements_fields r) r.rest
+
+abbrev pub config_fields : Config → List (List ℕ × Data)
+config_fields c = (codes "json_size", string (decimal c.json_size)) ∷ (codes "keyslots_size", string (decimal c.keyslots_size)) ∷ []
+
+unfoldable pub config_members : Config → Members
+config_members c = put_all (config_fields c) (put_optional (codes "requirements") (option_map (λ r. object (requirements_members r)) c.requirements) c.rest)
+
+-- ---- which members, of which form
+pub record HasRequirements (ms : Members) (r : Requirements) : Type 0 where
+  pub mandatory : HasTexts (codes "mandatory") r.mandatory ms
+  pub rest : r.rest ≡ without_all requirements_names ms
+
+pub record HasConfig (hdr_size : ℕ) (ms : Members) (c : Config) : Type 0 where
+  pub json_size : HasDecimal (codes "json_size") c.json_size ms
+  pub fits : c.json_size ≡ hdr_size - 4096
+  pub keyslots_size : HasDecimal (codes "keyslots_size") c.keyslots_size ms
+  pub requirements : HasOptional (codes "requirements") (λ r. (inner : Members) × HasObject (codes "requirements") inner ms × HasRequirements inner r) c.requirements ms
+  pub rest : c.rest ≡ without_all config_names ms
+
+-- ---- sizes and requirements that have a text
+pub record IsRequirements (r : Requirements) : Type 0 where
+  pub lacks : Lacks requirements_names r.rest
+  pub plain : IsPlain 124 r.rest
+
+pub record IsConfig (c : Config) : Type 0 where
+  pub json_size : c.json_size < 2 ^ 64
+  pub keyslots_size : c.keyslots_size < 2 ^ 64
+  pub requirements : IfSome c.requirements IsRequirements
+  pub lacks : Lacks config_names c.rest
+  pub plain : IsPlain 125 c.rest
+
+-- ---- who asks for something
+-- the requirement of a conversion by this program
+abbrev pub profile : List ℕ
+profile = codes "reencd-online-reencrypt-v1"
+
+abbrev pub is_foreign : List ℕ → Bool
+is_foreign text = not (bytes_eq text profile)
+
+abbrev pub any_foreign : List (List ℕ) → Bool
+any_foreign [] = false
+any_foreign (text ∷ texts) = is_foreign text || any_foreign texts
+
+abbrev pub origin_by : Bool → Origin
+origin_by true = Foreign
+origin_by false = Own
+
+-- whose header it is by its requirements: foreign where one isn't the profile's
+abbrev pub mandatory : Option Requirements → List (List ℕ)
+mandatory None = []
+mandatory (Some r) = r.mandatory
+
+abbrev pub origin_of : Config → Origin
+origin_of c = origin_by (any_foreign (mandatory c.requirements))
+
+-- the same of the top members, whatever else they are
+abbrev pub is_foreign_item : Data → Bool
+is_foreign_item null = false
+is_foreign_item (boolean b) = false
+is_foreign_item (number n) = false
+is_foreign_item (string s) = is_foreign s
+is_foreign_item (array ds) = false
+is_foreign_item (object ms) = false
+
+abbrev pub any_foreign_item : Items → Bool
+any_foreign_item no_items = false
+any_foreign_item (item d ds) = is_foreign_item d || any_foreign_item ds
+
+abbrev pub any_foreign_in : Option Items → Bool
+any_foreign_in None = false
+any_foreign_in (Some ds) = any_foreign_item ds
+
+unfoldable pub mandatory_in : Members → Option Items
+mandatory_in ms = option_and_then as_array (option_and_then (get (codes "mandatory")) (option_and_then (get (codes "requirements")) (get_member (codes "config") ms)))
+
+unfoldable pub origin_in : Members → Origin
+origin_in ms = origin_by (any_foreign_in (mandatory_in ms))
