@@ -1,0 +1,9 @@
+pub mod ChoiceLemmas
+pub mod CountLemmas
+pub mod KeptLemmas
+pub mod OverlapLemmas
+pub mod PlainLemmas
+pub mod PlanLemmas
+pub mod RuleLemmas
+pub mod ShareLemmas
+pub mod SoundLemmas
