@@ -41,7 +41,7 @@ sized_blocks : (atom n : ℕ) (size : SegmentSize) → 0 < atom → is_sized (n 
 sized_blocks atom n Dynamic some h = cc
 sized_blocks atom n (Sized m) some h = ap (λ k. k / atom) (eqb-true m (n * atom) h) ∙ mul-div_cancel n some
 
-part_blocks : (atom : ℕ) (p : Part) (e : Extent) → 0 < atom → is_part atom p e ≡ true → blocks_of atom e.size ≡ p.blocks
+pub part_blocks : (atom : ℕ) (p : Part) (e : Extent) → 0 < atom → is_part atom p e ≡ true → blocks_of atom e.size ≡ p.blocks
 part_blocks atom p e some h =
     let a = and_parts (is_marked p.zone e.mark && eqb e.offset (p.whole.offset + p.from * atom) && is_sized (p.blocks * atom) e.size && is_encrypted (p.from * atom / 512) p.whole.encryption e.encryption) (same_digest p.whole.digest e.digest) h in
     let b = and_parts (is_marked p.zone e.mark && eqb e.offset (p.whole.offset + p.from * atom) && is_sized (p.blocks * atom) e.size) (is_encrypted (p.from * atom / 512) p.whole.encryption e.encryption) a.0 in
@@ -106,7 +106,7 @@ tried_by : (atom : ℕ) (direction : Direction) (old new : Extent) (live : List 
 tried_by atom Forward old new live plan some any h = tried atom _ _ _ live some any h
 tried_by atom Backward old new live plan some any h = tried atom _ _ _ live some any h
 
-laid_by : (atom : ℕ) (c : Conversion) (old new : Extent) (live : List Extent) (plan : Plan) → fits atom c old new live plan ≡ true → laid_out atom (parts_of c.direction old new plan) live ≡ true
+pub laid_by : (atom : ℕ) (c : Conversion) (old new : Extent) (live : List Extent) (plan : Plan) → fits atom c old new live plan ≡ true → laid_out atom (parts_of c.direction old new plan) live ≡ true
 laid_by atom c old new live plan h =
     (and_parts _ (is_whole_size (blocks_in plan * atom) old.size)
     (and_parts _ (is_next_size (blocks_in plan * atom) (stays_dynamic c.resilience old.size) new.size) (and_parts _ (may_open c.resilience plan.zone) h).0).0).0

@@ -14,6 +14,7 @@ use Rattle.luks_rules.specs.Extents.{extent_of}
 use Rattle.luks_rules.specs.Foreign.{first_foreign}
 use Rattle.luks_rules.specs.Multiples.{breaks_multiples, breaks_sectors, breaks_tweaks}
 use Rattle.luks_rules.specs.Overlaps.{overlap, TwoShare}
+use Rattle.luks_rules.specs.Plain.{HoldVolume}
 use Rattle.luks_rules.specs.References.{breaks_references, lists}
 use Rattle.luks_rules.specs.Rooms.{breaks_capacity, breaks_shift, capacity}
 use Rattle.luks_rules.specs.Rules.{broken, first_or, first_of, first_fault, rules_of_places, rules_of_sizes, rules_of_conversion}
@@ -27,6 +28,7 @@ use Rattle.luks_rules.specs.declared.fault.RuleFault.TheVariants as faults
 use Rattle.luks_rules.specs.declared.shape.Progress.{Progress}
 use Rattle.luks_rules.proofs.ChoiceLemmas.{find_any, state_of}
 use Rattle.luks_rules.proofs.PlainLemmas.{each, within, referred, held, sectors, atoms, numbers}
+use Rattle.luks_rules.proofs.PlaceLemmas.{on_disk}
 use Rattle.luks_rules.proofs.RuleLemmas.{by_groups}
 use Rattle.luks_rules.proofs.ShareLemmas.{overlaps}
 
@@ -116,9 +118,9 @@ some_room : (n : ℕ) → eqb n 0 ≡ false → 0 < n
 some_room n h = grind arith
 
 busy_by : (m : Parts) (sizes : Sizes) → breaks_shape m (progress_of m sizes) ≡ false → breaks_capacity sizes.atom (progress_of m sizes) ≡ false → breaks_shift (progress_of m sizes) ≡ false
-    → in_progress m.config ≡ true → (p : Progress) × (progress_of m sizes ≡ Some p) × ((live : List Extent) × IsConverting m sizes p live)
+    → HoldVolume (in_progress m.config) m sizes → in_progress m.config ≡ true → (p : Progress) × (progress_of m sizes ≡ Some p) × ((live : List Extent) × IsConverting m sizes p live)
 unfolding IsStateOf
-busy_by m sizes h short far e =
+busy_by m sizes h short far hold e =
     let t = there m (progress_of m sizes) h e in
     let s = from_progress m sizes t.0 e t.1 in
     let room = or_parts (eqb (capacity sizes.atom t.0) 0) (nat_lt (capacity sizes.atom t.0) t.0.plan.zone) (subst (λ o. breaks_capacity sizes.atom o ≡ false) t.1 short) in (
@@ -133,6 +135,7 @@ busy_by m sizes h short far e =
           room = some_room _ room.0;
           zone = ltb-false _ _ room.1;
           shift = subst (λ o. breaks_shift o ≡ false) t.1 far;
+          places = on_disk m sizes t.0 s.1.0 hold.on_disk s.1.1 s.1.3;
         },
       ),
     )
@@ -164,5 +167,6 @@ sound m sizes some none =
       atoms = atoms m sizes (unbroken faults.NotAtomMultiple (breaks_multiples m sizes) s2.0);
       numbers = numbers m sizes (unbroken faults.TweakRange (breaks_tweaks m sizes) s3.0);
       idle = idle_by m sizes shape;
-      busy = busy_by m sizes shape (unbroken faults.ResilTooSmall (breaks_capacity sizes.atom (progress_of m sizes)) c1.0) (unbroken faults.ShiftRoom (breaks_shift (progress_of m sizes)) c2.0);
+      busy = busy_by m sizes shape (unbroken faults.ResilTooSmall (breaks_capacity sizes.atom (progress_of m sizes)) c1.0) (unbroken faults.ShiftRoom (breaks_shift (progress_of m sizes)) c2.0)
+          (held (in_progress m.config) m sizes (unbroken faults.SegmentGap (breaks_segments m sizes) s0.0));
     }

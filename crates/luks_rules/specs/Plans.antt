@@ -1,5 +1,5 @@
 -- How a conversion lays its volume out: the parts of the old and of the new segment.
-use Rattle.std.specs.Prelude.{ℕ, ◌+◌, ◌*◌, ◌/◌, ◌==◌, ◌&&◌, not, Bool, true, false, List, [], ◌∷◌, Option, Some, None, if◌then◌else◌}
+use Rattle.std.specs.Prelude.{ℕ, ◌+◌, ◌*◌, ◌/◌, ◌==◌, ◌&&◌, not, nat_lt, Bool, true, false, List, [], ◌∷◌, Option, Some, None, if◌then◌else◌}
 use Rattle.luks_json.specs.declared.names.Cipher.{Cipher}
 use Rattle.luks_json.specs.declared.names.Cipher.TheVariants.{AesXtsPlain64, AesCbcEssivSha256}
 use Rattle.luks_json.specs.declared.reencrypt.Direction.{Direction}
@@ -26,6 +26,16 @@ parts_of Forward old new plan =
 parts_of Backward old new plan =
     record { whole = old; zone = false; from = 0; blocks = plan.first } ∷ record { whole = old; zone = true; from = plan.first; blocks = plan.zone }
     ∷ record { whole = new; zone = false; from = plan.first + plan.zone; blocks = plan.last } ∷ []
+
+-- ---- a block of the volume
+-- the whole segment that it is in: the open zone is the old one's
+abbrev pub whole_at : Direction → Extent → Extent → Plan → ℕ → Extent
+whole_at Forward old new plan b = if nat_lt b plan.first then new else old
+whole_at Backward old new plan b = if nat_lt b (plan.first + plan.zone) then old else new
+
+-- where it lies, in bytes
+abbrev pub place_at : ℕ → Direction → Extent → Extent → Plan → ℕ → ℕ
+place_at atom direction old new plan b = (whole_at direction old new plan b).offset + b * atom
 
 -- ---- a part of a segment
 -- no flag, or the zone's

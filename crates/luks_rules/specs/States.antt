@@ -1,14 +1,15 @@
 -- What metadata are that break no rule.
-use Rattle.std.specs.Prelude.{◌≡◌, ℕ, ◌<◌, ◌≤◌, ◌++◌, Bool, true, false, List, [], ◌∷◌, map, Option, Some, None}
+use Rattle.std.specs.Prelude.{◌≡◌, ℕ, ◌+◌, ◌<◌, ◌≤◌, ◌++◌, Bool, true, false, List, [], ◌∷◌, map, Option, Some, None}
 use Rattle.std.specs.List.{All}
 use Rattle.disk_sizes.specs.declared.Sizes.{Sizes}
 use Rattle.luks_json.specs.Configs.{is_foreign, mandatory}
 use Rattle.luks_json.specs.declared.meta.Parts.{Parts}
-use Rattle.luks_rules.specs.Areas.{areas_of}
+use Rattle.luks_rules.specs.Areas.{areas_of, main_bytes}
 use Rattle.luks_rules.specs.Conversions.{conversions_of}
 use Rattle.luks_rules.specs.Extents.{extent_of}
 use Rattle.luks_rules.specs.Overlaps.{TwoShare}
 use Rattle.luks_rules.specs.Plain.{AreReferred, HaveNumbers, HaveWholeAtoms, HaveWholeSectors, HoldVolume, LieWithin}
+use Rattle.luks_rules.specs.Plans.{blocks_in, place_at}
 use Rattle.luks_rules.specs.Rooms.{breaks_shift, capacity}
 use Rattle.luks_rules.specs.Segments.{in_progress}
 use Rattle.luks_rules.specs.Shapes.{are_numbered, are_wholes, fits, progress_of}
@@ -24,7 +25,8 @@ pub record IsState (atom : ℕ) (c : Conversion) (live : List Extent) (old new :
   pub wholes : are_wholes atom c old new ≡ true
   pub parts : fits atom c old new live plan ≡ true
 
--- The segments, digests and keyslot of a conversion that is so far, and the room that it has.
+-- The segments, digests and keyslot of a conversion that is so far, and the room that it has. Each
+-- block lies on the disk.
 pub record IsConverting (m : Parts) (sizes : Sizes) (p : Progress) (live : List Extent) : Type 0 where
   pub keyslot : conversions_of m.keyslots ≡ p.conversion ∷ []
   pub segments : map (extent_of m.digests) m.segments ≡ live ++ p.old ∷ p.new ∷ []
@@ -32,6 +34,7 @@ pub record IsConverting (m : Parts) (sizes : Sizes) (p : Progress) (live : List 
   pub room : 0 < capacity sizes.atom p
   pub zone : p.plan.zone ≤ capacity sizes.atom p
   pub shift : breaks_shift (Some p) ≡ false
+  pub places : (b : ℕ) → b < blocks_in p.plan → place_at sizes.atom p.conversion.direction p.old p.new p.plan b + sizes.atom ≤ main_bytes sizes
 
 -- Metadata that break no rule, for disks of these sizes.
 pub record IsSound (m : Parts) (sizes : Sizes) : Type 0 where

@@ -26,8 +26,10 @@ pub fn rules_are_plain()
 {}
 
 /// Segments are those of a conversion exactly where some choice of boundary and zone makes them
-/// so: the few that are tried are all that can.
+/// so: the few that are tried are all that can. No two choices do.
 pub fn shapes_are_choices()
-    ensures { (atom : ℕ) (c : conversion_type) (live : List extent_type) (old : extent_type) (new : extent_type) → 0 < atom → 0 < length live
+    ensures found { (atom : ℕ) (c : conversion_type) (live : List extent_type) (old : extent_type) (new : extent_type) → 0 < atom → 0 < length live
         → (is_some (progress_by atom c live old new) ≡ true) ↔ ((plan : plan_type) × IsState atom c live old new plan) }
+    ensures one { (atom : ℕ) (c : conversion_type) (live : List extent_type) (old : extent_type) (new : extent_type) (plan : plan_type) (other : plan_type) → 0 < atom → 0 < length live
+        → IsState atom c live old new plan → IsState atom c live old new other → plan ≡ other }
 {}

@@ -30,6 +30,21 @@ fn attached(atom: u32) -> Sizes
     }
 }
 
+// The metadata of a header without a conversion, of which a part was replaced.
+fn idle_with(alloc: Global, old: &str, new: &str) -> Result<String, Fail> {
+    Ok(IDLE.replace(alloc, old, new)?)
+}
+
+// The same of a conversion by journal.
+fn conversion_with(alloc: Global, old: &str, new: &str) -> Result<String, Fail> {
+    Ok(CONVERSION.replace(alloc, old, new)?)
+}
+
+// The same of a conversion that shifts its data.
+fn shift_with(alloc: Global, old: &str, new: &str) -> Result<String, Fail> {
+    Ok(SHIFT.replace(alloc, old, new)?)
+}
+
 // The metadata of a text, judged for a disk of 32 MiB.
 fn judged(alloc: Global, text: &str, atom: u32) -> Result<Result<Valid, CheckError>, Fail>
     requires { 0 < atom }
@@ -108,7 +123,7 @@ fn the_first_rule_that_a_header_breaks_is_found(rt: HostRuntime) -> Result<(), F
             8,
         ),
     ] {
-        let text = IDLE.replace(alloc, old, new)?;
+        let text = idle_with(alloc, old, new)?;
         assert_eq!(rt;
             number_of(&judged(alloc, text.as_str(), atom)?),
             number,
@@ -121,7 +136,7 @@ fn the_first_rule_that_a_header_breaks_is_found(rt: HostRuntime) -> Result<(), F
 #[test]
 fn a_volume_without_a_segment_has_a_gap(rt: HostRuntime) -> Result<(), Fail> {
     let alloc = rt.alloc();
-    let text = IDLE.replace(alloc, r#""segments":["0"]"#, r#""segments":[]"#)?;
+    let text = idle_with(alloc, r#""segments":["0"]"#, r#""segments":[]"#)?;
     let text = text.as_str().replace(alloc, r#""segments":{"0":{"#, r#""segments":{},"x":{"0":{"#)?;
     assert_eq!(rt; number_of(&judged(alloc, text.as_str(), 4096)?), 4);
     Ok(())
@@ -130,77 +145,62 @@ fn a_volume_without_a_segment_has_a_gap(rt: HostRuntime) -> Result<(), Fail> {
 #[test]
 fn the_first_rule_that_a_conversion_breaks_is_found(rt: HostRuntime) -> Result<(), Fail> {
     let alloc = rt.alloc();
-    for (base, old, new, number) in [
-        (CONVERSION, "x", "x", 0),
-        (CONVERSION, r#""size":"8192""#, r#""size":"dynamic""#, 4),
+    for (old, new, number) in [
+        ("x", "x", 0),
+        (r#""size":"8192""#, r#""size":"dynamic""#, 4),
+        (r#""size":"16764928""#, r#""size":"16769024""#, 4),
+        (r#""segments":["0","4"]"#, r#""segments":["0"]"#, 3),
+        (r#""flags":["in-reencryption"],"#, "", 8),
+        (r#""iv_tweak":"16""#, r#""iv_tweak":"17""#, 8),
+        (r#""size":"16764928""#, r#""size":"16760832""#, 0),
+        (r#""mode":"reencrypt""#, r#""mode":"encrypt""#, 8),
+        (r#""forward""#, r#""backward""#, 8),
         (
-            CONVERSION,
-            r#""size":"16764928""#,
-            r#""size":"16769024""#,
-            4,
-        ),
-        (
-            CONVERSION,
-            r#""segments":["0","4"]"#,
-            r#""segments":["0"]"#,
-            3,
-        ),
-        (CONVERSION, r#""flags":["in-reencryption"],"#, "", 8),
-        (CONVERSION, r#""iv_tweak":"16""#, r#""iv_tweak":"17""#, 8),
-        (
-            CONVERSION,
-            r#""size":"16764928""#,
-            r#""size":"16760832""#,
-            0,
-        ),
-        (
-            CONVERSION,
-            r#""mode":"reencrypt""#,
-            r#""mode":"encrypt""#,
-            8,
-        ),
-        (CONVERSION, r#""forward""#, r#""backward""#, 8),
-        (
-            CONVERSION,
             r#""keyslots":[],"salt":"c2FsdA==","segments":["0""#,
             r#""keyslots":["2"],"salt":"c2FsdA==","segments":["0""#,
             8,
         ),
         (
-            CONVERSION,
             r#""type":"journal""#,
             r#""hash":"sha256","sector_size":512,"type":"checksum""#,
             8,
         ),
         (
-            CONVERSION,
             r#""type":"journal""#,
             r#""hash":"sha256","sector_size":4096,"type":"checksum""#,
             0,
         ),
         (
-            CONVERSION,
             r#""size":"4096","type":"journal""#,
             r#""size":"0","type":"journal""#,
             9,
         ),
         (
-            CONVERSION,
             r#""type":"journal""#,
             r#""shift_size":"4096","type":"datashift""#,
             8,
         ),
-        (SHIFT, "x", "x", 0),
-        (
-            SHIFT,
-            r#""shift_size":"4096""#,
-            r#""shift_size":"8192""#,
-            10,
-        ),
-        (SHIFT, r#""shift_size":"4096""#, r#""shift_size":"0""#, 9),
-        (SHIFT, r#""forward""#, r#""backward""#, 10),
     ] {
-        let text = base.replace(alloc, old, new)?;
+        let text = conversion_with(alloc, old, new)?;
+        assert_eq!(rt;
+            number_of(&judged(alloc, text.as_str(), 4096)?),
+            number,
+            "{new}"
+        );
+    }
+    Ok(())
+}
+
+#[test]
+fn the_first_rule_that_a_shift_breaks_is_found(rt: HostRuntime) -> Result<(), Fail> {
+    let alloc = rt.alloc();
+    for (old, new, number) in [
+        ("x", "x", 0),
+        (r#""shift_size":"4096""#, r#""shift_size":"8192""#, 10),
+        (r#""shift_size":"4096""#, r#""shift_size":"0""#, 9),
+        (r#""forward""#, r#""backward""#, 10),
+    ] {
+        let text = shift_with(alloc, old, new)?;
         assert_eq!(rt;
             number_of(&judged(alloc, text.as_str(), 4096)?),
             number,
@@ -213,7 +213,8 @@ fn the_first_rule_that_a_conversion_breaks_is_found(rt: HostRuntime) -> Result<(
 #[test]
 fn the_state_of_a_conversion_is_told(rt: HostRuntime) -> Result<(), Fail> {
     let alloc = rt.alloc();
-    let Ok(valid) = judged(alloc, CONVERSION, 4096)? else {
+    let text = conversion_with(alloc, "x", "x")?;
+    let Ok(valid) = judged(alloc, text.as_str(), 4096)? else {
         return Err(Fail::new("it breaks a rule"));
     };
     valid.is_sound();
