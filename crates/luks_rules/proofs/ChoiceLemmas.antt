@@ -1,7 +1,7 @@
 -- Whatever choice of boundary and zone fits the live segments is among those that are tried.
-use Rattle.std.proofs.Common.{◌≡◌, ◌∙◌, ◌⊎◌, inl, inr, ℕ, ◌+◌, ◌*◌, ◌/◌, ◌<◌, ◌≤◌, ◌&&◌, ◌||◌, eqb, List, [], ◌∷◌, length, get_or, Option, Some, None, Bool, true, false, cond, refl, sym, ap, subst, arith}
+use Rattle.std.proofs.Common.{◌≡◌, ◌∙◌, ◌⊎◌, inl, inr, ℕ, ◌+◌, ◌*◌, ◌/◌, ◌<◌, ◌&&◌, ◌||◌, eqb, List, [], ◌∷◌, length, get_or, Option, Some, None, Bool, true, false, cond, refl, sym, ap, subst, arith}
 use Rattle.std.proofs.Math.Nat.{mul-div_cancel}
-use Rattle.std.proofs.lemmas.Bool.{and_parts, and_from, eqb-true, cases_Bool, both_ways}
+use Rattle.std.proofs.lemmas.Bool.{and_parts, and_from, eqb-true}
 use Rattle.std.proofs.lemmas.List.Folds.{list_any_at}
 use Rattle.std.specs.List.{list_any, find}
 use Rattle.std.specs.Option.{is_some, option_map}
@@ -10,7 +10,7 @@ use Rattle.luks_json.specs.declared.reencrypt.Direction.TheVariants.{Forward, Ba
 use Rattle.luks_json.specs.declared.segment.SegmentSize.{SegmentSize}
 use Rattle.luks_json.specs.declared.segment.SegmentSize.TheVariants.{Dynamic, Sized}
 use Rattle.luks_rules.specs.Extents.{blocks_of}
-use Rattle.luks_rules.specs.Plans.{begins, blocks_in, is_encrypted, is_marked, is_nothing, is_part, is_sized, laid_out, parts_of, rest_of, same_digest}
+use Rattle.luks_rules.specs.Plans.{begins, blocks_in, is_encrypted, is_marked, is_part, is_sized, laid_out, parts_of, rest_of, same_digest}
 use Rattle.luks_rules.specs.Shapes.{are_numbered, are_wholes, choices, fits, is_next_size, is_whole_size, may_open, plan_by, plan_of, progress_by, progress_with, stays_dynamic}
 use Rattle.luks_rules.specs.States.{IsState}
 use Rattle.luks_rules.specs.declared.conversions.Conversion.{Conversion}

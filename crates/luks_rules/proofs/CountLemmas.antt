@@ -1,5 +1,5 @@
 -- Counts of numbers that are listed, each once.
-use Rattle.std.proofs.Common.{◌≡◌, ◌∙◌, ◌<◌, ◌+◌, ◌||◌, ℕ, List, length, get_or, take, Bool, true, false, cond, eqb, sym, ap, subst, refl, arith}
+use Rattle.std.proofs.Common.{◌≡◌, ◌∙◌, ◌<◌, ◌+◌, ◌||◌, ℕ, List, length, get_or, take, Bool, true, false, cond, eqb, sym, ap, refl, arith}
 use Rattle.std.proofs.lemmas.Bool.{eqb-true}
 use Rattle.std.proofs.lemmas.List.Folds.{list_any_more}
 use Rattle.luks_rules.specs.References.{lists}

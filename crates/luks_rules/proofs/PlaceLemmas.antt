@@ -1,5 +1,5 @@
 -- Each block of a volume under conversion lies on the disk.
-use Rattle.std.proofs.Common.{◌≡◌, ◌∙◌, ◌⊎◌, inl, inr, ℕ, zero, suc, ◌+◌, ◌*◌, ◌<◌, ◌≤◌, ◌++◌, nat_lt, List, [], ◌∷◌, map, length, get_or, Bool, true, false, cond, refl, ap, subst, arith}
+use Rattle.std.proofs.Common.{◌≡◌, inl, inr, ℕ, suc, ◌+◌, ◌*◌, ◌<◌, ◌≤◌, ◌++◌, nat_lt, List, [], ◌∷◌, map, Bool, true, false, cond, refl, subst, arith}
 use Rattle.std.proofs.Math.Nat.{mul-le-mul_right}
 use Rattle.std.proofs.lemmas.Bool.{eqb-true, ltb-true, ltb-false}
 use Rattle.std.specs.List.{All}
@@ -13,7 +13,7 @@ use Rattle.luks_json.specs.declared.segment.SegmentSize.{SegmentSize}
 use Rattle.luks_json.specs.declared.segment.SegmentSize.TheVariants.{Dynamic, Sized}
 use Rattle.luks_rules.specs.Areas.{main_bytes}
 use Rattle.luks_rules.specs.Extents.{extent_of}
-use Rattle.luks_rules.specs.Plans.{begins, blocks_in, is_part, is_sized, laid_out, parts_of, place_at, rest_of}
+use Rattle.luks_rules.specs.Plans.{blocks_in, is_part, is_sized, laid_out, parts_of, place_at}
 use Rattle.luks_rules.specs.Segments.{bytes_by, bytes_of}
 use Rattle.luks_rules.specs.States.{IsState}
 use Rattle.luks_rules.specs.declared.extents.Extent.{Extent}

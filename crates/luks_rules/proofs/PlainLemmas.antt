@@ -1,15 +1,12 @@
 -- The tests of the rules, in plain words.
-use Rattle.std.proofs.Common.{◌≡◌, ◌∙◌, ◌⊎◌, inl, inr, ℕ, ◌+◌, ◌%◌, ◌/◌, ◌<◌, ◌≤◌, ◌&&◌, ◌||◌, not, nat_lt, eqb, List, [], ◌∷◌, length, get_or, Option, Some, None, Bool, true, false, cond, refl, sym, subst, arith}
-use Rattle.std.proofs.lemmas.Bool.{ltb-false, le-ltb, or_parts, or_from, not-true, not-false, not_from_true, not_from_false, eqb-true, eq-eqb, ne_eqb, cases_Bool, both_ways, and_right, and_left}
+use Rattle.std.proofs.Common.{◌≡◌, inl, inr, ℕ, ◌+◌, ◌%◌, ◌/◌, ◌<◌, ◌≤◌, ◌&&◌, ◌||◌, not, nat_lt, eqb, List, get_or, Option, Some, None, Bool, true, false, cond, refl, subst, arith}
+use Rattle.std.proofs.lemmas.Bool.{ltb-false, le-ltb, or_parts, or_from, not-false, not_from_true, eqb-true, eq-eqb, ne_eqb, cases_Bool, both_ways}
 use Rattle.std.proofs.lemmas.List.Folds.{list_any_none, list_any_at}
 use Rattle.std.specs.List.{All, list_any, sum_by}
 use Rattle.std.specs.Option.{is_some, IsSome, IfSome}
-use Rattle.std.specs.Str.{bytes_eq}
 use Rattle.disk_sizes.specs.declared.Sizes.{Sizes}
-use Rattle.luks_json.specs.declared.digest.Digest.{Digest}
 use Rattle.luks_json.specs.declared.meta.Parts.{Parts}
 use Rattle.luks_json.specs.declared.segment.Encryption.{Encryption}
-use Rattle.luks_json.specs.declared.segment.Segment.{Segment}
 use Rattle.luks_json.specs.declared.segment.SegmentSize.{SegmentSize}
 use Rattle.luks_json.specs.declared.segment.SegmentSize.TheVariants.{Dynamic, Sized}
 use Rattle.luks_rules.specs.Areas.{areas_of, areas_begin, areas_end, end_of, header_bytes, main_bytes, is_outside, passes_limit, breaks_bounds}
@@ -17,7 +14,6 @@ use Rattle.luks_rules.specs.References.{breaks_references, is_badly_listed, is_t
 use Rattle.luks_rules.specs.Segments.{breaks_count, bytes_of, holds_none, is_backup, is_dynamic, live_bytes, passes_end}
 use Rattle.luks_rules.specs.Multiples.{breaks_multiples, breaks_sectors, breaks_tweaks, cuts_atom, is_uneven, is_uneven_area, is_uneven_segment, is_uneven_size, passes_numbers}
 use Rattle.luks_rules.specs.Plain.{AreReferred, HaveNumbers, HaveWholeAtoms, HaveWholeSectors, HoldVolume, IsWholeSize, IsWithin, LieWithin}
-use Rattle.luks_rules.specs.declared.areas.Area.{Area}
 
 -- ---- a test that no element passes
 pub each : {X : Type 0} (p : X → Bool) (P : X → Type 0) (xs : List X) → ((x : X) → p x ≡ false → P x) → list_any p xs ≡ false → All P xs

@@ -1,5 +1,5 @@
 -- Live segments that are parts one after another, part by part.
-use Rattle.std.proofs.Common.{◌≡◌, ◌∙◌, ◌<◌, ◌≤◌, ◌+◌, ◌&&◌, ℕ, List, [], ◌∷◌, length, get_or, drop, drop-cons, add-one, Bool, true, false, cond, eqb, sym, ap, refl, arith}
+use Rattle.std.proofs.Common.{◌≡◌, ◌∙◌, ◌<◌, ◌≤◌, ◌+◌, ◌&&◌, ℕ, List, [], ◌∷◌, length, get_or, drop, drop-cons, add-one, true, false, cond, eqb, sym, ap, refl, arith}
 use Rattle.std.proofs.lemmas.Bool.{eq-eqb, ne_eqb, and_left}
 use Rattle.std.proofs.lemmas.List.{drop_all}
 use Rattle.luks_rules.specs.Plans.{begins, is_nothing, laid_out, rest_of}

@@ -1,5 +1,5 @@
 -- The test of overlaps, in plain words.
-use Rattle.std.proofs.Common.{◌≡◌, ◌⊎◌, inl, inr, ℕ, zero, suc, ◌+◌, ◌<◌, ◌≤◌, ◌&&◌, ◌||◌, nat_lt, List, [], ◌∷◌, length, get_or, Bool, true, false, max, refl, arith}
+use Rattle.std.proofs.Common.{◌≡◌, inl, inr, ℕ, zero, suc, ◌<◌, ◌&&◌, nat_lt, List, [], ◌∷◌, length, get_or, true, max, arith}
 use Rattle.std.proofs.lemmas.Bool.{ltb-true, lt-ltb, and_parts, and_from, or_cases, or_left, or_right}
 use Rattle.std.specs.List.{list_any}
 use Rattle.luks_rules.specs.Areas.{end_of}

@@ -1,7 +1,7 @@
 -- Metadata that break no rule, in plain words.
-use Rattle.std.proofs.Common.{◌≡◌, ◌∙◌, ℕ, ◌<◌, ◌≤◌, ◌||◌, ◌++◌, not, nat_lt, eqb, List, [], ◌∷◌, map, Option, Some, None, Bool, true, false, cond, refl, sym, ap, subst, arith}
+use Rattle.std.proofs.Common.{◌≡◌, ◌∙◌, ℕ, ◌<◌, ◌++◌, not, nat_lt, eqb, List, [], ◌∷◌, map, Option, Some, None, Bool, true, false, cond, refl, sym, ap, subst, arith}
 use Rattle.std.proofs.lemmas.Bool.{ltb-false, or_parts, not-false, both_ways}
-use Rattle.std.specs.List.{All, list_any, find}
+use Rattle.std.specs.List.{All, list_any}
 use Rattle.std.specs.Option.{is_some, option_map, option_and_then}
 use Rattle.disk_sizes.specs.declared.Sizes.{Sizes}
 use Rattle.luks_json.specs.Configs.{is_foreign, mandatory}
@@ -13,7 +13,7 @@ use Rattle.luks_rules.specs.Conversions.{conversions_of, only}
 use Rattle.luks_rules.specs.Extents.{extent_of}
 use Rattle.luks_rules.specs.Foreign.{first_foreign}
 use Rattle.luks_rules.specs.Multiples.{breaks_multiples, breaks_sectors, breaks_tweaks}
-use Rattle.luks_rules.specs.Overlaps.{overlap, TwoShare}
+use Rattle.luks_rules.specs.Overlaps.{overlap}
 use Rattle.luks_rules.specs.Plain.{HoldVolume}
 use Rattle.luks_rules.specs.References.{breaks_references, lists}
 use Rattle.luks_rules.specs.Rooms.{breaks_capacity, breaks_shift, capacity}

@@ -1,15 +1,14 @@
 -- The rules in plain words.
-use Rattle.std.specs.Prelude.{◌≡◌, ℕ, ◌+◌, ◌-◌, ◌/◌, ◌%◌, ◌^◌, ◌<◌, ◌≤◌, Bool, true, false, List, [], ◌∷◌, length, Option, Some, None, IfSome, IsSome}
+use Rattle.std.specs.Prelude.{◌≡◌, ℕ, ◌+◌, ◌-◌, ◌/◌, ◌%◌, ◌^◌, ◌<◌, ◌≤◌, Bool, true, false, length, IfSome, IsSome}
 use Rattle.std.specs.List.{All, sum_by}
 use Rattle.disk_sizes.specs.declared.Sizes.{Sizes}
-use Rattle.luks_json.specs.Configs.{profile}
 use Rattle.luks_json.specs.declared.config.Config.{Config}
 use Rattle.luks_json.specs.declared.meta.Parts.{Parts}
 use Rattle.luks_json.specs.declared.segment.SegmentSize.{SegmentSize}
 use Rattle.luks_json.specs.declared.segment.SegmentSize.TheVariants.{Dynamic, Sized}
 use Rattle.luks_rules.specs.Areas.{areas_begin, areas_end, areas_of, end_of, header_bytes, main_bytes}
 use Rattle.luks_rules.specs.References.{is_there, times_listed}
-use Rattle.luks_rules.specs.Segments.{bytes_of, in_progress, is_backup, is_dynamic, live_bytes}
+use Rattle.luks_rules.specs.Segments.{bytes_of, is_backup, is_dynamic, live_bytes}
 use Rattle.luks_rules.specs.declared.areas.Area.{Area}
 
 -- ---- areas

@@ -1,5 +1,5 @@
 -- Room for a zone, and for a shift.
-use Rattle.std.specs.Prelude.{ℕ, ◌+◌, ◌/◌, ◌==◌, ◌||◌, not, nat_lt, Bool, true, false, Option, Some, None}
+use Rattle.std.specs.Prelude.{ℕ, ◌+◌, ◌/◌, ◌==◌, ◌||◌, not, nat_lt, Bool, false, Option, Some, None}
 use Rattle.luks_json.specs.declared.reencrypt.Direction.{Direction}
 use Rattle.luks_json.specs.declared.reencrypt.Direction.TheVariants.{Forward, Backward}
 use Rattle.luks_json.specs.declared.reencrypt.Resilience.{Resilience}

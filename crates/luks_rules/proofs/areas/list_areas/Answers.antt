@@ -1,4 +1,4 @@
-use Rattle.std.proofs.Common.{◌≡◌, ◌∙◌, ◌++◌, ◌+◌, ℕ, drop, ap}
+use Rattle.std.proofs.Common.{◌∙◌, ◌++◌, ◌+◌, ℕ, drop, ap}
 use Rattle.std.specs.List.{filter_map}
 use Rattle.luks_json.specs.declared.keyslot.Keyslot.{Keyslot}
 use Rattle.luks_rules.specs.Areas.{area_of, areas_of}

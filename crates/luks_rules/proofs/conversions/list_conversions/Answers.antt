@@ -1,4 +1,4 @@
-use Rattle.std.proofs.Common.{◌≡◌, ◌∙◌, ◌++◌, ◌+◌, drop, ap}
+use Rattle.std.proofs.Common.{◌∙◌, ◌++◌, ◌+◌, drop, ap}
 use Rattle.std.specs.List.{filter_map}
 use Rattle.luks_rules.specs.Conversions.{conversion_of, conversions_of}
 use Rattle.luks_rules.proofs.KeptLemmas.{found_more, found_none, found_all}

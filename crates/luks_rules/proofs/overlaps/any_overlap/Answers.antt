@@ -1,4 +1,4 @@
-use Rattle.std.proofs.Common.{◌≡◌, ◌∙◌, ap}
+use Rattle.std.proofs.Common.{◌∙◌, ap}
 use Rattle.luks_rules.specs.Overlaps.{reaches}
 use Rattle.luks_rules.proofs.OverlapLemmas.{found}
 use Rattle.luks_rules.proofs.overlaps.any_overlap.Goals as goal

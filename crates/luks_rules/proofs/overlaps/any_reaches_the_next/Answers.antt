@@ -1,4 +1,4 @@
-use Rattle.std.proofs.Common.{◌≡◌, ◌∙◌, ◌||◌, ℕ, ◌<◌, ◌+◌, nat_lt, List, [], ◌∷◌, length, get_or, drop, drop-cons, add-one, true, false, sym, ap, refl, arith}
+use Rattle.std.proofs.Common.{◌≡◌, ◌∙◌, ◌||◌, ℕ, ◌<◌, ◌+◌, nat_lt, List, [], length, get_or, drop, drop-cons, add-one, true, false, sym, ap, refl, arith}
 use Rattle.std.proofs.lemmas.Bool.{lt-ltb, le-ltb, or_left}
 use Rattle.std.proofs.lemmas.List.{drop_all}
 use Rattle.luks_rules.specs.Areas.{end_of}

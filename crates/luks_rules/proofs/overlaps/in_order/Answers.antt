@@ -1,8 +1,6 @@
-use Rattle.std.proofs.Common.{◌≡◌, List, subst, rules}
-use Rattle.std.specs.List.{filter}
+use Rattle.std.proofs.Common.{List, subst, rules}
 use Rattle.std.specs.List.Sorted.{IsPermutation}
 use Rattle.std.proofs.lemmas.List.Sorted.{IsNonDecreasingBy-from_sort_by_key}
-use Rattle.luks_rules.specs.Overlaps.{has_bytes}
 use Rattle.luks_rules.specs.declared.areas.Area.{Area}
 use Rattle.luks_rules.proofs.overlaps.in_order.Goals as goal
 

@@ -1,4 +1,4 @@
-use Rattle.std.proofs.Common.{◌≡◌, ◌∙◌, ◌+◌, drop, ap, arith}
+use Rattle.std.proofs.Common.{◌∙◌, ◌+◌, drop, ap}
 use Rattle.luks_rules.specs.Plans.{laid_out}
 use Rattle.luks_rules.proofs.PlanLemmas.{part_fails, part_goes, part_skips, parts_end}
 use Rattle.luks_rules.proofs.plan.are_laid_out.Goals as goal

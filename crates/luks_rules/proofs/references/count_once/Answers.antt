@@ -1,4 +1,4 @@
-use Rattle.std.proofs.Common.{◌≡◌, ◌∙◌, ◌+◌, ℕ, unwrap_or, nat_cmp, not, sym, ap, arith}
+use Rattle.std.proofs.Common.{◌∙◌, unwrap_or, nat_cmp, sym, ap, arith}
 use Rattle.std.specs.BTreeMap as map
 use Rattle.std.proofs.lemmas.Grind.{common_steps}
 use Rattle.std.proofs.lemmas.Bool.{not-true, not-false}

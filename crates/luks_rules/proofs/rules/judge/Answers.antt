@@ -1,4 +1,4 @@
-use Rattle.std.proofs.Common.{◌≡◌, ◌∙◌, None, sym}
+use Rattle.std.proofs.Common.{◌∙◌, None, sym}
 use Rattle.luks_rules.proofs.RuleLemmas.{at_places, at_sizes, at_conversion}
 use Rattle.luks_rules.proofs.rules.judge.Goals as goal
 

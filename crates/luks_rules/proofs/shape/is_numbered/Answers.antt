@@ -1,4 +1,4 @@
-use Rattle.std.proofs.Common.{◌≡◌, arith}
+use Rattle.std.proofs.Common.{arith}
 use Rattle.luks_rules.proofs.PlanLemmas.{number_fails, number_goes, numbers_end}
 use Rattle.luks_rules.proofs.shape.is_numbered.Goals as goal
 

@@ -1,4 +1,4 @@
-use Rattle.std.proofs.Common.{◌≡◌, subst}
+use Rattle.std.proofs.Common.{subst}
 use Rattle.luks_rules.specs.Rules.{IsJudged}
 use Rattle.luks_rules.proofs.SoundLemmas.{sound}
 use Rattle.luks_rules.proofs.valid.Valid.is_sound.Goals as goal
