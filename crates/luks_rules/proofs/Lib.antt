@@ -1,0 +1,11 @@
+pub mod ChoiceLemmas
+pub mod CountLemmas
+pub mod KeptLemmas
+pub mod OneChoiceLemmas
+pub mod OverlapLemmas
+pub mod PlaceLemmas
+pub mod PlainLemmas
+pub mod PlanLemmas
+pub mod RuleLemmas
+pub mod ShareLemmas
+pub mod SoundLemmas

@@ -1,0 +1,15 @@
+pub mod Areas
+pub mod Conversions
+pub mod Extents
+pub mod Foreign
+pub mod Multiples
+pub mod Overlaps
+pub mod Plain
+pub mod Plans
+pub mod References
+pub mod Rooms
+pub mod Rules
+pub mod Segments
+pub mod Shapes
+pub mod States
+pub mod Unserved

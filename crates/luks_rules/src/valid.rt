@@ -1,0 +1,106 @@
+ghost use Rattle.std.specs.Prelude.{◌≡◌, ◌<◌, MatchResult, None};
+ghost use Rattle.luks_rules.specs.Rules.{IsCause, first_fault};
+ghost use Rattle.luks_rules.specs.Shapes.{progress_of};
+
+use crate::fault::CheckError;
+use crate::rules::judge;
+use crate::shape::Progress;
+use disk_sizes::Sizes;
+use luks_json::Meta;
+use std::alloc::Global;
+use std::marker::Model;
+
+/// Metadata, and the sizes of the disks that they speak of.
+#[derive(Drop)]
+pub struct Checked {
+    pub meta: Meta,
+    pub sizes: Sizes,
+}
+
+/// Metadata that break no rule, with the sizes of their disks.
+#[derive(Drop)]
+pub struct Valid {
+    checked: Checked,
+    progress: Option<Progress>,
+}
+
+impl Model for Valid {
+    ghost use Rattle.luks_rules.specs.declared.valid.Checked.{Checked};
+
+    ghost Value = { Checked };
+
+    ghost use Rattle.luks_rules.specs.contracts.valid.Checked as checked_type;
+
+    ghost coded = { checked_type.the_row.coded };
+
+    ghost use Rattle.luks_rules.specs.Rules.{IsJudged};
+
+    ghost view = { λ valid. valid.checked };
+
+    ghost invariant = { λ valid. IsJudged valid.checked.meta valid.checked.sizes valid.progress };
+}
+
+/// The metadata as they are, where they break no rule for disks of these sizes, or the first rule
+/// that they break: whose header it is, its areas, what digests list, its segments, and what a
+/// conversion asks of them.
+pub fn check(alloc: Global, meta: Meta, sizes: Sizes) -> Result<Valid, CheckError>
+    requires { 0 < sizes.atom }
+    ensures { MatchResult result
+        (λ valid. (valid ≡ record { meta = meta; sizes = sizes }) × (first_fault meta sizes ≡ None))
+        (λ e. IsCause e (first_fault meta sizes)) }
+{
+    match judge(alloc, meta.parts(), &sizes) {
+        Ok(progress) => Ok(Valid {
+            checked: Checked { meta, sizes },
+            progress,
+        }),
+        Err(e) => Err(e),
+    }
+}
+
+impl Valid {
+    ghost use Rattle.std.specs.Prelude.{◌<◌, None};
+    ghost use Rattle.luks_rules.specs.Rules.{first_fault};
+    ghost use Rattle.luks_rules.specs.States.{IsSound};
+
+    /// What the rules mean, all of them: a law, with nothing to run.
+    pub fn is_sound(&self)
+        ensures { IsSound self.now.meta self.now.sizes }
+    {
+        let _checked = &self.checked;
+    }
+
+    /// The metadata.
+    pub fn meta(&self) -> &Meta
+        ensures { result.now ≡ self.now.meta }
+    {
+        &self.checked.meta
+    }
+
+    /// The sizes of the disks.
+    pub fn sizes(&self) -> Sizes
+        ensures sizes { result ≡ self.now.sizes }
+        ensures some { 0 < result.atom }
+    {
+        self.checked.sizes
+    }
+
+    /// The metadata and the sizes again.
+    pub fn into_checked(self) -> Checked
+        ensures same { result ≡ self }
+        ensures valid { first_fault result.meta result.sizes ≡ None }
+    {
+        let Valid {
+            checked,
+            progress: _,
+        } = self;
+        checked
+    }
+
+    /// How far the conversion is; none where none is under way.
+    pub fn progress(&self) -> Option<Progress>
+        ensures { result ≡ progress_of self.now.meta self.now.sizes }
+    {
+        self.progress
+    }
+}
