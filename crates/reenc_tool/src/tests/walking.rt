@@ -231,7 +231,7 @@ fn holds(alloc: Global, disk: MemDisk, plain: &PlainDisk) -> Result<bool, Fail> 
     let Ok(volume) = Volume::plain(alloc, disk, 2) else {
         return Err(AllocError.into());
     };
-    let mut port = VolumePort { volume };
+    let mut port = VolumePort { volume, session: 0 };
     let length = plain.atom();
     for block in 0..plain.blocks() {
         let offset = block.wrapping_mul(u64::from(length));
