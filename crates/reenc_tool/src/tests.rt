@@ -2,7 +2,10 @@ mod cases;
 mod messages;
 mod walking;
 
-use self::cases::{CASES, Case, REFUSED, Session, USAGE};
+use self::cases::{
+    BAYS, CHOOSERS, COUNTS, Case, DISKS, LINKS, NUMBERS, OUTPUTS, PIECES, REFUSED, ROOMS, Session,
+    TALKERS, USAGE,
+};
 use self::messages::{Part, bytes_of};
 use crate::{Ended, Ending, SessionEnd, run};
 use bays::{MemBay, MemLink};
@@ -196,8 +199,62 @@ fn first_unmet(
 }
 
 #[test]
-fn each_command_ends_as_its_case_says(rt: HostRuntime) -> Result<(), Fail> {
-    assert_eq!(rt; first_unmet(&rt, rt.alloc(), CASES)?, None);
+fn a_client_is_answered_however_its_bytes_come(rt: HostRuntime) -> Result<(), Fail> {
+    assert_eq!(rt; first_unmet(&rt, rt.alloc(), PIECES)?, None);
+    Ok(())
+}
+
+#[test]
+fn each_client_chooses_the_export_in_its_own_way(rt: HostRuntime) -> Result<(), Fail> {
+    assert_eq!(rt; first_unmet(&rt, rt.alloc(), CHOOSERS)?, None);
+    Ok(())
+}
+
+#[test]
+fn each_client_is_answered_in_its_own_way(rt: HostRuntime) -> Result<(), Fail> {
+    assert_eq!(rt; first_unmet(&rt, rt.alloc(), TALKERS)?, None);
+    Ok(())
+}
+
+#[test]
+fn a_count_of_sessions_is_1_to_65535(rt: HostRuntime) -> Result<(), Fail> {
+    assert_eq!(rt; first_unmet(&rt, rt.alloc(), COUNTS)?, None);
+    Ok(())
+}
+
+#[test]
+fn what_the_bay_does_not_give_is_told(rt: HostRuntime) -> Result<(), Fail> {
+    assert_eq!(rt; first_unmet(&rt, rt.alloc(), BAYS)?, None);
+    Ok(())
+}
+
+#[test]
+fn a_link_that_fails_is_told_and_the_others_are_served(rt: HostRuntime) -> Result<(), Fail> {
+    assert_eq!(rt; first_unmet(&rt, rt.alloc(), LINKS)?, None);
+    Ok(())
+}
+
+#[test]
+fn an_output_that_fails_is_told(rt: HostRuntime) -> Result<(), Fail> {
+    assert_eq!(rt; first_unmet(&rt, rt.alloc(), OUTPUTS)?, None);
+    Ok(())
+}
+
+#[test]
+fn a_fault_of_the_disk_is_answered_and_told_at_the_end(rt: HostRuntime) -> Result<(), Fail> {
+    assert_eq!(rt; first_unmet(&rt, rt.alloc(), DISKS)?, None);
+    Ok(())
+}
+
+#[test]
+fn a_client_that_takes_no_more_ends_its_session(rt: HostRuntime) -> Result<(), Fail> {
+    assert_eq!(rt; first_unmet(&rt, rt.alloc(), ROOMS)?, None);
+    Ok(())
+}
+
+#[test]
+fn sessions_are_numbered_over_the_links_and_share_the_disk(rt: HostRuntime) -> Result<(), Fail> {
+    assert_eq!(rt; first_unmet(&rt, rt.alloc(), NUMBERS)?, None);
     Ok(())
 }
 

@@ -131,7 +131,8 @@ const NO_OUTPUT: Case = Case {
     ..FINE
 };
 
-pub const CASES: &[Case] = &[
+/// However the bytes come.
+pub const PIECES: &[Case] = &[
     Case {
         outside: Outside { piece: 1, ..SMALL },
         ..FINE
@@ -147,6 +148,10 @@ pub const CASES: &[Case] = &[
         },
         ..FINE
     },
+];
+
+/// How clients choose the export, or give up.
+pub const CHOOSERS: &[Case] = &[
     Case {
         shows: "each client is answered in its own way",
         outside: Outside {
@@ -231,6 +236,10 @@ pub const CASES: &[Case] = &[
         }],
         ..FINE
     },
+];
+
+/// How clients go on.
+pub const TALKERS: &[Case] = &[
     Case {
         shows: "each client is answered in its own way",
         outside: Outside {
@@ -315,6 +324,10 @@ pub const CASES: &[Case] = &[
         }],
         ..FINE
     },
+];
+
+/// The counts of sessions.
+pub const COUNTS: &[Case] = &[
     Case {
         shows: "a count of sessions is 1 to 65535",
         words: "serve x --plain --atom 512 --listen A --sessions 65535",
@@ -325,6 +338,10 @@ pub const CASES: &[Case] = &[
         words: "serve x --plain --atom 512 --listen A --sessions 00000000000000000001",
         ..FINE
     },
+];
+
+/// What the bay doesn't give.
+pub const BAYS: &[Case] = &[
     Case {
         words: "serve y --plain --atom 512 --listen A --sessions 1",
         ..NO_DISK
@@ -367,6 +384,10 @@ pub const CASES: &[Case] = &[
         line: "fault 8 NoFit\n",
         ..NO_LINKS
     },
+];
+
+/// Links that fail.
+pub const LINKS: &[Case] = &[
     NO_LINK,
     Case {
         shows: "the clients of other links are served once a link has failed",
@@ -413,6 +434,10 @@ pub const CASES: &[Case] = &[
         line: "",
         ..NO_LINK
     },
+];
+
+/// An output that fails.
+pub const OUTPUTS: &[Case] = &[
     Case {
         outside: Outside { line: 17, ..SMALL },
         ..NO_OUTPUT
@@ -432,6 +457,10 @@ pub const CASES: &[Case] = &[
         line: "served 1 sessions\n",
         ..NO_OUTPUT
     },
+];
+
+/// A disk whose calls fail.
+pub const DISKS: &[Case] = &[
     Case {
         shows: "a fault of the disk is answered and told at the end",
         outside: Outside {
@@ -512,6 +541,10 @@ pub const CASES: &[Case] = &[
         line: "fault 2 Device\n",
         ..FINE
     },
+];
+
+/// Clients that take no more.
+pub const ROOMS: &[Case] = &[
     Case {
         shows: "a client that takes no more ends its session",
         outside: Outside { room: 17, ..SMALL },
@@ -545,54 +578,56 @@ pub const CASES: &[Case] = &[
         }],
         ..FINE
     },
-    Case {
-        shows: "sessions are numbered over the links and share the disk",
-        words: "serve x --plain --atom 512 --listen A --sessions 5",
-        outside: Outside {
-            clients: &[WRITER, READER, SILENT, SILENT, READER, READER],
-            ..SMALL
-        },
-        line: "served 5 sessions\n",
-        sessions: &[
-            Session {
-                taken: 594,
-                answers: &[GREETING, SIZE, BLOCK_SIZES, AGREED, WRITTEN],
-                ..FIRST
-            },
-            Session {
-                number: 1,
-                link: 1,
-                taken: 82,
-                answers: &[GREETING, SIZE, BLOCK_SIZES, AGREED, HAS_READ, BLOCK],
-                ..FIRST
-            },
-            Session {
-                number: 2,
-                link: 2,
-                ending: Ending::Closed,
-                taken: 0,
-                answers: &[GREETING],
-                ..FIRST
-            },
-            Session {
-                number: 3,
-                link: 3,
-                ending: Ending::Closed,
-                taken: 0,
-                answers: &[GREETING],
-                ..FIRST
-            },
-            Session {
-                number: 4,
-                place: 1,
-                taken: 82,
-                answers: &[GREETING, SIZE, BLOCK_SIZES, AGREED, HAS_READ, BLOCK],
-                ..FIRST
-            },
-        ],
-        ..FINE
-    },
 ];
+
+/// Sessions over several links.
+pub const NUMBERS: &[Case] = &[Case {
+    shows: "sessions are numbered over the links and share the disk",
+    words: "serve x --plain --atom 512 --listen A --sessions 5",
+    outside: Outside {
+        clients: &[WRITER, READER, SILENT, SILENT, READER, READER],
+        ..SMALL
+    },
+    line: "served 5 sessions\n",
+    sessions: &[
+        Session {
+            taken: 594,
+            answers: &[GREETING, SIZE, BLOCK_SIZES, AGREED, WRITTEN],
+            ..FIRST
+        },
+        Session {
+            number: 1,
+            link: 1,
+            taken: 82,
+            answers: &[GREETING, SIZE, BLOCK_SIZES, AGREED, HAS_READ, BLOCK],
+            ..FIRST
+        },
+        Session {
+            number: 2,
+            link: 2,
+            ending: Ending::Closed,
+            taken: 0,
+            answers: &[GREETING],
+            ..FIRST
+        },
+        Session {
+            number: 3,
+            link: 3,
+            ending: Ending::Closed,
+            taken: 0,
+            answers: &[GREETING],
+            ..FIRST
+        },
+        Session {
+            number: 4,
+            place: 1,
+            taken: 82,
+            answers: &[GREETING, SIZE, BLOCK_SIZES, AGREED, HAS_READ, BLOCK],
+            ..FIRST
+        },
+    ],
+    ..FINE
+}];
 
 /// Words that ask for nothing.
 pub const REFUSED: &[&str] = &[
