@@ -32,7 +32,7 @@ def task_of(pid):
     if not words[0].endswith("rattle") or "--crate-name" not in words:
         return None
     crate = words[words.index("--crate-name") + 1]
-    if os.path.basename(os.readlink(f"/proc/{pid}/cwd")).startswith("rt-edit-"):
+    if "/rt-edit" in os.readlink(f"/proc/{pid}/cwd"):
         return crate, "edits"
     return crate, "tests" if "--test" in words else "proof"
 
