@@ -2,7 +2,7 @@
 use Rattle.std.proofs.Common.{◌≡◌, ℕ, ◌<◌, ◌⊎◌, inl, inr, List, [], ◌∷◌, ◌++◌, take, drop, Some, None, Option, refl, sym, ◌∙◌, ap, subst, arith}
 use Rattle.std.specs.Prelude.{Contains}
 use Rattle.std.proofs.lemmas.List.Elements.{Contains-push_cases}
-use Rattle.disk_areas.specs.Commits.{Stage, begun, first_written, first_kept, second_written, Follows, IsOlder, WasHanded, IsDated, next_stage, failed_stage, first_of, second_of, handed_by}
+use Rattle.disk_areas.specs.Commits.{Stage, begun, first_written, first_kept, second_written, Follows, IsOlder, WasHanded, IsDated, HasPast, next_stage, failed_stage, first_of, second_of, handed_by, handed_by_repair}
 use Rattle.disk_areas.specs.Headers.{Copy, primary, secondary, Reader, IsReader, found, Gives, byte_of, Header, text_of, IsHeader, Handed, copy_at, handed_at}
 use Rattle.disk_areas.proofs.HeadersGiven.{some_one, some_none}
 use Rattle.disk_views.proofs.TableEntries.{none_contained}
@@ -138,4 +138,35 @@ opening_dated reader bytes header to is_reader gives = record {
   each = λ copy text m has valid. at_begin reader header.means to.means m copy
       (opening_says reader bytes header.means m copy is_reader gives
       (held_copy reader bytes text (byte_of (reader.size header.means) copy) m is_reader _ refl has valid));
+}
+
+-- ---- a repair
+pub opening_past : {M : Type 0} (reader : Reader M) (bytes : List ℕ) (header : Header M) → IsReader reader
+    → Gives reader bytes header.means → HasPast reader header (handed_at reader bytes (reader.size header.means))
+opening_past reader bytes header is_reader gives = λ copy text m has valid.
+    opening_says reader bytes header.means m copy is_reader gives
+    (held_copy reader bytes text (byte_of (reader.size header.means) copy) m is_reader _ refl has valid)
+
+-- the header's own text
+own_means : {M : Type 0} (reader : Reader M) (header : Header M) (copy : Copy) (text : List ℕ) (m : M) → IsHeader reader header
+    → text ≡ text_of header copy → reader.decode (byte_of (reader.size header.means) copy) text ≡ Some m → m ≡ header.means
+own_means reader header copy text m of_header same valid =
+    some_one _ m header.means valid (ap (reader.decode (byte_of (reader.size header.means) copy)) same ∙ of_header.valid copy)
+
+pub repaired_past : {M : Type 0} (reader : Reader M) (header : Header M) (bad : Copy) (handed : Handed) → IsHeader reader header
+    → HasPast reader header handed → HasPast reader header (handed_by_repair bad header handed)
+repaired_past reader header primary handed of_header past primary text m has valid =
+    one_more (handed primary) (text_of header primary) text _ (λ before. past primary text m before valid)
+    (λ same. inl (own_means reader header primary text m of_header same valid)) has
+repaired_past reader header primary handed of_header past secondary text m has valid = past secondary text m has valid
+repaired_past reader header secondary handed of_header past primary text m has valid = past primary text m has valid
+repaired_past reader header secondary handed of_header past secondary text m has valid =
+    one_more (handed secondary) (text_of header secondary) text _ (λ before. past secondary text m before valid)
+    (λ same. inl (own_means reader header secondary text m of_header same valid)) has
+
+pub past_dated : {M : Type 0} (reader : Reader M) (header to : Header M) (handed : Handed) → HasPast reader header handed
+    → IsDated reader header to begun handed
+past_dated reader header to handed past = record {
+  later = tt;
+  each = λ copy text m has valid. at_begin reader header.means to.means m copy (past copy text m has valid);
 }

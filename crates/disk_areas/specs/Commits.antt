@@ -133,3 +133,10 @@ abbrev pub HasPast : {M : Type 0} → Reader M → Header M → Handed → Type 
 HasPast {M} reader header handed = (copy : Copy) (text : List ℕ) (m : M) → Contains (handed copy) text
     → reader.decode (byte_of (reader.size header.means) copy) text ≡ Some m
     → (m ≡ header.means) ⊎ IsOlder reader header.means m
+
+-- the texts handed when the repair's write was made, whether it failed or not
+abbrev pub handed_by_repair : {M : Type 0} → Copy → Header M → Handed → Handed
+handed_by_repair primary header handed primary = handed primary ++ text_of header primary ∷ []
+handed_by_repair primary header handed secondary = handed secondary
+handed_by_repair secondary header handed primary = handed primary
+handed_by_repair secondary header handed secondary = handed secondary ++ text_of header secondary ∷ []

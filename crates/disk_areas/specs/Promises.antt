@@ -1,7 +1,7 @@
 -- What is promised of headers, commits and repairs.
 use Rattle.std.specs.Prelude.{length, replicate, ℕ, ◌≡◌, Bool, true, false, List}
 use Rattle.disk_areas.specs.Areas.{AreApart, Image, IsWhole, Takes, content_of}
-use Rattle.disk_areas.specs.Commits.{Stage, begun, ShowsCommit, MayBe, CommitCall, CommitFails, next_stage, failed_stage, first_of, second_of, handed_by, Follows, IsDated, ShowsRepair, HasPast, WritesCopy, TriesCopy}
+use Rattle.disk_areas.specs.Commits.{Stage, begun, ShowsCommit, MayBe, CommitCall, CommitFails, next_stage, failed_stage, first_of, second_of, handed_by, Follows, IsDated, ShowsRepair, HasPast, handed_by_repair, WritesCopy, TriesCopy}
 use Rattle.disk_areas.specs.Headers.{Copy, Reader, IsReader, Layout, place_of, IsLaidOut, Header, IsHeader, Gives, Handed, handed_at, IsGenuine}
 use Rattle.base_terms.specs.Blocks.{joined, lengths}
 use Rattle.disk_views.specs.Parts.{value_in}
@@ -77,3 +77,15 @@ RepairGoes = (atom : ℕ) (layout : Layout) (header to : Header (List ℕ)) (bad
     × (ShowsRepair atom layout header bad true false old
     → (IsSynced old new → ShowsCommit atom layout header to begun false new)
     × (IsThinned old new → ShowsRepair atom layout header bad true true new))
+
+-- What was handed to the copies' places is the header or an older one, at the opening and after the
+-- repair's write, done or failed; so a commit that begins after it finds it dated.
+pub record PastKept (reader : Reader (List ℕ)) (header to : Header (List ℕ)) : Type 0 where
+  pub opened : (bytes : List ℕ) → Gives reader bytes header.means
+      → HasPast reader header (handed_at reader bytes (reader.size header.means))
+  pub written : (bad : Copy) (handed : Handed) → IsHeader reader header → HasPast reader header handed
+      → HasPast reader header (handed_by_repair bad header handed)
+  pub dated : (handed : Handed) → HasPast reader header handed → IsDated reader header to begun handed
+
+abbrev pub RepairDated : Type 0
+RepairDated = (reader : Reader (List ℕ)) (header to : Header (List ℕ)) → IsReader reader → PastKept reader header to

@@ -1,6 +1,6 @@
 // Laws of headers, with nothing to run.
 
-ghost use Rattle.disk_areas.specs.Promises.{CommitDated, CommitGives, CommitGoes, HeaderIsOne, ImageTaken, OpeningDated, RepairGives, RepairGoes};
+ghost use Rattle.disk_areas.specs.Promises.{CommitDated, CommitGives, CommitGoes, HeaderIsOne, ImageTaken, OpeningDated, RepairDated, RepairGives, RepairGoes};
 
 /// The bytes of a disk have at most one header.
 pub fn disks_have_one_header()
@@ -23,9 +23,12 @@ pub fn openings_are_dated()
 {}
 
 /// Each image during a repair has the header that is used, and after it both copies hold it for certain.
+/// What the copies' places were handed is that header or an older one, from the opening on and after its
+/// write, whether it failed or not; so is it for the commit that comes next.
 pub fn repairs_keep_headers()
     ensures gives { RepairGives }
     ensures goes { RepairGoes }
+    ensures dated { RepairDated }
 {}
 
 /// What a stop leaves of a table is an image as these laws speak of it, and the bytes of the disk that is

@@ -231,7 +231,7 @@ values_left old new at n body front back joins spans size head_size head_atoms m
     )
 
 -- as far as a text reaches
-take_min : (n : ℕ) (text : List ℕ) → take (min n (length text)) text ≡ take n text
+pub take_min : (n : ℕ) (text : List ℕ) → take (min n (length text)) text ≡ take n text
 take_min n text = by_order (le_or n (length text))
   where
     by_order : (n ≤ length text) ⊎ (length text ≤ n) → take (min n (length text)) text ≡ take n text
@@ -240,7 +240,7 @@ take_min n text = by_order (le_or n (length text))
         ap (λ m. take m text) (let e : min n (length text) ≡ length text = omega (arith, above) in e)
         ∙ take_all (length text) text (omega arith) ∙ sym (take_all n text above)
 
-drop_min : (n : ℕ) (text : List ℕ) → drop (min n (length text)) text ≡ drop n text
+pub drop_min : (n : ℕ) (text : List ℕ) → drop (min n (length text)) text ≡ drop n text
 drop_min n text = by_order (le_or n (length text))
   where
     by_order : (n ≤ length text) ⊎ (length text ≤ n) → drop (min n (length text)) text ≡ drop n text

@@ -5,4 +5,5 @@ pub mod AcrossLemmas
 pub mod JointCalls
 pub mod JointReads
 pub mod JointWrites
+pub mod JointParts
 pub mod JointKeeps

@@ -4,7 +4,7 @@ ghost use Rattle.std.specs.Prelude.{◌≡◌, ◌+◌, ◌*◌, ◌^◌, ◌<�
 ghost use Rattle.joined_disk.specs.Joined.{Follows, nothing, in_front, joint_of, joint_told, joined_disk, begun_joint, used_atoms, with_marks};
 ghost use Rattle.joined_disk.specs.JoinedLaws.{Follows-prop};
 ghost use Rattle.sector_disk.specs.Devices.{ReadCall, WriteCall, SyncCall, marked};
-ghost use Rattle.sector_disk.specs.Geometry.{IsInDisk};
+ghost use Rattle.sector_disk.specs.Geometry.{IsAtom, IsInDisk};
 ghost use Rattle.sector_disk.specs.Steps.{Told};
 
 use crate::calls::{bytes_in_front, read_both, sync_both, write_both};
@@ -124,7 +124,8 @@ impl<D: Disk> JoinedDisk<D> {
 
     /// The sizes that a header on it is judged by.
     pub fn sizes(&self) -> Sizes
-        ensures { result ≡ sizes_of self.now }
+        ensures is { result ≡ sizes_of self.now }
+        ensures known { IsAtom result.atom }
     {
         Sizes {
             atom: self.atom,
@@ -156,8 +157,9 @@ impl<D: Disk> JoinedDisk<D> {
 
 impl<D: Disk> Disk for JoinedDisk<D> {
     ghost use Rattle.std.specs.Prelude.{length};
-    ghost use Rattle.joined_disk.specs.Counts.{Counts, joint_in, sizes_of};
+    ghost use Rattle.joined_disk.specs.Counts.{Counts, has_head, joint_in, sizes_of};
     ghost use Rattle.joined_disk.specs.Joined.{joint_of, joined_disk};
+    ghost use Rattle.joined_disk.specs.JoinedCalls.{JointRead, JointWritten, JointSynced};
     ghost use Rattle.joined_disk.specs.JoinedLaws.{shows, shows_front, shows_joint, joint_geometry};
     ghost use Rattle.std.proofs.Common.{sym, ◌∙◌};
 
@@ -200,6 +202,7 @@ impl<D: Disk> Disk for JoinedDisk<D> {
             (joined_disk (joint_in self.old)).atoms at (length buf.old) }
         ensures call { ReadCall (joint_in self.old).main.size at buf.new
             (joined_disk (joint_in self.old)) (joined_disk (joint_in self.new)) result }
+        ensures each { JointRead at buf.new (joint_in self.old) (joint_in self.new) result }
         ensures counts { Counts (joint_in self.old) (joint_in self.new) }
         ensures sizes { sizes_of self.new ≡ sizes_of self.old }
     {
@@ -223,6 +226,7 @@ impl<D: Disk> Disk for JoinedDisk<D> {
             (joined_disk (joint_in self.old)).atoms at (length bytes.now) }
         ensures call { WriteCall (joint_in self.old).main.size at bytes.now
             (joined_disk (joint_in self.old)) (joined_disk (joint_in self.new)) result }
+        ensures each { JointWritten at bytes.now (joint_in self.old) (joint_in self.new) result }
         ensures counts { Counts (joint_in self.old) (joint_in self.new) }
         ensures sizes { sizes_of self.new ≡ sizes_of self.old }
     {
@@ -244,6 +248,8 @@ impl<D: Disk> Disk for JoinedDisk<D> {
     fn sync(&mut self) -> Result<(), Failed>
         ensures call { SyncCall (joined_disk (joint_in self.old))
             (joined_disk (joint_in self.new)) result }
+        ensures each { JointSynced (has_head self.old) (joint_in self.old) (joint_in self.new)
+            result }
         ensures counts { Counts (joint_in self.old) (joint_in self.new) }
         ensures sizes { sizes_of self.new ≡ sizes_of self.old }
     {

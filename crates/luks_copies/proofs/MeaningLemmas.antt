@@ -11,6 +11,7 @@ use Rattle.luks_bin.proofs.FieldLemmas.{size-least}
 use Rattle.luks_bin.specs.Shares.{Agree}
 use Rattle.luks_bin.specs.declared.header.BinFault.{BinFault}
 use Rattle.luks_bin.specs.declared.header.BinHeader.{BinHeader}
+use Rattle.luks_copies.specs.Promises.{MeansHeader}
 use Rattle.luks_copies.specs.Meanings.{meaning_of, meaning_if, meaning_at, size_in, seqid_in, header_of, header_reader}
 
 -- a field of the first part of a meaning
@@ -229,3 +230,36 @@ written_header spelt size a b one two of_one of_two is_a is_b long_a long_b agre
 pub both_agree : (a b text : List ℕ) → Agree a text → Agree b text → Agree a b
 unfolding Agree
 both_agree a b text of_a of_b = λ k shared. of_a k shared ∙ sym (of_b k shared)
+
+-- a whole copy means the header that is read from it
+pub means_header : Spelt → (place : ℕ) (copy : List ℕ) (h : BinHeader) → copy_of place copy ≡ Ok h → length copy ≡ h.hdr_size
+    → MeansHeader place copy h
+means_header spelt place copy h is long =
+    let told = written_number spelt place copy h is long in
+    record { means = whole_means spelt place copy h is long; number = told.0; size = told.1 }
+
+-- ---- a copy that was moved
+-- a valid copy gives a valid one at either place
+abbrev Moves : List ℕ → List ℕ → List ℕ → ℕ → Type 0
+Moves copy used salt place = (from : ℕ) (h : BinHeader) → copy_of from used ≡ Ok h → length used ≡ h.hdr_size
+    → (place ≡ 0) ⊎ (place ≡ h.hdr_size) → copy_of place copy ≡ Ok (record h { hdr_offset = place; salt = salt })
+
+pub repaired_first : Spelt → (copy used salt : List ℕ) (place : ℕ) → length copy ≡ length used → Agree copy used
+    → Moves copy used salt place → (h : BinHeader) → copy_of h.hdr_size used ≡ Ok h → length used ≡ h.hdr_size → place ≡ 0
+    → IsHeader header_reader (header_of copy used)
+repaired_first spelt copy used salt place long agree moves h is size at =
+    written_header spelt h.hdr_size copy used (record h { hdr_offset = place; salt = salt }) h refl refl
+    (subst (λ p. copy_of p copy ≡ Ok (record h { hdr_offset = place; salt = salt })) at (moves h.hdr_size h is size (inl at)))
+    is (long ∙ size) size agree
+
+agree_back : (a b : List ℕ) → Agree a b → Agree b a
+unfolding Agree
+agree_back a b agree = λ k shared. sym (agree k shared)
+
+pub repaired_second : Spelt → (copy used salt : List ℕ) (place : ℕ) → length copy ≡ length used → Agree copy used
+    → Moves copy used salt place → (h : BinHeader) → copy_of 0 used ≡ Ok h → length used ≡ h.hdr_size → place ≡ h.hdr_size
+    → IsHeader header_reader (header_of used copy)
+repaired_second spelt copy used salt place long agree moves h is size at =
+    written_header spelt h.hdr_size used copy h (record h { hdr_offset = place; salt = salt }) refl refl is
+    (subst (λ p. copy_of p copy ≡ Ok (record h { hdr_offset = place; salt = salt })) at (moves 0 h is size (inr at)))
+    size (long ∙ size) (agree_back copy used agree)

@@ -1,3 +1,4 @@
+pub mod Held
 pub mod Meanings
 pub mod Promises
 pub mod Seen

@@ -43,6 +43,10 @@ abbrev pub stage_after : {T : Type 0} → Stage → Result T Failed → Stage
 stage_after stage (Ok value) = next_of stage
 stage_after stage (Err failed) = Ended
 
+-- the header that one of a commit's copies has: the number, the salt and the place are its own
+abbrev pub copy_header : BinHeader → ℕ → List ℕ → ℕ → BinHeader
+copy_header header seqid salt place = record header { seqid = seqid; salt = salt; hdr_offset = place }
+
 -- both copies lie on the disk
 pub record FitDisk (one two : List ℕ) (size : ℕ) (disk : Device) : Type 0 where
   pub first : IsInDisk disk.size disk.atoms 0 (length one)

@@ -6,7 +6,7 @@ ghost use Rattle.luks_bin.specs.Copies.{copy_of, holds_nul, text_of};
 ghost use Rattle.luks_bin.specs.Shares.{Agree};
 ghost use Rattle.luks_bin.specs.Writing.{common, written, FitsArea, IsWritable};
 ghost use Rattle.luks_copies.specs.Meanings.{header_of, header_reader, meaning_of, seqid_in, size_in};
-ghost use Rattle.luks_copies.specs.Steps.{CopyCall, FitDisk, HasNext, IsRefusal, done_of, is_last, next_of, stage_after};
+ghost use Rattle.luks_copies.specs.Steps.{CopyCall, FitDisk, HasNext, IsRefusal, copy_header, done_of, is_last, next_of, stage_after};
 ghost use Rattle.luks_copies.specs.declared.commit.Stage.TheVariants.{Begun, Ended};
 
 use base_terms::{Bytes, Failed, zeros};
@@ -71,10 +71,13 @@ fn copy_with(alloc: Global, header: &BinHeader, json: &[u8]) -> Result<Bytes, Al
 }
 
 impl Commit {
+    ghost use Rattle.luks_copies.specs.Held.{primary_of, secondary_of};
+
     /// A commit of this text under the next number, with the loaded header's other fields and the salts
-    /// of the primary and the secondary. The text has no NUL. There is none, `SeqEnd`, exactly where the
-    /// number is `2^64 - 1`, else none, `JsonFull`, exactly where the text is longer than its area less
-    /// one byte.
+    /// of the primary and the secondary. The text has no NUL; behind it, and in the padding, stand zeros.
+    /// There is none, `SeqEnd`, exactly where the number is `2^64 - 1`, else none, `JsonFull`, exactly
+    /// where the text is longer than its area less one byte. The first commit of a new header is made of
+    /// one with the number 0, which stands on no disk, and has the number 1.
     #[tactic(auto, using(crate::proofs::MeaningLemmas::least_size))]
     pub fn new(
         alloc: Global,
@@ -90,6 +93,11 @@ impl Commit {
         ensures begun { IfOk result (λ commit. commit.stage ≡ Begun) }
         ensures size { IfOk result (λ commit. commit.size ≡ header.now.hdr_size) }
         ensures valid { IfOk result (λ commit. IsHeader header_reader (header_of commit.first commit.second)) }
+        ensures first_bytes { IfOk result (λ commit. commit.first ≡ written
+            (copy_header header.now (header.now.seqid + 1) first_salt.now 0) json.now) }
+        ensures second_bytes { IfOk result (λ commit. commit.second ≡ written
+            (copy_header header.now (header.now.seqid + 1) second_salt.now header.now.hdr_size)
+            json.now) }
         ensures primary { IfOk result (λ commit. copy_of 0 commit.first ≡ Ok (record header.now {
           seqid = header.now.seqid + 1;
           salt = first_salt.now;
@@ -135,10 +143,16 @@ impl Commit {
         }
     }
 
+    /// The bytes of the primary.
+    pub fn first(&self) -> &[u8]
+        ensures { result.now ≡ primary_of self.now }
+    {
+        self.first.as_slice()
+    }
+
     /// The bytes of the secondary.
-    #[cfg(test)]
-    pub(crate) fn second(&self) -> &[u8]
-        ensures { result.now ≡ self.now.second }
+    pub fn second(&self) -> &[u8]
+        ensures { result.now ≡ secondary_of self.now }
     {
         self.second.as_slice()
     }
@@ -234,6 +248,10 @@ fn both_copies(
     requires right { IsWritable header.now }
     requires text { FitsArea header.now.hdr_size json.now }
     ensures valid { IfOk result (λ copies. IsHeader header_reader (header_of copies.0 copies.1)) }
+    ensures first_bytes { IfOk result (λ copies. copies.0 ≡ written
+        (copy_header header.now seqid first_salt.now 0) json.now) }
+    ensures second_bytes { IfOk result (λ copies. copies.1 ≡ written
+        (copy_header header.now seqid second_salt.now header.now.hdr_size) json.now) }
     ensures primary { IfOk result (λ copies. copy_of 0 copies.0 ≡ Ok (record header.now {
       seqid = seqid;
       salt = first_salt.now;

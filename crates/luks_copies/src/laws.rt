@@ -2,7 +2,7 @@
 
 ghost use Rattle.disk_areas.specs.Headers.{IsReader};
 ghost use Rattle.luks_copies.specs.Meanings.{header_reader};
-ghost use Rattle.luks_copies.specs.Promises.{MeanTheSame};
+ghost use Rattle.luks_copies.specs.Promises.{AreOneHeader, MeanTheSame, MeanTheirHeaders};
 ghost use Rattle.luks_copies.specs.Seen.{CallsAreSeen, RepairsAreSeen};
 
 use luks_bin::copies_are_spelt;
@@ -19,6 +19,16 @@ pub fn copies_are_read()
 pub fn copies_mean_what_they_share()
     ensures { MeanTheSame }
 {}
+
+/// A whole copy means what its bytes mean, with the number and the size of the header that is read from
+/// it; and a primary and a secondary of one size that share all bytes that copies share are a header as
+/// the laws of headers speak of it.
+pub fn copies_mean_their_headers()
+    ensures each { MeanTheirHeaders }
+    ensures both { AreOneHeader }
+{
+    copies_are_spelt();
+}
 
 /// The device calls of a commit and of a repair move what the disk shows as the laws of headers say, so
 /// that these hold of each table that the disk tells, and of each image that a stop leaves of it.

@@ -3,9 +3,10 @@
 //! of the secondary and a sync, and nothing else; a repair writes one of them anew with the bytes of the
 //! other, and syncs. No JSON is looked into.
 //!
-//! The layer above may rely on each step being exactly the device call that its stage names, and on
-//! `header_reader`: how copies are read and what they mean, for which all laws of `disk_areas` hold, so
-//! that each image during a commit or a repair has the header from before or the next one.
+//! The layer above may rely on the copies of a commit being, byte for byte, what `luks_bin` writes of the
+//! next header, on each step being exactly the device call that its stage names, and on `header_reader`:
+//! how copies are read and what they mean, for which all laws of `disk_areas` hold, so that each image
+//! during a commit or a repair has the header from before or the next one.
 #![tactic(auto)]
 
 mod commit;
@@ -13,7 +14,9 @@ mod laws;
 mod repair;
 
 pub use commit::{Commit, CommitError, Stage};
-pub use laws::{calls_are_seen, copies_are_read, copies_mean_what_they_share};
+pub use laws::{
+    calls_are_seen, copies_are_read, copies_mean_their_headers, copies_mean_what_they_share,
+};
 pub use repair::{Repair, RepairStage};
 
 #[cfg(test)]

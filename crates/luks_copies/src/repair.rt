@@ -1,15 +1,18 @@
 // A repair of a header: the copy that lacks or is older, and how far its writing is.
 
 ghost use Rattle.std.specs.Prelude.{◌≡◌, ◌≢◌, ◌↔◌, ◌⊎◌, ◌/◌, ◌≤◌, ℕ, length, Ok, IfOk, IsTrue};
+ghost use Rattle.disk_areas.specs.Headers.{IsHeader};
 ghost use Rattle.luks_bin.specs.Copies.{copy_of, text_of};
 ghost use Rattle.luks_bin.specs.Shares.{Agree};
+ghost use Rattle.luks_bin.specs.Writing.{moved};
 ghost use Rattle.luks_bin.specs.declared.header.BinHeader.{BinHeader};
+ghost use Rattle.luks_copies.specs.Meanings.{header_of, header_reader};
 ghost use Rattle.luks_copies.specs.Steps.{RepairCall, done_of, is_last_repair, repair_after, repair_next};
 ghost use Rattle.luks_copies.specs.declared.repair.RepairStage.TheVariants.{Broken, Over};
 ghost use Rattle.sector_disk.specs.Geometry.{IsInDisk};
 
 use base_terms::{Bytes, Failed};
-use luks_bin::move_copy;
+use luks_bin::{copies_are_spelt, move_copy};
 use sector_disk::Disk;
 use std::alloc::{AllocError, Global};
 
@@ -33,9 +36,29 @@ pub struct Repair {
     stage: RepairStage,
 }
 
+/// A copy as it stands, but as that of another place with this salt.
+fn copy_for(alloc: Global, used: &[u8], place: u64, salt: &[u8; 64]) -> Result<Bytes, AllocError>
+    requires { 4096 ≤ length used.now }
+    ensures bytes { IfOk result (λ copy. copy ≡ moved place salt.now used.now) }
+    ensures size { IfOk result (λ copy. length copy ≡ length used.now) }
+    ensures shared { IfOk result (λ copy. Agree copy used.now) }
+    ensures text { IfOk result (λ copy. text_of copy ≡ text_of used.now) }
+    ensures valid { IfOk result (λ copy. (from : ℕ) (h : BinHeader) → copy_of from used.now ≡ Ok h
+        → length used.now ≡ h.hdr_size → (place ≡ 0) ⊎ (place ≡ h.hdr_size)
+        → copy_of place copy ≡ Ok (record h { hdr_offset = place; salt = salt.now })) }
+{
+    let mut copy = Vec::from_slice(alloc, used)?;
+    move_copy(&mut copy, place, salt);
+    Ok(Bytes::new(copy))
+}
+
 impl Repair {
+    ghost use Rattle.luks_copies.specs.Held.{copy_in};
+
     /// A repair that writes the copy that is used as it stands, but for magic, salt, hdr_offset and
-    /// checksum, to another place with this salt. The place is the byte of the disk, 0 for the primary.
+    /// checksum, to another place with this salt. The place is the byte of the disk: 0 for the primary,
+    /// the header's size for the secondary. Of no other place is anything said but the bytes; both copies
+    /// are a header where the one that is used is valid and this is the other's place.
     pub fn new(
         alloc: Global,
         used: &[u8],
@@ -45,20 +68,34 @@ impl Repair {
         requires { 4096 ≤ length used.now }
         ensures begun { IfOk result (λ repair. repair.stage ≡ Broken) }
         ensures place { IfOk result (λ repair. repair.place ≡ place) }
+        ensures bytes { IfOk result (λ repair. repair.copy ≡ moved place salt.now used.now) }
         ensures size { IfOk result (λ repair. length repair.copy ≡ length used.now) }
         ensures shared { IfOk result (λ repair. Agree repair.copy used.now) }
         ensures text { IfOk result (λ repair. text_of repair.copy ≡ text_of used.now) }
         ensures valid { IfOk result (λ repair. (from : ℕ) (h : BinHeader) → copy_of from used.now ≡ Ok h
             → length used.now ≡ h.hdr_size → (place ≡ 0) ⊎ (place ≡ h.hdr_size)
             → copy_of place repair.copy ≡ Ok (record h { hdr_offset = place; salt = salt.now })) }
+        ensures primary { IfOk result (λ repair. (h : BinHeader) → copy_of h.hdr_size used.now ≡ Ok h
+            → length used.now ≡ h.hdr_size → place ≡ 0
+            → IsHeader header_reader (header_of repair.copy used.now)) }
+        ensures secondary { IfOk result (λ repair. (h : BinHeader) → copy_of 0 used.now ≡ Ok h
+            → length used.now ≡ h.hdr_size → place ≡ h.hdr_size
+            → IsHeader header_reader (header_of used.now repair.copy)) }
     {
-        let mut copy = Vec::from_slice(alloc, used)?;
-        move_copy(&mut copy, place, salt);
+        copies_are_spelt();
+        let copy = copy_for(alloc, used, place, salt)?;
         Ok(Repair {
-            copy: Bytes::new(copy),
+            copy,
             place,
             stage: RepairStage::Broken,
         })
+    }
+
+    /// The bytes of the copy that is written anew.
+    pub fn copy(&self) -> &[u8]
+        ensures { result.now ≡ copy_in self.now }
+    {
+        self.copy.as_slice()
     }
 
     /// Whether no device call may follow: all are made, or one has failed.

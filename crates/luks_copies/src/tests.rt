@@ -129,11 +129,11 @@ fn a_commit_is_a_write_a_sync_a_write_and_a_sync(rt: HostRuntime) -> Result<(), 
 fn repair_step(repair: &mut Repair, disk: &mut MemDisk) -> Step
     requires atom { atom_of disk.old ≡ 512 }
     requires atoms { atoms_of disk.old ≡ 64 }
-    requires place { repair.old.place ≡ 0 }
+    requires place { repair.old.place ≤ 16384 }
     requires size { length repair.old.copy ≡ 16384 }
     ensures atom { atom_of disk.new ≡ 512 }
     ensures atoms { atoms_of disk.new ≡ 64 }
-    ensures place { repair.new.place ≡ 0 }
+    ensures place { repair.new.place ≤ 16384 }
     ensures size { length repair.new.copy ≡ 16384 }
 {
     if repair.is_over() {
@@ -142,12 +142,19 @@ fn repair_step(repair: &mut Repair, disk: &mut MemDisk) -> Step
     Some(repair.step(disk))
 }
 
-/// What three steps of a repair of the primary answer on a disk that has no copy and whose calls of
-/// these numbers fail, and the copies' numbers then.
-fn repaired(alloc: Global, fails: &[u64]) -> Result<([Step; 3], [u64; 2]), Fail> {
+/// What three steps of a repair by this copy answer on a disk that has none and whose calls of these
+/// numbers fail, and the copies' numbers then.
+fn repaired(
+    alloc: Global,
+    used: &[u8],
+    place: u64,
+    fails: &[u64],
+) -> Result<([Step; 3], [u64; 2]), Fail>
+    requires size { length used.now ≡ 16384 }
+    requires place { place ≤ 16384 }
+{
     let mut disk = MemDisk::new(alloc, 512, 64, 1000, fails)?;
-    let commit = begun(alloc)?;
-    let mut repair = Repair::new(alloc, commit.second(), 0, &[9; 64])?;
+    let mut repair = Repair::new(alloc, used, place, &[9; 64])?;
     let steps = [
         repair_step(&mut repair, &mut disk),
         repair_step(&mut repair, &mut disk),
@@ -161,9 +168,24 @@ fn repaired(alloc: Global, fails: &[u64]) -> Result<([Step; 3], [u64; 2]), Fail>
 #[test]
 fn a_repair_is_a_write_and_a_sync(rt: HostRuntime) -> Result<(), Fail> {
     let alloc = rt.alloc();
-    assert_eq!(rt; repaired(alloc, &[])?, ([DONE, LAST, None], [4, 0]));
-    assert_eq!(rt; repaired(alloc, &[0])?, ([FAILED, None, None], [0, 0]));
-    assert_eq!(rt; repaired(alloc, &[1])?, ([DONE, FAILED, None], [4, 0]));
+    let commit = begun(alloc)?;
+    let (first, second) = (commit.first(), commit.second());
+    assert_eq!(rt;
+        repaired(alloc, second, 0, &[])?,
+        ([DONE, LAST, None], [4, 0])
+    );
+    assert_eq!(rt;
+        repaired(alloc, second, 0, &[0])?,
+        ([FAILED, None, None], [0, 0])
+    );
+    assert_eq!(rt;
+        repaired(alloc, second, 0, &[1])?,
+        ([DONE, FAILED, None], [4, 0])
+    );
+    assert_eq!(rt;
+        repaired(alloc, first, 16384, &[])?,
+        ([DONE, LAST, None], [0, 4])
+    );
     Ok(())
 }
 

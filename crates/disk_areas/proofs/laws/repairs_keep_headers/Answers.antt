@@ -1,4 +1,5 @@
 use Rattle.disk_areas.proofs.RepairSteps.{repair_gives, repair_writes, repair_write_fails, repair_synced, repair_sync_fails}
+use Rattle.disk_areas.proofs.TextsHanded.{opening_past, repaired_past, past_dated}
 use Rattle.disk_areas.proofs.laws.repairs_keep_headers.Goals as goal
 
 pub returns-clause-gives : goal.returns-clause-gives
@@ -16,3 +17,10 @@ returns-clause-goes c = λ atom layout header to bad old new apart. (
     λ call. repair_sync_fails atom layout header bad old new shows call,
   ),
 )
+
+pub returns-clause-dated : goal.returns-clause-dated
+returns-clause-dated c = λ reader header to is_reader. record {
+  opened = λ bytes gives. opening_past reader bytes header is_reader gives;
+  written = λ bad handed of_header past. repaired_past reader header bad handed of_header past;
+  dated = λ handed past. past_dated reader header to handed past;
+}

@@ -4,6 +4,7 @@ use Rattle.joined_disk.specs.Joined.{in_front, joint_of}
 use Rattle.joined_disk.specs.JoinedCalls.{BothRead}
 use Rattle.joined_disk.specs.JoinedLaws.{shows, shows_front}
 use Rattle.joined_disk.proofs.JointKeeps.{joins_of, both_keep, read_went}
+use Rattle.joined_disk.proofs.JointParts.{read_parts}
 use Rattle.joined_disk.proofs.JointReads.{read_joined}
 use Rattle.joined_disk.proofs.joined.JoinedDiskDisk.read.Goals as goal
 
@@ -57,6 +58,10 @@ returns g c =
       call = read_joined c.args.at c.saturating_sub.result self.atom self.base c.bytes_in_front-cut.result (length c.args.buf.now)
           c.read_both.new.front c.read_both.new.back old new c.read_both.result joins self.size self.same_size self.front self.within
           c.requires.within front_long c.bytes_in_front-cut.ensures
+          (length-append c.read_both.new.front c.read_both.new.back ∙ omega (arith, front_long, back_long, c.split_at_mut-front.ensures.back_len))
+          c.saturating_sub.ensures both;
+      each = read_parts c.args.at c.saturating_sub.result self.atom self.base c.bytes_in_front-cut.result (length c.args.buf.now)
+          c.read_both.new.front c.read_both.new.back old new c.read_both.result self.size self.front front_long c.bytes_in_front-cut.ensures
           (length-append c.read_both.new.front c.read_both.new.back ∙ omega (arith, front_long, back_long, c.split_at_mut-front.ensures.back_len))
           c.saturating_sub.ensures both;
       counts = kept.counts;

@@ -1,9 +1,11 @@
-use Rattle.std.proofs.Common.{◌≡◌, if◌then◌else◌, [], Some, None, refl, ◌∙◌, ap, subst}
+use Rattle.std.proofs.Common.{◌≡◌, if◌then◌else◌, [], false, Some, None, refl, ◌∙◌, ap, subst}
+use Rattle.std.specs.Prelude.{is_some}
 use Rattle.sector_disk.specs.Devices.{SyncCall}
 use Rattle.joined_disk.specs.Joined.{in_front, joint_of}
 use Rattle.joined_disk.specs.JoinedCalls.{BothSynced}
 use Rattle.joined_disk.specs.JoinedLaws.{shows, shows_front}
 use Rattle.joined_disk.proofs.JointCalls.{joint_sync}
+use Rattle.joined_disk.proofs.JointParts.{synced_alone}
 use Rattle.joined_disk.proofs.JointKeeps.{joins_of, both_keep, sync_went}
 use Rattle.joined_disk.proofs.joined.JoinedDiskDisk.sync.Goals as goal
 
@@ -56,6 +58,8 @@ returns g c =
             ap (λ head. (in_front device self.atom head).told) none,
             refl,
           )) both;
+      each = synced_alone (self.head ≡ None) (is_some self.head ≡ false) old.calls old.head new.head old.main new.main c.sync_both.result
+          (λ none. ap (λ head. is_some head) none) both;
       counts = kept.counts;
       sizes = ap (λ one. record { atom = self.atom; header_atoms = if one then self.base else self.used; main_atoms = self.used; detached = one }) c.sync_both.ensures.head;
     }

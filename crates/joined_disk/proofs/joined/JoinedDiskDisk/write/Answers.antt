@@ -4,6 +4,7 @@ use Rattle.joined_disk.specs.Joined.{in_front, joint_of}
 use Rattle.joined_disk.specs.JoinedCalls.{BothWritten}
 use Rattle.joined_disk.specs.JoinedLaws.{shows, shows_front}
 use Rattle.joined_disk.proofs.JointKeeps.{joins_of, both_keep, write_went}
+use Rattle.joined_disk.proofs.JointParts.{write_parts}
 use Rattle.joined_disk.proofs.JointWrites.{write_joined, positive}
 use Rattle.joined_disk.proofs.joined.JoinedDiskDisk.write.Goals as goal
 
@@ -56,6 +57,9 @@ returns g c =
           c.split_at.result.0.now c.split_at.result.1.now old new c.write_both.result joins
           (shows_front device each self.atom c.write_both.new.head) (each c.write_both.new.main)
           self.size self.same_size self.front self.within (positive self.atom (rw self.size at (g.met.D.Disk.geometry self.main).known)) c.requires
+          c.split_at.ensures.front c.split_at.ensures.back c.bytes_in_front-cut.ensures c.saturating_sub.ensures both;
+      each = write_parts c.args.at c.saturating_sub.result self.atom self.base c.bytes_in_front-cut.result c.args.bytes.now
+          c.split_at.result.0.now c.split_at.result.1.now old new c.write_both.result self.size self.front
           c.split_at.ensures.front c.split_at.ensures.back c.bytes_in_front-cut.ensures c.saturating_sub.ensures both;
       counts = kept.counts;
       sizes = ap (λ one. record { atom = self.atom; header_atoms = if one then self.base else self.used; main_atoms = self.used; detached = one }) c.write_both.ensures.head;
