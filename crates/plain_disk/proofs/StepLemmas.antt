@@ -17,10 +17,10 @@ use Rattle.plain_disk.specs.Plain.{Block, Step, ProperStep, WriteStep, newest_by
 use Rattle.plain_disk.specs.Plain.{settled_blocks}
 use Rattle.plain_disk.specs.Machine.{Machine, AreBlocksOf, Steps, put, refusal_of, proper_reply}
 use Rattle.plain_disk.specs.Machine.{reply_unless, reply_to}
-use Rattle.plain_disk.proofs.BlockFacts.{change, change_newest, change_sure, sure-take, sure-drop}
-use Rattle.plain_disk.proofs.BlockFacts.{sure-changed, newest-flushed, sure-flushed}
-use Rattle.plain_disk.proofs.BlockFacts.{newest_of_settled, sure_of_settled}
-use Rattle.plain_disk.proofs.RangeFacts.{wrong_is_no_fault, whole_blocks, blocks_within}
+use Rattle.plain_disk.proofs.BlockLemmas.{change, change_newest, change_sure, sure-take, sure-drop}
+use Rattle.plain_disk.proofs.BlockLemmas.{sure-changed, newest-flushed, sure-flushed}
+use Rattle.plain_disk.proofs.BlockLemmas.{newest_of_settled, sure_of_settled}
+use Rattle.plain_disk.proofs.RangeLemmas.{wrong_is_no_fault, whole_blocks, blocks_within}
 
 -- as many blocks as values
 same_count : (machine : Machine) (blocks : List Block) → AreBlocksOf machine blocks
