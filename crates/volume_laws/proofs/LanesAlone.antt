@@ -161,7 +161,7 @@ own_plain seals old plain (writes lane sealed) _ alone is meets = is.plain_is
 own_plain seals old plain (settles lane) outcome alone is meets = is.plain_is
 own_plain seals old plain (finishes lane) outcome alone is meets = is.plain_is
 
-own_step : {K : Type 0} (seals : Seals) (old new : State K) (plain : ℕ → List ℕ) (event : Event) (outcome : Outcome) (alone : Alone) → IsSound old → IsLane old plain (lane_of event) alone →
+pub own_step : {K : Type 0} (seals : Seals) (old new : State K) (plain : ℕ → List ℕ) (event : Event) (outcome : Outcome) (alone : Alone) → IsSound old → IsLane old plain (lane_of event) alone →
     MeetsAlone alone event → Step old event outcome new →
     IsLane new (plain_after seals old event outcome plain) (lane_of event) (alone_after old.map.atom seals alone event outcome)
 own_step seals old new plain event outcome alone sound is meets step =
