@@ -50,7 +50,8 @@ pub struct VolumePort<D: Disk, C: SectorCipher + Copy> {
 impl<D: Disk, C: SectorCipher + Copy> Port for VolumePort<D, C> {
     ghost use Rattle.reenc_tool.specs.Ports.{Did, did_none, did_joined};
 
-    ghost did = { λ old new exchanges. Did C.sealed C.opened old.session old.volume new.session new.volume exchanges };
+    ghost did = { λ old new exchanges. Did C.sealed C.opened
+        old.session old.volume new.session new.volume exchanges };
 
     ghost is_spent = { λ _. ⊥ };
 
@@ -60,7 +61,14 @@ impl<D: Disk, C: SectorCipher + Copy> Port for VolumePort<D, C> {
         first.session second.session third.session first.volume second.volume third.volume xs ys };
 
     fn submit(&mut self, alloc: Global, op: Op, spare: Bytes) -> Result<Submitted, AllocError> {
-        match execute(alloc, &mut self.volume, self.session, op, spare, &mut self.part) {
+        match execute(
+            alloc,
+            &mut self.volume,
+            self.session,
+            op,
+            spare,
+            &mut self.part,
+        ) {
             Ok((reply, buffer)) => Ok(Submitted::Replied(reply, buffer)),
             Err(refused) => Err(refused),
         }
