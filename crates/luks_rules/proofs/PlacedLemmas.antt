@@ -3,7 +3,7 @@ use Rattle.std.proofs.Common.{◌≡◌, ◌∙◌, ℕ, suc, ◌+◌, ◌<◌, 
 use Rattle.std.proofs.lemmas.Bool.{eq-eqb, ne_eqb}
 use Rattle.std.proofs.lemmas.List.Sums.{sum_by-cons}
 use Rattle.std.specs.List.{All, AllByRecursion, find, count_by}
-use Rattle.std.specs.Option.{IsSome, option_map}
+use Rattle.std.specs.Option.{IfSome, IsSome, option_map}
 use Rattle.disk_sizes.specs.declared.Sizes.{Sizes}
 use Rattle.json_members.specs.Entries.{IsRising}
 use Rattle.luks_json.specs.declared.digest.Digest.{Digest}
@@ -47,6 +47,14 @@ by_number p (e ∷ es) x rising h = go (p e) h (λ k. by_number p es x rising.2 
     go false h later =
         let below : e.0 < x.0 = found_holds p (λ f. e.0 < f.0) es x rising.1 h in
         ap (λ b. cond b (Some e) (find (λ f. eqb f.0 x.0) es)) (ne_eqb _ _ (λ same. absurd (omega (arith, below, same)))) ∙ later h
+
+pub value_holds : {B T : Type 0} (f : B → T) (P : T → Type 0) (es : List (ℕ × T)) (n : ℕ) (o : Option B) → AllByRecursion (λ e. P e.1) es → option_map f o ≡ value_at es n → IfSome o (λ b. P (f b))
+value_holds f P es n None all e = tt
+value_holds {B} {T} f P es n (Some b) all e = go (find (λ e. eqb e.0 n) es) refl e
+  where
+    go : (o : Option (ℕ × T)) → find (λ e. eqb e.0 n) es ≡ o → Some (f b) ≡ option_map (λ e. e.1) o → P (f b)
+    go None h e = cc
+    go (Some x) h e = let same : f b ≡ x.1 = cc in subst P (sym same) (found_holds (λ e. eqb e.0 n) (λ e. P e.1) es x all h)
 
 counted_once : {X : Type 0} (p : X → Bool) (xs : List X) → count_by p xs ≡ 1 → (x : X) × (find p xs ≡ Some x)
 counted_once p [] h = absurd (omega (arith, h))

@@ -32,7 +32,7 @@ mod tests;
 mod unserved;
 mod valid;
 
-pub use areas::Area;
+pub use areas::{Area, list_areas};
 pub use conversions::Conversion;
 pub use disk_sizes::Sizes;
 pub use extents::{Extent, Mark};
@@ -41,5 +41,6 @@ pub use idle::Idle;
 pub use laws::{rules_are_plain, shapes_are_choices};
 pub use overlaps::overlaps_are_shared_bytes;
 pub use plan::Plan;
+pub use references::lists_number;
 pub use shape::Progress;
 pub use valid::{Checked, Valid, check};
