@@ -77,7 +77,7 @@ made-next seals plan op alone map _ granted begun (begins stage supplied none) =
 made-next seals plan op alone map _ granted begun (asks stage supplied is ungranted none has) = absurd (cc)
 made-next seals plan op alone map _ granted begun (reads m piece buffer len moves reading size within) = within
 made-next seals plan op alone map _ granted begun (writes m piece prepared moves writing sealed) = tt
-made-next seals plan op alone map _ granted begun (settles m stage course can ends) = tt
+made-next seals plan op alone map _ granted begun (settles m stage course plain can ends) = tt
 made-next seals plan op alone map _ granted begun (finishes stage ending) = tt
 
 -- the grant stays up to the finish, which answers
@@ -93,7 +93,7 @@ still-granted seals plan op alone map _ outcome atom granted made (begins stage 
 still-granted seals plan op alone map _ outcome atom granted made (asks stage supplied is ungranted none has) silent = absurd made
 still-granted seals plan op alone map _ outcome atom granted made (reads m piece buffer len moves reading size within) silent = granted
 still-granted seals plan op alone map _ outcome atom granted made (writes m piece prepared moves writing sealed) silent = granted
-still-granted seals plan op alone map _ outcome atom granted made (settles m stage course can ends) silent = granted
+still-granted seals plan op alone map _ outcome atom granted made (settles m stage course plain can ends) silent = granted
 still-granted seals plan op alone map _ outcome atom granted made (finishes stage ending) silent =
     absurd (some-answered _ alone.operation alone.plain ending.operation silent)
 

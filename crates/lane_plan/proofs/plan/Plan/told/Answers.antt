@@ -1,22 +1,22 @@
-use Rattle.std.proofs.Common.{ap, subst, sym}
 use Rattle.volume_machine.specs.Seals.{seals_of}
-use Rattle.lane_plan.proofs.PlanBegins.{goes-waiting}
+use Rattle.lane_plan.proofs.PlanBegins.{back-held, fewer-held, goes-by, goes-waiting, told-by}
 use Rattle.lane_plan.proofs.PlanEnds.{done-where, goes-refused}
-use Rattle.lane_plan.proofs.PlanFewer.{fewer-held}
-use Rattle.lane_plan.proofs.PlanTold.{goes-held, told-held}
 use Rattle.lane_plan.proofs.plan.Plan.told.Goals as goal
 
 pub go_on-requires-clause-back : goal.go_on-requires-clause-back
 go_on-requires-clause-back g c =
-    told-held (seals_of g.C.SectorCipher.sealed g.C.SectorCipher.opened c.args.self.now.shape.atom
-    c.args.keys.now) c.args.self.now c.new-self.result c.in-Held.grant
-    c.new-self.ensures (rw c.in-Held.is at c.requires.told)
+    told-by (seals_of g.C.SectorCipher.sealed g.C.SectorCipher.opened c.args.self.now.shape.atom
+    c.args.keys.now) c.args.self.now _ _ c.in-Held.grant.map
+    (back-held _ c.args.self.now c.new-self.result c.in-Held.grant c.new-self.ensures)
+    (rw c.in-Held.is at c.requires.told)
 
 pub returns-in-Held-clause-goes : goal.returns-in-Held-clause-goes
 returns-in-Held-clause-goes g c =
-    rw c.in-Held.is (goes-held (seals_of g.C.SectorCipher.sealed g.C.SectorCipher.opened
-    c.args.self.now.shape.atom c.args.keys.now) c.args.self.now c.go_on.new.self
-    c.new-self.result c.in-Held.grant c.go_on.result c.new-self.ensures c.go_on.ensures.awaits)
+    rw c.in-Held.is (goes-by (seals_of g.C.SectorCipher.sealed g.C.SectorCipher.opened
+    c.args.self.now.shape.atom c.args.keys.now) c.args.self.now _ c.go_on.new.self _
+    c.in-Held.grant.map c.go_on.result
+    (back-held _ c.args.self.now c.new-self.result c.in-Held.grant c.new-self.ensures)
+    c.go_on.ensures.awaits)
 
 pub returns-in-Held-clause-fewer : goal.returns-in-Held-clause-fewer
 returns-in-Held-clause-fewer g c =
