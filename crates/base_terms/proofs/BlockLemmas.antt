@@ -1,6 +1,10 @@
 -- Lemmas on texts and their blocks.
-use Rattle.std.proofs.Common.{◌≡◌, ℕ, zero, suc, ◌+◌, ◌-◌, ◌*◌, ◌<◌, ◌≤◌, List, [], ◌∷◌, ◌++◌, length, take, drop, map, replicate, refl, sym, ◌∙◌, ap, ap₂, arith, append_assoc, slice_index_or, length-drop, add-zero, add_assoc}
-use Rattle.std.proofs.lemmas.List.{append-nil, take-append-drop, nil_from_length, drop_all, drop-drop, take_at, drop_at, take-replicate, drop-replicate, length-take-le}
+use Rattle.std.proofs.Common.{◌≡◌, ℕ, zero, suc, ◌+◌, ◌-◌, ◌*◌, ◌<◌, ◌≤◌, List, [], ◌∷◌, ◌++◌}
+use Rattle.std.proofs.Common.{length, take, drop, map, replicate, refl, sym, ◌∙◌, ap, ap₂, arith}
+use Rattle.std.proofs.Common.{append_assoc, slice_index_or, length-drop, add-zero, add_assoc}
+use Rattle.std.proofs.lemmas.List.{append-nil, take-append-drop, nil_from_length, drop_all}
+use Rattle.std.proofs.lemmas.List.{drop-drop, take_at, drop_at, take-replicate, drop-replicate}
+use Rattle.std.proofs.lemmas.List.{length-take-le}
 use Rattle.std.proofs.Math.Seq.{take-append-add, drop-append-add}
 use Rattle.base_terms.specs.Blocks.{pasted, blocks_of, joined, lengths, changed}
 
@@ -38,7 +42,8 @@ pasted_behind block rest size at text is =
 
 -- a text put in place over a block and what is behind it
 pub pasted_over : (block rest : List ℕ) (size : ℕ) (text : List ℕ) → length block ≡ size
-    → size ≤ length text → pasted (block ++ rest) 0 text ≡ take size text ++ pasted rest 0 (drop size text)
+    → size ≤ length text
+    → pasted (block ++ rest) 0 text ≡ take size text ++ pasted rest 0 (drop size text)
 unfolding pasted
 pasted_over block rest size text is enough =
     let split : 0 + length text ≡ size + (0 + length (drop size text)) =

@@ -1,0 +1,10 @@
+pub mod PlanBegins
+pub mod PlanEnds
+pub mod PlanFewer
+pub mod PlanMeets
+pub mod PlanMoves
+pub mod PlanPieces
+pub mod PlanReads
+pub mod PlanSizes
+pub mod PlanTold
+pub mod PlanWrites
