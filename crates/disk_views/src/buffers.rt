@@ -1,36 +1,48 @@
-// Buffers of bytes, as pieces are read into them.
+// Reads into buffers.
 
-ghost use Rattle.std.specs.Prelude.{◌≡◌, length, IfOk, IfErr};
+ghost use Rattle.std.specs.Prelude.{◌≡◌, ◌≤◌, length, take, IfOk, IfErr};
 ghost use Rattle.cipher_laws.specs.Bytes.{AreBytes};
 ghost use Rattle.sector_disk.specs.Geometry.{IsInDisk};
 ghost use Rattle.sector_disk.specs.Devices.{ReadCall};
 ghost use Rattle.sector_disk.specs.Devices.{succeeded, failed_call};
 
-use base_terms::{Bytes, Failed};
+use base_terms::{Buffer, Failed, bytes_are_below_256};
 use sector_disk::Disk;
 
-/// The bytes of a vector, each below 256.
-pub fn bytes_of(vec: Vec<u8>) -> Bytes
-    ensures is { result ≡ vec.items }
-    ensures bytes { AreBytes result }
+/// Reads whole atoms from atom `at` on into the front of a buffer, `len` bytes, and gives the
+/// buffer back, as long as it was.
+pub fn read_into<D: Disk>(
+    disk: &mut D,
+    at: u64,
+    buffer: Buffer,
+    len: usize,
+) -> Result<Buffer, Buffer>
+    requires front { len ≤ length buffer }
+    requires inside { IsInDisk (D.device disk.old).size (D.device disk.old).atoms at len }
+    ensures read { IfOk result (λ same. ReadCall (D.device disk.old).size at (take len same)
+        (D.device disk.old) (D.device disk.new) succeeded) }
+    ensures missed { IfErr result (λ same. ReadCall (D.device disk.old).size at (take len same)
+        (D.device disk.old) (D.device disk.new) failed_call) }
+    ensures length { IfOk result (λ same. length same ≡ length buffer) }
+    ensures missed_length { IfErr result (λ same. length same ≡ length buffer) }
+    ensures bytes { IfOk result (λ same. AreBytes (take len same)) }
 {
-    Bytes::new(vec)
+    let mut buffer = buffer;
+    match read_front(disk, at, buffer.as_mut_slice(), len) {
+        Ok(()) => {
+            bytes_are_below_256(buffer.front(len));
+            Ok(buffer)
+        }
+        Err(Failed) => Err(buffer),
+    }
 }
 
-/// Reads whole atoms from atom `at` on, and gives the buffer back.
-pub fn read_into<D: Disk>(disk: &mut D, at: u64, bytes: Bytes) -> Result<Bytes, Bytes>
-    requires { IsInDisk (D.device disk.old).size (D.device disk.old).atoms at (length bytes) }
-    ensures read { IfOk result (λ buffer. ReadCall (D.device disk.old).size at buffer
-        (D.device disk.old) (D.device disk.new) succeeded) }
-    ensures missed { IfErr result (λ buffer. ReadCall (D.device disk.old).size at buffer
-        (D.device disk.old) (D.device disk.new) failed_call) }
-    ensures length { IfOk result (λ buffer. length buffer ≡ length bytes) }
-    ensures missed_length { IfErr result (λ buffer. length buffer ≡ length bytes) }
-    ensures bytes { IfOk result AreBytes }
+fn read_front<D: Disk>(disk: &mut D, at: u64, bytes: &mut [u8], len: usize) -> Result<(), Failed>
+    requires front { len ≤ length bytes.old }
+    requires inside { IsInDisk (D.device disk.old).size (D.device disk.old).atoms at len }
+    ensures call { ReadCall (D.device disk.old).size at (take len bytes.new)
+        (D.device disk.old) (D.device disk.new) result }
+    ensures length { length bytes.new ≡ length bytes.old }
 {
-    let mut vec = bytes.into_vec();
-    match disk.read(at, vec.as_mut_slice()) {
-        Ok(()) => Ok(bytes_of(vec)),
-        Err(Failed) => Err(Bytes::new(vec)),
-    }
+    disk.read(at, &mut bytes[..len])
 }

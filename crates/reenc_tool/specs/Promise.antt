@@ -117,8 +117,8 @@ abbrev pub unserved : {D L : Type 0} → Cause → Option D → List L → Outco
 unserved cause disk links =
     record { cause = cause; memory = false; disk = disk; links = links; ends = [] }
 
--- Sessions were served on a disk that was handed in, over these links. What the clients were put are
--- the answers of one plain disk that was asked their operations in one history.
+-- Sessions were served on a disk that was handed in, over these links. What the clients were put
+-- are the answers of one plain disk that was asked their operations in one history.
 pub record Ran {D L : Type 0} (device : D → DiskState) (state : L → LinkState) (disk : D)
     (begun : List L)
     (outcome : Outcome D L) : Type 0 where

@@ -51,7 +51,8 @@ tagged number exchanges =
 
 unfoldable pub tagged_of : List Played → List Tagged
 tagged_of [] = []
-tagged_of (played ∷ rest) = tagged played.end.number (exchanges_of played.log.turns) ++ tagged_of rest
+tagged_of (played ∷ rest) =
+    tagged played.end.number (exchanges_of played.log.turns) ++ tagged_of rest
 
 -- a history has of each session just the operations that it submitted, each once and in order
 unfoldable pub HasEach : List Tagged → List Played → Type 0

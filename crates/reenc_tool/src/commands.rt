@@ -14,6 +14,7 @@ use crate::port::VolumePort;
 use crate::serving::{Trouble, serve_links};
 use crate::text::{count_sessions, print};
 use crate::words::{Command, read_words};
+use base_terms::Buffer;
 use bays::{Bay, BayFault, Link};
 use io_edge::{Gate, Seeds, Sink};
 use nbd_session::SessionEnd;
@@ -65,7 +66,11 @@ fn serve_disk<D: Disk, L: Link>(alloc: Global, disk: D, mut links: Vec<L>) -> En
     plain_volumes_start::<Context>();
     let Progress { blocks, atom, .. } = volume.progress();
     let size = blocks * u64::from(atom);
-    let mut port = VolumePort { volume, session: 0 };
+    let mut port = VolumePort {
+        volume,
+        session: 0,
+        part: Buffer::empty(alloc),
+    };
     let trouble = serve_links(alloc, &mut links, &mut sessions, &mut port, size, atom);
     let VolumePort { volume, .. } = port;
     let cause = cause(volume.progress().broken, trouble);

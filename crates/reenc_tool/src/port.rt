@@ -4,7 +4,7 @@ ghost use Rattle.reenc_tool.specs.Sessions.{tagged};
 ghost use Rattle.volume_machine.specs.Answers.{Tagged};
 ghost use Rattle.volume_machine.specs.States.{IsIdle};
 
-use base_terms::Bytes;
+use base_terms::{Buffer, Bytes};
 use cipher_laws::SectorCipher;
 use nbd_session::{Port, Submitted};
 use plain_disk::Op;
@@ -41,6 +41,8 @@ pub trait SharedPort: Port {
 pub struct VolumePort<D: Disk, C: SectorCipher + Copy> {
     pub volume: Volume<D, C>,
     pub session: u64,
+    /// The buffer for pieces of operations that have more than one.
+    pub part: Buffer,
     ghost lanes: { 1 < length volume.lanes },
     ghost idle: { IsIdle volume },
 }
@@ -48,7 +50,8 @@ pub struct VolumePort<D: Disk, C: SectorCipher + Copy> {
 impl<D: Disk, C: SectorCipher + Copy> Port for VolumePort<D, C> {
     ghost use Rattle.reenc_tool.specs.Ports.{Did, did_none, did_joined};
 
-    ghost did = { λ old new exchanges. Did C.sealed C.opened old.session old.volume new.session new.volume exchanges };
+    ghost did = { λ old new exchanges. Did C.sealed C.opened
+        old.session old.volume new.session new.volume exchanges };
 
     ghost is_spent = { λ _. ⊥ };
 
@@ -58,7 +61,14 @@ impl<D: Disk, C: SectorCipher + Copy> Port for VolumePort<D, C> {
         first.session second.session third.session first.volume second.volume third.volume xs ys };
 
     fn submit(&mut self, alloc: Global, op: Op, spare: Bytes) -> Result<Submitted, AllocError> {
-        match execute(alloc, &mut self.volume, self.session, op, spare) {
+        match execute(
+            alloc,
+            &mut self.volume,
+            self.session,
+            op,
+            spare,
+            &mut self.part,
+        ) {
             Ok((reply, buffer)) => Ok(Submitted::Replied(reply, buffer)),
             Err(refused) => Err(refused),
         }

@@ -1,5 +1,6 @@
 -- What the calls on a piece find, and the steps that they are.
-use Rattle.std.proofs.Common.{◌≡◌, ℕ, ◌<◌, ◌≤◌, true, false, Some, List, length, ap, subst, arith}
+use Rattle.std.proofs.Common.{◌≡◌, ℕ, ◌<◌, ◌≤◌, true, false, Some, List, length, take, ap, subst, arith}
+use Rattle.std.proofs.lemmas.List.{length-take-le}
 use Rattle.cipher_laws.specs.Bytes.{AreBytes}
 use Rattle.segment_map.specs.Maps.{place_at}
 use Rattle.segment_map.specs.declared.map.Piece.{Piece}
@@ -36,6 +37,10 @@ first-inside state lane o piece sound is next =
     let some = next.some in
     let within = next.within in
     omega (arith, inside, first, some, within)
+
+-- the front of a buffer has so many bytes
+pub front-size : (len : ℕ) (buffer before : List ℕ) → length buffer ≡ length before → len ≤ length before → length (take len buffer) ≡ len
+front-size len buffer before same front = length-take-le len buffer (omega (arith, same, front))
 
 -- the buffer of a read, and the bytes of a write, are as long as the piece
 pub read-size : {K : Type 0} (state : State K) (lane len : ℕ) (o : Open) (piece : Piece) → Meets state (reads lane len) →

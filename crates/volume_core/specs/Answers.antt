@@ -1,5 +1,5 @@
 -- The outcomes that the answers of calls tell, and what else they give.
-use Rattle.std.specs.Prelude.{ℕ, ◌≡◌, List, Bool, nat_eq}
+use Rattle.std.specs.Prelude.{ℕ, ◌≡◌, List, take, Bool, nat_eq}
 use Rattle.segment_map.specs.declared.map.Map.{Map}
 use Rattle.segment_map.specs.Sides.{left_of}
 use Rattle.volume_machine.specs.Events.{Outcome, held, waits, refused, got, done, device, broken}
@@ -23,10 +23,11 @@ abbrev pub outcome_of_asked : Asked → Outcome
 outcome_of_asked (Ask.Held grant) = held grant
 outcome_of_asked (Ask.Waiting lane) = waits lane
 
-abbrev pub outcome_of_read : PieceRead → Outcome
-outcome_of_read (Read.Got bytes) = got bytes
-outcome_of_read (Read.Device bytes) = device
-outcome_of_read (Read.Broken bytes) = broken
+-- of a read of so many bytes
+abbrev pub outcome_of_read : ℕ → PieceRead → Outcome
+outcome_of_read len (Read.Got buffer) = got (take len buffer)
+outcome_of_read len (Read.Device buffer) = device
+outcome_of_read len (Read.Broken buffer) = broken
 
 abbrev pub outcome_of_written : PieceWritten → Outcome
 outcome_of_written (Write.Done bytes) = done

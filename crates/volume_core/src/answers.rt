@@ -1,6 +1,6 @@
 // What the calls of a volume answer.
 
-use base_terms::Bytes;
+use base_terms::Buffer;
 use volume_machine::Grant;
 
 /// How an operation begins.
@@ -26,22 +26,22 @@ pub enum Asked {
 /// A read of a piece, which gives its buffer back.
 #[derive(Debug, Drop)]
 pub enum PieceRead {
-    /// The buffer has the bytes of the piece, sealed as they lie on the disk.
-    Got(Bytes),
+    /// The buffer has the bytes of the piece at its front, sealed as they lie on the disk.
+    Got(Buffer),
     /// The disk failed; the buffer's content isn't to be used.
-    Device(Bytes),
+    Device(Buffer),
     /// An earlier write or sync failed; the buffer is as it was.
-    Broken(Bytes),
+    Broken(Buffer),
 }
 
 /// A write of a piece, which gives its buffer back, with the sealed bytes.
 #[derive(Debug, Drop)]
 pub enum PieceWritten {
-    Done(Bytes),
+    Done(Buffer),
     /// The disk failed, and the volume is broken.
-    Device(Bytes),
+    Device(Buffer),
     /// An earlier write or sync failed.
-    Broken(Bytes),
+    Broken(Buffer),
 }
 
 /// A wait until what was written is certain to be kept.

@@ -1,10 +1,14 @@
 // A volume: its disk, its map and keys, and the operations under way on it.
 
-ghost use Rattle.std.specs.Prelude.{◌≡◌, ◌<◌, false, [], length, ℕ, None, replicate, IfOk, IfErr, OnOk};
-ghost use Rattle.volume_core.specs.Answers.{outcome_of_admitted, outcome_of_asked, outcome_of_read, outcome_of_written, outcome_of_settled, buffer_of_read, buffer_of_written, KeepsBuffer, is_idle};
+ghost use Rattle.std.specs.Prelude.{◌≡◌, ◌<◌, ◌≤◌, false, [], length, take, ℕ, None, replicate};
+ghost use Rattle.std.specs.Prelude.{IfOk, IfErr, OnOk};
+ghost use Rattle.volume_core.specs.Answers.{outcome_of_admitted, outcome_of_asked, outcome_of_read};
+ghost use Rattle.volume_core.specs.Answers.{outcome_of_written, outcome_of_settled, buffer_of_read};
+ghost use Rattle.volume_core.specs.Answers.{buffer_of_written, KeepsBuffer, is_idle};
 ghost use Rattle.volume_machine.specs.Asks.{range_of};
 ghost use Rattle.volume_machine.specs.Beginnings.{IsFresh};
-ghost use Rattle.volume_machine.specs.Events.{admits, asks, reads, writes, settles, finishes, done, refused};
+ghost use Rattle.volume_machine.specs.Events.{admits, asks, reads, writes, settles, finishes, done};
+ghost use Rattle.volume_machine.specs.Events.{refused};
 ghost use Rattle.volume_machine.specs.Beginnings.{ChangeNothing};
 ghost use Rattle.volume_machine.specs.Seals.{KeysFit, seals_of};
 ghost use Rattle.volume_machine.specs.Sound.{AreApart, IsSound, MapFits};
@@ -12,7 +16,7 @@ ghost use Rattle.volume_machine.specs.Steps.{IsReadyFor, Step, Meets};
 ghost use Rattle.volume_machine.specs.Beginnings.{IsWholeDisk, new_volume};
 
 use crate::answers::{Admitted, Asked, PieceRead, PieceWritten, Progress, Settled};
-use base_terms::{Bytes, DEVICE_ERROR, Failed};
+use base_terms::{Buffer, DEVICE_ERROR, Failed};
 use block_range::BlockRange;
 use cipher_laws::SectorCipher;
 use disk_views::read_into;
@@ -95,9 +99,9 @@ impl<D: Disk> Volume<D, Context> {
 impl<D: Disk, C: SectorCipher + Copy> Volume<D, C> {
     /// The volume of this map with the keys of its sides, and with so many lanes. The blocks of the
     /// map have the size of the disk's atoms, and their places lie on the disk; the sectors of both
-    /// keys divide a block, and the IV numbers of all blocks fit 64 bits. What is promised of runs of
-    /// events asks besides that no two blocks have the same place. Where there is no memory the disk
-    /// is handed back.
+    /// keys divide a block, and the IV numbers of all blocks fit 64 bits. What is promised of runs
+    /// of events asks besides that no two blocks have the same place. Where there is no memory the
+    /// disk is handed back.
     pub fn of(
         alloc: Global,
         disk: D,
@@ -191,9 +195,9 @@ impl<D: Disk, C: SectorCipher + Copy> Volume<D, C> {
         disk
     }
 
-    /// The blocks that an operation reads or writes, or the number with which it is refused now: a wrong
-    /// one with its own, and else one on a broken volume with 5.
-    pub fn judge(&self, ask: Ask) -> Result<BlockRange, u32>
+    /// The blocks that an operation reads or writes, or the number with which it is refused now: a
+    /// wrong one with its own, and else one on a broken volume with 5.
+    fn judge(&self, ask: Ask) -> Result<BlockRange, u32>
         ensures ready { OnOk result (IsReadyFor self.now ask) }
         ensures blocks { IfOk result (λ range. range ≡ range_of self.now.map.atom ask) }
         ensures sound { IsSound self.now }
@@ -210,8 +214,8 @@ impl<D: Disk, C: SectorCipher + Copy> Volume<D, C> {
         Ok(ask.range(atom))
     }
 
-    /// Begins an operation of a session on a lane that has none. One that `judge` refuses is refused
-    /// with its number, and nothing was done; any other begins as by `enter`.
+    /// Begins an operation of a session on a lane that has none. One that `judge` refuses is
+    /// refused with its number, and nothing was done; any other begins as by `enter`.
     pub fn admit(&mut self, lane: u32, session: u64, ask: Ask) -> Admitted
         requires { Meets self.old (admits lane session ask) }
         ensures { Step self.old (admits lane session ask) (outcome_of_admitted result) self.new }
@@ -225,10 +229,11 @@ impl<D: Disk, C: SectorCipher + Copy> Volume<D, C> {
         }
     }
 
-    /// Begins an operation that `judge` has given its blocks, on a lane that has none: the event of an
-    /// `admit` that refuses nothing. A read or a write enters the table of locks behind all others,
-    /// and has its blocks where no earlier entry conflicts. A flush has no blocks and never waits.
-    pub fn enter(&mut self, lane: u32, session: u64, ask: Ask, range: BlockRange) -> Asked
+    /// Begins an operation that `judge` has given its blocks, on a lane that has none: the event of
+    /// an `admit` that refuses nothing. A read or a write enters the table of locks behind all
+    /// others, and has its blocks where no earlier entry conflicts. A flush has no blocks and never
+    /// waits.
+    fn enter(&mut self, lane: u32, session: u64, ask: Ask, range: BlockRange) -> Asked
         requires meets { Meets self.old (admits lane session ask) }
         requires ready { IsReadyFor self.old ask }
         requires blocks { range ≡ range_of self.old.map.atom ask }
@@ -260,63 +265,66 @@ impl<D: Disk, C: SectorCipher + Copy> Volume<D, C> {
         }
     }
 
-    /// Reads the next piece of a lane's read, which holds its blocks, into a buffer of its size. The
-    /// bytes come sealed, as they lie on the disk.
-    pub fn piece_read(&mut self, lane: u32, bytes: Bytes) -> PieceRead
-        requires { Meets self.old (reads lane (length bytes)) }
-        ensures step { Step self.old (reads lane (length bytes)) (outcome_of_read result) self.new }
-        ensures buffer { length (buffer_of_read result) ≡ length bytes }
-        ensures kept { KeepsBuffer bytes result }
+    /// Reads the next piece of a lane's read, which holds its blocks and has `len` bytes, into the
+    /// front of a buffer. The bytes come sealed, as they lie on the disk. The buffer comes back as
+    /// long as it was.
+    pub fn piece_read(&mut self, lane: u32, buffer: Buffer, len: usize) -> PieceRead
+        requires meets { Meets self.old (reads lane len) }
+        requires front { len ≤ length buffer }
+        ensures step { Step self.old (reads lane len) (outcome_of_read len result) self.new }
+        ensures buffer { length (buffer_of_read result) ≡ length buffer }
+        ensures kept { KeepsBuffer buffer result }
     {
         let open = open_of(&self.lanes, lane);
         if self.broken {
             set_lane(&mut self.lanes, lane, Some(open.failing()));
-            return PieceRead::Broken(bytes);
+            return PieceRead::Broken(buffer);
         }
         let piece = self.map.next_piece(open.rest());
         let place = self.map.place(piece.first);
-        match read_into(&mut self.disk, place, bytes) {
-            Ok(bytes) => {
+        match read_into(&mut self.disk, place, buffer, len) {
+            Ok(buffer) => {
                 set_lane(&mut self.lanes, lane, Some(open.moved(piece)));
-                PieceRead::Got(bytes)
+                PieceRead::Got(buffer)
             }
-            Err(bytes) => {
+            Err(buffer) => {
                 set_lane(&mut self.lanes, lane, Some(open.failing()));
-                PieceRead::Device(bytes)
+                PieceRead::Device(buffer)
             }
         }
     }
 
-    /// Writes the next piece of a lane's write, which holds its blocks. The bytes are sealed with the
-    /// volume's keys as that piece. A write that fails breaks the volume.
+    /// Writes the next piece of a lane's write, which holds its blocks. The bytes are sealed with
+    /// the volume's keys as that piece. A write that fails breaks the volume.
     pub fn piece_write(&mut self, lane: u32, prepared: Prepared) -> PieceWritten
-        requires { Meets self.old (writes lane prepared) }
-        ensures step { Step self.old (writes lane prepared) (outcome_of_written result) self.new }
-        ensures buffer { buffer_of_written result ≡ prepared }
+        requires { Meets self.old (writes lane prepared.bytes) }
+        ensures step { Step self.old (writes lane prepared.bytes)
+            (outcome_of_written result) self.new }
+        ensures buffer { length (buffer_of_written result) ≡ prepared.room }
+        ensures kept { take (length prepared.bytes) (buffer_of_written result) ≡ prepared.bytes }
     {
         let open = open_of(&self.lanes, lane);
-        let bytes = prepared.into_bytes();
         if self.broken {
             set_lane(&mut self.lanes, lane, Some(open.failing()));
-            return PieceWritten::Broken(bytes);
+            return PieceWritten::Broken(prepared.into_buffer());
         }
         let piece = self.map.next_piece(open.rest());
         let place = self.map.place(piece.first);
-        match self.disk.write(place, bytes.as_slice()) {
+        match self.disk.write(place, prepared.as_slice()) {
             Ok(()) => {
                 set_lane(&mut self.lanes, lane, Some(open.moved(piece)));
-                PieceWritten::Done(bytes)
+                PieceWritten::Done(prepared.into_buffer())
             }
             Err(Failed) => {
                 self.broken = true;
                 set_lane(&mut self.lanes, lane, Some(open.failing()));
-                PieceWritten::Device(bytes)
+                PieceWritten::Device(prepared.into_buffer())
             }
         }
     }
 
-    /// Waits until every write so far is certain to be kept: the last event of a flush, and that of a
-    /// write with `fua` and some bytes before its finish. A sync that fails breaks the volume.
+    /// Waits until every write so far is certain to be kept: the last event of a flush, and that of
+    /// a write with `fua` and some bytes before its finish. A sync that fails breaks the volume.
     pub fn settle(&mut self, lane: u32) -> Settled
         requires { Meets self.old (settles lane) }
         ensures { Step self.old (settles lane) (outcome_of_settled result) self.new }
@@ -339,8 +347,8 @@ impl<D: Disk, C: SectorCipher + Copy> Volume<D, C> {
         }
     }
 
-    /// Ends a lane's read or write, which holds its blocks, and leaves them. It is complete, or one of
-    /// its events has failed.
+    /// Ends a lane's read or write, which holds its blocks, and leaves them. It is complete, or one
+    /// of its events has failed.
     pub fn finish(&mut self, lane: u32)
         requires { Meets self.old (finishes lane) }
         ensures { Step self.old (finishes lane) done self.new }
@@ -350,7 +358,8 @@ impl<D: Disk, C: SectorCipher + Copy> Volume<D, C> {
     }
 }
 
-// A table of locks without an entry, and lanes without an operation, as many as the table has room for.
+// A table of locks without an entry, and lanes without an operation, as many as the table has room
+// for.
 fn no_operations(alloc: Global, lanes: usize) -> Result<(Table, Vec<Option<Open>>), AllocError>
     ensures room { IfOk result (λ made. made.0.room ≡ lanes) }
     ensures entries { IfOk result (λ made. made.0.entries ≡ []) }

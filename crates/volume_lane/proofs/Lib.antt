@@ -1,7 +1,3 @@
-pub mod LaneBegun
-pub mod LaneEnds
-pub mod LaneEvents
-pub mod LanePieces
-pub mod LaneRuns
-pub mod LaneSeals
-pub mod LaneSpares
+pub mod LaneCourse
+pub mod LaneNext
+pub mod LaneStart

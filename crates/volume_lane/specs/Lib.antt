@@ -1,2 +1,2 @@
-pub mod Lane
-pub mod Spares
+pub mod Calling
+pub mod Course

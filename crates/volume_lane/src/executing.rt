@@ -1,25 +1,26 @@
-// Operations from their admit to their end.
+// Operations from their plan to their reply.
 
 ghost use Rattle.std.specs.Prelude.{ℕ, ◌≡◌, ◌<◌, List, [], ◌∷◌, length, IfOk, OnErr};
-ghost use Rattle.plain_disk.specs.declared.operation.Op.TheVariants as Ops;
-ghost use Rattle.volume_machine.specs.States.{IsIdle};
+ghost use Rattle.lane_plan.specs.Calls.{ask_of};
+ghost use Rattle.plain_disk.specs.declared.operation.Op.{Op};
 ghost use Rattle.volume_laws.specs.Executing.{Executes};
 ghost use Rattle.volume_machine.specs.Runs.{Happening};
 ghost use Rattle.volume_machine.specs.Seals.{seals_of};
-ghost use Rattle.volume_machine.specs.declared.keys.Keys.{Keys};
+ghost use Rattle.volume_machine.specs.States.{IsIdle};
 ghost use Rattle.volume_machine.specs.Steps.{IsReadyFor};
-ghost use Rattle.volume_lane.specs.Lane.{HasExecuted, ask_of};
+ghost use Rattle.volume_machine.specs.declared.keys.Keys.{Keys};
+ghost use Rattle.volume_lane.specs.Course.{HasExecuted, IsAt, IsPlanFor};
 
-use crate::beginning::{LANE, begin};
-use crate::reading::read;
-use crate::writing::write;
-use base_terms::{Bytes, DEVICE_ERROR};
+use crate::calling::{admitted, made};
+use base_terms::{Buffer, Bytes};
 use cipher_laws::SectorCipher;
+use lane_plan::{Next, Plan, Shape};
 use plain_disk::{Op, Reply};
 use sector_disk::Disk;
+use segment_map::Map;
 use std::alloc::{AllocError, Global};
-use volume_core::{Settled, Volume};
-use volume_machine::Ask;
+use std::mem;
+use volume_core::Volume;
 
 /// Executes one operation of a session on the first lane of a volume on which no operation is under
 /// way, and answers it.
@@ -29,18 +30,20 @@ use volume_machine::Ask;
 /// `fua` of some bytes, and a flush, end in a sync. The reply is error 5 exactly where one of these
 /// calls failed, and a failed write or sync breaks the volume.
 ///
-/// The spare buffer is for the content of a read; what is in it isn't used. Where it isn't long enough a
-/// read takes memory for its content, and an operation of more than one piece takes memory for its
-/// pieces, all before its admit and only where it isn't refused. Where there is none, nothing was done.
+/// The spare buffer is for the content of a read, and `part` for pieces of at most 1 MiB of an
+/// operation that has more than one; what is in them isn't used. Where they aren't long enough
+/// memory is taken, before the admit and only where the operation isn't refused. Where there is
+/// none, nothing was done.
 ///
-/// With the reply comes a buffer for another use, where the volume still has one: that of a write's body,
-/// or the spare one. Else an empty one comes.
+/// With the reply comes a buffer for another use, where the volume still has one: that of a write's
+/// body, or the spare one. Else an empty one comes.
 pub fn execute<D: Disk, C: SectorCipher + Copy>(
     alloc: Global,
     volume: &mut Volume<D, C>,
     session: u64,
     op: Op,
     spare: Bytes,
+    part: &mut Buffer,
 ) -> Result<(Reply, Bytes), AllocError>
     requires lanes { 1 < length volume.old.lanes }
     requires idle { IsIdle volume.old }
@@ -57,27 +60,65 @@ pub fn execute<D: Disk, C: SectorCipher + Copy>(
     ensures err { OnErr result (volume.new ≡ volume.old) }
     ensures memory { OnErr result (IsReadyFor volume.old (ask_of op)) }
 {
-    match op {
-        Op::Read { offset, length } => read(alloc, volume, session, offset, length, spare),
-        Op::Write { offset, body, fua } => write(alloc, volume, session, offset, body, fua),
-        Op::Flush => Ok((flush(volume, session), spare)),
+    let pieces = mem::replace(part, Buffer::empty(alloc));
+    let mut plan = plan_for(alloc, volume, session, op, spare, pieces)?;
+    let done = carry_out(volume, &mut plan);
+    *part = plan.into_part();
+    Ok(done)
+}
+
+/// The plan of an operation on a volume. One that will be refused takes no memory.
+fn plan_for<D: Disk, C: SectorCipher + Copy>(
+    alloc: Global,
+    volume: &Volume<D, C>,
+    session: u64,
+    op: Op,
+    spare: Bytes,
+    part: Buffer,
+) -> Result<Plan, AllocError>
+    ensures plan { IfOk result (λ plan. IsPlanFor volume.now plan session op) }
+    ensures memory { OnErr result (IsReadyFor volume.now (ask_of op)) }
+{
+    let Map { atom, blocks, .. } = volume.map();
+    let shape = Shape { atom, blocks };
+    if volume.progress().broken {
+        return Ok(Plan::refused(alloc, session, op, spare, part, shape));
+    }
+    Plan::new(alloc, session, op, spare, part, shape)
+}
+
+/// Makes the calls of a plan up to its reply.
+fn carry_out<D: Disk, C: SectorCipher + Copy>(
+    volume: &mut Volume<D, C>,
+    plan: &mut Plan,
+) -> (Reply, Bytes)
+    requires lanes { 1 < length volume.old.lanes }
+    requires idle { IsIdle volume.old }
+    requires plan { (session : ℕ) × (op : Op) × IsPlanFor volume.old plan.old session op }
+    ensures { (session : ℕ) (op : Op) → IsPlanFor volume.old plan.old session op →
+        HasExecuted (seals_of C.sealed C.opened volume.old.map.atom volume.old.keys)
+        volume.old volume.new session op result.0 }
+{
+    let mut next = begin(volume, plan);
+    'calls: loop {
+        let call = match next {
+            Next::Call(call) => call,
+            Next::Reply(reply, spare) => return (reply, spare),
+        };
+        let answer = made(volume, call);
+        next = plan.told(volume.borrow_keys(), answer);
     }
 }
 
-/// Waits until what was written is certain to be kept.
-fn flush<D: Disk, C: SectorCipher + Copy>(volume: &mut Volume<D, C>, session: u64) -> Reply
+/// Begins the operation of a plan.
+fn begin<D: Disk, C: SectorCipher + Copy>(volume: &mut Volume<D, C>, plan: &mut Plan) -> Next
     requires lanes { 1 < length volume.old.lanes }
     requires idle { IsIdle volume.old }
-    ensures { HasExecuted (seals_of C.sealed C.opened volume.old.map.atom volume.old.keys)
-        volume.old volume.new session Ops.Flush result }
+    requires plan { (session : ℕ) × (op : Op) × IsPlanFor volume.old plan.old session op }
+    ensures { (session : ℕ) (op : Op) → IsPlanFor volume.old plan.old session op →
+        IsAt (seals_of C.sealed C.opened volume.old.map.atom volume.old.keys)
+        volume.old volume.new plan.new session op result }
 {
-    match volume.judge(Ask::Flush) {
-        Ok(blocks) => begin(volume, session, Ask::Flush, blocks),
-        Err(number) => return Reply::Errno(number),
-    };
-    match volume.settle(LANE) {
-        Settled::Done => Reply::Done,
-        Settled::Device => Reply::Errno(DEVICE_ERROR),
-        Settled::Broken => Reply::Errno(DEVICE_ERROR),
-    }
+    let answer = admitted(volume, plan.first());
+    plan.told(volume.borrow_keys(), answer)
 }

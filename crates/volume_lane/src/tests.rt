@@ -3,7 +3,7 @@ ghost use Rattle.volume_machine.specs.States.{IsIdle};
 ghost use Rattle.volume_machine.specs.Sound.{MapFits};
 
 use crate::execute;
-use base_terms::Bytes;
+use base_terms::{Buffer, Bytes};
 use plain_disk::{Op, PlainDisk, Reply};
 use sector_cipher::{Context, Spec};
 use sector_disk::{Disk, MemDisk, RamDisk};
@@ -24,6 +24,7 @@ const TURNS: u32 = 120;
 struct Idle<D: Disk> {
     volume: Volume<D, Context>,
     spare: Bytes,
+    part: Buffer,
     ghost idle: { IsIdle volume },
     ghost lanes: { 1 < length volume.lanes },
 }
@@ -31,7 +32,7 @@ struct Idle<D: Disk> {
 impl<D: Disk> Idle<D> {
     fn execute(&mut self, alloc: Global, op: Op) -> Result<Reply, AllocError> {
         let spare = mem::replace(&mut self.spare, Bytes::new(Vec::new(alloc)));
-        let (reply, buffer) = execute(alloc, &mut self.volume, 3, op, spare)?;
+        let (reply, buffer) = execute(alloc, &mut self.volume, 3, op, spare, &mut self.part)?;
         self.spare = buffer;
         Ok(reply)
     }
@@ -43,6 +44,7 @@ fn plain<D: Disk + Drop>(alloc: Global, disk: D) -> Result<Idle<D>, AllocError> 
         Ok(volume) => Ok(Idle {
             volume,
             spare: Bytes::new(Vec::new(alloc)),
+            part: Buffer::empty(alloc),
         }),
         Err(_) => Err(AllocError),
     }
@@ -97,6 +99,7 @@ fn converted(alloc: Global, map: Map) -> Result<Idle<RamDisk>, Fail>
         Ok(volume) => Ok(Idle {
             volume,
             spare: Bytes::new(Vec::new(alloc)),
+            part: Buffer::empty(alloc),
         }),
         Err(_) => Err(AllocError)?,
     }
@@ -185,8 +188,8 @@ fn operation(
     ))
 }
 
-/// The first of many random operations on a volume of 3 MiB in conversion that is answered otherwise
-/// than one plain disk answers it; a read of the whole comes last.
+/// The first of many random operations on a volume of 3 MiB in conversion that is answered
+/// otherwise than one plain disk answers it; a read of the whole comes last.
 fn differs_from_a_plain_disk(
     alloc: Global,
     is_large: bool,
@@ -253,6 +256,25 @@ fn reads_what_was_written(rt: HostRuntime) -> Result<(), Fail> {
     ];
     for (op, answer) in cases {
         assert_eq!(rt; ask(&mut volume, alloc, op)?, answer);
+    }
+    Ok(())
+}
+
+#[test]
+fn the_buffer_for_pieces_is_kept(rt: HostRuntime) -> Result<(), Fail> {
+    let alloc = rt.alloc();
+    let mut volume = plain(alloc, RamDisk::new(alloc, 512, 8192)?)?;
+    let cases = [
+        (read(0, 512), 0),
+        (read(0, 1024), 512),
+        (write(alloc, 0, 2 * MIB, 1, false)?, MIB),
+        (read(512, 2_097_152), MIB),
+        (read(0, 1024), MIB),
+        (read(1, 1024), MIB),
+    ];
+    for (op, part) in cases {
+        volume.execute(alloc, op)?;
+        assert_eq!(rt; volume.part.len(), part);
     }
     Ok(())
 }

@@ -1,5 +1,5 @@
 -- When operations fail and volumes break.
-use Rattle.std.proofs.Common.{◌≡◌, ◌≢◌, inl, inr, ℕ, ◌==◌, ◌||◌, Bool, true, false, if◌then◌else◌, nat_eq, List, [], ◌∷◌, Option, Some, None, refl, sym, ◌∙◌, ap, arith}
+use Rattle.std.proofs.Common.{◌≡◌, inl, inr, ℕ, ◌||◌, Bool, true, false, nat_eq, List, [], ◌∷◌, Option, Some, None, refl, sym, ◌∙◌, ap, arith}
 use Rattle.volume_machine.specs.declared.open.Open.{Open}
 use Rattle.volume_machine.specs.Alone.{open_after, after_got, after_put, after_sync}
 use Rattle.volume_machine.specs.Asks.{has_lock}
@@ -10,7 +10,7 @@ use Rattle.volume_machine.specs.Runs.{Happening, IsRun, last_of}
 use Rattle.volume_machine.specs.States.{State, open_at, begun}
 use Rattle.volume_machine.specs.Steps.{Step, Can, Meets, after_settle}
 use Rattle.volume_machine.proofs.EventEffects.{event_effects}
-use Rattle.volume_machine.proofs.Locking.{either, same_or_not}
+use Rattle.volume_machine.proofs.Locking.{either}
 use Rattle.volume_laws.specs.Promises.{fails, fails_in, has_failed_by, breaks_in, is_failure, GoesByEvents}
 
 or_true : (b : Bool) → true ≡ (b || true)
@@ -22,19 +22,22 @@ or_false true = refl
 or_false false = refl
 
 -- an operation after an outcome
-got_fails : (atom : ℕ) (outcome : Outcome) (o : Open) → (after_got atom outcome o).failed ≡ (o.failed || is_failure outcome)
+got_fails : (atom : ℕ) (outcome : Outcome) (o : Open) →
+    (after_got atom outcome o).failed ≡ (o.failed || is_failure outcome)
 got_fails atom (got sealed) o = or_false o.failed
 got_fails atom device o = or_true o.failed
 got_fails atom broken o = or_true o.failed
 got_fails atom _ o = or_false o.failed
 
-put_fails : (atom : ℕ) (sealed : List ℕ) (outcome : Outcome) (o : Open) → (after_put atom sealed outcome o).failed ≡ (o.failed || is_failure outcome)
+put_fails : (atom : ℕ) (sealed : List ℕ) (outcome : Outcome) (o : Open) →
+    (after_put atom sealed outcome o).failed ≡ (o.failed || is_failure outcome)
 put_fails atom sealed done o = or_false o.failed
 put_fails atom sealed device o = or_true o.failed
 put_fails atom sealed broken o = or_true o.failed
 put_fails atom sealed _ o = or_false o.failed
 
-sync_fails : (outcome : Outcome) (o : Open) → (after_sync outcome o).failed ≡ (o.failed || is_failure outcome)
+sync_fails : (outcome : Outcome) (o : Open) →
+    (after_sync outcome o).failed ≡ (o.failed || is_failure outcome)
 sync_fails done o = or_false o.failed
 sync_fails device o = or_true o.failed
 sync_fails broken o = or_true o.failed
@@ -47,65 +50,95 @@ settled_is q now p is = elim (either (has_lock q.ask)) [
 ]
 
 -- the lane of the event
-own_fails : (atom : ℕ) (event : Event) (outcome : Outcome) (now : Option Open) (before : Bool) → ((lane session : ℕ) (ask : _) → event ≡ admits lane session ask → now ≡ None) →
-    ((p : Open) → now ≡ Some p → p.failed ≡ before) → (o : Open) → open_after atom event outcome now ≡ Some o → o.failed ≡ has_failed_by event outcome before
-own_fails atom (admits lane session ask) (held grant) now before free was o is = (let e : o ≡ begun atom session ask = cc in ap (λ x. x.failed) e)
-own_fails atom (admits lane session ask) (waits other) now before free was o is = (let e : o ≡ begun atom session ask = cc in ap (λ x. x.failed) e)
-own_fails atom (admits lane session ask) _ now before free was o is = absurd (let none = free lane session ask refl in cc)
+own_fails : (atom : ℕ) (event : Event) (outcome : Outcome) (now : Option Open) (before : Bool) →
+    ((lane session : ℕ) (ask : _) → event ≡ admits lane session ask → now ≡ None) →
+    ((p : Open) → now ≡ Some p → p.failed ≡ before) → (o : Open) →
+    open_after atom event outcome now ≡ Some o → o.failed ≡ has_failed_by event outcome before
+own_fails atom (admits lane session ask) (held grant) now before free was o is =
+    (let e : o ≡ begun atom session ask = cc in ap (λ x. x.failed) e)
+own_fails atom (admits lane session ask) (waits other) now before free was o is =
+    (let e : o ≡ begun atom session ask = cc in ap (λ x. x.failed) e)
+own_fails atom (admits lane session ask) _ now before free was o is =
+    absurd (let none = free lane session ask refl in cc)
 own_fails atom (asks lane) outcome now before free was o is = was o is
 own_fails atom (reads lane len) outcome None before free was o is = absurd (cc)
 own_fails atom (reads lane len) outcome (Some q) before free was o is =
-    let e : o ≡ after_got atom outcome q = cc in ap (λ x. x.failed) e ∙ got_fails atom outcome q ∙ ap (λ b. b || is_failure outcome) (was q refl)
+    let e : o ≡ after_got atom outcome q = cc in ap (λ x. x.failed) e ∙ got_fails atom outcome q
+    ∙ ap (λ b. b || is_failure outcome) (was q refl)
 own_fails atom (writes lane sealed) outcome None before free was o is = absurd (cc)
 own_fails atom (writes lane sealed) outcome (Some q) before free was o is =
-    let e : o ≡ after_put atom sealed outcome q = cc in ap (λ x. x.failed) e ∙ put_fails atom sealed outcome q ∙ ap (λ b. b || is_failure outcome) (was q refl)
+    let e : o ≡ after_put atom sealed outcome q = cc in ap (λ x. x.failed) e
+    ∙ put_fails atom sealed outcome q ∙ ap (λ b. b || is_failure outcome) (was q refl)
 own_fails atom (settles lane) outcome None before free was o is = absurd (cc)
 own_fails atom (settles lane) outcome (Some q) before free was o is =
-    ap (λ x. x.failed) (settled_is q (after_sync outcome q) o is) ∙ sync_fails outcome q ∙ ap (λ b. b || is_failure outcome) (was q refl)
+    ap (λ x. x.failed) (settled_is q (after_sync outcome q) o is) ∙ sync_fails outcome q
+    ∙ ap (λ b. b || is_failure outcome) (was q refl)
 own_fails atom (finishes lane) outcome now before free was o is = absurd (cc)
 
-free_admit : {K : Type 0} (old : State K) (event : Event) → Meets old event → (lane session : ℕ) (ask : _) → event ≡ admits lane session ask → open_at old.lanes (lane_of event) ≡ None
+free_admit : {K : Type 0} (old : State K) (event : Event) → Meets old event →
+    (lane session : ℕ) (ask : _) → event ≡ admits lane session ask →
+    open_at old.lanes (lane_of event) ≡ None
 unfolding Can
-free_admit old event meets lane session ask is = (let can = meets.can in let e = is in rw e (rw e at can))
+free_admit old event meets lane session ask is = (let can = meets.can in let e = is in
+    rw e (rw e at can))
 
-event_fails : {K : Type 0} (old new : State K) (lane : ℕ) (event : Event) (outcome : Outcome) (before : Bool) → Meets old event → Step old event outcome new →
-    ((p : Open) → open_at old.lanes lane ≡ Some p → p.failed ≡ before) → (o : Open) → open_at new.lanes lane ≡ Some o → o.failed ≡ fails lane event outcome before
+event_fails : {K : Type 0} (old new : State K) (lane : ℕ) (event : Event) (outcome : Outcome)
+    (before : Bool) → Meets old event → Step old event outcome new →
+    ((p : Open) → open_at old.lanes lane ≡ Some p → p.failed ≡ before) → (o : Open) →
+    open_at new.lanes lane ≡ Some o → o.failed ≡ fails lane event outcome before
 event_fails old new lane event outcome before meets step was o is =
     let goes = event_effects old new event outcome step in
     elim (either (nat_eq (lane_of event) lane)) [
       | inl own ↦
           let e : lane_of event ≡ lane = grind (arith, own) in
-          own_fails old.map.atom event outcome (open_at old.lanes (lane_of event)) before (free_admit old event meets)
-          (λ p at. was p (ap (λ n. open_at old.lanes n) (sym e) ∙ at)) o (sym goes.lane_is.own ∙ ap (λ n. open_at new.lanes n) e ∙ is) ∙ sym (rw own refl)
+          own_fails old.map.atom event outcome (open_at old.lanes (lane_of event)) before
+          (free_admit old event meets)
+          (λ p at. was p (ap (λ n. open_at old.lanes n) (sym e) ∙ at)) o (sym goes.lane_is.own
+          ∙ ap (λ n. open_at new.lanes n) e ∙ is) ∙ sym (rw own refl)
       | inr other ↦
-          was o (sym (goes.lane_is.others lane (λ same. (let no = other in let e : nat_eq (lane_of event) lane ≡ true = grind (arith, same) in cc))) ∙ is) ∙ sym (rw other refl)
+          was o (sym (goes.lane_is.others lane
+          (λ same. (let no = other in
+          let e : nat_eq (lane_of event) lane ≡ true = grind (arith, same) in cc))) ∙ is)
+          ∙ sym (rw other refl)
     ]
 
-run_fails : {K : Type 0} (old : State K) (lane : ℕ) (before : Bool) (run : List (Happening K)) → IsRun old run → ((p : Open) → open_at old.lanes lane ≡ Some p → p.failed ≡ before) →
+run_fails : {K : Type 0} (old : State K) (lane : ℕ) (before : Bool) (run : List (Happening K)) →
+    IsRun old run → ((p : Open) → open_at old.lanes lane ≡ Some p → p.failed ≡ before) →
     (o : Open) → open_at (last_of old run).lanes lane ≡ Some o → o.failed ≡ fails_in lane before run
 unfolding IsRun last_of fails_in
 run_fails old lane before [] is was o at = was o at
 run_fails old lane before (one ∷ rest) (meets, step, is) was o at =
-    run_fails one.after lane (fails lane one.event one.outcome before) rest is (event_fails old one.after lane one.event one.outcome before meets step was) o at
+    run_fails one.after lane (fails lane one.event one.outcome before) rest is
+    (event_fails old one.after lane one.event one.outcome before meets step was) o at
 
 -- the volume as a whole
-record WholeRun {K : Type 0} (old : State K) (before : Bool) (run : List (Happening K)) : Type 0 where
+record WholeRun {K : Type 0} (old : State K) (before : Bool)
+    (run : List (Happening K)) : Type 0 where
   broken_is : (last_of old run).broken ≡ breaks_in before run
   map_is : (last_of old run).map ≡ old.map
   keys_are : (last_of old run).keys ≡ old.keys
 
-whole_run : {K : Type 0} (old : State K) (before : Bool) (run : List (Happening K)) → old.broken ≡ before → IsRun old run → WholeRun old before run
+whole_run : {K : Type 0} (old : State K) (before : Bool) (run : List (Happening K)) →
+    old.broken ≡ before → IsRun old run → WholeRun old before run
 unfolding IsRun last_of breaks_in
 whole_run old before [] was is = record { broken_is = was; map_is = refl; keys_are = refl }
 whole_run old before (one ∷ rest) was (meets, step, is) =
     let goes = event_effects old one.after one.event one.outcome step in
-    let rest_is = whole_run one.after (before || breaks one.event one.outcome) rest (goes.broken_is ∙ ap (λ b. b || breaks one.event one.outcome) was) is in
-    record { broken_is = rest_is.broken_is; map_is = rest_is.map_is ∙ goes.map; keys_are = rest_is.keys_are ∙ goes.keys }
+    let rest_is = whole_run one.after (before || breaks one.event one.outcome) rest (goes.broken_is
+    ∙ ap (λ b. b || breaks one.event one.outcome) was) is in
+    record {
+      broken_is = rest_is.broken_is;
+      map_is = rest_is.map_is
+          ∙ goes.map;
+      keys_are = rest_is.keys_are ∙ goes.keys;
+    }
 
-pub goes_by_events : {K : Type 0} (start : State K) (run : List (Happening K)) → IsFresh start → IsRun start run → GoesByEvents start run
+pub goes_by_events : {K : Type 0} (start : State K) (run : List (Happening K)) → IsFresh start →
+    IsRun start run → GoesByEvents start run
 goes_by_events start run fresh is =
     let whole = whole_run start start.broken run refl is in record {
-      fails = λ lane. run_fails start lane false run is (λ p at. absurd (let none = fresh.lanes lane in cc));
+      fails = λ lane. run_fails start lane false run is
+          (λ p at. absurd (let none = fresh.lanes lane in cc));
       breaks = whole.broken_is;
       map = whole.map_is;
       keys = whole.keys_are;

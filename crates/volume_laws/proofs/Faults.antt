@@ -1,5 +1,5 @@
 -- The count of a disk's faults, and volumes that break.
-use Rattle.std.proofs.Common.{◌≡◌, inl, inr, ℕ, ◌≤◌, true, false, ◌||◌, List, [], ◌∷◌, refl, ◌∙◌, ap, arith}
+use Rattle.std.proofs.Common.{◌≡◌, inl, inr, ℕ, ◌≤◌, true, false, ◌||◌, List, [], ◌∷◌, ◌∙◌, ap, arith}
 use Rattle.base_terms.specs.Causes.{Rose}
 use Rattle.volume_machine.specs.Beginnings.{IsFresh}
 use Rattle.volume_machine.specs.Effects.{breaks, is_fault}

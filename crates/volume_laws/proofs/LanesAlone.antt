@@ -1,27 +1,25 @@
 -- Lanes of a run, each by its own calls.
-use Rattle.std.proofs.Common.{◌≡◌, ◌≢◌, inl, inr, ℕ, suc, ◌<◌, ◌==◌, Bool, true, false, if◌then◌else◌, nat_eq, List, [], ◌∷◌, ◌++◌, length, Option, Some, None, MatchOption, MatchBool, refl, sym, ◌∙◌, ap, subst, arith, append_assoc, option_map}
+use Rattle.std.proofs.Common.{◌≡◌, ◌≢◌, inl, inr, ℕ, suc, ◌<◌, ◌==◌, true, false, if◌then◌else◌, nat_eq, List, [], ◌∷◌, ◌++◌, length, Option, Some, None, MatchOption, MatchBool, refl, sym, ◌∙◌, ap, subst, arith, append_assoc, option_map}
 use Rattle.std.proofs.lemmas.List.{append-nil}
-use Rattle.range_lock.specs.declared.Standing.{Standing}
-use Rattle.range_lock.specs.declared.Standing.TheVariants.{Held}
-use Rattle.range_lock.specs.Locks.{IsStanding, IsStandingOf, is_of}
+use Rattle.range_lock.specs.Locks.{is_of}
 use Rattle.segment_map.specs.declared.map.Map.{Map}
-use Rattle.volume_machine.specs.Alone.{Alone, AreMet, Call, MeetsAlone, IsGranted, after_got, after_put, after_sync, alone_after, alone_of, answered_alone, answers_of, granted_after, idle_lane, open_after, settled_as, plain_with, with_piece, opened_by}
-use Rattle.volume_machine.specs.Answers.{Answered, answers}
-use Rattle.volume_machine.specs.Asks.{IsRead, IsWrite, has_lock, range_of, wrong_ask, entry_of}
+use Rattle.volume_machine.specs.Alone.{Alone, AreMet, Call, MeetsAlone, after_got, after_put, after_sync, alone_after, alone_of, answered_alone, answers_of, granted_after, idle_lane, open_after, settled_as, plain_with, with_piece, opened_by}
+use Rattle.volume_machine.specs.Answers.{answers}
+use Rattle.volume_machine.specs.Asks.{IsRead, IsWrite, has_lock, wrong_ask, entry_of}
 use Rattle.volume_machine.specs.Beginnings.{IsFresh}
-use Rattle.volume_machine.specs.Events.{Event, admits, asks, reads, writes, settles, finishes, lane_of, Outcome, held, waits, refused, got, done, device, broken}
+use Rattle.volume_machine.specs.Events.{Event, admits, asks, reads, writes, settles, finishes, lane_of, Outcome, held, refused, got, done, device, broken}
 use Rattle.volume_machine.specs.Runs.{Happening, IsRun, answered_by, last_of, no_plain, plain_after, plain_in, plain_piece, with_plain}
 use Rattle.volume_machine.specs.Seals.{Seals}
 use Rattle.volume_machine.specs.Sound.{IsSound}
 use Rattle.volume_machine.specs.States.{State, IsClient, begun, open_at, size_of}
-use Rattle.volume_machine.specs.Steps.{Can, CanFinish, CanRead, CanWrite, Holds, IsAdmitted, Meets, Step, TellsStanding, after_settle}
+use Rattle.volume_machine.specs.Steps.{Can, CanRead, CanWrite, Holds, IsAdmitted, Meets, Step}
 use Rattle.volume_machine.specs.declared.ask.Ask.{Ask}
 use Rattle.volume_machine.specs.declared.ask.Ask.TheVariants.{Read, Write, Flush}
 use Rattle.volume_machine.specs.declared.grant.Grant.{Grant}
 use Rattle.volume_machine.specs.declared.open.Open.{Open}
 use Rattle.volume_machine.proofs.EventEffects.{event_effects}
 use Rattle.volume_machine.proofs.Locking.{either, same_or_not, is_of-own, find-last, before-last}
-use Rattle.volume_machine.proofs.Soundness.{admit_cases, match_true, match_false, sound_kept}
+use Rattle.volume_machine.proofs.Soundness.{match_true, match_false, sound_kept}
 use Rattle.volume_laws.specs.Lanes.{AreAlone, AreMetByLanes, AreOfClients, AreSteps, IsLane, alone_in, answered_under, call_of, own_calls}
 use Rattle.volume_laws.proofs.Admits.{plain-other, plain-own}
 use Rattle.volume_laws.proofs.Failures.{settled_is}
@@ -32,7 +30,8 @@ record IsTold {K : Type 0} (old new : State K) (lane : ℕ) (ask : Ask) (grant :
   map : grant.map ≡ old.map
   holds : has_lock ask ≡ true → Holds new lane
 
-admit_told : {K : Type 0} (old new : State K) (lane session : ℕ) (ask : Ask) (grant : Grant) → IsSound old → open_at old.lanes lane ≡ None →
+admit_told : {K : Type 0} (old new : State K) (lane session : ℕ) (ask : Ask) (grant : Grant) →
+    IsSound old → open_at old.lanes lane ≡ None →
     IsAdmitted old lane session ask (held grant) new → IsTold old new lane ask grant
 admit_told old new lane session ask grant sound free is = elim (either (has_lock ask)) [
   | inl has ↦
@@ -41,13 +40,22 @@ admit_told old new lane session ask grant sound free is = elim (either (has_lock
       let e = entry_of old.map.atom lane ask in
       let own : is_of lane e ≡ true = is_of-own lane e refl in record {
         map = enters.1.1.map;
-        holds = λ locks. rw (enters.0, find-last (is_of lane) old.entries e none own, before-last (is_of lane) old.entries e none own) enters.1.0;
+        holds = λ locks. rw (
+          enters.0,
+          find-last (is_of lane) old.entries e none own,
+          before-last
+              (is_of lane) old.entries e none own,
+        ) enters.1.0;
       }
-  | inr has_none ↦ (let enters = match_false (has_lock ask) _ _ has_none is.enters in record { map = enters.1.1.map; holds = λ locks. absurd (cc) })
+  | inr has_none ↦ (let enters = match_false (has_lock ask) _ _ has_none is.enters in
+      record { map = enters.1.1.map; holds = λ locks. absurd (cc) })
 ]
 
-held_admit : {K : Type 0} (old new : State K) (lane session : ℕ) (ask : Ask) (grant : Grant) (wrong : Option ℕ) → wrong_ask old.map.atom (size_of old.map) ask ≡ wrong →
-    MatchOption wrong (MatchBool old.broken ((held grant ≡ refused 5) × (new ≡ old)) (IsAdmitted old lane session ask (held grant) new)) (λ number. (held grant ≡ refused number) × (new ≡ old)) →
+held_admit : {K : Type 0} (old new : State K) (lane session : ℕ) (ask : Ask) (grant : Grant)
+    (wrong : Option ℕ) → wrong_ask old.map.atom (size_of old.map) ask ≡ wrong →
+    MatchOption wrong (MatchBool old.broken ((held grant ≡ refused 5) × (new ≡ old))
+    (IsAdmitted old lane session ask (held grant) new))
+    (λ number. (held grant ≡ refused number) × (new ≡ old)) →
     IsAdmitted old lane session ask (held grant) new
 held_admit old new lane session ask grant (Some number) why step = absurd (let no = step.0 in cc)
 held_admit old new lane session ask grant None why step = elim (either old.broken) [
@@ -55,10 +63,13 @@ held_admit old new lane session ask grant None why step = elim (either old.broke
   | inr whole ↦ match_false old.broken _ _ whole step
 ]
 
-admits_told : {K : Type 0} (old new : State K) (lane session : ℕ) (ask : Ask) (grant : Grant) → IsSound old → open_at old.lanes lane ≡ None →
+admits_told : {K : Type 0} (old new : State K) (lane session : ℕ) (ask : Ask) (grant : Grant) →
+    IsSound old → open_at old.lanes lane ≡ None →
     Step old (admits lane session ask) (held grant) new → IsTold old new lane ask grant
 unfolding Step
-admits_told old new lane session ask grant sound free step = admit_told old new lane session ask grant sound free (held_admit old new lane session ask grant _ refl step)
+admits_told old new lane session ask grant sound free step =
+    admit_told old new lane session ask grant sound free
+    (held_admit old new lane session ask grant _ refl step)
 
 -- an operation that goes on asks for what it asked for
 got_ask : (atom : ℕ) (outcome : Outcome) (o : Open) → (after_got atom outcome o).ask ≡ o.ask
@@ -67,7 +78,8 @@ got_ask atom device o = refl
 got_ask atom broken o = refl
 got_ask atom _ o = refl
 
-put_ask : (atom : ℕ) (sealed : List ℕ) (outcome : Outcome) (o : Open) → (after_put atom sealed outcome o).ask ≡ o.ask
+put_ask : (atom : ℕ) (sealed : List ℕ) (outcome : Outcome) (o : Open) →
+    (after_put atom sealed outcome o).ask ≡ o.ask
 put_ask atom sealed done o = refl
 put_ask atom sealed device o = refl
 put_ask atom sealed broken o = refl
@@ -90,103 +102,151 @@ writes_lock (Write offset len fua) is = refl
 writes_lock Flush is = absurd is
 
 -- the lane of an event is after it what it is by its own calls
-own_map : {K : Type 0} (old new : State K) (plain : ℕ → List ℕ) (event : Event) (outcome : Outcome) (alone : Alone) (map : Map) → IsSound old → IsLane old plain (lane_of event) alone →
-    MeetsAlone alone event → Step old event outcome new → granted_after event outcome alone.granted ≡ Some map → map ≡ old.map
+own_map : {K : Type 0} (old new : State K) (plain : ℕ → List ℕ) (event : Event) (outcome : Outcome)
+    (alone : Alone) (map : Map) → IsSound old → IsLane old plain (lane_of event) alone →
+    MeetsAlone alone event → Step old event outcome new →
+    granted_after event outcome alone.granted ≡ Some map → map ≡ old.map
 unfolding MeetsAlone Step
 own_map old new plain (admits lane session ask) (held grant) alone map sound is meets step granted =
-    let e : map ≡ grant.map = cc in e ∙ (admits_told old new lane session ask grant sound (is.operation ∙ meets) step).map
-own_map old new plain (admits lane session ask) _ alone map sound is meets step granted = absurd (cc)
-own_map old new plain (asks lane) (held grant) alone map sound is meets ((o, at, tells), same) granted = (let e : map ≡ grant.map = cc in e ∙ tells.1.map)
+    let e : map ≡ grant.map = cc in e
+    ∙ (admits_told old new lane session ask grant sound (is.operation ∙ meets) step).map
+own_map old new plain (admits lane session ask) _ alone map sound is meets step granted =
+    absurd (cc)
+own_map old new plain (asks lane) (held grant) alone map sound is meets
+    ((o, at, tells), same) granted = (let e : map ≡ grant.map = cc in e ∙ tells.1.map)
 own_map old new plain (asks lane) _ alone map sound is meets step granted = absurd (cc)
 own_map old new plain (finishes lane) outcome alone map sound is meets step granted = absurd (cc)
 own_map old new plain _ outcome alone map sound is meets step granted = is.map map granted
 
 -- it holds what it held
-still_holds : {K : Type 0} (old new : State K) (plain : ℕ → List ℕ) (event : Event) (outcome : Outcome) (alone : Alone) (map : Map) (o : Open) (f : Open → Open) →
-    IsLane old plain (lane_of event) alone → new.entries ≡ old.entries → ((q : Open) → (f q).ask ≡ q.ask) → alone.granted ≡ Some map →
-    (now : Option Open) → alone.operation ≡ now → option_map f now ≡ Some o → has_lock o.ask ≡ true → Holds new (lane_of event)
-still_holds old new plain event outcome alone map o f is entries asks_so granted None at now has = absurd (cc)
-still_holds old new plain event outcome alone map o f is entries asks_so granted (Some q) at now has =
+still_holds : {K : Type 0} (old new : State K) (plain : ℕ → List ℕ) (event : Event)
+    (outcome : Outcome) (alone : Alone) (map : Map) (o : Open) (f : Open → Open) →
+    IsLane old plain (lane_of event) alone → new.entries ≡ old.entries →
+    ((q : Open) → (f q).ask ≡ q.ask) → alone.granted ≡ Some map →
+    (now : Option Open) → alone.operation ≡ now → option_map f now ≡ Some o →
+    has_lock o.ask ≡ true → Holds new (lane_of event)
+still_holds old new plain event outcome alone map o f is entries asks_so granted None at now has =
+    absurd (cc)
+still_holds old new plain event outcome alone map o f is entries asks_so granted
+    (Some q) at now has =
     let e : o ≡ f q = cc in
-    let locks : has_lock q.ask ≡ true = ap (λ a. has_lock a) (sym (asks_so q)) ∙ ap (λ x. has_lock x.ask) (sym e) ∙ has in
+    let locks : has_lock q.ask ≡ true = ap (λ a. has_lock a) (sym (asks_so q))
+    ∙ ap (λ x. has_lock x.ask) (sym e) ∙ has in
     rw entries (is.holds map q granted at locks)
 
-own_holds : {K : Type 0} (old new : State K) (plain : ℕ → List ℕ) (event : Event) (outcome : Outcome) (alone : Alone) (map : Map) (o : Open) → IsSound old → IsLane old plain (lane_of event) alone →
-    MeetsAlone alone event → Step old event outcome new → granted_after event outcome alone.granted ≡ Some map → open_after old.map.atom event outcome alone.operation ≡ Some o →
+own_holds : {K : Type 0} (old new : State K) (plain : ℕ → List ℕ) (event : Event)
+    (outcome : Outcome) (alone : Alone) (map : Map) (o : Open) → IsSound old →
+    IsLane old plain (lane_of event) alone →
+    MeetsAlone alone event → Step old event outcome new →
+    granted_after event outcome alone.granted ≡ Some map →
+    open_after old.map.atom event outcome alone.operation ≡ Some o →
     has_lock o.ask ≡ true → Holds new (lane_of event)
 unfolding MeetsAlone Step
-own_holds old new plain (admits lane session ask) (held grant) alone map o sound is meets step granted now has =
+own_holds old new plain (admits lane session ask)
+    (held grant) alone map o sound is meets step granted now has =
     let e : o ≡ begun old.map.atom session ask = cc in
-    (admits_told old new lane session ask grant sound (is.operation ∙ meets) step).holds (ap (λ x. has_lock x.ask) (sym e) ∙ has)
-own_holds old new plain (admits lane session ask) _ alone map o sound is meets step granted now has = absurd (cc)
-own_holds old new plain (asks lane) (held grant) alone map o sound is meets ((q, at, tells), same) granted now has = subst (λ s. Holds s lane) (sym same) tells.0
+    (admits_told old new lane session ask grant sound (is.operation ∙ meets) step).holds
+    (ap (λ x. has_lock x.ask) (sym e) ∙ has)
+own_holds old new plain (admits lane session ask) _ alone map o sound is meets step granted now
+    has = absurd (cc)
+own_holds old new plain (asks lane) (held grant) alone map o sound is meets
+    ((q, at, tells), same) granted now has = subst (λ s. Holds s lane) (sym same) tells.0
 own_holds old new plain (asks lane) _ alone map o sound is meets step granted now has = absurd (cc)
 own_holds old new plain (reads lane len) outcome alone map o sound is meets step granted now has =
-    still_holds old new plain (reads lane len) outcome alone map o (after_got old.map.atom outcome) is (event_effects old new (reads lane len) outcome step).entries_are
+    still_holds old new plain (reads lane len) outcome alone map o
+    (after_got old.map.atom outcome) is
+    (event_effects old new (reads lane len) outcome step).entries_are
     (got_ask old.map.atom outcome) granted alone.operation refl now has
-own_holds old new plain (writes lane bytes) outcome alone map o sound is meets step granted now has =
-    still_holds old new plain (writes lane bytes) outcome alone map o (after_put old.map.atom bytes outcome) is (event_effects old new (writes lane bytes) outcome step).entries_are
+own_holds old new plain (writes lane bytes) outcome alone map o sound is meets step granted now
+    has =
+    still_holds old new plain (writes lane bytes) outcome alone map o
+    (after_put old.map.atom bytes outcome) is
+    (event_effects old new (writes lane bytes) outcome step).entries_are
     (put_ask old.map.atom bytes outcome) granted alone.operation refl now has
 own_holds old new plain (settles lane) outcome alone map o sound is meets step granted now has =
     settle_holds alone.operation refl now
   where
-    settle_holds : (at : Option Open) → alone.operation ≡ at → settled_as outcome at ≡ Some o → Holds new lane
+    settle_holds : (at : Option Open) → alone.operation ≡ at → settled_as outcome at ≡ Some o →
+        Holds new lane
     settle_holds None is_at now_so = absurd (cc)
     settle_holds (Some q) is_at now_so =
         let e : o ≡ after_sync outcome q = settled_is q (after_sync outcome q) o now_so in
-        let locks : has_lock q.ask ≡ true = ap (λ a. has_lock a) (sym (sync_ask outcome q)) ∙ ap (λ x. has_lock x.ask) (sym e) ∙ has in
-        rw (event_effects old new (settles lane) outcome step).entries_are (is.holds map q granted is_at locks)
-own_holds old new plain (finishes lane) outcome alone map o sound is meets step granted now has = absurd (cc)
+        let locks : has_lock q.ask ≡ true = ap (λ a. has_lock a) (sym (sync_ask outcome q))
+        ∙ ap (λ x. has_lock x.ask) (sym e) ∙ has in
+        rw (event_effects old new (settles lane) outcome step).entries_are
+        (is.holds map q granted is_at locks)
+own_holds old new plain (finishes lane) outcome alone map o sound is meets step granted now has =
+    absurd (cc)
 
 -- what its pieces are in plain
-piece_plain : {K : Type 0} (seals : Seals) (old : State K) (plain : ℕ → List ℕ) (lane : ℕ) (alone : Alone) (map : Map) (sealed : List ℕ) → IsLane old plain lane alone →
-    alone.granted ≡ Some map → with_plain plain lane (plain lane ++ plain_piece seals old lane sealed) lane ≡ with_piece seals alone sealed alone.granted
+piece_plain : {K : Type 0} (seals : Seals) (old : State K) (plain : ℕ → List ℕ) (lane : ℕ)
+    (alone : Alone) (map : Map) (sealed : List ℕ) → IsLane old plain lane alone →
+    alone.granted ≡ Some map → with_plain plain lane
+    (plain lane ++ plain_piece seals old lane sealed) lane
+    ≡ with_piece seals alone sealed alone.granted
 piece_plain seals old plain lane alone map sealed is granted =
     plain-own plain lane (plain lane ++ plain_piece seals old lane sealed)
     ∙ ap (λ xs. xs ++ plain_piece seals old lane sealed) is.plain_is
     ∙ ap (λ x. alone.plain ++ opened_by seals old.map x sealed) is.operation
-    ∙ ap (λ (m : Map). alone.plain ++ opened_by seals m alone.operation sealed) (sym (is.map map granted))
+    ∙ ap (λ (m : Map). alone.plain ++ opened_by seals m alone.operation sealed)
+    (sym (is.map map granted))
     ∙ sym (ap (λ g. with_piece seals alone sealed g) granted)
 
-own_plain : {K : Type 0} (seals : Seals) (old : State K) (plain : ℕ → List ℕ) (event : Event) (outcome : Outcome) (alone : Alone) → IsLane old plain (lane_of event) alone →
-    MeetsAlone alone event → plain_after seals old event outcome plain (lane_of event) ≡ plain_with seals alone event outcome
+own_plain : {K : Type 0} (seals : Seals) (old : State K) (plain : ℕ → List ℕ) (event : Event)
+    (outcome : Outcome) (alone : Alone) → IsLane old plain (lane_of event) alone →
+    MeetsAlone alone event → plain_after seals old event outcome plain (lane_of event)
+    ≡ plain_with seals alone event outcome
 unfolding MeetsAlone plain_after
 own_plain seals old plain (admits lane session ask) outcome alone is meets = plain-own plain lane []
 own_plain seals old plain (asks lane) outcome alone is meets = is.plain_is
-own_plain seals old plain (reads lane len) (got sealed) alone is (o, at, (map, granted, can)) = piece_plain seals old plain lane alone map sealed is granted
+own_plain seals old plain (reads lane len) (got sealed) alone is (o, at, (map, granted, can)) =
+    piece_plain seals old plain lane alone map sealed is granted
 own_plain seals old plain (reads lane len) _ alone is meets = is.plain_is
-own_plain seals old plain (writes lane sealed) done alone is (o, at, (map, granted, can)) = piece_plain seals old plain lane alone map sealed is granted
-own_plain seals old plain (writes lane sealed) device alone is (o, at, (map, granted, can)) = piece_plain seals old plain lane alone map sealed is granted
+own_plain seals old plain (writes lane sealed) done alone is (o, at, (map, granted, can)) =
+    piece_plain seals old plain lane alone map sealed is granted
+own_plain seals old plain (writes lane sealed) device alone is (o, at, (map, granted, can)) =
+    piece_plain seals old plain lane alone map sealed is granted
 own_plain seals old plain (writes lane sealed) _ alone is meets = is.plain_is
 own_plain seals old plain (settles lane) outcome alone is meets = is.plain_is
 own_plain seals old plain (finishes lane) outcome alone is meets = is.plain_is
 
-own_step : {K : Type 0} (seals : Seals) (old new : State K) (plain : ℕ → List ℕ) (event : Event) (outcome : Outcome) (alone : Alone) → IsSound old → IsLane old plain (lane_of event) alone →
+pub own_step : {K : Type 0} (seals : Seals) (old new : State K) (plain : ℕ → List ℕ) (event : Event)
+    (outcome : Outcome) (alone : Alone) → IsSound old → IsLane old plain (lane_of event) alone →
     MeetsAlone alone event → Step old event outcome new →
-    IsLane new (plain_after seals old event outcome plain) (lane_of event) (alone_after old.map.atom seals alone event outcome)
+    IsLane new (plain_after seals old event outcome plain) (lane_of event)
+    (alone_after old.map.atom seals alone event outcome)
 own_step seals old new plain event outcome alone sound is meets step =
     let goes = event_effects old new event outcome step in record {
       operation = goes.lane_is.own ∙ ap (λ x. open_after old.map.atom event outcome x) is.operation;
       plain_is = own_plain seals old plain event outcome alone is meets;
-      map = λ map granted. own_map old new plain event outcome alone map sound is meets step granted ∙ sym goes.map;
-      holds = λ map o granted now has. own_holds old new plain event outcome alone map o sound is meets step granted now has;
+      map = λ map granted. own_map old new plain event outcome alone map sound is meets step granted
+          ∙ sym goes.map;
+      holds = λ map o granted now has. own_holds old new plain event outcome alone map o sound is
+          meets step granted now has;
     }
 
 -- every other lane is what it was
-other_plain : {K : Type 0} (seals : Seals) (old : State K) (plain : ℕ → List ℕ) (event : Event) (outcome : Outcome) (lane : ℕ) → lane ≢ lane_of event →
+other_plain : {K : Type 0} (seals : Seals) (old : State K) (plain : ℕ → List ℕ) (event : Event)
+    (outcome : Outcome) (lane : ℕ) → lane ≢ lane_of event →
     plain_after seals old event outcome plain lane ≡ plain lane
 unfolding plain_after
-other_plain seals old plain (admits own session ask) outcome lane differ = plain-other plain own [] lane differ
+other_plain seals old plain (admits own session ask) outcome lane differ =
+    plain-other plain own [] lane differ
 other_plain seals old plain (asks own) outcome lane differ = refl
-other_plain seals old plain (reads own len) (got sealed) lane differ = plain-other plain own _ lane differ
+other_plain seals old plain (reads own len) (got sealed) lane differ =
+    plain-other plain own _ lane differ
 other_plain seals old plain (reads own len) _ lane differ = refl
-other_plain seals old plain (writes own sealed) done lane differ = plain-other plain own _ lane differ
-other_plain seals old plain (writes own sealed) device lane differ = plain-other plain own _ lane differ
+other_plain seals old plain (writes own sealed) done lane differ =
+    plain-other plain own _ lane differ
+other_plain seals old plain (writes own sealed) device lane differ =
+    plain-other plain own _ lane differ
 other_plain seals old plain (writes own sealed) _ lane differ = refl
 other_plain seals old plain (settles own) outcome lane differ = refl
 other_plain seals old plain (finishes own) outcome lane differ = refl
 
-other_step : {K : Type 0} (seals : Seals) (old new : State K) (plain : ℕ → List ℕ) (event : Event) (outcome : Outcome) (lane : ℕ) (alone : Alone) → lane ≢ lane_of event → IsLane old plain lane alone →
+other_step : {K : Type 0} (seals : Seals) (old new : State K) (plain : ℕ → List ℕ) (event : Event)
+    (outcome : Outcome) (lane : ℕ) (alone : Alone) → lane ≢ lane_of event →
+    IsLane old plain lane alone →
     Step old event outcome new → IsLane new (plain_after seals old event outcome plain) lane alone
 other_step seals old new plain event outcome lane alone differ is step =
     let left = event_left old new event outcome lane step differ in record {
@@ -197,53 +257,85 @@ other_step seals old new plain event outcome lane alone differ is step =
     }
 
 -- conditions by own calls are conditions of the state
-can_by : {K : Type 0} (state : State K) (plain : ℕ → List ℕ) (event : Event) (alone : Alone) → IsLane state plain (lane_of event) alone → MeetsAlone alone event → Can state event
+can_by : {K : Type 0} (state : State K) (plain : ℕ → List ℕ) (event : Event) (alone : Alone) →
+    IsLane state plain (lane_of event) alone → MeetsAlone alone event → Can state event
 unfolding MeetsAlone Can
 can_by state plain (admits lane session ask) alone is meets = is.operation ∙ meets
 can_by state plain (asks lane) alone is (o, at, has) = (o, is.operation ∙ at, has)
-can_by state plain (reads lane len) alone is (o, at, (map, granted, can)) =
-    ((o, is.operation ∙ at, subst (λ (m : Map). CanRead m len o) (is.map map granted) can), is.holds map o granted at (reads_lock o.ask can.reads))
-can_by state plain (writes lane bytes) alone is (o, at, (map, granted, can)) =
-    ((o, is.operation ∙ at, subst (λ (m : Map). CanWrite m bytes o) (is.map map granted) can), is.holds map o granted at (writes_lock o.ask can.writes))
+can_by state plain (reads lane len) alone is (o, at, (map, granted, can)) = (
+  (o, is.operation ∙ at, subst (λ (m : Map). CanRead m len o) (is.map map granted) can),
+  is.holds
+      map o granted at (reads_lock o.ask can.reads),
+)
+can_by state plain (writes lane bytes) alone is (o, at, (map, granted, can)) = (
+  (
+    o,
+    is.operation ∙ at,
+    subst (λ (m : Map). CanWrite m bytes o)
+        (is.map map granted) can,
+  ),
+  is.holds map o granted at (writes_lock o.ask can.writes),
+)
 can_by state plain (settles lane) alone is (o, at, can) = (o, is.operation ∙ at, can)
-can_by state plain (finishes lane) alone is (o, at, (map, granted, can)) = ((o, is.operation ∙ at, can), is.holds map o granted at can.locks)
+can_by state plain (finishes lane) alone is (o, at, (map, granted, can)) =
+    ((o, is.operation ∙ at, can), is.holds map o granted at can.locks)
 
-pub meets_by : {K : Type 0} (state : State K) (plain : ℕ → List ℕ) (event : Event) (alone : Alone) → IsLane state plain (lane_of event) alone → IsClient state (lane_of event) →
+pub meets_by : {K : Type 0} (state : State K) (plain : ℕ → List ℕ) (event : Event) (alone : Alone) →
+    IsLane state plain (lane_of event) alone → IsClient state (lane_of event) →
     MeetsAlone alone event → Meets state event
-meets_by state plain event alone is client meets = record { client = client; can = can_by state plain event alone is meets }
+meets_by state plain event alone is client meets =
+    record { client = client; can = can_by state plain event alone is meets }
 
 -- lists of own calls, one after the other
-alone-joined : (atom : ℕ) (seals : Seals) (alone : Alone) (xs ys : List Call) → alone_of atom seals alone (xs ++ ys) ≡ alone_of atom seals (alone_of atom seals alone xs) ys
+alone-joined : (atom : ℕ) (seals : Seals) (alone : Alone) (xs ys : List Call) →
+    alone_of atom seals alone (xs ++ ys) ≡ alone_of atom seals (alone_of atom seals alone xs) ys
 unfolding alone_of
 alone-joined atom seals alone [] ys = refl
-alone-joined atom seals alone (x ∷ xs) ys = alone-joined atom seals (alone_after atom seals alone x.event x.outcome) xs ys
+alone-joined atom seals alone (x ∷ xs) ys =
+    alone-joined atom seals (alone_after atom seals alone x.event x.outcome) xs ys
 
 answers-joined : (atom : ℕ) (seals : Seals) (alone : Alone) (xs ys : List Call) →
-    answers_of atom seals alone (xs ++ ys) ≡ answers_of atom seals alone xs ++ answers_of atom seals (alone_of atom seals alone xs) ys
+    answers_of atom seals alone (xs ++ ys) ≡ answers_of atom seals alone xs ++ answers_of atom seals
+    (alone_of atom seals alone xs) ys
 unfolding alone_of answers_of
 answers-joined atom seals alone [] ys = refl
 answers-joined atom seals alone (x ∷ xs) ys =
     let next = alone_after atom seals alone x.event x.outcome in
-    ap (λ rest. answered_alone alone x.event x.outcome ++ rest) (answers-joined atom seals next xs ys)
-    ∙ sym (append_assoc (answered_alone alone x.event x.outcome) (answers_of atom seals next xs) (answers_of atom seals (alone_of atom seals next xs) ys))
+    ap (λ rest. answered_alone alone x.event x.outcome ++ rest)
+    (answers-joined atom seals next xs ys)
+    ∙ sym (append_assoc (answered_alone alone x.event x.outcome) (answers_of atom seals next xs)
+    (answers_of atom seals (alone_of atom seals next xs) ys))
 
-met-parts : (atom : ℕ) (seals : Seals) (alone : Alone) (xs ys : List Call) → AreMet atom seals alone (xs ++ ys) → AreMet atom seals alone xs × AreMet atom seals (alone_of atom seals alone xs) ys
+met-parts : (atom : ℕ) (seals : Seals) (alone : Alone) (xs ys : List Call) →
+    AreMet atom seals alone (xs ++ ys) →
+    AreMet atom seals alone xs × AreMet atom seals (alone_of atom seals alone xs) ys
 unfolding AreMet alone_of
 met-parts atom seals alone [] ys met = (tt, met)
-met-parts atom seals alone (x ∷ xs) ys met = (let parts = met-parts atom seals (alone_after atom seals alone x.event x.outcome) xs ys met.1 in ((met.0, parts.0), parts.1))
+met-parts atom seals alone (x ∷ xs) ys met =
+    (let parts = met-parts atom seals
+    (alone_after atom seals alone x.event x.outcome) xs ys met.1 in ((met.0, parts.0), parts.1))
 
-met-joined : (atom : ℕ) (seals : Seals) (alone : Alone) (xs ys : List Call) → AreMet atom seals alone xs → AreMet atom seals (alone_of atom seals alone xs) ys → AreMet atom seals alone (xs ++ ys)
+met-joined : (atom : ℕ) (seals : Seals) (alone : Alone) (xs ys : List Call) →
+    AreMet atom seals alone xs → AreMet atom seals (alone_of atom seals alone xs) ys →
+    AreMet atom seals alone (xs ++ ys)
 unfolding AreMet alone_of
 met-joined atom seals alone [] ys first rest = rest
-met-joined atom seals alone (x ∷ xs) ys first rest = (first.0, met-joined atom seals (alone_after atom seals alone x.event x.outcome) xs ys first.1 rest)
+met-joined atom seals alone (x ∷ xs) ys first rest = (
+  first.0,
+  met-joined atom seals
+      (alone_after atom seals alone x.event x.outcome) xs ys first.1 rest,
+)
 
-met_one : (atom : ℕ) (seals : Seals) (alone : Alone) (one : Call) (rest : List Call) → AreMet atom seals alone (one ∷ rest) → MeetsAlone alone one.event
+met_one : (atom : ℕ) (seals : Seals) (alone : Alone) (one : Call) (rest : List Call) →
+    AreMet atom seals alone (one ∷ rest) → MeetsAlone alone one.event
 unfolding AreMet
 met_one atom seals alone one rest met = met.0
 
 -- one event among a lane's own calls
-call-own : {K : Type 0} (one : Happening K) → call_of (lane_of one.event) one ≡ record { event = one.event; outcome = one.outcome } ∷ []
-call-own one = (let own : nat_eq (lane_of one.event) (lane_of one.event) ≡ true = grind arith in rw own refl)
+call-own : {K : Type 0} (one : Happening K) →
+    call_of (lane_of one.event) one ≡ record { event = one.event; outcome = one.outcome } ∷ []
+call-own one = (let own : nat_eq (lane_of one.event) (lane_of one.event) ≡ true = grind arith in
+    rw own refl)
 
 not-own : (own lane : ℕ) → own ≢ lane → nat_eq own lane ≡ false
 not-own own lane differ = elim (either (nat_eq own lane)) [
@@ -251,70 +343,109 @@ not-own own lane differ = elim (either (nat_eq own lane)) [
   | inr other ↦ other
 ]
 
-call-other : {K : Type 0} (lane : ℕ) (one : Happening K) → lane_of one.event ≢ lane → call_of lane one ≡ []
+call-other : {K : Type 0} (lane : ℕ) (one : Happening K) → lane_of one.event ≢ lane →
+    call_of lane one ≡ []
 call-other lane one differ = (let other = not-own (lane_of one.event) lane differ in rw other refl)
 
 -- each lane after one event
-lane_step : {K : Type 0} (seals : Seals) (old : State K) (plain : ℕ → List ℕ) (one : Happening K) (alone : ℕ → Alone) (lane : ℕ) → IsSound old → ((k : ℕ) → IsLane old plain k (alone k)) →
+lane_step : {K : Type 0} (seals : Seals) (old : State K) (plain : ℕ → List ℕ) (one : Happening K)
+    (alone : ℕ → Alone) (lane : ℕ) → IsSound old → ((k : ℕ) → IsLane old plain k (alone k)) →
     MeetsAlone (alone (lane_of one.event)) one.event → Step old one.event one.outcome one.after →
-    IsLane one.after (plain_after seals old one.event one.outcome plain) lane (alone_of old.map.atom seals (alone lane) (call_of lane one))
+    IsLane one.after (plain_after seals old one.event one.outcome plain) lane
+    (alone_of old.map.atom seals (alone lane) (call_of lane one))
 unfolding alone_of
-lane_step seals old plain one alone lane sound are meets step = elim (same_or_not (lane_of one.event) lane) [
-  | inl own ↦ subst (λ k. IsLane one.after (plain_after seals old one.event one.outcome plain) k (alone_of old.map.atom seals (alone k) (call_of k one))) own
-      (subst (λ calls. IsLane one.after (plain_after seals old one.event one.outcome plain) (lane_of one.event) (alone_of old.map.atom seals (alone (lane_of one.event)) calls)) (sym (call-own one))
-      (own_step seals old one.after plain one.event one.outcome (alone (lane_of one.event)) sound (are (lane_of one.event)) meets step))
-  | inr other ↦ subst (λ calls. IsLane one.after (plain_after seals old one.event one.outcome plain) lane (alone_of old.map.atom seals (alone lane) calls)) (sym (call-other lane one other))
-      (other_step seals old one.after plain one.event one.outcome lane (alone lane) (λ same. other (sym same)) (are lane) step)
-]
+lane_step seals old plain one alone lane sound are meets step =
+    elim (same_or_not (lane_of one.event) lane) [
+      | inl own ↦ subst (λ k. IsLane one.after (plain_after seals old one.event one.outcome plain) k
+          (alone_of old.map.atom seals (alone k) (call_of k one))) own
+          (subst (λ calls. IsLane one.after (plain_after seals old one.event one.outcome plain)
+          (lane_of one.event) (alone_of old.map.atom seals (alone (lane_of one.event)) calls))
+          (sym (call-own one))
+          (own_step seals old one.after plain one.event one.outcome (alone (lane_of one.event)) sound
+          (are (lane_of one.event)) meets step))
+      | inr other ↦ subst (λ calls. IsLane one.after
+          (plain_after seals old one.event one.outcome plain) lane
+          (alone_of old.map.atom seals (alone lane) calls)) (sym (call-other lane one other))
+          (other_step seals old one.after plain one.event one.outcome lane (alone lane)
+          (λ same. other (sym same)) (are lane) step)
+    ]
 
-answers_step : {K : Type 0} (atom : ℕ) (seals : Seals) (old : State K) (plain : ℕ → List ℕ) (one : Happening K) (alone : ℕ → Alone) (lane : ℕ) → ((k : ℕ) → IsLane old plain k (alone k)) →
-    (if lane_of one.event == lane then answered_by old one.event one.outcome plain else []) ≡ answers_of atom seals (alone lane) (call_of lane one)
+answers_step : {K : Type 0} (atom : ℕ) (seals : Seals) (old : State K) (plain : ℕ → List ℕ)
+    (one : Happening K) (alone : ℕ → Alone) (lane : ℕ) → ((k : ℕ) → IsLane old plain k (alone k)) →
+    (if lane_of one.event == lane then answered_by old one.event one.outcome plain else [])
+    ≡ answers_of atom seals (alone lane) (call_of lane one)
 unfolding answers_of answered_by
 answers_step atom seals old plain one alone lane are = elim (same_or_not (lane_of one.event) lane) [
-  | inl own ↦ subst (λ k. (if lane_of one.event == k then answered_by old one.event one.outcome plain else []) ≡ answers_of atom seals (alone k) (call_of k one)) own
+  | inl own ↦ subst (λ k. (if lane_of one.event == k then answered_by old one.event one.outcome
+      plain else []) ≡ answers_of atom seals (alone k) (call_of k one)) own
       (let is = are (lane_of one.event) in
       let same : nat_eq (lane_of one.event) (lane_of one.event) ≡ true = grind arith in
       rw same (ap (λ o. answers one.event one.outcome o (plain (lane_of one.event))) is.operation
-      ∙ ap (λ xs. answers one.event one.outcome (alone (lane_of one.event)).operation xs) is.plain_is
+      ∙ ap (λ xs. answers one.event one.outcome (alone (lane_of one.event)).operation xs)
+      is.plain_is
       ∙ sym (append-nil (answered_alone (alone (lane_of one.event)) one.event one.outcome))))
   | inr differ ↦ (let other = not-own (lane_of one.event) lane differ in rw other refl)
 ]
 
 -- a run, from any moment at which each lane is what its calls so far tell
-record Follows {K : Type 0} (atom : ℕ) (seals : Seals) (old : State K) (plain : ℕ → List ℕ) (alone : ℕ → Alone) (run : List (Happening K)) : Type 0 where
+record Follows {K : Type 0} (atom : ℕ) (seals : Seals) (old : State K) (plain : ℕ → List ℕ)
+    (alone : ℕ → Alone) (run : List (Happening K)) : Type 0 where
   is : IsRun old run
-  lanes : (lane : ℕ) → IsLane (last_of old run) (plain_in seals old plain run) lane (alone_of atom seals (alone lane) (own_calls lane run))
-  answers : (lane : ℕ) → answered_under lane seals old plain run ≡ answers_of atom seals (alone lane) (own_calls lane run)
+  lanes : (lane : ℕ) → IsLane (last_of old run) (plain_in seals old plain run) lane
+      (alone_of atom seals (alone lane) (own_calls lane run))
+  answers : (lane : ℕ) → answered_under lane seals old plain run ≡ answers_of atom seals
+      (alone lane) (own_calls lane run)
 
-follows : {K : Type 0} (atom count : ℕ) (seals : Seals) (old : State K) (plain : ℕ → List ℕ) (alone : ℕ → Alone) (run : List (Happening K)) → old.map.atom ≡ atom → length old.lanes ≡ count →
-    IsSound old → ((k : ℕ) → IsLane old plain k (alone k)) → AreSteps old run → AreOfClients count run → ((k : ℕ) → AreMet atom seals (alone k) (own_calls k run)) →
+follows : {K : Type 0} (atom count : ℕ) (seals : Seals) (old : State K) (plain : ℕ → List ℕ)
+    (alone : ℕ → Alone) (run : List (Happening K)) → old.map.atom ≡ atom →
+    length old.lanes ≡ count →
+    IsSound old → ((k : ℕ) → IsLane old plain k (alone k)) → AreSteps old run →
+    AreOfClients count run → ((k : ℕ) → AreMet atom seals (alone k) (own_calls k run)) →
     Follows atom seals old plain alone run
 unfolding IsRun last_of plain_in AreSteps AreOfClients own_calls answered_under alone_of answers_of
-follows atom count seals old plain alone [] same long sound are steps clients met = record { is = tt; lanes = are; answers = λ lane. refl }
-follows atom count seals old plain alone (one ∷ rest) same long sound are (step, steps) (client, clients) met =
+follows atom count seals old plain alone [] same long sound are steps clients met =
+    record { is = tt; lanes = are; answers = λ lane. refl }
+follows atom count seals old plain alone (one ∷ rest) same long sound are (step, steps)
+    (client, clients) met =
     let own = lane_of one.event in
-    let parts : (k : ℕ) → AreMet atom seals (alone k) (call_of k one) × AreMet atom seals (alone_of atom seals (alone k) (call_of k one)) (own_calls k rest) =
+    let parts : (k : ℕ) → AreMet atom seals (alone k) (call_of k one) × AreMet atom seals
+    (alone_of atom seals (alone k) (call_of k one)) (own_calls k rest) =
     λ k. met-parts atom seals (alone k) (call_of k one) (own_calls k rest) (met k) in
-    let meets : MeetsAlone (alone own) one.event = first_met (subst (λ calls. AreMet atom seals (alone own) calls) (call-own one) (parts own).0) in
-    let met_so : Meets old one.event = meets_by old plain one.event (alone own) (are own) (rw long client) meets in
+    let meets : MeetsAlone (alone own) one.event =
+    first_met (subst (λ calls. AreMet atom seals (alone own) calls) (call-own one) (parts own).0) in
+    let met_so : Meets old one.event =
+    meets_by old plain one.event (alone own) (are own) (rw long client) meets in
     let goes = event_effects old one.after one.event one.outcome step in
-    let behind = follows atom count seals one.after (plain_after seals old one.event one.outcome plain) (λ k. alone_of atom seals (alone k) (call_of k one)) rest
-    (ap (λ (m : Map). m.atom) goes.map ∙ same) (goes.lane_is.count ∙ long) (sound_kept old one.after one.event one.outcome sound met_so step)
-    (λ k. subst (λ a. IsLane one.after (plain_after seals old one.event one.outcome plain) k (alone_of a seals (alone k) (call_of k one))) same
-    (lane_step seals old plain one alone k sound are meets step)) steps clients (λ k. (parts k).1) in record {
+    let behind = follows atom count seals one.after
+    (plain_after seals old one.event one.outcome plain)
+    (λ k. alone_of atom seals (alone k) (call_of k one)) rest
+    (ap (λ (m : Map). m.atom) goes.map ∙ same) (goes.lane_is.count ∙ long)
+    (sound_kept old one.after one.event one.outcome sound met_so step)
+    (λ k. subst (λ a. IsLane one.after (plain_after seals old one.event one.outcome plain) k
+    (alone_of a seals (alone k) (call_of k one))) same
+    (lane_step seals old plain one alone k sound are meets step)) steps clients
+    (λ k. (parts k).1) in record {
       is = (met_so, step, behind.is);
-      lanes = λ k. subst (λ a. IsLane (last_of one.after rest) (plain_in seals one.after (plain_after seals old one.event one.outcome plain) rest) k a)
-          (sym (alone-joined atom seals (alone k) (call_of k one) (own_calls k rest))) (behind.lanes k);
-      answers = λ k. ap (λ xs. xs ++ answered_under k seals one.after (plain_after seals old one.event one.outcome plain) rest) (answers_step atom seals old plain one alone k are)
+      lanes = λ k. subst (λ a. IsLane (last_of one.after rest)
+          (plain_in seals one.after (plain_after seals old one.event one.outcome plain) rest) k a)
+          (sym (alone-joined atom seals (alone k) (call_of k one) (own_calls k rest)))
+          (behind.lanes k);
+      answers = λ k. ap (λ xs. xs ++ answered_under k seals one.after
+          (plain_after seals old one.event one.outcome plain) rest)
+          (answers_step atom seals old plain one alone k are)
           ∙ ap (λ xs. answers_of atom seals (alone k) (call_of k one) ++ xs) (behind.answers k)
           ∙ sym (answers-joined atom seals (alone k) (call_of k one) (own_calls k rest));
     }
   where
-    first_met : AreMet atom seals (alone (lane_of one.event)) (record { event = one.event; outcome = one.outcome } ∷ []) → MeetsAlone (alone (lane_of one.event)) one.event
-    first_met met_first = met_one atom seals (alone (lane_of one.event)) (record { event = one.event; outcome = one.outcome }) [] met_first
+    first_met : AreMet atom seals (alone (lane_of one.event))
+        (record { event = one.event; outcome = one.outcome } ∷ []) →
+        MeetsAlone (alone (lane_of one.event)) one.event
+    first_met met_first = met_one atom seals (alone (lane_of one.event))
+        (record { event = one.event; outcome = one.outcome }) [] met_first
 
 -- from a fresh start
-idle_is : {K : Type 0} (start : State K) (lane : ℕ) → IsFresh start → IsLane start no_plain lane idle_lane
+idle_is : {K : Type 0} (start : State K) (lane : ℕ) → IsFresh start →
+    IsLane start no_plain lane idle_lane
 idle_is start lane fresh = record {
   operation = fresh.lanes lane;
   plain_is = refl;
@@ -322,43 +453,62 @@ idle_is start lane fresh = record {
   holds = λ map o granted. absurd (cc);
 }
 
-pub are_alone : {K : Type 0} (start : State K) (seals : Seals) (run : List (Happening K)) → IsSound start → IsFresh start → AreSteps start run → AreMetByLanes start seals run →
+pub are_alone : {K : Type 0} (start : State K) (seals : Seals) (run : List (Happening K)) →
+    IsSound start → IsFresh start → AreSteps start run → AreMetByLanes start seals run →
     AreAlone start seals run
 are_alone start seals run sound fresh steps by =
-    let all = follows start.map.atom (length start.lanes) seals start no_plain (λ k. idle_lane) run refl refl sound (λ k. idle_is start k fresh) steps by.clients by.met in
+    let all = follows start.map.atom (length start.lanes) seals start no_plain
+    (λ k. idle_lane) run refl refl sound (λ k. idle_is start k fresh) steps by.clients by.met in
     record { is = all.is; lanes = all.lanes; answers = all.answers }
 
-lanes_stay : {K : Type 0} (start : State K) (run : List (Happening K)) → AreSteps start run → length (last_of start run).lanes ≡ length start.lanes
+lanes_stay : {K : Type 0} (start : State K) (run : List (Happening K)) → AreSteps start run →
+    length (last_of start run).lanes ≡ length start.lanes
 unfolding AreSteps last_of
 lanes_stay start [] steps = refl
-lanes_stay start (one ∷ rest) (step, steps) = lanes_stay one.after rest steps ∙ (event_effects start one.after one.event one.outcome step).lane_is.count
+lanes_stay start (one ∷ rest) (step, steps) = lanes_stay one.after rest steps
+    ∙ (event_effects start one.after one.event one.outcome step).lane_is.count
 
-pub next_meets : {K : Type 0} (start : State K) (seals : Seals) (run : List (Happening K)) (event : Event) → IsSound start → IsFresh start → AreSteps start run → AreMetByLanes start seals run →
-    IsClient start (lane_of event) → MeetsAlone (alone_in start seals (lane_of event) run) event → Meets (last_of start run) event
+pub next_meets : {K : Type 0} (start : State K) (seals : Seals) (run : List (Happening K))
+    (event : Event) → IsSound start → IsFresh start → AreSteps start run →
+    AreMetByLanes start seals run →
+    IsClient start (lane_of event) → MeetsAlone (alone_in start seals (lane_of event) run) event →
+    Meets (last_of start run) event
 next_meets start seals run event sound fresh steps by client meets =
-    meets_by (last_of start run) (plain_in seals start no_plain run) event (alone_in start seals (lane_of event) run)
-    ((are_alone start seals run sound fresh steps by).lanes (lane_of event)) (rw (lanes_stay start run steps) client) meets
+    meets_by (last_of start run) (plain_in seals start no_plain run) event
+    (alone_in start seals (lane_of event) run)
+    ((are_alone start seals run sound fresh steps by).lanes (lane_of event))
+    (rw (lanes_stay start run steps) client) meets
 
 -- one event more
-calls-joined : {K : Type 0} (lane : ℕ) (run : List (Happening K)) (one : Happening K) → own_calls lane (run ++ one ∷ []) ≡ own_calls lane run ++ call_of lane one
+calls-joined : {K : Type 0} (lane : ℕ) (run : List (Happening K)) (one : Happening K) →
+    own_calls lane (run ++ one ∷ []) ≡ own_calls lane run ++ call_of lane one
 unfolding own_calls
 calls-joined lane [] one = append-nil (call_of lane one)
-calls-joined lane (x ∷ run) one = ap (λ xs. call_of lane x ++ xs) (calls-joined lane run one) ∙ sym (append_assoc (call_of lane x) (own_calls lane run) (call_of lane one))
+calls-joined lane (x ∷ run) one = ap (λ xs. call_of lane x ++ xs) (calls-joined lane run one)
+    ∙ sym (append_assoc (call_of lane x) (own_calls lane run) (call_of lane one))
 
-clients-joined : {K : Type 0} (count : ℕ) (run : List (Happening K)) (one : Happening K) → AreOfClients count run → suc (lane_of one.event) < count → AreOfClients count (run ++ one ∷ [])
+clients-joined : {K : Type 0} (count : ℕ) (run : List (Happening K)) (one : Happening K) →
+    AreOfClients count run → suc (lane_of one.event) < count → AreOfClients count (run ++ one ∷ [])
 unfolding AreOfClients
 clients-joined count [] one are client = (client, tt)
 clients-joined count (x ∷ run) one are client = (are.0, clients-joined count run one are.1 client)
 
-pub more_met : {K : Type 0} (start : State K) (seals : Seals) (run : List (Happening K)) (one : Happening K) → AreMetByLanes start seals run → IsClient start (lane_of one.event) →
-    MeetsAlone (alone_in start seals (lane_of one.event) run) one.event → AreMetByLanes start seals (run ++ one ∷ [])
+pub more_met : {K : Type 0} (start : State K) (seals : Seals) (run : List (Happening K))
+    (one : Happening K) → AreMetByLanes start seals run → IsClient start (lane_of one.event) →
+    MeetsAlone (alone_in start seals (lane_of one.event) run) one.event →
+    AreMetByLanes start seals (run ++ one ∷ [])
 unfolding AreMet
 more_met start seals run one by client meets = record {
   clients = clients-joined (length start.lanes) run one by.clients client;
-  met = λ lane. subst (λ calls. AreMet start.map.atom seals idle_lane calls) (sym (calls-joined lane run one))
-      (met-joined start.map.atom seals idle_lane (own_calls lane run) (call_of lane one) (by.met lane) (elim (same_or_not (lane_of one.event) lane) [
-        | inl own ↦ subst (λ k. AreMet start.map.atom seals (alone_in start seals k run) (call_of k one)) own
-            (subst (λ calls. AreMet start.map.atom seals (alone_in start seals (lane_of one.event) run) calls) (sym (call-own one)) (meets, tt))
-        | inr other ↦ subst (λ calls. AreMet start.map.atom seals (alone_in start seals lane run) calls) (sym (call-other lane one other)) tt
+  met = λ lane. subst (λ calls. AreMet start.map.atom seals idle_lane calls)
+      (sym (calls-joined lane run one))
+      (met-joined start.map.atom seals idle_lane (own_calls lane run) (call_of lane one)
+      (by.met lane) (elim (same_or_not (lane_of one.event) lane) [
+        | inl own ↦ subst (λ k. AreMet start.map.atom seals (alone_in start seals k run)
+            (call_of k one)) own
+            (subst (λ calls. AreMet start.map.atom seals
+            (alone_in start seals (lane_of one.event) run) calls) (sym (call-own one)) (meets, tt))
+        | inr other ↦ subst (λ calls. AreMet start.map.atom seals
+            (alone_in start seals lane run) calls) (sym (call-other lane one other)) tt
       ]));
 }

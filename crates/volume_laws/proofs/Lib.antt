@@ -20,4 +20,5 @@ pub mod RunsServed
 pub mod SealLemmas
 pub mod Settling
 pub mod Tables
+pub mod VolumeStart
 pub mod Writing

@@ -1,6 +1,6 @@
 -- What a volume holds in plain: the newest values of a plain disk's blocks, with the values of
 -- unfinished writes over them.
-use Rattle.std.specs.Prelude.{ℕ, suc, ◌≡◌, ◌-◌, ◌*◌, ◌<◌, ◌≤◌, ◌⊎◌, List, [], length, Some, Contains, slice_index_or}
+use Rattle.std.specs.Prelude.{ℕ, zero, suc, ◌≡◌, ◌-◌, ◌*◌, ◌<◌, ◌≤◌, ◌⊎◌, List, [], ◌∷◌, length, Some, Contains, slice_index_or}
 use Rattle.plain_disk.specs.Plain.{Block, values_of, settled, settled_blocks}
 use Rattle.sector_disk.specs.Cells.{Cell, IsImage}
 use Rattle.segment_map.specs.declared.map.Map.{Map}
@@ -74,3 +74,15 @@ pub record Covers (map : Map) (seals : Seals) (blocks : List Block) (cells : Lis
 -- the plain disk's blocks that a whole disk begins with: each holds its atom's bytes for certain
 abbrev pub plain_blocks : {K : Type 0} → State K → List ℕ → List Block
 plain_blocks start bytes = settled_blocks (blocks_of start.map.atom start.disk.atoms bytes)
+
+-- the blocks that a volume's bytes stand for: each holds, for certain, what is opened of its atom
+unfoldable pub blocks_from : (ℕ → Block) → ℕ → ℕ → List Block
+blocks_from block first zero = []
+blocks_from block first (suc n) = block first ∷ blocks_from block (suc first) n
+
+abbrev pub opened_block : Map → Seals → List ℕ → ℕ → Block
+opened_block map seals bytes b =
+    settled (seals.opened (side_in map b) b (block_at map.atom bytes (place_in map b)))
+
+abbrev pub opened_blocks : Map → Seals → List ℕ → List Block
+opened_blocks map seals bytes = blocks_from (opened_block map seals bytes) 0 map.blocks

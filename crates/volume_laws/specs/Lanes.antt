@@ -1,10 +1,10 @@
 -- Lanes of a run, each by its own calls.
 use Rattle.std.specs.Prelude.{ℕ, suc, ◌≡◌, ◌<◌, ◌==◌, true, if◌then◌else◌, List, [], ◌∷◌, ◌++◌, length, Some}
 use Rattle.segment_map.specs.declared.map.Map.{Map}
-use Rattle.volume_machine.specs.Alone.{Alone, AreMet, Call, MeetsAlone, alone_of, answers_of, idle_lane}
+use Rattle.volume_machine.specs.Alone.{Alone, AreMet, Call, alone_of, answers_of, idle_lane}
 use Rattle.volume_machine.specs.Answers.{Answered}
 use Rattle.volume_machine.specs.Asks.{has_lock}
-use Rattle.volume_machine.specs.Events.{Event, lane_of}
+use Rattle.volume_machine.specs.Events.{lane_of}
 use Rattle.volume_machine.specs.Runs.{Happening, IsRun, answered_by, last_of, no_plain, plain_after, plain_in}
 use Rattle.volume_machine.specs.Seals.{Seals}
 use Rattle.volume_machine.specs.States.{State, open_at}
@@ -14,25 +14,29 @@ use Rattle.volume_machine.specs.declared.open.Open.{Open}
 -- the calls of a lane in a run
 abbrev pub call_of : {K : Type 0} → ℕ → Happening K → List Call
 call_of lane one =
-    if lane_of one.event == lane then record { event = one.event; outcome = one.outcome } ∷ [] else []
+    if lane_of one.event == lane then
+    record { event = one.event; outcome = one.outcome } ∷ [] else []
 
 unfoldable pub own_calls : {K : Type 0} → ℕ → List (Happening K) → List Call
 own_calls lane [] = []
 own_calls lane (one ∷ rest) = call_of lane one ++ own_calls lane rest
 
 -- what it has answered under a lane
-unfoldable pub answered_under : {K : Type 0} → ℕ → Seals → State K → (ℕ → List ℕ) → List (Happening K) → List Answered
+unfoldable pub answered_under : {K : Type 0} → ℕ → Seals → State K → (ℕ → List ℕ) →
+    List (Happening K) → List Answered
 answered_under lane seals old plain [] = []
 answered_under lane seals old plain (one ∷ rest) =
     (if lane_of one.event == lane then answered_by old one.event one.outcome plain else [])
     ++ answered_under lane seals one.after (plain_after seals old one.event one.outcome plain) rest
 
 -- a lane is so by its own calls, in a state in which its operation has this much in plain
-pub record IsLane {K : Type 0} (state : State K) (plain : ℕ → List ℕ) (lane : ℕ) (alone : Alone) : Type 0 where
+pub record IsLane {K : Type 0} (state : State K) (plain : ℕ → List ℕ) (lane : ℕ)
+    (alone : Alone) : Type 0 where
   pub operation : open_at state.lanes lane ≡ alone.operation
   pub plain_is : plain lane ≡ alone.plain
   pub map : (map : Map) → alone.granted ≡ Some map → map ≡ state.map
-  pub holds : (map : Map) (o : Open) → alone.granted ≡ Some map → alone.operation ≡ Some o → has_lock o.ask ≡ true →
+  pub holds : (map : Map) (o : Open) → alone.granted ≡ Some map → alone.operation ≡ Some o →
+      has_lock o.ask ≡ true →
       Holds state lane
 
 -- what a lane is after a run, by its own calls
@@ -50,14 +54,17 @@ AreOfClients lanes [] = Unit {0}
 AreOfClients lanes (one ∷ rest) = (suc (lane_of one.event) < lanes) × AreOfClients lanes rest
 
 -- each event is of a lane of clients, and its call meets its conditions by that lane's own calls
-pub record AreMetByLanes {K : Type 0} (start : State K) (seals : Seals) (run : List (Happening K)) : Type 0 where
+pub record AreMetByLanes {K : Type 0} (start : State K) (seals : Seals)
+    (run : List (Happening K)) : Type 0 where
   pub clients : AreOfClients (length start.lanes) run
   pub met : (lane : ℕ) → AreMet start.map.atom seals idle_lane (own_calls lane run)
 
--- Steps whose calls meet their conditions lane by lane are a run; and after it each lane is what it is by
--- its own calls, and has answered what these answer.
-pub record AreAlone {K : Type 0} (start : State K) (seals : Seals) (run : List (Happening K)) : Type 0 where
+-- Steps whose calls meet their conditions lane by lane are a run; and after it each lane is what it
+-- is by its own calls, and has answered what these answer.
+pub record AreAlone {K : Type 0} (start : State K) (seals : Seals)
+    (run : List (Happening K)) : Type 0 where
   pub is : IsRun start run
-  pub lanes : (lane : ℕ) → IsLane (last_of start run) (plain_in seals start no_plain run) lane (alone_in start seals lane run)
+  pub lanes : (lane : ℕ) → IsLane (last_of start run) (plain_in seals start no_plain run) lane
+      (alone_in start seals lane run)
   pub answers : (lane : ℕ) → answered_under lane seals start no_plain run
       ≡ answers_of start.map.atom seals idle_lane (own_calls lane run)

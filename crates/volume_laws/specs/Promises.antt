@@ -1,6 +1,7 @@
 -- What is promised of every run of events.
 use Rattle.std.specs.Prelude.{ℕ, ◌≡◌, ◌↔◌, Bool, true, false, ◌==◌, ◌||◌, if◌then◌else◌, List, [], ◌∷◌, replicate, Some, None}
 use Rattle.base_terms.specs.Blocks.{lengths}
+use Rattle.base_terms.specs.ErrorNumbers.{device_error}
 use Rattle.plain_disk.specs.Plain.{Block, Exchange, AreSure, Legal}
 use Rattle.plain_disk.specs.declared.operation.Reply.TheVariants.{Errno}
 use Rattle.sector_disk.specs.Cells.{AreSettled, content, currents}
@@ -104,4 +105,4 @@ abbrev pub DeviceErrorsAreExact : {K : Type 0} → Seals → State K → List (H
 DeviceErrorsAreExact seals start earlier one = (answered : Answered) →
     answered_by (last_of start earlier) one.event one.outcome (plain_in seals start no_plain earlier) ≡ answered ∷ [] →
     wrong_ask start.map.atom (size_of start.map) answered.ask ≡ None →
-    (answered.reply ≡ Errno 5) ↔ (has_failed start earlier one.event one.outcome ≡ true)
+    (answered.reply ≡ Errno device_error) ↔ (has_failed start earlier one.event one.outcome ≡ true)

@@ -1,7 +1,7 @@
 //! What follows for every run of events. Each law is the contract of a function that does nothing. A
 //! proof above cites it by its call.
 
-ghost use Rattle.std.specs.Prelude.{◌≡◌, ◌≢◌, ◌≤◌, ◌⊎◌, ◌%◌, ◌+◌, ◌*◌, ◌++◌, ◌∷◌, [], ℕ, List, length, Some};
+ghost use Rattle.std.specs.Prelude.{◌≡◌, ◌≢◌, ◌<◌, ◌≤◌, ◌⊎◌, ◌%◌, ◌+◌, ◌*◌, ◌++◌, ◌∷◌, [], ℕ, List, length, Some};
 ghost use Rattle.cipher_laws.specs.Bytes.{AreBytes};
 ghost use Rattle.plain_disk.specs.Plain.{Block, Exchange};
 ghost use Rattle.sector_disk.specs.Geometry.{IsAtom};
@@ -22,7 +22,9 @@ ghost use Rattle.volume_machine.specs.Sound.{IsSound, AreApart};
 ghost use Rattle.volume_machine.specs.States.{State, IsClient, open_at};
 ghost use Rattle.volume_machine.specs.Steps.{Step, Meets, Holds};
 ghost use Rattle.volume_machine.specs.Beginnings.{IsWholeDisk};
-ghost use Rattle.volume_laws.specs.Contents.{plain_blocks};
+ghost use Rattle.disk_views.specs.Parts.{value_in};
+ghost use Rattle.volume_laws.specs.Contents.{IsSealed, StandsFor, block_in, opened_blocks, plain_blocks};
+ghost use Rattle.volume_machine.specs.Pieces.{place_in};
 ghost use Rattle.volume_machine.specs.declared.keys.Keys.{Keys};
 
 use cipher_laws::SectorCipher;
@@ -154,6 +156,28 @@ pub fn maps_are_apart()
 pub fn settled_volumes_are_covered<C: SectorCipher>()
     ensures { (start : State (Keys C)) (seals : Seals) (blocks : List Block) (bytes : List ℕ) →
         Starts start seals blocks bytes → TellsSettled start bytes → StartsCovered start seals blocks }
+{}
+
+/// A volume of any map, with any keys that seal lawfully, stands for a plain disk: the one whose
+/// blocks hold for certain what its keys open of their atoms. So every volume that was made of a disk
+/// that tells its bytes is one from which runs start.
+pub fn volumes_start<C: SectorCipher>()
+    ensures { (start : State (Keys C)) (seals : Seals) (bytes : List ℕ) →
+        IsSound start → IsFresh start → AreApart start.map → AreLawful start.map.atom seals →
+        start.disk.values ≡ Some bytes → length bytes ≡ start.disk.atoms * start.map.atom →
+        AreBytes bytes → Starts start seals (opened_blocks start.map seals bytes) bytes }
+{}
+
+/// Bytes stand for at most one content, and an atom of an image for at most one value of its block,
+/// under one map and lawful seals.
+pub fn contents_are_one()
+    ensures bytes { (map : Map) (seals : Seals) (bytes : List ℕ) (one other : List Block) →
+        AreLawful map.atom seals → StandsFor map seals one bytes → StandsFor map seals other bytes →
+        (b : ℕ) → b < map.blocks → (block_in one b).newest ≡ (block_in other b).newest }
+    ensures images { (map : Map) (seals : Seals) (image : List (List ℕ)) (b : ℕ)
+        (one other : List ℕ) → AreLawful map.atom seals →
+        IsSealed map seals b one (value_in image (place_in map b)) →
+        IsSealed map seals b other (value_in image (place_in map b)) → one ≡ other }
 {}
 
 /// The volume of a whole disk as it is stands for the plain disk that holds the disk's own atoms for

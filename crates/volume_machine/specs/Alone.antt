@@ -1,5 +1,5 @@
--- What a lane is by its own calls alone. Nothing here reads a state: all is computed from the lane's
--- events and their outcomes, the bytes of a block, and the volume's seals.
+-- What a lane is by its own calls alone. Nothing here reads a state: all is computed from the
+-- lane's events and their outcomes, the bytes of a block, and the volume's seals.
 use Rattle.std.specs.Prelude.{ℕ, ◌≡◌, ◌+◌, ◌/◌, true, List, [], ◌∷◌, ◌++◌, length, Option, Some, None, option_map}
 use Rattle.segment_map.specs.declared.map.Map.{Map}
 use Rattle.volume_machine.specs.Answers.{Answered, answers}
@@ -17,8 +17,8 @@ pub record Call : Type 0 where
   pub event : Event
   pub outcome : Outcome
 
--- a lane's operation under way, the map that its grant told, and the plain bytes that it has read, or
--- tried to write
+-- a lane's operation under way, the map that its grant told, and the plain bytes that it has read,
+-- or tried to write
 pub record Alone : Type 0 where
   pub operation : Option Open
   pub granted : Option Map
@@ -62,10 +62,12 @@ settled_as outcome (Some o) = after_settle o (after_sync outcome o)
 
 -- the operation after an event
 abbrev pub open_after : ℕ → Event → Outcome → Option Open → Option Open
-open_after atom (admits lane session ask) outcome operation = opened_as atom session ask outcome operation
+open_after atom (admits lane session ask) outcome operation =
+    opened_as atom session ask outcome operation
 open_after atom (asks lane) outcome operation = operation
 open_after atom (reads lane len) outcome operation = option_map (after_got atom outcome) operation
-open_after atom (writes lane sealed) outcome operation = option_map (after_put atom sealed outcome) operation
+open_after atom (writes lane sealed) outcome operation =
+    option_map (after_put atom sealed outcome) operation
 open_after atom (settles lane) outcome operation = settled_as outcome operation
 open_after atom (finishes lane) outcome operation = None
 
@@ -116,7 +118,8 @@ alone_after atom seals alone event outcome = record {
 
 -- the operation holds its blocks: a grant told this map
 abbrev pub IsGranted : Alone → (Map → Open → Type 0) → Type 0
-IsGranted alone Is = HasOpen alone.operation (λ o. (map : Map) × (alone.granted ≡ Some map) × Is map o)
+IsGranted alone Is = HasOpen alone.operation
+    (λ o. (map : Map) × (alone.granted ≡ Some map) × Is map o)
 
 -- What the call of an event asks of the lane. Beside it the lane is to be one of clients.
 unfoldable pub MeetsAlone : Alone → Event → Type 0
@@ -131,16 +134,18 @@ MeetsAlone alone (finishes lane) = IsGranted alone (λ map o. CanFinish o)
 abbrev pub answered_alone : Alone → Event → Outcome → List Answered
 answered_alone alone event outcome = answers event outcome alone.operation alone.plain
 
--- over a list of own calls: the lane after them, that each of them meets its conditions, and what they
--- have answered
+-- over a list of own calls: the lane after them, that each of them meets its conditions, and what
+-- they have answered
 unfoldable pub alone_of : ℕ → Seals → Alone → List Call → Alone
 alone_of atom seals alone [] = alone
-alone_of atom seals alone (one ∷ rest) = alone_of atom seals (alone_after atom seals alone one.event one.outcome) rest
+alone_of atom seals alone (one ∷ rest) =
+    alone_of atom seals (alone_after atom seals alone one.event one.outcome) rest
 
 unfoldable pub AreMet : ℕ → Seals → Alone → List Call → Type 0
 AreMet atom seals alone [] = Unit {0}
 AreMet atom seals alone (one ∷ rest) =
-    MeetsAlone alone one.event × AreMet atom seals (alone_after atom seals alone one.event one.outcome) rest
+    MeetsAlone alone one.event × AreMet atom seals
+    (alone_after atom seals alone one.event one.outcome) rest
 
 unfoldable pub answers_of : ℕ → Seals → Alone → List Call → List Answered
 answers_of atom seals alone [] = []

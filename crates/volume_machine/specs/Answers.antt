@@ -1,5 +1,6 @@
 -- Operations that were answered, and what they are to a plain disk.
 use Rattle.std.specs.Prelude.{ℕ, ◌≡◌, ◌==◌, if◌then◌else◌, List, [], ◌∷◌, length, take, Option, Some, None}
+use Rattle.base_terms.specs.ErrorNumbers.{device_error}
 use Rattle.plain_disk.specs.declared.operation.Op.{Op}
 use Rattle.plain_disk.specs.declared.operation.Op.TheVariants as Ops
 use Rattle.plain_disk.specs.declared.operation.Reply.{Reply}
@@ -11,8 +12,8 @@ use Rattle.volume_machine.specs.declared.ask.Ask.{Ask}
 use Rattle.volume_machine.specs.declared.ask.Ask.TheVariants.{Read, Write, Flush}
 use Rattle.volume_machine.specs.declared.open.Open.{Open}
 
--- an operation that was answered: the session that asked for it, what it asked for, the bytes that it
--- read or tried to write, and its reply
+-- an operation that was answered: the session that asked for it, what it asked for, the bytes that
+-- it read or tried to write, and its reply
 pub record Answered : Type 0 where
   pub session : ℕ
   pub ask : Ask
@@ -20,7 +21,8 @@ pub record Answered : Type 0 where
   pub reply : Reply
 
 abbrev pub refusal : ℕ → Ask → ℕ → Answered
-refusal session ask number = record { session = session; ask = ask; plain = []; reply = Errno number }
+refusal session ask number =
+    record { session = session; ask = ask; plain = []; reply = Errno number }
 
 -- a refused operation is answered at its admit
 abbrev pub by_admit : ℕ → Ask → Outcome → List Answered
@@ -30,7 +32,7 @@ by_admit session ask _ = []
 -- a flush at its settle
 abbrev pub flush_reply : Outcome → Reply
 flush_reply done = Done
-flush_reply _ = Errno 5
+flush_reply _ = Errno device_error
 
 abbrev pub by_settle : Option Open → Outcome → List Answered
 by_settle None outcome = []
@@ -51,7 +53,7 @@ by_finish (Some o) plain =
       session = o.session;
       ask = o.ask;
       plain = plain;
-      reply = if o.failed then Errno 5 else full_reply o.ask plain;
+      reply = if o.failed then Errno device_error else full_reply o.ask plain;
     } ∷ []
 
 -- what an event answers, of its lane's open operation and what that has in plain
@@ -61,11 +63,13 @@ answers (settles lane) outcome operation plain = by_settle operation outcome
 answers (finishes lane) outcome operation plain = by_finish operation plain
 answers _ outcome operation plain = []
 
--- the operation is the one that was asked for; the body of a write begins with the bytes that were tried
+-- the operation is the one that was asked for; the body of a write begins with the bytes that were
+-- tried
 abbrev pub Asked : Ask → List ℕ → Op → Type 0
 Asked (Read offset len) plain op = op ≡ Ops.Read offset len
 Asked (Write offset len fua) plain op =
-    (body : List ℕ) × (op ≡ Ops.Write offset body fua) × (length body ≡ len) × (take (length plain) body ≡ plain)
+    (body : List ℕ) × (op ≡ Ops.Write offset body fua) × (length body ≡ len) ×
+    (take (length plain) body ≡ plain)
 Asked Flush plain op = op ≡ Ops.Flush
 
 -- how many bytes of it were tried
@@ -82,7 +86,8 @@ unfoldable pub AreExchanges : List Answered → List Exchange → Type 0
 AreExchanges [] [] = Unit {0}
 AreExchanges [] (exchange ∷ exchanges) = ⊥
 AreExchanges (one ∷ rest) [] = ⊥
-AreExchanges (one ∷ rest) (exchange ∷ exchanges) = IsExchange one exchange × AreExchanges rest exchanges
+AreExchanges (one ∷ rest) (exchange ∷ exchanges) =
+    IsExchange one exchange × AreExchanges rest exchanges
 
 -- an operation of a history, with the number of its session
 pub record Tagged : Type 0 where

@@ -1,5 +1,6 @@
 -- What operations ask for: their blocks, how they lock them, and which are wrong.
 use Rattle.std.specs.Prelude.{ℕ, ◌≡◌, ◌+◌, ◌/◌, ◌<◌, true, Bool, false, Option, Some, None, nat_lt, if◌then◌else◌}
+use Rattle.base_terms.specs.ErrorNumbers.{invalid, no_space}
 use Rattle.block_range.specs.declared.BlockRange.{BlockRange}
 use Rattle.plain_disk.specs.Operations.{wrong_range_of}
 use Rattle.range_lock.specs.declared.Kind.{Kind}
@@ -29,8 +30,8 @@ has_lock Flush = false
 -- the number with which it is refused on a volume of `size` bytes in blocks of `atom`
 abbrev pub wrong_ask : ℕ → ℕ → Ask → Option ℕ
 wrong_ask atom size (Read offset len) =
-    if nat_lt 33554432 len then Some 22 else wrong_range_of atom size offset len 22
-wrong_ask atom size (Write offset len fua) = wrong_range_of atom size offset len 28
+    if nat_lt 33554432 len then Some invalid else wrong_range_of atom size offset len invalid
+wrong_ask atom size (Write offset len fua) = wrong_range_of atom size offset len no_space
 wrong_ask atom size Flush = None
 
 abbrev pub IsRead : Ask → Type 0

@@ -22,11 +22,12 @@ breaks (writes lane sealed) outcome = is_fault outcome
 breaks (settles lane) outcome = is_fault outcome
 breaks _ outcome = false
 
--- the table of locks: an operation that isn't refused enters it behind all others, where it locks its
--- blocks, and leaves it at its finish
+-- the table of locks: an operation that isn't refused enters it behind all others, where it locks
+-- its blocks, and leaves it at its finish
 abbrev pub entered : ℕ → ℕ → Ask → Outcome → List Entry → List Entry
 entered atom lane ask (refused number) entries = entries
-entered atom lane ask _ entries = if has_lock ask then entries ++ entry_of atom lane ask ∷ [] else entries
+entered atom lane ask _ entries =
+    if has_lock ask then entries ++ entry_of atom lane ask ∷ [] else entries
 
 abbrev pub entries_after : ℕ → Event → Outcome → List Entry → List Entry
 entries_after atom (admits lane session ask) outcome entries = entered atom lane ask outcome entries
@@ -38,7 +39,8 @@ abbrev pub Grew : Told → Told → Type 0
 Grew before now = (now ≡ before) ⊎ (now ≡ then_table before now.now)
 
 abbrev pub Grows : Option Told → Option Told → Type 0
-Grows old new = (now : Told) → new ≡ Some now → (before : Told) × (old ≡ Some before) × Grew before now
+Grows old new = (now : Told) → new ≡ Some now →
+    (before : Told) × (old ≡ Some before) × Grew before now
 
 -- at most one device call, which failed or not
 pub record DiskGoes (failed : Bool) (old new : Device) : Type 0 where
@@ -48,7 +50,8 @@ pub record DiskGoes (failed : Bool) (old new : Device) : Type 0 where
   pub rose : failed ≡ true → Rose old.faults new.faults
   pub tables : Grows old.told new.told
 
-pub record Effects {K : Type 0} (event : Event) (outcome : Outcome) (old new : State K) : Type 0 where
+pub record Effects {K : Type 0} (event : Event) (outcome : Outcome)
+    (old new : State K) : Type 0 where
   pub map : new.map ≡ old.map
   pub keys : new.keys ≡ old.keys
   pub room : new.room ≡ old.room

@@ -4,6 +4,7 @@ pub mod Asks
 pub mod Beginnings
 pub mod Effects
 pub mod Events
+pub mod Fronts
 pub mod Pieces
 pub mod Runs
 pub mod Seals

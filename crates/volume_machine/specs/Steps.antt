@@ -1,6 +1,7 @@
 -- One event: what it asks of the state before, and what it leaves.
-use Rattle.std.specs.Prelude.{ℕ, ◌≡◌, ◌<◌, ◌⊎◌, Bool, true, false, List, [], ◌∷◌, ◌++◌, length, Option, Some, None, MatchOption, if◌then◌else◌, Result}
+use Rattle.std.specs.Prelude.{ℕ, ◌≡◌, ◌<◌, ◌⊎◌, Bool, true, false, List, [], ◌∷◌, ◌++◌, Option, Some, None, MatchOption, if◌then◌else◌, Result}
 use Rattle.std.specs.Bool.{MatchBool}
+use Rattle.base_terms.specs.ErrorNumbers.{device_error}
 use Rattle.base_terms.specs.declared.failed.Failed.{Failed}
 use Rattle.block_range.specs.declared.BlockRange.{BlockRange}
 use Rattle.range_lock.specs.declared.Entry.{Entry}
@@ -20,18 +21,22 @@ use Rattle.volume_machine.specs.declared.grant.Grant.{Grant}
 use Rattle.volume_machine.specs.declared.open.Open.{Open}
 
 -- a grant tells the map of the volume, and the blocks
-pub record IsGrant {K : Type 0} (state : State K) (range : BlockRange) (grant : Grant) : Type 0 where
+pub record IsGrant {K : Type 0} (state : State K) (range : BlockRange)
+    (grant : Grant) : Type 0 where
   pub map : grant.map ≡ state.map
   pub range_is : grant.range ≡ range
 
 -- the outcome tells where the entry of these blocks stands
-abbrev pub TellsStanding : {K : Type 0} → State K → BlockRange → (Standing → Type 0) → Outcome → Type 0
+abbrev pub TellsStanding : {K : Type 0} → State K → BlockRange → (Standing → Type 0) → Outcome →
+    Type 0
 TellsStanding state range stands (held grant) = stands Held × IsGrant state range grant
 TellsStanding state range stands (waits lane) = stands (Waiting lane)
 TellsStanding state range stands _ = ⊥
 
--- all stays but the table of locks, the lane's operation, whether the volume is broken, and the disk
-pub record Goes {K : Type 0} (old new : State K) (lane : ℕ) (entries : List Entry) (now : Option Open)
+-- all stays but the table of locks, the lane's operation, whether the volume is broken, and the
+-- disk
+pub record Goes {K : Type 0} (old new : State K) (lane : ℕ) (entries : List Entry)
+    (now : Option Open)
     (is_broken : Bool) : Type 0 where
   pub map : new.map ≡ old.map
   pub keys : new.keys ≡ old.keys
@@ -54,10 +59,13 @@ abbrev pub Enters : {K : Type 0} → State K → ℕ → Ask → List Entry → 
 Enters old lane ask new outcome =
     MatchBool (has_lock ask)
     ((new ≡ old.entries ++ entry_of old.map.atom lane ask ∷ [])
-    × TellsStanding old (range_of old.map.atom ask) (IsStanding old.entries (entry_of old.map.atom lane ask)) outcome)
-    ((new ≡ old.entries) × TellsStanding old (range_of old.map.atom ask) (λ standing. standing ≡ Held) outcome)
+    × TellsStanding old (range_of old.map.atom ask)
+    (IsStanding old.entries (entry_of old.map.atom lane ask)) outcome)
+    ((new ≡ old.entries) × TellsStanding old (range_of old.map.atom ask)
+    (λ standing. standing ≡ Held) outcome)
 
-pub record IsAdmitted {K : Type 0} (old : State K) (lane session : ℕ) (ask : Ask) (outcome : Outcome)
+pub record IsAdmitted {K : Type 0} (old : State K) (lane session : ℕ) (ask : Ask)
+    (outcome : Outcome)
     (new : State K) : Type 0 where
   pub enters : Enters old lane ask new.entries outcome
   pub goes : Goes old new lane new.entries (Some (begun old.map.atom session ask)) old.broken
@@ -67,17 +75,20 @@ pub record IsAdmitted {K : Type 0} (old : State K) (lane session : ℕ) (ask : A
 abbrev pub AdmitStep : {K : Type 0} → State K → ℕ → ℕ → Ask → Outcome → State K → Type 0
 AdmitStep old lane session ask outcome new =
     MatchOption (wrong_ask old.map.atom (size_of old.map) ask)
-    (MatchBool old.broken ((outcome ≡ refused 5) × (new ≡ old)) (IsAdmitted old lane session ask outcome new))
+    (MatchBool old.broken ((outcome ≡ refused device_error) × (new ≡ old))
+    (IsAdmitted old lane session ask outcome new))
     (λ number. (outcome ≡ refused number) × (new ≡ old))
 
 -- an event of an operation finds the volume broken: it fails without a device call
-pub record FindsBroken {K : Type 0} (old : State K) (lane : ℕ) (now : Option Open) (new : State K) : Type 0 where
+pub record FindsBroken {K : Type 0} (old : State K) (lane : ℕ) (now : Option Open)
+    (new : State K) : Type 0 where
   pub was : old.broken ≡ true
   pub goes : Goes old new lane old.entries now true
   pub rests : Rests old new
 
 -- a piece was read
-pub record GetsPiece {K : Type 0} (old : State K) (lane : ℕ) (o : Open) (bytes : List ℕ) (new : State K) : Type 0 where
+pub record GetsPiece {K : Type 0} (old : State K) (lane : ℕ) (o : Open) (bytes : List ℕ)
+    (new : State K) : Type 0 where
   pub was : old.broken ≡ false
   pub piece : Piece
   pub next : IsPieceOf old.map o piece
@@ -86,7 +97,8 @@ pub record GetsPiece {K : Type 0} (old : State K) (lane : ℕ) (o : Open) (bytes
   pub goes : Goes old new lane old.entries (Some (moved o piece)) false
 
 -- a read of a piece failed, which breaks nothing
-pub record MissesPiece {K : Type 0} (old : State K) (lane : ℕ) (o : Open) (new : State K) : Type 0 where
+pub record MissesPiece {K : Type 0} (old : State K) (lane : ℕ) (o : Open)
+    (new : State K) : Type 0 where
   pub was : old.broken ≡ false
   pub piece : Piece
   pub next : IsPieceOf old.map o piece
@@ -102,7 +114,8 @@ ReadStep old lane o _ new = ⊥
 
 -- a piece was written, or a write of it failed, which breaks the volume
 pub record PutsPiece {K : Type 0} (old : State K) (lane : ℕ) (o : Open) (bytes : List ℕ)
-    (result : Result (Unit {0}) Failed) (after : Piece → Open) (is_broken : Bool) (new : State K) : Type 0 where
+    (result : Result (Unit {0}) Failed) (after : Piece → Open) (is_broken : Bool)
+    (new : State K) : Type 0 where
   pub was : old.broken ≡ false
   pub piece : Piece
   pub next : IsPieceOf old.map o piece
@@ -112,7 +125,8 @@ pub record PutsPiece {K : Type 0} (old : State K) (lane : ℕ) (o : Open) (bytes
 
 abbrev pub WriteStep : {K : Type 0} → State K → ℕ → Open → List ℕ → Outcome → State K → Type 0
 WriteStep old lane o bytes done new = PutsPiece old lane o bytes succeeded (moved o) false new
-WriteStep old lane o bytes device new = PutsPiece old lane o bytes failed_call (λ piece. failing o) true new
+WriteStep old lane o bytes device new =
+    PutsPiece old lane o bytes failed_call (λ piece. failing o) true new
 WriteStep old lane o bytes broken new = FindsBroken old lane (Some (failing o)) new
 WriteStep old lane o bytes _ new = ⊥
 
@@ -133,7 +147,8 @@ SettleStep old lane o broken new = FindsBroken old lane (after_settle o (failing
 SettleStep old lane o _ new = ⊥
 
 -- the operation leaves the table
-pub record FinishStep {K : Type 0} (old : State K) (lane : ℕ) (outcome : Outcome) (new : State K) : Type 0 where
+pub record FinishStep {K : Type 0} (old : State K) (lane : ℕ) (outcome : Outcome)
+    (new : State K) : Type 0 where
   pub outcome_is : outcome ≡ done
   pub goes : Goes old new lane (without lane old.entries) None old.broken
   pub rests : Rests old new
@@ -150,9 +165,11 @@ Has state lane Is = HasOpen (open_at state.lanes lane) Is
 unfoldable pub Step : {K : Type 0} → State K → Event → Outcome → State K → Type 0
 Step old (admits lane session ask) outcome new = AdmitStep old lane session ask outcome new
 Step old (asks lane) outcome new =
-    Has old lane (λ o. TellsStanding old o.range (IsStandingOf lane old.entries) outcome) × (new ≡ old)
+    Has old lane (λ o. TellsStanding old o.range (IsStandingOf lane old.entries) outcome) ×
+    (new ≡ old)
 Step old (reads lane len) outcome new = Has old lane (λ o. ReadStep old lane o outcome new)
-Step old (writes lane bytes) outcome new = Has old lane (λ o. WriteStep old lane o bytes outcome new)
+Step old (writes lane bytes) outcome new =
+    Has old lane (λ o. WriteStep old lane o bytes outcome new)
 Step old (settles lane) outcome new = Has old lane (λ o. SettleStep old lane o outcome new)
 Step old (finishes lane) outcome new = FinishStep old lane outcome new
 

@@ -4,7 +4,7 @@ use super::messages::{AGREED_ON, AGREED_ON_WIDE, DISCONNECT, GO, HELLO, Part, by
 use super::{bay_around, end, end_of, put_of, run_in};
 use crate::port::VolumePort;
 use crate::{Cause, Ended, Ending};
-use base_terms::Bytes;
+use base_terms::{Buffer, Bytes};
 use bays::MemLink;
 use io_edge::{ListSink, ListSource};
 use nbd_session::{Port, Submitted};
@@ -231,7 +231,11 @@ fn holds(alloc: Global, disk: MemDisk, plain: &PlainDisk) -> Result<bool, Fail> 
     let Ok(volume) = Volume::plain(alloc, disk, 2) else {
         return Err(AllocError.into());
     };
-    let mut port = VolumePort { volume, session: 0 };
+    let mut port = VolumePort {
+        volume,
+        session: 0,
+        part: Buffer::empty(alloc),
+    };
     let length = plain.atom();
     for block in 0..plain.blocks() {
         let offset = block.wrapping_mul(u64::from(length));

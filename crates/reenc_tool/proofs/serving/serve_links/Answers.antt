@@ -40,7 +40,8 @@ returns-then-serve_round g c =
     let after = new.6 c.args.links.now.items c.loop-round.round old.0 c.loop-round.invariant.rounds
     old.6 in (
       old.0 ++ new.0,
-      subst (λ (done : List Tagged). g.P.SharedPort.executed c.args.port.now c.serve_round.new.port done)
+      subst (λ (done : List Tagged). g.P.SharedPort.executed c.args.port.now c.serve_round.new.port
+          done)
           (sym (tagged_of-append old.0 new.0))
           (g.met.P.SharedPort.executed_more c.args.port.now c.loop-round.port c.serve_round.new.port
           (tagged_of old.0) (tagged_of new.0) old.1 new.1),
@@ -74,9 +75,11 @@ loop-round-preserved g c =
       );
       played = (
         old.0 ++ new.0,
-        subst (λ (done : List Tagged). g.P.SharedPort.executed c.args.port.now c.serve_round.new.port done)
+        subst (λ (done : List Tagged). g.P.SharedPort.executed c.args.port.now
+            c.serve_round.new.port done)
             (sym (tagged_of-append old.0 new.0))
-            (g.met.P.SharedPort.executed_more c.args.port.now c.loop-round.port c.serve_round.new.port
+            (g.met.P.SharedPort.executed_more c.args.port.now c.loop-round.port
+            c.serve_round.new.port
             (tagged_of old.0) (tagged_of new.0) old.1 new.1),
         AreSessions-append _ _ old.0 new.0 old.2
             (sessions_numbered _ _ c.loop-round.number new.0 new.2),

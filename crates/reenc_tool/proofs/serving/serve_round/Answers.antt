@@ -42,7 +42,8 @@ loop-k-preserved g c =
       lists = length-set c.loop-k.ends.items k c.serve_turn.new.ends ∙ c.loop-k.invariant.lists;
       played = (
         old.0 ++ turn.0,
-        subst (λ (done : List Tagged). g.P.SharedPort.executed c.args.port.now c.serve_turn.new.port done)
+        subst (λ (done : List Tagged). g.P.SharedPort.executed c.args.port.now c.serve_turn.new.port
+            done)
             (sym (tagged_of-append old.0 turn.0))
             (g.met.P.SharedPort.executed_more c.args.port.now c.loop-k.port c.serve_turn.new.port
             (tagged_of old.0) (tagged_of turn.0) old.1 turn.1),
@@ -90,7 +91,8 @@ returns-then-serve_turn g c =
     let turn = c.serve_turn.ensures k in
     let t = turn.2 in (
       old.0 ++ turn.0,
-      subst (λ (done : List Tagged). g.P.SharedPort.executed c.args.port.now c.serve_turn.new.port done)
+      subst (λ (done : List Tagged). g.P.SharedPort.executed c.args.port.now c.serve_turn.new.port
+          done)
           (sym (tagged_of-append old.0 turn.0))
           (g.met.P.SharedPort.executed_more c.args.port.now c.loop-k.port c.serve_turn.new.port
           (tagged_of old.0) (tagged_of turn.0) old.1 turn.1),

@@ -9,7 +9,7 @@ ghost use Rattle.volume_machine.specs.declared.ask.Ask.{Ask};
 
 use crate::Volume;
 use crate::answers::{Admitted, Asked, PieceRead, PieceWritten, Settled};
-use base_terms::Bytes;
+use base_terms::{Buffer, Bytes};
 use cipher_laws::SectorCipher;
 use range_lock::Standing;
 use sector_cipher::Context;
@@ -198,10 +198,11 @@ pub(super) fn read_bytes<D: Disk, C: SectorCipher + Copy>(
     let atom = volume.map().atom;
     let keys = volume.keys();
     let size = piece.count as usize * atom as usize;
-    let bytes = Bytes::new(vec![in alloc; 0u8; size]?);
-    match volume.piece_read(lane, bytes) {
-        PieceRead::Got(bytes) => {
-            let mut bytes = bytes.into_vec();
+    let mut buffer = Buffer::empty(alloc);
+    buffer.grow(size)?;
+    match volume.piece_read(lane, buffer, size) {
+        PieceRead::Got(buffer) => {
+            let mut bytes = buffer.into_text(size).into_vec();
             keys.unseal(atom, piece, bytes.as_mut_slice());
             Ok(Ok(Bytes::new(bytes)))
         }
@@ -226,8 +227,8 @@ pub(super) fn write<D: Disk, C: SectorCipher + Copy>(
     let atom = volume.map().atom;
     let keys = volume.keys();
     let size = piece.count as usize * atom as usize;
-    let bytes = Bytes::new(vec![in alloc; byte; size]?);
-    let prepared = Prepared::seal(&keys, atom, piece, bytes);
+    let buffer = Buffer::new(vec![in alloc; byte; size]?);
+    let prepared = Prepared::seal(&keys, atom, piece, buffer, size);
     match volume.piece_write(lane, prepared) {
         PieceWritten::Done(_) => Ok(Answer::Done),
         PieceWritten::Device(_) => Ok(Answer::Device),

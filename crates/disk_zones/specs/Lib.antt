@@ -1,0 +1,4 @@
+pub mod Calls
+pub mod Promises
+pub mod Standing
+pub mod Zones

@@ -1,0 +1,5 @@
+pub mod PlanBegins
+pub mod PlanCourse
+pub mod PlanEnds
+pub mod PlanMoves
+pub mod PlanSizes

@@ -1,0 +1,254 @@
+-- Plans before their grant, and what a grant makes of them.
+use Rattle.std.proofs.Common.{◌≡◌, ◌+◌, ◌-◌, ◌*◌, ◌<◌, ◌≤◌, ℕ, true, false, max, List, [], length}
+use Rattle.std.proofs.Common.{take, Some, None, refl, sym, ◌∙◌, ap, arith}
+use Rattle.std.proofs.Math.Nat.{le-max_right}
+use Rattle.std.proofs.lemmas.List.{take-take}
+use Rattle.plain_disk.specs.declared.operation.Op.{Op}
+use Rattle.plain_disk.specs.declared.operation.Op.TheVariants as Ops
+use Rattle.segment_map.specs.declared.map.Map.{Map}
+use Rattle.volume_machine.specs.Alone.{Alone, MeetsAlone, alone_after, answered_alone}
+use Rattle.volume_machine.specs.Answers.{Answered}
+use Rattle.volume_machine.specs.Asks.{range_of, wrong_ask}
+use Rattle.volume_machine.specs.Seals.{Seals}
+use Rattle.volume_machine.specs.States.{begun}
+use Rattle.volume_machine.specs.declared.ask.Ask.{Ask}
+use Rattle.volume_machine.specs.declared.grant.Grant.{Grant}
+use Rattle.volume_machine.specs.declared.open.Open.{Open}
+use Rattle.lane_plan.specs.Calls.{ask_of, event_of, outcome_of}
+use Rattle.lane_plan.specs.Plans.{first_call, shape_of, Awaits, refuses, begins, asks, reads}
+use Rattle.lane_plan.specs.Plans.{writes, settles, finishes, Follows, Goes, HasRest, IsBack}
+use Rattle.lane_plan.specs.Plans.{IsGrantFor, IsShape, IsSupplied, IsTold, MayAnswer, bytes_of}
+use Rattle.lane_plan.specs.Plans.{calls_left, left_at, part_of}
+use Rattle.lane_plan.specs.declared.calls.Answer.{Answer}
+use Rattle.lane_plan.specs.declared.calls.Answer.TheVariants as Answers
+use Rattle.lane_plan.specs.declared.calls.Call.{Call}
+use Rattle.lane_plan.specs.declared.calls.Call.TheVariants as Calls
+use Rattle.lane_plan.specs.declared.calls.Next.TheVariants as Nexts
+use Rattle.lane_plan.specs.declared.plan.Plan.{Plan}
+use Rattle.lane_plan.specs.declared.plan.Shape.{Shape}
+use Rattle.lane_plan.specs.declared.plan.Stage.TheVariants.{Refusing, Beginning, Waiting}
+use Rattle.lane_plan.proofs.PlanCourse.{none-yet, some-left}
+use Rattle.lane_plan.proofs.PlanSizes.{body-long, inside, ordered, size-none, some-atom}
+
+-- the call that a plan awaits the answer to met its conditions
+awaits-meets : (seals : Seals) (plan : Plan) (op : Op) (alone : Alone) (call : Call) →
+    Awaits seals plan op alone call → (lane : ℕ) → MeetsAlone alone (event_of lane call)
+unfolding MeetsAlone
+awaits-meets seals plan op alone _ (refuses stage asked none) lane = none
+awaits-meets seals plan op alone _ (begins stage supplied none) lane = none
+awaits-meets seals plan op alone _ (asks stage supplied is ungranted none has) lane = (_, is, has)
+awaits-meets seals plan op alone _ (reads map piece buffer len moves reading size within) lane =
+    let course = moves.course in
+    let same = course.atom in (
+      plan.operation,
+      course.operation,
+      (
+        map,
+        course.granted,
+        record {
+          reads = reading;
+          has = record { some = some-left plan.operation moves.next; goes_on = course.unfailed };
+          piece = piece;
+          next = moves.next;
+          size = rw same size;
+        },
+      ),
+    )
+awaits-meets seals plan op alone _ (writes map piece prepared moves writing is_sealed) lane =
+    let course = moves.course in
+    let same = course.atom in (
+      plan.operation,
+      course.operation,
+      (
+        map,
+        course.granted,
+        record {
+          writes = writing;
+          has = record { some = some-left plan.operation moves.next; goes_on = course.unfailed };
+          piece = piece;
+          next = moves.next;
+          are = record { size = rw same is_sealed.size; are_bytes = is_sealed.are_bytes };
+        },
+      ),
+    )
+awaits-meets seals plan op alone _ (settles map stage course plain can ends) lane =
+    (plan.operation, course.operation, can)
+awaits-meets seals plan op alone _ (finishes stage ending) lane =
+    (plan.operation, ending.operation, (ending.map, ending.granted, ending.can))
+
+-- so it follows where nothing was answered
+pub follows-call : {seals : Seals} {plan : Plan} {op : Op} {alone : Alone} {call : Call}
+    (answered : List Answered) → answered ≡ [] → Awaits seals plan op alone call →
+    Follows seals plan op alone answered (Nexts.Call call)
+follows-call {seals} {plan} {op} {alone} {call} answered none awaits =
+    (none, awaits-meets seals plan op alone call awaits, awaits)
+
+-- an answer that leaves an operation all of whose pieces so far were made
+abbrev pub IsBackBy : Seals → Plan → Answer → Plan → Map → Type 0
+IsBackBy seals old answer mid map = (op : Op) (alone : Alone) (call : Call) (lane : ℕ) →
+    Awaits seals old op alone call → MayAnswer old call answer →
+    (answered_alone alone (event_of lane call) (outcome_of answer) ≡ [])
+    × IsBack mid op (alone_after old.shape.atom seals alone (event_of lane call)
+    (outcome_of answer)) map
+
+pub goes-by : (seals : Seals) (old mid new : Plan) (answer : Answer) (map : Map) (result : Call) →
+    IsBackBy seals old answer mid map →
+    ((op : Op) (alone : Alone) → IsBack mid op alone map → Awaits seals new op alone result) →
+    Goes seals old answer new (Nexts.Call result)
+unfolding Goes
+goes-by seals old mid new answer map result back on op alone call lane awaits may =
+    let it = back op alone call lane awaits may in follows-call _ it.0 (on op _ it.1)
+
+pub told-by : (seals : Seals) (old mid : Plan) (answer : Answer) (map : Map) →
+    IsBackBy seals old answer mid map → IsTold seals old answer →
+    (op : Op) × (alone : Alone) × IsBack mid op alone map
+unfolding IsTold
+told-by seals old mid answer map back (op, alone, call, awaits, may) =
+    (op, _, (back op alone call 0 awaits may).1)
+
+-- the operation as its grant has it
+abbrev pub opened : Open → Grant → Open
+opened o grant = record {
+  session = o.session;
+  ask = o.ask;
+  range = grant.range;
+  next = grant.range.start;
+  settled = false;
+  failed = false;
+}
+
+back-begun : (plan : Plan) (now : Open) (op : Op) (alone : Alone) (grant : Grant) →
+    IsSupplied plan.shape plan.operation plan.whole plan.part op →
+    alone.operation ≡ Some (begun plan.shape.atom plan.operation.session plan.operation.ask) →
+    alone.granted ≡ Some grant.map → alone.plain ≡ [] →
+    IsGrantFor plan grant → now ≡ opened plan.operation grant →
+    IsBack (record plan { operation = now }) op alone grant.map
+back-begun plan now op alone grant supplied operation granted plain fit is =
+    let known = supplied.known in
+    let range = fit.range_is in
+    let now_is : now ≡ begun plan.shape.atom plan.operation.session plan.operation.ask =
+    rw (is, range) refl in
+    rw now_is (record {
+      course = record {
+        known = known;
+        operation = operation;
+        granted = granted;
+        asks = supplied.asks;
+        atom = fit.atom;
+        blocks = fit.blocks;
+        proper = supplied.proper;
+        range_is = refl;
+        inside = inside plan.shape.atom plan.shape.blocks plan.operation.ask
+            (some-atom plan.shape.atom known.known) supplied.proper;
+        starts = omega arith;
+        within = ordered plan.shape.atom plan.operation.ask;
+        unfailed = refl;
+        unsettled = refl;
+        size = ap (λ xs. length xs) plain
+            ∙ size-none (range_of plan.shape.atom plan.operation.ask).start plan.shape.atom;
+      };
+      plain = rw plain (none-yet plan.whole op);
+      rest = λ some. supplied.rest;
+      part = λ some. supplied.room;
+    })
+
+-- a grant makes the operation go on
+pub back-held : (seals : Seals) (plan : Plan) (now : Open) (grant : Grant) →
+    now ≡ opened plan.operation grant →
+    IsBackBy seals plan (Answers.Held grant) (record plan { operation = now }) grant.map
+back-held seals plan now grant is op alone _ lane (refuses stage asked none) may =
+    absurd (may.0 stage)
+back-held seals plan now grant is op alone _ lane (begins stage supplied none) may =
+    (refl, back-begun plan now op _ grant supplied refl refl refl may.1 is)
+back-held seals plan now grant is op alone _ lane
+    (asks stage supplied operation ungranted plain has) may =
+    (refl, back-begun plan now op _ grant supplied operation refl plain may is)
+back-held seals plan now grant is op alone _ lane _ may = absurd may
+
+-- at most a call a block, and one more
+pub fewer-held : (seals : Seals) (old new : Plan) (grant : Grant) →
+    IsTold seals old (Answers.Held grant) →
+    calls_left new ≤ 1 + (grant.range.end - grant.range.start) → calls_left new < calls_left old
+unfolding IsTold calls_left
+fewer-held seals old new grant (op, alone, _, refuses stage asked none, may) most =
+    absurd (may.0 stage)
+fewer-held seals old new grant (op, alone, _, begins stage supplied none, may) most =
+    let left = ap (λ s. left_at old.shape.atom old.operation s) stage in
+    let range = may.1.range_is in
+    let most_by = rw range at most in omega (arith, left, most_by)
+fewer-held seals old new grant (op, alone, _, asks stage _ _ _ _ _, may) most =
+    let left = ap (λ s. left_at old.shape.atom old.operation s) stage in
+    let range = may.range_is in
+    let most_by = rw range at most in omega (arith, left, most_by)
+fewer-held seals old new grant (op, alone, _, _, may) most = absurd may
+
+-- where others have the blocks it asks again
+pub goes-waiting : (seals : Seals) (plan : Plan) (other : ℕ) →
+    Goes seals plan (Answers.Waiting other) (record plan { stage = Waiting }) (Nexts.Call Calls.Ask)
+unfolding Goes
+goes-waiting seals plan other op alone _ lane (refuses stage asked none) may = absurd (may.0 stage)
+goes-waiting seals plan other op alone _ lane (begins stage supplied none) may =
+    follows-call _ refl (asks refl supplied refl refl refl may.1)
+goes-waiting seals plan other op alone _ lane (asks stage supplied operation ungranted plain has)
+    may = follows-call _ refl (asks refl supplied operation refl plain has)
+goes-waiting seals plan other op alone _ lane _ may = absurd may
+
+-- plans that have made no call
+pub awaits-refusal : {seals : Seals} (plan : Plan) (op : Op) {alone : Alone} (session : ℕ) →
+    alone.operation ≡ None → plan.operation.session ≡ session → plan.operation.ask ≡ ask_of op →
+    plan.stage ≡ Refusing → Awaits seals plan op alone (Calls.Admit session (ask_of op))
+awaits-refusal plan op session none session_is asked stage =
+    rw (← session_is, ← asked) (refuses stage asked none)
+
+-- the buffer of an operation, made long enough
+body-in : (op : Op) (before whole : List ℕ) (len : ℕ) →
+    ((offset : ℕ) (body : List ℕ) (fua : Rattle.std.proofs.Common.Bool) →
+    op ≡ Ops.Write offset body fua → take (length body) before ≡ body) →
+    len ≡ bytes_of (ask_of op) → length whole ≡ max (length before) len →
+    take (length before) whole ≡ before → HasRest whole op
+body-in (Ops.Read offset size) before whole len body is long front =
+    (let m : len ≤ max (length before) len = le-max_right (length before) len in
+    omega (arith, is, long, m))
+body-in (Ops.Write offset text fua) before whole len body is long front =
+    let has = body offset text fua refl in
+    let short = body-long text before has in
+    sym (take-take (length text) (length before) whole short)
+    ∙ ap (λ xs. take (length text) xs) front ∙ has
+body-in Ops.Flush before whole len body is long front = tt
+
+pub awaits-admit : {seals : Seals} (plan : Plan) (op : Op) {alone : Alone} (session : ℕ)
+    (shape : Shape) (before part : List ℕ) (len room : ℕ) → alone.operation ≡ None →
+    plan.operation.session ≡ session →
+    plan.operation.ask ≡ ask_of op → plan.stage ≡ Beginning → plan.shape ≡ shape → IsShape shape →
+    wrong_ask shape.atom (shape.blocks * shape.atom) (ask_of op) ≡ None →
+    ((offset : ℕ) (body : List ℕ) (fua : Rattle.std.proofs.Common.Bool) →
+    op ≡ Ops.Write offset body fua → take (length body) before ≡ body) →
+    len ≡ bytes_of (ask_of op) →
+    length plan.whole ≡ max (length before) len → take (length before) plan.whole ≡ before →
+    length plan.part ≡ max (length part) room → room ≡ part_of shape.atom (ask_of op) →
+    Awaits seals plan op alone (Calls.Admit session (ask_of op))
+awaits-admit plan op session shape before part len room none session_is asked stage
+    shape_is known proper body len_is long front as_long room_is =
+    let supplied : IsSupplied plan.shape plan.operation plan.whole plan.part op = record {
+      known = rw shape_is known;
+      asks = asked;
+      proper = rw (shape_is, asked) proper;
+      rest = body-in op before plan.whole len body len_is long front;
+      room = rw (shape_is, asked) (let m : room ≤ max (length part) room =
+          le-max_right (length part) room in omega (arith, m, room_is, as_long));
+    } in
+    rw (← session_is, ← asked) (begins stage supplied none)
+
+-- what a grant of a plan's blocks is, to those who know its first call
+pub grant-for : (plan : Plan) (grant : Grant) (session : ℕ) (ask : Ask) →
+    first_call plan ≡ Calls.Admit session ask →
+    grant.map.atom ≡ (shape_of plan).atom → grant.map.blocks ≡ (shape_of plan).blocks →
+    grant.range ≡ range_of (shape_of plan).atom ask →
+    IsGrantFor plan grant
+grant-for plan grant session ask first atom blocks range =
+    let same : plan.operation.ask ≡ ask = cc in
+    record {
+      atom = atom;
+      blocks = blocks;
+      range_is = range ∙ ap (λ a. range_of plan.shape.atom a) (sym same);
+    }

@@ -1,0 +1,290 @@
+-- Plans whose operation is refused, has failed, is settled, or has finished.
+use Rattle.std.proofs.Common.{◌≡◌, ◌⊎◌, inl, inr, ◌<◌, ◌≤◌, ℕ, Bool, true, false, List, [], ◌∷◌}
+use Rattle.std.proofs.Common.{if◌then◌else◌, length, take, Option, Some, None, refl, sym, ◌∙◌, ap}
+use Rattle.std.proofs.Common.{subst, arith}
+use Rattle.plain_disk.specs.declared.operation.Op.{Op}
+use Rattle.plain_disk.specs.declared.operation.Op.TheVariants as Ops
+use Rattle.plain_disk.specs.declared.operation.Reply.{Reply}
+use Rattle.plain_disk.specs.declared.operation.Reply.TheVariants.{Content, Done, Errno}
+use Rattle.segment_map.specs.declared.map.Map.{Map}
+use Rattle.volume_machine.specs.Alone.{Alone, after_sync, settled_as}
+use Rattle.volume_machine.specs.Answers.{Answered, Asked, by_finish, by_settle, flush_reply}
+use Rattle.volume_machine.specs.Answers.{full_reply, tried_by}
+use Rattle.volume_machine.specs.Asks.{has_lock}
+use Rattle.volume_machine.specs.Events.{Outcome, done, device, broken}
+use Rattle.volume_machine.specs.Pieces.{failing, settling}
+use Rattle.volume_machine.specs.Seals.{Seals}
+use Rattle.volume_machine.specs.Steps.{after_settle}
+use Rattle.volume_machine.specs.declared.ask.Ask.{Ask}
+use Rattle.volume_machine.specs.declared.ask.Ask.TheVariants.{Read, Write, Flush}
+use Rattle.volume_machine.specs.declared.open.Open.{Open}
+use Rattle.lane_plan.specs.Calls.{ask_of}
+use Rattle.lane_plan.specs.Plans.{refuses, begins, reads, writes, settles, finishes, Follows, Goes}
+use Rattle.lane_plan.specs.Plans.{HasPlain, IsAnswered, IsEnding, IsFailure, IsTold, IsUnderWay}
+use Rattle.lane_plan.specs.Plans.{bytes_of, calls_left, left_at}
+use Rattle.lane_plan.specs.declared.calls.Answer.{Answer}
+use Rattle.lane_plan.specs.declared.calls.Answer.TheVariants as Answers
+use Rattle.lane_plan.specs.declared.calls.Call.TheVariants as Calls
+use Rattle.lane_plan.specs.declared.calls.Next.TheVariants as Nexts
+use Rattle.lane_plan.specs.declared.plan.Plan.{Plan}
+use Rattle.lane_plan.specs.declared.plan.Stage.{Stage}
+use Rattle.lane_plan.specs.declared.plan.Stage.TheVariants.{Settling, Ending}
+use Rattle.lane_plan.proofs.PlanBegins.{follows-call}
+use Rattle.lane_plan.proofs.PlanCourse.{none-yet, whole-size}
+use Rattle.lane_plan.proofs.PlanMoves.{mapped, with-opened}
+use Rattle.lane_plan.proofs.PlanSizes.{body-long}
+
+-- what was asked for, with the bytes that were read or tried
+asked-as : (whole : List ℕ) (op : Op) (plain : List ℕ) → HasPlain whole op plain →
+    Asked (ask_of op) plain op
+asked-as whole (Ops.Read offset len) plain has = refl
+asked-as whole (Ops.Write offset body fua) plain has = (body, refl, refl, has)
+asked-as whole Ops.Flush plain has = refl
+
+-- an operation that was answered
+answered-so : (o : Open) (plain whole : List ℕ) (op : Op) (reply : Reply) (after : Alone)
+    (answered : List Answered) → o.ask ≡ ask_of op → HasPlain whole op plain →
+    after.operation ≡ None →
+    answered ≡ record { session = o.session; ask = o.ask; plain = plain; reply = reply } ∷ [] →
+    IsAnswered o.session op reply after answered
+answered-so o plain whole op reply after answered asked has over only = record {
+  over = over;
+  one = record { session = o.session; ask = o.ask; plain = plain; reply = reply };
+  only = only;
+  session_is = refl;
+  tried = tried_by o.ask plain;
+  exchange = record { op = rw asked (asked-as whole op plain has); reply = refl; tried = refl };
+}
+
+-- one that its admit refused
+pub goes-refused : (seals : Seals) (plan : Plan) (number : ℕ) →
+    Goes seals plan (Answers.Refused number) (record plan { whole = [] })
+    (Nexts.Reply (Errno number) plan.whole)
+unfolding Goes
+goes-refused seals plan number op alone _ lane (refuses stage asked none) may =
+    answered-so plan.operation [] [] op (Errno number) _ _ asked (none-yet [] op) none refl
+goes-refused seals plan number op alone _ lane (begins stage supplied none) may =
+    answered-so plan.operation [] [] op (Errno number) _ _ supplied.asks (none-yet [] op) none refl
+goes-refused seals plan number op alone _ lane _ may = absurd may
+
+-- a settle ends a flush, and no other
+pub some-settled : (has : Bool) (now after : Open) → (if has then Some after else None) ≡ Some now →
+    (has ≡ true) × (now ≡ after)
+some-settled true now after is = (refl, cc)
+some-settled false now after is = absurd (cc)
+
+none-settled : (ask : Ask) (after : Open) → (if has_lock ask then Some after else None) ≡ None →
+    ask ≡ Flush
+none-settled (Read offset len) after is = absurd (cc)
+none-settled (Write offset len fua) after is = absurd (cc)
+none-settled Flush after is = refl
+
+-- what it leaves of an operation that locks, and that it answers nothing then
+settled-open : (outcome : Outcome) (o : Open) (operation : Option Open) → operation ≡ Some o →
+    has_lock o.ask ≡ true → (settled_as outcome operation ≡ Some (after_sync outcome o))
+    × (by_settle operation outcome ≡ [])
+settled-open outcome o operation is has = (rw (is, has) refl, rw (is, has) refl)
+
+-- the finish follows
+finish-follows : {seals : Seals} (plan : Plan) (now : Open) {op : Op} {alone : Alone}
+    (answered : List Answered) → answered ≡ [] → IsEnding now plan.whole op alone →
+    Follows seals (record plan { operation = now; stage = Ending }) op alone answered
+    (Nexts.Call Calls.Finish)
+finish-follows plan now answered none ending = follows-call answered none (finishes refl ending)
+
+-- an operation that can end where it failed
+ending-failed : (plan : Plan) (now : Open) (op : Op) (alone : Alone) (map : Map) →
+    (has_lock plan.operation.ask ≡ true) × (now ≡ failing plan.operation) →
+    plan.operation.ask ≡ ask_of op → alone.operation ≡ Some (failing plan.operation) →
+    alone.granted ≡ Some map → HasPlain plan.whole op alone.plain →
+    IsEnding now plan.whole op alone
+ending-failed plan now op alone map (has, is) asked operation granted plain = rw is (record {
+  operation = operation;
+  map = map;
+  granted = granted;
+  asks = asked;
+  can = record { locks = has; ends = inl refl };
+  plain = plain;
+  total = λ unfailed. absurd (cc);
+})
+
+pub goes-failed : (seals : Seals) (plan : Plan) (now : Open) (answer : Answer) → IsFailure answer →
+    (has_lock plan.operation.ask ≡ true) × (now ≡ failing plan.operation) →
+    Goes seals plan answer (record plan { operation = now; stage = Ending })
+    (Nexts.Call Calls.Finish)
+unfolding Goes
+goes-failed seals plan now Answers.Device fails is op alone _ lane (reads map _ _ _ moves _ _ _)
+    may = finish-follows plan now _ refl (ending-failed plan now op _ map is moves.course.asks
+    (mapped _ moves.course.operation refl) moves.course.granted moves.plain)
+goes-failed seals plan now Answers.Device fails is op alone _ lane
+    (writes map piece prepared moves writing sealed) may =
+    finish-follows plan now _ refl (ending-failed plan now op _ map is moves.course.asks
+    (mapped _ moves.course.operation refl) moves.course.granted
+    (subst (λ xs. HasPlain plan.whole op xs)
+    (sym (with-opened seals alone map plan.operation piece prepared.bytes moves.course.operation
+    moves.course.granted moves.next)) sealed.so_far))
+goes-failed seals plan now Answers.Device fails is op alone _ lane (settles map _ course plain _ _)
+    may = (let it = settled-open device plan.operation alone.operation course.operation is.0 in
+    finish-follows plan now _ it.1 (ending-failed plan now op _ map is course.asks it.0
+    course.granted plain))
+goes-failed seals plan now Answers.Broken fails is op alone _ lane (reads map _ _ _ moves _ _ _)
+    may = finish-follows plan now _ refl (ending-failed plan now op _ map is moves.course.asks
+    (mapped _ moves.course.operation refl) moves.course.granted moves.plain)
+goes-failed seals plan now Answers.Broken fails is op alone _ lane (writes map _ _ moves _ _) may =
+    finish-follows plan now _ refl (ending-failed plan now op _ map is moves.course.asks
+    (mapped _ moves.course.operation refl) moves.course.granted moves.plain)
+goes-failed seals plan now Answers.Broken fails is op alone _ lane (settles map _ course plain _ _)
+    may = (let it = settled-open broken plan.operation alone.operation course.operation is.0 in
+    finish-follows plan now _ it.1 (ending-failed plan now op _ map is course.asks it.0
+    course.granted plain))
+goes-failed seals plan now Answers.Device fails is op alone _ lane _ may = absurd may
+goes-failed seals plan now Answers.Broken fails is op alone _ lane _ may = absurd may
+goes-failed seals plan now _ fails is op alone _ lane _ may = absurd fails
+
+-- a flush that was settled
+flushed : (plan : Plan) (op : Op) (alone : Alone) (map : Map) (outcome : Outcome) →
+    IsUnderWay plan.shape plan.operation op alone map → plan.operation.ask ≡ Flush →
+    (answered : List Answered) (after : Alone) → answered ≡ by_settle alone.operation outcome →
+    after.operation ≡ settled_as outcome alone.operation →
+    IsAnswered plan.operation.session op (flush_reply outcome) after answered
+flushed plan op alone map outcome course flush answered after answered_is after_is =
+    let is = course.operation in
+    answered-so plan.operation [] [] op (flush_reply outcome) after answered course.asks
+    (none-yet [] op) (after_is ∙ rw (is, flush) refl) (answered_is ∙ rw (is, flush) refl)
+
+pub ends-failed : (seals : Seals) (plan : Plan) (answer : Answer) → IsFailure answer →
+    after_settle plan.operation (failing plan.operation) ≡ None →
+    Goes seals plan answer (record plan { whole = [] }) (Nexts.Reply (Errno 5) plan.whole)
+unfolding Goes
+ends-failed seals plan answer fails is op alone _ lane (reads _ _ _ _ _ reading _ _) may =
+    absurd (let flush = none-settled plan.operation.ask _ is in rw flush at reading)
+ends-failed seals plan answer fails is op alone _ lane (writes _ _ _ _ writing _) may =
+    absurd (let flush = none-settled plan.operation.ask _ is in rw flush at writing)
+ends-failed seals plan Answers.Device fails is op alone _ lane (settles map _ course _ _ _) may =
+    flushed plan op alone map device course (none-settled plan.operation.ask _ is) _ _ refl refl
+ends-failed seals plan Answers.Broken fails is op alone _ lane (settles map _ course _ _ _) may =
+    flushed plan op alone map broken course (none-settled plan.operation.ask _ is) _ _ refl refl
+ends-failed seals plan Answers.Device fails is op alone _ lane _ may = absurd may
+ends-failed seals plan Answers.Broken fails is op alone _ lane _ may = absurd may
+ends-failed seals plan _ fails is op alone _ lane _ may = absurd fails
+
+-- a settle that is done
+pub goes-settled : (seals : Seals) (plan : Plan) (now : Open) → plan.stage ≡ Settling →
+    after_settle plan.operation (settling plan.operation) ≡ Some now →
+    Goes seals plan Answers.Done (record plan { operation = now; stage = Ending })
+    (Nexts.Call Calls.Finish)
+unfolding Goes
+goes-settled seals plan now at is op alone _ lane (settles map _ course plain _ ends) may =
+    let (has, now_is) = some-settled (has_lock plan.operation.ask) now (settling plan.operation) is
+    in
+    let it = settled-open done plan.operation alone.operation course.operation has in
+    finish-follows plan now _ it.1 (rw now_is (record {
+      operation = it.0;
+      map = map;
+      granted = course.granted;
+      asks = course.asks;
+      can = record { locks = has; ends = inr (record { pieces = ends; kept = λ forced. refl }) };
+      plain = plain;
+      total = λ unfailed. whole-size course ends;
+    }))
+goes-settled seals plan now at is op alone _ lane (finishes stage ending) may = absurd (cc)
+goes-settled seals plan now at is op alone _ lane _ may = absurd may
+
+pub ends-settled : (seals : Seals) (plan : Plan) → plan.stage ≡ Settling →
+    after_settle plan.operation (settling plan.operation) ≡ None →
+    Goes seals plan Answers.Done (record plan { whole = [] }) (Nexts.Reply Done plan.whole)
+unfolding Goes
+ends-settled seals plan at is op alone _ lane (settles map _ course _ _ _) may =
+    flushed plan op alone map done course (none-settled plan.operation.ask _ is) _ _ refl refl
+ends-settled seals plan at is op alone _ lane (finishes stage ending) may = absurd (cc)
+ends-settled seals plan at is op alone _ lane _ may = absurd may
+
+-- an operation that has finished
+pub goes-finished : (seals : Seals) (plan : Plan) (whole spare : List ℕ) (reply : Reply) →
+    plan.stage ≡ Ending → ((op : Op) (alone : Alone) → IsEnding plan.operation plan.whole op alone →
+    reply ≡ (if plan.operation.failed then Errno 5
+    else full_reply plan.operation.ask alone.plain)) →
+    Goes seals plan Answers.Done (record plan { whole = whole }) (Nexts.Reply reply spare)
+unfolding Goes
+goes-finished seals plan whole spare reply at is op alone _ lane (finishes stage ending) may =
+    answered-so plan.operation alone.plain plan.whole op reply _ _ ending.asks ending.plain refl
+    (ap (λ x. by_finish x alone.plain) ending.operation ∙ (rw (is op alone ending) refl))
+goes-finished seals plan whole spare reply at is op alone _ lane (settles _ stage _ _ _ _) may =
+    absurd (cc)
+goes-finished seals plan whole spare reply at is op alone _ lane _ may = absurd may
+
+-- the reply of a read: its content lies in the buffer
+plain-read : (whole : List ℕ) (op : Op) (plain : List ℕ) (offset len : ℕ) →
+    ask_of op ≡ Read offset len → HasPlain whole op plain → take (length plain) whole ≡ plain
+plain-read whole (Ops.Read at n) plain offset len is has = has
+plain-read whole _ plain offset len is has = absurd (cc)
+
+read-ending : (plan : Plan) (op : Op) (alone : Alone) (offset len : ℕ) →
+    IsEnding plan.operation plan.whole op alone → plan.operation.failed ≡ false →
+    plan.operation.ask ≡ Read offset len →
+    (length alone.plain ≡ len) × (take (length alone.plain) plan.whole ≡ alone.plain)
+read-ending plan op alone offset len ending unfailed is = (
+  ending.total unfailed ∙ ap (λ a. bytes_of a) is,
+  plain-read plan.whole op alone.plain offset len (sym ending.asks ∙ is) ending.plain,
+)
+
+pub content-is : (plan : Plan) (op : Op) (alone : Alone) (offset len : ℕ) →
+    IsEnding plan.operation plan.whole op alone → plan.operation.failed ≡ false →
+    plan.operation.ask ≡ Read offset len → Content (take len plan.whole)
+    ≡ (if plan.operation.failed then Errno 5 else full_reply plan.operation.ask alone.plain)
+content-is plan op alone offset len ending unfailed is =
+    let (size, front) = read-ending plan op alone offset len ending unfailed is in
+    rw (unfailed, is) (ap (λ xs. Content xs) (ap (λ k. take k plan.whole) (sym size) ∙ front))
+
+pub has-content : (seals : Seals) (plan : Plan) (offset len : ℕ) → IsTold seals plan Answers.Done →
+    plan.stage ≡ Ending → plan.operation.failed ≡ false →
+    plan.operation.ask ≡ Read offset len → len ≤ length plan.whole
+unfolding IsTold
+has-content seals plan offset len (op, alone, _, settles _ stage _ _ _ _, may) at unfailed is =
+    absurd (cc)
+has-content seals plan offset len (op, alone, _, finishes stage ending, may) at unfailed is =
+    let (size, front) = read-ending plan op alone offset len ending unfailed is in
+    let long = body-long alone.plain plan.whole front in omega (arith, size, long)
+has-content seals plan offset len (op, alone, _, _, may) at unfailed is = absurd may
+
+-- that of any other
+pub done-is : (o : Open) (plain : List ℕ) → o.failed ≡ false →
+    ((offset : ℕ) × (len : ℕ) × (fua : Bool) × (o.ask ≡ Write offset len fua)) ⊎ (o.ask ≡ Flush) →
+    Done ≡ (if o.failed then Errno 5 else full_reply o.ask plain)
+done-is o plain unfailed (inl (offset, len, fua, is)) = rw (unfailed, is) refl
+done-is o plain unfailed (inr is) = rw (unfailed, is) refl
+
+-- what is done is the settle or the finish
+pub done-where : (seals : Seals) (plan : Plan) → IsTold seals plan Answers.Done →
+    (plan.stage ≡ Settling → ⊥) → (plan.stage ≡ Ending → ⊥) → ⊥
+unfolding IsTold
+done-where seals plan (op, alone, _, settles _ stage _ _ _ _, may) not_settling not_ending =
+    not_settling stage
+done-where seals plan (op, alone, _, finishes stage ending, may) not_settling not_ending =
+    not_ending stage
+done-where seals plan (op, alone, _, _, may) not_settling not_ending = may
+
+-- the finish leaves no call, so fewer than there were
+some-call : (plan : Plan) (stage : Stage) (now : Open) → plan.stage ≡ stage →
+    0 < left_at plan.shape.atom plan.operation stage →
+    calls_left (record plan { operation = now; stage = Ending }) < calls_left plan
+unfolding calls_left
+some-call plan stage now is some = rw is some
+
+pub fewer-settled : (plan : Plan) (now : Open) → plan.stage ≡ Settling →
+    calls_left (record plan { operation = now; stage = Ending }) < calls_left plan
+fewer-settled plan now is = some-call plan Settling now is (omega arith)
+
+pub fewer-failed : (seals : Seals) (plan : Plan) (now : Open) (answer : Answer) → IsFailure answer →
+    IsTold seals plan answer →
+    calls_left (record plan { operation = now; stage = Ending }) < calls_left plan
+unfolding IsTold
+fewer-failed seals plan now answer fails (op, alone, _, reads _ _ _ _ moves _ _ _, may) =
+    some-call plan _ now moves.stage (omega arith)
+fewer-failed seals plan now answer fails (op, alone, _, writes _ _ _ moves _ _, may) =
+    some-call plan _ now moves.stage (omega arith)
+fewer-failed seals plan now answer fails (op, alone, _, settles _ stage _ _ _ _, may) =
+    fewer-settled plan now stage
+fewer-failed seals plan now Answers.Device fails (op, alone, _, _, may) = absurd may
+fewer-failed seals plan now Answers.Broken fails (op, alone, _, _, may) = absurd may
+fewer-failed seals plan now _ fails (op, alone, _, _, may) = absurd fails

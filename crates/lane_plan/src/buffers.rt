@@ -1,0 +1,74 @@
+// Bytes at the front of buffers.
+
+ghost use Rattle.std.specs.Prelude.{◌≡◌, ◌+◌, ◌*◌, ◌≤◌, ◌++◌, [], length, take};
+ghost use Rattle.sector_disk.specs.Geometry.{IsAtom};
+ghost use Rattle.volume_machine.specs.Seals.{KeysFit, seals_of};
+
+use base_terms::Buffer;
+use cipher_laws::SectorCipher;
+use segment_map::Piece;
+use std::alloc::Global;
+use std::mem;
+use volume_machine::Keys;
+
+/// Takes a buffer, and leaves an empty one, which has no memory.
+pub(crate) fn taken(alloc: Global, buffer: &mut Buffer) -> Buffer
+    ensures taken { result ≡ buffer.old }
+    ensures left { buffer.new ≡ [] }
+{
+    mem::replace(buffer, Buffer::empty(alloc))
+}
+
+/// Puts bytes in place of as many of a buffer's own from `at` on.
+pub(crate) fn put(buffer: &mut Buffer, at: usize, bytes: &[u8])
+    requires { at + length bytes.now ≤ length buffer.old }
+    ensures front { take (at + length bytes.now) buffer.new ≡ take at buffer.old ++ bytes.now }
+    ensures length { length buffer.new ≡ length buffer.old }
+{
+    put_in(buffer.as_mut_slice(), at, bytes);
+}
+
+fn put_in(into: &mut [u8], at: usize, bytes: &[u8])
+    requires { at + length bytes.now ≤ length into.old }
+    ensures front { take (at + length bytes.now) into.new ≡ take at into.old ++ bytes.now }
+    ensures length { length into.new ≡ length into.old }
+{
+    into[at..at + bytes.len()].copy_from_slice(bytes);
+}
+
+/// Opens the bytes of a piece at the front of a buffer.
+pub(crate) fn unseal_front<C: SectorCipher>(
+    keys: &Keys<C>,
+    atom: u32,
+    piece: Piece,
+    buffer: &mut Buffer,
+    len: usize,
+)
+    requires known { IsAtom atom }
+    requires fits { KeysFit C.sector keys.now atom (piece.first + piece.count) }
+    requires size { len ≡ piece.count * atom }
+    requires front { len ≤ length buffer.old }
+    ensures front { take len buffer.new ≡ (seals_of C.sealed C.opened atom keys.now).opened
+        piece.side piece.first (take len buffer.old) }
+    ensures length { length buffer.new ≡ length buffer.old }
+{
+    unseal_part(keys, atom, piece, buffer.as_mut_slice(), len);
+}
+
+fn unseal_part<C: SectorCipher>(
+    keys: &Keys<C>,
+    atom: u32,
+    piece: Piece,
+    bytes: &mut [u8],
+    len: usize,
+)
+    requires known { IsAtom atom }
+    requires fits { KeysFit C.sector keys.now atom (piece.first + piece.count) }
+    requires size { len ≡ piece.count * atom }
+    requires front { len ≤ length bytes.old }
+    ensures front { take len bytes.new ≡ (seals_of C.sealed C.opened atom keys.now).opened
+        piece.side piece.first (take len bytes.old) }
+    ensures length { length bytes.new ≡ length bytes.old }
+{
+    keys.unseal(atom, piece, &mut bytes[..len]);
+}

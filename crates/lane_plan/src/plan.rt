@@ -1,0 +1,241 @@
+// The plan of an operation.
+
+ghost use Rattle.std.specs.Prelude.{◌≡◌, length};
+ghost use Rattle.lane_plan.specs.Calls.{ask_of};
+ghost use Rattle.lane_plan.specs.Plans.{bytes_of};
+
+mod ends;
+mod pieces;
+
+use crate::{Answer, Call, Next};
+use base_terms::{Buffer, Bytes};
+use block_range::BlockRange;
+use cipher_laws::SectorCipher;
+use plain_disk::{Op, Reply};
+use segment_map::{Map, Piece};
+use std::alloc::{AllocError, Global};
+use volume_machine::{Ask, Keys, Open};
+
+/// The bytes of the longest piece: 1 MiB.
+const MOST_BYTES: usize = 1_048_576;
+
+/// What of a volume never changes: the bytes of a block, and how many blocks there are.
+#[derive(Clone, Copy, Debug, PartialEq, Eq)]
+pub struct Shape {
+    pub atom: u32,
+    pub blocks: u64,
+}
+
+/// Which call's answer a plan awaits.
+#[derive(Clone, Copy, Debug)]
+enum Stage {
+    /// Its admit's, which will be refused.
+    Refusing,
+    /// Its admit's.
+    Beginning,
+    /// That of another ask.
+    Waiting,
+    /// That of this piece's read or write, under the map that it was granted.
+    Moving { map: Map, piece: Piece },
+    /// Its settle's.
+    Settling,
+    /// Its finish's.
+    Ending,
+}
+
+/// The plan of one operation of a session.
+#[derive(Debug, Drop)]
+pub struct Plan {
+    alloc: Global,
+    shape: Shape,
+    stage: Stage,
+    // as the volume has it, from its grant on
+    operation: Open,
+    // the content or the body, but while an only piece is being made
+    whole: Buffer,
+    // for pieces that aren't all of the operation
+    part: Buffer,
+}
+
+impl Plan {
+    ghost use Rattle.std.specs.Prelude.{◌≡◌, ◌≢◌, ◌*◌, ◌⊎◌, Bool, ℕ, List, length, take, None};
+    ghost use Rattle.std.specs.Prelude.{IfOk, OnErr};
+    ghost use Rattle.plain_disk.specs.declared.operation.Op.TheVariants as Ops;
+    ghost use Rattle.volume_machine.specs.Alone.{Alone};
+    ghost use Rattle.volume_machine.specs.Asks.{wrong_ask};
+    ghost use Rattle.volume_machine.specs.Seals.{KeysFit, Seals, seals_of};
+    ghost use Rattle.lane_plan.specs.Calls.{ask_of};
+    ghost use Rattle.lane_plan.specs.Plans.{Awaits, Goes, HasBegun, IsFewer, IsShape, IsTold};
+    ghost use Rattle.lane_plan.specs.Plans.{IsWaiting, WillBeRefused, first_call, part_in};
+    ghost use Rattle.lane_plan.specs.Plans.{session_of};
+    ghost use Rattle.lane_plan.specs.Plans.{shape_of};
+    ghost use Rattle.lane_plan.specs.declared.calls.Call.TheVariants as Calls;
+
+    /// The plan of an operation on a volume of this shape, with all the memory that it needs. A
+    /// read's content comes in the spare buffer, made long enough; an operation of more than a
+    /// block has a buffer of at most 1 MiB besides, for pieces that aren't all of it. A wrong
+    /// operation has none, and neither has a flush.
+    pub fn new(
+        alloc: Global,
+        session: u64,
+        op: Op,
+        spare: Bytes,
+        part: Buffer,
+        shape: Shape,
+    ) -> Result<Plan, AllocError>
+        requires { IsShape shape }
+        ensures awaits { IfOk result (λ plan. (seals : Seals) (alone : Alone) →
+            alone.operation ≡ None → Awaits seals plan op alone (Calls.Admit session (ask_of op))) }
+        ensures first { IfOk result (λ plan. first_call plan ≡ Calls.Admit session (ask_of op)) }
+        ensures refuses { IfOk result (λ plan. WillBeRefused plan →
+            wrong_ask shape.atom (shape.blocks * shape.atom) (ask_of op) ≢ None) }
+        ensures shape { IfOk result (λ plan. shape_of plan ≡ shape) }
+        ensures session { IfOk result (λ plan. session_of plan ≡ session) }
+        ensures memory { OnErr result
+            (wrong_ask shape.atom (shape.blocks * shape.atom) (ask_of op) ≡ None) }
+    {
+        let ask = ask_of(&op);
+        let Shape { atom, blocks } = shape;
+        if ask.wrong(atom, blocks * u64::from(atom)).is_some() {
+            return Ok(Plan::refused(alloc, session, op, spare, part, shape));
+        }
+        let mut plan = Plan::of(alloc, session, op, spare, part, shape, Stage::Beginning);
+        let len = len_of(ask);
+        plan.whole.grow(len)?;
+        plan.part
+            .grow(len.saturating_sub(atom as usize).min(MOST_BYTES))?;
+        Ok(plan)
+    }
+
+    /// The plan of an operation that will be refused: it is wrong, or the volume is known to be
+    /// broken. It takes no memory.
+    pub fn refused(
+        alloc: Global,
+        session: u64,
+        op: Op,
+        spare: Bytes,
+        part: Buffer,
+        shape: Shape,
+    ) -> Plan
+        ensures awaits { (seals : Seals) (alone : Alone) → alone.operation ≡ None →
+            Awaits seals result op alone (Calls.Admit session (ask_of op)) }
+        ensures first { first_call result ≡ Calls.Admit session (ask_of op) }
+        ensures shape { shape_of result ≡ shape }
+        ensures session { session_of result ≡ session }
+    {
+        Plan::of(alloc, session, op, spare, part, shape, Stage::Refusing)
+    }
+
+    /// A plan at its first stage.
+    fn of(
+        alloc: Global,
+        session: u64,
+        op: Op,
+        spare: Bytes,
+        part: Buffer,
+        shape: Shape,
+        stage: Stage,
+    ) -> Plan
+        ensures asks { result.operation.ask ≡ ask_of op }
+        ensures session { result.operation.session ≡ session }
+        ensures shape { result.shape ≡ shape }
+        ensures stage { result.stage ≡ stage }
+        ensures body { (offset : ℕ) (body : List ℕ) (fua : Bool) → op ≡ Ops.Write offset body fua →
+            take (length body) result.whole ≡ body }
+    {
+        let ask = ask_of(&op);
+        let whole = match op {
+            Op::Write { body, .. } => body.into_buffer(),
+            Op::Read { .. } | Op::Flush => spare.into_buffer(),
+        };
+        Plan {
+            alloc,
+            shape,
+            stage,
+            operation: Open::new(session, ask, BlockRange { start: 0, end: 0 }),
+            whole,
+            part,
+        }
+    }
+
+    /// Its first call: the admit.
+    pub fn first(&self) -> Call
+        ensures { result ≡ first_call self.now }
+    {
+        Call::Admit {
+            session: self.operation.session,
+            ask: self.operation.ask,
+        }
+    }
+
+    /// What comes next, once the last call was answered so. The keys are the volume's.
+    pub fn told<C: SectorCipher>(&mut self, keys: &Keys<C>, answer: Answer) -> Next
+        requires fits { KeysFit C.sector keys.now
+            (shape_of self.old).atom (shape_of self.old).blocks }
+        requires told { IsTold (seals_of C.sealed C.opened (shape_of self.old).atom keys.now)
+            self.old answer }
+        ensures goes { Goes (seals_of C.sealed C.opened (shape_of self.old).atom keys.now)
+            self.old answer self.new result }
+        ensures begun { HasBegun result }
+        ensures fewer { IsWaiting answer ⊎ IsFewer self.old self.new result }
+        ensures shape { shape_of self.new ≡ shape_of self.old }
+        ensures session { session_of self.new ≡ session_of self.old }
+    {
+        match answer {
+            Answer::Held(grant) => {
+                self.operation = Open::new(self.operation.session, self.operation.ask, grant.range);
+                Next::Call(self.go_on(keys, grant.map))
+            }
+            Answer::Waiting(_) => {
+                self.stage = Stage::Waiting;
+                Next::Call(Call::Ask)
+            }
+            Answer::Refused(number) => self.reply(Reply::Errno(number)),
+            Answer::Got(buffer, len) => Next::Call(self.got(keys, buffer, len)),
+            Answer::Written(buffer) => Next::Call(self.written(keys, buffer)),
+            Answer::Done => match self.stage {
+                Stage::Settling => self.settled(),
+                Stage::Ending => self.finished(),
+                _ => unreachable!(),
+            },
+            Answer::Device | Answer::Broken => self.failed(),
+        }
+    }
+
+    /// The buffer for pieces, for the plan of another operation.
+    pub fn into_part(self) -> Buffer
+        ensures { result ≡ part_in self }
+    {
+        let Plan { part, .. } = self;
+        part
+    }
+}
+
+/// What an operation asks for.
+fn ask_of(op: &Op) -> Ask
+    ensures { result ≡ ask_of op.now }
+{
+    match op {
+        Op::Read { offset, length } => Ask::Read {
+            offset: *offset,
+            length: *length,
+        },
+        Op::Write { offset, body, fua } => Ask::Write {
+            offset: *offset,
+            length: body.len() as u64,
+            fua: *fua,
+        },
+        Op::Flush => Ask::Flush,
+    }
+}
+
+/// How many bytes an operation reads or writes.
+fn len_of(ask: Ask) -> usize
+    ensures { result ≡ bytes_of ask }
+{
+    match ask {
+        Ask::Read { length, .. } => length as usize,
+        Ask::Write { length, .. } => length as usize,
+        Ask::Flush => 0,
+    }
+}
