@@ -11,6 +11,7 @@ use Rattle.volume_machine.specs.Answers.{Answered}
 use Rattle.volume_machine.specs.Asks.{range_of, wrong_ask}
 use Rattle.volume_machine.specs.Seals.{Seals}
 use Rattle.volume_machine.specs.States.{begun}
+use Rattle.volume_machine.specs.Steps.{CanRead, CanWrite}
 use Rattle.volume_machine.specs.declared.ask.Ask.{Ask}
 use Rattle.volume_machine.specs.declared.grant.Grant.{Grant}
 use Rattle.volume_machine.specs.declared.open.Open.{Open}
@@ -39,38 +40,26 @@ awaits-meets seals plan op alone _ (begins stage supplied none) lane = none
 awaits-meets seals plan op alone _ (asks stage supplied is ungranted none has) lane = (_, is, has)
 awaits-meets seals plan op alone _ (reads map piece buffer len moves reading size within) lane =
     let course = moves.course in
-    let same = course.atom in (
-      plan.operation,
-      course.operation,
-      (
-        map,
-        course.granted,
-        record {
-          reads = reading;
-          has = record { some = some-left plan.operation moves.next; goes_on = course.unfailed };
-          piece = piece;
-          next = moves.next;
-          size = rw same size;
-        },
-      ),
-    )
+    let same = course.atom in
+    let can : CanRead map len plan.operation = record {
+      reads = reading;
+      has = record { some = some-left plan.operation moves.next; goes_on = course.unfailed };
+      piece = piece;
+      next = moves.next;
+      size = rw same size;
+    } in
+    (plan.operation, course.operation, (map, course.granted, can))
 awaits-meets seals plan op alone _ (writes map piece prepared moves writing is_sealed) lane =
     let course = moves.course in
-    let same = course.atom in (
-      plan.operation,
-      course.operation,
-      (
-        map,
-        course.granted,
-        record {
-          writes = writing;
-          has = record { some = some-left plan.operation moves.next; goes_on = course.unfailed };
-          piece = piece;
-          next = moves.next;
-          are = record { size = rw same is_sealed.size; are_bytes = is_sealed.are_bytes };
-        },
-      ),
-    )
+    let same = course.atom in
+    let can : CanWrite map prepared.bytes plan.operation = record {
+      writes = writing;
+      has = record { some = some-left plan.operation moves.next; goes_on = course.unfailed };
+      piece = piece;
+      next = moves.next;
+      are = record { size = rw same is_sealed.size; are_bytes = is_sealed.are_bytes };
+    } in
+    (plan.operation, course.operation, (map, course.granted, can))
 awaits-meets seals plan op alone _ (settles map stage course plain can ends) lane =
     (plan.operation, course.operation, can)
 awaits-meets seals plan op alone _ (finishes stage ending) lane =

@@ -95,7 +95,8 @@ last-finishes {plan} {map} back free ends = finishes refl (record {
 })
 
 -- a piece is all of the operation, or a part
-pub only-or-part : {shape : Shape} {o : Open} {op : Op} {alone : Alone} {map : Map} {piece : Piece} →
+pub only-or-part : {shape : Shape} {o : Open} {op : Op} {alone : Alone} {map : Map} {piece : Piece}
+    →
     IsUnderWay shape o op alone map → IsPieceOf map o piece → IsOnly o piece ⊎ IsPart o piece
 only-or-part {o} {piece} course next =
     let within = next.within in
@@ -116,7 +117,8 @@ none-before {shape} {o} {alone} course next only =
     nil_from_length alone.plain (course.size ∙ ap (λ k. (k - o.range.start) * shape.atom) e
     ∙ sym (size-none o.range.start shape.atom))
 
-pub some-left : (o : Open) {map : Map} {piece : Piece} → IsPieceOf map o piece → o.next < o.range.end
+pub some-left : (o : Open) {map : Map} {piece : Piece} → IsPieceOf map o piece
+    → o.next < o.range.end
 some-left o next = (let some = next.some in let within = next.within in
     omega (arith, some, within))
 

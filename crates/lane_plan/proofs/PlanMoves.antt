@@ -45,7 +45,8 @@ pub told-got : (seals : Seals) (plan : Plan) (buffer : List ℕ) (len : ℕ) →
     IsTold seals plan (Answers.Got buffer len) →
     (map : Map) × (piece : Piece) × AwaitsRead plan map piece (length buffer) len
 unfolding IsTold
-told-got seals plan buffer len (op, alone, _, reads map piece lent n moves reading size within, may) =
+told-got seals plan buffer len
+    (op, alone, _, reads map piece lent n moves reading size within, may) =
     let same = may.1 in
     let is = may.0 in (
       map,
@@ -241,10 +242,12 @@ back-got seals old now map piece o buffer unsealed len stage front long only par
     ] in (
       refl,
       back-moved old now op alone _ map piece _ o more moves same is
-          (mapped _ course.operation (passed-moved map old.operation piece old.shape.atom sealed next
+          (mapped _ course.operation
+          (passed-moved map old.operation piece old.shape.atom sealed next
           (some-atom old.shape.atom course.known.known) (length-take-le len buffer fits ∙ size)))
           course.granted
-          (with-opened seals alone map old.operation piece sealed course.operation course.granted next)
+          (with-opened seals alone map old.operation piece sealed course.operation course.granted
+          next)
           (more_size ∙ size) has (λ other. (
             read-rest op old.whole now.whole reading_op (part other).whole (moves.rest other),
             ap (λ xs. length xs) (part other).part ∙ long ∙ as_long,
@@ -265,13 +268,16 @@ back-put seals old now map piece o buffer stage back same is op alone _ lane
     let course = moves.course in
     let piece_is = (same-piece old moved_here.stage stage).1 in
     let sealed = rw piece_is at sealed_here in
-    let writing_op = subst (λ a. Rattle.volume_machine.specs.Asks.IsWrite a) course.asks writing in (
+    let writing_op =
+    subst (λ a. Rattle.volume_machine.specs.Asks.IsWrite a) course.asks writing in (
       refl,
       back-moved old now op alone _ map piece _ o
           (seals.opened piece.side piece.first prepared.bytes) moves same is
-          (mapped _ course.operation (passed-moved map old.operation piece old.shape.atom prepared.bytes
+          (mapped _ course.operation
+          (passed-moved map old.operation piece old.shape.atom prepared.bytes
           moves.next (some-atom old.shape.atom course.known.known) sealed.size)) course.granted
-          (with-opened seals alone map old.operation piece prepared.bytes course.operation course.granted
+          (with-opened seals alone map old.operation piece prepared.bytes course.operation
+          course.granted
           moves.next) sealed.opened_size (of-body old.whole now.whole op _ writing_op sealed.so_far)
           (λ other. (let whole = (back other).0 in
           (rw whole (moves.rest other), ap (λ xs. length xs) (back other).1 ∙ may))),

@@ -213,8 +213,8 @@ pub record IsAnswered (session : ℕ) (op : Op) (reply : Reply) (alone : Alone)
   pub tried : ℕ
   pub exchange : IsExchange one (record { op = op; reply = reply; tried = tried })
 
--- What comes next on a lane that stands so, where the last call has answered these operations: a call
--- that meets its conditions, or the reply.
+-- What comes next on a lane that stands so, where the last call has answered these operations: a
+-- call that meets its conditions, or the reply.
 abbrev pub Follows : Seals → Plan → Op → Alone → List Answered → Next → Type 0
 Follows seals plan op alone answered (Nexts.Call call) =
     (answered ≡ []) × ((lane : ℕ) → MeetsAlone alone (event_of lane call))

@@ -30,7 +30,8 @@ take_in-requires-clause-order g c = (safe g.C.SectorCipher.sector c.args.keys.no
     (got-here _ _ _ _ c.requires.told c.in-Moving.is).awaits).order
 
 pub take_in-requires-clause-front : goal.take_in-requires-clause-front
-take_in-requires-clause-front g c = (let within = (got-here _ _ _ _ c.requires.told c.in-Moving.is).within
+take_in-requires-clause-front g c =
+    (let within = (got-here _ _ _ _ c.requires.told c.in-Moving.is).within
     in let same = c.unseal_front.ensures.length in omega (arith, within, same))
 
 pub take_in-requires-clause-part : goal.take_in-requires-clause-part
@@ -42,8 +43,7 @@ moved-self-requires g c = (let few = (safe g.C.SectorCipher.sector c.args.keys.n
 
 pub go_on-requires-clause-back : goal.go_on-requires-clause-back
 go_on-requires-clause-back g c =
-    told-by (seals_of g.C.SectorCipher.sealed g.C.SectorCipher.opened c.args.self.now.shape.atom
-    c.args.keys.now) c.args.self.now _ _ c.in-Moving.map
+    told-by _ c.args.self.now _ _ c.in-Moving.map
     (back-got _ c.args.self.now c.take_in.new.self c.in-Moving.map c.in-Moving.piece
     c.moved-self.result c.args.buffer c.unseal_front.new.buffer c.args.len c.in-Moving.is
     c.unseal_front.ensures.front c.unseal_front.ensures.length c.take_in.ensures.only
@@ -51,8 +51,7 @@ go_on-requires-clause-back g c =
 
 pub returns-clause-goes : goal.returns-clause-goes
 returns-clause-goes g c =
-    goes-by (seals_of g.C.SectorCipher.sealed g.C.SectorCipher.opened c.args.self.now.shape.atom
-    c.args.keys.now) c.args.self.now _ c.go_on.new.self _ c.in-Moving.map c.go_on.result
+    goes-by _ c.args.self.now _ c.go_on.new.self _ c.in-Moving.map c.go_on.result
     (back-got _ c.args.self.now c.take_in.new.self c.in-Moving.map c.in-Moving.piece
     c.moved-self.result c.args.buffer c.unseal_front.new.buffer c.args.len c.in-Moving.is
     c.unseal_front.ensures.front c.unseal_front.ensures.length c.take_in.ensures.only

@@ -21,16 +21,14 @@ moved-self-requires g c = (let few = (safe g.C.SectorCipher.sector c.args.keys.n
 
 pub go_on-requires-clause-back : goal.go_on-requires-clause-back
 go_on-requires-clause-back g c =
-    told-by (seals_of g.C.SectorCipher.sealed g.C.SectorCipher.opened c.args.self.now.shape.atom
-    c.args.keys.now) c.args.self.now _ _ c.in-Moving.map
+    told-by _ c.args.self.now _ _ c.in-Moving.map
     (back-put _ c.args.self.now c.put_back.new.self c.in-Moving.map c.in-Moving.piece
     c.moved-self.result c.args.buffer c.in-Moving.is c.put_back.ensures.part
     c.put_back.ensures.same c.moved-self.ensures) c.requires.told
 
 pub returns-clause-goes : goal.returns-clause-goes
 returns-clause-goes g c =
-    goes-by (seals_of g.C.SectorCipher.sealed g.C.SectorCipher.opened c.args.self.now.shape.atom
-    c.args.keys.now) c.args.self.now _ c.go_on.new.self _ c.in-Moving.map c.go_on.result
+    goes-by _ c.args.self.now _ c.go_on.new.self _ c.in-Moving.map c.go_on.result
     (back-put _ c.args.self.now c.put_back.new.self c.in-Moving.map c.in-Moving.piece
     c.moved-self.result c.args.buffer c.in-Moving.is c.put_back.ensures.part
     c.put_back.ensures.same c.moved-self.ensures) (λ op alone back.
