@@ -19,8 +19,6 @@ mod laws;
 mod listed;
 mod object;
 mod optional;
-#[cfg(test)]
-mod tests;
 mod text;
 mod writing;
 

@@ -10,19 +10,13 @@
 
 mod config;
 mod digest;
-#[cfg(test)]
-mod fault_tests;
 mod keyslot;
 mod laws;
 mod luks2;
 mod meta;
 mod names;
 mod reencrypt;
-#[cfg(test)]
-mod samples;
 mod segment;
-#[cfg(test)]
-mod tests;
 mod token;
 
 pub use config::{Config, PROFILE, Requirements};

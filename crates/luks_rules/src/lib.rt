@@ -27,8 +27,6 @@ mod room;
 mod rules;
 mod segments;
 mod shape;
-#[cfg(test)]
-mod tests;
 mod unserved;
 mod valid;
 
