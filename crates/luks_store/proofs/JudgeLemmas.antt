@@ -9,7 +9,9 @@ use Rattle.luks_store.specs.Loads.{judged}
 use Rattle.luks_store.specs.declared.copies.Copies.{Copies}
 
 pub judged-ok : (sizes : Sizes) (copies : Copies) (meta : Parts)
-    → meta_from copies.used.header.hdr_size (text_of copies.used.bytes) ≡ Ok meta → first_fault meta sizes ≡ None
-    → judged sizes copies ≡ Ok (record { copies = copies; valid = record { meta = meta; sizes = sizes } })
+    → meta_from copies.used.header.hdr_size (text_of copies.used.bytes) ≡ Ok meta
+    → first_fault meta sizes ≡ None
+    → judged sizes copies
+    ≡ Ok (record { copies = copies; valid = record { meta = meta; sizes = sizes } })
 unfolding judged
 judged-ok sizes copies meta read valid = rw (read, valid) refl

@@ -1,5 +1,6 @@
 -- Lemmas on the text of a value: it has no NUL, since control characters are escaped.
-use Rattle.std.proofs.Common.{◌≡◌, ℕ, zero, suc, ◌+◌, ◌/◌, ◌%◌, ◌<◌, ◌==◌, ◌||◌, nat_lt, List, [], ◌∷◌, ◌++◌, Bool, true, false, cond, refl, ◌∙◌, ap, arith}
+use Rattle.std.proofs.Common.{◌≡◌, ℕ, zero, suc, ◌+◌, ◌/◌, ◌%◌, ◌<◌, ◌==◌, ◌||◌, nat_lt, List, []}
+use Rattle.std.proofs.Common.{◌∷◌, ◌++◌, Bool, true, false, cond, refl, ◌∙◌, ap, arith}
 use Rattle.std.specs.Prelude.{pos, negsuc}
 use Rattle.std.specs.Char.{digit_char}
 use Rattle.std.specs.Fmt.{digit_glyph, digits, digits_onto, decimal}
@@ -7,7 +8,9 @@ use Rattle.std.specs.List.{list_any}
 use Rattle.std.proofs.lemmas.Bool.{ltb-true, ltb-false, ne_eqb}
 use Rattle.std.proofs.lemmas.List.Folds.{list_any-append}
 use Rattle.json.specs.Print.{escape, escape_byte, escape_letter, quoted}
-use Rattle.serde_json.specs.Data.{Num, unsigned, negative, float, Data, null, boolean, number, string, array, object, Items, no_items, item, Members, no_members, member}
+use Rattle.serde_json.specs.Data.{Num, unsigned, negative, float, Data, null, boolean, number}
+use Rattle.serde_json.specs.Data.{string, array, object, Items, no_items, item, Members, no_members}
+use Rattle.serde_json.specs.Data.{member}
 use Rattle.serde_json.specs.Written.{number_text, comma_if, compact_text, items_text, members_text}
 
 abbrev pub has_nul : List ℕ → Bool
@@ -18,12 +21,14 @@ none true b p q = p
 none false b p q = q
 
 joined : (xs ys : List ℕ) → has_nul xs ≡ false → has_nul ys ≡ false → has_nul (xs ++ ys) ≡ false
-joined xs ys one two = list_any-append (λ byte. byte == 0) xs ys ∙ none (has_nul xs) (has_nul ys) one two
+joined xs ys one two =
+    list_any-append (λ byte. byte == 0) xs ys ∙ none (has_nul xs) (has_nul ys) one two
 
 led : (x : ℕ) (xs : List ℕ) → 0 < x → has_nul xs ≡ false → has_nul (x ∷ xs) ≡ false
 led x xs some rest = none (x == 0) (has_nul xs) (ne_eqb x 0 (λ is. omega (arith, is, some))) rest
 
-either : (b : Bool) (xs ys : List ℕ) → has_nul xs ≡ false → has_nul ys ≡ false → has_nul (cond b xs ys) ≡ false
+either : (b : Bool) (xs ys : List ℕ) → has_nul xs ≡ false → has_nul ys ≡ false
+    → has_nul (cond b xs ys) ≡ false
 either true xs ys one two = one
 either false xs ys one two = two
 
@@ -35,11 +40,13 @@ glyph-by false d = omega arith
 glyph : (d : ℕ) → 0 < digit_glyph false d
 glyph d = glyph-by (nat_lt d 10) d
 
-onto : (k base n : ℕ) (acc : List ℕ) → has_nul acc ≡ false → has_nul (digits_onto k base false n acc) ≡ false
+onto : (k base n : ℕ) (acc : List ℕ) → has_nul acc ≡ false
+    → has_nul (digits_onto k base false n acc) ≡ false
 onto zero base n acc plain = plain
 onto (suc k) base n acc plain =
     let more = led (digit_glyph false (n % base)) acc (glyph (n % base)) plain in
-    either (n / base == 0) _ _ more (onto k base (n / base) (digit_glyph false (n % base) ∷ acc) more)
+    either (n / base == 0) _ _ more
+    (onto k base (n / base) (digit_glyph false (n % base) ∷ acc) more)
 
 decimal-plain : (n : ℕ) → has_nul (decimal n) ≡ false
 unfolding digits
@@ -56,11 +63,15 @@ letter : (d : ℕ) → 0 < digit_char d
 letter d = glyph-by (nat_lt d 10) d
 
 byte-by : (x : ℕ) (a b : Bool) → nat_lt 0 (escape_letter x) ≡ a → nat_lt x 32 ≡ b
-    → has_nul (cond a (92 ∷ escape_letter x ∷ []) (cond b (92 ∷ 117 ∷ 48 ∷ 48 ∷ digit_char (x / 16) ∷ digit_char (x % 16) ∷ []) (x ∷ []))) ≡ false
+    → has_nul
+    (cond a (92 ∷ escape_letter x ∷ [])
+    (cond b (92 ∷ 117 ∷ 48 ∷ 48 ∷ digit_char (x / 16) ∷ digit_char (x % 16) ∷ []) (x ∷ []))) ≡ false
 byte-by x true b short low = led (escape_letter x) [] (ltb-true 0 (escape_letter x) short) refl
 byte-by x false true short low =
-    led (digit_char (x / 16)) (digit_char (x % 16) ∷ []) (letter (x / 16)) (led (digit_char (x % 16)) [] (letter (x % 16)) refl)
-byte-by x false false short low = led x [] (let most = ltb-false x 32 low in omega (arith, most)) refl
+    led (digit_char (x / 16)) (digit_char (x % 16) ∷ []) (letter (x / 16))
+    (led (digit_char (x % 16)) [] (letter (x % 16)) refl)
+byte-by x false false short low =
+    led x [] (let most = ltb-false x 32 low in omega (arith, most)) refl
 
 byte : (x : ℕ) → has_nul (escape_byte x) ≡ false
 unfolding escape_byte
@@ -90,12 +101,15 @@ mutual
 
   items-plain : (later : Bool) (ds : Items) → has_nul (items_text later ds) ≡ false
   items-plain later no_items = refl
-  items-plain later (item d ds) = joined (comma_if later) _ (comma-plain later) (joined (compact_text d) _ (text-plain d) (items-plain true ds))
+  items-plain later (item d ds) =
+      joined (comma_if later) _ (comma-plain later)
+      (joined (compact_text d) _ (text-plain d) (items-plain true ds))
 
   members-plain : (later : Bool) (ms : Members) → has_nul (members_text later ms) ≡ false
   members-plain later no_members = refl
   members-plain later (member k d ms) = joined (comma_if later) _ (comma-plain later)
-      (joined (quoted k) _ (string-plain k) (joined (compact_text d) _ (text-plain d) (members-plain true ms)))
+      (joined (quoted k) _ (string-plain k)
+      (joined (compact_text d) _ (text-plain d) (members-plain true ms)))
 
 -- so has a text that is written
 pub plain-text : (d : Data) (text : List ℕ) → text ≡ compact_text d → has_nul text ≡ true → ⊥

@@ -1,5 +1,6 @@
 -- Lemmas on the repair of a header that was loaded.
-use Rattle.std.proofs.Common.{ap, ◌≡◌, ◌≢◌, ◌⊎◌, inl, inr, ℕ, length, Ok, refl, sym, ◌∙◌, subst, arith, ◌*◌, ◌/◌, ◌≤◌, max}
+use Rattle.std.proofs.Common.{ap, ◌≡◌, ◌≢◌, ◌⊎◌, inl, inr, ℕ, length, Ok, refl, sym, ◌∙◌, subst}
+use Rattle.std.proofs.Common.{arith, ◌*◌, ◌/◌, ◌≤◌, max}
 use Rattle.std.proofs.lemmas.List.{take_all}
 use Rattle.disk_areas.specs.Headers.{IsHeader}
 use Rattle.luks_bin.specs.Copies.{copy_of, IsCopy}
@@ -28,29 +29,38 @@ used-read spelt copies are =
     (spelt copies.used.header.hdr_offset copies.used.bytes copies.used.header).1 (record {
       there = omega (arith, size);
       here = refl;
-      copy = subst (λ bytes. IsCopy bytes copies.used.header) (sym (take_all copies.used.header.hdr_size copies.used.bytes (omega (arith, size)))) are.whole;
+      copy = subst (λ bytes. IsCopy bytes copies.used.header)
+          (sym (take_all copies.used.header.hdr_size copies.used.bytes (omega (arith, size))))
+          are.whole;
     })
 
 -- where the primary isn't good the secondary is used
-pub used-behind : (copies : Copies) → AreCopies copies → copies.primary.state ≢ Good → copies.used.header.hdr_offset ≡ copies.used.header.hdr_size
+pub used-behind : (copies : Copies) → AreCopies copies → copies.primary.state ≢ Good
+    → copies.used.header.hdr_offset ≡ copies.used.header.hdr_size
 used-behind copies are bad = elim are.stands [
   | inl (good, here) ↦ absurd (bad good)
   | inr (worse, good, here) ↦ here
 ]
 
-pub used-front : (copies : Copies) → AreCopies copies → copies.primary.state ≡ Good → copies.used.header.hdr_offset ≡ 0
+pub used-front : (copies : Copies) → AreCopies copies → copies.primary.state ≡ Good
+    → copies.used.header.hdr_offset ≡ 0
 used-front copies are good = elim are.stands [
   | inl (same, here) ↦ here
   | inr (worse, other, here) ↦ absurd (worse good)
 ]
 
 -- ---- the primary is written anew
-pub first-repaired : Spelt → (copies : Copies) (repair : Repair) → AreCopies copies → copies.primary.state ≢ Good
-    → repair_stage_in repair ≡ Broken → place_in repair ≡ 0 → length (copy_in repair) ≡ length copies.used.bytes
+pub first-repaired : Spelt → (copies : Copies) (repair : Repair) → AreCopies copies
+    → copies.primary.state ≢ Good
+    → repair_stage_in repair ≡ Broken → place_in repair ≡ 0
+    → length (copy_in repair) ≡ length copies.used.bytes
     → Agree (copy_in repair) copies.used.bytes
-    → ((from : ℕ) (h : BinHeader) → copy_of from copies.used.bytes ≡ Ok h → length copies.used.bytes ≡ h.hdr_size
-    → (◌≡◌ {A = ℕ} 0 0) ⊎ (0 ≡ h.hdr_size) → copy_of 0 (copy_in repair) ≡ Ok (record h { hdr_offset = 0; salt = copies.primary.salt }))
-    → ((h : BinHeader) → copy_of h.hdr_size copies.used.bytes ≡ Ok h → length copies.used.bytes ≡ h.hdr_size → ◌≡◌ {A = ℕ} 0 0
+    → ((from : ℕ) (h : BinHeader) → copy_of from copies.used.bytes ≡ Ok h
+    → length copies.used.bytes ≡ h.hdr_size
+    → (◌≡◌ {A = ℕ} 0 0) ⊎ (0 ≡ h.hdr_size)
+    → copy_of 0 (copy_in repair) ≡ Ok (record h { hdr_offset = 0; salt = copies.primary.salt }))
+    → ((h : BinHeader) → copy_of h.hdr_size copies.used.bytes ≡ Ok h
+    → length copies.used.bytes ≡ h.hdr_size → ◌≡◌ {A = ℕ} 0 0
     → IsHeader header_reader (header_of (copy_in repair) copies.used.bytes))
     → Repairs copies repair
 first-repaired spelt copies repair are bad begun at size shared valid whole =
@@ -63,21 +73,26 @@ first-repaired spelt copies repair are bad begun at size shared valid whole =
         size = size ∙ long;
         shared = shared;
         whole = whole copies.used.header
-            (subst (λ n. copy_of n copies.used.bytes ≡ Ok copies.used.header) (used-behind copies are bad) read) long refl;
+            (subst (λ n. copy_of n copies.used.bytes ≡ Ok copies.used.header)
+            (used-behind copies are bad) read) long refl;
       },
       λ good. absurd (bad good),
     )
 
 -- ---- the secondary is written anew
-pub second-repaired : Spelt → (copies : Copies) (repair : Repair) → AreCopies copies → copies.primary.state ≡ Good
-    → copies.secondary.state ≢ Good → repair_stage_in repair ≡ Broken → place_in repair ≡ copies.used.header.hdr_size
+pub second-repaired : Spelt → (copies : Copies) (repair : Repair) → AreCopies copies
+    → copies.primary.state ≡ Good
+    → copies.secondary.state ≢ Good → repair_stage_in repair ≡ Broken
+    → place_in repair ≡ copies.used.header.hdr_size
     → length (copy_in repair) ≡ length copies.used.bytes → Agree (copy_in repair) copies.used.bytes
-    → ((from : ℕ) (h : BinHeader) → copy_of from copies.used.bytes ≡ Ok h → length copies.used.bytes ≡ h.hdr_size
+    → ((from : ℕ) (h : BinHeader) → copy_of from copies.used.bytes ≡ Ok h
+    → length copies.used.bytes ≡ h.hdr_size
     → (copies.used.header.hdr_size ≡ 0) ⊎ (copies.used.header.hdr_size ≡ h.hdr_size)
     → copy_of copies.used.header.hdr_size (copy_in repair)
     ≡ Ok (record h { hdr_offset = copies.used.header.hdr_size; salt = copies.secondary.salt }))
     → ((h : BinHeader) → copy_of 0 copies.used.bytes ≡ Ok h → length copies.used.bytes ≡ h.hdr_size
-    → copies.used.header.hdr_size ≡ h.hdr_size → IsHeader header_reader (header_of copies.used.bytes (copy_in repair)))
+    → copies.used.header.hdr_size ≡ h.hdr_size
+    → IsHeader header_reader (header_of copies.used.bytes (copy_in repair)))
     → Repairs copies repair
 second-repaired spelt copies repair are good bad begun at size shared valid whole =
     let read = used-read spelt copies are in
@@ -92,7 +107,8 @@ second-repaired spelt copies repair are good bad begun at size shared valid whol
           size = size ∙ long;
           shared = shared;
           whole = whole copies.used.header
-              (subst (λ n. copy_of n copies.used.bytes ≡ Ok copies.used.header) (used-front copies are good) read) long refl;
+              (subst (λ n. copy_of n copies.used.bytes ≡ Ok copies.used.header)
+              (used-front copies are good) read) long refl;
         },
       ),
     )
@@ -100,7 +116,8 @@ second-repaired spelt copies repair are good bad begun at size shared valid whol
 -- ---- it lies on the disk
 pub first-fits : (sizes : Sizes) (copies : Copies) (repair : Repair) → AreCopies copies
     → 2 * copies.used.header.hdr_size ≤ max (header_bytes sizes) (main_bytes sizes)
-    → place_in repair ≡ 0 → length (copy_in repair) ≡ length copies.used.bytes → FitsDisks sizes repair
+    → place_in repair ≡ 0 → length (copy_in repair) ≡ length copies.used.bytes
+    → FitsDisks sizes repair
 first-fits sizes copies repair are room at size device has known =
     let n = copies.used.header.hdr_size in
     let long = size ∙ are.whole.whole in
@@ -115,10 +132,12 @@ first-fits sizes copies repair are room at size device has known =
 
 pub second-fits : (sizes : Sizes) (copies : Copies) (repair : Repair) → AreCopies copies
     → 2 * copies.used.header.hdr_size ≤ max (header_bytes sizes) (main_bytes sizes)
-    → place_in repair ≡ copies.used.header.hdr_size → length (copy_in repair) ≡ length copies.used.bytes → FitsDisks sizes repair
+    → place_in repair ≡ copies.used.header.hdr_size
+    → length (copy_in repair) ≡ length copies.used.bytes → FitsDisks sizes repair
 second-fits sizes copies repair are room at size device has known =
     let n = copies.used.header.hdr_size in
     let long = size ∙ are.whole.whole in
     let fits = fits-disk sizes device n (copy_in repair) (copy_in repair) has known
     (size-pages n are.whole.one_of_nine) long long room in
-    subst (λ place. IsInDisk device.size device.atoms (place / device.size) (length (copy_in repair))) (sym at) fits.second
+    subst (λ place. IsInDisk device.size device.atoms (place / device.size)
+    (length (copy_in repair))) (sym at) fits.second

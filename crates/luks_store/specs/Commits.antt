@@ -1,5 +1,6 @@
 -- Commits and repairs of a header that was loaded.
-use Rattle.std.specs.Prelude.{◌≡◌, ◌≢◌, ℕ, ◌+◌, ◌*◌, ◌/◌, ◌<◌, ◌≤◌, max, List, length, replicate, Ok, IsOk}
+use Rattle.std.specs.Prelude.{◌≡◌, ◌≢◌, ℕ, ◌+◌, ◌*◌, ◌/◌, ◌<◌, ◌≤◌, max, List, length, replicate}
+use Rattle.std.specs.Prelude.{Ok, IsOk}
 use Rattle.disk_areas.specs.Commits.{Follows}
 use Rattle.disk_areas.specs.Headers.{Header, IsHeader}
 use Rattle.disk_sizes.specs.declared.Sizes.{Sizes}
@@ -8,7 +9,8 @@ use Rattle.luks_bin.specs.Shares.{Agree}
 use Rattle.luks_bin.specs.declared.header.BinHeader.{BinHeader}
 use Rattle.luks_copies.specs.Meanings.{header_of, header_reader, meaning_of}
 use Rattle.luks_copies.specs.Steps.{IsRefusal}
-use Rattle.luks_copies.specs.Held.{primary_of, secondary_of, size_in_bytes, copy_in, place_in, repair_stage_in}
+use Rattle.luks_copies.specs.Held.{primary_of, secondary_of, size_in_bytes, copy_in, place_in}
+use Rattle.luks_copies.specs.Held.{repair_stage_in}
 use Rattle.luks_copies.specs.declared.commit.CommitError.{CommitError}
 use Rattle.luks_copies.specs.declared.commit.CommitError.TheVariants.{Memory}
 use Rattle.luks_copies.specs.declared.repair.Repair.{Repair}
@@ -80,7 +82,8 @@ pub record IsNext (stored : Stored) (parts : Parts) (p : Prepared) : Type 0 wher
   pub sizes : p.sizes ≡ stored.valid.sizes
   pub meta : meta_from p.header.hdr_size (text_of (primary_of p.copies)) ≡ Ok parts
   pub whole : IsHeader header_reader (header_of (primary_of p.copies) (secondary_of p.copies))
-  pub follows : Follows header_reader (meaning_of stored.copies.used.bytes) (meaning_of (primary_of p.copies))
+  pub follows : Follows header_reader (meaning_of stored.copies.used.bytes)
+      (meaning_of (primary_of p.copies))
 
 -- a disk of these sizes, in which other disks may be joined
 pub record HasSizes (sizes : Sizes) (device : Device) : Type 0 where
@@ -94,12 +97,14 @@ pub record AreGood (copies : Copies) : Type 0 where
   pub primary : copies.primary.state ≡ Good
   pub secondary : copies.secondary.state ≡ Good
 
--- A repair that writes the copy that is used, but for magic, salt, hdr_offset and checksum, to the other
--- place, under that place's salt; and the header that both copies are then.
-pub record IsRepairOf (copies : Copies) (place : ℕ) (salt : List ℕ) (header : Header (List ℕ)) (repair : Repair) : Type 0 where
+-- A repair that writes the copy that is used, but for magic, salt, hdr_offset and checksum, to the
+-- other place, under that place's salt; and the header that both copies are then.
+pub record IsRepairOf (copies : Copies) (place : ℕ) (salt : List ℕ) (header : Header (List ℕ))
+    (repair : Repair) : Type 0 where
   pub begun : repair_stage_in repair ≡ Broken
   pub at : place_in repair ≡ place
-  pub copy : copy_of place (copy_in repair) ≡ Ok (record copies.used.header { hdr_offset = place; salt = salt })
+  pub copy : copy_of place (copy_in repair)
+      ≡ Ok (record copies.used.header { hdr_offset = place; salt = salt })
   pub size : length (copy_in repair) ≡ copies.used.header.hdr_size
   pub shared : Agree (copy_in repair) copies.used.bytes
   pub whole : IsHeader header_reader header
@@ -110,7 +115,8 @@ Repairs copies repair =
     (copies.primary.state ≢ Good
     → IsRepairOf copies 0 copies.primary.salt (header_of (copy_in repair) copies.used.bytes) repair)
     × (copies.primary.state ≡ Good → (copies.secondary.state ≢ Good)
-    × IsRepairOf copies copies.used.header.hdr_size copies.secondary.salt (header_of copies.used.bytes (copy_in repair)) repair)
+    × IsRepairOf copies copies.used.header.hdr_size copies.secondary.salt
+    (header_of copies.used.bytes (copy_in repair)) repair)
 
 -- what it writes lies on each disk of these sizes
 abbrev pub FitsDisks : Sizes → Repair → Type 0

@@ -1,5 +1,6 @@
 -- What reads leave of a disk, and which of its bytes are the header's disk.
-use Rattle.std.specs.Prelude.{ℕ, ◌≡◌, ◌≤◌, ◌%◌, ◌==◌, ◌&&◌, nat_lt, Bool, List, ◌++◌, take, Option, Some}
+use Rattle.std.specs.Prelude.{ℕ, ◌≡◌, ◌≤◌, ◌%◌, ◌==◌, ◌&&◌, nat_lt, Bool, List, ◌++◌, take, Option}
+use Rattle.std.specs.Prelude.{Some}
 use Rattle.std.specs.List.{All, list_all}
 use Rattle.base_terms.specs.Causes.{Rose}
 use Rattle.disk_sizes.specs.declared.Sizes.{Sizes}
@@ -38,8 +39,8 @@ pub record KeepsBytes (old new : disk_type) : Type 0 where
   pub atoms : new.atoms ≡ old.atoms
   pub values : new.values ≡ old.values
 
--- Nothing was written to two joined disks: what both hold as one is as before, and so is each table that they
--- tell since; and what each of them holds.
+-- Nothing was written to two joined disks: what both hold as one is as before, and so is each table
+-- that they tell since; and what each of them holds.
 pub record IsUnwritten (old new : Joint) : Type 0 where
   pub size : (joined_disk new).size ≡ (joined_disk old).size
   pub atoms : (joined_disk new).atoms ≡ (joined_disk old).atoms

@@ -24,7 +24,9 @@ GivenIsUsed = (bytes m : List ℕ) → Gives header_reader bytes m
 -- Where no copy is valid none stands at any place, and these are the faults at 0 and at the nearest
 -- place of a secondary.
 abbrev pub NoneStands : Type 0
-NoneStands = (bytes : List ℕ) (primary secondary : BinFault) → copies_in bytes ≡ Err (no_header primary secondary)
+NoneStands =
+    (bytes : List ℕ) (primary secondary : BinFault)
+    → copies_in bytes ≡ Err (no_header primary secondary)
     → ((place : ℕ) → found header_reader bytes place ≡ None) × (copy_of 0 bytes ≡ Err primary)
     × (copy_of nearest (drop nearest bytes) ≡ Err secondary)
 

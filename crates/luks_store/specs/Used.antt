@@ -1,5 +1,6 @@
 -- Which of the copies on a disk is used (LUKS2 On-Disk Format Specification 1.1, section 2.1).
-use Rattle.std.specs.Prelude.{◌≡◌, ◌≢◌, ◌⊎◌, ℕ, nat_lt, List, [], ◌∷◌, Option, Some, None, Result, Ok, Err, if◌then◌else◌}
+use Rattle.std.specs.Prelude.{◌≡◌, ◌≢◌, ◌⊎◌, ℕ, nat_lt, List, [], ◌∷◌, Option, Some, None, Result}
+use Rattle.std.specs.Prelude.{Ok, Err, if◌then◌else◌}
 use Rattle.std.specs.Str.{bytes_eq}
 use Rattle.luks_bin.specs.Copies.{IsCopy}
 use Rattle.luks_bin.specs.declared.header.BinFault.{BinFault}
@@ -13,8 +14,8 @@ use Rattle.luks_store.specs.declared.copies.CopyState.{CopyState}
 use Rattle.luks_store.specs.declared.copies.CopyState.TheVariants.{Good, Older, Lacking}
 use Rattle.luks_store.specs.declared.copies.HeaderCopy.{HeaderCopy}
 
--- Why a disk has no header that can be used: no copy is valid, with what is wrong at 0 and at the nearest
--- place of a secondary; two copies of one number mean something else; the text, or a rule.
+-- Why a disk has no header that can be used: no copy is valid, with what is wrong at 0 and at the
+-- nearest place of a secondary; two copies of one number mean something else; the text, or a rule.
 pub data Refusal : Type 0 where
   no_header : BinFault → BinFault → Refusal
   differ : ℕ → List ℕ → List ℕ → Refusal
@@ -36,9 +37,11 @@ abbrev pub primary_alone : HeaderCopy → Copies
 primary_alone copy = record { used = copy; primary = kept Good copy; secondary = kept Lacking copy }
 
 abbrev pub secondary_alone : HeaderCopy → Copies
-secondary_alone copy = record { used = copy; primary = kept Lacking copy; secondary = kept Good copy }
+secondary_alone copy =
+    record { used = copy; primary = kept Lacking copy; secondary = kept Good copy }
 
--- Of two copies the one of the higher number; of two with equal numbers that mean the same, the primary.
+-- Of two copies the one of the higher number; of two with equal numbers that mean the same, the
+-- primary.
 unfoldable pub newer_of : HeaderCopy → HeaderCopy → Result Copies Refusal
 newer_of first second =
     if nat_lt second.header.seqid first.header.seqid

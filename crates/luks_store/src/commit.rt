@@ -1,17 +1,21 @@
 // A commit of a header's next metadata.
 
-ghost use Rattle.std.specs.Prelude.{◌≡◌, ◌≢◌, ◌+◌, ◌++◌, ◌<◌, ◌↔◌, ℕ, List, None, Ok, true, IfOk, IsTrue, MatchResult};
+ghost use Rattle.std.specs.Prelude.{◌≡◌, ◌≢◌, ◌+◌, ◌++◌, ◌<◌, ◌↔◌, ℕ, List, None, Ok, true, IfOk};
+ghost use Rattle.std.specs.Prelude.{IsTrue, MatchResult};
 ghost use Rattle.disk_areas.specs.Headers.{IsHeader};
 ghost use Rattle.luks_bin.specs.Copies.{holds_nul, text_of};
 ghost use Rattle.luks_bin.specs.Fields.{is_size};
 ghost use Rattle.luks_bin.specs.Writing.{IsWritable};
-ghost use Rattle.luks_copies.specs.Meanings.{header_of, header_reader, meaning_of, seqid_in, size_in};
-ghost use Rattle.luks_copies.specs.Steps.{CopyCall, FitDisk, HasNext, done_of, is_last, stage_after};
+ghost use Rattle.luks_copies.specs.Meanings.{header_of, header_reader, meaning_of, seqid_in};
+ghost use Rattle.luks_copies.specs.Meanings.{size_in};
+ghost use Rattle.luks_copies.specs.Steps.{CopyCall, FitDisk, HasNext, done_of, is_last};
+ghost use Rattle.luks_copies.specs.Steps.{stage_after};
 ghost use Rattle.luks_copies.specs.Held.{primary_of, secondary_of, size_in_bytes, stage_in};
 ghost use Rattle.luks_copies.specs.declared.commit.Stage.TheVariants.{Begun, Ended};
 ghost use Rattle.luks_json.specs.Metas.{meta_from};
 ghost use Rattle.luks_rules.specs.Rules.{first_fault};
-ghost use Rattle.luks_store.specs.Commits.{committed, header_before, text_for, HasSizes, IsNext, IsRefused};
+ghost use Rattle.luks_store.specs.Commits.{committed, header_before, text_for, HasSizes, IsNext};
+ghost use Rattle.luks_store.specs.Commits.{IsRefused};
 ghost use Rattle.luks_store.specs.Loads.{stored_in};
 
 use crate::copies::{Copies, CopyPlace, CopyState, HeaderCopy};
@@ -36,8 +40,8 @@ pub struct Prepared {
     pub sizes: Sizes,
 }
 
-/// A commit of a header: both copies, which hold metadata that break no rule, and how far their writing
-/// is. It is four device calls: write the primary, sync, write the secondary, sync.
+/// A commit of a header: both copies, which hold metadata that break no rule, and how far their
+/// writing is. It is four device calls: write the primary, sync, write the secondary, sync.
 #[derive(Drop)]
 pub struct Commit {
     prepared: Prepared,
@@ -85,7 +89,8 @@ fn prepare(
     ensures meta { IfOk result (λ commit.
         meta_from header.now.hdr_size (text_of (primary_of commit.copies)) ≡ Ok meta.now) }
     ensures whole { IfOk result (λ commit.
-        IsHeader header_reader (header_of (primary_of commit.copies) (secondary_of commit.copies))) }
+        IsHeader header_reader
+        (header_of (primary_of commit.copies) (secondary_of commit.copies))) }
     ensures number { IfOk result (λ commit.
         seqid_in (meaning_of (primary_of commit.copies)) ≡ header.now.seqid + 1) }
     ensures same_size { IfOk result (λ commit.
@@ -119,11 +124,11 @@ fn prepare(
 }
 
 impl Commit {
-    /// A commit of these metadata, which break no rule for the sizes of the header's disk, after a header
-    /// that was loaded: under the next number, with its other fields, and each place with its own salt.
-    /// There is none, `SeqEnd`, exactly where the number is `2^64 - 1`, else none, `JsonFull`, exactly
-    /// where the text is longer than its area less one byte. Both copies on the disk must hold the loaded
-    /// header at the first step; a [`Loaded::repair`] sees to that.
+    /// A commit of these metadata, which break no rule for the sizes of the header's disk, after a
+    /// header that was loaded: under the next number, with its other fields, and each place with
+    /// its own salt. There is none, `SeqEnd`, exactly where the number is `2^64 - 1`, else none,
+    /// `JsonFull`, exactly where the text is longer than its area less one byte. Both copies on the
+    /// disk must hold the loaded header at the first step; a [`Loaded::repair`] sees to that.
     pub fn new(alloc: Global, loaded: &Loaded, meta: &Meta) -> Result<Commit, CommitError>
         requires rules { first_fault meta.now loaded.now.valid.sizes ≡ None }
         requires size { meta.now.config.json_size + 4096 ≡ loaded.now.copies.used.header.hdr_size }
@@ -144,9 +149,9 @@ impl Commit {
         )
     }
 
-    /// A commit of the first header of a volume, with the number 1, this identifier, no label and these
-    /// salts. The size of its copies is that of which the metadata speak. There is none, `JsonFull`,
-    /// exactly where the text is longer than its area less one byte.
+    /// A commit of the first header of a volume, with the number 1, this identifier, no label and
+    /// these salts. The size of its copies is that of which the metadata speak. There is none,
+    /// `JsonFull`, exactly where the text is longer than its area less one byte.
     pub fn first(
         alloc: Global,
         uuid: [u8; 40],
@@ -161,7 +166,8 @@ impl Commit {
         requires size { is_size (meta.now.config.json_size + 4096) ≡ true }
         ensures refused { MatchResult result
             (λ _. HasNext (header_before uuid first_salt.now meta.now) (text_for meta.now))
-            (λ error. IsRefused (header_before uuid first_salt.now meta.now) (text_for meta.now) error) }
+            (λ error. IsRefused (header_before uuid first_salt.now meta.now) (text_for meta.now)
+            error) }
         ensures begun { IfOk result (λ commit. stage_in commit.copies ≡ Begun) }
         ensures header { IfOk result (λ commit.
             commit.header ≡ record (header_before uuid first_salt.now meta.now) { seqid = 1 }) }
@@ -170,7 +176,8 @@ impl Commit {
         ensures meta { IfOk result (λ commit.
             meta_from commit.header.hdr_size (text_of (primary_of commit.copies)) ≡ Ok meta.now) }
         ensures whole { IfOk result (λ commit.
-            IsHeader header_reader (header_of (primary_of commit.copies) (secondary_of commit.copies))) }
+            IsHeader header_reader
+            (header_of (primary_of commit.copies) (secondary_of commit.copies))) }
     {
         let before = BinHeader {
             hdr_size: meta.parts().config.json_size + 4096,
@@ -191,8 +198,8 @@ impl Commit {
         self.prepared.copies.is_over()
     }
 
-    /// The next device call, on a disk of the sizes for which the metadata were judged. It answers true
-    /// exactly at the last one; after a call that failed none may follow.
+    /// The next device call, on a disk of the sizes for which the metadata were judged. It answers
+    /// true exactly at the last one; after a call that failed none may follow.
     pub fn step<D: Disk>(&mut self, disk: &mut D) -> Result<bool, Failed>
         requires under_way { stage_in self.old.copies ≢ Ended }
         requires sizes { HasSizes self.old.sizes (D.device disk.old) }
@@ -209,8 +216,8 @@ impl Commit {
         self.prepared.copies.step(disk)
     }
 
-    /// The header that is loaded from a disk once both copies stand there, whatever stands behind them.
-    /// It can be asked for at any time.
+    /// The header that is loaded from a disk once both copies stand there, whatever stands behind
+    /// them. It can be asked for at any time.
     pub fn next(&self, alloc: Global) -> Result<Loaded, AllocError>
         ensures copies { IfOk result (λ next. next.copies ≡ committed self.now) }
         ensures loads { IfOk result (λ next. (rest : List ℕ) → stored_in self.now.sizes

@@ -21,8 +21,8 @@ pub enum CopyState {
     Lacking,
 }
 
-/// One of the two places: what stands there, and the salt of the copy that is written there next. That
-/// is the salt of the copy that stands there, or, where there is none, the other's.
+/// One of the two places: what stands there, and the salt of the copy that is written there next.
+/// That is the salt of the copy that stands there, or, where there is none, the other's.
 #[derive(Clone, Copy, Debug, PartialEq, Eq)]
 pub struct CopyPlace {
     pub state: CopyState,

@@ -74,9 +74,10 @@ pub(crate) fn judge(alloc: Global, copies: Copies, sizes: Sizes) -> Result<Loade
     }
 }
 
-/// The header that a disk holds: of its two copies the one that is used, and the metadata in it, which
-/// break no rule for the sizes of this disk. It is read from the header's own disk alone, and nothing is
-/// written. Where the disk tells what it holds, the answer is that of its current bytes; `Memory` and
+/// The header that a disk holds: of its two copies the one that is used, and the metadata in it,
+/// which break no rule for the sizes of this disk. It is read from the header's own disk alone, and
+/// nothing is written. Where the disk tells what it holds, the answer is that of its current bytes;
+/// `Memory` and
 /// `Device`, which comes only where the count of the disk's faults rose, say nothing of them.
 #[tactic(auto, unfolding(crate::specs::Loads::stored_in))]
 pub fn load<D: Disk>(alloc: Global, disk: &mut JoinedDisk<D>) -> Result<Loaded, StoreFault>
@@ -85,7 +86,8 @@ pub fn load<D: Disk>(alloc: Global, disk: &mut JoinedDisk<D>) -> Result<Loaded, 
     ensures sized { IfOk result (λ loaded. loaded.valid.sizes ≡ sizes_of disk.old) }
     ensures unwritten { IsUnwritten (joint_in disk.old) (joint_in disk.new) }
     ensures sizes { sizes_of disk.new ≡ sizes_of disk.old }
-    ensures cause { IfErr result (λ fault. HasCause (device_of disk.old) (device_of disk.new) fault) }
+    ensures cause { IfErr result
+        (λ fault. HasCause (device_of disk.old) (device_of disk.new) fault) }
 {
     let sizes = disk.sizes();
     match read_copies(alloc, disk) {
@@ -100,8 +102,8 @@ impl Loaded {
     ghost use Rattle.luks_rules.specs.Rules.{first_fault};
     ghost use Rattle.luks_store.specs.Loads.{IsStored};
 
-    /// What the disk held: a law, with nothing to run. The metadata break no rule for these sizes, and
-    /// state the size of the copy that is used, of which the disk has room for two.
+    /// What the disk held: a law, with nothing to run. The metadata break no rule for these sizes,
+    /// and state the size of the copy that is used, of which the disk has room for two.
     pub fn is_stored(&self)
         ensures stored { IsStored self.now }
         ensures rules { first_fault self.now.valid.meta self.now.valid.sizes ≡ None }

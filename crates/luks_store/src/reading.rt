@@ -1,6 +1,7 @@
 // Copies as they are read from a disk.
 
-ghost use Rattle.std.specs.Prelude.{◌≡◌, ◌+◌, ◌%◌, ◌≤◌, ℕ, List, length, take, drop, Some, IfErr, IfOk, IfSome, IsTrue};
+ghost use Rattle.std.specs.Prelude.{◌≡◌, ◌+◌, ◌%◌, ◌≤◌, ℕ, List, length, take, drop, Some, IfErr};
+ghost use Rattle.std.specs.Prelude.{IfOk, IfSome, IsTrue};
 ghost use Rattle.joined_disk.specs.Counts.{joint_in, sizes_of};
 ghost use Rattle.luks_rules.specs.Areas.{header_bytes};
 ghost use Rattle.luks_store.specs.Devices.{are_pages, device_of, front_of, IsCauseOf, IsUnwritten};
@@ -17,7 +18,8 @@ use luks_bin::{
 use sector_disk::Disk;
 use std::alloc::Global;
 
-/// So many bytes of a disk from a place on. Both are whole pages of 4096 bytes, and thus whole atoms.
+/// So many bytes of a disk from a place on. Both are whole pages of 4096 bytes, and thus whole
+/// atoms.
 fn read_bytes<D: Disk>(
     alloc: Global,
     disk: &mut JoinedDisk<D>,
@@ -32,7 +34,8 @@ fn read_bytes<D: Disk>(
     ensures length { IfOk result (λ bytes. length bytes ≡ len) }
     ensures unwritten { IsUnwritten (joint_in disk.old) (joint_in disk.new) }
     ensures sizes { sizes_of disk.new ≡ sizes_of disk.old }
-    ensures cause { IfErr result (λ fault. IsCauseOf (device_of disk.old) (device_of disk.new) fault) }
+    ensures cause { IfErr result
+        (λ fault. IsCauseOf (device_of disk.old) (device_of disk.new) fault) }
 {
     let sizes = disk.sizes();
     let mut bytes = match zeros(alloc, len as usize) {
@@ -45,8 +48,8 @@ fn read_bytes<D: Disk>(
     }
 }
 
-/// The copy that bytes from a place on begin with, or what is wrong with them first. What stands behind
-/// the copy is cut off.
+/// The copy that bytes from a place on begin with, or what is wrong with them first. What stands
+/// behind the copy is cut off.
 #[tactic(auto, unfolding(crate::specs::Found::copy_from))]
 fn copy_in(bytes: Bytes, place: u64) -> Result<HeaderCopy, BinFault>
     ensures found { result ≡ copy_from place bytes }
@@ -66,8 +69,8 @@ fn copy_in(bytes: Bytes, place: u64) -> Result<HeaderCopy, BinFault>
     }
 }
 
-/// The copy at a place of the header's disk, or what is wrong with it first. Its first 4096 bytes are
-/// read, and where they tell the size of a copy that lies on the disk, as many bytes as that.
+/// The copy at a place of the header's disk, or what is wrong with it first. Its first 4096 bytes
+/// are read, and where they tell the size of a copy that lies on the disk, as many bytes as that.
 pub(crate) fn read_at<D: Disk>(
     alloc: Global,
     disk: &mut JoinedDisk<D>,
@@ -79,7 +82,8 @@ pub(crate) fn read_at<D: Disk>(
     ensures whole { IfOk result (λ found. IfOk found (IsWholeAt place)) }
     ensures unwritten { IsUnwritten (joint_in disk.old) (joint_in disk.new) }
     ensures sizes { sizes_of disk.new ≡ sizes_of disk.old }
-    ensures cause { IfErr result (λ fault. IsCauseOf (device_of disk.old) (device_of disk.new) fault) }
+    ensures cause { IfErr result
+        (λ fault. IsCauseOf (device_of disk.old) (device_of disk.new) fault) }
 {
     sizes_are_told_by_heads();
     copies_are_their_fronts();
@@ -115,7 +119,8 @@ pub(crate) fn read_first<D: Disk>(
     ensures whole { IfOk result (λ found. IfSome found IsWholeBehind) }
     ensures unwritten { IsUnwritten (joint_in disk.old) (joint_in disk.new) }
     ensures sizes { sizes_of disk.new ≡ sizes_of disk.old }
-    ensures cause { IfErr result (λ fault. IsCauseOf (device_of disk.old) (device_of disk.new) fault) }
+    ensures cause { IfErr result
+        (λ fault. IsCauseOf (device_of disk.old) (device_of disk.new) fault) }
 {
     for i in 0..places.len() {
         match read_at(alloc, disk, places[i]) {

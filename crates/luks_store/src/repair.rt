@@ -20,10 +20,10 @@ impl CopyPlace {
 }
 
 impl Loaded {
-    /// The repair that the header asks for: the copy that is older or lacks is written with the bytes of
-    /// the one that is used, as they stand, under its own salt; none where both are good. The copies on
-    /// the disk must be those that were loaded at its first step. It has room on each disk of the sizes
-    /// for which the header was judged.
+    /// The repair that the header asks for: the copy that is older or lacks is written with the
+    /// bytes of the one that is used, as they stand, under its own salt; none where both are good.
+    /// The copies on the disk must be those that were loaded at its first step. It has room on each
+    /// disk of the sizes for which the header was judged.
     pub fn repair(&self, alloc: Global) -> Result<Option<Repair>, AllocError>
         ensures is { IfOk result (λ repair. MatchOption repair
             (AreGood self.now.copies) (Repairs self.now.copies)) }

@@ -49,19 +49,27 @@ fn has_nul(text: &[u8]) -> bool
     text.iter().any(|byte| *byte == 0)
 }
 
-/// Puts a copy of so many bytes with this text on a disk, at the front or at its size.
-fn put(alloc: Global, disk: &mut MemDisk, copy: Copy, size: u64, text: &[u8]) -> Result<(), Fail>
+/// Puts a copy, if one is given, of so many bytes with this text on a disk, at the front or at its size.
+fn put(
+    alloc: Global,
+    disk: &mut MemDisk,
+    copy: Option<Copy>,
+    size: u64,
+    text: &[u8],
+) -> Result<(), Fail>
     requires atom { atom_of disk.old ≡ 512 }
     requires atoms { atoms_of disk.old ≡ 256 }
     ensures atom { atom_of disk.new ≡ 512 }
     ensures atoms { atoms_of disk.new ≡ 256 }
 {
-    let (place, seqid, letter) = copy;
+    let Some((place, seqid, letter)) = copy else {
+        return Ok(());
+    };
     let stands = place == 0 || place == size;
     if !is_header_size(size) || !stands || size % 512 != 0 || 65536 < size {
         return Err(Fail::from(AllocError));
     }
-    if 8192 < text.len() || has_nul(text) {
+    if size < 16384 || 8192 < text.len() || has_nul(text) {
         return Err(Fail::from(AllocError));
     }
     let mut label = [0; 48];
@@ -81,20 +89,20 @@ fn put(alloc: Global, disk: &mut MemDisk, copy: Copy, size: u64, text: &[u8]) ->
     Ok(())
 }
 
-/// A detached header of which these copies of so many bytes stand there with this text, before a disk of
-/// eight blocks. Calls of these numbers on the header's disk fail.
+/// A detached header of which these copies of so many bytes stand there with this text, before a
+/// disk of eight blocks. Calls of these numbers on the header's disk fail.
 fn disk_with(
     alloc: Global,
-    copies: &[Copy],
+    copies: [Option<Copy>; 2],
     size: u64,
     text: &str,
     fails: &[u64],
 ) -> Result<JoinedDisk<MemDisk>, Fail> {
     let mut head = MemDisk::new(alloc, 512, 256, 1000, fails)?;
     let main = MemDisk::new(alloc, 512, 8, 1000, &[])?;
-    for copy in copies.iter() {
-        put(alloc, &mut head, *copy, size, text.as_bytes())?;
-    }
+    let [first, second] = copies;
+    put(alloc, &mut head, first, size, text.as_bytes())?;
+    put(alloc, &mut head, second, size, text.as_bytes())?;
     Ok(JoinedDisk::with(head, main))
 }
 
@@ -115,7 +123,7 @@ fn told_by(loaded: &Result<Loaded, StoreFault>) -> Outcome {
 }
 
 /// What is loaded from a disk with these copies.
-fn loaded_from(alloc: Global, copies: &[Copy], fails: &[u64]) -> Result<Outcome, Fail> {
+fn loaded_from(alloc: Global, copies: [Option<Copy>; 2], fails: &[u64]) -> Result<Outcome, Fail> {
     let mut disk = disk_with(alloc, copies, 16384, TEXT, fails)?;
     Ok(told_by(&load(alloc, &mut disk)))
 }
@@ -124,35 +132,35 @@ fn loaded_from(alloc: Global, copies: &[Copy], fails: &[u64]) -> Result<Outcome,
 fn the_copy_of_the_higher_number_is_used(rt: HostRuntime) -> Result<(), Fail> {
     let alloc = rt.alloc();
     assert_eq!(rt;
-        loaded_from(alloc, &[(0, 7, 0), (16384, 8, 0)], &[])?,
+        loaded_from(alloc, [Some((0, 7, 0)), Some((16384, 8, 0))], &[])?,
         Outcome::Used(8, CopyState::Older, CopyState::Good)
     );
     assert_eq!(rt;
-        loaded_from(alloc, &[(0, 8, 0), (16384, 7, 0)], &[])?,
+        loaded_from(alloc, [Some((0, 8, 0)), Some((16384, 7, 0))], &[])?,
         Outcome::Used(8, CopyState::Good, CopyState::Older)
     );
     assert_eq!(rt;
-        loaded_from(alloc, &[(0, 7, 0), (16384, 7, 0)], &[])?,
+        loaded_from(alloc, [Some((0, 7, 0)), Some((16384, 7, 0))], &[])?,
         Outcome::Used(7, CopyState::Good, CopyState::Good)
     );
     assert_eq!(rt;
-        loaded_from(alloc, &[(0, 7, 0)], &[])?,
+        loaded_from(alloc, [Some((0, 7, 0)), None], &[])?,
         Outcome::Used(7, CopyState::Good, CopyState::Lacking)
     );
     assert_eq!(rt;
-        loaded_from(alloc, &[(16384, 7, 0)], &[])?,
+        loaded_from(alloc, [Some((16384, 7, 0)), None], &[])?,
         Outcome::Used(7, CopyState::Lacking, CopyState::Good)
     );
     assert_eq!(rt;
-        loaded_from(alloc, &[(0, 7, 0), (16384, 7, 1)], &[])?,
+        loaded_from(alloc, [Some((0, 7, 0)), Some((16384, 7, 1))], &[])?,
         Outcome::CopiesDiffer(7, 24)
     );
     assert_eq!(rt;
-        loaded_from(alloc, &[], &[])?,
+        loaded_from(alloc, [None, None], &[])?,
         Outcome::NoHeader(BinFault::Magic, BinFault::Magic)
     );
     assert_eq!(rt;
-        loaded_from(alloc, &[(0, 7, 0), (16384, 7, 0)], &[3])?,
+        loaded_from(alloc, [Some((0, 7, 0)), Some((16384, 7, 0))], &[3])?,
         Outcome::Device
     );
     Ok(())
@@ -162,7 +170,7 @@ fn the_copy_of_the_higher_number_is_used(rt: HostRuntime) -> Result<(), Fail> {
 fn a_secondary_is_found_at_its_own_size(rt: HostRuntime) -> Result<(), Fail> {
     let alloc = rt.alloc();
     let text = TEXT.replace(alloc, "12288", "61440")?;
-    let mut disk = disk_with(alloc, &[(65536, 7, 0)], 65536, &text, &[])?;
+    let mut disk = disk_with(alloc, [Some((65536, 7, 0)), None], 65536, &text, &[])?;
     assert_eq!(rt;
         told_by(&load(alloc, &mut disk)),
         Outcome::Used(7, CopyState::Lacking, CopyState::Good)
@@ -183,7 +191,13 @@ fn the_metadata_of_the_copy_that_is_used_are_judged(rt: HostRuntime) -> Result<(
         ),
     ] {
         let text = TEXT.replace(alloc, old, new)?;
-        let mut disk = disk_with(alloc, &[(0, 7, 0), (16384, 7, 0)], 16384, &text, &[])?;
+        let mut disk = disk_with(
+            alloc,
+            [Some((0, 7, 0)), Some((16384, 7, 0))],
+            16384,
+            &text,
+            &[],
+        )?;
         assert_eq!(rt; told_by(&load(alloc, &mut disk)), told);
     }
     Ok(())
@@ -200,11 +214,11 @@ fn step(commit: &mut Commit, disk: &mut JoinedDisk<MemDisk>) -> Step
     Some(commit.step(disk))
 }
 
-/// Commits the metadata again, on a disk whose calls of these numbers fail: what the steps answer, and
-/// what is loaded then.
+/// Commits the metadata again, on a disk whose calls of these numbers fail: what the steps answer,
+/// and what is loaded then.
 fn committed(alloc: Global, fails: &[u64]) -> Result<([Step; 4], Outcome), Fail> {
-    let copies = [(0, 7, 0), (16384, 7, 0)];
-    let mut disk = disk_with(alloc, &copies, 16384, TEXT, fails)?;
+    let copies = [Some((0, 7, 0)), Some((16384, 7, 0))];
+    let mut disk = disk_with(alloc, copies, 16384, TEXT, fails)?;
     let loaded = load(alloc, &mut disk)?;
     let _sizes = disk.sizes();
     loaded.is_stored();
@@ -219,20 +233,31 @@ fn committed(alloc: Global, fails: &[u64]) -> Result<([Step; 4], Outcome), Fail>
 }
 
 #[test]
-fn a_commit_that_stops_leaves_the_header_before_or_the_next_one(rt: HostRuntime) -> Result<(), Fail> {
+fn a_commit_that_stops_leaves_the_header_before_or_the_next_one(
+    rt: HostRuntime,
+) -> Result<(), Fail> {
     let alloc = rt.alloc();
     let seven = Outcome::Used(7, CopyState::Good, CopyState::Good);
     let between = Outcome::Used(8, CopyState::Good, CopyState::Older);
     let eight = Outcome::Used(8, CopyState::Good, CopyState::Good);
     assert_eq!(rt; committed(alloc, &[])?, ([DONE, DONE, DONE, LAST], eight));
-    assert_eq!(rt; committed(alloc, &[6])?, ([FAILED, None, None, None], seven));
-    assert_eq!(rt; committed(alloc, &[7])?, ([DONE, FAILED, None, None], between));
-    assert_eq!(rt; committed(alloc, &[8])?, ([DONE, DONE, FAILED, None], between));
+    assert_eq!(rt;
+        committed(alloc, &[6])?,
+        ([FAILED, None, None, None], seven)
+    );
+    assert_eq!(rt;
+        committed(alloc, &[7])?,
+        ([DONE, FAILED, None, None], between)
+    );
+    assert_eq!(rt;
+        committed(alloc, &[8])?,
+        ([DONE, DONE, FAILED, None], between)
+    );
     Ok(())
 }
 
 /// What the two steps of the repair of a header with these copies answer, and what is loaded then.
-fn repaired(alloc: Global, copies: &[Copy]) -> Result<([Step; 2], Outcome), Fail> {
+fn repaired(alloc: Global, copies: [Option<Copy>; 2]) -> Result<([Step; 2], Outcome), Fail> {
     let mut disk = disk_with(alloc, copies, 16384, TEXT, &[])?;
     let loaded = load(alloc, &mut disk)?;
     let _sizes = disk.sizes();
@@ -253,10 +278,13 @@ fn repaired(alloc: Global, copies: &[Copy]) -> Result<([Step; 2], Outcome), Fail
 fn a_repair_makes_both_copies_good(rt: HostRuntime) -> Result<(), Fail> {
     let alloc = rt.alloc();
     let eight = Outcome::Used(8, CopyState::Good, CopyState::Good);
-    let older = [(0, 7, 0), (16384, 8, 0)];
-    assert_eq!(rt; repaired(alloc, &older)?, ([DONE, LAST], eight));
-    assert_eq!(rt; repaired(alloc, &[(0, 8, 0)])?, ([DONE, LAST], eight));
-    let good = [(0, 8, 0), (16384, 8, 0)];
-    assert_eq!(rt; repaired(alloc, &good)?, ([None, None], eight));
+    let older = [Some((0, 7, 0)), Some((16384, 8, 0))];
+    assert_eq!(rt; repaired(alloc, older)?, ([DONE, LAST], eight));
+    assert_eq!(rt;
+        repaired(alloc, [Some((0, 8, 0)), None])?,
+        ([DONE, LAST], eight)
+    );
+    let good = [Some((0, 8, 0)), Some((16384, 8, 0))];
+    assert_eq!(rt; repaired(alloc, good)?, ([None, None], eight));
     Ok(())
 }

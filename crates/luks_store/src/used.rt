@@ -5,7 +5,8 @@ ghost use Rattle.joined_disk.specs.Counts.{joint_in, sizes_of};
 ghost use Rattle.luks_store.specs.Devices.{device_of, front_of, IsUnwritten};
 ghost use Rattle.luks_store.specs.Found.{copy_at, IsWholeAt, IsWholeBehind};
 ghost use Rattle.luks_store.specs.Loads.{Answers, HasCause, IsNoRead};
-ghost use Rattle.luks_store.specs.Used.{at_nearest, beside, copies_in, kept, nearest, newer_of, primary_alone, secondary_alone, AreCopies};
+ghost use Rattle.luks_store.specs.Used.{at_nearest, beside, copies_in, kept, nearest, newer_of};
+ghost use Rattle.luks_store.specs.Used.{primary_alone, secondary_alone, AreCopies};
 
 use crate::copies::{Copies, CopyPlace, CopyState, HeaderCopy};
 use crate::fault::StoreFault;
@@ -26,8 +27,8 @@ fn place_of(state: CopyState, copy: &HeaderCopy) -> CopyPlace
     }
 }
 
-/// Of two copies that stand at their places the one of the higher number, or, of two with one number
-/// that share all bytes that copies share, the primary.
+/// Of two copies that stand at their places the one of the higher number, or, of two with one
+/// number that share all bytes that copies share, the primary.
 #[tactic(auto, unfolding(crate::specs::Used::newer_of))]
 fn newer(first: HeaderCopy, second: HeaderCopy) -> Result<Copies, StoreFault>
     requires first { IsWholeAt 0 first }
@@ -114,7 +115,8 @@ fn read_beside<D: Disk>(
     ensures are { IfOk result AreCopies }
     ensures unwritten { IsUnwritten (joint_in disk.old) (joint_in disk.new) }
     ensures sizes { sizes_of disk.new ≡ sizes_of disk.old }
-    ensures cause { IfErr result (λ fault. HasCause (device_of disk.old) (device_of disk.new) fault) }
+    ensures cause { IfErr result
+        (λ fault. HasCause (device_of disk.old) (device_of disk.new) fault) }
 {
     match read_at(alloc, disk, first.header.hdr_size) {
         Ok(Ok(second)) => newer(first, second),
@@ -135,7 +137,8 @@ fn read_behind<D: Disk>(
     ensures are { IfOk result AreCopies }
     ensures unwritten { IsUnwritten (joint_in disk.old) (joint_in disk.new) }
     ensures sizes { sizes_of disk.new ≡ sizes_of disk.old }
-    ensures cause { IfErr result (λ fault. HasCause (device_of disk.old) (device_of disk.new) fault) }
+    ensures cause { IfErr result
+        (λ fault. HasCause (device_of disk.old) (device_of disk.new) fault) }
 {
     let near = match read_at(alloc, disk, HEADER_SIZES[0]) {
         Ok(Ok(copy)) => return Ok(second_alone(copy)),
@@ -164,7 +167,8 @@ pub(crate) fn read_copies<D: Disk>(
     ensures are { IfOk result AreCopies }
     ensures unwritten { IsUnwritten (joint_in disk.old) (joint_in disk.new) }
     ensures sizes { sizes_of disk.new ≡ sizes_of disk.old }
-    ensures cause { IfErr result (λ fault. HasCause (device_of disk.old) (device_of disk.new) fault) }
+    ensures cause { IfErr result
+        (λ fault. HasCause (device_of disk.old) (device_of disk.new) fault) }
 {
     match read_at(alloc, disk, 0) {
         Ok(Ok(first)) => read_beside(alloc, disk, first),

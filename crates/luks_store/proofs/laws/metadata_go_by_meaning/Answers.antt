@@ -6,4 +6,5 @@ pub returns-clause-copies : goal.returns-clause-copies
 returns-clause-copies c = meta-same c.copies_mean_what_they_share.ensures
 
 pub returns-clause-loads : goal.returns-clause-loads
-returns-clause-loads c = loads-meaning c.copies_are_spelt.ensures c.copies_mean_what_they_share.ensures
+returns-clause-loads c =
+    loads-meaning c.copies_are_spelt.ensures c.copies_mean_what_they_share.ensures

@@ -9,5 +9,6 @@ invariant-loop-i g l = record {
   unwritten : IsUnwritten (joint_in l.initial.disk) (joint_in l.disk);
   sizes : sizes_of l.disk ≡ sizes_of l.initial.disk;
   none : (all : List ℕ) → (device_of l.initial.disk).values ≡ Some all
-      → first_at (drop l.i l.places) (front_of (sizes_of l.initial.disk) all) ≡ first_at l.places (front_of (sizes_of l.initial.disk) all);
+      → first_at (drop l.i l.places) (front_of (sizes_of l.initial.disk) all)
+      ≡ first_at l.places (front_of (sizes_of l.initial.disk) all);
 }

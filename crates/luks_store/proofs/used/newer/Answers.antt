@@ -9,7 +9,8 @@ returns-then-first-second-clause-are c =
 
 pub first_difference-requires : goal.first_difference-requires
 first_difference-requires c =
-    ap length c.as_slice.ensures ∙ same-length _ _ c.requires.first c.requires.second ∙ sym (ap length c.as_slice-2.ensures)
+    ap length c.as_slice.ensures ∙ same-length _ _ c.requires.first c.requires.second
+    ∙ sym (ap length c.as_slice-2.ensures)
 
 pub returns-in-Some-clause-used : goal.returns-in-Some-clause-used
 returns-in-Some-clause-used c =
@@ -18,7 +19,8 @@ returns-in-Some-clause-used c =
     let differ = rw (c.as_slice.ensures, c.as_slice-2.ensures) at c.in-Some.ensures in (
       first.bytes,
       second.bytes,
-      other-found c.copies_mean_what_they_share.ensures first second c.in-Some.place c.requires.first
+      other-found c.copies_mean_what_they_share.ensures first second c.in-Some.place
+          c.requires.first
           c.requires.second c.if-second-first.false c.if-first-second.false differ,
       differ,
     )
@@ -26,5 +28,7 @@ returns-in-Some-clause-used c =
 pub returns-in-None-clause-used : goal.returns-in-None-clause-used
 returns-in-None-clause-used c =
     let agree = rw (c.as_slice.ensures, c.as_slice-2.ensures) at c.in-None.ensures in
-    same-used c.copies_mean_what_they_share.ensures c.args.first c.args.second _ _ c.requires.first c.requires.second
-    c.if-second-first.false c.if-first-second.false agree c.place_of-primary-in-None.ensures c.place_of-secondary-in-None.ensures
+    same-used c.copies_mean_what_they_share.ensures c.args.first c.args.second _ _ c.requires.first
+    c.requires.second
+    c.if-second-first.false c.if-first-second.false agree c.place_of-primary-in-None.ensures
+    c.place_of-secondary-in-None.ensures

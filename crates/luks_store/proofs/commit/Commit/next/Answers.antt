@@ -13,8 +13,12 @@ returns-in-Ok-clause-loads c =
     let p = c.self.inside.prepared in
     let is = c.self.invariant in
     let text = c.new.ensures ∙ c.in_ok-bytes.ensures.items ∙ c.first.ensures in
-    let same = ap (λ bytes. record (committed p) { used = record { header = p.header; bytes = bytes } }) text in
-    subst (λ (q : Prepared). (rest : List ℕ) → stored_in q.sizes (primary_of q.copies ++ (secondary_of q.copies ++ rest)) ≡ Ok c.in-Ok.loaded)
+    let same =
+    ap (λ bytes. record (committed p) { used = record { header = p.header; bytes = bytes } })
+    text in
+    subst (λ (q : Prepared). (rest : List ℕ)
+    → stored_in q.sizes (primary_of q.copies ++ (secondary_of q.copies ++ rest))
+    ≡ Ok c.in-Ok.loaded)
     c.self.view_is
     (λ rest. stored-by p.sizes _ (committed p) c.in-Ok.loaded
     (both-used c.copies_are_spelt.ensures _ _ rest is.first is.second refl is.same)
@@ -32,6 +36,9 @@ pub memory_of-requires : goal.memory_of-requires
 memory_of-requires c =
     let p = c.self.inside.prepared in
     let text = c.new.ensures ∙ c.in_ok-bytes.ensures.items ∙ c.first.ensures in
-    let same = ap (λ bytes. record (committed p) { used = record { header = p.header; bytes = bytes } }) text in
-    memory-alone c.in-Err.fault _ (subst (λ (q : Copies). IsOk (judged p.sizes q)) (sym same) c.self.invariant.held)
+    let same =
+    ap (λ bytes. record (committed p) { used = record { header = p.header; bytes = bytes } })
+    text in
+    memory-alone c.in-Err.fault _
+    (subst (λ (q : Copies). IsOk (judged p.sizes q)) (sym same) c.self.invariant.held)
     c.in-Err.ensures.no_read c.in-Err.ensures.held

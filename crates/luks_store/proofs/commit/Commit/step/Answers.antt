@@ -11,7 +11,10 @@ step-requires-clause-fits g c =
     let p = c.self.inside.prepared in
     let is = c.self.invariant in
     let device = g.D.Disk.device c.args.disk.now in
-    let has = subst (λ (q : Prepared). HasSizes q.sizes device) (sym c.self.view_is) c.requires.sizes in
+    let has =
+    subst (λ (q : Prepared). HasSizes q.sizes device) (sym c.self.view_is) c.requires.sizes in
     subst (λ size. FitDisk p.copies.first p.copies.second size device) (sym is.size)
-    (fits-disk p.sizes device p.header.hdr_size p.copies.first p.copies.second has (g.met.D.Disk.geometry c.args.disk.now).known
-    (size-pages p.header.hdr_size is.first.whole.one_of_nine) is.first.whole.whole is.second.whole.whole is.room)
+    (fits-disk p.sizes device p.header.hdr_size p.copies.first p.copies.second has
+    (g.met.D.Disk.geometry c.args.disk.now).known
+    (size-pages p.header.hdr_size is.first.whole.one_of_nine) is.first.whole.whole
+    is.second.whole.whole is.room)

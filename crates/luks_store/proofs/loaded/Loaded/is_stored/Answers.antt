@@ -14,5 +14,6 @@ returns-clause-size c = size-kept c.args.self.now (subst IsStored c.self.view_is
 
 pub returns-clause-room : goal.returns-clause-room
 returns-clause-room c = room-kept c.args.self.now (subst IsStored c.self.view_is c.self.invariant)
-    (subst (λ (m : Parts). IsRising m.digests) (c.meta.ensures ∙ ap (λ (s : Stored). s.valid.meta) c.self.view_is)
+    (subst (λ (m : Parts). IsRising m.digests)
+    (c.meta.ensures ∙ ap (λ (s : Stored). s.valid.meta) c.self.view_is)
     c.parts-parts.ensures.right.digests.rising)
