@@ -17,7 +17,7 @@ use Rattle.volume_machine.specs.Sound.{IsSound}
 use Rattle.volume_machine.specs.States.{State, open_at, size_of, begun, LaneBecomes}
 use Rattle.volume_machine.specs.Steps.{IsAdmitted, TellsStanding, Holds}
 use Rattle.disk_views.specs.Views.{View, IsUnchanged}
-use Rattle.volume_laws.proofs.Invariant.{LaneKnows, Logic, Shown, KeepsWrites, writes_stay, shown_kept, lanes_still}
+use Rattle.volume_laws.proofs.Invariant.{LaneKnows, Logic, Shown, KeepsWrites, writes_stay, shown_kept, lanes_still, goes_stays}
 use Rattle.volume_machine.proofs.Locking.{either, holds-more}
 use Rattle.volume_machine.proofs.Soundness.{match_true, match_false, begins}
 
@@ -68,14 +68,14 @@ logic_forgets state plain left lane now free logic = record {
   sound = logic.sound;
   are = logic.are;
   sure = logic.sure;
-  lanes = lanes_still state plain state (with_plain plain lane now) left lane (open_at state.lanes lane) refl (becomes_itself state.lanes lane)
+  lanes = lanes_still state plain state (with_plain plain lane now) left lane (open_at state.lanes lane) (record { map = refl; work = refl }) (becomes_itself state.lanes lane)
       (plain-other plain lane now) (λ k other holds. holds) (λ was. was) (λ o is. absurd (cc)) logic.lanes;
 }
 
 pub shown_forgets : {K : Type 0} (state : State K) (seals : Seals) (plain : ℕ → List ℕ) (left : List Block) (lane : ℕ) (now : List ℕ) (view next : View) →
     open_at state.lanes lane ≡ None → IsUnchanged view next → Shown state seals plain left view → Shown state seals (with_plain plain lane now) left next
 shown_forgets state seals plain left lane now view next free same shown =
-    shown_kept state plain state (with_plain plain lane now) seals left view next refl (forget_writes state plain lane now free)
+    shown_kept state plain state (with_plain plain lane now) seals left view next (record { map = refl; work = refl }) (forget_writes state plain lane now free)
     (λ whole. (whole, same.current)) same.candidates shown
 
 -- an operation that was admitted has done nothing yet
@@ -91,6 +91,7 @@ knows_nothing state plain left lane o none first ordered unsettled unfailed = re
   reads = λ is k below. absurd (omega (arith, below));
   kept = λ settled. absurd (cc);
   breaks = λ writes failed. absurd (cc);
+  beside = λ b from to of. absurd (omega (arith, from, to));
 }
 
 -- which entries hold stays when another enters
@@ -110,7 +111,7 @@ logic_admitted old new plain left lane session ask outcome logic sound proper is
       sound = sound;
       are = rw is.goes.map logic.are;
       sure = λ whole b below. logic.sure (sym is.goes.broken_is ∙ whole) b (subst (λ m. b < m.blocks) is.goes.map below);
-      lanes = lanes_still old plain new (with_plain plain lane []) left lane (Some (begun old.map.atom session ask)) is.goes.map is.goes.lane_is
+      lanes = lanes_still old plain new (with_plain plain lane []) left lane (Some (begun old.map.atom session ask)) (goes_stays is.goes) is.goes.lane_is
           (plain-other plain lane []) (holds_admitted old new lane session ask outcome is) (λ was. is.goes.broken_is ∙ was)
           (λ o same. let e : o ≡ begun old.map.atom session ask = cc in
           rw e (knows_nothing new (with_plain plain lane []) left lane (begun old.map.atom session ask) (plain-own plain lane []) refl
@@ -122,7 +123,7 @@ pub shown_admitted : {K : Type 0} (old new : State K) (seals : Seals) (plain : �
     0 < old.map.atom → open_at old.lanes lane ≡ None → IsAdmitted old lane session ask outcome new → IsUnchanged view next →
     Shown old seals plain left view → Shown new seals (with_plain plain lane []) left next
 shown_admitted old new seals plain left lane session ask outcome view next some free is same shown =
-    shown_kept old plain new (with_plain plain lane []) seals left view next is.goes.map
+    shown_kept old plain new (with_plain plain lane []) seals left view next (goes_stays is.goes)
     (writes_stay old plain new (with_plain plain lane []) lane (Some (begun old.map.atom session ask)) is.goes.map is.goes.lane_is
     (plain-other plain lane []) (λ b value. idle old plain lane b value free)
     (λ b value. untried new (with_plain plain lane []) lane b value (rw is.goes.map some) (plain-own plain lane []))

@@ -17,8 +17,10 @@ use Rattle.volume_machine.specs.States.{State, open_at, size_of}
 use Rattle.volume_machine.specs.Steps.{Holds}
 use Rattle.disk_views.specs.Views.{IsUnchanged}
 use Rattle.volume_laws.proofs.Answering.{legal_one, step_read, step_unread, step_written, step_unwritten, read_whole, write_whole, change_of}
-use Rattle.volume_laws.proofs.EventsServed.{Served}
-use Rattle.volume_laws.proofs.Finishing.{Ends, EndsWrite, ended_blocks, logic_ended, shown_read_ended, logic_write_ended, shown_write_ended}
+use Rattle.volume_laws.proofs.EventsServed.{IsFine, Served}
+use Rattle.volume_laws.proofs.Reading.{AreLive}
+use Rattle.volume_laws.proofs.Writing.{in_piece}
+use Rattle.volume_laws.proofs.Finishing.{ended_outside, Ends, EndsWrite, ended_blocks, logic_ended, shown_read_ended, logic_write_ended, shown_write_ended}
 use Rattle.volume_laws.proofs.Here.{Here, positive, here_after, moves_not}
 use Rattle.volume_laws.proofs.Invariant.{Logic}
 use Rattle.volume_machine.proofs.Locking.{either}
@@ -30,16 +32,18 @@ sized state plain left logic = λ b below. (let one = (logic.are.newest b (let c
 
 -- a read that ends
 read_ended : {K P : Type 0} (seals : Seals) (old new : State K) (plain : ℕ → List ℕ) (left : List Block) (lane : ℕ) (o : Open) (one : Answered) (exchanges : List Exchange) →
-    Here P old seals plain left → IsSound new → open_at old.lanes lane ≡ Some o → IsRead o.ask → Ends old new lane → new.disk ≡ old.disk →
+    Here P old seals plain left → IsFine new → open_at old.lanes lane ≡ Some o → IsRead o.ask → Ends old new lane → new.disk ≡ old.disk →
     ((exchange : Exchange) → Rattle.volume_machine.specs.Answers.IsExchange one exchange → Rattle.plain_disk.specs.Plain.Step old.map.atom left exchange left) →
     AreExchanges (one ∷ []) exchanges → Served P seals old new plain left exchanges
 read_ended seals old new plain left lane o one exchanges here sound at reading goes rests step are = record {
   next = left;
   legal = legal_one old.map.atom left left one exchanges are step;
-  here = here_after old new seals plain plain left left IsUnchanged here goes.map (logic_ended old new plain left lane here.logic sound goes)
+  here = here_after old new seals plain plain left left IsUnchanged here goes.map sound.works (logic_ended old new plain left lane here.logic sound.sound goes)
       (moves_not old.map.atom here.bytes old.disk new.disk rests here.values)
       (λ view after unchanged shown. shown_read_ended old new plain seals left lane o view after at reading goes unchanged shown);
   map = goes.map;
+  work = goes.work;
+  newest = λ b below of. refl;
 }
 
 read_right : {K P : Type 0} (seals : Seals) (old : State K) (plain : ℕ → List ℕ) (left : List Block) (lane : ℕ) (o : Open) (offset len : ℕ) → Here P old seals plain left →
@@ -71,7 +75,7 @@ read_right seals old plain left lane o offset len here at is whole ended =
 
 -- a write that ends, with what it made of its blocks
 write_ended : {K P : Type 0} (seals : Seals) (old new : State K) (plain : ℕ → List ℕ) (left : List Block) (lane : ℕ) (o : Open) (change : Block → List ℕ → Block) (count : ℕ) (one : Answered)
-    (exchanges : List Exchange) → Here P old seals plain left → IsSound new → new.disk ≡ old.disk → (it : EndsWrite old new plain left lane o change count) →
+    (exchanges : List Exchange) → Here P old seals plain left → IsFine new → new.disk ≡ old.disk → (it : EndsWrite old new plain left lane o change count) →
     (old.broken ≡ false → (block : Block) (value : List ℕ) → (change block value).unsure ≡ false) →
     ((exchange : Exchange) → Rattle.volume_machine.specs.Answers.IsExchange one exchange →
     Rattle.plain_disk.specs.Plain.Step old.map.atom left exchange (ended_blocks old plain left lane o change count)) →
@@ -79,10 +83,15 @@ write_ended : {K P : Type 0} (seals : Seals) (old new : State K) (plain : ℕ �
 write_ended seals old new plain left lane o change count one exchanges here sound rests it sure step are = record {
   next = ended_blocks old plain left lane o change count;
   legal = legal_one old.map.atom left (ended_blocks old plain left lane o change count) one exchanges are step;
-  here = here_after old new seals plain plain left (ended_blocks old plain left lane o change count) IsUnchanged here it.goes.map
-      (logic_write_ended old new plain left lane o change count it sound sure) (moves_not old.map.atom here.bytes old.disk new.disk rests here.values)
+  here = here_after old new seals plain plain left (ended_blocks old plain left lane o change count) IsUnchanged here it.goes.map sound.works
+      (logic_write_ended old new plain left lane o change count it sound.sound sure) (moves_not old.map.atom here.bytes old.disk new.disk rests here.values)
       (λ view after unchanged shown. shown_write_ended old new seals plain left lane o change count view after it unchanged shown);
   map = it.goes.map;
+  work = it.goes.work;
+  newest = λ b below of. ap (λ block. block.newest) (ended_outside old plain left lane o change count b (elim (in_piece o.range.start count b) [
+    | inl (j, lt, is) ↦ absurd (it.live b (omega (arith, is)) (omega (arith, is, lt)) of)
+    | inr outside ↦ outside
+  ]));
 }
 
 -- what it knows of its body
@@ -146,6 +155,8 @@ ends_write seals old new plain left lane o change here at writing holds goes new
       writes = writing;
       holds = holds;
       goes = goes;
+      works = here.works;
+      live = knows.beside;
       are = knows.are;
       most = knows.most;
       newest = newest;
@@ -155,7 +166,7 @@ ends_write seals old new plain left lane o change here at writing holds goes new
 
 -- a write that failed
 failed_write_served : {K P : Type 0} (seals : Seals) (old new : State K) (plain : ℕ → List ℕ) (left : List Block) (lane : ℕ) (o : Open) (offset len : ℕ) (fua : Bool) (exchanges : List Exchange) →
-    Here P old seals plain left → IsSound new → open_at old.lanes lane ≡ Some o → o.ask ≡ Write offset len fua → o.failed ≡ true → Holds old lane → Ends old new lane → new.disk ≡ old.disk →
+    Here P old seals plain left → IsFine new → open_at old.lanes lane ≡ Some o → o.ask ≡ Write offset len fua → o.failed ≡ true → Holds old lane → Ends old new lane → new.disk ≡ old.disk →
     AreExchanges (record { session = o.session; ask = Write offset len fua; plain = plain lane; reply = Errno 5 } ∷ []) exchanges → Served P seals old new plain left exchanges
 failed_write_served seals old new plain left lane o offset len fua exchanges here sound at is failed holds goes rests are =
     let knows = here.logic.lanes lane o at in
@@ -174,7 +185,7 @@ no_blocks_change change atom n at_block left text none = rw none (changed-nil ch
 
 -- a write that is done
 written_served : {K P : Type 0} (seals : Seals) (old new : State K) (plain : ℕ → List ℕ) (left : List Block) (lane : ℕ) (o : Open) (offset len : ℕ) (fua : Bool) (exchanges : List Exchange) →
-    Here P old seals plain left → IsSound new → open_at old.lanes lane ≡ Some o → o.ask ≡ Write offset len fua → o.failed ≡ false → IsComplete o → Holds old lane → Ends old new lane → new.disk ≡ old.disk →
+    Here P old seals plain left → IsFine new → open_at old.lanes lane ≡ Some o → o.ask ≡ Write offset len fua → o.failed ≡ false → IsComplete o → Holds old lane → Ends old new lane → new.disk ≡ old.disk →
     AreExchanges (record { session = o.session; ask = Write offset len fua; plain = plain lane; reply = Done } ∷ []) exchanges → Served P seals old new plain left exchanges
 written_served seals old new plain left lane o offset len fua exchanges here sound at is whole complete holds goes rests are =
     let atom = old.map.atom in
@@ -211,7 +222,7 @@ written_served seals old new plain left lane o offset len fua exchanges here sou
 
 -- an operation that ends is answered
 end_by : {K P : Type 0} (seals : Seals) (old new : State K) (plain : ℕ → List ℕ) (left : List Block) (lane : ℕ) (o : Open) (ask : Ask) (exchanges : List Exchange) →
-    Here P old seals plain left → IsSound new → open_at old.lanes lane ≡ Some o → o.ask ≡ ask → has_lock ask ≡ true → (o.failed ≡ true) ⊎ ((o.failed ≡ false) × IsComplete o) → Holds old lane → Ends old new lane →
+    Here P old seals plain left → IsFine new → open_at old.lanes lane ≡ Some o → o.ask ≡ ask → has_lock ask ≡ true → (o.failed ≡ true) ⊎ ((o.failed ≡ false) × IsComplete o) → Holds old lane → Ends old new lane →
     new.disk ≡ old.disk → AreExchanges (record { session = o.session; ask = ask; plain = plain lane; reply = if o.failed then Errno 5 else full_reply ask (plain lane) } ∷ []) exchanges → Served P seals old new plain left exchanges
 end_by seals old new plain left lane o (Read offset len) exchanges here sound at is has (inl failed) holds goes rests are =
     let under_way = here.logic.sound.under_way lane o at in
@@ -235,7 +246,7 @@ end_by seals old new plain left lane o (Write offset len fua) exchanges here sou
 end_by seals old new plain left lane o Flush exchanges here sound at is has ended holds goes rests are = absurd (cc)
 
 pub finish_served : {K P : Type 0} (seals : Seals) (old new : State K) (plain : ℕ → List ℕ) (left : List Block) (lane : ℕ) (o : Open) (exchanges : List Exchange) →
-    Here P old seals plain left → IsSound new → open_at old.lanes lane ≡ Some o → has_lock o.ask ≡ true → (o.failed ≡ true) ⊎ IsComplete o → Holds old lane → Ends old new lane →
+    Here P old seals plain left → IsFine new → open_at old.lanes lane ≡ Some o → has_lock o.ask ≡ true → (o.failed ≡ true) ⊎ IsComplete o → Holds old lane → Ends old new lane →
     new.disk ≡ old.disk → AreExchanges (by_finish (Some o) (plain lane)) exchanges → Served P seals old new plain left exchanges
 finish_served seals old new plain left lane o exchanges here sound at has (inl failed) holds goes rests are =
     end_by seals old new plain left lane o o.ask exchanges here sound at refl has (inl failed) holds goes rests are

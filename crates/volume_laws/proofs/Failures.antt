@@ -117,11 +117,12 @@ record WholeRun {K : Type 0} (old : State K) (before : Bool)
   broken_is : (last_of old run).broken ≡ breaks_in before run
   map_is : (last_of old run).map ≡ old.map
   keys_are : (last_of old run).keys ≡ old.keys
+  work_is : (last_of old run).work ≡ old.work
 
 whole_run : {K : Type 0} (old : State K) (before : Bool) (run : List (Happening K)) →
     old.broken ≡ before → IsRun old run → WholeRun old before run
 unfolding IsRun last_of breaks_in
-whole_run old before [] was is = record { broken_is = was; map_is = refl; keys_are = refl }
+whole_run old before [] was is = record { broken_is = was; map_is = refl; keys_are = refl; work_is = refl }
 whole_run old before (one ∷ rest) was (meets, step, is) =
     let goes = event_effects old one.after one.event one.outcome step in
     let rest_is = whole_run one.after (before || breaks one.event one.outcome) rest (goes.broken_is
@@ -131,6 +132,7 @@ whole_run old before (one ∷ rest) was (meets, step, is) =
       map_is = rest_is.map_is
           ∙ goes.map;
       keys_are = rest_is.keys_are ∙ goes.keys;
+      work_is = rest_is.work_is ∙ goes.work;
     }
 
 pub goes_by_events : {K : Type 0} (start : State K) (run : List (Happening K)) → IsFresh start →
@@ -142,4 +144,5 @@ goes_by_events start run fresh is =
       breaks = whole.broken_is;
       map = whole.map_is;
       keys = whole.keys_are;
+      work = whole.work_is;
     }

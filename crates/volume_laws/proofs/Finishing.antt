@@ -10,18 +10,22 @@ use Rattle.volume_machine.specs.Pieces.{place_in}
 use Rattle.volume_machine.specs.Seals.{Seals}
 use Rattle.disk_views.specs.Parts.{AreBlocks, block_at}
 use Rattle.volume_machine.specs.Sound.{IsSound}
-use Rattle.volume_machine.specs.States.{State, open_at}
+use Rattle.volume_machine.specs.States.{State, open_at, IsLive, IsGoverned}
 use Rattle.volume_machine.specs.Steps.{Goes, Holds}
 use Rattle.disk_views.specs.Views.{View, IsOutside, IsUnchanged}
 use Rattle.volume_laws.proofs.Admits.{idle}
 use Rattle.disk_views.proofs.Blockwise.{one_block}
 use Rattle.disk_views.proofs.Entries.{length-changed}
-use Rattle.volume_laws.proofs.Invariant.{LaneKnows, Logic, Shown, tried_goes, writes_stay, shown_kept, lanes_still}
+use Rattle.volume_laws.proofs.Invariant.{LaneKnows, Logic, Shown, tried_goes, writes_stay, shown_kept, lanes_still, goes_stays, live_back}
 use Rattle.volume_machine.proofs.Locking.{same_or_not, holds-without}
 use Rattle.volume_laws.proofs.PlainBlocks.{block_in-changed_outside, block_in-changed_inside}
-use Rattle.volume_laws.proofs.Reading.{writes_lock, reads_lock, never_both, tried_apart, read_untried}
+use Rattle.volume_laws.proofs.Reading.{AreLive, held_apart, writes_lock, reads_lock, never_both, tried_apart, read_untried}
 use Rattle.volume_laws.proofs.Settling.{own_value}
-use Rattle.volume_laws.proofs.Writing.{in_piece, held_apart}
+use Rattle.volume_laws.proofs.Writing.{in_piece}
+use Rattle.disk_zones.proofs.ZoneFrames.{zone_kept}
+use Rattle.volume_laws.specs.Texts.{texts_of}
+use Rattle.volume_machine.specs.Working.{Works}
+use Rattle.volume_laws.proofs.Workings.{zone_renewed}
 
 -- a lane ended its operation
 abbrev pub Ends : {K : Type 0} → State K → State K → ℕ → Type 0
@@ -32,7 +36,7 @@ logic_ended old new plain left lane logic sound goes = record {
   sound = sound;
   are = rw goes.map logic.are;
   sure = λ whole b below. logic.sure (sym goes.broken_is ∙ whole) b (subst (λ m. b < m.blocks) goes.map below);
-  lanes = lanes_still old plain new plain left lane None goes.map goes.lane_is (λ k other. refl)
+  lanes = lanes_still old plain new plain left lane None (goes_stays goes) goes.lane_is (λ k other. refl)
       (λ k other held. rw goes.entries_are (holds-without lane k old.entries (λ same. other (sym same)) held)) (λ was. goes.broken_is ∙ was)
       (λ o is. absurd (cc)) logic.lanes;
 }
@@ -41,7 +45,7 @@ logic_ended old new plain left lane logic sound goes = record {
 pub shown_read_ended : {K : Type 0} (old new : State K) (plain : ℕ → List ℕ) (seals : Seals) (left : List Block) (lane : ℕ) (o : Open) (view next : View) →
     open_at old.lanes lane ≡ Some o → IsRead o.ask → Ends old new lane → IsUnchanged view next → Shown old seals plain left view → Shown new seals plain left next
 shown_read_ended old new plain seals left lane o view next is reads goes same shown =
-    shown_kept old plain new plain seals left view next goes.map
+    shown_kept old plain new plain seals left view next (goes_stays goes)
     (writes_stay old plain new plain lane None goes.map goes.lane_is (λ k other. refl) (λ b value. read_untried old plain lane b value o is reads)
     (λ b value. idle new plain lane b value goes.lane_is.own) (λ one same_one. absurd (cc)))
     (λ whole. (sym goes.broken_is ∙ whole, same.current)) same.candidates shown
@@ -59,6 +63,8 @@ pub record EndsWrite {K : Type 0} (old new : State K) (plain : ℕ → List ℕ)
   pub most : o.range.start + count ≤ o.range.end
   pub newest : (block : Block) (value : List ℕ) → (change block value).newest ≡ value
   pub has : (block : Block) (value : List ℕ) → Contains (values_of (change block value)) value
+  pub works : Works old
+  pub live : (b : ℕ) → o.range.start ≤ b → b < o.range.start + count → IsGoverned old b → ⊥
   pub keeps : ((block : Block) (value other : List ℕ) → Contains (values_of block) other → Contains (values_of (change block value)) other)
       ⊎ (IsForced o.ask × (o.settled ≡ true))
 
@@ -80,7 +86,7 @@ ended_inside : {K : Type 0} (old new : State K) (plain : ℕ → List ℕ) (left
 ended_inside old new plain left lane o change count j it below =
     block_in-changed_inside change left old.map.atom o.range.start count (plain lane) j below (inside_blocks old new plain left lane o change count j it below)
 
-ended_outside : {K : Type 0} (old : State K) (plain : ℕ → List ℕ) (left : List Block) (lane : ℕ) (o : Open) (change : Block → List ℕ → Block) (count b : ℕ) →
+pub ended_outside : {K : Type 0} (old : State K) (plain : ℕ → List ℕ) (left : List Block) (lane : ℕ) (o : Open) (change : Block → List ℕ → Block) (count b : ℕ) →
     IsOutside o.range.start count b → block_in (ended_blocks old plain left lane o change count) b ≡ block_in left b
 ended_outside old plain left lane o change count b outside = block_in-changed_outside change left old.map.atom o.range.start count (plain lane) b outside
 
@@ -142,6 +148,7 @@ knows_beside state plain left next lane o knows same = record {
   reads = λ reading i below. (let right = knows.reads reading i below in let is = same reading i below in
       (right.0 ∙ sym (ap (λ block. block.newest) is), ap (λ block. block.unsure) is ∙ right.1));
   kept = knows.kept;
+  beside = knows.beside;
   breaks = knows.breaks;
 }
 
@@ -175,7 +182,7 @@ logic_write_ended old new plain left lane o change count it sound sure =
             | inr outside ↦ ap (λ block. block.unsure) (ended_outside old plain left lane o change count b outside)
                 ∙ it.logic.sure was b (subst (λ m. b < m.blocks) goes.map below)
           ];
-      lanes = lanes_still old plain new plain next lane None goes.map goes.lane_is (λ k other. refl)
+      lanes = lanes_still old plain new plain next lane None (goes_stays goes) goes.lane_is (λ k other. refl)
           (λ k other held. rw goes.entries_are (holds-without lane k old.entries (λ same. other (sym same)) held)) (λ was. goes.broken_is ∙ was)
           (λ p is. absurd (cc))
           (λ k p is. let knows = it.logic.lanes k p is in
@@ -184,7 +191,7 @@ logic_write_ended old new plain left lane o change count it sound sure =
 
 -- the candidates of a block, after its write ended
 ended_allowed : {K : Type 0} (old new : State K) (seals : Seals) (plain : ℕ → List ℕ) (left : List Block) (lane : ℕ) (o : Open) (change : Block → List ℕ → Block) (count : ℕ) (view : View) →
-    EndsWrite old new plain left lane o change count → Shown old seals plain left view → (b : ℕ) → b < old.map.blocks → (atom : List ℕ) → Contains (view.candidates (place_in old.map b)) atom →
+    EndsWrite old new plain left lane o change count → Shown old seals plain left view → (b : ℕ) → IsLive old b → (atom : List ℕ) → Contains (view.candidates (place_in old.map b)) atom →
     (value : List ℕ) × IsAllowedAt new plain (ended_blocks old plain left lane o change count) b value × IsSealed old.map seals b value atom
 ended_allowed old new seals plain left lane o change count view it shown b below atom contains =
     let next = ended_blocks old plain left lane o change count in
@@ -273,10 +280,10 @@ shown_write_ended old new seals plain left lane o change count view next it same
     let map = it.goes.map in
     let blocks = ended_blocks old plain left lane o change count in record {
       current = λ whole b below. subst (λ m. (value : List ℕ) × IsNow new plain blocks b value × IsSealed m seals b value (next.current (place_in m b))) (sym map)
-          (let (value, is_now, sealed) = shown.current (sym it.goes.broken_is ∙ whole) b (subst (λ m. b < m.blocks) map below) in
+          (let (value, is_now, sealed) = shown.current (sym it.goes.broken_is ∙ whole) b (live_back b (goes_stays it.goes) below) in
           (value, ended_current old new plain left lane o change count it b value is_now, rw (same.current (place_in old.map b)) sealed));
       candidates = λ b below atom contains. subst (λ m. (value : List ℕ) × IsAllowedAt new plain blocks b value × IsSealed m seals b value atom) (sym map)
-          (ended_allowed old new seals plain left lane o change count view it shown b (subst (λ m. b < m.blocks) map below) atom
+          (ended_allowed old new seals plain left lane o change count view it shown b (live_back b (goes_stays it.goes) below) atom
           (same.candidates (place_in old.map b) atom (subst (λ m. Contains (next.candidates (place_in m b)) atom) map contains)));
       settled = λ k p is forced settled b from to atom contains. subst (λ m. IsSealed m seals b (block_at m.atom (plain k) (b - p.range.start)) atom) (sym map)
           (elim (same_or_not k lane) [
@@ -284,4 +291,11 @@ shown_write_ended old new seals plain left lane o change count view next it same
             | inr other ↦ shown.settled k p (sym (it.goes.lane_is.others k other) ∙ is) forced settled b from to atom
                 (same.candidates (place_in old.map b) atom (subst (λ m. Contains (next.candidates (place_in m b)) atom) map contains))
           ]);
+      zone = λ work is. (let was = sym it.goes.work ∙ is in rw map (zone_renewed old work seals left blocks old.map.atom new.broken next (it.works work was) was
+          (λ b below of. ap (λ block. block.newest) (ended_outside old plain left lane o change count b (elim (in_piece o.range.start count b) [
+            | inl (j, lt, at) ↦ absurd (it.live b (omega (arith, at)) (omega (arith, at, lt)) of)
+            | inr outside ↦ outside
+          ])))
+          (zone_kept old.map.atom work.layout work.zone (texts_of seals left work) work.phase old.broken new.broken view next
+          (λ whole. (sym it.goes.broken_is ∙ whole, same.current)) same.candidates (shown.zone work was))));
     }

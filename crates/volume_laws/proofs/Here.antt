@@ -17,7 +17,8 @@ use Rattle.disk_views.specs.Views.{View, view_of_bytes, view_of_cells, IsUnchang
 use Rattle.disk_views.proofs.Blockwise.{blocks_of_whole}
 use Rattle.disk_views.proofs.DeviceViews.{bytes-read, bytes-written, bytes-tried, bytes-synced, bytes-thinned, table-read, table-written, table-tried, table-synced, table-thinned, places_of_current, HasPlaces}
 use Rattle.volume_laws.proofs.Invariant.{Logic, Shown}
-use Rattle.volume_laws.proofs.Reading.{piece_place}
+use Rattle.volume_machine.specs.Working.{Works}
+use Rattle.volume_laws.proofs.Reading.{piece_place, AreLive}
 use Rattle.volume_laws.proofs.SealLemmas.{length-sealed}
 
 pub some_atom : (atom : ℕ) → IsAtom atom → 0 < atom
@@ -30,6 +31,7 @@ pub record Here {K : Type 0} (P : Type 0) (state : State K) (seals : Seals) (pla
   pub logic : Logic state plain left
   pub lawful : AreLawful state.map.atom seals
   pub apart : AreApart state.map
+  pub works : Works state
   pub bytes : List ℕ
   pub values : state.disk.values ≡ Some bytes
   pub shown : Shown state seals plain left (view_of_bytes state.map.atom bytes)
@@ -47,9 +49,10 @@ pub record Moves (P : Type 0) (atom : ℕ) (bytes : List ℕ) (old new : Device)
   pub by_tables : P → (told : Told) → new.told ≡ Some told → (before : Told) × (old.told ≡ Some before) × (length told.now ≡ length before.now) × Rel (view_of_cells before.now) (view_of_cells told.now)
 
 pub here_after : {K P : Type 0} (old new : State K) (seals : Seals) (plain now : ℕ → List ℕ) (left next : List Block) (Rel : View → View → Type 0) →
-    (here : Here P old seals plain left) → new.map ≡ old.map → Logic new now next → Moves P old.map.atom here.bytes old.disk new.disk Rel →
+    (here : Here P old seals plain left) → new.map ≡ old.map → Works new → Logic new now next → Moves P old.map.atom here.bytes old.disk new.disk Rel →
     ((view after : View) → Rel view after → Shown old seals plain left view → Shown new seals now next after) → Here P new seals now next
-here_after old new seals plain now left next Rel here map logic moves shows = record {
+here_after old new seals plain now left next Rel here map works logic moves shows = record {
+  works = works;
   logic = logic;
   lawful = rw map here.lawful;
   apart = rw map here.apart;
@@ -120,22 +123,22 @@ moves_by_failed_sync atom bytes old new call values =
 
 -- a piece lies within the disk's bytes and tables
 piece_length : {K : Type 0} (state : State K) (seals : Seals) (plain : ℕ → List ℕ) (left : List Block) (view : View) (o : Open) (piece : Piece) (k : ℕ) → AreLawful state.map.atom seals →
-    Shown state seals plain left view → state.broken ≡ false → IsPieceOf state.map o piece → o.range.end ≤ state.map.blocks → k < piece.count →
+    Shown state seals plain left view → state.broken ≡ false → IsPieceOf state.map o piece → AreLive state o → o.range.start ≤ o.next → k < piece.count →
     length (view.current (place_of state.map piece + k)) ≡ state.map.atom
-piece_length state seals plain left view o piece k lawful shown was next inside below =
+piece_length state seals plain left view o piece k lawful shown was next live begun below =
     let within = next.within in
-    let (value, is_now, sealed) = shown.current was (o.next + k) (omega (arith, within, inside, below)) in
+    let (value, is_now, sealed) = shown.current was (o.next + k) (live (o.next + k) (omega (arith, begun)) (omega (arith, within, below))) in
     ap (λ p. length (view.current p)) (sym (piece_place state.map o piece k next below))
     ∙ length-sealed state.map seals (o.next + k) value (view.current (place_in state.map (o.next + k))) lawful sealed
 
 pub piece_in_bytes : {K P : Type 0} (state : State K) (seals : Seals) (plain : ℕ → List ℕ) (left : List Block) (o : Open) (piece : Piece) (here : Here P state seals plain left) →
-    state.broken ≡ false → IsPieceOf state.map o piece → o.range.end ≤ state.map.blocks → (place_of state.map piece + piece.count) * state.map.atom ≤ length here.bytes
-piece_in_bytes state seals plain left o piece here was next inside =
+    state.broken ≡ false → IsPieceOf state.map o piece → AreLive state o → o.range.start ≤ o.next → (place_of state.map piece + piece.count) * state.map.atom ≤ length here.bytes
+piece_in_bytes state seals plain left o piece here was next live begun =
     blocks_of_whole state.map.atom (place_of state.map piece) piece.count here.bytes (positive state seals plain left here) next.some
-    (λ k below. piece_length state seals plain left (view_of_bytes state.map.atom here.bytes) o piece k here.lawful here.shown was next inside below)
+    (λ k below. piece_length state seals plain left (view_of_bytes state.map.atom here.bytes) o piece k here.lawful here.shown was next live begun below)
 
 pub piece_in_tables : {K P : Type 0} (state : State K) (seals : Seals) (plain : ℕ → List ℕ) (left : List Block) (o : Open) (piece : Piece) → Here P state seals plain left →
-    state.broken ≡ false → IsPieceOf state.map o piece → o.range.end ≤ state.map.blocks → P → HasPlaces state.disk (place_of state.map piece) piece.count
-piece_in_tables state seals plain left o piece here was next inside premise =
+    state.broken ≡ false → IsPieceOf state.map o piece → AreLive state o → o.range.start ≤ o.next → P → HasPlaces state.disk (place_of state.map piece) piece.count
+piece_in_tables state seals plain left o piece here was next live begun premise =
     places_of_current state.disk state.map.atom (place_of state.map piece) piece.count (positive state seals plain left here)
-    (λ before is k below. piece_length state seals plain left (view_of_cells before.now) o piece k here.lawful (here.tables premise before is) was next inside below)
+    (λ before is k below. piece_length state seals plain left (view_of_cells before.now) o piece k here.lawful (here.tables premise before is) was next live begun below)

@@ -22,3 +22,4 @@ pub mod Settling
 pub mod Tables
 pub mod VolumeStart
 pub mod Writing
+pub mod Workings

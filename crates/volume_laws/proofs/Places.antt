@@ -11,12 +11,12 @@ use Rattle.volume_machine.specs.Pieces.{known_side, place_in}
 use Rattle.volume_machine.specs.Sound.{AreApart}
 
 -- within a run of blocks on one side, and behind it
-run_inside : (side : Side) (n k : ℕ) (rest : List Side) → k < n → slice_get (replicate n side ++ rest) k ≡ Some side
+pub run_inside : (side : Side) (n k : ℕ) (rest : List Side) → k < n → slice_get (replicate n side ++ rest) k ≡ Some side
 run_inside side zero k rest below = absurd (omega (arith, below))
 run_inside side (suc n) zero rest below = refl
 run_inside side (suc n) (suc k) rest below = run_inside side n k rest (omega (arith, below))
 
-run_behind : (side : Side) (n k at : ℕ) (rest : List Side) → at ≡ n + k → slice_get (replicate n side ++ rest) at ≡ slice_get rest k
+pub run_behind : (side : Side) (n k at : ℕ) (rest : List Side) → at ≡ n + k → slice_get (replicate n side ++ rest) at ≡ slice_get rest k
 run_behind side zero k at rest is = (let same : at ≡ k = omega (arith, is) in ap (λ i. slice_get rest i) same)
 run_behind side (suc n) k zero rest is = absurd (omega (arith, is))
 run_behind side (suc n) k (suc at) rest is = run_behind side n k at rest (omega (arith, is))
@@ -26,7 +26,7 @@ last_run side zero k = inr refl
 last_run side (suc n) zero = inl refl
 last_run side (suc n) (suc k) = last_run side n k
 
-run_last : (side : Side) (n k : ℕ) → k < n → slice_get (replicate n side) k ≡ Some side
+pub run_last : (side : Side) (n k : ℕ) → k < n → slice_get (replicate n side) k ≡ Some side
 run_last side zero k below = absurd (omega (arith, below))
 run_last side (suc n) zero below = refl
 run_last side (suc n) (suc k) below = run_last side n k (omega (arith, below))

@@ -17,12 +17,12 @@ use Rattle.volume_machine.specs.Runs.{with_plain, plain_piece}
 use Rattle.volume_machine.specs.Seals.{Seals, AreLawful}
 use Rattle.disk_views.specs.Parts.{AreBlocks, block_at}
 use Rattle.volume_machine.specs.Sound.{IsSound}
-use Rattle.volume_machine.specs.States.{State, open_at}
+use Rattle.volume_machine.specs.States.{State, open_at, IsLive}
 use Rattle.volume_machine.specs.Steps.{GetsPiece, HasPiece, Holds, Goes}
 use Rattle.disk_views.specs.Views.{View, IsUnchanged}
 use Rattle.volume_laws.proofs.Admits.{plain-other, plain-own}
 use Rattle.disk_views.proofs.Blockwise.{block_at-front, block_at-behind, blocks_joined}
-use Rattle.volume_laws.proofs.Invariant.{IsRight, LaneKnows, Logic, Shown, KeepsWrites, writes_stay, writes_go_on, shown_kept, knows_still, lanes_still}
+use Rattle.volume_laws.proofs.Invariant.{IsRight, LaneKnows, Logic, Shown, KeepsWrites, writes_stay, writes_go_on, shown_kept, knows_still, lanes_still, goes_stays, governed_back}
 use Rattle.volume_machine.proofs.Locking.{either, same_or_not, holders-apart}
 
 -- a lane's entry in the table
@@ -68,6 +68,17 @@ tried_apart state plain left lane other b value o logic some differ is has holds
       inr (writes_alone tried.o.ask tried.writes),
     )
 
+-- two lanes that hold have no block in common where one of them writes
+pub held_apart : {K : Type 0} (state : State K) (lane other b : ℕ) (o p : Open) → IsSound state → lane ≢ other →
+    open_at state.lanes lane ≡ Some o → has_lock o.ask ≡ true → Holds state lane → o.range.start ≤ b → b < o.range.end →
+    open_at state.lanes other ≡ Some p → IsWrite p.ask → Holds state other → p.range.start ≤ b → b < p.range.end → ⊥
+held_apart state lane other b o p sound differ is has holds from to others_is writes others_hold others_from others_to =
+    let range : o.range ≡ range_of state.map.atom o.ask = (sound.under_way lane o is).range_is in
+    let others_range : p.range ≡ range_of state.map.atom p.ask = (sound.under_way other p others_is).range_is in
+    holders-apart lane other (entry_of state.map.atom lane o.ask) (entry_of state.map.atom other p.ask) state.entries differ
+    (entry_is state lane o sound is has) (entry_is state other p sound others_is (writes_lock p.ask writes)) holds others_hold
+    ((b, ((rw (← range) from, rw (← range) to), (rw (← others_range) others_from, rw (← others_range) others_to))), inr (writes_alone p.ask writes))
+
 -- the blocks of a piece are on its side, in places one after the other
 pub piece_side : (map : Map) (o : Open) (piece : Piece) (k : ℕ) → IsPieceOf map o piece → k < piece.count → side_in map (o.next + k) ≡ piece.side
 piece_side map o piece k next below = rw (next.one_side k below) refl
@@ -97,7 +108,7 @@ piece_block map seals o piece bytes k lawful next are below =
 
 -- a block that was read is right, where no unfinished write has tried it
 right_read : {K : Type 0} (state : State K) (seals : Seals) (plain : ℕ → List ℕ) (left : List Block) (view : View) (b : ℕ) (sealed : List ℕ) →
-    AreLawful state.map.atom seals → Logic state plain left → Shown state seals plain left view → state.broken ≡ false → b < state.map.blocks →
+    AreLawful state.map.atom seals → Logic state plain left → Shown state seals plain left view → state.broken ≡ false → IsLive state b →
     ((lane : ℕ) (value : List ℕ) → IsTriedBy state plain lane b value → ⊥) → sealed ≡ view.current (place_in state.map b) →
     IsRight left b (seals.opened (side_in state.map b) b sealed)
 right_read state seals plain left view b sealed lawful logic shown was below untried same =
@@ -107,15 +118,19 @@ right_read state seals plain left view b sealed lawful logic shown was below unt
       | inr only ↦ only.1
     ] in (
       ap (λ bytes. seals.opened (side_in state.map b) b bytes) (same ∙ is_sealed.1) ∙ lawful.opens_sealed (side_in state.map b) b value is_sealed.0 ∙ newest,
-      logic.sure was b below,
+      logic.sure was b below.inside,
     )
+
+-- no block of an operation is the zone's
+abbrev pub AreLive : {K : Type 0} → State K → Open → Type 0
+AreLive state o = (b : ℕ) → o.range.start ≤ b → b < o.range.end → IsLive state b
 
 -- a piece was read
 knows_read : {K : Type 0} (old new : State K) (seals : Seals) (plain : ℕ → List ℕ) (left : List Block) (view : View) (lane : ℕ) (o : Open) (bytes : List ℕ) →
-    AreLawful old.map.atom seals → 0 < old.map.atom → Logic old plain left → Shown old seals plain left view → open_at old.lanes lane ≡ Some o → IsRead o.ask → HasPiece o → Holds old lane →
+    AreLawful old.map.atom seals → 0 < old.map.atom → Logic old plain left → Shown old seals plain left view → AreLive old o → open_at old.lanes lane ≡ Some o → IsRead o.ask → HasPiece o → Holds old lane →
     (is : GetsPiece old lane o bytes new) → ((k : ℕ) → k < is.piece.count → block_at old.map.atom bytes k ≡ view.current (place_of old.map is.piece + k)) →
     LaneKnows new (with_plain plain lane (plain lane ++ plain_piece seals old lane bytes)) left lane (moved o is.piece)
-knows_read old new seals plain left view lane o bytes lawful some logic shown at reads has holds is content =
+knows_read old new seals plain left view lane o bytes lawful some logic shown live at reads has holds is content =
     let piece = is.piece in
     let map = is.goes.map in
     let knows = logic.lanes lane o at in
@@ -148,7 +163,7 @@ knows_read old new seals plain left view lane o bytes lawful some logic shown at
             ap (λ n. block_at old.map.atom (plain lane ++ opened) n) place
             ∙ block_at-behind old.map.atom knows.count (plain lane) opened j knows.are.size
             ∙ piece_block old.map seals o piece bytes j lawful is.next is.are lt in
-            rw (b, value) (right_read old seals plain left view (o.next + j) (block_at old.map.atom bytes j) lawful logic shown is.was (omega (arith, lt, within, inside))
+            rw (b, value) (right_read old seals plain left view (o.next + j) (block_at old.map.atom bytes j) lawful logic shown is.was (live (o.next + j) (omega (arith, begun)) (omega (arith, lt, within)))
             (λ other tried_value tried. elim (same_or_not lane other) [
               | inl same ↦ absurd (not_both o.ask reads (let one : tried.o ≡ o = (let t = tried.is in let u = ap (λ n. open_at old.lanes n) same in cc) in subst (λ p. IsWrite p.ask) one tried.writes))
               | inr differ ↦ tried_apart old plain left lane other (o.next + j) tried_value o logic some differ at (reads_lock o.ask reads) holds
@@ -158,6 +173,7 @@ knows_read old new seals plain left view lane o bytes lawful some logic shown at
       ]);
       kept = λ settled. absurd (let kept = knows.kept settled in let more = has.some in omega (arith, kept, more));
       breaks = λ writes failed. absurd (not_both o.ask reads writes);
+      beside = λ b from to of. (live b from (omega (arith, to, exact, within))).free (governed_back b (goes_stays is.goes) of);
     }
   where
     not_both : (ask : Ask) → IsRead ask → IsWrite ask → ⊥
@@ -182,17 +198,17 @@ read_untried state plain lane b value o at reads tried =
     never_both o.ask reads (let one : tried.o ≡ o = (let t = tried.is in cc) in subst (λ p. IsWrite p.ask) one tried.writes)
 
 pub logic_read : {K : Type 0} (old new : State K) (seals : Seals) (plain : ℕ → List ℕ) (left : List Block) (view : View) (lane : ℕ) (o : Open) (bytes : List ℕ) →
-    AreLawful old.map.atom seals → 0 < old.map.atom → Logic old plain left → IsSound new → Shown old seals plain left view → open_at old.lanes lane ≡ Some o → IsRead o.ask → HasPiece o → Holds old lane →
+    AreLawful old.map.atom seals → 0 < old.map.atom → Logic old plain left → IsSound new → Shown old seals plain left view → AreLive old o → open_at old.lanes lane ≡ Some o → IsRead o.ask → HasPiece o → Holds old lane →
     (is : GetsPiece old lane o bytes new) → ((k : ℕ) → k < is.piece.count → block_at old.map.atom bytes k ≡ view.current (place_of old.map is.piece + k)) →
     Logic new (with_plain plain lane (plain lane ++ plain_piece seals old lane bytes)) left
-logic_read old new seals plain left view lane o bytes lawful some logic sound shown at reads has holds is content = record {
+logic_read old new seals plain left view lane o bytes lawful some logic sound shown live at reads has holds is content = record {
   sound = sound;
   are = rw is.goes.map logic.are;
   sure = λ whole b below. logic.sure is.was b (subst (λ m. b < m.blocks) is.goes.map below);
-  lanes = lanes_still old plain new (with_plain plain lane (plain lane ++ plain_piece seals old lane bytes)) left lane (Some (moved o is.piece)) is.goes.map is.goes.lane_is
+  lanes = lanes_still old plain new (with_plain plain lane (plain lane ++ plain_piece seals old lane bytes)) left lane (Some (moved o is.piece)) (goes_stays is.goes) is.goes.lane_is
       (plain-other plain lane (plain lane ++ plain_piece seals old lane bytes)) (λ k other held. rw is.goes.entries_are held) (λ was. absurd (let whole = is.was in cc))
       (λ one same. let e : one ≡ moved o is.piece = cc in
-      rw e (knows_read old new seals plain left view lane o bytes lawful some logic shown at reads has holds is content)) logic.lanes;
+      rw e (knows_read old new seals plain left view lane o bytes lawful some logic shown live at reads has holds is content)) logic.lanes;
 }
 
 pub shown_read : {K : Type 0} (old new : State K) (seals : Seals) (plain : ℕ → List ℕ) (left : List Block) (view next : View) (lane : ℕ) (o : Open) (bytes : List ℕ) →
@@ -200,7 +216,7 @@ pub shown_read : {K : Type 0} (old new : State K) (seals : Seals) (plain : ℕ �
     Shown new seals (with_plain plain lane (plain lane ++ plain_piece seals old lane bytes)) left next
 shown_read old new seals plain left view next lane o bytes at reads is same shown =
     let now = with_plain plain lane (plain lane ++ plain_piece seals old lane bytes) in
-    shown_kept old plain new now seals left view next is.goes.map
+    shown_kept old plain new now seals left view next (goes_stays is.goes)
     (writes_stay old plain new now lane (Some (moved o is.piece)) is.goes.map is.goes.lane_is
     (plain-other plain lane (plain lane ++ plain_piece seals old lane bytes)) (λ b value. read_untried old plain lane b value o at reads)
     (λ b value. read_untried new now lane b value (moved o is.piece) is.goes.lane_is.own reads)
@@ -219,6 +235,7 @@ knows_failing state plain left lane o breaks knows = record {
   holds = knows.holds;
   reads = knows.reads;
   kept = knows.kept;
+  beside = knows.beside;
   breaks = λ writes failed. breaks writes;
 }
 
@@ -237,14 +254,14 @@ logic_goes_on old new plain left lane next is_broken logic sound goes unbroken o
   sound = sound;
   are = rw goes.map logic.are;
   sure = λ whole b below. logic.sure (unbroken (sym goes.broken_is ∙ whole)) b (subst (λ m. b < m.blocks) goes.map below);
-  lanes = lanes_still old plain new plain left lane next goes.map goes.lane_is (λ k other. refl) (λ k other held. rw goes.entries_are held)
+  lanes = lanes_still old plain new plain left lane next (goes_stays goes) goes.lane_is (λ k other. refl) (λ k other held. rw goes.entries_are held)
       (still_broken old new lane old.entries next is_broken goes unbroken) own logic.lanes;
 }
 
 pub knows_on : {K : Type 0} (old new : State K) (plain : ℕ → List ℕ) (left : List Block) (lane : ℕ) (next : Option Open) (is_broken : Bool) (o : Open) →
     Goes old new lane old.entries next is_broken → (is_broken ≡ false → old.broken ≡ false) → LaneKnows old plain left lane o → LaneKnows new plain left lane o
 knows_on old new plain left lane next is_broken o goes unbroken knows =
-    knows_still old plain new plain left lane o goes.map refl (λ held. rw goes.entries_are held) (still_broken old new lane old.entries next is_broken goes unbroken) knows
+    knows_still old plain new plain left lane o goes.map refl (λ held. rw goes.entries_are held) (still_broken old new lane old.entries next is_broken goes unbroken) knows (λ b from to of. knows.beside b from to (governed_back b (goes_stays goes) of))
 
 pub logic_failed : {K : Type 0} (old new : State K) (plain : ℕ → List ℕ) (left : List Block) (lane : ℕ) (o : Open) (is_broken : Bool) →
     Logic old plain left → IsSound new → open_at old.lanes lane ≡ Some o → Goes old new lane old.entries (Some (failing o)) is_broken → (is_broken ≡ false → old.broken ≡ false) →

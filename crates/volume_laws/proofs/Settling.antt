@@ -1,4 +1,7 @@
 -- Settles: what holds between events goes on to hold.
+use Rattle.disk_zones.specs.Zones.{ShowsZone}
+use Rattle.disk_zones.proofs.ZoneFrames.{zone_stays, zone_whole}
+use Rattle.disk_zones.specs.Calls.{syncs}
 use Rattle.std.proofs.Common.{◌≡◌, inl, inr, ℕ, suc, ◌+◌, ◌-◌, ◌*◌, ◌<◌, ◌≤◌, Bool, true, false, List, length, map, Contains, Some, None, refl, sym, ◌∙◌, ap, subst, arith}
 use Rattle.std.proofs.lemmas.List.{length-map}
 use Rattle.plain_disk.specs.Plain.{Block, values_of, flushed}
@@ -9,11 +12,14 @@ use Rattle.volume_machine.specs.Pieces.{place_in, settling}
 use Rattle.volume_machine.specs.Seals.{Seals}
 use Rattle.disk_views.specs.Parts.{block_at}
 use Rattle.volume_machine.specs.Sound.{IsSound}
-use Rattle.volume_machine.specs.States.{State, open_at}
+use Rattle.volume_machine.specs.States.{State, open_at, IsLive, IsGoverned}
 use Rattle.volume_machine.specs.Steps.{Goes, Holds}
 use Rattle.disk_views.specs.Views.{View, IsSynced, IsThinned}
 use Rattle.volume_laws.proofs.Admits.{idle}
-use Rattle.volume_laws.proofs.Invariant.{LaneKnows, Logic, Shown, KeepsTried, KeepsWrites, tried_go_on, tried_stay, writes_stay, now_kept, shown_kept}
+use Rattle.volume_laws.proofs.Invariant.{LaneKnows, Logic, Shown, KeepsTried, KeepsWrites, tried_go_on, tried_stay, writes_stay, now_kept, shown_kept, goes_stays, live_back, Stays}
+use Rattle.volume_machine.specs.Working.{Works}
+use Rattle.volume_laws.specs.Texts.{texts_of}
+use Rattle.volume_laws.proofs.Workings.{ended_live, zone_renewed}
 use Rattle.volume_machine.proofs.Locking.{same_or_not}
 use Rattle.volume_laws.proofs.PlainBlocks.{block_in-flushed, newest_contained}
 use Rattle.volume_laws.proofs.Reading.{writes_lock, forced_writes, knows_on, logic_goes_on, tried_apart}
@@ -50,17 +56,17 @@ SettledBefore old new = (lane : ℕ) (o : Open) → open_at new.lanes lane ≡ S
     (p : Open) × (open_at old.lanes lane ≡ Some p) × IsForced p.ask × (p.range ≡ o.range) × (p.next ≡ p.range.end)
 
 pub shown_synced : {K : Type 0} (old new : State K) (plain : ℕ → List ℕ) (seals : Seals) (left next_left : List Block) (view next : View) →
-    0 < old.map.atom → Logic old plain left → new.map ≡ old.map → old.broken ≡ false → KeepsTried old plain new plain →
+    0 < old.map.atom → Logic old plain left → Works old → Stays old new → old.broken ≡ false → KeepsTried old plain new plain →
     ((b : ℕ) → b < old.map.blocks → (block_in next_left b).newest ≡ (block_in left b).newest) → SettledBefore old new → IsSynced view next →
     Shown old seals plain left view → Shown new seals plain next_left next
-shown_synced old new plain seals left next_left view next some logic map was keeps newest settled synced shown = record {
+shown_synced old new plain seals left next_left view next some logic works stays was keeps newest settled synced shown = let map = stays.map in record {
   current = λ whole b below. subst (λ m. (value : List ℕ) × IsNow new plain next_left b value × IsSealed m seals b value (next.current (place_in m b))) (sym map)
-      (let inside = subst (λ m. b < m.blocks) map below in
-      let (value, is_now, sealed) = shown.current was b inside in
+      (let live = live_back b stays below in let inside = live.inside in
+      let (value, is_now, sealed) = shown.current was b live in
       (value, renewed b value inside (now_kept old plain new plain left b value keeps is_now), rw (synced.current (place_in old.map b)) sealed));
   candidates = λ b below atom contains. subst (λ m. (value : List ℕ) × IsAllowedAt new plain next_left b value × IsSealed m seals b value atom) (sym map)
-      (let inside = subst (λ m. b < m.blocks) map below in
-      let (value, is_now, sealed) = shown.current was b inside in
+      (let live = live_back b stays below in let inside = live.inside in
+      let (value, is_now, sealed) = shown.current was b live in
       let same : atom ≡ view.current (place_in old.map b) = synced.candidates (place_in old.map b) atom (subst (λ m. Contains (next.candidates (place_in m b)) atom) map contains) in
       (value, allowed b value (renewed b value inside (now_kept old plain new plain left b value keeps is_now)), rw same sealed));
   settled = λ lane o is forced is_settled b from to atom contains. subst (λ m. IsSealed m seals b (block_at m.atom (plain lane) (b - o.range.start)) atom) (sym map)
@@ -69,12 +75,16 @@ shown_synced old new plain seals left next_left view next some logic map was kee
       let p_to : b < p.range.end = rw range to in
       let knows = logic.lanes lane p at in
       let enough = tried_whole old plain left lane b p knows whole p_from p_to in
-      let inside : b < old.map.blocks = (let most = (logic.sound.under_way lane p at).inside in omega (arith, most, p_to)) in
       let holds : Holds old lane = knows.holds (let least = knows.least in omega (arith, least, whole, p_from, p_to)) in
-      let (value, is_now, sealed) = shown.current was b inside in
+      let live = ended_live old lane p logic.sound works was at (writes_lock p.ask (forced_writes p.ask is_forced)) holds (omega (arith, whole, p_from, p_to)) in
+      let (value, is_now, sealed) = shown.current was b (live b p_from p_to) in
       let own = own_value old plain left lane b value p logic some at (forced_writes p.ask is_forced) holds p_from p_to enough is_now in
       let same : atom ≡ view.current (place_in old.map b) = synced.candidates (place_in old.map b) atom (subst (λ m. Contains (next.candidates (place_in m b)) atom) map contains) in
       rw (← range, ← own, same) sealed);
+  zone = λ work is. (let was_so = sym stays.work ∙ is in rw map (zone_renewed old work seals left next_left old.map.atom new.broken next (works work was_so) was_so (λ b below of. newest b below)
+      (zone_whole old.map.atom work.layout work.zone (texts_of seals left work) work.phase new.broken next
+      (zone_stays old.map.atom work.layout work.zone (texts_of seals left work) work.phase false view next (syncs synced)
+      (subst (λ b. ShowsZone old.map.atom work.layout work.zone (texts_of seals left work) work.phase b view) was (shown.zone work was_so))))));
 }
   where
     renewed : (b : ℕ) (value : List ℕ) → b < old.map.blocks → IsNow new plain left b value → IsNow new plain next_left b value
@@ -109,12 +119,13 @@ logic_renewed state plain left next logic are renewed = record {
         reads = λ reading k below. (let right = knows.reads reading k below in let b_inside : o.range.start + k < state.map.blocks = omega (arith, below, most, inside) in
             (right.0 ∙ sym (renewed.newest (o.range.start + k) b_inside), renewed.unsure (o.range.start + k) b_inside ∙ right.1));
         kept = knows.kept;
+        beside = knows.beside;
         breaks = knows.breaks;
       };
 }
 
 -- a flush makes the newest values the only ones
-flush_renews : (left : List Block) → AreRenewed left (map flushed left) (length left)
+pub flush_renews : (left : List Block) → AreRenewed left (map flushed left) (length left)
 flush_renews left = record {
   newest = λ b below. ap (λ block. block.newest) (block_in-flushed left b below);
   unsure = λ b below. ap (λ block. block.unsure) (block_in-flushed left b below);
@@ -141,10 +152,10 @@ logic_flushed old new plain left lane logic sound goes was =
     renewed
 
 pub shown_flushed : {K : Type 0} (old new : State K) (plain : ℕ → List ℕ) (seals : Seals) (left : List Block) (lane : ℕ) (o : Open) (view next : View) → 0 < old.map.atom → Logic old plain left →
-    open_at old.lanes lane ≡ Some o → has_lock o.ask ≡ false → Goes old new lane old.entries None false → old.broken ≡ false → IsSynced view next → Shown old seals plain left view →
+    open_at old.lanes lane ≡ Some o → has_lock o.ask ≡ false → Goes old new lane old.entries None false → old.broken ≡ false → Works old → IsSynced view next → Shown old seals plain left view →
     Shown new seals plain (map flushed left) next
-shown_flushed old new plain seals left lane o view next some logic is free goes was synced shown =
-    shown_synced old new plain seals left (map flushed left) view next some logic goes.map was
+shown_flushed old new plain seals left lane o view next some logic is free goes was works synced shown =
+    shown_synced old new plain seals left (map flushed left) view next some logic works (goes_stays goes) was
     (tried_stay old plain new plain lane None goes.map goes.lane_is (λ k other. refl) (λ b value. flush_untried old plain lane b value o is free)
     (λ b value. idle new plain lane b value goes.lane_is.own))
     (λ b below. (flush_renews left).newest b (let count = logic.are.count in omega (arith, count, below)))
@@ -169,7 +180,7 @@ logic_unflushed old new plain left lane is_broken logic sound goes unbroken =
 pub shown_unflushed : {K : Type 0} (old new : State K) (plain : ℕ → List ℕ) (seals : Seals) (left : List Block) (lane : ℕ) (o : Open) (view next : View) →
     open_at old.lanes lane ≡ Some o → has_lock o.ask ≡ false → Goes old new lane old.entries None true → IsThinned view next → Shown old seals plain left view → Shown new seals plain left next
 shown_unflushed old new plain seals left lane o view next is free goes thinned shown =
-    shown_kept old plain new plain seals left view next goes.map (flush_keeps old new plain lane o true is free goes)
+    shown_kept old plain new plain seals left view next (goes_stays goes) (flush_keeps old new plain lane o true is free goes)
     (λ whole. absurd (let yes_broken = goes.broken_is in cc)) thinned shown
 
 -- a write that is settled
@@ -185,6 +196,7 @@ knows_settled state plain left lane o whole knows = record {
   reads = knows.reads;
   kept = λ settled. whole;
   breaks = knows.breaks;
+  beside = knows.beside;
 }
 
 pub logic_settled : {K : Type 0} (old new : State K) (plain : ℕ → List ℕ) (left : List Block) (lane : ℕ) (o : Open) → Logic old plain left → IsSound new → open_at old.lanes lane ≡ Some o →
@@ -195,10 +207,10 @@ logic_settled old new plain left lane o logic sound is whole goes was =
     rw e (knows_settled new plain left lane o whole (knows_on old new plain left lane (Some (settling o)) false o goes (λ stays. was) (logic.lanes lane o is))))
 
 pub shown_settled : {K : Type 0} (old new : State K) (plain : ℕ → List ℕ) (seals : Seals) (left : List Block) (lane : ℕ) (o : Open) (view next : View) → 0 < old.map.atom → Logic old plain left →
-    open_at old.lanes lane ≡ Some o → IsForced o.ask → o.next ≡ o.range.end → Goes old new lane old.entries (Some (settling o)) false → old.broken ≡ false → IsSynced view next →
+    open_at old.lanes lane ≡ Some o → IsForced o.ask → o.next ≡ o.range.end → Goes old new lane old.entries (Some (settling o)) false → old.broken ≡ false → Works old → IsSynced view next →
     Shown old seals plain left view → Shown new seals plain left next
-shown_settled old new plain seals left lane o view next some logic is forced whole goes was synced shown =
-    shown_synced old new plain seals left left view next some logic goes.map was
+shown_settled old new plain seals left lane o view next some logic is forced whole goes was works synced shown =
+    shown_synced old new plain seals left left view next some logic works (goes_stays goes) was
     (tried_go_on old plain new plain lane o (settling o) goes.map goes.lane_is is refl refl (λ k. refl)) (λ b below. refl)
     (λ k one at is_forced settled. elim (same_or_not k lane) [
       | inl same ↦ (let e : one ≡ settling o = (let own = ap (λ n. open_at new.lanes n) same ∙ goes.lane_is.own in cc) in

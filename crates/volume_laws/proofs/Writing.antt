@@ -11,25 +11,21 @@ use Rattle.volume_machine.specs.Runs.{with_plain, plain_piece}
 use Rattle.volume_machine.specs.Seals.{Seals, AreLawful}
 use Rattle.disk_views.specs.Parts.{AreBlocks, block_at}
 use Rattle.volume_machine.specs.Sound.{IsSound, AreApart}
-use Rattle.volume_machine.specs.States.{State, open_at}
+use Rattle.volume_machine.specs.States.{State, open_at, IsLive}
 use Rattle.volume_machine.specs.Steps.{HasPiece, Holds, Goes}
 use Rattle.disk_views.specs.Views.{View, IsOutside, IsTried, IsWritten}
 use Rattle.volume_laws.proofs.Admits.{plain-other, plain-own}
 use Rattle.disk_views.proofs.Blockwise.{block_at-front, block_at-behind, blocks_joined, one_block}
-use Rattle.volume_laws.proofs.Invariant.{LaneKnows, Logic, Shown, tried_goes, lanes_still}
+use Rattle.volume_laws.proofs.Invariant.{LaneKnows, Logic, Shown, tried_goes, lanes_still, goes_stays, live_back, governed_back}
 use Rattle.volume_machine.proofs.Locking.{either, same_or_not, holders-apart}
-use Rattle.volume_laws.proofs.Reading.{entry_is, writes_lock, writes_alone, never_both, forced_writes, still_broken, piece_place, piece_blocks, piece_block}
-
--- two lanes that hold have no block in common where one of them writes
-pub held_apart : {K : Type 0} (state : State K) (lane other b : ℕ) (o p : Open) → IsSound state → lane ≢ other →
-    open_at state.lanes lane ≡ Some o → has_lock o.ask ≡ true → Holds state lane → o.range.start ≤ b → b < o.range.end →
-    open_at state.lanes other ≡ Some p → IsWrite p.ask → Holds state other → p.range.start ≤ b → b < p.range.end → ⊥
-held_apart state lane other b o p sound differ is has holds from to others_is writes others_hold others_from others_to =
-    let range : o.range ≡ range_of state.map.atom o.ask = (sound.under_way lane o is).range_is in
-    let others_range : p.range ≡ range_of state.map.atom p.ask = (sound.under_way other p others_is).range_is in
-    holders-apart lane other (entry_of state.map.atom lane o.ask) (entry_of state.map.atom other p.ask) state.entries differ
-    (entry_is state lane o sound is has) (entry_is state other p sound others_is (writes_lock p.ask writes)) holds others_hold
-    ((b, ((rw (← range) from, rw (← range) to), (rw (← others_range) others_from, rw (← others_range) others_to))), inr (writes_alone p.ask writes))
+use Rattle.volume_machine.specs.Working.{Works}
+use Rattle.volume_laws.specs.Texts.{texts_of}
+use Rattle.volume_machine.specs.Works.{Work}
+use Rattle.disk_areas.specs.Areas.{Area}
+use Rattle.disk_zones.specs.Zones.{ShowsZone, Reaches}
+use Rattle.disk_zones.proofs.ZoneFrames.{zone_stays, zone_whole}
+use Rattle.disk_zones.specs.Calls.{writes_beside, write_fails_beside}
+use Rattle.volume_laws.proofs.Reading.{AreLive, held_apart, entry_is, writes_lock, writes_alone, never_both, forced_writes, still_broken, piece_place, piece_blocks, piece_block}
 
 -- the place of a block that isn't the piece's is none of the piece's places
 pub place_outside : (map : Map) (o : Open) (piece : Piece) (b : ℕ) → AreApart map → IsPieceOf map o piece → o.range.end ≤ map.blocks → b < map.blocks →
@@ -70,6 +66,9 @@ pub record TriesPiece {K : Type 0} (old new : State K) (seals : Seals) (plain : 
   pub ask : next.ask ≡ o.ask
   pub range : next.range ≡ o.range
   pub unsettled : next.settled ≡ o.settled
+  pub live : AreLive old o
+  pub works : Works old
+  pub whole : old.broken ≡ false
 
 -- what it knows then
 abbrev pub now_of : {K : Type 0} → State K → Seals → (ℕ → List ℕ) → ℕ → List ℕ → ℕ → List ℕ
@@ -210,7 +209,7 @@ still_allowed old new seals plain left lane o next piece bytes b value it (inr (
 -- candidates after a piece that came to the disk, whether its write failed or not
 tried_candidates : {K : Type 0} (old new : State K) (seals : Seals) (plain : ℕ → List ℕ) (left : List Block) (lane : ℕ) (o next : Open) (piece : Piece) (bytes : List ℕ) (view after : View) →
     TriesPiece old new seals plain left lane o next piece bytes → IsTried old.map.atom (place_of old.map piece) piece.count bytes view after → Shown old seals plain left view →
-    (b : ℕ) → b < old.map.blocks → (atom : List ℕ) → Contains (after.candidates (place_in old.map b)) atom →
+    (b : ℕ) → IsLive old b → (atom : List ℕ) → Contains (after.candidates (place_in old.map b)) atom →
     (value : List ℕ) × IsAllowedAt new (now_of old seals plain lane bytes) left b value × IsSealed old.map seals b value atom
 tried_candidates old new seals plain left lane o next piece bytes view after it tried shown b below atom contains =
     let was : Contains (view.candidates (place_in old.map b)) atom → (value : List ℕ) × IsAllowedAt new (now_of old seals plain lane bytes) left b value × IsSealed old.map seals b value atom =
@@ -232,7 +231,7 @@ tried_candidates old new seals plain left lane o next piece bytes view after it 
             )
           ]
       | inr outside ↦ was (tried.outside (place_in old.map b)
-          (place_outside old.map o piece b it.apart it.is_piece (it.logic.sound.under_way lane o it.at).inside below outside) atom contains)
+          (place_outside old.map o piece b it.apart it.is_piece (it.logic.sound.under_way lane o it.at).inside below.inside outside) atom contains)
     ]
 
 -- a write that is settled knows all its blocks, so it holds
@@ -276,7 +275,7 @@ tried_settled old new seals plain left lane o next piece bytes view after it tri
 -- what each block holds after a piece was written
 written_current : {K : Type 0} (old new : State K) (seals : Seals) (plain : ℕ → List ℕ) (left : List Block) (lane : ℕ) (o next : Open) (piece : Piece) (bytes : List ℕ) (view after : View) →
     TriesPiece old new seals plain left lane o next piece bytes → IsWritten old.map.atom (place_of old.map piece) piece.count bytes view after → Shown old seals plain left view → old.broken ≡ false →
-    (b : ℕ) → b < old.map.blocks → (value : List ℕ) × IsNow new (now_of old seals plain lane bytes) left b value × IsSealed old.map seals b value (after.current (place_in old.map b))
+    (b : ℕ) → IsLive old b → (value : List ℕ) × IsNow new (now_of old seals plain lane bytes) left b value × IsSealed old.map seals b value (after.current (place_in old.map b))
 written_current old new seals plain left lane o next piece bytes view after it written shown was b below = elim (in_piece o.next piece.count b) [
   | inl (j, lt, is) ↦
       let place : place_in old.map b ≡ place_of old.map piece + j = ap (λ n. place_in old.map n) is ∙ piece_place old.map o piece j it.is_piece lt in (
@@ -291,7 +290,7 @@ written_current old new seals plain left lane o next piece bytes view after it w
       )
   | inr outside ↦
       let (value, is_now, sealed) = shown.current was b below in
-      let away = place_outside old.map o piece b it.apart it.is_piece (it.logic.sound.under_way lane o it.at).inside below outside in
+      let away = place_outside old.map o piece b it.apart it.is_piece (it.logic.sound.under_way lane o it.at).inside below.inside outside in
       (value, still_now value outside is_now, rw (written.outside (place_in old.map b) away) sealed)
 ]
   where
@@ -321,6 +320,7 @@ knows_tried old new seals plain left lane o next piece bytes it least exact_next
       reads = λ reading k below. absurd (never_both o.ask (subst (λ a. IsRead a) it.ask reading) it.writes);
       kept = λ settled. absurd (let kept = knows.kept (sym it.unsettled ∙ settled) in let more = it.has.some in omega (arith, kept, more));
       breaks = λ writes failed. breaks failed;
+      beside = λ b from to of. (it.live b (rw (← range) from) (let last = subst (λ r. b < r.start + (knows.count + piece.count)) range to in omega (arith, last, exact, ends))).free (governed_back b (goes_stays it.goes) of);
     }
 
 pub logic_tried : {K : Type 0} (old new : State K) (seals : Seals) (plain : ℕ → List ℕ) (left : List Block) (lane : ℕ) (o next : Open) (piece : Piece) (bytes : List ℕ) →
@@ -330,12 +330,29 @@ logic_tried old new seals plain left lane o next piece bytes it sound unbroken l
   sound = sound;
   are = rw it.goes.map it.logic.are;
   sure = λ whole b below. it.logic.sure (unbroken (sym it.goes.broken_is ∙ whole)) b (subst (λ m. b < m.blocks) it.goes.map below);
-  lanes = lanes_still old plain new (now_of old seals plain lane bytes) left lane (Some next) it.goes.map it.goes.lane_is
+  lanes = lanes_still old plain new (now_of old seals plain lane bytes) left lane (Some next) (goes_stays it.goes) it.goes.lane_is
       (plain-other plain lane (plain lane ++ plain_piece seals old lane bytes)) (λ k other held. rw it.goes.entries_are held)
       (still_broken old new lane old.entries (Some next) it.is_broken it.goes unbroken)
       (λ one same. let e : one ≡ next = cc in
       rw e (knows_tried old new seals plain left lane o next piece bytes it least exact (λ failed. it.goes.broken_is ∙ breaks failed))) it.logic.lanes;
 }
+
+-- the zone's areas lie apart from a piece
+piece_away : {K : Type 0} (old : State K) (seals : Seals) (plain : ℕ → List ℕ) (left : List Block) (lane : ℕ) (o next : Open) (piece : Piece) (bytes : List ℕ) (work : Work) (new : State K) →
+    TriesPiece old new seals plain left lane o next piece bytes → old.work ≡ Some work →
+    (area : Area) → Reaches work.layout work.zone area → (i : ℕ) → i < area.count → IsOutside (place_of old.map piece) piece.count (area.start + i)
+piece_away old seals plain left lane o next piece bytes work new it is area of i below = elim (in_piece (place_of old.map piece) piece.count (area.start + i)) [
+  | inl (j, lt, same) ↦
+      let within = it.is_piece.within in
+      let begun = (it.logic.sound.under_way lane o it.at).begun in
+      let away = (it.works work is).away (o.next + j) (it.live (o.next + j) (omega (arith, begun)) (omega (arith, lt, within))) area of in
+      let place : place_in old.map (o.next + j) ≡ area.start + i = piece_place old.map o piece j it.is_piece lt ∙ sym same in
+      absurd (elim away [
+        | inl before ↦ omega (arith, before, place)
+        | inr behind ↦ omega (arith, behind, place, below)
+      ])
+  | inr outside ↦ outside
+]
 
 -- a piece was written
 pub shown_written : {K : Type 0} (old new : State K) (seals : Seals) (plain : ℕ → List ℕ) (left : List Block) (lane : ℕ) (o next : Open) (piece : Piece) (bytes : List ℕ) (view after : View) →
@@ -344,12 +361,17 @@ pub shown_written : {K : Type 0} (old new : State K) (seals : Seals) (plain : �
 shown_written old new seals plain left lane o next piece bytes view after it written was shown =
     let map = it.goes.map in record {
       current = λ whole b below. subst (λ m. (value : List ℕ) × IsNow new (now_of old seals plain lane bytes) left b value × IsSealed m seals b value (after.current (place_in m b))) (sym map)
-          (written_current old new seals plain left lane o next piece bytes view after it written shown was b (subst (λ m. b < m.blocks) map below));
+          (written_current old new seals plain left lane o next piece bytes view after it written shown was b (live_back b (goes_stays it.goes) below));
       candidates = λ b below atom contains. subst (λ m. (value : List ℕ) × IsAllowedAt new (now_of old seals plain lane bytes) left b value × IsSealed m seals b value atom) (sym map)
           (tried_candidates old new seals plain left lane o next piece bytes view after it written.tried shown b
-          (subst (λ m. b < m.blocks) map below) atom (subst (λ m. Contains (after.candidates (place_in m b)) atom) map contains));
+          (live_back b (goes_stays it.goes) below) atom (subst (λ m. Contains (after.candidates (place_in m b)) atom) map contains));
       settled = λ k p is forced settled b from to atom contains. rw map (tried_settled old new seals plain left lane o next piece bytes view after it written.tried shown k p is forced settled b from to atom
           (subst (λ m. Contains (after.candidates (place_in m b)) atom) map contains));
+      zone = λ work is. let was_so : old.work ≡ Some work = sym it.goes.work ∙ is in
+          rw map (zone_whole old.map.atom work.layout work.zone (texts_of seals left work) work.phase new.broken after
+          (zone_stays old.map.atom work.layout work.zone (texts_of seals left work) work.phase false view after
+          (writes_beside old.map.atom (place_of old.map piece) piece.count bytes (piece_away old seals plain left lane o next piece bytes work new it was_so) written)
+          (subst (λ b. ShowsZone old.map.atom work.layout work.zone (texts_of seals left work) work.phase b view) was (shown.zone work was_so))));
     }
 
 -- a write of a piece failed
@@ -361,7 +383,11 @@ shown_tried old new seals plain left lane o next piece bytes view after it tried
       current = λ whole b below. absurd (cc);
       candidates = λ b below atom contains. subst (λ m. (value : List ℕ) × IsAllowedAt new (now_of old seals plain lane bytes) left b value × IsSealed m seals b value atom) (sym map)
           (tried_candidates old new seals plain left lane o next piece bytes view after it tried shown b
-          (subst (λ m. b < m.blocks) map below) atom (subst (λ m. Contains (after.candidates (place_in m b)) atom) map contains));
+          (live_back b (goes_stays it.goes) below) atom (subst (λ m. Contains (after.candidates (place_in m b)) atom) map contains));
       settled = λ k p is forced settled b from to atom contains. rw map (tried_settled old new seals plain left lane o next piece bytes view after it tried shown k p is forced settled b from to atom
           (subst (λ m. Contains (after.candidates (place_in m b)) atom) map contains));
+      zone = λ work is. let was_so : old.work ≡ Some work = sym it.goes.work ∙ is in
+          rw (map, broken) (zone_stays old.map.atom work.layout work.zone (texts_of seals left work) work.phase true view after
+          (write_fails_beside old.map.atom (place_of old.map piece) piece.count bytes (piece_away old seals plain left lane o next piece bytes work new it was_so) tried)
+          (subst (λ b. ShowsZone old.map.atom work.layout work.zone (texts_of seals left work) work.phase b view) it.whole (shown.zone work was_so)));
     }

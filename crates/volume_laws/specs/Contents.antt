@@ -8,7 +8,7 @@ use Rattle.volume_machine.specs.Asks.{IsWrite}
 use Rattle.volume_machine.specs.Pieces.{side_in, place_in}
 use Rattle.volume_machine.specs.Seals.{Seals}
 use Rattle.disk_views.specs.Parts.{AreBlocks, block_at, cell_in, value_in}
-use Rattle.volume_machine.specs.States.{State, open_at}
+use Rattle.volume_machine.specs.States.{State, open_at, IsLive}
 use Rattle.volume_machine.specs.declared.open.Open.{Open}
 use Rattle.base_terms.specs.Blocks.{blocks_of}
 
@@ -46,9 +46,9 @@ IsNow state plain blocks b value =
     ((lane : ℕ) × IsTriedBy state plain lane b value)
     ⊎ (((lane : ℕ) (other : List ℕ) → IsTriedBy state plain lane b other → ⊥) × (value ≡ (block_in blocks b).newest))
 
--- the disk's current bytes stand for what each block holds
+-- the disk's current bytes stand for what each live block holds
 abbrev pub StandsNow : {K : Type 0} → State K → Seals → (ℕ → List ℕ) → List Block → List ℕ → Type 0
-StandsNow state seals plain blocks bytes = (b : ℕ) → b < state.map.blocks →
+StandsNow state seals plain blocks bytes = (b : ℕ) → IsLive state b →
     (value : List ℕ) × IsNow state plain blocks b value
     × IsSealed state.map seals b value (block_at state.map.atom bytes (place_in state.map b))
 
@@ -57,10 +57,11 @@ abbrev pub IsAllowedAt : {K : Type 0} → State K → (ℕ → List ℕ) → Lis
 IsAllowedAt state plain blocks b value =
     Contains (values_of (block_in blocks b)) value ⊎ ((lane : ℕ) × IsTriedBy state plain lane b value)
 
--- a stop that finds this table leaves a content that is allowed: each image stands for one
+-- a stop that finds this table leaves a content that is allowed: of each live block, each image stands for
+-- one
 abbrev pub StopsAllowed : {K : Type 0} → State K → Seals → (ℕ → List ℕ) → List Block → List Cell → Type 0
 StopsAllowed state seals plain blocks cells = (image : List (List ℕ)) → IsImage cells image →
-    (b : ℕ) → b < state.map.blocks → (value : List ℕ) × IsAllowedAt state plain blocks b value
+    (b : ℕ) → IsLive state b → (value : List ℕ) × IsAllowedAt state plain blocks b value
     × IsSealed state.map seals b value (value_in image (place_in state.map b))
 
 -- each candidate of each block's atom is a value of the block, and the current one its newest

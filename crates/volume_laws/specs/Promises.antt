@@ -84,12 +84,14 @@ breaks_in before [] = before
 breaks_in before (one ∷ rest) = breaks_in (before || breaks one.event one.outcome) rest
 
 -- An operation has failed exactly where one of its events did; the volume is broken exactly where a
--- write or a sync failed; and sides, keys and places of all blocks stay.
+-- write or a sync failed; sides, keys and places of all blocks stay; and so does the zone at hand, if
+-- there is one.
 pub record GoesByEvents {K : Type 0} (start : State K) (run : List (Happening K)) : Type 0 where
   pub fails : (lane : ℕ) (o : Open) → open_at (last_of start run).lanes lane ≡ Some o → o.failed ≡ fails_in lane false run
   pub breaks : (last_of start run).broken ≡ breaks_in start.broken run
   pub map : (last_of start run).map ≡ start.map
   pub keys : (last_of start run).keys ≡ start.keys
+  pub work : (last_of start run).work ≡ start.work
 
 -- whether the operation that an event answers has failed: at its admit, where the volume was found
 -- broken; at the settle of a flush, where that failed; at its finish, where one of its events since

@@ -136,6 +136,7 @@ module _ {K : Type 0} (old new : State K) where
     lane_is = rw (same, now) (record { count = refl; own = refl; others = λ k other. refl });
     broken_is = ap (λ s. s.broken) same ∙ or_false old.broken
         ∙ ap (λ b. old.broken || b) (sym whole);
+    work = ap (λ s. s.work) same;
     disk = rests_go (is_fault outcome) old.disk new.disk fine (ap (λ s. s.disk) same);
   }
 
@@ -157,6 +158,7 @@ module _ {K : Type 0} (old new : State K) where
       others = goes.lane_is.others;
     };
     broken_is = goes.broken_is ∙ broken_so;
+    work = goes.work;
     disk = disk;
   }
 

@@ -59,4 +59,5 @@ pub record Effects {K : Type 0} (event : Event) (outcome : Outcome)
   pub lane_is : LaneBecomes old.lanes new.lanes (lane_of event)
       (open_after old.map.atom event outcome (open_at old.lanes (lane_of event)))
   pub broken_is : new.broken ≡ (old.broken || breaks event outcome)
+  pub work : new.work ≡ old.work
   pub disk : DiskGoes (is_fault outcome) old.disk new.disk

@@ -44,6 +44,7 @@ pub record Goes {K : Type 0} (old new : State K) (lane : ℕ) (entries : List En
   pub entries_are : new.entries ≡ entries
   pub lane_is : LaneBecomes old.lanes new.lanes lane now
   pub broken_is : new.broken ≡ is_broken
+  pub work : new.work ≡ old.work
 
 -- no device call was made
 abbrev pub Rests : {K : Type 0} → State K → State K → Type 0

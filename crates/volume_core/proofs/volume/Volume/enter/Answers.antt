@@ -15,7 +15,7 @@ invariant_of-self g c =
     let blocks = rw (← c.self.view_is) at c.requires.blocks in
     volume-kept g.C.SectorCipher.sector _ _ _ _ (admits c.args.lane c.args.session c.args.ask) (held (record { map = c.self.inside.map; range = c.args.range; inside = range-inside _ c.args.ask c.args.range c.self.invariant.sound ready blocks })) c.self.invariant (rw (← c.self.view_is) at c.requires.meets)
     (admit-flush _ _ c.args.lane c.args.session c.args.ask c.new.result _ (record { map = refl; range_is = blocks }) ready (sym c.if-not-has_lock.ensures) (is-begun _ c.args.session c.args.ask c.args.range _ blocks c.new.ensures) refl
-    (record { map = refl; keys = refl; room = refl; entries_are = refl; lane_is = c.set_lane.ensures; broken_is = refl }) refl)
+    (record { map = refl; work = refl; keys = refl; room = refl; entries_are = refl; lane_is = c.set_lane.ensures; broken_is = refl }) refl)
     refl refl refl
 
 pub returns-then-not-has_lock : goal.returns-then-not-has_lock
@@ -24,7 +24,7 @@ returns-then-not-has_lock g c =
     let blocks = rw (← c.self.view_is) at c.requires.blocks in
     rw (← c.self.view_is) (admit-flush _ _ c.args.lane c.args.session c.args.ask c.new.result _ (record { map = refl; range_is = blocks }) ready (sym c.if-not-has_lock.ensures)
     (is-begun _ c.args.session c.args.ask c.args.range _ blocks c.new.ensures) refl
-    (record { map = refl; keys = refl; room = refl; entries_are = refl; lane_is = c.set_lane.ensures; broken_is = refl }) refl)
+    (record { map = refl; work = refl; keys = refl; room = refl; entries_are = refl; lane_is = c.set_lane.ensures; broken_is = refl }) refl)
 
 pub enter-requires-clause-room : goal.enter-requires-clause-room
 enter-requires-clause-room g c =
@@ -49,7 +49,7 @@ invariant_of-self-2 g c =
       | in-Held w ↦ rw w.result-is ((rw w.in-Held.is at here), record { map = refl; range_is = blocks })
       | in-Waiting w ↦ rw w.result-is (rw w.in-Waiting.is at here)
     ])
-    (record { map = refl; keys = refl; room = c.enter.ensures.room; entries_are = refl; lane_is = c.set_lane.ensures; broken_is = refl }) refl)
+    (record { map = refl; work = refl; keys = refl; room = c.enter.ensures.room; entries_are = refl; lane_is = c.set_lane.ensures; broken_is = refl }) refl)
     refl refl refl
 
 pub returns : goal.returns
@@ -63,4 +63,4 @@ returns g c =
       | in-Held w ↦ rw w.result-is ((rw w.in-Held.is at here), record { map = refl; range_is = blocks })
       | in-Waiting w ↦ rw w.result-is (rw w.in-Waiting.is at here)
     ])
-    (record { map = refl; keys = refl; room = c.enter.ensures.room; entries_are = refl; lane_is = c.set_lane.ensures; broken_is = refl }) refl)
+    (record { map = refl; work = refl; keys = refl; room = c.enter.ensures.room; entries_are = refl; lane_is = c.set_lane.ensures; broken_is = refl }) refl)

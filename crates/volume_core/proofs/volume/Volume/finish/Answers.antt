@@ -22,7 +22,7 @@ invariant_of-self g c =
     let meets = rw (← c.self.view_is) at c.requires in
     volume-kept g.C.SectorCipher.sector _ _ _ _ (finishes c.args.lane) done c.self.invariant meets (record {
       outcome_is = refl;
-      goes = record { map = refl; keys = refl; room = c.leave.ensures.room; entries_are = c.leave.ensures.left; lane_is = c.set_lane.ensures; broken_is = refl };
+      goes = record { map = refl; work = refl; keys = refl; room = c.leave.ensures.room; entries_are = c.leave.ensures.left; lane_is = c.set_lane.ensures; broken_is = refl };
       rests = refl;
     }) refl refl refl
 
@@ -30,6 +30,6 @@ pub returns : goal.returns
 unfolding Step
 returns g c = rw (← c.self.view_is) (record {
   outcome_is = refl;
-  goes = record { map = refl; keys = refl; room = c.leave.ensures.room; entries_are = c.leave.ensures.left; lane_is = c.set_lane.ensures; broken_is = refl };
+  goes = record { map = refl; work = refl; keys = refl; room = c.leave.ensures.room; entries_are = c.leave.ensures.left; lane_is = c.set_lane.ensures; broken_is = refl };
   rests = refl;
 })

@@ -19,14 +19,14 @@ invariant_of-self g c =
     let is = rw c.deref.ensures.value at c.open_of-open.ensures in
     volume-kept g.C.SectorCipher.sector _ _ _ _ (reads c.args.lane _) broken c.self.invariant (rw (← c.self.view_is) at c.requires.meets)
     (read-broken _ _ c.args.lane _ c.open_of-open.result _ is c.if-self.true c.failing.ensures
-    (record { map = refl; keys = refl; room = refl; entries_are = refl; lane_is = c.set_lane.ensures; broken_is = c.if-self.true }) refl)
+    (record { map = refl; work = refl; keys = refl; room = refl; entries_are = refl; lane_is = c.set_lane.ensures; broken_is = c.if-self.true }) refl)
     refl refl refl
 
 pub returns-then-self-clause-step : goal.returns-then-self-clause-step
 returns-then-self-clause-step g c =
     let is = rw c.deref.ensures.value at c.open_of-open.ensures in
     rw (← c.self.view_is) (read-broken _ _ c.args.lane _ c.open_of-open.result _ is c.if-self.true c.failing.ensures
-    (record { map = refl; keys = refl; room = refl; entries_are = refl; lane_is = c.set_lane.ensures; broken_is = c.if-self.true }) refl)
+    (record { map = refl; work = refl; keys = refl; room = refl; entries_are = refl; lane_is = c.set_lane.ensures; broken_is = c.if-self.true }) refl)
 
 pub next_piece-piece-requires-clause-within : goal.next_piece-piece-requires-clause-within
 next_piece-piece-requires-clause-within g c =
@@ -56,7 +56,7 @@ invariant_of-self-in-Ok g c =
     c.place-place.ensures c.self.invariant.atom
     (front-size c.args.len c.in-Ok.buffer _ c.in-Ok.ensures.length c.requires.front ∙ read-size _ c.args.lane _ c.open_of-open.result c.next_piece-piece.result (rw (← c.self.view_is) at c.requires.meets) is next)
     c.in-Ok.ensures.bytes c.in-Ok.ensures.read c.moved.ensures
-    (record { map = refl; keys = refl; room = refl; entries_are = refl; lane_is = c.set_lane-in-Ok.ensures; broken_is = c.if-self.false }))
+    (record { map = refl; work = refl; keys = refl; room = refl; entries_are = refl; lane_is = c.set_lane-in-Ok.ensures; broken_is = c.if-self.false }))
     c.in-Ok.ensures.read.size refl refl
 
 pub returns-in-Ok-clause-step : goal.returns-in-Ok-clause-step
@@ -67,7 +67,7 @@ returns-in-Ok-clause-step g c =
     c.place-place.ensures c.self.invariant.atom
     (front-size c.args.len c.in-Ok.buffer _ c.in-Ok.ensures.length c.requires.front ∙ read-size _ c.args.lane _ c.open_of-open.result c.next_piece-piece.result (rw (← c.self.view_is) at c.requires.meets) is next)
     c.in-Ok.ensures.bytes c.in-Ok.ensures.read c.moved.ensures
-    (record { map = refl; keys = refl; room = refl; entries_are = refl; lane_is = c.set_lane-in-Ok.ensures; broken_is = c.if-self.false }))
+    (record { map = refl; work = refl; keys = refl; room = refl; entries_are = refl; lane_is = c.set_lane-in-Ok.ensures; broken_is = c.if-self.false }))
 
 pub invariant_of-self-in-Err : goal.invariant_of-self-in-Err
 invariant_of-self-in-Err g c =
@@ -76,7 +76,7 @@ invariant_of-self-in-Err g c =
     volume-kept g.C.SectorCipher.sector _ _ _ _ (reads c.args.lane _) device c.self.invariant (rw (← c.self.view_is) at c.requires.meets)
     (read-missed _ _ c.args.lane _ c.place-place.result _ (take c.args.len c.in-Err.buffer) c.open_of-open.result _ c.next_piece-piece.result is c.if-self.false next
     c.place-place.ensures c.self.invariant.atom c.in-Err.ensures.missed c.failing-in-Err.ensures
-    (record { map = refl; keys = refl; room = refl; entries_are = refl; lane_is = c.set_lane-in-Err.ensures; broken_is = c.if-self.false }))
+    (record { map = refl; work = refl; keys = refl; room = refl; entries_are = refl; lane_is = c.set_lane-in-Err.ensures; broken_is = c.if-self.false }))
     c.in-Err.ensures.missed.size refl refl
 
 pub returns-in-Err-clause-step : goal.returns-in-Err-clause-step
@@ -85,4 +85,4 @@ returns-in-Err-clause-step g c =
     let next = rw c.rest.ensures at c.next_piece-piece.ensures in
     rw (← c.self.view_is) (read-missed _ _ c.args.lane _ c.place-place.result _ (take c.args.len c.in-Err.buffer) c.open_of-open.result _ c.next_piece-piece.result is c.if-self.false next
     c.place-place.ensures c.self.invariant.atom c.in-Err.ensures.missed c.failing-in-Err.ensures
-    (record { map = refl; keys = refl; room = refl; entries_are = refl; lane_is = c.set_lane-in-Err.ensures; broken_is = c.if-self.false }))
+    (record { map = refl; work = refl; keys = refl; room = refl; entries_are = refl; lane_is = c.set_lane-in-Err.ensures; broken_is = c.if-self.false }))

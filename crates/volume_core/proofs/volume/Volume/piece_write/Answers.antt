@@ -15,14 +15,14 @@ invariant_of-self g c =
     let is = rw c.deref.ensures.value at c.open_of-open.ensures in
     volume-kept g.C.SectorCipher.sector _ _ _ _ (writes c.args.lane c.args.prepared.bytes) broken c.self.invariant (rw (← c.self.view_is) at c.requires)
     (write-broken _ _ c.args.lane c.args.prepared.bytes c.open_of-open.result _ is c.if-self.true c.failing.ensures
-    (record { map = refl; keys = refl; room = refl; entries_are = refl; lane_is = c.set_lane.ensures; broken_is = c.if-self.true }) refl)
+    (record { map = refl; work = refl; keys = refl; room = refl; entries_are = refl; lane_is = c.set_lane.ensures; broken_is = c.if-self.true }) refl)
     refl refl refl
 
 pub returns-then-self-clause-step : goal.returns-then-self-clause-step
 returns-then-self-clause-step g c =
     let is = rw c.deref.ensures.value at c.open_of-open.ensures in
     rw (← c.self.view_is) (write-broken _ _ c.args.lane c.args.prepared.bytes c.open_of-open.result _ is c.if-self.true c.failing.ensures
-    (record { map = refl; keys = refl; room = refl; entries_are = refl; lane_is = c.set_lane.ensures; broken_is = c.if-self.true }) refl)
+    (record { map = refl; work = refl; keys = refl; room = refl; entries_are = refl; lane_is = c.set_lane.ensures; broken_is = c.if-self.true }) refl)
 
 pub next_piece-piece-requires-clause-some : goal.next_piece-piece-requires-clause-some
 next_piece-piece-requires-clause-some g c =
@@ -59,7 +59,7 @@ invariant_of-self-in-Ok g c =
     c.place-place.ensures c.self.invariant.atom (write-bytes _ c.args.lane c.args.prepared.bytes c.open_of-open.result c.next_piece-piece.result meets is next)
     (rw bytes at c.in-Ok.ensures.call)
     c.moved.ensures
-    (record { map = refl; keys = refl; room = refl; entries_are = refl; lane_is = c.set_lane-in-Ok.ensures; broken_is = c.if-self.false }))
+    (record { map = refl; work = refl; keys = refl; room = refl; entries_are = refl; lane_is = c.set_lane-in-Ok.ensures; broken_is = c.if-self.false }))
     c.in-Ok.ensures.call.size refl refl
 
 pub returns-in-Ok-clause-step : goal.returns-in-Ok-clause-step
@@ -72,7 +72,7 @@ returns-in-Ok-clause-step g c =
     c.place-place.ensures c.self.invariant.atom (write-bytes _ c.args.lane c.args.prepared.bytes c.open_of-open.result c.next_piece-piece.result meets is next)
     (rw bytes at c.in-Ok.ensures.call)
     c.moved.ensures
-    (record { map = refl; keys = refl; room = refl; entries_are = refl; lane_is = c.set_lane-in-Ok.ensures; broken_is = c.if-self.false }))
+    (record { map = refl; work = refl; keys = refl; room = refl; entries_are = refl; lane_is = c.set_lane-in-Ok.ensures; broken_is = c.if-self.false }))
 
 pub invariant_of-self-in-Err : goal.invariant_of-self-in-Err
 invariant_of-self-in-Err g c =
@@ -85,7 +85,7 @@ invariant_of-self-in-Err g c =
     c.place-place.ensures c.self.invariant.atom (write-bytes _ c.args.lane c.args.prepared.bytes c.open_of-open.result c.next_piece-piece.result meets is next)
     (rw bytes at c.in-Err.ensures.call)
     c.failing-in-Err.ensures
-    (record { map = refl; keys = refl; room = refl; entries_are = refl; lane_is = c.set_lane-in-Err.ensures; broken_is = refl }))
+    (record { map = refl; work = refl; keys = refl; room = refl; entries_are = refl; lane_is = c.set_lane-in-Err.ensures; broken_is = refl }))
     c.in-Err.ensures.call.size refl refl
 
 pub returns-in-Err-clause-step : goal.returns-in-Err-clause-step
@@ -98,4 +98,4 @@ returns-in-Err-clause-step g c =
     c.place-place.ensures c.self.invariant.atom (write-bytes _ c.args.lane c.args.prepared.bytes c.open_of-open.result c.next_piece-piece.result meets is next)
     (rw bytes at c.in-Err.ensures.call)
     c.failing-in-Err.ensures
-    (record { map = refl; keys = refl; room = refl; entries_are = refl; lane_is = c.set_lane-in-Err.ensures; broken_is = refl }))
+    (record { map = refl; work = refl; keys = refl; room = refl; entries_are = refl; lane_is = c.set_lane-in-Err.ensures; broken_is = refl }))
