@@ -23,3 +23,4 @@ pub mod Tables
 pub mod VolumeStart
 pub mod Writing
 pub mod Workings
+pub mod Standings

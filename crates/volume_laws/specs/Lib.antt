@@ -3,3 +3,4 @@ pub mod Executing
 pub mod Lanes
 pub mod Promises
 pub mod Texts
+pub mod Standing

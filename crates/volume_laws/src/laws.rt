@@ -1,7 +1,10 @@
 //! What follows for every run of events. Each law is the contract of a function that does nothing. A
 //! proof above cites it by its call.
 
-ghost use Rattle.std.specs.Prelude.{◌≡◌, ◌≢◌, ◌<◌, ◌≤◌, ◌⊎◌, ◌%◌, ◌+◌, ◌*◌, ◌++◌, ◌∷◌, [], ℕ, List, length, Some};
+ghost use Rattle.std.specs.Prelude.{◌≡◌, ◌≢◌, ◌<◌, ◌≤◌, ◌⊎◌, ◌%◌, ◌+◌, ◌*◌, ◌++◌, ◌∷◌, [], ℕ, List, length, None, Some};
+ghost use Rattle.disk_areas.specs.Headers.{IsReader};
+ghost use Rattle.sector_disk.specs.Cells.{Cell};
+ghost use Rattle.volume_laws.specs.Standing.{Reading, Stands, StandsAllowed, StandsForNow};
 ghost use Rattle.cipher_laws.specs.Bytes.{AreBytes};
 ghost use Rattle.plain_disk.specs.Plain.{Block, Exchange};
 ghost use Rattle.sector_disk.specs.Geometry.{IsAtom};
@@ -23,7 +26,7 @@ ghost use Rattle.volume_machine.specs.States.{State, IsClient, open_at};
 ghost use Rattle.volume_machine.specs.Steps.{Step, Meets, Holds};
 ghost use Rattle.volume_machine.specs.Beginnings.{IsWholeDisk};
 ghost use Rattle.disk_views.specs.Parts.{value_in};
-ghost use Rattle.volume_laws.specs.Contents.{IsSealed, StandsFor, block_in, opened_blocks, plain_blocks};
+ghost use Rattle.volume_laws.specs.Contents.{IsSealed, StandsFor, StandsNow, StopsAllowed, block_in, opened_blocks, plain_blocks};
 ghost use Rattle.volume_machine.specs.Pieces.{place_in};
 ghost use Rattle.volume_machine.specs.declared.keys.Keys.{Keys};
 
@@ -178,6 +181,26 @@ pub fn contents_are_one()
         (one other : List ℕ) → AreLawful map.atom seals →
         IsSealed map seals b one (value_in image (place_in map b)) →
         IsSealed map seals b other (value_in image (place_in map b)) → one ≡ other }
+{}
+
+/// An image of a volume stands for at most one content: one of a volume without a header by the
+/// volume's own map, one of a volume with a header by the header that the image has. What is said of
+/// live blocks one by one is, without a header, said of the whole: the current bytes stand for a
+/// content that the blocks hold now, and each image of the table for one that is allowed.
+pub fn images_stand<C: SectorCipher>()
+    ensures one { (reading : Reading) (state : State (Keys C)) (seals : Seals)
+        (image : ℕ → List ℕ) (one other : ℕ → List ℕ) → IsReader reading.reader →
+        AreLawful state.map.atom seals → Stands reading state seals image one →
+        Stands reading state seals image other →
+        (b : ℕ) → b < state.map.blocks → one b ≡ other b }
+    ensures now { (reading : Reading) (state : State (Keys C)) (seals : Seals)
+        (plain : ℕ → List ℕ) (blocks : List Block) (bytes : List ℕ) → state.work ≡ None →
+        StandsNow state seals plain blocks bytes →
+        StandsForNow reading state seals plain blocks bytes }
+    ensures stops { (reading : Reading) (state : State (Keys C)) (seals : Seals)
+        (plain : ℕ → List ℕ) (blocks : List Block) (cells : List Cell) → state.work ≡ None →
+        StopsAllowed state seals plain blocks cells →
+        StandsAllowed reading state seals plain blocks cells }
 {}
 
 /// The volume of a whole disk as it is stands for the plain disk that holds the disk's own atoms for

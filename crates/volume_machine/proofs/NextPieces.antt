@@ -1,5 +1,5 @@
 -- The next piece of an operation: there is only one, and it lies on the disk.
-use Rattle.std.proofs.Common.{◌≡◌, inl, inr, ℕ, suc, ◌+◌, ◌*◌, ◌<◌, ◌≤◌, Some, sym, ◌∙◌, ap, arith}
+use Rattle.std.proofs.Common.{◌≡◌, inl, inr, ℕ, suc, ◌+◌, ◌*◌, ◌<◌, ◌≤◌, Some, refl, sym, ◌∙◌, ap, subst, arith}
 use Rattle.std.proofs.Math.Nat.{mul-mod_left, mul-le-mul_right}
 use Rattle.std.proofs.lemmas.Bool.{cases_lt}
 use Rattle.block_range.specs.declared.BlockRange.{BlockRange}
@@ -8,8 +8,8 @@ use Rattle.segment_map.specs.declared.Side.{Side}
 use Rattle.segment_map.specs.declared.Side.TheVariants.{Old, New, Zone}
 use Rattle.segment_map.specs.declared.map.Map.{Map}
 use Rattle.segment_map.specs.declared.map.Piece.{Piece}
-use Rattle.segment_map.specs.Maps.{IsNextPiece, side_at, place_on, place_at}
-use Rattle.volume_machine.specs.Pieces.{IsPieceOf, place_of, size_of_piece}
+use Rattle.segment_map.specs.Maps.{IsNextPiece, side_at, place_on, place_at, most_bytes}
+use Rattle.volume_machine.specs.Pieces.{AgreeOn, IsPieceOf, place_of, size_of_piece}
 use Rattle.volume_machine.specs.Sound.{MapFits}
 use Rattle.volume_machine.specs.declared.open.Open.{Open}
 
@@ -78,3 +78,29 @@ piece-on-disk map atoms size place len o piece fits next inside atom at long =
       whole = mul-mod_left piece.count map.atom;
       within = in_bytes map.atom place piece.count atoms on;
     })
+
+-- maps that have the blocks of a range alike
+pub agrees_itself : (range : BlockRange) (map : Map) → AgreeOn range map map
+agrees_itself range map = record { atom = refl; sides = λ b from to. refl; places = λ b from to. refl }
+
+pub agrees_now : (range : BlockRange) (one other now : Map) → now ≡ other → AgreeOn range one other → AgreeOn range one now
+agrees_now range one other now same agree = subst (λ m. AgreeOn range one m) (sym same) agree
+
+-- they have one next piece
+pub next_agrees : (one other : Map) (range all : BlockRange) (piece : Piece) → AgreeOn all one other → all.start ≤ range.start → range.end ≤ all.end →
+    IsNextPiece one range piece → IsNextPiece other range piece
+next_agrees one other range all piece agree from to next = record {
+  first = next.first;
+  some = next.some;
+  within = next.within;
+  one_side = λ k below. sym (agree.sides (range.start + k) (omega (arith, from)) (let within = next.within in omega (arith, below, within, to))) ∙ next.one_side k below;
+  limit = subst (λ a. piece.count * a ≤ most_bytes) agree.atom next.limit;
+  longest = elim next.longest [
+    | inl ends ↦ inl ends
+    | inr (inl full) ↦ inr (inl (subst (λ a. most_bytes < suc piece.count * a) agree.atom full))
+    | inr (inr turns) ↦ elim (cases_lt (range.start + piece.count) range.end) [
+      | inl inside ↦ inr (inr (λ same. turns (agree.sides (range.start + piece.count) (omega (arith, from)) (omega (arith, inside, to)) ∙ same)))
+      | inr ends ↦ inl (let within = next.within in omega (arith, ends, within))
+    ]
+  ];
+}
