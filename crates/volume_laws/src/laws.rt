@@ -47,8 +47,8 @@ pub fn every_run_is_served<C: SectorCipher>()
 
 /// An operation has failed exactly where one of its events answered that the device failed or the
 /// volume is broken. A volume is broken exactly where a write or a sync failed in an earlier event.
-/// Sides, keys and places of all blocks stay. This holds at the end of a run, and along it: after
-/// each of its events.
+/// Sides, keys and places of all blocks stay, and so does the zone at hand, if there is one. This
+/// holds at the end of a run, and along it: after each of its events.
 pub fn failures_go_by_events<C: SectorCipher>()
     ensures at_the_end { (start : State (Keys C)) (run : List (Happening (Keys C))) →
         IsFresh start → IsRun start run → GoesByEvents start run }
