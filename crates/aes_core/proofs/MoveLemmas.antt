@@ -1,5 +1,6 @@
 -- Lanes moved within a plane.
-use Rattle.std.proofs.Common.{◌≡◌, ℕ, List, ◌++◌, length, slice_index, get_or, true, T, ap, ◌∙◌, arith}
+use Rattle.std.proofs.Common.{◌≡◌, ℕ, List, ◌++◌, length, slice_index, get_or, true, T, ap, ◌∙◌}
+use Rattle.std.proofs.Common.{arith}
 use Rattle.std.specs.Simd.Lanes.{pick_l, all_below}
 use Rattle.std.proofs.lemmas.List.{get_or-map}
 use Rattle.std.proofs.lemmas.Simd.{pick_l_left}
@@ -14,4 +15,5 @@ pub moved : (places : List ℕ) (from : ℕ → ℕ) → length places ≡ 16 �
 moved places from sixteen below computed v long r c to is =
     ap (λ lanes. slice_index lanes (place r c)) (pick_l_left 0 v v 16 places long below)
     ∙ get_or-map (λ k. get_or v k 0) places (place r c) 0 0 (omega (arith, sixteen))
-    ∙ ap (slice_index v) (agree_at (slice_index places) from 16 computed (place r c) (omega arith) ∙ is)
+    ∙ ap (slice_index v)
+    (agree_at (slice_index places) from 16 computed (place r c) (omega arith) ∙ is)

@@ -1,5 +1,7 @@
 -- Squares of bits transposed, and blocks turned.
-use Rattle.std.proofs.Common.{◌≡◌, ℕ, zero, suc, ◌<◌, ◌+◌, ◌*◌, ◌/◌, ◌%◌, List, [], ◌∷◌, ◌++◌, length, slice_index, slice_index_or, refl, sym, subst, ap, ◌∙◌, arith, Fits, w8}
+use Rattle.std.proofs.Common.{◌≡◌, ℕ, zero, suc, ◌<◌, ◌+◌, ◌*◌, ◌/◌, ◌%◌, List, [], ◌∷◌, ◌++◌}
+use Rattle.std.proofs.Common.{length, slice_index, slice_index_or, refl, sym, subst, ap, ◌∙◌, arith}
+use Rattle.std.proofs.Common.{Fits, w8}
 use Rattle.std.specs.Simd.Lanes.{pick_l, Each1}
 use Rattle.std.specs.Int.{bit_at}
 use Rattle.std.proofs.lemmas.Simd.{pick_l_left}
@@ -8,7 +10,8 @@ use Rattle.cipher_laws.specs.declared.eight_blocks.EightBlocks.{EightBlocks}
 use Rattle.cipher_laws.specs.EachOfEight.{each_of_eight}
 use Rattle.aes_core.specs.State.{byte_at}
 use Rattle.aes_core.specs.Planes.{listed, bits_of, bits_in, byte_from, byte_in, state_in, place}
-use Rattle.aes_core.specs.Transposition.{first_bits, second_bits, row, column, rows, columns, AreTurned}
+use Rattle.aes_core.specs.Transposition.{first_bits, second_bits, row, column, rows, columns}
+use Rattle.aes_core.specs.Transposition.{AreTurned}
 use Rattle.aes_core.specs.Laws.Bytes.{agree_below, at_each_byte}
 use Rattle.aes_core.specs.Laws.Steps.{same_states, state_of_its_bytes}
 use Rattle.aes_core.specs.declared.planes.Planes.{Planes}
@@ -38,8 +41,10 @@ pub square_transposed : (v0 v1 v2 v3 v4 v5 v6 v7 : ℕ)
     let b6 = second_bits 2 0x33 a4 a6 in
     let b5 = first_bits 2 0x33 a5 a7 in
     let b7 = second_bits 2 0x33 a5 a7 in
-    (first_bits 4 0x0f b0 b4 ∷ first_bits 4 0x0f b1 b5 ∷ first_bits 4 0x0f b2 b6 ∷ first_bits 4 0x0f b3 b7
-    ∷ second_bits 4 0x0f b0 b4 ∷ second_bits 4 0x0f b1 b5 ∷ second_bits 4 0x0f b2 b6 ∷ second_bits 4 0x0f b3 b7 ∷ []))
+    (first_bits 4 0x0f b0 b4 ∷ first_bits 4 0x0f b1 b5 ∷ first_bits 4 0x0f b2 b6
+    ∷ first_bits 4 0x0f b3 b7
+    ∷ second_bits 4 0x0f b0 b4 ∷ second_bits 4 0x0f b1 b5 ∷ second_bits 4 0x0f b2 b6
+    ∷ second_bits 4 0x0f b3 b7 ∷ []))
     ≡ (let lanes = v0 ∷ v1 ∷ v2 ∷ v3 ∷ v4 ∷ v5 ∷ v6 ∷ v7 ∷ [] in
     column_of 0 lanes ∷ column_of 1 lanes ∷ column_of 2 lanes ∷ column_of 3 lanes
     ∷ column_of 4 lanes ∷ column_of 5 lanes ∷ column_of 6 lanes ∷ column_of 7 lanes ∷ [])
@@ -47,7 +52,8 @@ unfolding first_bits second_bits bits_of
 square_transposed v0 v1 v2 v3 v4 v5 v6 v7 = refl
 
 -- the rows of the one are the columns of the other, and so its columns are the rows
-pub row_is_column : (x y : EightBlocks) (p : ℕ) → rows p y ≡ columns p x → (i : ℕ) → i < 8 → row i p y ≡ column i p x
+pub row_is_column : (x y : EightBlocks) (p : ℕ) → rows p y ≡ columns p x → (i : ℕ) → i < 8
+    → row i p y ≡ column i p x
 row_is_column x y p all =
     each_of_eight (λ i. row i p y ≡ column i p x)
     (ap (λ rows. slice_index_or rows 0 []) all) (ap (λ rows. slice_index_or rows 1 []) all)
@@ -58,7 +64,8 @@ row_is_column x y p all =
 abbrev across : ℕ → List (List ℕ) → List ℕ
 across i rows = listed (λ k. slice_index (slice_index_or rows k []) i)
 
-pub column_is_row : (x y : EightBlocks) (p : ℕ) → rows p y ≡ columns p x → (i : ℕ) → i < 8 → column i p y ≡ row i p x
+pub column_is_row : (x y : EightBlocks) (p : ℕ) → rows p y ≡ columns p x → (i : ℕ) → i < 8
+    → column i p y ≡ row i p x
 unfolding bits_of
 column_is_row x y p all =
     each_of_eight (λ i. column i p y ≡ row i p x)
@@ -97,7 +104,8 @@ block_from_bits k v w turned x bits =
 
 -- ---- a block turned
 
-picked_fits : (v : List ℕ) → AreBytes v → (places : List ℕ) (q : ℕ) → slice_index (pick_l 0 v places) q < 256
+picked_fits : (v : List ℕ) → AreBytes v → (places : List ℕ) (q : ℕ)
+    → slice_index (pick_l 0 v places) q < 256
 picked_fits v fits [] q = omega arith
 picked_fits v fits (p ∷ places) zero = fits p
 picked_fits v fits (p ∷ places) (suc q) = picked_fits v fits places q
@@ -106,18 +114,24 @@ abbrev turned_places : List ℕ
 turned_places = 0 ∷ 4 ∷ 8 ∷ 12 ∷ 1 ∷ 5 ∷ 9 ∷ 13 ∷ 2 ∷ 6 ∷ 10 ∷ 14 ∷ 3 ∷ 7 ∷ 11 ∷ 15 ∷ []
 
 pub block_turned : (v : List ℕ) → length v ≡ 16 → Each1 (Fits w8) v
-    → AreTurned v (pick_l 0 (v ++ v) (0 ∷ 4 ∷ 8 ∷ 12 ∷ 1 ∷ 5 ∷ 9 ∷ 13 ∷ 2 ∷ 6 ∷ 10 ∷ 14 ∷ 3 ∷ 7 ∷ 11 ∷ 15 ∷ []))
+    → AreTurned v
+    (pick_l 0 (v ++ v) (0 ∷ 4 ∷ 8 ∷ 12 ∷ 1 ∷ 5 ∷ 9 ∷ 13 ∷ 2 ∷ 6 ∷ 10 ∷ 14 ∷ 3 ∷ 7 ∷ 11 ∷ 15 ∷ []))
 unfolding agree_below
 block_turned v long fits = record {
   block = record { length_is = long; are_bytes = lane_fits v fits };
   turned = record {
     length_is = refl;
-    are_bytes = λ q. subst (λ lanes. slice_index lanes q < 256) (sym (pick_l_left 0 v v 16 turned_places long tt))
+    are_bytes =
+        λ q. subst (λ lanes. slice_index lanes q < 256)
+        (sym (pick_l_left 0 v v 16 turned_places long tt))
         (picked_fits v (lane_fits v fits) turned_places q);
   };
-  by_rows = λ r c. moved turned_places (λ p. p / 4 + 4 * (p % 4)) refl tt refl v long r c (r % 4 + 4 * (c % 4)) (omega arith);
+  by_rows =
+      λ r c. moved turned_places (λ p. p / 4 + 4 * (p % 4)) refl tt refl v long r c
+      (r % 4 + 4 * (c % 4)) (omega arith);
   by_columns = λ r c.
       let at : r % 4 + 4 * (c % 4) ≡ place c r = omega arith in
       ap (slice_index (pick_l 0 (v ++ v) turned_places)) at
-      ∙ moved turned_places (λ p. p / 4 + 4 * (p % 4)) refl tt refl v long c r (place r c) (omega arith);
+      ∙ moved turned_places (λ p. p / 4 + 4 * (p % 4)) refl tt refl v long c r (place r c)
+      (omega arith);
 }

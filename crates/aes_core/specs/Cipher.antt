@@ -1,6 +1,7 @@
 -- Cipher and InvCipher of FIPS 197, sections 5.1 and 5.3, and AES under a key.
 use Rattle.std.specs.Prelude.{ℕ, zero, suc, ◌+◌, ◌-◌, ◌*◌, List}
-use Rattle.aes_core.specs.State.{sub_bytes, shift_rows, mix_columns, add_round_key, inverse_shift_rows, inverse_sub_bytes, inverse_mix_columns}
+use Rattle.aes_core.specs.State.{sub_bytes, shift_rows, mix_columns, add_round_key}
+use Rattle.aes_core.specs.State.{inverse_shift_rows, inverse_sub_bytes, inverse_mix_columns}
 use Rattle.aes_core.specs.KeySchedule.{rounds_for, key_expansion, round_key}
 
 -- the state after the first n of the rounds with MixColumns, where keys r is the key of round r
@@ -18,7 +19,8 @@ cipher nr keys block =
 unfoldable pub before_rounds : (ℕ → List ℕ) → List ℕ → ℕ → List ℕ
 before_rounds keys s zero = s
 before_rounds keys s (suc n) = before_rounds keys
-    (inverse_mix_columns (add_round_key (inverse_sub_bytes (inverse_shift_rows s)) (keys (suc n)))) n
+    (inverse_mix_columns (add_round_key (inverse_sub_bytes (inverse_shift_rows s)) (keys (suc n))))
+    n
 
 -- InvCipher in nr rounds (5.3)
 unfoldable pub inverse_cipher : ℕ → (ℕ → List ℕ) → List ℕ → List ℕ

@@ -11,9 +11,12 @@ use Rattle.aes_core.specs.declared.inversion.Products.{Products}
 -- the forms of block k's byte at place p, and so on
 abbrev pub forms_in : ℕ → ℕ → Forms → List ℕ
 forms_in k p f =
-    bit_in k p f.y0 ∷ bit_in k p f.y1 ∷ bit_in k p f.y2 ∷ bit_in k p f.y3 ∷ bit_in k p f.y4 ∷ bit_in k p f.y5
-    ∷ bit_in k p f.y6 ∷ bit_in k p f.y7 ∷ bit_in k p f.y8 ∷ bit_in k p f.y9 ∷ bit_in k p f.y10 ∷ bit_in k p f.y11
-    ∷ bit_in k p f.y12 ∷ bit_in k p f.y13 ∷ bit_in k p f.y14 ∷ bit_in k p f.y15 ∷ bit_in k p f.y16 ∷ bit_in k p f.y17
+    bit_in k p f.y0 ∷ bit_in k p f.y1 ∷ bit_in k p f.y2 ∷ bit_in k p f.y3 ∷ bit_in k p f.y4
+    ∷ bit_in k p f.y5
+    ∷ bit_in k p f.y6 ∷ bit_in k p f.y7 ∷ bit_in k p f.y8 ∷ bit_in k p f.y9 ∷ bit_in k p f.y10
+    ∷ bit_in k p f.y11
+    ∷ bit_in k p f.y12 ∷ bit_in k p f.y13 ∷ bit_in k p f.y14 ∷ bit_in k p f.y15 ∷ bit_in k p f.y16
+    ∷ bit_in k p f.y17
     ∷ bit_in k p f.y18 ∷ bit_in k p f.y19 ∷ bit_in k p f.y20 ∷ bit_in k p f.y21 ∷ []
 
 abbrev pub quartet_in : ℕ → ℕ → Quartet → List ℕ
@@ -21,9 +24,12 @@ quartet_in k p q = bit_in k p q.q0 ∷ bit_in k p q.q1 ∷ bit_in k p q.q2 ∷ b
 
 abbrev pub products_in : ℕ → ℕ → Products → List ℕ
 products_in k p z =
-    bit_in k p z.z0 ∷ bit_in k p z.z1 ∷ bit_in k p z.z2 ∷ bit_in k p z.z3 ∷ bit_in k p z.z4 ∷ bit_in k p z.z5
-    ∷ bit_in k p z.z6 ∷ bit_in k p z.z7 ∷ bit_in k p z.z8 ∷ bit_in k p z.z9 ∷ bit_in k p z.z10 ∷ bit_in k p z.z11
-    ∷ bit_in k p z.z12 ∷ bit_in k p z.z13 ∷ bit_in k p z.z14 ∷ bit_in k p z.z15 ∷ bit_in k p z.z16 ∷ bit_in k p z.z17 ∷ []
+    bit_in k p z.z0 ∷ bit_in k p z.z1 ∷ bit_in k p z.z2 ∷ bit_in k p z.z3 ∷ bit_in k p z.z4
+    ∷ bit_in k p z.z5
+    ∷ bit_in k p z.z6 ∷ bit_in k p z.z7 ∷ bit_in k p z.z8 ∷ bit_in k p z.z9 ∷ bit_in k p z.z10
+    ∷ bit_in k p z.z11
+    ∷ bit_in k p z.z12 ∷ bit_in k p z.z13 ∷ bit_in k p z.z14 ∷ bit_in k p z.z15 ∷ bit_in k p z.z16
+    ∷ bit_in k p z.z17 ∷ []
 
 -- the forms of a byte's bits b
 unfoldable pub linear_forms : List ℕ → List ℕ

@@ -1,6 +1,8 @@
 -- The key expansion of FIPS 197, section 5.2, for keys of 16 and 32 bytes. A word is a list of
 -- 4 bytes. Nk is the number of words in the key, and Nr that of the rounds.
-use Rattle.std.specs.Prelude.{◌≡◌, ◌⊎◌, ℕ, zero, suc, ◌+◌, ◌-◌, ◌*◌, ◌/◌, ◌%◌, ◌==◌, ◌&&◌, nat_lt, if◌then◌else◌, List, [], ◌∷◌, ◌++◌, length, slice_index, slice_index_or, bit_xor}
+use Rattle.std.specs.Prelude.{◌≡◌, ◌⊎◌, ℕ, zero, suc, ◌+◌, ◌-◌, ◌*◌, ◌/◌, ◌%◌, ◌==◌, ◌&&◌, nat_lt}
+use Rattle.std.specs.Prelude.{if◌then◌else◌, List, [], ◌∷◌, ◌++◌, length, slice_index}
+use Rattle.std.specs.Prelude.{slice_index_or, bit_xor}
 use Rattle.aes_core.specs.Field.{times_x}
 use Rattle.aes_core.specs.Boxes.{s_box}
 

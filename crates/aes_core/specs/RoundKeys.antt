@@ -32,4 +32,5 @@ key_at keys r = carried r (state_in 0 (planes_at keys r))
 
 -- the eight blocks have the same key in each round
 abbrev pub AreAlike : List Planes → Type 0
-AreAlike keys = (r k : ℕ) → r < 15 → k < 8 → state_in k (planes_at keys r) ≡ state_in 0 (planes_at keys r)
+AreAlike keys =
+    (r k : ℕ) → r < 15 → k < 8 → state_in k (planes_at keys r) ≡ state_in 0 (planes_at keys r)

@@ -2,7 +2,8 @@
 
 ghost use Rattle.std.specs.Prelude.{◌≡◌, ℕ, [], ◌++◌, ◌+◌, ◌*◌, ◌≤◌, ◌<◌, length, take};
 ghost use Rattle.aes_core.specs.KeySchedule.{IsKeyLength, IsWordCount, rounds_for, key_expansion};
-ghost use Rattle.aes_core.specs.KeySchedule.{next_word, addend, add_words, sub_word, rot_word, round_constant};
+ghost use Rattle.aes_core.specs.KeySchedule.{next_word, addend, add_words, sub_word, rot_word};
+ghost use Rattle.aes_core.specs.KeySchedule.{round_constant};
 ghost use Rattle.aes_core.specs.Cipher.{round_keys_of};
 ghost use Rattle.aes_core.specs.Planes.{state_in};
 ghost use Rattle.aes_core.specs.RoundKeys.{key_at, carried, AreAlike};

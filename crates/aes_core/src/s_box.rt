@@ -5,7 +5,8 @@
 
 ghost use Rattle.std.specs.Prelude.{◌≡◌, ℕ};
 ghost use Rattle.aes_core.specs.Planes.{bits_in, state_in, translated};
-ghost use Rattle.aes_core.specs.Circuit.{forms_in, products_in, linear_forms, inverse_forms, sums, inverse_sums};
+ghost use Rattle.aes_core.specs.Circuit.{forms_in, products_in, linear_forms, inverse_forms, sums};
+ghost use Rattle.aes_core.specs.Circuit.{inverse_sums};
 ghost use Rattle.aes_core.specs.State.{sub_bytes, inverse_sub_bytes};
 
 use crate::inversion::{Forms, Products, inversion};

@@ -1,5 +1,6 @@
 -- The chain looks at no stripe after those that it has taken in.
-use Rattle.std.proofs.Common.{◌≡◌, ℕ, zero, suc, ◌*◌, ◌<◌, ◌≤◌, List, length, drop, bit_xor, refl, sym, ◌∙◌, arith}
+use Rattle.std.proofs.Common.{◌≡◌, ℕ, zero, suc, ◌*◌, ◌<◌, ◌≤◌, List, length, drop, bit_xor, refl}
+use Rattle.std.proofs.Common.{sym, ◌∙◌, arith}
 use Rattle.std.proofs.lemmas.List.{length-take, length-drop, length-replicate}
 use Rattle.std.proofs.lemmas.Simd.{length-zip2}
 use Rattle.pbkdf2_hmac.specs.declared.Hash.{Hash}
@@ -20,7 +21,8 @@ length-chain h size stripes (suc k) within =
     let before = length-chain h size stripes k (omega arith) in
     let stripe = length-stripe_of size stripes k within in
     length-diffused h (xor_bytes (chain h size stripes k) (stripe_of size stripes k))
-    ∙ length-zip2 bit_xor (chain h size stripes k) (stripe_of size stripes k) (before ∙ sym stripe) ∙ before
+    ∙ length-zip2 bit_xor (chain h size stripes k) (stripe_of size stripes k) (before ∙ sym stripe)
+    ∙ before
 
 -- two strings with the same first stripes
 pub chain-same : (h : Hash) (size : ℕ) (xs ys : List ℕ) (n : ℕ)

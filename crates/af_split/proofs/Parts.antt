@@ -1,9 +1,11 @@
 -- A string whose parts are hashed in place, one after the other.
-use Rattle.std.proofs.Common.{◌≡◌, ℕ, zero, suc, ◌+◌, ◌-◌, ◌*◌, ◌<◌, ◌≤◌, List, ◌++◌, length, take, drop, min, refl, ap, sym, ◌∙◌, inl, inr, arith, append_assoc}
+use Rattle.std.proofs.Common.{◌≡◌, ℕ, zero, suc, ◌+◌, ◌-◌, ◌*◌, ◌<◌, ◌≤◌, List, ◌++◌, length, take}
+use Rattle.std.proofs.Common.{drop, min, refl, ap, sym, ◌∙◌, inl, inr, arith, append_assoc}
 use Rattle.std.proofs.Math.Seq.{drop-append_seam, take-append_seam}
 use Rattle.std.proofs.lemmas.Bool.{cases_lt}
 use Rattle.std.proofs.lemmas.Grind.{div_ceil_times}
-use Rattle.std.proofs.lemmas.List.{length-append, length-take, length-drop, take_all, drop_all, drop-drop, append-nil}
+use Rattle.std.proofs.lemmas.List.{length-append, length-take, length-drop, take_all, drop_all}
+use Rattle.std.proofs.lemmas.List.{drop-drop, append-nil}
 use Rattle.std.specs.Int.{w32, to_be_bytes, div_ceil}
 use borrow.Rule.Slice.PartMut.{put_mid}
 use Rattle.pbkdf2_hmac.specs.declared.Hash.{Hash}
@@ -57,10 +59,12 @@ length-diffused h s =
     omega (arith, times, length-hashed_parts h s (div_ceil (length s) (digest_len h)))
 
 -- the front and the back of what is done and what is still to do
-done_front : (old done : List ℕ) (start : ℕ) → length done ≡ start → take start (done ++ drop start old) ≡ done
+done_front : (old done : List ℕ) (start : ℕ) → length done ≡ start
+    → take start (done ++ drop start old) ≡ done
 done_front old done start same = rw (← same) (take-append_seam done (drop (length done) old))
 
-done_back : (old done : List ℕ) (start : ℕ) → length done ≡ start → drop start (done ++ drop start old) ≡ drop start old
+done_back : (old done : List ℕ) (start : ℕ) → length done ≡ start
+    → drop start (done ++ drop start old) ≡ drop start old
 done_back old done start same = rw (← same) (drop-append_seam done (drop (length done) old))
 
 -- a part read where the ones before it are replaced
@@ -68,15 +72,24 @@ pub part-replaced : (old done : List ℕ) (start len end : ℕ) → length done 
     → end ≡ min (start + len) (length old)
     → take (end - start) (drop start (done ++ drop start old)) ≡ take len (drop start old)
 part-replaced old done start len end same end_is =
-    rw (done_back old done start same) (take_least (drop start old) (end - start) len (omega (arith, length-drop start old)))
+    rw (done_back old done start same)
+    (take_least (drop start old) (end - start) len (omega (arith, length-drop start old)))
 
 -- and the same part written
-pub put_mid-part : (old done ys : List ℕ) (start len end : ℕ) → start ≤ length old → length done ≡ start
+pub put_mid-part : (old done ys : List ℕ) (start len end : ℕ) → start ≤ length old
+    → length done ≡ start
     → end ≡ min (start + len) (length old)
-    → put_mid start (end - start) (done ++ drop start old) ys ≡ (done ++ ys) ++ drop (start + len) old
+    → put_mid start (end - start) (done ++ drop start old) ys
+    ≡ (done ++ ys) ++ drop (start + len) old
 put_mid-part old done ys start len end within same end_is =
-    rw (done_front old done start same, done_back old done start same, drop-drop (end - start) start old, append_assoc)
-    (ap (λ (zs : List ℕ). done ++ (ys ++ zs)) (drop_least old (start + (end - start)) (start + len) (omega arith)))
+    rw (
+      done_front old done start same,
+      done_back old done start same,
+      drop-drop (end - start) start old,
+      append_assoc,
+    )
+    (ap (λ (zs : List ℕ). done ++ (ys ++ zs))
+    (drop_least old (start + (end - start)) (start + len) (omega arith)))
 
 -- as many parts as reach the end are all of the string
 pub all_parts : (h : Hash) (s : List ℕ) (n : ℕ) → n ≡ div_ceil (length s) (digest_len h)
@@ -84,4 +97,5 @@ pub all_parts : (h : Hash) (s : List ℕ) (n : ℕ) → n ≡ div_ceil (length s
 unfolding diffused
 all_parts h s n is =
     let times = div_ceil_times (length s) (digest_len h) (digest_len-some h) in
-    rw (is, drop_all (div_ceil (length s) (digest_len h) * digest_len h) s (omega (arith, times))) (append-nil (hashed_parts h s (div_ceil (length s) (digest_len h))))
+    rw (is, drop_all (div_ceil (length s) (digest_len h) * digest_len h) s (omega (arith, times)))
+    (append-nil (hashed_parts h s (div_ceil (length s) (digest_len h))))

@@ -12,6 +12,7 @@ mod link;
 mod mem_bay;
 mod mem_link;
 mod names;
+mod read_only;
 #[cfg(test)]
 mod tests;
 
@@ -19,3 +20,4 @@ pub use bay::{Bay, BayFault};
 pub use link::Link;
 pub use mem_bay::MemBay;
 pub use mem_link::MemLink;
+pub use read_only::ReadOnly;

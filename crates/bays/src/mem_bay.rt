@@ -17,7 +17,7 @@ ghost use Rattle.std.specs.declared.string.String.{String};
 ghost use Rattle.sector_disk.specs.declared.mem_disk.MemDisk.{MemDisk};
 
 use crate::names::find_name;
-use crate::{Bay, BayFault, MemLink};
+use crate::{Bay, BayFault, MemLink, ReadOnly};
 use base_terms::Bytes;
 use io_edge::{FaultPlan, ListSink, ListSource};
 use sector_disk::{Disk, MemDisk};
@@ -158,6 +158,8 @@ impl Bay for MemBay {
 
     ghost asks_disk = { λ _ _ _ _ _. Unit {0} };
 
+    ghost asks_reading = { λ _ _ _ _ _. Unit {0} };
+
     ghost asks_key = { λ _ _ _ _. Unit {0} };
 
     ghost asks_links = { λ _ _ _ _ _ _. Unit {0} };
@@ -192,6 +194,41 @@ impl Bay for MemBay {
         let Some(i) = place else { unreachable!() };
         let (_, disk) = self.disks.remove(i);
         Ok(disk)
+    }
+
+    /// Gives what `disk` gives, each disk once in all, and fails where that fails.
+    fn disk_to_read(
+        &mut self,
+        alloc: Global,
+        name: &str,
+        atom: u32,
+    ) -> Result<ReadOnly<MemDisk>, BayFault>
+        requires { IsAtom atom }
+        ensures atom { IfOk result (λ opened. atom_of opened.disk ≡ atom) }
+        ensures fresh { IfOk result (λ opened. opened.refused ≡ 0) }
+        ensures told { IfOk result
+            (λ opened. (kept : MemDisk) → named name.now self.old.disks ≡ Some kept →
+            opened.disk ≡ kept) }
+        ensures leaves { AfterDisk name.now (holdings_of self.old) (holdings_of self.new) result }
+        ensures cause { HasBayCause self.old.plan.faults self.new.plan.faults result }
+        ensures exact { IsErr result ↔
+            (IsTrue (not (has_disk name.now atom self.old.disks))
+            ⊎ Contains self.old.plan.fails self.old.plan.calls) }
+        ensures is { IfOk result (λ opened. named name.now self.old.disks ≡ Some opened.disk) }
+        ensures takes { OnOk result
+            (self.new ≡ record self.old {
+              disks = without name.now self.old.disks;
+              plan =
+                  next_plan self.old.plan false;
+            }) }
+        ensures failed { IfErr result (λ fault. fault ≡ BayFault.Failed) }
+        ensures fails { OnErr result
+            (self.new ≡ record self.old { plan = next_plan self.old.plan true }) }
+    {
+        match self.disk(alloc, name, atom) {
+            Ok(disk) => Ok(ReadOnly::new(disk)),
+            Err(fault) => Err(fault),
+        }
     }
 
     /// Fails exactly where the call's number is one of those that are to fail, and where there is

@@ -39,7 +39,9 @@ impl<B: BlockCipher> CbcEssiv<B> {
 
 #[tactic(auto, unfolding(crate::specs::Cbc::cbc_essiv_sealed, crate::specs::Cbc::cbc_essiv_opened, crate::specs::Cbc::essiv))]
 impl<B: BlockCipher> SectorMode for CbcEssiv<B> {
-    ghost use Rattle.cbc_essiv.specs.Laws.{sealed_keeps_lengths, opened_keeps_lengths, sealed_gives_bytes, opened_gives_bytes, sealed_undone, opened_undone};
+    ghost use Rattle.cbc_essiv.specs.Laws.{sealed_keeps_lengths, opened_keeps_lengths};
+    ghost use Rattle.cbc_essiv.specs.Laws.{sealed_gives_bytes, opened_gives_bytes, sealed_undone};
+    ghost use Rattle.cbc_essiv.specs.Laws.{opened_undone};
 
     ghost sealed = { λ c. cbc_essiv_sealed (B.sealed c.body) (B.sealed c.iv) };
 
@@ -81,9 +83,11 @@ impl<B: BlockCipher> SectorMode for CbcEssiv<B> {
     ghost opened_bytes = { λ c. opened_gives_bytes (B.opened c.body) (B.sealed c.iv)
         (B.opened_block c.body) (B.sealed_block c.iv) };
 
-    ghost unseal_undoes_seal = { λ c. sealed_undone (B.sealed c.body) (B.opened c.body) (B.sealed c.iv)
+    ghost unseal_undoes_seal = { λ c. sealed_undone (B.sealed c.body) (B.opened c.body)
+        (B.sealed c.iv)
         (B.sealed_block c.body) (B.sealed_block c.iv) (B.unseal_undoes_seal c.body) };
 
-    ghost seal_undoes_unseal = { λ c. opened_undone (B.sealed c.body) (B.opened c.body) (B.sealed c.iv)
+    ghost seal_undoes_unseal = { λ c. opened_undone (B.sealed c.body) (B.opened c.body)
+        (B.sealed c.iv)
         (B.opened_block c.body) (B.sealed_block c.iv) (B.seal_undoes_unseal c.body) };
 }

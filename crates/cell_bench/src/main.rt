@@ -1,9 +1,9 @@
 //! A benchmark of the cell. Without an argument it asks a cell in two threads, and prints the sum
 //! that they leave, the same each time. With a number of turns it has one, two and four threads ask
 //! a cell that often each, and then lock a mutex around the same machine that often each, and
-//! prints the turns a second of both. With the word `sleep` and a number of turns it has two threads
-//! ask a cell whose machine sleeps a millisecond at each turn, so that a script can measure the
-//! processor time of threads that wait.
+//! prints the turns a second of both. With the word `sleep` and a number of turns it has two
+//! threads ask a cell whose machine sleeps a millisecond at each turn, so that a script can measure
+//! the processor time of threads that wait.
 #![tactic(auto)]
 
 ghost use Rattle.std.specs.Prelude.{IfOk};

@@ -1,5 +1,6 @@
 -- Blocks that are xored.
-use Rattle.std.proofs.Common.{◌≡◌, ℕ, ◌<◌, List, [], ◌∷◌, length, get_or, refl, ap, subst, sym, ◌∙◌, arith, bit_xor}
+use Rattle.std.proofs.Common.{◌≡◌, ℕ, ◌<◌, List, [], ◌∷◌, length, get_or, refl, ap, subst, sym, ◌∙◌}
+use Rattle.std.proofs.Common.{arith, bit_xor}
 use Rattle.std.specs.Int.Bits.{xor_assoc, xor_self, xor_zero_r}
 use Rattle.std.specs.Simd.Lanes.{zip2}
 use Rattle.std.proofs.lemmas.Nat.{xor_of_8}
@@ -34,7 +35,8 @@ xored_is_block a b in_a in_b =
       are_bytes = bytes_within (zip2 bit_xor a b) (λ k inside.
           let in_first : k < length a = omega arith in
           let in_second : k < length b = omega arith in
-          subst (λ (x : ℕ). x < 256) (sym (get_or-zip2 bit_xor a b k 0 0 0 in_first in_second)) (xor_of_8 (get_or a k 0) (get_or b k 0) (in_a.are_bytes k) (in_b.are_bytes k)));
+          subst (λ (x : ℕ). x < 256) (sym (get_or-zip2 bit_xor a b k 0 0 0 in_first in_second))
+          (xor_of_8 (get_or a k 0) (get_or b k 0) (in_a.are_bytes k) (in_b.are_bytes k)));
     }
 
 pub number_block_is_block : (n : ℕ) → IsBlock (number_block n)

@@ -24,6 +24,7 @@ with_eight sector at blocks = take at sector ++ joined blocks 0 8 ++ drop (at + 
 unfoldable pub xored : List ℕ → List ℕ → List ℕ
 xored = zip2 bit_xor
 
--- a number as a block: its 16 bytes, the lowest first. A sector's number has 64 bits, and then zeros.
+-- a number as a block: its 16 bytes, the lowest first. A sector's number has 64 bits, and then
+-- zeros.
 unfoldable pub number_block : ℕ → List ℕ
 number_block number = to_le_bytes w128 number

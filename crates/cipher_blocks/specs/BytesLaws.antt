@@ -1,7 +1,9 @@
 -- Lists of bytes, taken apart and put together.
-use Rattle.std.proofs.Common.{◌≡◌, ℕ, ◌+◌, ◌-◌, ◌<◌, List, [], ◌++◌, zero, suc, length, get_or, take, drop, refl, ap, subst, sym, arith, lit<, inl, inr}
+use Rattle.std.proofs.Common.{◌≡◌, ℕ, ◌+◌, ◌-◌, ◌<◌, List, [], ◌++◌, zero, suc, length, get_or}
+use Rattle.std.proofs.Common.{take, drop, refl, ap, subst, sym, arith, lit<, inl, inr}
 use Rattle.std.proofs.lemmas.Bool.{cases_lt}
-use Rattle.std.proofs.lemmas.List.{get_or_past, get_or_append_left, get_or-append_right, get_or-take, get_or-drop, length-take}
+use Rattle.std.proofs.lemmas.List.{get_or_past, get_or_append_left, get_or-append_right}
+use Rattle.std.proofs.lemmas.List.{get_or-take, get_or-drop, length-take}
 use Rattle.std.specs.Int.{byte_at, bytes_low_first, to_le_bytes, w128}
 use Rattle.cipher_laws.specs.Bytes.{AreBytes, IsBlock}
 
@@ -11,13 +13,19 @@ no_bytes k = lit< tt
 -- bytes within the list are enough
 pub bytes_within : (xs : List ℕ) → ((k : ℕ) → k < length xs → get_or xs k 0 < 256) → AreBytes xs
 bytes_within xs within k =
-    elim (cases_lt k (length xs)) [ inl inside ↦ within k inside | inr past ↦ subst (λ (x : ℕ). x < 256) (sym (get_or_past xs k 0 past)) (lit< tt) ]
+    elim (cases_lt k (length xs)) [
+      | inl inside ↦ within k inside
+      | inr past ↦
+          subst (λ (x : ℕ). x < 256) (sym (get_or_past xs k 0 past)) (lit< tt)
+    ]
 
 pub bytes-append : (xs ys : List ℕ) → AreBytes xs → AreBytes ys → AreBytes (xs ++ ys)
 bytes-append xs ys in_xs in_ys k =
     elim (cases_lt k (length xs)) [
       | inl front ↦ subst (λ (x : ℕ). x < 256) (sym (get_or_append_left xs ys 0 k front)) (in_xs k)
-      | inr back ↦ subst (λ (x : ℕ). x < 256) (sym (get_or-append_right xs ys (length xs) k 0 refl back)) (in_ys (k - length xs))
+      | inr back ↦
+          subst (λ (x : ℕ). x < 256) (sym (get_or-append_right xs ys (length xs) k 0 refl back))
+          (in_ys (k - length xs))
     ]
 
 pub bytes-drop : (n : ℕ) (xs : List ℕ) → AreBytes xs → AreBytes (drop n xs)
@@ -43,4 +51,5 @@ low_bytes_below i (suc n) x (suc k) = low_bytes_below (suc i) n x k
 
 -- a number's 16 bytes are a block
 pub number_is_block : (n : ℕ) → IsBlock (to_le_bytes w128 n)
-number_is_block n = record { length_is = length-low_bytes 0 16 n; are_bytes = low_bytes_below 0 16 n }
+number_is_block n =
+    record { length_is = length-low_bytes 0 16 n; are_bytes = low_bytes_below 0 16 n }

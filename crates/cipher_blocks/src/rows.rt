@@ -33,7 +33,8 @@ pub fn change_sectors<W: UnderIv, C: BlockCipher>(
     requires whole { length bytes.old % size ≡ 0 }
     requires in_range { first + length bytes.old / 512 < 2 ^ 64 }
     ensures { bytes.new ≡ by_sectors
-        (λ number. W.changed work.now (C.sealed cipher.now (number_block number))) size first bytes.old }
+        (λ number. W.changed work.now (C.sealed cipher.now (number_block number))) size first
+        bytes.old }
 {
     let units = (size / 512) as u64;
     let mut number = first;

@@ -4,7 +4,8 @@ use Rattle.cipher_laws.specs.declared.eight_blocks.EightBlocks.{EightBlocks}
 
 -- the blocks in their order
 abbrev pub blocks_of : EightBlocks → List (List ℕ)
-blocks_of eight = eight.b0 ∷ eight.b1 ∷ eight.b2 ∷ eight.b3 ∷ eight.b4 ∷ eight.b5 ∷ eight.b6 ∷ eight.b7 ∷ []
+blocks_of eight =
+    eight.b0 ∷ eight.b1 ∷ eight.b2 ∷ eight.b3 ∷ eight.b4 ∷ eight.b5 ∷ eight.b6 ∷ eight.b7 ∷ []
 
 -- block k of the eight, the first of which is block 0
 abbrev pub block : ℕ → EightBlocks → List ℕ

@@ -27,5 +27,6 @@ UndoesSectors size back change = (first : ℕ) (bytes : List ℕ) → AreSectors
 
 -- sectors that follow others are changed under the number that follows theirs
 abbrev pub JoinsSectors : ℕ → (ℕ → List ℕ → List ℕ) → Type 0
-JoinsSectors size change = (first : ℕ) (front back : List ℕ) → AreSectors size front → AreSectors size back →
+JoinsSectors size change =
+    (first : ℕ) (front back : List ℕ) → AreSectors size front → AreSectors size back →
     change first (front ++ back) ≡ change first front ++ change (first + length front / 512) back

@@ -10,7 +10,8 @@ pub struct Sizes {
     pub atom: u32,
     /// Whole atoms of the disk that holds the header.
     pub header_atoms: u64,
-    /// Whole atoms of the disk that holds the segments; the same disk unless the header is detached.
+    /// Whole atoms of the disk that holds the segments; the same disk unless the header is
+    /// detached.
     pub main_atoms: u64,
     /// Whether the header lies on a disk of its own.
     pub detached: bool,

@@ -1,4 +1,5 @@
-ghost use Rattle.std.specs.Prelude.{◌≡◌, ◌*◌, ◌^◌, ◌<◌, ◌≤◌, ℕ, length, Ok, Err, MatchResult, is_ok, IsTrue};
+ghost use Rattle.std.specs.Prelude.{◌≡◌, ◌*◌, ◌^◌, ◌<◌, ◌≤◌, ℕ, length, Ok, Err, MatchResult};
+ghost use Rattle.std.specs.Prelude.{is_ok, IsTrue};
 ghost use Rattle.file_disk.specs.Opening.{OpensLocked};
 ghost use Rattle.file_disk.specs.Sizes.{untold_disk, whole_atoms};
 ghost use Rattle.io_edge.specs.Faults.{Counts};

@@ -1,6 +1,6 @@
 ghost use Rattle.std.specs.Prelude.{ℕ, List, Result, IfOk, length, ◌≤◌};
 ghost use Rattle.std.specs.declared.io.Error.{Error};
-ghost use Rattle.file_disk.specs.Opening.{OpensLocked};
+ghost use Rattle.file_disk.specs.Opening.{OpensLocked, OpensToRead};
 
 use crate::PositionedFile;
 use base_terms::Bytes;
@@ -37,6 +37,13 @@ pub trait FileSystem {
     /// Opens the file or block device of that name for reading and writing.
     fn open_file(&self, path: &str) -> io::Result<Self::Opened>
         ensures { opens self.now path.now result };
+
+    /// What opening the file of a name for reading alone gives.
+    ghost opens_to_read: { Self → List ℕ → Result Self.Opened Error → Type 0 };
+
+    /// Opens the file or block device of that name for reading alone: the system refuses each write.
+    fn open_to_read(&self, path: &str) -> io::Result<Self::Opened>
+        ensures { opens_to_read self.now path.now result };
 
     /// What reading the front of the file of a name gives, of at most so many bytes.
     ghost reads_front: { Self → List ℕ → ℕ → Result (List ℕ) Error → Type 0 };
@@ -79,6 +86,12 @@ impl FileSystem for HostRuntime {
         File::options().read(true).write(true).open(self, path)
     }
 
+    ghost opens_to_read = { λ _ _ _. Unit {0} };
+
+    fn open_to_read(&self, path: &str) -> io::Result<File> {
+        File::open(self, path)
+    }
+
     ghost reads_front = { λ _ _ _ _. Unit {0} };
 
     fn read_front(&self, alloc: Global, path: &str, most: u32) -> io::Result<Bytes> {
@@ -109,6 +122,26 @@ pub fn open_locked<S: FileSystem>(system: &S, path: &str) -> io::Result<(S::Open
         Ok(()) => {}
         Err(error) => return Err(error),
     }
+    match file.measure() {
+        Ok(len) => Ok((file, len)),
+        Err(error) => Err(error),
+    }
+}
+
+/// Opens the file or block device of that name for reading alone, and measures it in bytes. It asks
+/// for no lock, so that it is had also while another program has it locked.
+///
+/// # Errors
+///
+/// What the system said where it doesn't open or measure the file, as `NotFound`; of the kind
+/// `OutOfMemory` where the system wants memory; the call itself takes none. Nothing stays open.
+pub fn open_for_reading<S: FileSystem>(system: &S, path: &str) -> io::Result<(S::Opened, u64)>
+    ensures { OpensToRead (S.opens_to_read system.now path.now) S.Opened.measures result }
+{
+    let mut file = match system.open_to_read(path) {
+        Ok(file) => file,
+        Err(error) => return Err(error),
+    };
     match file.measure() {
         Ok(len) => Ok((file, len)),
         Err(error) => Err(error),

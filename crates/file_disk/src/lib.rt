@@ -15,5 +15,5 @@ mod positioned_file;
 mod tests;
 
 pub use file_disk::FileDisk;
-pub use file_system::{FileSystem, LockableFile, open_locked};
+pub use file_system::{FileSystem, LockableFile, open_for_reading, open_locked};
 pub use positioned_file::PositionedFile;

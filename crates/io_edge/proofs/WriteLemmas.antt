@@ -119,7 +119,8 @@ module _ {S : Type 0} (writes : S → List ℕ → Result ℕ Error → S → Ty
   unfolding HasWritten Wrote WritesSome
   more_written old mid new old_held held left piece at count n (calls, wrote, bytes, many) some =
       let (answer, call, left_is) =
-      subst (λ rest. WritesSome writes mid held rest (Ok n) new left) (rest_whole at piece) some in (
+      subst (λ rest. WritesSome writes mid held rest (Ok n) new left) (rest_whole at piece)
+      some in (
         record { piece = held ++ drop at piece; answer = answer } ∷ calls,
         (mid, wrote, call),
         bytes_more old_held held left piece calls at n answer bytes left_is,

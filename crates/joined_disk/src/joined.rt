@@ -1,6 +1,6 @@
 // Two disks as one.
 
-ghost use Rattle.std.specs.Prelude.{◌≡◌, ◌+◌, ◌*◌, ◌^◌, ◌<◌, ◌≤◌, ◌++◌, [], take, None, Some, false, true, is_some};
+ghost use Rattle.std.specs.Prelude.{◌≡◌, ℕ, ◌+◌, ◌*◌, ◌^◌, ◌<◌, ◌≤◌, List, ◌++◌, [], length, take, None, Some, false, true, is_some};
 ghost use Rattle.joined_disk.specs.Joined.{Follows, nothing, in_front, joint_of, joint_told, joined_disk, begun_joint, used_atoms, with_marks};
 ghost use Rattle.joined_disk.specs.JoinedLaws.{Follows-prop};
 ghost use Rattle.sector_disk.specs.Devices.{ReadCall, WriteCall, SyncCall, marked};
@@ -122,10 +122,17 @@ impl<D: Disk> JoinedDisk<D> {
         self.head.is_some()
     }
 
-    /// The sizes that a header on it is judged by.
+    /// The sizes that a header on it is judged by. Neither the header's disk nor the main disk has more
+    /// atoms than both.
     pub fn sizes(&self) -> Sizes
         ensures is { result ≡ sizes_of self.now }
+        ensures atom { result.atom ≡ (joined_disk (joint_in self.now)).size }
         ensures known { IsAtom result.atom }
+        ensures header { result.header_atoms ≤ (joined_disk (joint_in self.now)).atoms }
+        ensures main { result.main_atoms ≤ (joined_disk (joint_in self.now)).atoms }
+        ensures fits { (joined_disk (joint_in self.now)).atoms * result.atom < 2 ^ 63 }
+        ensures whole { (all : List ℕ) → (joined_disk (joint_in self.now)).values ≡ Some all →
+            length all ≡ (joined_disk (joint_in self.now)).atoms * result.atom }
     {
         Sizes {
             atom: self.atom,
@@ -156,7 +163,6 @@ impl<D: Disk> JoinedDisk<D> {
 }
 
 impl<D: Disk> Disk for JoinedDisk<D> {
-    ghost use Rattle.std.specs.Prelude.{length};
     ghost use Rattle.joined_disk.specs.Counts.{Counts, has_head, joint_in, sizes_of};
     ghost use Rattle.joined_disk.specs.Joined.{joint_of, joined_disk};
     ghost use Rattle.joined_disk.specs.JoinedCalls.{JointRead, JointWritten, JointSynced};

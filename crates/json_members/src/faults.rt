@@ -3,6 +3,8 @@ ghost use Rattle.json_members.specs.Fields.{IsFaultAt, under};
 
 use crate::text::Text;
 use std::alloc::{AllocError, AllocFailed, Global};
+use std::error::Error;
+use std::fmt;
 
 /// What can be wrong with a member.
 #[derive(Clone, Copy, Debug, PartialEq, Eq)]
@@ -22,6 +24,20 @@ pub enum JsonFaultKind {
     Unsupported,
 }
 
+impl JsonFaultKind {
+    /// Its number and its name, as a fault is told to people.
+    fn number_and_name(self) -> (u8, &'static str) {
+        match self {
+            JsonFaultKind::NotJson => (1, "NotJson"),
+            JsonFaultKind::Missing => (2, "Missing"),
+            JsonFaultKind::Kind => (3, "Kind"),
+            JsonFaultKind::Number => (4, "Number"),
+            JsonFaultKind::Base64 => (5, "Base64"),
+            JsonFaultKind::Unsupported => (6, "Unsupported"),
+        }
+    }
+}
+
 /// The first fault of a JSON text, and the path of the member that has it: the keys that lead to
 /// it, and the places in lists, from 0, with a slash between two. The path of the whole is empty.
 #[derive(Debug, Drop)]
@@ -29,6 +45,23 @@ pub struct JsonFault {
     pub kind: JsonFaultKind,
     pub path: Text,
 }
+
+/// One line, as `JSON fault 2 Missing at digests/0/hash`; what can't be printed in the path is
+/// escaped.
+impl fmt::Display for JsonFault {
+    fn fmt<W: fmt::Write>(&self, f: &mut fmt::Formatter<W>) -> fmt::Result {
+        let (number, name) = self.kind.number_and_name();
+        let path = self.path.as_str();
+        if path.is_empty() {
+            write!(f, "JSON fault {number} {name}")
+        } else {
+            let path = path.escape_debug();
+            write!(f, "JSON fault {number} {name} at {path}")
+        }
+    }
+}
+
+impl Error for JsonFault {}
 
 /// Why nothing was read.
 #[derive(Debug, Drop)]
@@ -38,6 +71,17 @@ pub enum ReadError {
     /// The text has a fault.
     Fault(JsonFault),
 }
+
+impl fmt::Display for ReadError {
+    fn fmt<W: fmt::Write>(&self, f: &mut fmt::Formatter<W>) -> fmt::Result {
+        match self {
+            ReadError::Memory => write!(f, "out of memory"),
+            ReadError::Fault(fault) => write!(f, "{fault}"),
+        }
+    }
+}
+
+impl Error for ReadError {}
 
 impl From<AllocError> for ReadError {
     ghost use Rattle.json_members.specs.declared.faults.ReadError.TheVariants.{Memory};

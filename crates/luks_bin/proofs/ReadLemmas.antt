@@ -1,21 +1,26 @@
 -- Which bytes are a copy, and that a front of them tells.
-use Rattle.std.proofs.Common.{◌≡◌, ◌⊎◌, inl, inr, ℕ, ◌≤◌, ◌==◌, ◌||◌, nat_le, List, length, take, Bool, true, false, Result, Ok, Err, refl, sym, ap, subst, ◌∙◌, arith}
+use Rattle.std.proofs.Common.{◌≡◌, ◌⊎◌, inl, inr, ℕ, ◌≤◌, ◌==◌, ◌||◌, nat_le, List, length, take}
+use Rattle.std.proofs.Common.{Bool, true, false, Result, Ok, Err, refl, sym, ap, subst, ◌∙◌, arith}
 use Rattle.std.specs.Str.{bytes_eq}
-use Rattle.std.proofs.lemmas.Bool.{eq-eqb, eqb-true, leb-true, le-leb, or_cases, and_parts, and_from, or_left, or_right}
+use Rattle.std.proofs.lemmas.Bool.{eq-eqb, eqb-true, leb-true, le-leb, or_cases, and_parts}
+use Rattle.std.proofs.lemmas.Bool.{and_from, or_left, or_right}
 use Rattle.std.proofs.lemmas.List.{take-take, length-take-le}
 use Rattle.std.proofs.lemmas.Slice.Eq.{bytes_eq-Decides}
 use Rattle.luks_bin.specs.Fields.{field, u16_in, u64_in, is_size}
-use Rattle.luks_bin.specs.Copies.{magic_of, algorithm, sum_of, sum_field, holds_nul, wanted, ◌>>=◌, stands_at, size_of, header_of, copy_of, IsCopy, BeginsWithCopy}
+use Rattle.luks_bin.specs.Copies.{magic_of, algorithm, sum_of, sum_field, holds_nul, wanted, ◌>>=◌}
+use Rattle.luks_bin.specs.Copies.{stands_at, size_of, header_of, copy_of, IsCopy, BeginsWithCopy}
 use Rattle.luks_bin.specs.declared.header.BinFault.{BinFault}
 use Rattle.luks_bin.specs.declared.header.BinHeader.{BinHeader}
 use Rattle.luks_bin.proofs.FieldLemmas.{field-front, u16-front, u64-front, size-least}
 
 -- ---- tests that passed
-passed : {A : Type 0} (b : Bool) (fault : BinFault) (rest : Unit {0} → Result A BinFault) (x : A) → (wanted b fault >>= rest) ≡ Ok x → (b ≡ true) × (rest tt ≡ Ok x)
+passed : {A : Type 0} (b : Bool) (fault : BinFault) (rest : Unit {0} → Result A BinFault) (x : A)
+    → (wanted b fault >>= rest) ≡ Ok x → (b ≡ true) × (rest tt ≡ Ok x)
 passed true fault rest x h = (refl, h)
 passed false fault rest x h = cc
 
-followed : {A B : Type 0} (r : Result A BinFault) (rest : A → Result B BinFault) (y : B) → (r >>= rest) ≡ Ok y → (x : A) × (r ≡ Ok x) × (rest x ≡ Ok y)
+followed : {A B : Type 0} (r : Result A BinFault) (rest : A → Result B BinFault) (y : B)
+    → (r >>= rest) ≡ Ok y → (x : A) × (r ≡ Ok x) × (rest x ≡ Ok y)
 followed (Ok x) rest y h = (x, refl, h)
 followed (Err fault) rest y h = cc
 
@@ -39,7 +44,8 @@ pub record IsSized (place there : ℕ) (head : List ℕ) (size : ℕ) : Type 0 w
   pub here : u64_in 256 head ≡ place
   pub fits : (place ≡ 0) ⊎ (size ≡ place)
 
-pub sized : (place there : ℕ) (head : List ℕ) (size : ℕ) → size_of place there head ≡ Ok size → IsSized place there head size
+pub sized : (place there : ℕ) (head : List ℕ) (size : ℕ) → size_of place there head ≡ Ok size
+    → IsSized place there head size
 unfolding size_of
 sized place there head size h =
     let a = passed _ _ _ _ h in
@@ -68,30 +74,37 @@ fitting : (place size : ℕ) → (place ≡ 0) ⊎ (size ≡ place) → (place =
 fitting place size (inl e) = or_left _ _ (eq-eqb place 0 e)
 fitting place size (inr e) = or_right (place == 0) _ (eq-eqb size place e)
 
-pub sized-from : (place there : ℕ) (head : List ℕ) (size : ℕ) → IsSized place there head size → size_of place there head ≡ Ok size
+pub sized-from : (place there : ℕ) (head : List ℕ) (size : ℕ) → IsSized place there head size
+    → size_of place there head ≡ Ok size
 unfolding size_of
 sized-from place there head size is =
     let a : nat_le 4096 there ≡ true = le-leb _ _ is.enough in
     let b : bytes_eq (field 0 6 head) (magic_of place) ≡ true = same _ _ is.magic in
     let c : (u16_in 6 head == 2) ≡ true = eq-eqb _ _ is.version in
     let d : is_size (u64_in 8 head) ≡ true = ap is_size is.stated ∙ is.one_of_nine in
-    let e : nat_le (u64_in 8 head) there ≡ true = ap (λ n. nat_le n there) is.stated ∙ le-leb _ _ is.room in
+    let e : nat_le (u64_in 8 head) there ≡ true =
+    ap (λ n. nat_le n there) is.stated ∙ le-leb _ _ is.room in
     let f : stands_at place (u64_in 8 head) (u64_in 256 head) ≡ true =
-    and_from _ _ (eq-eqb _ _ is.here) (ap (λ n. place == 0 || n == place) is.stated ∙ fitting place size is.fits) in
+    and_from _ _ (eq-eqb _ _ is.here)
+    (ap (λ n. place == 0 || n == place) is.stated ∙ fitting place size is.fits) in
     rw (a, b, c, d, e, f) (ap Ok is.stated)
 
 -- a head tells the size
-pub size-head : (place there : ℕ) (bytes : List ℕ) → size_of place there (take 4096 bytes) ≡ size_of place there bytes
+pub size-head : (place there : ℕ) (bytes : List ℕ)
+    → size_of place there (take 4096 bytes) ≡ size_of place there bytes
 unfolding size_of
 size-head place there bytes =
-    let a : field 0 6 (take 4096 bytes) ≡ field 0 6 bytes = field-front 4096 0 6 bytes (omega arith) in
+    let a : field 0 6 (take 4096 bytes) ≡ field 0 6 bytes =
+    field-front 4096 0 6 bytes (omega arith) in
     let b : u16_in 6 (take 4096 bytes) ≡ u16_in 6 bytes = u16-front 4096 6 bytes (omega arith) in
     let c : u64_in 8 (take 4096 bytes) ≡ u64_in 8 bytes = u64-front 4096 8 bytes (omega arith) in
-    let d : u64_in 256 (take 4096 bytes) ≡ u64_in 256 bytes = u64-front 4096 256 bytes (omega arith) in
+    let d : u64_in 256 (take 4096 bytes) ≡ u64_in 256 bytes =
+    u64-front 4096 256 bytes (omega arith) in
     rw (a, b, c, d) refl
 
 -- so does the copy alone
-sized-front : (place : ℕ) (bytes : List ℕ) (size : ℕ) → IsSized place (length bytes) bytes size → IsSized place (length (take size bytes)) (take size bytes) size
+sized-front : (place : ℕ) (bytes : List ℕ) (size : ℕ) → IsSized place (length bytes) bytes size
+    → IsSized place (length (take size bytes)) (take size bytes) size
 sized-front place bytes size is =
     let least : 16384 ≤ size = size-least size is.one_of_nine in
     let len : length (take size bytes) ≡ size = length-take-le size bytes is.room in
@@ -106,14 +119,20 @@ sized-front place bytes size is =
       fits = is.fits;
     }
 
-copy_of-sized : (place : ℕ) (bytes : List ℕ) (size : ℕ) → size_of place (length bytes) bytes ≡ Ok size → copy_of place bytes ≡ header_of (take size bytes)
+copy_of-sized : (place : ℕ) (bytes : List ℕ) (size : ℕ)
+    → size_of place (length bytes) bytes ≡ Ok size
+    → copy_of place bytes ≡ header_of (take size bytes)
 unfolding copy_of
 copy_of-sized place bytes size h = rw h refl
 
-pub copy-front : (place size : ℕ) (bytes : List ℕ) → size_of place (length bytes) bytes ≡ Ok size → copy_of place (take size bytes) ≡ copy_of place bytes
+pub copy-front : (place size : ℕ) (bytes : List ℕ) → size_of place (length bytes) bytes ≡ Ok size
+    → copy_of place (take size bytes) ≡ copy_of place bytes
 copy-front place size bytes h =
-    let front : size_of place (length (take size bytes)) (take size bytes) ≡ Ok size = sized-from _ _ _ _ (sized-front place bytes size (sized _ _ _ _ h)) in
-    copy_of-sized place (take size bytes) size front ∙ ap header_of (take-take size size bytes (omega arith)) ∙ sym (copy_of-sized place bytes size h)
+    let front : size_of place (length (take size bytes)) (take size bytes) ≡ Ok size =
+    sized-from _ _ _ _ (sized-front place bytes size (sized _ _ _ _ h)) in
+    copy_of-sized place (take size bytes) size front
+    ∙ ap header_of (take-take size size bytes (omega arith))
+    ∙ sym (copy_of-sized place bytes size h)
 
 -- ---- the other fields
 record IsRead (copy : List ℕ) (h : BinHeader) : Type 0 where
@@ -171,16 +190,20 @@ read-header copy h is =
     }))
 
 -- ---- both ways
-pub spelt : (place : ℕ) (bytes : List ℕ) (h : BinHeader) → copy_of place bytes ≡ Ok h → BeginsWithCopy place bytes h
+pub spelt : (place : ℕ) (bytes : List ℕ) (h : BinHeader) → copy_of place bytes ≡ Ok h
+    → BeginsWithCopy place bytes h
 unfolding copy_of
 spelt place bytes h k =
-    let f = followed (size_of place (length bytes) bytes) (λ size. header_of (take size bytes)) h k in
+    let f = followed (size_of place (length bytes) bytes) (λ size. header_of (take size bytes)) h
+    k in
     let size : ℕ = f.0 in
     let is : IsSized place (length bytes) bytes size = sized _ _ _ _ f.1 in
     let least : 16384 ≤ size = size-least size is.one_of_nine in
     let read : IsRead (take size bytes) h = header-read _ _ f.2 in
-    let same_size : size ≡ h.hdr_size = sym (u64-front size 8 bytes (omega arith) ∙ is.stated) ∙ read.hdr_size in
-    let here : h.hdr_offset ≡ place = sym (sym (u64-front size 256 bytes (omega arith) ∙ is.here) ∙ read.hdr_offset) in
+    let same_size : size ≡ h.hdr_size =
+    sym (u64-front size 8 bytes (omega arith) ∙ is.stated) ∙ read.hdr_size in
+    let here : h.hdr_offset ≡ place =
+    sym (sym (u64-front size 256 bytes (omega arith) ∙ is.here) ∙ read.hdr_offset) in
     let copy : IsCopy (take size bytes) h = record {
       whole = length-take-le size bytes is.room ∙ same_size;
       one_of_nine = ap is_size (sym same_size) ∙ is.one_of_nine;
@@ -209,7 +232,8 @@ spelt place bytes h k =
       copy = subst (λ (n : ℕ). IsCopy (take n bytes) h) same_size copy;
     }
 
-pub spells : (place : ℕ) (bytes : List ℕ) (h : BinHeader) → BeginsWithCopy place bytes h → copy_of place bytes ≡ Ok h
+pub spells : (place : ℕ) (bytes : List ℕ) (h : BinHeader) → BeginsWithCopy place bytes h
+    → copy_of place bytes ≡ Ok h
 spells place bytes h begins =
     let size : ℕ = h.hdr_size in
     let is : IsCopy (take size bytes) h = begins.copy in

@@ -1,16 +1,20 @@
 -- Copies of a header as bytes (LUKS2 On-Disk Format Specification 1.1, section 2.1).
-use Rattle.std.specs.Prelude.{◌≡◌, ◌⊎◌, ℕ, ◌≤◌, ◌==◌, ◌&&◌, ◌||◌, nat_le, not, List, [], ◌∷◌, ◌++◌, length, take, drop, replicate, codes, Bool, true, false, Result, Ok, Err, if◌then◌else◌}
+use Rattle.std.specs.Prelude.{◌≡◌, ◌⊎◌, ℕ, ◌≤◌, ◌==◌, ◌&&◌, ◌||◌, nat_le, not, List, [], ◌∷◌, ◌++◌}
+use Rattle.std.specs.Prelude.{length, take, drop, replicate, codes, Bool, true, false, Result, Ok}
+use Rattle.std.specs.Prelude.{Err, if◌then◌else◌}
 use Rattle.std.specs.List.{list_any, take_while}
 use Rattle.std.specs.Str.{bytes_eq}
 use Rattle.sha2.specs.Sha256.{sha256}
 use Rattle.luks_bin.specs.Fields.{field, u16_in, u64_in, is_size}
 use Rattle.luks_bin.specs.declared.header.BinFault.{BinFault}
-use Rattle.luks_bin.specs.declared.header.BinFault.TheVariants.{Magic, Version, Size, Place, Algorithm, Checksum, Text}
+use Rattle.luks_bin.specs.declared.header.BinFault.TheVariants.{Magic, Version, Size, Place}
+use Rattle.luks_bin.specs.declared.header.BinFault.TheVariants.{Algorithm, Checksum, Text}
 use Rattle.luks_bin.specs.declared.header.BinHeader.{BinHeader}
 
 -- "LUKS" and "SKUL", and two bytes more
 unfoldable pub magic_of : ℕ → List ℕ
-magic_of place = if place == 0 then codes "LUKS" ++ 186 ∷ 190 ∷ [] else codes "SKUL" ++ 186 ∷ 190 ∷ []
+magic_of place =
+    if place == 0 then codes "LUKS" ++ 186 ∷ 190 ∷ [] else codes "SKUL" ++ 186 ∷ 190 ∷ []
 
 abbrev pub algorithm : List ℕ
 algorithm = codes "sha256" ++ 0 ∷ []
@@ -63,7 +67,8 @@ size_of place there head = do
 unfoldable pub header_of : List ℕ → Result BinHeader BinFault
 header_of copy = do
   _ ← wanted (bytes_eq (field 72 7 copy) algorithm) Algorithm
-  _ ← wanted (bytes_eq (field 448 64 copy) (sum_field (sum_of copy))) (Checksum (field 448 64 copy) (sum_of copy))
+  _ ← wanted (bytes_eq (field 448 64 copy) (sum_field (sum_of copy)))
+      (Checksum (field 448 64 copy) (sum_of copy))
   _ ← wanted (holds_nul (field 24 48 copy)) (Text 24)
   _ ← wanted (holds_nul (field 168 40 copy)) (Text 168)
   _ ← wanted (holds_nul (field 208 48 copy)) (Text 208)

@@ -3,7 +3,8 @@ use Rattle.std.specs.Prelude.{◌≡◌, ◌≢◌, ◌⊎◌, ℕ, ◌≤◌, �
 
 -- the place of a byte that copies share
 abbrev pub IsShared : ℕ → Type 0
-IsShared at = ((6 ≤ at) × (at < 104)) ⊎ (((168 ≤ at) × (at < 256)) ⊎ (((264 ≤ at) × (at < 448)) ⊎ (512 ≤ at)))
+IsShared at =
+    ((6 ≤ at) × (at < 104)) ⊎ (((168 ≤ at) × (at < 256)) ⊎ (((264 ≤ at) × (at < 448)) ⊎ (512 ≤ at)))
 
 -- Two copies have the same shared bytes.
 unfoldable pub Agree : List ℕ → List ℕ → Type 0

@@ -8,8 +8,8 @@ fn is_shared(at: usize) -> bool
     (6 <= at && at < 104) || (168 <= at && at < 256) || (264 <= at && at < 448) || 512 <= at
 }
 
-/// The first place at which two whole copies of one size differ, outside magic, salt, hdr_offset and
-/// csum, which each copy has for itself.
+/// The first place at which two whole copies of one size differ, outside magic, salt, hdr_offset
+/// and csum, which each copy has for itself.
 #[tactic(auto, unfolding(crate::specs::Shares::Agree))]
 pub fn first_difference(a: &[u8], b: &[u8]) -> Option<usize>
     requires { length a.now ≡ length b.now }

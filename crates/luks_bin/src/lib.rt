@@ -8,8 +8,8 @@
 //! [`write_copy`] writes a copy that reads back as the same header, and [`move_copy`] makes of one
 //! copy that of another place. No call takes memory, and none looks into the JSON text.
 //!
-//! The layer above may rely on `specs/Copies.antt`: `copy_of` is the header that bytes are, or their
-//! first fault, and [`copies_are_spelt`] says in plain words which bytes are a copy.
+//! The layer above may rely on `specs/Copies.antt`: `copy_of` is the header that bytes are, or
+//! their first fault, and [`copies_are_spelt`] says in plain words which bytes are a copy.
 #![tactic(auto)]
 
 mod areas;

@@ -5,8 +5,8 @@ use crate::fields::{ends, field_at, magic, padded, sum, u16_at, u64_at};
 use crate::header::{BinFault, BinHeader, is_header_size};
 
 /// How many bytes the copy at a place has, by the first 4096 bytes from there on, of `there` that
-/// the disk has from there on: what is to be read before [`read_copy`]. The place is the byte of the
-/// disk: 0 for the primary. A fault is the one that `read_copy` gives for all those bytes; the
+/// the disk has from there on: what is to be read before [`read_copy`]. The place is the byte of
+/// the disk: 0 for the primary. A fault is the one that `read_copy` gives for all those bytes; the
 /// checksum, its algorithm and the texts aren't tested yet.
 #[tactic(auto, unfolding(crate::specs::Copies::size_of))]
 pub fn read_size(head: &[u8], place: u64, there: u64) -> Result<u64, BinFault>
@@ -75,8 +75,8 @@ fn read_header(copy: &[u8]) -> Result<BinHeader, BinFault>
 }
 
 /// The header of the copy that stands at a place of the disk, 0 for the primary: `bytes` are those
-/// from there on, all that the disk has or as many as the copy. Bytes behind the copy and its padding
-/// aren't tested. Else the first fault, in the order of [`BinFault`].
+/// from there on, all that the disk has or as many as the copy. Bytes behind the copy and its
+/// padding aren't tested. Else the first fault, in the order of [`BinFault`].
 #[tactic(auto, unfolding(crate::specs::Copies::copy_of))]
 pub fn read_copy(bytes: &[u8], place: u64) -> Result<BinHeader, BinFault>
     ensures { result ≡ copy_of place bytes.now }

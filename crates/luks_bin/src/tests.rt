@@ -14,7 +14,8 @@ const UUID: [u8; 40] = *b"00112233-4455-6677-8899-aabbccddeeff\0\0\0\0";
 
 const SUBSYSTEM: [u8; 48] =
     *b"backup\0\0\0\0\0\0\0\0\0\0\0\0\0\0\0\0\0\0\0\0\0\0\0\0\0\0\0\0\0\0\0\0\0\0\0\0\0\0\0\0\0\0";
-// the sums of the sample's primary with the texts `{}` and `[]`, and of its secondary, by Python's hashlib
+// the sums of the sample's primary with the texts `{}` and `[]`, and of its secondary, by Python's
+// hashlib
 const SUM: [u8; 32] =
     *b"\x53\x5d\xc8\x41\x1f\x7e\x7a\xdd\xc7\x29\xc6\x96\x77\x8c\xf5\xd1\x37\x96\xdb\x29\x47\x94\x69\xdc\x76\x8d\xa3\x29\xaf\x81\x47\x51";
 

@@ -1,7 +1,8 @@
 ghost use Rattle.std.specs.Prelude.{◌≡◌, ◌⊎◌, ◌≤◌, ◌<◌, ◌+◌, ◌^◌, ℕ, length, replicate, Ok};
 ghost use Rattle.luks_bin.specs.Copies.{copy_of, text_of, sum_of, sum_field, IsCopy};
 ghost use Rattle.luks_bin.specs.Shares.{Agree};
-ghost use Rattle.luks_bin.specs.Writing.{paste_all, common_pieces, own_pieces, common, summed, moved, written, IsWritable, FitsArea};
+ghost use Rattle.luks_bin.specs.Writing.{paste_all, common_pieces, own_pieces, common, summed};
+ghost use Rattle.luks_bin.specs.Writing.{moved, written, IsWritable, FitsArea};
 ghost use Rattle.luks_bin.specs.declared.header.BinHeader.{BinHeader};
 
 use crate::fields::{magic, padded, put, sum};
@@ -49,7 +50,8 @@ pub(crate) fn put_sum(copy: &mut [u8])
 pub fn move_copy(copy: &mut [u8], place: u64, salt: &[u8; 64])
     requires { 4096 ≤ length copy.old }
     ensures bytes { copy.new ≡ moved place salt.now copy.old }
-    ensures back { (from : ℕ) (h : BinHeader) → copy_of from copy.old ≡ Ok h → length copy.old ≡ h.hdr_size
+    ensures back { (from : ℕ) (h : BinHeader) → copy_of from copy.old ≡ Ok h
+        → length copy.old ≡ h.hdr_size
         → (place ≡ 0) ⊎ (place ≡ h.hdr_size)
         → copy_of place copy.new ≡ Ok (record h { hdr_offset = place; salt = salt.now }) }
     ensures text { text_of copy.new ≡ text_of copy.old }
@@ -66,8 +68,8 @@ fn seqid_fits(header: &BinHeader)
     let _seqid = header.seqid;
 }
 
-/// Writes the copy of a header with this JSON text into a buffer of its size: zeros stand behind the
-/// text and in the padding.
+/// Writes the copy of a header with this JSON text into a buffer of its size: zeros stand behind
+/// the text and in the padding.
 #[tactic(auto, unfolding(crate::specs::Writing::written, crate::specs::Writing::common))]
 pub fn write_copy(header: &BinHeader, json: &[u8], buf: &mut [u8])
     requires right { IsWritable header.now }

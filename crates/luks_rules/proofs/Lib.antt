@@ -1,9 +1,11 @@
 pub mod ChoiceLemmas
 pub mod CountLemmas
+pub mod IdleLemmas
 pub mod KeptLemmas
 pub mod OneChoiceLemmas
 pub mod OverlapLemmas
 pub mod PlaceLemmas
+pub mod PlacedLemmas
 pub mod PlainLemmas
 pub mod PlanLemmas
 pub mod RuleLemmas

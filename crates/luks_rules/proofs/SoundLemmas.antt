@@ -1,9 +1,10 @@
 -- Metadata that break no rule, in plain words.
 use Rattle.std.proofs.Common.{◌≡◌, ◌∙◌, ℕ, ◌<◌, ◌++◌, not, nat_lt, eqb, List, [], ◌∷◌, map, Option, Some, None, Bool, true, false, cond, refl, sym, ap, subst, arith}
 use Rattle.std.proofs.lemmas.Bool.{ltb-false, or_parts, not-false, both_ways}
-use Rattle.std.specs.List.{All, list_any}
+use Rattle.std.specs.List.{All, AllByRecursion, list_any}
 use Rattle.std.specs.Option.{is_some, option_map, option_and_then}
 use Rattle.disk_sizes.specs.declared.Sizes.{Sizes}
+use Rattle.json_members.specs.Entries.{IsRising}
 use Rattle.luks_json.specs.Configs.{is_foreign, mandatory}
 use Rattle.luks_json.specs.declared.digest.Digest.{Digest}
 use Rattle.luks_json.specs.declared.meta.Parts.{Parts}
@@ -12,6 +13,7 @@ use Rattle.luks_rules.specs.Areas.{areas_of, breaks_bounds}
 use Rattle.luks_rules.specs.Conversions.{conversions_of, only}
 use Rattle.luks_rules.specs.Extents.{extent_of}
 use Rattle.luks_rules.specs.Foreign.{first_foreign}
+use Rattle.luks_rules.specs.Idles.{idle_from, idle_of}
 use Rattle.luks_rules.specs.Multiples.{breaks_multiples, breaks_sectors, breaks_tweaks}
 use Rattle.luks_rules.specs.Overlaps.{overlap}
 use Rattle.luks_rules.specs.Plain.{HoldVolume}
@@ -20,13 +22,15 @@ use Rattle.luks_rules.specs.Rooms.{breaks_capacity, breaks_shift, capacity}
 use Rattle.luks_rules.specs.Rules.{broken, first_or, first_of, first_fault, rules_of_places, rules_of_sizes, rules_of_conversion}
 use Rattle.luks_rules.specs.Segments.{breaks_segments, in_progress}
 use Rattle.luks_rules.specs.Shapes.{breaks_shape, is_any, progress_by, progress_from, progress_of, progress_under}
-use Rattle.luks_rules.specs.States.{IsConverting, IsSound, IsState}
+use Rattle.luks_rules.specs.States.{IsConverting, IsPlaced, IsSound, IsState}
 use Rattle.luks_rules.specs.declared.conversions.Conversion.{Conversion}
 use Rattle.luks_rules.specs.declared.extents.Extent.{Extent}
 use Rattle.luks_rules.specs.declared.fault.RuleFault.{RuleFault}
 use Rattle.luks_rules.specs.declared.fault.RuleFault.TheVariants as faults
 use Rattle.luks_rules.specs.declared.shape.Progress.{Progress}
 use Rattle.luks_rules.proofs.ChoiceLemmas.{find_any, state_of}
+use Rattle.luks_rules.proofs.IdleLemmas.{idle_is}
+use Rattle.luks_rules.proofs.PlacedLemmas.{placed, last_two}
 use Rattle.luks_rules.proofs.PlainLemmas.{each, within, referred, held, sectors, atoms, numbers}
 use Rattle.luks_rules.proofs.PlaceLemmas.{on_disk}
 use Rattle.luks_rules.proofs.RuleLemmas.{by_groups}
@@ -76,21 +80,24 @@ only_one (d ∷ []) c h = let same : d ≡ c = cc in ap (λ x. x ∷ []) same
 only_one (d ∷ e ∷ cs) c h = cc
 
 from_progress : (m : Parts) (sizes : Sizes) (p : Progress) → in_progress m.config ≡ true → progress_of m sizes ≡ Some p
-    → (conversions_of m.keyslots ≡ p.conversion ∷ []) × IsStateOf sizes.atom p.conversion m.digests m.segments p
+    → (conversions_of m.keyslots ≡ p.conversion ∷ []) × All (λ d. lists d.1.keyslots p.conversion.keyslot ≡ false) m.digests × IsStateOf sizes.atom p.conversion m.digests m.segments p
 unfolding progress_of IsStateOf
 from_progress m sizes p busy h =
     by (only (conversions_of m.keyslots)) refl (sym (ap (λ b. cond b (option_and_then (progress_under sizes.atom m) (only (conversions_of m.keyslots))) None) busy) ∙ h)
   where
-    under : (c : Conversion) (b : Bool) → cond b None (progress_from sizes.atom c m.digests m.segments) ≡ Some p → progress_from sizes.atom c m.digests m.segments ≡ Some p
+    under : (c : Conversion) (b : Bool) → cond b None (progress_from sizes.atom c m.digests m.segments) ≡ Some p → (b ≡ false) × (progress_from sizes.atom c m.digests m.segments ≡ Some p)
     under c true e = cc
-    under c false e = e
+    under c false e = (refl, e)
 
     by : (o : Option Conversion) → only (conversions_of m.keyslots) ≡ o → option_and_then (progress_under sizes.atom m) o ≡ Some p
-        → (conversions_of m.keyslots ≡ p.conversion ∷ []) × IsStateOf sizes.atom p.conversion m.digests m.segments p
+        → (conversions_of m.keyslots ≡ p.conversion ∷ []) × All (λ d. lists d.1.keyslots p.conversion.keyslot ≡ false) m.digests × IsStateOf sizes.atom p.conversion m.digests m.segments p
     by None e h = cc
     by (Some c) e h =
-        let s = from_segments sizes.atom c m.digests m.segments p (under c (list_any (λ d. lists d.1.keyslots c.keyslot) m.digests) h) in (
+        let u = under c (list_any (λ d. lists d.1.keyslots c.keyslot) m.digests) h in
+        let s = from_segments sizes.atom c m.digests m.segments p u.1 in (
           only_one (conversions_of m.keyslots) c e ∙ ap (λ x. x ∷ []) (sym s.2),
+          subst (λ x. All (λ d. lists d.1.keyslots x.keyslot ≡ false) m.digests) (sym s.2)
+          (each (λ d. lists d.1.keyslots c.keyslot) (λ d. lists d.1.keyslots c.keyslot ≡ false) m.digests (λ d k. k) u.0),
           (s.0, s.1, refl, subst (λ x. IsState sizes.atom x s.0 p.old p.new p.plan) (sym s.2) s.3),
         )
 
@@ -106,6 +113,10 @@ idle_by m sizes h e = (
   ap (λ b. cond b (option_and_then (progress_under sizes.atom m) (only (conversions_of m.keyslots))) None) e,
 )
 
+not_idle : (m : Parts) (sizes : Sizes) → in_progress m.config ≡ true → idle_of m sizes ≡ None
+unfolding idle_of
+not_idle m sizes e = ap (λ b. cond b None (idle_from sizes m.digests m.segments)) e
+
 some_of : (o : Option Progress) → is_some o ≡ true → (p : Progress) × (o ≡ Some p)
 some_of None h = cc
 some_of (Some p) h = (p, refl)
@@ -118,30 +129,35 @@ some_room : (n : ℕ) → eqb n 0 ≡ false → 0 < n
 some_room n h = grind arith
 
 busy_by : (m : Parts) (sizes : Sizes) → breaks_shape m (progress_of m sizes) ≡ false → breaks_capacity sizes.atom (progress_of m sizes) ≡ false → breaks_shift (progress_of m sizes) ≡ false
-    → HoldVolume (in_progress m.config) m sizes → in_progress m.config ≡ true → (p : Progress) × (progress_of m sizes ≡ Some p) × ((live : List Extent) × IsConverting m sizes p live)
+    → HoldVolume (in_progress m.config) m sizes → AllByRecursion (IsPlaced m sizes) (map (extent_of m.digests) m.segments) → in_progress m.config ≡ true
+    → (p : Progress) × (progress_of m sizes ≡ Some p) × ((live : List Extent) × IsConverting m sizes p live)
 unfolding IsStateOf
-busy_by m sizes h short far hold e =
+busy_by m sizes h short far hold placed e =
     let t = there m (progress_of m sizes) h e in
     let s = from_progress m sizes t.0 e t.1 in
-    let room = or_parts (eqb (capacity sizes.atom t.0) 0) (nat_lt (capacity sizes.atom t.0) t.0.plan.zone) (subst (λ o. breaks_capacity sizes.atom o ≡ false) t.1 short) in (
+    let room = or_parts (eqb (capacity sizes.atom t.0) 0) (nat_lt (capacity sizes.atom t.0) t.0.plan.zone) (subst (λ o. breaks_capacity sizes.atom o ≡ false) t.1 short) in
+    let wholes = last_two (IsPlaced m sizes) s.2.0 t.0.old t.0.new (subst (AllByRecursion (IsPlaced m sizes)) s.2.1 placed) in (
       t.0,
       t.1,
       (
-        s.1.0,
+        s.2.0,
         record {
           keyslot = s.0;
-          segments = s.1.1;
-          state = s.1.3;
+          alone = s.1;
+          segments = s.2.1;
+          state = s.2.3;
+          old = wholes.0;
+          new = wholes.1;
           room = some_room _ room.0;
           zone = ltb-false _ _ room.1;
           shift = subst (λ o. breaks_shift o ≡ false) t.1 far;
-          places = on_disk m sizes t.0 s.1.0 hold.on_disk s.1.1 s.1.3;
+          places = on_disk m sizes t.0 s.2.0 hold.on_disk s.2.1 s.2.3;
         },
       ),
     )
 
-pub sound : (m : Parts) (sizes : Sizes) → 0 < sizes.atom → first_fault m sizes ≡ None → IsSound m sizes
-sound m sizes some none =
+pub sound : (m : Parts) (sizes : Sizes) → 0 < sizes.atom → IsRising m.digests → first_fault m sizes ≡ None → IsSound m sizes
+sound m sizes some rising none =
     let all = none_parts (first_or (first_of (rules_of_places m sizes)) (first_of (rules_of_sizes m sizes))) (first_of (rules_of_conversion m sizes)) (sym (by_groups m sizes) ∙ none) in
     let two = none_parts (first_of (rules_of_places m sizes)) (first_of (rules_of_sizes m sizes)) all.0 in
     let p0 = none_parts (option_map faults.Foreign (first_foreign (mandatory m.config.requirements))) _ two.0 in
@@ -156,17 +172,26 @@ sound m sizes some none =
     let c1 = none_parts (broken faults.ResilTooSmall (breaks_capacity sizes.atom (progress_of m sizes))) _ c0.1 in
     let c2 = none_parts (broken faults.ShiftRoom (breaks_shift (progress_of m sizes))) _ c1.1 in
     let shape = unbroken faults.ReencryptShape (breaks_shape m (progress_of m sizes)) c0.0 in
+    let inside = within m sizes (unbroken faults.AreaBounds _ p1.0) in
+    let refers = referred m (unbroken faults.DigestRef (breaks_references m) p3.0) in
+    let hold = held (in_progress m.config) m sizes (unbroken faults.SegmentGap (breaks_segments m sizes) s0.0) in
+    let whole = sectors m sizes (unbroken faults.SectorSize (breaks_sectors m sizes) s1.0) in
+    let even = atoms m sizes (unbroken faults.NotAtomMultiple (breaks_multiples m sizes) s2.0) in
+    let units = numbers m sizes (unbroken faults.TweakRange (breaks_tweaks m sizes) s3.0) in
+    let places = placed m sizes rising inside refers hold.on_disk whole even units in
     record {
       atom = some;
       own = owned (mandatory m.config.requirements) (unmapped (first_foreign (mandatory m.config.requirements)) p0.0);
-      within = within m sizes (unbroken faults.AreaBounds _ p1.0);
+      within = inside;
       apart = λ two. both_ways _ (unbroken faults.AreaOverlap (overlap (areas_of m.keyslots)) p2.0) (overlaps (areas_of m.keyslots) two);
-      digests = referred m (unbroken faults.DigestRef (breaks_references m) p3.0);
-      segments = held (in_progress m.config) m sizes (unbroken faults.SegmentGap (breaks_segments m sizes) s0.0);
-      sectors = sectors m sizes (unbroken faults.SectorSize (breaks_sectors m sizes) s1.0);
-      atoms = atoms m sizes (unbroken faults.NotAtomMultiple (breaks_multiples m sizes) s2.0);
-      numbers = numbers m sizes (unbroken faults.TweakRange (breaks_tweaks m sizes) s3.0);
-      idle = idle_by m sizes shape;
-      busy = busy_by m sizes shape (unbroken faults.ResilTooSmall (breaks_capacity sizes.atom (progress_of m sizes)) c1.0) (unbroken faults.ShiftRoom (breaks_shift (progress_of m sizes)) c2.0)
-          (held (in_progress m.config) m sizes (unbroken faults.SegmentGap (breaks_segments m sizes) s0.0));
+      digests = refers;
+      segments = hold;
+      sectors = whole;
+      atoms = even;
+      numbers = units;
+      idle = λ e. (let none = idle_by m sizes shape e in (none.1, idle_is m sizes some places none.0 hold e));
+      busy = λ e. (
+        not_idle m sizes e,
+        busy_by m sizes shape (unbroken faults.ResilTooSmall (breaks_capacity sizes.atom (progress_of m sizes)) c1.0) (unbroken faults.ShiftRoom (breaks_shift (progress_of m sizes)) c2.0) hold places e,
+      );
     }

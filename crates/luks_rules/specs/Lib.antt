@@ -2,6 +2,7 @@ pub mod Areas
 pub mod Conversions
 pub mod Extents
 pub mod Foreign
+pub mod Idles
 pub mod Multiples
 pub mod Overlaps
 pub mod Plain

@@ -1,6 +1,6 @@
 -- The keyslots and segments that digests list.
-use Rattle.std.specs.Prelude.{ℕ, ◌==◌, ◌&&◌, ◌||◌, not, Bool, List, is_some, count_by}
-use Rattle.std.specs.List.{list_any}
+use Rattle.std.specs.Prelude.{ℕ, ◌==◌, ◌&&◌, ◌||◌, not, Bool, List, Option, is_some, option_map, count_by}
+use Rattle.std.specs.List.{list_any, find}
 use Rattle.luks_json.specs.declared.digest.Digest.{Digest}
 use Rattle.luks_json.specs.declared.meta.Parts.{Parts}
 use Rattle.luks_json.specs.declared.segment.Segment.{Segment}
@@ -8,6 +8,10 @@ use Rattle.luks_json.specs.declared.segment.Segment.{Segment}
 -- a number that is one of the entries'
 abbrev pub is_there : {T : Type 0} → List (ℕ × T) → ℕ → Bool
 is_there entries n = list_any (λ entry. entry.0 == n) entries
+
+-- the value of the entry with a number
+abbrev pub value_at : {T : Type 0} → List (ℕ × T) → ℕ → Option T
+value_at entries n = option_map (λ entry. entry.1) (find (λ entry. entry.0 == n) entries)
 
 abbrev pub lists : List ℕ → ℕ → Bool
 lists numbers n = list_any (λ number. number == n) numbers

@@ -1,5 +1,5 @@
 -- Segments: how long they are, which of them hold the volume, and how far they reach.
-use Rattle.std.specs.Prelude.{ℕ, ◌+◌, ◌-◌, ◌==◌, ◌&&◌, ◌||◌, nat_lt, not, Bool, true, false, List, codes, length, Option, Some, None, if◌then◌else◌}
+use Rattle.std.specs.Prelude.{ℕ, ◌+◌, ◌-◌, ◌/◌, ◌==◌, ◌&&◌, ◌||◌, nat_lt, not, Bool, true, false, List, codes, length, Option, Some, None, if◌then◌else◌}
 use Rattle.std.specs.List.{list_any, sum_by}
 use Rattle.std.specs.Str.{bytes_eq}
 use Rattle.luks_json.specs.Configs.{profile, mandatory}
@@ -34,6 +34,10 @@ bytes_by last offset (Sized n) = n
 
 abbrev pub bytes_of : Sizes → Segment → ℕ
 bytes_of sizes s = bytes_by (main_bytes sizes) s.offset s.size
+
+-- the whole atoms of a segment at a place
+abbrev pub whole_blocks : Sizes → ℕ → SegmentSize → ℕ
+whole_blocks sizes offset size = bytes_by (main_bytes sizes) offset size / sizes.atom
 
 abbrev pub passes_end : Sizes → Segment → Bool
 passes_end sizes s = nat_lt (main_bytes sizes) (s.offset + bytes_of sizes s)

@@ -39,7 +39,7 @@ fn area_of_slot(slot: &Keyslot) -> Option<Area>
 }
 
 /// The areas of keyslots, in the order of their numbers.
-pub(crate) fn list_areas(alloc: Global, slots: &[(u64, Keyslot)]) -> Result<Vec<Area>, AllocError>
+pub fn list_areas(alloc: Global, slots: &[(u64, Keyslot)]) -> Result<Vec<Area>, AllocError>
     ensures { IfOk result (λ areas. areas.items ≡ areas_of slots.now) }
 {
     let mut areas = Vec::new(alloc);

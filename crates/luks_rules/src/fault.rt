@@ -1,5 +1,7 @@
 use json_members::Text;
 use std::alloc::AllocError;
+use std::error::Error;
+use std::fmt;
 
 /// A rule that metadata break, in the order of the tests.
 #[derive(Debug, Drop)]
@@ -32,6 +34,42 @@ pub enum RuleFault {
     ShiftRoom,
 }
 
+impl RuleFault {
+    /// The rule's number, its name and what it asks for, as a fault is told to people.
+    fn described(&self) -> (u8, &'static str, &'static str) {
+        match self {
+            RuleFault::AreaBounds => (1, "AreaBounds", "an area isn't within its bounds"),
+            RuleFault::AreaOverlap => (2, "AreaOverlap", "two areas share a byte"),
+            RuleFault::DigestRef => (3, "DigestRef", "digests don't list what they should"),
+            RuleFault::SegmentGap => (4, "SegmentGap", "the segments hold no whole volume"),
+            RuleFault::SectorSize => (5, "SectorSize", "sectors don't divide the atom"),
+            RuleFault::NotAtomMultiple => (6, "NotAtomMultiple", "not in whole atoms"),
+            RuleFault::Foreign(_) => (7, "Foreign", "another program's header"),
+            RuleFault::ReencryptShape => (8, "ReencryptShape", "no state of a conversion"),
+            RuleFault::ResilTooSmall => (9, "ResilTooSmall", "the saved area is too small"),
+            RuleFault::ShiftRoom => (10, "ShiftRoom", "the shift isn't between the segments"),
+            RuleFault::TweakRange => (11, "TweakRange", "sectors' numbers pass 64 bits"),
+        }
+    }
+}
+
+/// One line, as `rule 2 AreaOverlap: two areas share a byte`. That of another program's header ends
+/// with the string, in which what can't be printed is escaped.
+impl fmt::Display for RuleFault {
+    fn fmt<W: fmt::Write>(&self, f: &mut fmt::Formatter<W>) -> fmt::Result {
+        let (number, name, meaning) = self.described();
+        match self {
+            RuleFault::Foreign(text) => {
+                let text = text.as_str().escape_debug();
+                write!(f, "rule {number} {name}: {meaning}, {text}")
+            }
+            _ => write!(f, "rule {number} {name}: {meaning}"),
+        }
+    }
+}
+
+impl Error for RuleFault {}
+
 /// Why metadata aren't valid.
 #[derive(Debug, Drop)]
 pub enum CheckError {
@@ -40,6 +78,17 @@ pub enum CheckError {
     /// This is the first rule that they break.
     Fault(RuleFault),
 }
+
+impl fmt::Display for CheckError {
+    fn fmt<W: fmt::Write>(&self, f: &mut fmt::Formatter<W>) -> fmt::Result {
+        match self {
+            CheckError::Memory => write!(f, "out of memory"),
+            CheckError::Fault(fault) => write!(f, "{fault}"),
+        }
+    }
+}
+
+impl Error for CheckError {}
 
 impl From<AllocError> for CheckError {
     ghost use Rattle.std.specs.Prelude.{◌≡◌};

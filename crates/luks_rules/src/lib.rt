@@ -7,7 +7,8 @@
 //! The layer above may rely on `check`: metadata that break no rule become a `Valid`, and any other
 //! are answered by exactly the first rule that they break. Of a `Valid` it may rely on `is_sound`:
 //! areas share no byte and lie within bounds, segments lie on the disk in whole atoms, each crypt
-//! segment has its one digest, and the live segments of a conversion are the parts of the old and
+//! segment has its one digest; the one segment of a volume that isn't being converted, with its
+//! blocks, is what `idle` tells, and the live segments of a conversion are the parts of the old and
 //! of the new one that `progress` tells. So it never looks into the objects for them.
 #![tactic(auto)]
 
@@ -16,6 +17,7 @@ mod conversions;
 mod extents;
 mod fault;
 mod foreign;
+mod idle;
 mod laws;
 mod multiples;
 mod overlaps;
@@ -30,13 +32,15 @@ mod tests;
 mod unserved;
 mod valid;
 
-pub use areas::Area;
+pub use areas::{Area, list_areas};
 pub use conversions::Conversion;
 pub use disk_sizes::Sizes;
 pub use extents::{Extent, Mark};
 pub use fault::{CheckError, RuleFault};
+pub use idle::Idle;
 pub use laws::{rules_are_plain, shapes_are_choices};
 pub use overlaps::overlaps_are_shared_bytes;
 pub use plan::Plan;
+pub use references::lists_number;
 pub use shape::Progress;
 pub use valid::{Checked, Valid, check};

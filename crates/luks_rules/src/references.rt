@@ -21,7 +21,7 @@ fn numbers_of<T>(alloc: Global, entries: &[(u64, T)]) -> Result<BTreeSet<u64>, A
 }
 
 /// Whether a number is one of a list.
-pub(crate) fn lists_number(numbers: &[u64], number: u64) -> bool
+pub fn lists_number(numbers: &[u64], number: u64) -> bool
     ensures { result ≡ lists numbers.now number }
 {
     numbers.iter().any(|n| *n == number)

@@ -1,9 +1,9 @@
-ghost use Rattle.std.specs.Prelude.{◌≡◌, ◌<◌, ◌^◌, ◌&&◌, not, nat_lt};
+ghost use Rattle.std.specs.Prelude.{◌≡◌, ◌<◌, ◌-◌, ◌*◌, ◌/◌, ◌^◌, ◌&&◌, not, nat_lt};
 ghost use Rattle.std.specs.List.{list_any, sum_by};
 ghost use Rattle.std.specs.Str.{bytes_eq};
 ghost use Rattle.luks_json.specs.Configs.{profile};
 ghost use Rattle.luks_rules.specs.Areas.{main_bytes};
-ghost use Rattle.luks_rules.specs.Segments.{breaks_count, breaks_segments, bytes_of, flag_in, holds_none, in_progress, is_backup, is_dynamic, is_live, live_bytes, passes_end};
+ghost use Rattle.luks_rules.specs.Segments.{breaks_count, breaks_segments, bytes_of, flag_in, holds_none, in_progress, is_backup, is_dynamic, is_live, live_bytes, passes_end, whole_blocks};
 
 use disk_sizes::Sizes;
 use json_members::{Listed, Text};
@@ -58,6 +58,26 @@ pub(crate) fn segment_bytes(segment: &Segment, sizes: &Sizes) -> u128
     match segment.size {
         SegmentSize::Dynamic => disk_bytes(sizes).saturating_sub(segment.offset as u128),
         SegmentSize::Sized(bytes) => bytes as u128,
+    }
+}
+
+/// The whole atoms behind an offset on a disk of so many.
+fn atoms_behind(offset: u64, atoms: u64, atom: u32) -> u64
+    requires { 0 < atom }
+    ensures { result ≡ (atoms * atom - offset) / atom }
+{
+    let bytes = atoms as u128 * atom as u128;
+    (bytes.saturating_sub(offset as u128) / atom as u128) as u64
+}
+
+/// The whole atoms of a segment.
+pub(crate) fn segment_blocks(segment: &Segment, sizes: &Sizes) -> u64
+    requires { 0 < sizes.now.atom }
+    ensures { result ≡ whole_blocks sizes.now segment.now.offset segment.now.size }
+{
+    match segment.size {
+        SegmentSize::Dynamic => atoms_behind(segment.offset, sizes.main_atoms, sizes.atom),
+        SegmentSize::Sized(bytes) => bytes / sizes.atom as u64,
     }
 }
 

@@ -1,12 +1,16 @@
-ghost use Rattle.std.specs.Prelude.{◌≡◌, ◌<◌, MatchResult, None};
+ghost use Rattle.std.specs.Prelude.{◌≡◌, ◌<◌, MatchResult, None, IfSome, option_map};
+ghost use Rattle.luks_json.specs.Digests.{IsDigest};
+ghost use Rattle.luks_rules.specs.Idles.{idle_of};
+ghost use Rattle.luks_rules.specs.References.{value_at};
 ghost use Rattle.luks_rules.specs.Rules.{IsCause, first_fault};
 ghost use Rattle.luks_rules.specs.Shapes.{progress_of};
 
 use crate::fault::CheckError;
+use crate::idle::{Idle, find_idle};
 use crate::rules::judge;
 use crate::shape::Progress;
 use disk_sizes::Sizes;
-use luks_json::Meta;
+use luks_json::{Digest, Meta};
 use std::alloc::Global;
 use std::marker::Model;
 
@@ -58,6 +62,15 @@ pub fn check(alloc: Global, meta: Meta, sizes: Sizes) -> Result<Valid, CheckErro
     }
 }
 
+fn find_digest(digests: &[(u64, Digest)], number: u64) -> Option<&Digest>
+    ensures { option_map (λ digest. digest.now) result ≡ value_at digests.now number }
+{
+    digests
+        .iter()
+        .find(|digest| digest.0 == number)
+        .map(|digest| &digest.1)
+}
+
 impl Valid {
     ghost use Rattle.std.specs.Prelude.{◌<◌, None};
     ghost use Rattle.luks_rules.specs.Rules.{first_fault};
@@ -67,7 +80,7 @@ impl Valid {
     pub fn is_sound(&self)
         ensures { IsSound self.now.meta self.now.sizes }
     {
-        let _checked = &self.checked;
+        let _parts = self.checked.meta.parts();
     }
 
     /// The metadata.
@@ -95,6 +108,21 @@ impl Valid {
             progress: _,
         } = self;
         checked
+    }
+
+    /// The digest of a number, if there is one.
+    pub fn digest(&self, number: u64) -> Option<&Digest>
+        ensures there { option_map (λ digest. digest.now) result ≡ value_at self.now.meta.digests number }
+        ensures right { IfSome result (λ digest. IsDigest digest.now) }
+    {
+        find_digest(self.checked.meta.parts().digests.as_slice(), number)
+    }
+
+    /// The volume, where nothing of it is being converted.
+    pub fn idle(&self) -> Option<Idle>
+        ensures { result ≡ idle_of self.now.meta self.now.sizes }
+    {
+        find_idle(self.checked.meta.parts(), &self.checked.sizes)
     }
 
     /// How far the conversion is; none where none is under way.

@@ -167,7 +167,8 @@ serves-turn a b s s' p p' turn bytes (Some ending) takes held message answered r
       λ n fewer. subst (λ e.
           Serves n (with_sink a s p) (with_sink b s' p') (Some e) (turn ∷ []) bytes replies.0
           replies.1 false) (sym fault.0) (record {
-            talks = subst (λ ms. Talks (with_sink a s p) (with_sink b s' p') (Some WriteFault) bytes ms
+            talks = subst
+                (λ ms. Talks (with_sink a s p) (with_sink b s' p') (Some WriteFault) bytes ms
                 replies.0 replies.1 false) (replies_to-one turn)
                 (talks-answered _ _ _ (Some WriteFault) bytes _ _ replies.1 false
                 (talks-took a b s p bytes takes held)

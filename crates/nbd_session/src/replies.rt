@@ -10,7 +10,8 @@ use plain_disk::Reply;
 /// Puts one piece, and counts its bytes where it was put whole.
 fn put_piece<K: Sink>(sink: &mut K, bytes: &[u8], put: &mut u64) -> Result<(), Failed>
     ensures { (whole : List ℕ) × (front : List ℕ)
-        × Puts (K.outlet sink.old) (K.outlet sink.new) put.old put.new bytes.now result whole front }
+        × Puts (K.outlet sink.old) (K.outlet sink.new) put.old put.new bytes.now result whole
+        front }
 {
     let before = *put;
     match sink.put(bytes) {
@@ -26,7 +27,8 @@ fn put_piece<K: Sink>(sink: &mut K, bytes: &[u8], put: &mut u64) -> Result<(), F
 pub fn put_message<K: Sink>(sink: &mut K, bytes: &[u8], put: &mut u64) -> Result<(), Failed>
     ensures out { OnOk result (IsOut (K.outlet sink.new)) }
     ensures puts { (whole : List ℕ) × (front : List ℕ)
-        × Puts (K.outlet sink.old) (K.outlet sink.new) put.old put.new bytes.now result whole front }
+        × Puts (K.outlet sink.old) (K.outlet sink.new) put.old put.new bytes.now result whole
+        front }
 {
     put_piece(sink, bytes, put)?;
     sink.push_out()

@@ -11,9 +11,11 @@ export_text export = message (u64_text export.size ∷ u16_text export.flags.bit
 
 -- u16 information type 0, u64 size, u16 transmission flags
 unfoldable pub export_info_text : ExportData → List ℕ
-export_info_text export = message (u16_text 0 ∷ u64_text export.size ∷ u16_text export.flags.bits ∷ [])
+export_info_text export =
+    message (u16_text 0 ∷ u64_text export.size ∷ u16_text export.flags.bits ∷ [])
 
 -- u16 information type 3, u32 least, preferred and greatest size of a block
 unfoldable pub block_size_text : BlockSizes → List ℕ
 block_size_text blocks =
-    message (u16_text 3 ∷ u32_text blocks.minimum ∷ u32_text blocks.preferred ∷ u32_text blocks.maximum ∷ [])
+    message (u16_text 3 ∷ u32_text blocks.minimum ∷ u32_text blocks.preferred
+    ∷ u32_text blocks.maximum ∷ [])

@@ -1,7 +1,9 @@
 -- The head of the reply to an option ("Option reply types" of the NBD protocol document).
 use Rattle.std.specs.Prelude.{ℕ, ◌≡◌, ◌<◌, ◌+◌, ◌^◌, ◌==◌, if◌then◌else◌, List, [], ◌∷◌}
 use Rattle.nbd_wire.specs.declared.option_replies.ReplyType.{ReplyType}
-use Rattle.nbd_wire.specs.declared.option_replies.ReplyType.TheVariants.{Ack, Server, Info, Unsup, Policy, Invalid, Unknown, TooBig, Other}
+use Rattle.nbd_wire.specs.declared.option_replies.ReplyType.TheVariants.{Ack, Server, Info, Unsup}
+use Rattle.nbd_wire.specs.declared.option_replies.ReplyType.TheVariants.{Policy, Invalid, Unknown}
+use Rattle.nbd_wire.specs.declared.option_replies.ReplyType.TheVariants.{TooBig, Other}
 use Rattle.nbd_wire.specs.declared.option_replies.OptionReplyHead.{OptionReplyHead}
 use Rattle.nbd_wire.specs.Magic.{option_reply_magic}
 use Rattle.nbd_wire.specs.Fields.{message, u32_text, u64_text}
@@ -43,5 +45,6 @@ pub record IsOptionReplyHead (head : OptionReplyHead) : Type 0 where
 -- u64 magic, u32 option, u32 reply type, u32 length
 unfoldable pub option_reply_text : OptionReplyHead → List ℕ
 option_reply_text head =
-    message (u64_text option_reply_magic ∷ u32_text (option_number head.option) ∷ u32_text (reply_type_number head.reply)
+    message (u64_text option_reply_magic ∷ u32_text (option_number head.option)
+    ∷ u32_text (reply_type_number head.reply)
     ∷ u32_text head.length ∷ [])

@@ -1,7 +1,9 @@
 -- The head of an option ("Option types" of the NBD protocol document).
 use Rattle.std.specs.Prelude.{ℕ, ◌≡◌, ◌<◌, ◌^◌, ◌==◌, if◌then◌else◌, List, [], ◌∷◌}
 use Rattle.nbd_wire.specs.declared.options.OptionType.{OptionType}
-use Rattle.nbd_wire.specs.declared.options.OptionType.TheVariants.{ExportName, Abort, List as Listing, StartTls, Info, Go, StructuredReply, Other}
+use Rattle.nbd_wire.specs.declared.options.OptionType.TheVariants.{ExportName, Abort}
+use Rattle.nbd_wire.specs.declared.options.OptionType.TheVariants.{List as Listing, StartTls, Info}
+use Rattle.nbd_wire.specs.declared.options.OptionType.TheVariants.{Go, StructuredReply, Other}
 use Rattle.nbd_wire.specs.declared.options.OptionHead.{OptionHead}
 use Rattle.nbd_wire.specs.Magic.{option_magic}
 use Rattle.nbd_wire.specs.Fields.{message, u32_text, u64_text}
@@ -37,4 +39,6 @@ pub record IsOptionHead (head : OptionHead) : Type 0 where
 
 -- u64 magic, u32 option, u32 length
 unfoldable pub option_text : OptionHead → List ℕ
-option_text head = message (u64_text option_magic ∷ u32_text (option_number head.option) ∷ u32_text head.length ∷ [])
+option_text head =
+    message (u64_text option_magic ∷ u32_text (option_number head.option) ∷ u32_text head.length
+    ∷ [])

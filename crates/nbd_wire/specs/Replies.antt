@@ -11,4 +11,5 @@ pub record IsSimpleReplyHead (head : SimpleReplyHead) : Type 0 where
 
 -- u32 magic, u32 error, u64 cookie
 unfoldable pub simple_reply_text : SimpleReplyHead → List ℕ
-simple_reply_text head = message (u32_text simple_reply_magic ∷ u32_text head.error ∷ u64_text head.cookie ∷ [])
+simple_reply_text head =
+    message (u32_text simple_reply_magic ∷ u32_text head.error ∷ u64_text head.cookie ∷ [])

@@ -2,7 +2,8 @@
 -- document).
 use Rattle.std.specs.Prelude.{ℕ, ◌≡◌, ◌<◌, ◌^◌, ◌==◌, if◌then◌else◌, List, [], ◌∷◌}
 use Rattle.nbd_wire.specs.declared.requests.CommandType.{CommandType}
-use Rattle.nbd_wire.specs.declared.requests.CommandType.TheVariants.{Read, Write, Disc, Flush, Trim, WriteZeroes, Other}
+use Rattle.nbd_wire.specs.declared.requests.CommandType.TheVariants.{Read, Write, Disc, Flush, Trim}
+use Rattle.nbd_wire.specs.declared.requests.CommandType.TheVariants.{WriteZeroes, Other}
 use Rattle.nbd_wire.specs.declared.requests.RequestHead.{RequestHead}
 use Rattle.nbd_wire.specs.Magic.{request_magic}
 use Rattle.nbd_wire.specs.Fields.{message, u16_text, u32_text, u64_text}
@@ -40,5 +41,6 @@ pub record IsRequestHead (head : RequestHead) : Type 0 where
 -- u32 magic, u16 flags, u16 type, u64 cookie, u64 offset, u32 length
 unfoldable pub request_text : RequestHead → List ℕ
 request_text head =
-    message (u32_text request_magic ∷ u16_text head.flags.bits ∷ u16_text (command_number head.command)
+    message (u32_text request_magic ∷ u16_text head.flags.bits
+    ∷ u16_text (command_number head.command)
     ∷ u64_text head.cookie ∷ u64_text head.offset ∷ u32_text head.length ∷ [])

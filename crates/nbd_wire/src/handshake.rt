@@ -40,8 +40,10 @@ impl Greeting {
     /// The greeting that these bytes spell. Fails only where one of the two magic numbers is
     /// another, with the first such number.
     pub fn read(bytes: &[u8; 18]) -> Result<Greeting, BadMagic>
-        ensures taken { IfOk result (λ greeting. IsGreeting greeting × (greeting_text greeting ≡ bytes.now)) }
-        ensures only { (greeting : Greeting) → IsGreeting greeting → greeting_text greeting ≡ bytes.now → result ≡ Ok greeting }
+        ensures taken { IfOk result
+            (λ greeting. IsGreeting greeting × (greeting_text greeting ≡ bytes.now)) }
+        ensures only { (greeting : Greeting) → IsGreeting greeting
+            → greeting_text greeting ≡ bytes.now → result ≡ Ok greeting }
         ensures refused { IfErr result (λ bad. IsNotGreeting bytes.now bad.number) }
     {
         let magic = u64_at(bytes, 0);

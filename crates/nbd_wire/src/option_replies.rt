@@ -1,6 +1,7 @@
 ghost use Rattle.std.specs.Prelude.{◌≡◌, ◌≢◌, IfOk, IfErr, take};
 ghost use Rattle.nbd_wire.specs.Fields.{u64_text};
-ghost use Rattle.nbd_wire.specs.OptionReplies.{IsOptionReplyHead, reply_type_number, reply_type_of, option_reply_text};
+ghost use Rattle.nbd_wire.specs.OptionReplies.{IsOptionReplyHead, reply_type_number, reply_type_of};
+ghost use Rattle.nbd_wire.specs.OptionReplies.{option_reply_text};
 ghost use Rattle.nbd_wire.specs.Magic.{option_reply_magic};
 
 use crate::fields::{u32_at, u64_at};
@@ -76,9 +77,12 @@ impl OptionReplyHead {
     /// The head that these bytes spell. Fails only where they don't begin with
     /// `OPTION_REPLY_MAGIC`.
     pub fn read(bytes: &[u8; 20]) -> Result<OptionReplyHead, BadMagic>
-        ensures taken { IfOk result (λ head. IsOptionReplyHead head × (option_reply_text head ≡ bytes.now)) }
-        ensures only { (head : OptionReplyHead) → IsOptionReplyHead head → option_reply_text head ≡ bytes.now → result ≡ Ok head }
-        ensures refused { IfErr result (λ bad. (u64_text bad.number ≡ take 8 bytes.now) × (bad.number ≢ option_reply_magic)) }
+        ensures taken { IfOk result
+            (λ head. IsOptionReplyHead head × (option_reply_text head ≡ bytes.now)) }
+        ensures only { (head : OptionReplyHead) → IsOptionReplyHead head
+            → option_reply_text head ≡ bytes.now → result ≡ Ok head }
+        ensures refused { IfErr result
+            (λ bad. (u64_text bad.number ≡ take 8 bytes.now) × (bad.number ≢ option_reply_magic)) }
     {
         let magic = u64_at(bytes, 0);
         if magic != OPTION_REPLY_MAGIC {

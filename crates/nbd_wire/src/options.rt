@@ -66,8 +66,10 @@ impl OptionHead {
     /// The head that these bytes spell. Fails only where they don't begin with `OPTION_MAGIC`.
     pub fn read(bytes: &[u8; 16]) -> Result<OptionHead, BadMagic>
         ensures taken { IfOk result (λ head. IsOptionHead head × (option_text head ≡ bytes.now)) }
-        ensures only { (head : OptionHead) → IsOptionHead head → option_text head ≡ bytes.now → result ≡ Ok head }
-        ensures refused { IfErr result (λ bad. (u64_text bad.number ≡ take 8 bytes.now) × (bad.number ≢ option_magic)) }
+        ensures only { (head : OptionHead) → IsOptionHead head → option_text head ≡ bytes.now
+            → result ≡ Ok head }
+        ensures refused { IfErr result
+            (λ bad. (u64_text bad.number ≡ take 8 bytes.now) × (bad.number ≢ option_magic)) }
         ensures fits { IfErr result (λ bad. bad.number < 2 ^ 64) }
     {
         let magic = u64_at(bytes, 0);

@@ -18,9 +18,12 @@ impl SimpleReplyHead {
     /// The head that these bytes spell. Fails only where they don't begin with
     /// `SIMPLE_REPLY_MAGIC`.
     pub fn read(bytes: &[u8; 16]) -> Result<SimpleReplyHead, BadMagic>
-        ensures taken { IfOk result (λ head. IsSimpleReplyHead head × (simple_reply_text head ≡ bytes.now)) }
-        ensures only { (head : SimpleReplyHead) → IsSimpleReplyHead head → simple_reply_text head ≡ bytes.now → result ≡ Ok head }
-        ensures refused { IfErr result (λ bad. (u32_text bad.number ≡ take 4 bytes.now) × (bad.number ≢ simple_reply_magic)) }
+        ensures taken { IfOk result
+            (λ head. IsSimpleReplyHead head × (simple_reply_text head ≡ bytes.now)) }
+        ensures only { (head : SimpleReplyHead) → IsSimpleReplyHead head
+            → simple_reply_text head ≡ bytes.now → result ≡ Ok head }
+        ensures refused { IfErr result
+            (λ bad. (u32_text bad.number ≡ take 4 bytes.now) × (bad.number ≢ simple_reply_magic)) }
         ensures fits { IfErr result (λ bad. bad.number < 2 ^ 32) }
     {
         let magic = u32_at(bytes, 0);

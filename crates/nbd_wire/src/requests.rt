@@ -101,8 +101,10 @@ impl RequestHead {
     /// The head that these bytes spell. Fails only where they don't begin with `REQUEST_MAGIC`.
     pub fn read(bytes: &[u8; 28]) -> Result<RequestHead, BadMagic>
         ensures taken { IfOk result (λ head. IsRequestHead head × (request_text head ≡ bytes.now)) }
-        ensures only { (head : RequestHead) → IsRequestHead head → request_text head ≡ bytes.now → result ≡ Ok head }
-        ensures refused { IfErr result (λ bad. (u32_text bad.number ≡ take 4 bytes.now) × (bad.number ≢ request_magic)) }
+        ensures only { (head : RequestHead) → IsRequestHead head → request_text head ≡ bytes.now
+            → result ≡ Ok head }
+        ensures refused { IfErr result
+            (λ bad. (u32_text bad.number ≡ take 4 bytes.now) × (bad.number ≢ request_magic)) }
         ensures fits { IfErr result (λ bad. bad.number < 2 ^ 32) }
     {
         let magic = u32_at(bytes, 0);

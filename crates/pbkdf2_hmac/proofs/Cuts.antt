@@ -1,7 +1,9 @@
 -- Blocks written one after the other into an output, the last one cut at its end.
-use Rattle.std.proofs.Common.{◌≡◌, ℕ, ◌+◌, ◌-◌, ◌*◌, ◌<◌, ◌≤◌, List, [], ◌++◌, length, take, drop, min, ap, sym, ◌∙◌, inl, inr, arith}
+use Rattle.std.proofs.Common.{◌≡◌, ℕ, ◌+◌, ◌-◌, ◌*◌, ◌<◌, ◌≤◌, List, [], ◌++◌, length, take, drop}
+use Rattle.std.proofs.Common.{min, ap, sym, ◌∙◌, inl, inr, arith}
 use Rattle.std.proofs.lemmas.Bool.{cases_lt}
-use Rattle.std.proofs.lemmas.List.{length-take, length-drop, take_all, take-append-le, drop_all, append-nil}
+use Rattle.std.proofs.lemmas.List.{length-take, length-drop, take_all, take-append-le, drop_all}
+use Rattle.std.proofs.lemmas.List.{append-nil}
 use Rattle.std.proofs.Math.Seq.{take-append-add}
 use Rattle.std.proofs.Math.Nat.{mul-le-mul_right}
 use Rattle.std.specs.Int.{div_ceil}
@@ -9,26 +11,35 @@ use Rattle.std.proofs.lemmas.Grind.{div_ceil_times}
 use borrow.Rule.Slice.PartMut.{put_mid}
 
 -- the front of a list that begins with another
-take_past : (xs ys : List ℕ) (start n : ℕ) → length xs ≡ start → take (start + n) (xs ++ ys) ≡ xs ++ take n ys
+take_past : (xs ys : List ℕ) (start n : ℕ) → length xs ≡ start
+    → take (start + n) (xs ++ ys) ≡ xs ++ take n ys
 take_past xs ys start n same = rw (← same) (take-append-add xs ys n)
 
--- the front of a cut block and what stands after it: the block where it fits, else the part that was left for it
+-- the front of a cut block and what stands after it: the block where it fits, else the part that
+-- was left for it
 front_of_cut : (block rest : List ℕ) (len room : ℕ) → length block ≡ len → (room ≤ len → rest ≡ [])
     → take len (take (min len room) block ++ rest) ≡ take room block
 front_of_cut block rest len room same end =
     elim (cases_lt len room) [
       | inl lt ↦
           let all : min len room ≡ len = omega arith in
-          rw (all, take_all len block (omega arith), take-append-le len block rest (omega arith), take_all len block (omega arith))
+          rw (
+            all,
+            take_all len block (omega arith),
+            take-append-le len block rest (omega arith),
+            take_all len block (omega arith),
+          )
           (sym (take_all room block (omega arith)))
       | inr le ↦
           let part : min len room ≡ room = omega arith in
-          rw (part, end le, append-nil (take room block)) (take_all len (take room block) (omega (arith, length-take room block)))
+          rw (part, end le, append-nil (take room block))
+          (take_all len (take room block) (omega (arith, length-take room block)))
     ]
 
 -- the output's front, made of what was written before and of the block, is the front of both
 pub take-put_mid_cut : (old made block ys : List ℕ) (start len end : ℕ)
-    → start ≤ length old → length made ≡ start → length block ≡ len → end ≡ min (start + len) (length old)
+    → start ≤ length old → length made ≡ start → length block ≡ len
+    → end ≡ min (start + len) (length old)
     → ys ≡ take (end - start) block → take start old ≡ take (length old) made
     → take (start + len) (put_mid start (end - start) old ys) ≡ take (length old) (made ++ block)
 take-put_mid_cut old made block ys start len end within made_len block_len end_is ys_is front =

@@ -1,5 +1,6 @@
 -- The lengths of digests, tags and blocks.
-use Rattle.std.proofs.Common.{◌≡◌, ℕ, zero, suc, ◌*◌, List, ◌++◌, length, bit_xor, ◌∙◌, sym, arith, length-append}
+use Rattle.std.proofs.Common.{◌≡◌, ℕ, zero, suc, ◌*◌, List, ◌++◌, length, bit_xor, ◌∙◌, sym, arith}
+use Rattle.std.proofs.Common.{length-append}
 use Rattle.std.proofs.lemmas.List.{length-replicate}
 use Rattle.std.proofs.lemmas.Simd.{length-zip2}
 use Rattle.std.specs.Int.{w32, to_be_bytes}
@@ -27,11 +28,14 @@ length-xor_of_iterates h pass seed zero = length-replicate (digest_len h) 0
 length-xor_of_iterates h pass seed (suc c) =
     let before = length-xor_of_iterates h pass seed c in
     let next = length-hmac_of h pass (iterate h pass seed c) in
-    length-zip2 bit_xor (xor_of_iterates h pass seed c) (hmac_of h pass (iterate h pass seed c)) (before ∙ sym next) ∙ before
+    length-zip2 bit_xor (xor_of_iterates h pass seed c) (hmac_of h pass (iterate h pass seed c))
+    (before ∙ sym next) ∙ before
 
-pub length-block_of : (h : Hash) (pass salt : List ℕ) (rounds i : ℕ) → length (block_of h pass salt rounds i) ≡ digest_len h
+pub length-block_of : (h : Hash) (pass salt : List ℕ) (rounds i : ℕ)
+    → length (block_of h pass salt rounds i) ≡ digest_len h
 unfolding block_of
-length-block_of h pass salt rounds i = length-xor_of_iterates h pass (salt ++ to_be_bytes w32 i) rounds
+length-block_of h pass salt rounds i =
+    length-xor_of_iterates h pass (salt ++ to_be_bytes w32 i) rounds
 
 pub length-blocks_of : (h : Hash) (pass salt : List ℕ) (rounds n : ℕ)
     → length (blocks_of h pass salt rounds n) ≡ n * digest_len h
@@ -40,5 +44,6 @@ length-blocks_of h pass salt rounds zero = omega arith
 length-blocks_of h pass salt rounds (suc n) =
     let before = length-blocks_of h pass salt rounds n in
     let last = length-block_of h pass salt rounds (suc n) in
-    let both = length-append (blocks_of h pass salt rounds n) (block_of h pass salt rounds (suc n)) in
+    let both =
+    length-append (blocks_of h pass salt rounds n) (block_of h pass salt rounds (suc n)) in
     omega (arith, before, last, both)

@@ -1,5 +1,6 @@
 -- A list that is overwritten from its front, place by place.
-use Rattle.std.proofs.Common.{◌≡◌, ℕ, zero, suc, ◌<◌, List, [], ◌∷◌, ◌++◌, length, take, drop, set, get_or, refl, ap, arith}
+use Rattle.std.proofs.Common.{◌≡◌, ℕ, zero, suc, ◌<◌, List, [], ◌∷◌, ◌++◌, length, take, drop, set}
+use Rattle.std.proofs.Common.{get_or, refl, ap, arith}
 use Rattle.std.proofs.lemmas.List.{take_all, drop_all, append-nil}
 
 -- the old value at the next place is still there
@@ -8,7 +9,8 @@ pub get_or-overwritten : (old new : List ℕ) (i : ℕ) → length new ≡ lengt
 get_or-overwritten [] new i same h = absurd (omega arith)
 get_or-overwritten (x ∷ xs) [] i same h = absurd (omega arith)
 get_or-overwritten (x ∷ xs) (y ∷ ys) zero same h = refl
-get_or-overwritten (x ∷ xs) (y ∷ ys) (suc i) same h = get_or-overwritten xs ys i (omega arith) (omega arith)
+get_or-overwritten (x ∷ xs) (y ∷ ys) (suc i) same h =
+    get_or-overwritten xs ys i (omega arith) (omega arith)
 
 -- one more place
 pub set-overwritten : (old new : List ℕ) (i : ℕ) → length new ≡ length old → i < length old
@@ -16,7 +18,8 @@ pub set-overwritten : (old new : List ℕ) (i : ℕ) → length new ≡ length o
 set-overwritten [] new i same h = absurd (omega arith)
 set-overwritten (x ∷ xs) [] i same h = absurd (omega arith)
 set-overwritten (x ∷ xs) (y ∷ ys) zero same h = refl
-set-overwritten (x ∷ xs) (y ∷ ys) (suc i) same h = ap (λ (zs : List ℕ). y ∷ zs) (set-overwritten xs ys i (omega arith) (omega arith))
+set-overwritten (x ∷ xs) (y ∷ ys) (suc i) same h =
+    ap (λ (zs : List ℕ). y ∷ zs) (set-overwritten xs ys i (omega arith) (omega arith))
 
 -- all places
 pub overwritten : (old new : List ℕ) (i : ℕ) → length new ≡ length old → i ≡ length old

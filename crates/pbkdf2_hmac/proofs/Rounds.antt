@@ -1,5 +1,6 @@
 -- The rounds of one output block.
-use Rattle.std.proofs.Common.{◌≡◌, ℕ, zero, suc, List, [], ◌∷◌, length, replicate, refl, ◌∙◌, sym, arith}
+use Rattle.std.proofs.Common.{◌≡◌, ℕ, zero, suc, List, [], ◌∷◌, length, replicate, refl, ◌∙◌, sym}
+use Rattle.std.proofs.Common.{arith}
 use Rattle.std.specs.Int.Bits.{xor_zero_l}
 use Rattle.pbkdf2_hmac.specs.declared.Hash.{Hash}
 use Rattle.pbkdf2_hmac.specs.Hashes.{digest_len}
@@ -20,11 +21,13 @@ pub record IsAfter (h : Hash) (pass seed : List ℕ) (c : ℕ) (last all : List 
   pub last_is : last ≡ iterate h pass seed c
   pub all_is : all ≡ xor_of_iterates h pass seed c
 
-pub after_first : (h : Hash) (pass seed tag : List ℕ) → tag ≡ hmac_of h pass seed → IsAfter h pass seed 1 tag tag
+pub after_first : (h : Hash) (pass seed tag : List ℕ) → tag ≡ hmac_of h pass seed
+    → IsAfter h pass seed 1 tag tag
 unfolding iterate xor_of_iterates
 after_first h pass seed tag is = record {
   last_is = is;
-  all_is = is ∙ sym (xor_bytes-zeros (digest_len h) (hmac_of h pass seed) (length-hmac_of h pass seed));
+  all_is =
+      is ∙ sym (xor_bytes-zeros (digest_len h) (hmac_of h pass seed) (length-hmac_of h pass seed));
 }
 
 pub after_next : (h : Hash) (pass seed : List ℕ) (c : ℕ) (last all next sum : List ℕ)

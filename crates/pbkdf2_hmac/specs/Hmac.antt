@@ -1,5 +1,6 @@
 -- HMAC (RFC 2104, section 2).
-use Rattle.std.specs.Prelude.{ℕ, ◌-◌, List, ◌++◌, length, map, replicate, bit_xor, nat_lt, if◌then◌else◌}
+use Rattle.std.specs.Prelude.{ℕ, ◌-◌, List, ◌++◌, length, map, replicate, bit_xor, nat_lt}
+use Rattle.std.specs.Prelude.{if◌then◌else◌}
 use Rattle.pbkdf2_hmac.specs.declared.Hash.{Hash}
 use Rattle.pbkdf2_hmac.specs.Hashes.{digest_of, block_len}
 

@@ -62,7 +62,8 @@ impl<H: Hasher> Keyed<H> {
 
     // The state of an inner hash, ready for the text.
     pub(crate) fn begin(&self) -> H
-        ensures { (key : List ℕ) → IsKeyed H.hash H.holds self.now key → H.holds result (padded_key H.hash key 0x36) }
+        ensures { (key : List ℕ) → IsKeyed H.hash H.holds self.now key
+            → H.holds result (padded_key H.hash key 0x36) }
     {
         self.inner.copied()
     }
@@ -71,7 +72,8 @@ impl<H: Hasher> Keyed<H> {
     pub(crate) fn end(&self, inner: H, out: &mut [u8])
         requires { length out.old ≡ digest_len H.hash }
         ensures { (key text : List ℕ) → IsKeyed H.hash H.holds self.now key
-            → H.holds inner (padded_key H.hash key 0x36 ++ text) → out.new ≡ hmac_of H.hash key text }
+            → H.holds inner (padded_key H.hash key 0x36 ++ text)
+            → out.new ≡ hmac_of H.hash key text }
     {
         inner.finish(out);
         let mut outer = self.outer.copied();
@@ -82,7 +84,8 @@ impl<H: Hasher> Keyed<H> {
     // Writes the tag of `text`.
     pub(crate) fn tag(&self, text: &[u8], out: &mut [u8])
         requires { length out.old ≡ digest_len H.hash }
-        ensures { (key : List ℕ) → IsKeyed H.hash H.holds self.now key → out.new ≡ hmac_of H.hash key text.now }
+        ensures { (key : List ℕ) → IsKeyed H.hash H.holds self.now key
+            → out.new ≡ hmac_of H.hash key text.now }
     {
         let mut inner = self.begin();
         inner.take(text);
@@ -92,7 +95,8 @@ impl<H: Hasher> Keyed<H> {
     // Replaces a text of a digest's length by its tag.
     pub(crate) fn advance(&self, text: &mut [u8])
         requires { length text.old ≡ digest_len H.hash }
-        ensures { (key : List ℕ) → IsKeyed H.hash H.holds self.now key → text.new ≡ hmac_of H.hash key text.old }
+        ensures { (key : List ℕ) → IsKeyed H.hash H.holds self.now key
+            → text.new ≡ hmac_of H.hash key text.old }
     {
         let mut inner = self.begin();
         inner.take(text);

@@ -1,5 +1,6 @@
 -- A table of locks on ranges of blocks: its entries in the order in which they came.
-use Rattle.std.specs.Prelude.{◌≡◌, ℕ, Bool, ◌⊎◌, List, ◌++◌, All, Contains, find, MatchOption, nat_eq}
+use Rattle.std.specs.Prelude.{◌≡◌, ℕ, Bool, ◌⊎◌, List, ◌++◌, All, Contains, find, MatchOption}
+use Rattle.std.specs.Prelude.{nat_eq}
 use Rattle.std.specs.List.{list_any, before_first, after_first}
 use Rattle.block_range.specs.Blocks.{SharesBlock}
 use Rattle.range_lock.specs.declared.Entry.{Entry}
@@ -20,7 +21,8 @@ Conflicts e f = SharesBlock e.range f.range × ((e.kind ≡ Alone) ⊎ (f.kind �
 -- otherwise waits for the lane of one that does
 abbrev pub IsStanding : List Entry → Entry → Standing → Type 0
 IsStanding earlier entry Held = All (λ e. Conflicts e entry → ⊥) earlier
-IsStanding earlier entry (Waiting lane) = (e : Entry) × (Contains earlier e × Conflicts e entry × (e.lane ≡ lane))
+IsStanding earlier entry (Waiting lane) =
+    (e : Entry) × (Contains earlier e × Conflicts e entry × (e.lane ≡ lane))
 
 -- whether an entry is the lane's
 abbrev pub is_of : ℕ → Entry → Bool

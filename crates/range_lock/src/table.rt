@@ -1,8 +1,10 @@
 // The table: a plain list in the order of entry.
 
-ghost use Rattle.std.specs.Prelude.{◌≡◌, ◌<◌, ◌≤◌, ◌↔◌, ◌++◌, [], ◌∷◌, length, true, false, IsTrue, IfOk, vec_capacity, vec_len};
+ghost use Rattle.std.specs.Prelude.{◌≡◌, ◌<◌, ◌≤◌, ◌↔◌, ◌++◌, [], ◌∷◌, length, true, false, IsTrue};
+ghost use Rattle.std.specs.Prelude.{IfOk, vec_capacity, vec_len};
 ghost use Rattle.std.specs.List.{position, position_or_len};
-ghost use Rattle.range_lock.specs.Locks.{Conflicts, IsStanding, is_of, has_entry, IsStandingOf, without, Locks};
+ghost use Rattle.range_lock.specs.Locks.{Conflicts, IsStanding, is_of, has_entry, IsStandingOf};
+ghost use Rattle.range_lock.specs.Locks.{without, Locks};
 
 use crate::{Entry, Kind, Standing};
 use block_range::BlockRange;

@@ -3,7 +3,7 @@ ghost use Rattle.std.specs.Prelude.{MatchResult, codes, length, min, slice_index
 ghost use Rattle.std.specs.IoError.{error_kind};
 ghost use Rattle.std.specs.declared.io.Error.{Error};
 ghost use Rattle.bays.specs.Bays.{AreBounded, FaultCounts, HasBayCause};
-ghost use Rattle.file_disk.specs.Opening.{OpensLocked};
+ghost use Rattle.file_disk.specs.Opening.{OpensLocked, OpensToRead};
 ghost use Rattle.file_disk.specs.Sizes.{whole_atoms};
 ghost use Rattle.sector_disk.specs.Geometry.{IsAtom};
 ghost use Rattle.reencd.specs.Doors.{HaveDoors, Listens, SharesDoor};
@@ -17,8 +17,8 @@ use crate::host_link::HostLink;
 use crate::network::Network;
 use crate::notices::{announce, complain};
 use base_terms::Bytes;
-use bays::{Bay, BayFault};
-use file_disk::{FileDisk, FileSystem, open_locked};
+use bays::{Bay, BayFault, ReadOnly};
+use file_disk::{FileDisk, FileSystem, open_for_reading, open_locked};
 use std::alloc::Global;
 use std::io::{self, ErrorKind, Stderr, Stdin, Stdout};
 
@@ -66,22 +66,24 @@ impl<R: FileSystem + Network + Drop> HostBay<R> {
         BayFault::Failed
     }
 
-    /// The file or block device of that name, and how many bytes it has.
-    fn open_file(&self, alloc: Global, name: &str) -> io::Result<(HostFile<R::Opened>, u64)>
+    /// What opening a file gave, which is told of by its name.
+    fn named(
+        &self,
+        alloc: Global,
+        name: &str,
+        opened: io::Result<(R::Opened, u64)>,
+    ) -> io::Result<(HostFile<R::Opened>, u64)>
         ensures { MatchResult result
-            (λ opened. OpensLocked (R.opens self.now.machine name.now)
-            R.Opened.locks R.Opened.measures (Ok (opened.0.file, opened.1)))
-            (λ error. (error_kind error ≡ ErrorKind.OutOfMemory)
-            ⊎ OpensLocked (R.opens self.now.machine name.now)
-            R.Opened.locks R.Opened.measures (Err error)) }
+            (λ named. opened ≡ Ok (named.0.file, named.1))
+            (λ error. (error_kind error ≡ ErrorKind.OutOfMemory) ⊎ (opened ≡ Err error)) }
     {
-        let kept_name = match String::from_str(alloc, name) {
-            Ok(kept_name) => kept_name,
-            Err(_) => return Err(io::Error::from(ErrorKind::OutOfMemory)),
+        let (file, len) = match opened {
+            Ok(opened) => opened,
+            Err(error) => return Err(error),
         };
-        match open_locked(&self.machine, name) {
-            Ok((file, len)) => Ok((HostFile::new(alloc, self.errors, kept_name, file), len)),
-            Err(error) => Err(error),
+        match String::from_str(alloc, name) {
+            Ok(name) => Ok((HostFile::new(alloc, self.errors, name, file), len)),
+            Err(_) => Err(io::Error::from(ErrorKind::OutOfMemory)),
         }
     }
 
@@ -179,6 +181,8 @@ impl<R: FileSystem + Network + Drop> Bay for HostBay<R> {
 
     ghost asks_disk = { λ _ _ _ _ _. Unit {0} };
 
+    ghost asks_reading = { λ _ _ _ _ _. Unit {0} };
+
     ghost asks_key = { λ _ _ _ _. Unit {0} };
 
     ghost asks_links = { λ _ _ _ _ _ _. Unit {0} };
@@ -196,8 +200,34 @@ impl<R: FileSystem + Network + Drop> Bay for HostBay<R> {
         ensures one { IfErr result (λ fault. CountsOne fault self.old.faults self.new.faults) }
         ensures cause { HasBayCause self.old.faults self.new.faults result }
     {
-        match self.open_file(alloc, name) {
+        match self.named(alloc, name, open_locked(&self.machine, name)) {
             Ok((file, len)) => Ok(FileDisk::new(file, len, atom)),
+            Err(error) => Err(self.refused(alloc, name, &error)),
+        }
+    }
+
+    /// The disk on the file of that name, opened for reading alone and not locked.
+    fn disk_to_read(
+        &mut self,
+        alloc: Global,
+        name: &str,
+        atom: u32,
+    ) -> Result<ReadOnly<Self::Disk>, BayFault>
+        requires { IsAtom atom }
+        ensures atom { IfOk result (λ opened. opened.disk.atom ≡ atom) }
+        ensures fresh { IfOk result (λ opened. opened.refused ≡ 0) }
+        ensures opened { IfOk result (λ opened. (len : ℕ)
+            × OpensToRead (R.opens_to_read self.old.machine name.now)
+            R.Opened.measures (Ok (opened.disk.file.file, len))
+            × (opened.disk.atoms ≡ whole_atoms atom len)) }
+        ensures refused { IfErr result (λ fault. fault ≡ BayFault.Failed → (error : Error)
+            × OpensToRead (R.opens_to_read self.old.machine name.now)
+            R.Opened.measures (Err error)) }
+        ensures one { IfErr result (λ fault. CountsOne fault self.old.faults self.new.faults) }
+        ensures cause { HasBayCause self.old.faults self.new.faults result }
+    {
+        match self.named(alloc, name, open_for_reading(&self.machine, name)) {
+            Ok((file, len)) => Ok(ReadOnly::new(FileDisk::new(file, len, atom))),
             Err(error) => Err(self.refused(alloc, name, &error)),
         }
     }

@@ -65,22 +65,26 @@ impl<B: BlockCipher> SectorCipher for DiskCipher<B> {
 
     ghost sector_units = { λ d. d.units };
 
-    ghost sealed_length = { λ d. (disk_seals B.sealed B.opened B.sealed_block B.unseal_undoes_seal d).lengths };
+    ghost sealed_length = { λ d.
+        (disk_seals B.sealed B.opened B.sealed_block B.unseal_undoes_seal d).lengths };
 
     ghost opened_length = { λ d. (disk_opens B.sealed B.opened
         B.sealed_block B.opened_block B.seal_undoes_unseal d).lengths };
 
-    ghost sealed_bytes = { λ d. (disk_seals B.sealed B.opened B.sealed_block B.unseal_undoes_seal d).bytes };
+    ghost sealed_bytes = { λ d.
+        (disk_seals B.sealed B.opened B.sealed_block B.unseal_undoes_seal d).bytes };
 
     ghost opened_bytes = { λ d. (disk_opens B.sealed B.opened
         B.sealed_block B.opened_block B.seal_undoes_unseal d).bytes };
 
-    ghost unseal_undoes_seal = { λ d. (disk_seals B.sealed B.opened B.sealed_block B.unseal_undoes_seal d).undone };
+    ghost unseal_undoes_seal = { λ d.
+        (disk_seals B.sealed B.opened B.sealed_block B.unseal_undoes_seal d).undone };
 
     ghost seal_undoes_unseal = { λ d. (disk_opens B.sealed B.opened
         B.sealed_block B.opened_block B.seal_undoes_unseal d).undone };
 
-    ghost sealed_joined = { λ d. (disk_seals B.sealed B.opened B.sealed_block B.unseal_undoes_seal d).joined };
+    ghost sealed_joined = { λ d.
+        (disk_seals B.sealed B.opened B.sealed_block B.unseal_undoes_seal d).joined };
 
     ghost opened_joined = { λ d. (disk_opens B.sealed B.opened
         B.sealed_block B.opened_block B.seal_undoes_unseal d).joined };

@@ -1,5 +1,6 @@
 -- Lemmas on cells: how writes and syncs move the content, and what they keep.
-use Rattle.std.proofs.Common.{◌≡◌, ℕ, zero, suc, ◌+◌, ◌-◌, ◌*◌, ◌≤◌, List, [], ◌∷◌, length, map, replicate, refl, ap, arith}
+use Rattle.std.proofs.Common.{◌≡◌, ℕ, zero, suc, ◌+◌, ◌-◌, ◌*◌, ◌≤◌, List, [], ◌∷◌, length, map}
+use Rattle.std.proofs.Common.{replicate, refl, ap, arith}
 use Rattle.std.proofs.lemmas.List.{take-replicate, drop-replicate}
 use Rattle.base_terms.specs.Blocks.{pasted, blocks_of, lengths, changed}
 use Rattle.sector_disk.specs.Cells.{Cell, sure, sures, wrote, tried, synced, currents, content}
@@ -15,7 +16,8 @@ even_wrote = even_changed (λ cell. cell.current) wrote (λ _ _. refl)
 -- a write puts its bytes in their place
 pub content_wrote : (count size at n : ℕ) (cells : List Cell) (text : List ℕ)
     → lengths (currents cells) ≡ replicate count size → at + n ≤ count → length text ≡ n * size
-    → content (changed wrote cells at (blocks_of size n text)) ≡ pasted (content cells) (at * size) text
+    → content (changed wrote cells at (blocks_of size n text))
+    ≡ pasted (content cells) (at * size) text
 unfolding currents content
 content_wrote = joined_changed (λ cell. cell.current) wrote (λ _ _. refl)
 
@@ -50,5 +52,9 @@ sures-zeros size zero = refl
 sures-zeros size (suc n) =
     let front : size ≤ suc n * size = grind arith in
     let rest : suc n * size - size ≡ n * size = grind arith in
-    rw (take-replicate {X = ℕ} size (suc n * size) 0 front, drop-replicate {X = ℕ} size (suc n * size) 0, rest)
+    rw (
+      take-replicate {X = ℕ} size (suc n * size) 0 front,
+      drop-replicate {X = ℕ} size (suc n * size) 0,
+      rest,
+    )
     (ap (λ cells. sure (replicate size 0) ∷ cells) (sures-zeros size n))

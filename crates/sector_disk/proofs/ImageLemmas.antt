@@ -1,5 +1,7 @@
 -- Lemmas on images: each takes a candidate of each atom, and candidates have an atom's bytes.
-use Rattle.std.proofs.Common.{◌≡◌, ℕ, zero, suc, ◌+◌, ◌*◌, ◌/◌, ◌<◌, ◌≤◌, List, [], ◌∷◌, ◌++◌, length, drop, replicate, refl, sym, ◌∙◌, ap, ap₂, inl, inr, arith, length-append, length-drop, length-take-le}
+use Rattle.std.proofs.Common.{◌≡◌, ℕ, zero, suc, ◌+◌, ◌*◌, ◌/◌, ◌<◌, ◌≤◌, List, [], ◌∷◌, ◌++◌}
+use Rattle.std.proofs.Common.{length, drop, replicate, refl, sym, ◌∙◌, ap, ap₂, inl, inr, arith}
+use Rattle.std.proofs.Common.{length-append, length-drop, length-take-le}
 use Rattle.std.specs.Prelude.{Contains}
 use Rattle.std.specs.List.{AllByRecursion}
 use Rattle.std.proofs.lemmas.List.{get_or_default, take_at, drop_at}
@@ -67,7 +69,8 @@ sized_blocks atom (suc n) text enough =
 pub whole_part : (len atom : ℕ) → len / atom * atom ≤ len
 whole_part len atom = grind arith
 
-pub sized_table : (atom atoms : ℕ) (start : List ℕ) (calls : List Call) → length start ≡ atoms * atom
+pub sized_table : (atom atoms : ℕ) (start : List ℕ) (calls : List Call)
+    → length start ≡ atoms * atom
     → AllByRecursion (IsSized atom) (table atom atoms start calls)
 unfolding table
 sized_table atom atoms start calls whole =
@@ -103,7 +106,8 @@ image_is choice atom [] is held = tt
 image_is choice atom (cell ∷ cells) is held =
     (chosen_contained choice atom cell is held.0, image_is choice (atom + 1) cells is held.1)
 
-pub lengths-image_from : (choice : Choice) (size atom : ℕ) (cells : List Cell) → IsChoice choice → AreHeld cells
+pub lengths-image_from : (choice : Choice) (size atom : ℕ) (cells : List Cell) → IsChoice choice
+    → AreHeld cells
     → AllByRecursion (IsSized size) cells
     → lengths (image_from choice atom cells) ≡ replicate (length cells) size
 unfolding lengths image_from
@@ -114,14 +118,16 @@ lengths-image_from choice size atom (cell ∷ cells) is held sized =
     (lengths-image_from choice size (atom + 1) cells is held.1 sized.1)
 
 -- even cells are as many as the count says
-pub length-even : (count size : ℕ) (cells : List Cell) → lengths (currents cells) ≡ replicate count size
+pub length-even : (count size : ℕ) (cells : List Cell)
+    → lengths (currents cells) ≡ replicate count size
     → length cells ≡ count
 unfolding lengths currents
 length-even zero size [] even = refl
 length-even (suc count) size [] even = absurd (cc)
 length-even zero size (cell ∷ cells) even = absurd (cc)
 length-even (suc count) size (cell ∷ cells) even =
-    ap (λ n. suc n) (length-even count size cells (let rest : lengths (currents cells) ≡ replicate count size =
+    ap (λ n. suc n)
+    (length-even count size cells (let rest : lengths (currents cells) ≡ replicate count size =
     cc in rest))
 
 -- blocks of one size are those of their text
@@ -152,11 +158,13 @@ length-joined size (suc n) (block ∷ blocks) even =
     rw one (length-append block (joined blocks) ∙ ap₂ (λ a b. a + b) is rest)
 
 -- the image of a disk has an atom's bytes for each atom
-pub even_image : (choice : Choice) (atom atoms : ℕ) (start : List ℕ) (calls : List Call) → IsChoice choice
+pub even_image : (choice : Choice) (atom atoms : ℕ) (start : List ℕ) (calls : List Call)
+    → IsChoice choice
     → length start ≡ atoms * atom
     → lengths (currents (table atom atoms start calls)) ≡ replicate atoms atom
     → lengths (image_from choice 0 (table atom atoms start calls)) ≡ replicate atoms atom
 even_image choice atom atoms start calls is whole even =
-    lengths-image_from choice atom 0 (table atom atoms start calls) is (held_table atom atoms start calls)
+    lengths-image_from choice atom 0 (table atom atoms start calls) is
+    (held_table atom atoms start calls)
     (sized_table atom atoms start calls whole)
     ∙ ap (λ n. replicate n atom) (length-even atoms atom (table atom atoms start calls) even)

@@ -1,6 +1,9 @@
 -- Lemmas on calls that are made anew, one after the other.
-use Rattle.std.proofs.Common.{◌≡◌, ℕ, zero, suc, ◌+◌, ◌-◌, ◌*◌, ◌<◌, ◌≤◌, List, [], ◌∷◌, ◌++◌, length, take, drop, map, get_or, set, refl, sym, ◌∙◌, ap, ap₂, arith, append_assoc, inl, inr, length-drop, ◌⊎◌}
-use Rattle.std.proofs.lemmas.List.{drop_more, drop_all, append-nil, get_or_at, length-map, length-take-le, map_push, set_at, take_more}
+use Rattle.std.proofs.Common.{◌≡◌, ℕ, zero, suc, ◌+◌, ◌-◌, ◌*◌, ◌<◌, ◌≤◌, List, [], ◌∷◌, ◌++◌}
+use Rattle.std.proofs.Common.{length, take, drop, map, get_or, set, refl, sym, ◌∙◌, ap, ap₂, arith}
+use Rattle.std.proofs.Common.{append_assoc, inl, inr, length-drop, ◌⊎◌}
+use Rattle.std.proofs.lemmas.List.{drop_more, drop_all, append-nil, get_or_at, length-map}
+use Rattle.std.proofs.lemmas.List.{length-take-le, map_push, set_at, take_more}
 use Rattle.base_terms.specs.Blocks.{blocks_of, changed, joined}
 use Rattle.base_terms.proofs.BlockLemmas.{changed-nil}
 use Rattle.sector_disk.specs.Calls.{last_table, table_after}
@@ -13,12 +16,14 @@ use Rattle.sector_disk.specs.declared.images.Choice.{Choice}
 -- one more value that is certain
 pub sures_step : (atom left : ℕ) (cells : List Cell) (rest : List ℕ) (goal : List Cell)
     → cells ++ sures (blocks_of atom left rest) ≡ goal → 0 < left
-    → (cells ++ sure (take atom rest) ∷ []) ++ sures (blocks_of atom (left - 1) (drop atom rest)) ≡ goal
+    → (cells ++ sure (take atom rest) ∷ []) ++ sures (blocks_of atom (left - 1) (drop atom rest))
+    ≡ goal
 unfolding sures blocks_of
 sures_step atom zero cells rest goal is some = absurd (omega arith)
 sures_step atom (suc left) cells rest goal is some =
     let e : suc left - 1 ≡ left = omega arith in
-    rw e (append_assoc cells (sure (take atom rest) ∷ []) (sures (blocks_of atom left (drop atom rest))) ∙ is)
+    rw e (append_assoc cells (sure (take atom rest) ∷ [])
+    (sures (blocks_of atom left (drop atom rest))) ∙ is)
 
 pub sures_end : (atom left : ℕ) (cells : List Cell) (rest : List ℕ) (goal : List Cell)
     → cells ++ sures (blocks_of atom left rest) ≡ goal → left ≡ 0 → cells ≡ goal
@@ -44,7 +49,8 @@ changed_at change (cell ∷ cells) (suc place) value (next ∷ values) d within 
     ap (λ rest. cell ∷ rest) (changed_at change cells place value (next ∷ values) d (omega arith))
 
 -- values behind the last cell change nothing
-pub changed_past : (change : Cell → List ℕ → Cell) (cells : List Cell) (place : ℕ) (values : List (List ℕ))
+pub changed_past : (change : Cell → List ℕ → Cell) (cells : List Cell) (place : ℕ)
+    (values : List (List ℕ))
     → length cells ≤ place → changed change cells place values ≡ cells
 unfolding changed
 changed_past change [] place values past = refl
@@ -71,10 +77,12 @@ changed_step change cells place atom (suc left) rest goal d within some is =
 -- no block is left, or no cell
 pub changed_end : (change : Cell → List ℕ → Cell)
     (cells : List Cell) (place atom left : ℕ) (rest : List ℕ) (goal : List Cell)
-    → changed change cells place (blocks_of atom left rest) ≡ goal → (left ≡ 0) ⊎ (length cells ≤ place)
+    → changed change cells place (blocks_of atom left rest) ≡ goal
+    → (left ≡ 0) ⊎ (length cells ≤ place)
     → cells ≡ goal
 unfolding blocks_of
-changed_end change cells place atom zero rest goal is none = sym (changed-nil change cells place) ∙ is
+changed_end change cells place atom zero rest goal is none =
+    sym (changed-nil change cells place) ∙ is
 changed_end change cells place atom (suc left) rest goal is none =
     elim none [
       | inl no_block ↦ absurd (omega arith)
@@ -83,7 +91,8 @@ changed_end change cells place atom (suc left) rest goal is none =
     ]
 
 -- one more cell is settled
-pub settled_step : (all cells : List Cell) (i : ℕ) (d : Cell) → cells ≡ map synced (take i all) ++ drop i all
+pub settled_step : (all cells : List Cell) (i : ℕ) (d : Cell)
+    → cells ≡ map synced (take i all) ++ drop i all
     → i < length all
     → set cells i (synced (get_or cells i d)) ≡ map synced (take (i + 1) all) ++ drop (i + 1) all
 settled_step all cells i d is within =
@@ -94,10 +103,13 @@ settled_step all cells i d is within =
     let here : get_or cells i d ≡ get_or all i d =
     ap (λ xs. get_or xs i d) split ∙ get_or_at (map synced (take i all)) (get_or all i d)
     (drop (i + 1) all) d i front in
-    let more : map synced (take (i + 1) all) ≡ map synced (take i all) ++ synced (get_or all i d) ∷ [] =
-    ap (λ xs. map synced xs) (take_more all i d within) ∙ map_push synced (take i all) (get_or all i d) in
+    let more : map synced (take (i + 1) all)
+    ≡ map synced (take i all) ++ synced (get_or all i d) ∷ [] =
+    ap (λ xs. map synced xs) (take_more all i d within)
+    ∙ map_push synced (take i all) (get_or all i d) in
     ap₂ (λ xs cell. set xs i (synced cell)) split here
-    ∙ set_at (map synced (take i all)) (get_or all i d) (drop (i + 1) all) (synced (get_or all i d)) i front
+    ∙ set_at (map synced (take i all)) (get_or all i d) (drop (i + 1) all) (synced (get_or all i d))
+    i front
     ∙ sym (ap (λ xs. xs ++ drop (i + 1) all) more
     ∙ append_assoc (map synced (take i all)) (synced (get_or all i d) ∷ []) (drop (i + 1) all))
 
@@ -105,15 +117,18 @@ settled_step all cells i d is within =
 pub image_step : (choice : Choice) (cells : List Cell) (i : ℕ) (d : Cell) (bytes goal : List ℕ)
     → i < length cells
     → bytes ++ joined (image_from choice i (drop i cells)) ≡ goal
-    → (bytes ++ chosen choice i (get_or cells i d)) ++ joined (image_from choice (i + 1) (drop (i + 1) cells))
+    → (bytes ++ chosen choice i (get_or cells i d))
+    ++ joined (image_from choice (i + 1) (drop (i + 1) cells))
     ≡ goal
 unfolding joined image_from
 image_step choice cells i d bytes goal within is =
     append_assoc bytes (chosen choice i (get_or cells i d))
     (joined (image_from choice (i + 1) (drop (i + 1) cells)))
-    ∙ ap (λ rest. bytes ++ joined (image_from choice i rest)) (sym (drop_more cells i d within)) ∙ is
+    ∙ ap (λ rest. bytes ++ joined (image_from choice i rest)) (sym (drop_more cells i d within))
+    ∙ is
 
-pub image_end : (choice : Choice) (cells : List Cell) (i : ℕ) (bytes goal : List ℕ) → length cells ≤ i
+pub image_end : (choice : Choice) (cells : List Cell) (i : ℕ) (bytes goal : List ℕ)
+    → length cells ≤ i
     → bytes ++ joined (image_from choice i (drop i cells)) ≡ goal → bytes ≡ goal
 unfolding joined image_from
 image_end choice cells i bytes goal past is =
@@ -121,7 +136,8 @@ image_end choice cells i bytes goal past is =
     (sym (drop_all i cells past)) ∙ is
 
 -- one more call is made anew
-pub replay_step : (atom : ℕ) (notes : List Note) (cells goal : List Cell) (i : ℕ) (rest : List ℕ) (d : Note)
+pub replay_step : (atom : ℕ) (notes : List Note) (cells goal : List Cell) (i : ℕ) (rest : List ℕ)
+    (d : Note)
     → i < length notes
     → last_table atom cells (calls_of (drop i notes) rest) ≡ goal
     → last_table atom (table_after atom cells (record {

@@ -1,5 +1,6 @@
 -- Lemmas on how a device call moves the tables.
-use Rattle.std.proofs.Common.{◌≡◌, ℕ, ◌+◌, ◌*◌, ◌≤◌, zero, suc, List, [], ◌∷◌, length, Some, Err, refl, subst, inl, inr, ◌∙◌}
+use Rattle.std.proofs.Common.{◌≡◌, ℕ, ◌+◌, ◌*◌, ◌≤◌, zero, suc, List, [], ◌∷◌, length, Some, Err}
+use Rattle.std.proofs.Common.{refl, subst, inl, inr, ◌∙◌}
 use Rattle.base_terms.specs.declared.failed.Failed.{Failed}
 use Rattle.base_terms.specs.Blocks.{changed}
 use Rattle.base_terms.specs.Causes.{HasCause, Rose}
@@ -12,7 +13,8 @@ pub moves : (Step : List Cell → List Cell → Type 0) (old new : Told) (next :
     → new ≡ then_table old next → Step old.now next → Moves Step (Some old) (Some new)
 moves Step old new next is step now told_is =
     let same : then_table old next ≡ now = cc in
-    let Goal : Told → Type 0 = λ told. (before : Told) × (Some old ≡ Some before) × IsMoved Step before told in
+    let Goal : Told → Type 0 =
+    λ told. (before : Told) × (Some old ≡ Some before) × IsMoved Step before told in
     subst Goal same (old, refl, record { step = step; one = refl })
 
 -- a failed write may add all candidates
@@ -22,7 +24,8 @@ unfolding IsTried changed
 IsTried-tried [] at values = refl
 IsTried-tried (cell ∷ cells) at [] = refl
 IsTried-tried (cell ∷ cells) zero (value ∷ values) = (inr (inl refl), IsTried-tried cells 0 values)
-IsTried-tried (cell ∷ cells) (suc at) (value ∷ values) = (refl, IsTried-tried cells at (value ∷ values))
+IsTried-tried (cell ∷ cells) (suc at) (value ∷ values) =
+    (refl, IsTried-tried cells at (value ∷ values))
 
 -- a failed write that changes no current value and adds all candidates
 pub tried_call : (at : ℕ) (body : List ℕ) (old new : Device) (before : Told) (failed : Failed)

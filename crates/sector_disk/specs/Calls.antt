@@ -13,8 +13,8 @@ pub record Call : Type 0 where
   pub body : List ℕ
   pub mark : ℕ
 
--- the record of a disk's calls: an atom's bytes, how many calls and written atoms there is room for,
--- how many there are, and the calls
+-- the record of a disk's calls: an atom's bytes, how many calls and written atoms there is room
+-- for, how many there are, and the calls
 pub record Kept : Type 0 where
   pub atom : ℕ
   pub room : ℕ
@@ -42,7 +42,8 @@ last_table atom cells (call ∷ calls) = last_table atom (table_after atom cells
 unfoldable pub tables_after : ℕ → List Cell → List Call → List (Option ℕ × List Cell)
 tables_after atom cells [] = []
 tables_after atom cells (call ∷ calls) =
-    (Some call.mark, table_after atom cells call) ∷ tables_after atom (table_after atom cells call) calls
+    (Some call.mark, table_after atom cells call)
+    ∷ tables_after atom (table_after atom cells call) calls
 
 -- the table of a disk of so many atoms that began with this content, after calls
 unfoldable pub table : ℕ → ℕ → List ℕ → List Call → List Cell

@@ -1,12 +1,13 @@
 -- A disk as the layers above see it, and what one call does to it.
-use Rattle.std.specs.Prelude.{ℕ, ◌≡◌, ◌⊎◌, List, Option, Some, None, Result, Ok, Err, IsSome, option_map}
+use Rattle.std.specs.Prelude.{ℕ, ◌≡◌, ◌⊎◌, List, Option, Some, None, Result, Ok, Err, IsSome}
+use Rattle.std.specs.Prelude.{option_map}
 use Rattle.base_terms.specs.declared.failed.Failed.{Failed}
 use Rattle.base_terms.specs.Causes.{HasCause}
 use Rattle.sector_disk.specs.Steps.{Told, remarked, TellsRead, TellsWrite, TellsSync}
 use Rattle.sector_disk.specs.Values.{Reads, Writes}
 
--- how many bytes an atom has and how many atoms there are; the current bytes and the tables after each
--- device call, where they are told; and how many calls failed
+-- how many bytes an atom has and how many atoms there are; the current bytes and the tables after
+-- each device call, where they are told; and how many calls failed
 pub record Device : Type 0 where
   pub size : ℕ
   pub atoms : ℕ
@@ -14,16 +15,18 @@ pub record Device : Type 0 where
   pub told : Option Told
   pub faults : ℕ
 
--- A disk that told its tables with marks before a call tells them after it too. Of one that keeps no
--- marks, as two disks that are joined, its own clauses say how long it goes on.
+-- A disk that told its tables with marks before a call tells them after it too. Of one that keeps
+-- no marks, as two disks that are joined, its own clauses say how long it goes on.
 abbrev pub GoesOn : Device → Device → Type 0
 GoesOn old new = (before : Told) → old.told ≡ Some before → IsSome new.told ⊎ (before.mark ≡ None)
 
--- After a mark no table is another. A disk that tells marks tells this one with each call from here on.
+-- After a mark no table is another. A disk that tells marks tells this one with each call from here
+-- on.
 abbrev pub marked : Device → ℕ → Device
 marked device number =
     record device {
-      told = option_map {T = Told} (λ told. record told { mark = remarked told.mark number }) device.told;
+      told = option_map {T = Told} (λ told. record told { mark = remarked told.mark number })
+          device.told;
     }
 
 -- whole atoms are read from atom `at` on; these bytes came

@@ -17,13 +17,16 @@ pub record IsLasting (P : Cell → Type 0) (Q : List ℕ → Type 0) : Type 0 wh
 
 pub each_changed : (P : Cell → Type 0) (Q : List ℕ → Type 0) (change : Cell → List ℕ → Cell)
     → ((cell : Cell) (value : List ℕ) → Q value → P cell → P (change cell value))
-    → (cells : List Cell) (at : ℕ) (values : List (List ℕ)) → AllByRecursion Q values → AllByRecursion P cells
+    → (cells : List Cell) (at : ℕ) (values : List (List ℕ)) → AllByRecursion Q values
+    → AllByRecursion P cells
     → AllByRecursion P (changed change cells at values)
 unfolding changed
 each_changed P Q change keeps [] at values of_values each = tt
 each_changed P Q change keeps (cell ∷ cells) at [] of_values each = each
-each_changed P Q change keeps (cell ∷ cells) zero (value ∷ values) of_values each =
-    (keeps cell value of_values.0 each.0, each_changed P Q change keeps cells 0 values of_values.1 each.1)
+each_changed P Q change keeps (cell ∷ cells) zero (value ∷ values) of_values each = (
+  keeps cell value of_values.0 each.0,
+  each_changed P Q change keeps cells 0 values of_values.1 each.1,
+)
 each_changed P Q change keeps (cell ∷ cells) (suc at) (value ∷ values) of_values each =
     (each.0, each_changed P Q change keeps cells at (value ∷ values) of_values each.1)
 
@@ -33,7 +36,8 @@ each_synced P Q lasting [] each = tt
 each_synced P Q lasting (cell ∷ cells) each =
     (lasting.in_sync cell each.0, each_synced P Q lasting cells each.1)
 
-pub each_sures : (P : Cell → Type 0) (Q : List ℕ → Type 0) → IsLasting P Q → (values : List (List ℕ))
+pub each_sures : (P : Cell → Type 0) (Q : List ℕ → Type 0) → IsLasting P Q
+    → (values : List (List ℕ))
     → AllByRecursion Q values → AllByRecursion P (sures values)
 unfolding sures
 each_sures P Q lasting [] of_values = tt
@@ -42,7 +46,8 @@ each_sures P Q lasting (value ∷ values) of_values =
 
 pub each_changed_by : (P : Cell → Type 0) (Q : List ℕ → Type 0) → IsLasting P Q
     → (kind : Kind) (cells : List Cell) (at : ℕ) (values : List (List ℕ))
-    → AllByRecursion Q values → AllByRecursion P cells → AllByRecursion P (changed_by kind cells at values)
+    → AllByRecursion Q values → AllByRecursion P cells
+    → AllByRecursion P (changed_by kind cells at values)
 each_changed_by P Q lasting Read cells at values of_values each = each
 each_changed_by P Q lasting Write cells at values of_values each =
     each_changed P Q wrote lasting.in_write cells at values of_values each
@@ -58,7 +63,8 @@ unfolding last_table table_after
 each_last P Q lasting atom of_blocks cells [] each = each
 each_last P Q lasting atom of_blocks cells (call ∷ calls) each =
     each_last P Q lasting atom of_blocks (table_after atom cells call) calls
-    (each_changed_by P Q lasting call.kind cells call.at (blocks_of atom (length call.body / atom) call.body)
+    (each_changed_by P Q lasting call.kind cells call.at
+    (blocks_of atom (length call.body / atom) call.body)
     (of_blocks call.body) each)
 
 -- nothing is asked of values of which nothing is said
@@ -71,14 +77,17 @@ pub held_lasting : IsLasting IsHeld (λ _. Unit {0})
 held_lasting = record {
   at_start = λ value _. Contains-push [] value;
   in_write = λ cell value _ _. Contains-push cell.candidates value;
-  in_failed_write = λ cell value _ held. Contains-append_left cell.candidates (value ∷ []) cell.current held;
+  in_failed_write =
+      λ cell value _ held. Contains-append_left cell.candidates (value ∷ []) cell.current held;
   in_sync = λ cell _. Contains-push [] cell.current;
 }
 
-pub held_table : (atom atoms : ℕ) (start : List ℕ) (calls : List Call) → AreHeld (table atom atoms start calls)
+pub held_table : (atom atoms : ℕ) (start : List ℕ) (calls : List Call)
+    → AreHeld (table atom atoms start calls)
 unfolding table
 held_table atom atoms start calls =
     each_last IsHeld (λ _. Unit {0}) held_lasting atom
-    (λ body. each_value (blocks_of atom (length body / atom) body)) (sures (blocks_of atom atoms start)) calls
+    (λ body. each_value (blocks_of atom (length body / atom) body))
+    (sures (blocks_of atom atoms start)) calls
     (each_sures IsHeld (λ _. Unit {0}) held_lasting (blocks_of atom atoms start)
     (each_value (blocks_of atom atoms start)))

@@ -1,10 +1,11 @@
 -- When the device calls of a disk in memory fail.
-use Rattle.std.specs.Prelude.{ℕ, ◌+◌, ◌<◌, ◌≤◌, ◌⊎◌, Bool, List, Option, None, Contains, IsSomeAnd, nat_le, if◌then◌else◌}
+use Rattle.std.specs.Prelude.{ℕ, ◌+◌, ◌<◌, ◌≤◌, ◌⊎◌, Bool, List, Option, None, Contains, IsSomeAnd}
+use Rattle.std.specs.Prelude.{nat_le, if◌then◌else◌}
 use Rattle.io_edge.specs.FaultPlan.{Plan, fresh_plan, next_plan}
 
--- what decides it: the numbers of the calls that are to fail and how many calls there were; after how
--- many calls the disk stops, if it does; for how many calls and written atoms its record has room,
--- and how many it holds
+-- what decides it: the numbers of the calls that are to fail and how many calls there were; after
+-- how many calls the disk stops, if it does; for how many calls and written atoms its record has
+-- room, and how many it holds
 pub record Limits : Type 0 where
   pub plan : Plan
   pub stop : Option ℕ
@@ -29,7 +30,8 @@ IsStopped limits = IsSomeAnd limits.stop (λ k. k ≤ limits.plan.calls)
 
 -- the next call fails
 abbrev pub Fails : Limits → ℕ → Type 0
-Fails limits atoms = IsFull limits atoms ⊎ IsStopped limits ⊎ Contains limits.plan.fails limits.plan.calls
+Fails limits atoms =
+    IsFull limits atoms ⊎ IsStopped limits ⊎ Contains limits.plan.fails limits.plan.calls
 
 -- after a call that failed or not, and was recorded or not
 abbrev pub next_limits : Limits → Bool → Bool → ℕ → Limits

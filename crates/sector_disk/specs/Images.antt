@@ -1,5 +1,6 @@
 -- Images of a disk: what a restart after a stop may find.
-use Rattle.std.specs.Prelude.{ℕ, ◌+◌, ◌-◌, ◌%◌, ◌<◌, Bool, true, false, List, [], ◌∷◌, length, slice_index, slice_index_or}
+use Rattle.std.specs.Prelude.{ℕ, ◌+◌, ◌-◌, ◌%◌, ◌<◌, Bool, true, false, List, [], ◌∷◌, length}
+use Rattle.std.specs.Prelude.{slice_index, slice_index_or}
 use Rattle.sector_disk.specs.Cells.{Cell, wrote, tried}
 use Rattle.sector_disk.specs.declared.images.Choice.{Choice}
 use Rattle.sector_disk.specs.declared.images.Choice.TheVariants.{Newest, Oldest, Pick}
@@ -18,7 +19,8 @@ place_of (Pick numbers) atom count = slice_index numbers.items (atom % length nu
 
 -- the candidate that the choice takes of an atom
 abbrev pub chosen : Choice → ℕ → Cell → List ℕ
-chosen choice atom cell = slice_index_or cell.candidates (place_of choice atom (length cell.candidates)) []
+chosen choice atom cell =
+    slice_index_or cell.candidates (place_of choice atom (length cell.candidates)) []
 
 -- the image that the choice takes of the atoms from number `atom` on
 unfoldable pub image_from : Choice → ℕ → List Cell → List (List ℕ)

@@ -32,7 +32,8 @@ told_of disk = record {
 
 -- what decides whether its device calls fail
 abbrev pub limits_of : MemDisk → Limits
-limits_of disk = record { plan = disk.plan; stop = disk.stop; room = disk.calls.room; used = disk.calls.used }
+limits_of disk =
+    record { plan = disk.plan; stop = disk.stop; room = disk.calls.room; used = disk.calls.used }
 
 -- what the disk shows
 abbrev pub device_of : MemDisk → Device

@@ -29,4 +29,5 @@ pub mem_even : (d : MemDisk) (t : Told) → Some (told_of d) ≡ Some t
 mem_even d t is = let e : told_of d ≡ t = cc in rw (← e) d.even
 
 pub mem_held : (d : MemDisk) (t : Told) → Some (told_of d) ≡ Some t → AreHeld t.now
-mem_held d t is = let e : told_of d ≡ t = cc in rw (← e) (held_table d.atom d.atoms d.start.items d.calls.calls)
+mem_held d t is = let e : told_of d ≡ t =
+    cc in rw (← e) (held_table d.atom d.atoms d.start.items d.calls.calls)

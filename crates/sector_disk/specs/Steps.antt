@@ -1,5 +1,7 @@
--- The tables of a disk: what its atoms hold now and after each device call, and how a call moves them.
-use Rattle.std.specs.Prelude.{ℕ, ◌≡◌, ◌/◌, ◌⊎◌, List, [], ◌∷◌, ◌++◌, length, map, Option, Some, None, Result, MatchResult}
+-- The tables of a disk: what its atoms hold now and after each device call, and how a call moves
+-- them.
+use Rattle.std.specs.Prelude.{ℕ, ◌≡◌, ◌/◌, ◌⊎◌, List, [], ◌∷◌, ◌++◌, length, map, Option, Some}
+use Rattle.std.specs.Prelude.{None, Result, MatchResult}
 use Rattle.base_terms.specs.declared.failed.Failed.{Failed}
 use Rattle.base_terms.specs.Blocks.{changed, blocks_of}
 use Rattle.sector_disk.specs.Cells.{Cell, wrote, tried, synced, IsTried, IsThinned}
@@ -13,7 +15,8 @@ pub record Told : Type 0 where
 
 -- after one more device call
 abbrev pub then_table : Told → List Cell → Told
-then_table told next = record { now = next; past = told.past ++ (told.mark, next) ∷ []; mark = told.mark }
+then_table told next =
+    record { now = next; past = told.past ++ (told.mark, next) ∷ []; mark = told.mark }
 
 -- after a write, and after one that failed and left each of its values as a candidate
 abbrev pub then_written : ℕ → Told → ℕ → List ℕ → Told
@@ -52,11 +55,13 @@ abbrev pub IsKept : List Cell → List Cell → Type 0
 IsKept cells next = next ≡ cells
 
 abbrev pub TellsRead : {T : Type 0} → Option Told → Option Told → Result T Failed → Type 0
-TellsRead old new result = MatchResult result (λ _. Moves IsKept old new) (λ _. MovesOrNot IsKept old new)
+TellsRead old new result =
+    MatchResult result (λ _. Moves IsKept old new) (λ _. MovesOrNot IsKept old new)
 
 -- a write makes each of its values current and a candidate; one that fails may do so, may add the
 -- candidate alone, or leave the atom, for each atom of its own
-abbrev pub TellsWrite : {T : Type 0} → ℕ → ℕ → List ℕ → Option Told → Option Told → Result T Failed → Type 0
+abbrev pub TellsWrite : {T : Type 0} → ℕ → ℕ → List ℕ → Option Told → Option Told → Result T Failed
+    → Type 0
 TellsWrite atom at body old new result =
     let values = blocks_of atom (length body / atom) body in
     MatchResult result (λ _. Moves (λ cells next. next ≡ changed wrote cells at values) old new)

@@ -1,4 +1,5 @@
-ghost use Rattle.std.specs.Prelude.{◌≡◌, ℕ, ◌*◌, ◌^◌, ◌<◌, List, length, replicate, slice_index, Option, Some};
+ghost use Rattle.std.specs.Prelude.{◌≡◌, ℕ, ◌*◌, ◌^◌, ◌<◌, List, length, replicate, slice_index};
+ghost use Rattle.std.specs.Prelude.{Option, Some};
 ghost use Rattle.base_terms.specs.Blocks.{lengths};
 ghost use Rattle.sector_disk.specs.Cells.{content, currents, AreHeld};
 ghost use Rattle.sector_disk.specs.Devices.{Device, ReadCall, WriteCall, SyncCall, marked};
@@ -10,8 +11,8 @@ use base_terms::Failed;
 /// A disk of atoms, which are read and written whole. Its device calls are `read`, `write` and
 /// `sync`. What it holds is told where it can be: a disk of a real file tells nothing.
 pub trait Disk {
-    /// What it shows: how many bytes an atom has and how many atoms there are; the current bytes and
-    /// the tables after each device call, where they are told; and how many calls failed.
+    /// What it shows: how many bytes an atom has and how many atoms there are; the current bytes
+    /// and the tables after each device call, where they are told; and how many calls failed.
     ghost device: { Self → Device };
 
     /// How many bytes an atom has, 512 or 4096.
@@ -60,7 +61,8 @@ pub trait Disk {
         (k : ℕ) → slice_index bytes k < 256 };
 
     /// The current bytes are those of the current table.
-    ghost agrees: { (d : Self) (t : Told) → (device d).told ≡ Some t → (device d).values ≡ Some (content t.now) };
+    ghost agrees: { (d : Self) (t : Told) → (device d).told ≡ Some t
+        → (device d).values ≡ Some (content t.now) };
 
     /// Each atom of the current table has an atom's bytes.
     ghost even: { (d : Self) (t : Told) → (device d).told ≡ Some t →

@@ -1,9 +1,12 @@
-ghost use Rattle.std.specs.Prelude.{◌≡◌, ◌≢◌, ◌*◌, ◌%◌, ◌^◌, ◌<◌, ◌↔◌, ℕ, [], length, replicate, slice_index, Some, IfOk, IfErr, OnErr, IsErr, IsTrue, is_ok, is_err};
+ghost use Rattle.std.specs.Prelude.{◌≡◌, ◌≢◌, ◌*◌, ◌%◌, ◌^◌, ◌<◌, ◌↔◌, ℕ, [], length, replicate};
+ghost use Rattle.std.specs.Prelude.{slice_index, Some, IfOk, IfErr, OnErr, IsErr, IsTrue, is_ok};
+ghost use Rattle.std.specs.Prelude.{is_err};
 ghost use Rattle.base_terms.specs.Blocks.{blocks_of, joined, lengths, pasted};
 ghost use Rattle.sector_disk.specs.Calls.{table, changed_by};
 ghost use Rattle.sector_disk.specs.Cells.{content, currents, sure, sures, IsImage};
 ghost use Rattle.sector_disk.specs.Devices.{ReadCall, WriteCall, SyncCall, marked};
-ghost use Rattle.sector_disk.specs.Faults.{Fails, IsFull, IsStopped, fresh_limits, is_free, next_limits, recorded};
+ghost use Rattle.sector_disk.specs.Faults.{Fails, IsFull, IsStopped, fresh_limits, is_free};
+ghost use Rattle.sector_disk.specs.Faults.{next_limits, recorded};
 ghost use Rattle.sector_disk.specs.Geometry.{is_atom, IsDisk, IsInDisk};
 ghost use Rattle.sector_disk.specs.Images.{IsChoice, image_of};
 ghost use Rattle.sector_disk.specs.Steps.{fresh, then_table, then_tried, then_written};
@@ -39,7 +42,8 @@ pub struct MemDisk {
 }
 
 impl MemDisk {
-    ghost use Rattle.sector_disk.specs.Mem.{atom_of, atoms_of, atoms_in, bytes_of, told_of, limits_of};
+    ghost use Rattle.sector_disk.specs.Mem.{atom_of, atoms_of, atoms_in, bytes_of, told_of};
+    ghost use Rattle.sector_disk.specs.Mem.{limits_of};
 
     /// A disk of so many atoms of so many bytes, all zero. Its record has room for so many device
     /// calls and written atoms, whose memory it takes now. The calls of the numbers in `fails`,
@@ -198,8 +202,10 @@ impl MemDisk {
 
 impl Disk for MemDisk {
     ghost use Rattle.std.specs.Prelude.{Some};
-    ghost use Rattle.sector_disk.specs.Mem.{atom_of, atoms_of, atoms_in, bytes_of, told_of, limits_of, device_of};
-    ghost use Rattle.sector_disk.specs.MemLaws.{mem_geometry, mem_whole, mem_bytes, mem_agrees, mem_even, mem_held};
+    ghost use Rattle.sector_disk.specs.Mem.{atom_of, atoms_of, atoms_in, bytes_of, told_of};
+    ghost use Rattle.sector_disk.specs.Mem.{limits_of, device_of};
+    ghost use Rattle.sector_disk.specs.MemLaws.{mem_geometry, mem_whole, mem_bytes, mem_agrees};
+    ghost use Rattle.sector_disk.specs.MemLaws.{mem_even, mem_held};
 
     ghost device = { device_of };
 

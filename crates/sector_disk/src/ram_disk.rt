@@ -1,4 +1,5 @@
-ghost use Rattle.std.specs.Prelude.{◌≡◌, ◌*◌, ◌^◌, ◌<◌, ℕ, length, replicate, slice_index, Some, None, IfOk, IsTrue};
+ghost use Rattle.std.specs.Prelude.{◌≡◌, ◌*◌, ◌^◌, ◌<◌, ℕ, length, replicate, slice_index, Some};
+ghost use Rattle.std.specs.Prelude.{None, IfOk, IsTrue};
 ghost use Rattle.sector_disk.specs.Geometry.{is_atom, IsDisk};
 
 use crate::Disk;

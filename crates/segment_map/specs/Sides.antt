@@ -22,5 +22,6 @@ sides Backward blocks boundary zone =
 -- blocks below are of the side, and the next one is not
 pub record IsRunEnd (blocks : List Side) (side : Side) (end : ℕ) : Type 0 where
   pub below : (k : ℕ) → slice_get blocks k ≡ Some side → k < end
-  pub whole : (j k : ℕ) → slice_get blocks j ≡ Some side → j ≤ k → k < end → slice_get blocks k ≡ Some side
+  pub whole : (j k : ℕ) → slice_get blocks j ≡ Some side → j ≤ k → k < end
+      → slice_get blocks k ≡ Some side
   pub ends : slice_get blocks end ≢ Some side

@@ -30,30 +30,35 @@ module _ {M S E O : Type 0} where
 
   module _ (start_of : M → S) (stands_for : M → List (Entry E O) → Type 0) where
     -- the pass has the machine, and knows the history that it stands for
-    pub record HasTaken (limit : ℕ) (before after : Seat (Held M E O) (Knowledge S E O)) : Type 0 where
-      pub table : after.table_id ≡ before.table_id
-      pub history : List (Entry E O)
-      pub held : Held M E O
-      pub is : after.me ≡ (taking history before.me.0, (0, held) ∷ [])
-      pub later : Begins before.me.0.history history
-      pub calls : HasCalls (taking history before.me.0)
-      pub stands : stands_for held.machine history
-      pub start : before.me.0.start ≡ Some (start_of held.machine)
-      pub room : length history < limit
+    pub record HasTaken (limit : ℕ) (before after : Seat (Held M E O) (Knowledge S E O)) : Type 0
+      where
+        pub table : after.table_id ≡ before.table_id
+        pub history : List (Entry E O)
+        pub held : Held M E O
+        pub is : after.me ≡ (taking history before.me.0, (0, held) ∷ [])
+        pub later : Begins before.me.0.history history
+        pub calls : HasCalls (taking history before.me.0)
+        pub stands : stands_for held.machine history
+        pub start : before.me.0.start ≡ Some (start_of held.machine)
+        pub room : length history < limit
 
     -- the machine that the pass has may act on this event
-    pub record CanAct (fitting : S → List ℕ → List (Call E O) → E → Type 0) (pass : Seat (Held M E O) (Knowledge S E O)) (event : E) : Type 0 where
+    pub record CanAct (fitting : S → List ℕ → List (Call E O) → E → Type 0)
+        (pass : Seat (Held M E O) (Knowledge S E O)) (event : E) : Type 0 where
       pub held : Held M E O
       pub is : pass.me.1 ≡ (0, held) ∷ []
       pub stands : stands_for held.machine pass.me.0.history
-      pub fits : fitting (start_of held.machine) pass.me.0.name (calls_of pass.me.0.name pass.me.0.history) event
+      pub fits : fitting (start_of held.machine) pass.me.0.name
+          (calls_of pass.me.0.name pass.me.0.history) event
       pub start : pass.me.0.start ≡ Some (start_of held.machine)
 
     -- the machine that the pass has acted on this event
-    pub record HasActed (before after : Seat (Held M E O) (Knowledge S E O)) (event : E) (outcome : O) : Type 0 where
+    pub record HasActed (before after : Seat (Held M E O) (Knowledge S E O)) (event : E)
+        (outcome : O) : Type 0 where
       pub table : after.table_id ≡ before.table_id
       pub held : Held M E O
       pub is : after.me ≡ (before.me.0, (0, held) ∷ [])
       pub noted : IsNoted event outcome held.note
-      pub stands : stands_for held.machine (before.me.0.history ++ entry before.me.0.name event outcome ∷ [])
+      pub stands : stands_for held.machine
+          (before.me.0.history ++ entry before.me.0.name event outcome ∷ [])
       pub start : before.me.0.start ≡ Some (start_of held.machine)

@@ -1,5 +1,7 @@
--- The first part of the cell's rule: one pass at a time has the machine, and each pass has a name of its own.
-use Rattle.std.specs.Prelude.{◌≡◌, ◌≢◌, ℕ, ◌+◌, ◌<◌, ◌≤◌, ◌⊎◌, true, false, List, [], ◌∷◌, ◌++◌, Some}
+-- The first part of the cell's rule: one pass at a time has the machine, and each pass has a name
+-- of its own.
+use Rattle.std.specs.Prelude.{◌≡◌, ◌≢◌, ℕ, ◌+◌, ◌<◌, ◌≤◌, ◌⊎◌, true, false, List, [], ◌∷◌, ◌++◌}
+use Rattle.std.specs.Prelude.{Some}
 use mathlib.Core.Option.{Option, none, some}
 use lib.ListN.{get_elem?}
 use Rattle.volume_cell.specs.declared.held.Held.{Held}
@@ -55,10 +57,15 @@ module _ {S E O : Type 0} where
   -- the passes: they have one start, no name is in the accounts of two of them, no name that is
   -- still to be given is in any, and each but the first was split off one that is still there
   pub record Family (first : S) (views : List (Knowledge S E O)) : Type 0 where
-    pub starts : (i : ℕ) (u : Knowledge S E O) → At views i u → IsLive u.stage → u.start ≡ Some first
-    pub apart : (i j : ℕ) (u v : Knowledge S E O) → At views i u → At views j v → IsLive u.stage → IsLive v.stage → j ≢ i → has_account u.name (accounts v) ≡ false
-    pub unused : (i j : ℕ) (u v : Knowledge S E O) → At views i u → At views j v → IsLive u.stage → IsLive v.stage → (k : ℕ) → u.splits ≤ k → (more : List ℕ) → has_account (u.name ++ k ∷ more) (accounts v) ≡ false
-    pub parents : (i : ℕ) (u : Knowledge S E O) → At views i u → IsLive u.stage → (u.name ≡ []) ⊎ HasParent views u.name
+    pub starts : (i : ℕ) (u : Knowledge S E O) → At views i u → IsLive u.stage
+        → u.start ≡ Some first
+    pub apart : (i j : ℕ) (u v : Knowledge S E O) → At views i u → At views j v → IsLive u.stage
+        → IsLive v.stage → j ≢ i → has_account u.name (accounts v) ≡ false
+    pub unused : (i j : ℕ) (u v : Knowledge S E O) → At views i u → At views j v → IsLive u.stage
+        → IsLive v.stage → (k : ℕ) → u.splits ≤ k → (more : List ℕ)
+        → has_account (u.name ++ k ∷ more) (accounts v) ≡ false
+    pub parents : (i : ℕ) (u : Knowledge S E O) → At views i u → IsLive u.stage
+        → (u.name ≡ []) ⊎ HasParent views u.name
 
   module _ {M : Type 0} where
     -- the pass in whose seat the machine is
@@ -66,10 +73,12 @@ module _ {S E O : Type 0} where
     HasTaker views (free held) = Unit {0}
     HasTaker views (taken id) = (v : Knowledge S E O) × At views id v × (v.stage ≡ InTurn)
 
-    pub record Exclusion (start_of : M → S) (limit count : ℕ) (phase : Phase M E O) (homes : List (Option (Held M E O))) (views : List (Knowledge S E O)) : Type 0 where
+    pub record Exclusion (start_of : M → S) (limit count : ℕ) (phase : Phase M E O)
+        (homes : List (Option (Held M E O))) (views : List (Knowledge S E O)) : Type 0 where
       pub first : S
       pub home : homes ≡ home_of phase
-      pub turning : (i : ℕ) (u : Knowledge S E O) → At views i u → u.stage ≡ InTurn → IsTakenBy i phase
+      pub turning : (i : ℕ) (u : Knowledge S E O) → At views i u → u.stage ≡ InTurn
+          → IsTakenBy i phase
       pub taker : HasTaker views phase
       pub within : IsWithin limit phase count
       pub from : StartsFrom start_of first phase

@@ -1,5 +1,6 @@
 -- Histories: what was asked of one machine, by whom and in which order, and what it answered.
-use Rattle.std.specs.Prelude.{◌≡◌, ℕ, Bool, false, if◌then◌else◌, ◌||◌, List, [], ◌∷◌, ◌++◌, Option, Some}
+use Rattle.std.specs.Prelude.{◌≡◌, ℕ, Bool, false, if◌then◌else◌, ◌||◌, List, [], ◌∷◌, ◌++◌, Option}
+use Rattle.std.specs.Prelude.{Some}
 use Rattle.std.specs.Str.{bytes_eq}
 use Rattle.volume_cell.specs.declared.history.Call.{Call}
 use Rattle.volume_cell.specs.declared.history.Entry.{Entry}
@@ -46,4 +47,5 @@ module _ {E O : Type 0} where
 
   -- the note is of this call
   abbrev pub IsNoted : E → O → Option (Note E O) → Type 0
-  IsNoted e o note = (kept : Note E O) × (note ≡ Some kept) × (kept.event.value ≡ e) × (kept.outcome.value ≡ o)
+  IsNoted e o note =
+      (kept : Note E O) × (note ≡ Some kept) × (kept.event.value ≡ e) × (kept.outcome.value ≡ o)

@@ -1,11 +1,13 @@
 -- What the holder of a pass knows, and what each step of the cell makes of it.
-use Rattle.std.specs.Prelude.{◌≡◌, ℕ, ◌+◌, Bool, true, false, if◌then◌else◌, ◌||◌, List, [], ◌∷◌, ◌++◌, Some, None, length, nat_lt}
+use Rattle.std.specs.Prelude.{◌≡◌, ℕ, ◌+◌, Bool, true, false, if◌then◌else◌, ◌||◌, List, [], ◌∷◌}
+use Rattle.std.specs.Prelude.{◌++◌, Some, None, length, nat_lt}
 use Rattle.volume_cell.specs.declared.history.Entry.{Entry}
 use Rattle.volume_cell.specs.declared.knowledge.Account.{Account}
 use Rattle.volume_cell.specs.declared.knowledge.Knowledge.{Knowledge}
 use Rattle.volume_cell.specs.declared.knowledge.Stage.{Stage}
 use Rattle.volume_cell.specs.declared.knowledge.Stage.TheVariants.{Ready, InTurn, Retired}
-use Rattle.volume_cell.specs.Histories.{is_same, entry, call, account, calls_of, has_account, accounted}
+use Rattle.volume_cell.specs.Histories.{is_same, entry, call, account, calls_of, has_account}
+use Rattle.volume_cell.specs.Histories.{accounted}
 
 -- a pass that was not joined into another
 abbrev pub IsLive : Stage → Type 0
@@ -38,7 +40,9 @@ module _ {S E O : Type 0} where
 
   -- under each name of which there is an account, the known history has the calls of that account
   abbrev pub HasCalls : Knowledge S E O → Type 0
-  HasCalls v = (n : List ℕ) → has_account n (accounts v) ≡ true → calls_of n v.history ≡ accounted n (accounts v)
+  HasCalls v =
+      (n : List ℕ) → has_account n (accounts v) ≡ true
+      → calls_of n v.history ≡ accounted n (accounts v)
 
   -- every pass that was split off this one was joined back
   abbrev pub IsWhole : Knowledge S E O → Type 0
@@ -46,7 +50,19 @@ module _ {S E O : Type 0} where
 
   -- what the first pass knows, of a machine with this start
   abbrev pub beginning : S → Knowledge S E O
-  beginning s = record { stage = Ready; start = Some s; name = []; history = []; met = []; calls = []; joined = []; splits = 0; away = [] }
+  beginning s =
+      record {
+        stage = Ready;
+        start = Some s;
+        name = [];
+        history = [];
+        met = [];
+        calls =
+            [];
+        joined = [];
+        splits = 0;
+        away = [];
+      }
 
   -- the history is known so far
   abbrev pub knowing : List (Entry E O) → Knowledge S E O → Knowledge S E O
@@ -58,7 +74,13 @@ module _ {S E O : Type 0} where
 
   -- the machine acted on an event, and was given back
   abbrev pub having_asked : E → O → Knowledge S E O → Knowledge S E O
-  having_asked e o v = record v { stage = Ready; history = v.history ++ entry v.name e o ∷ []; calls = v.calls ++ call e o ∷ [] }
+  having_asked e o v =
+      record v {
+        stage = Ready;
+        history = v.history ++ entry v.name e o ∷ [];
+        calls =
+            v.calls ++ call e o ∷ [];
+      }
 
   -- the name of the next pass that is split off
   abbrev pub next_name : Knowledge S E O → List ℕ
@@ -70,11 +92,30 @@ module _ {S E O : Type 0} where
 
   -- the pass that was split off: it knows what the other knows, and has no calls
   abbrev pub split_off : Knowledge S E O → Knowledge S E O
-  split_off v = record { stage = Ready; start = v.start; name = next_name v; history = v.history; met = []; calls = []; joined = []; splits = 0; away = [] }
+  split_off v =
+      record {
+        stage = Ready;
+        start = v.start;
+        name = next_name v;
+        history = v.history;
+        met =
+            [];
+        calls = [];
+        joined = [];
+        splits = 0;
+        away = [];
+      }
 
   -- another pass was joined into this one
   abbrev pub having_joined : Knowledge S E O → Knowledge S E O → Knowledge S E O
-  having_joined v w = record v { history = longer v.history w.history; met = shorter v.history w.history; joined = v.joined ++ accounts w; away = without w.name v.away }
+  having_joined v w =
+      record v {
+        history = longer v.history w.history;
+        met = shorter v.history w.history;
+        joined =
+            v.joined ++ accounts w;
+        away = without w.name v.away;
+      }
 
   -- the pass is good for no more calls
   abbrev pub retired : Knowledge S E O → Knowledge S E O
@@ -82,4 +123,15 @@ module _ {S E O : Type 0} where
 
   -- what is left of a pass that was joined into another
   abbrev pub gone : Knowledge S E O
-  gone = record { stage = Retired; start = None; name = []; history = []; met = []; calls = []; joined = []; splits = 0; away = [] }
+  gone = record {
+    stage = Retired;
+    start = None;
+    name = [];
+    history = [];
+    met = [];
+    calls =
+        [];
+    joined = [];
+    splits = 0;
+    away = [];
+  }

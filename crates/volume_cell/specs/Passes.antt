@@ -23,7 +23,8 @@ module _ {M S E O : Type 0} where
     pub empty : p.me.1 ≡ []
 
   -- the pass is of this cell, and can ask for a turn
-  abbrev pub IsPassOf : {P : Type 0} → Shared M (Held M E O) (Knowledge S E O) P → Seat (Held M E O) (Knowledge S E O) → Type 0
+  abbrev pub IsPassOf : {P : Type 0} → Shared M (Held M E O) (Knowledge S E O) P
+      → Seat (Held M E O) (Knowledge S E O) → Type 0
   IsPassOf cell p = IsReady cell.table.shared.table_id p
 
 module _ {S E O : Type 0} where
@@ -35,8 +36,10 @@ module _ {S E O : Type 0} where
     pub splits : after.splits ≡ before.splits
     pub away : after.away ≡ before.away
 
-  -- the pass asked for one event: its answer is the last entry of the history, which begins with what was known
-  pub record IsAnswered (limit : ℕ) (before after : Knowledge S E O) (event : E) (outcome : O) : Type 0 where
+  -- the pass asked for one event: its answer is the last entry of the history, which begins with
+  -- what was known
+  pub record IsAnswered (limit : ℕ) (before after : Knowledge S E O) (event : E)
+      (outcome : O) : Type 0 where
     pub found : List (Entry E O)
     pub later : Begins before.history found
     pub last : after.history ≡ found ++ entry before.name event outcome ∷ []
@@ -44,7 +47,8 @@ module _ {S E O : Type 0} where
     pub room : length found < limit
 
   -- the history has as many entries as the cell can take, and the event comes back
-  pub record IsSpent (limit : ℕ) (before after : Knowledge S E O) (event : E) (spent : Spent E) : Type 0 where
+  pub record IsSpent (limit : ℕ) (before after : Knowledge S E O) (event : E)
+      (spent : Spent E) : Type 0 where
     pub back : spent.event ≡ event
     pub later : Begins before.history after.history
     pub calls : after.calls ≡ before.calls

@@ -55,4 +55,6 @@ module _ {M S E O : Type 0} where
 
   -- the machine was given back, with the call that it noted as the last entry
   abbrev pub gives_back : Step (Held M E O) → Seated M S E O → ℕ → Seated M S E O → Type 0
-  gives_back st m r m' = (held : Held M E O) (note : Note E O) → m.1 ≡ (0, held) ∷ [] → held.note ≡ Some note → m' ≡ (having_asked note.event.value note.outcome.value m.0, [])
+  gives_back st m r m' =
+      (held : Held M E O) (note : Note E O) → m.1 ≡ (0, held) ∷ [] → held.note ≡ Some note
+      → m' ≡ (having_asked note.event.value note.outcome.value m.0, [])

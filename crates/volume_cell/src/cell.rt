@@ -1,9 +1,13 @@
 //! The cell and its passes.
-ghost use Rattle.std.specs.Prelude.{◌≡◌, ℕ, List, ◌+◌, ◌-◌, ◌^◌, ◌<◌, ◌≤◌, ◌++◌, [], ◌∷◌, Some, IfOk, IfErr, MatchBool, MatchResult};
+ghost use Rattle.std.specs.Prelude.{◌≡◌, ℕ, List, ◌+◌, ◌-◌, ◌^◌, ◌<◌, ◌≤◌, ◌++◌, [], ◌∷◌, Some};
+ghost use Rattle.std.specs.Prelude.{IfOk, IfErr, MatchBool, MatchResult};
 ghost use Rattle.volume_cell.specs.Histories.{Begins, calls_of};
-ghost use Rattle.volume_cell.specs.Knowing.{IsWhole, HasCalls, having_split, split_off, having_joined, retired, beginning};
-ghost use Rattle.volume_cell.specs.Passes.{known, IsPassOf, IsSamePass, IsAnswered, IsSpent, IsAccounted};
-ghost use Rattle.volume_cell.specs.Asking.{IsSameSeat, HasLooked, HasTaken, IsFull, CanAct, HasActed};
+ghost use Rattle.volume_cell.specs.Knowing.{IsWhole, HasCalls, having_split, split_off};
+ghost use Rattle.volume_cell.specs.Knowing.{having_joined, retired, beginning};
+ghost use Rattle.volume_cell.specs.Passes.{known, IsPassOf, IsSamePass, IsAnswered, IsSpent};
+ghost use Rattle.volume_cell.specs.Passes.{IsAccounted};
+ghost use Rattle.volume_cell.specs.Asking.{IsSameSeat, HasLooked, HasTaken, IsFull, CanAct};
+ghost use Rattle.volume_cell.specs.Asking.{HasActed};
 
 use crate::held::Held;
 use crate::knowledge::Knowledge;
@@ -61,7 +65,8 @@ pub type Pass<M> = Seat<
 /// The machine that lay alone in what a table refused.
 fn only_machine<M: Machine>(refused: Refused<Held<M, M::Event, M::Outcome>, Global>) -> M
     requires { (held : Held M M.Event M.Outcome) × (refused.slots.items ≡ held ∷ []) }
-    ensures { (held : Held M M.Event M.Outcome) → refused.slots.items ≡ held ∷ [] → result ≡ held.machine }
+    ensures { (held : Held M M.Event M.Outcome) → refused.slots.items ≡ held ∷ []
+        → result ≡ held.machine }
 {
     let Refused { mut slots } = refused;
     let Some(held) = slots.pop() else {
@@ -77,7 +82,8 @@ impl<M: Machine> Cell<M> {
     pub fn new(alloc: Global, machine: M, limit: u64) -> Result<(Cell<M>, Pass<M>), AllocFailed<M>>
         requires machine { M.stands_for machine [] }
         requires limit { (1 ≤ limit) × (limit < 2 ^ 63 - 1) }
-        ensures pass { IfOk result (λ made. IsPassOf made.0 made.1 × (known made.1 ≡ beginning (M.start machine))) }
+        ensures pass { IfOk result
+            (λ made. IsPassOf made.0 made.1 × (known made.1 ≡ beginning (M.start machine))) }
         ensures limit { IfOk result (λ made. made.0.limit ≡ limit) }
         ensures back { IfErr result (λ refused. refused.value ≡ machine) }
     {
@@ -114,11 +120,15 @@ impl<M: Machine> Cell<M> {
         event: M::Event,
     ) -> Result<M::Outcome, Spent<M::Event>>
         requires pass { IsPassOf self.now pass.old }
-        requires fits { (start : M.Start) → (known pass.old).start ≡ Some start → M.fits start (known pass.old).name (known pass.old).calls event }
+        requires fits { (start : M.Start) → (known pass.old).start ≡ Some start
+            → M.fits start (known pass.old).name (known pass.old).calls event }
         ensures pass { IsPassOf self.now pass.new }
         ensures same { IsSamePass (known pass.old) (known pass.new) }
-        ensures answer { MatchResult result (IsAnswered self.now.limit (known pass.old) (known pass.new) event) (IsSpent self.now.limit (known pass.old) (known pass.new) event) }
-        ensures own { calls_of (known pass.new).name (known pass.new).history ≡ (known pass.new).calls }
+        ensures answer { MatchResult result
+            (IsAnswered self.now.limit (known pass.old) (known pass.new) event)
+            (IsSpent self.now.limit (known pass.old) (known pass.new) event) }
+        ensures own { calls_of (known pass.new).name (known pass.new).history
+            ≡ (known pass.new).calls }
         ensures calls { HasCalls (known pass.new) }
     {
         if !self.take(rt, pass) {
@@ -133,7 +143,8 @@ impl<M: Machine> Cell<M> {
     /// Takes the machine, and waits for it while it is out. False where the history is full.
     fn take<R: Wait>(&self, rt: &R, pass: &mut Pass<M>) -> bool
         requires { IsPassOf self.now pass.old }
-        ensures { MatchBool result (HasTaken M.start M.stands_for self.now.limit pass.old pass.new) (IsFull self.now.limit pass.old pass.new) }
+        ensures { MatchBool result (HasTaken M.start M.stands_for self.now.limit pass.old pass.new)
+            (IsFull self.now.limit pass.old pass.new) }
     {
         let shared = &self.table.shared;
         let mut looks = LOOKS;
@@ -141,7 +152,8 @@ impl<M: Machine> Cell<M> {
         for _ in rt.forever() {
             let word = shared.load::<Learn>(pass, ENTRIES);
             if word == self.limit * 2 {
-                // Nobody gives the machine back any more, so the next one that sleeps is woken here.
+                // Nobody gives the machine back any more, so the next one that sleeps is woken
+                // here.
                 self.mark_again(pass, sleeps);
                 self.wake(pass);
                 return false;
@@ -166,7 +178,8 @@ impl<M: Machine> Cell<M> {
     /// machine is not left to others.
     fn try_take(&self, pass: &mut Pass<M>, word: u64, sleeps: u32) -> bool
         requires { IsPassOf self.now pass.old }
-        ensures { MatchBool result (HasTaken M.start M.stands_for self.now.limit pass.old pass.new) (IsSameSeat pass.old pass.new) }
+        ensures { MatchBool result (HasTaken M.start M.stands_for self.now.limit pass.old pass.new)
+            (IsSameSeat pass.old pass.new) }
     {
         let shared = &self.table.shared;
         if sleeps == 0 && shared.peek(MARK) == LEFT {
@@ -204,9 +217,9 @@ impl<M: Machine> Cell<M> {
         }
     }
 
-    /// Wakes a thread, where one may sleep, and takes the mark away, so that no other is woken until
-    /// that thread has had the machine or one more sleeps. Where the mark has changed, another sees
-    /// to it.
+    /// Wakes a thread, where one may sleep, and takes the mark away, so that no other is woken
+    /// until that thread has had the machine or one more sleeps. Where the mark has changed,
+    /// another sees to it.
     fn wake(&self, pass: &mut Pass<M>)
         requires { pass.old.table_id ≡ self.now.table.shared.table_id }
         ensures { IsSameSeat pass.old pass.new }
@@ -240,7 +253,8 @@ impl<M: Machine> Cell<M> {
     /// A new pass, which knows what this one knows and has made no calls.
     pub fn split(&self, pass: &mut Pass<M>) -> Pass<M>
         requires pass { IsPassOf self.now pass.old }
-        ensures pass { IsPassOf self.now pass.new × (known pass.new ≡ having_split (known pass.old)) }
+        ensures pass { IsPassOf self.now pass.new
+            × (known pass.new ≡ having_split (known pass.old)) }
         ensures new { IsPassOf self.now result × (known result ≡ split_off (known pass.old)) }
     {
         self.table.shared.split_seat::<Part>(pass)
@@ -250,9 +264,11 @@ impl<M: Machine> Cell<M> {
     /// it was split off.
     pub fn join(&self, pass: &mut Pass<M>, other: Pass<M>)
         requires passes { IsPassOf self.now pass.old × IsPassOf self.now other }
-        requires child { (number : ℕ) × ((known other).name ≡ (known pass.old).name ++ number ∷ []) }
+        requires child { (number : ℕ)
+            × ((known other).name ≡ (known pass.old).name ++ number ∷ []) }
         requires whole { IsWhole (known other) }
-        ensures pass { IsPassOf self.now pass.new × (known pass.new ≡ having_joined (known pass.old) (known other)) }
+        ensures pass { IsPassOf self.now pass.new
+            × (known pass.new ≡ having_joined (known pass.old) (known other)) }
         ensures own { Begins (known pass.old).history (known pass.new).history }
         ensures its { Begins (known other).history (known pass.new).history }
         ensures calls { HasCalls (known pass.new) }

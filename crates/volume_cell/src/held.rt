@@ -27,10 +27,15 @@ impl<M: Machine> Held<M, M::Event, M::Outcome> {
 
     /// Has the machine act on the event, and notes the call.
     pub(crate) fn act<R: Threads + Wait + Sync>(&mut self, rt: &R, event: M::Event) -> M::Outcome
-        requires { (history : List (Entry M.Event M.Outcome)) × (name : List ℕ) × M.stands_for self.old.machine history × M.fits (M.start self.old.machine) name (calls_of name history) event }
+        requires { (history : List (Entry M.Event M.Outcome)) × (name : List ℕ)
+            × M.stands_for self.old.machine history
+            × M.fits (M.start self.old.machine) name (calls_of name history) event }
         ensures start { M.start self.new.machine ≡ M.start self.old.machine }
         ensures noted { IsNoted event result self.new.note }
-        ensures stands { (history : List (Entry M.Event M.Outcome)) (name : List ℕ) → M.stands_for self.old.machine history → M.fits (M.start self.old.machine) name (calls_of name history) event → M.stands_for self.new.machine (history ++ entry name event result ∷ []) }
+        ensures stands { (history : List (Entry M.Event M.Outcome)) (name : List ℕ)
+            → M.stands_for self.old.machine history
+            → M.fits (M.start self.old.machine) name (calls_of name history) event
+            → M.stands_for self.new.machine (history ++ entry name event result ∷ []) }
     {
         let asked = Snapshot::of(&event);
         let outcome = self.machine.act(rt, event);

@@ -28,7 +28,11 @@ pub trait Machine {
 
     /// Acts on an event.
     fn act<R: Threads + Wait + Sync>(&mut self, rt: &R, event: Self::Event) -> Self::Outcome
-        requires { (history : List (Entry Self.Event Self.Outcome)) × (name : List ℕ) × stands_for self.old history × fits (start self.old) name (calls_of name history) event }
+        requires { (history : List (Entry Self.Event Self.Outcome)) × (name : List ℕ)
+            × stands_for self.old history
+            × fits (start self.old) name (calls_of name history) event }
         ensures start { start self.new ≡ start self.old }
-        ensures stands { (history : List (Entry Self.Event Self.Outcome)) (name : List ℕ) → stands_for self.old history → fits (start self.old) name (calls_of name history) event → stands_for self.new (history ++ entry name event result ∷ []) };
+        ensures stands { (history : List (Entry Self.Event Self.Outcome)) (name : List ℕ)
+            → stands_for self.old history → fits (start self.old) name (calls_of name history) event
+            → stands_for self.new (history ++ entry name event result ∷ []) };
 }

@@ -1,5 +1,6 @@
 //! The rule of the cell's table, and what each step on it tells.
-ghost use Rattle.volume_cell.specs.Knowing.{beginning, having_split, split_off, having_joined, retired, gone};
+ghost use Rattle.volume_cell.specs.Knowing.{beginning, having_split, split_off, having_joined};
+ghost use Rattle.volume_cell.specs.Knowing.{retired, gone};
 ghost use Rattle.volume_cell.specs.Steps.{stays, learns, confirms, takes_at, gives_back};
 
 use crate::held::Held;

@@ -44,7 +44,8 @@ fn ask_often<R: Threads + Wait + Sync>(
     turns: u32,
 ) -> (Pass<Counter>, bool)
     requires { IsPassOf cell.now pass × IsWhole (known pass) }
-    ensures { IsPassOf cell.now result.0 × IsWhole (known result.0) × ((known result.0).name ≡ (known pass).name) }
+    ensures { IsPassOf cell.now result.0 × IsWhole (known result.0)
+        × ((known result.0).name ≡ (known pass).name) }
 {
     let mut lowest = 0;
     let mut rising = true;
@@ -69,7 +70,8 @@ fn ask_in_tree<R: Threads + Wait + Sync>(
     turns: u32,
 ) -> (Pass<Counter>, bool)
     requires { IsPassOf cell.now pass × IsWhole (known pass) }
-    ensures { IsPassOf cell.now result.0 × IsWhole (known result.0) × ((known result.0).name ≡ (known pass).name) }
+    ensures { IsPassOf cell.now result.0 × IsWhole (known result.0)
+        × ((known result.0).name ≡ (known pass).name) }
 {
     if levels == 0 {
         return ask_often(rt, cell, pass, turns);
@@ -78,11 +80,13 @@ fn ask_in_tree<R: Threads + Wait + Sync>(
     let right = cell.split(&mut pass);
     let ask_left = || -> (Pass<Counter>, bool)
         requires { IsSync R.row × (0 < levels) × IsPassOf cell.now left × IsWhole (known left) }
-        ensures { IsPassOf cell.entry.now result.0 × IsWhole (known result.0) × ((known result.0).name ≡ (known left).name) }
+        ensures { IsPassOf cell.entry.now result.0 × IsWhole (known result.0)
+            × ((known result.0).name ≡ (known left).name) }
     { ask_in_tree(rt, cell, left, levels - 1, turns) };
     let ask_right = || -> (Pass<Counter>, bool)
         requires { IsSync R.row × (0 < levels) × IsPassOf cell.now right × IsWhole (known right) }
-        ensures { IsPassOf cell.entry.now result.0 × IsWhole (known result.0) × ((known result.0).name ≡ (known right).name) }
+        ensures { IsPassOf cell.entry.now result.0 × IsWhole (known result.0)
+            × ((known result.0).name ≡ (known right).name) }
     { ask_in_tree(rt, cell, right, levels - 1, turns) };
     let (left, right) = join(rt, ask_left, ask_right);
     let rising = left.1 && right.1;
@@ -123,7 +127,8 @@ impl Machine for Tickets {
 
     ghost start = { λ machine. tt };
 
-    ghost stands_for = { λ machine history. (machine.next ≡ length history % 2 ^ 64) × AreNumbered 0 history };
+    ghost stands_for = { λ machine history. (machine.next ≡ length history % 2 ^ 64)
+        × AreNumbered 0 history };
 
     ghost fits = { λ start name calls event. length calls < 3 };
 

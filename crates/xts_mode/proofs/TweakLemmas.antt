@@ -4,7 +4,8 @@ use Rattle.std.specs.Int.Bits.{xor_zero_r}
 use Rattle.std.proofs.lemmas.Bool.{cases_lt, lt-ltb, le-ltb}
 use Rattle.xts_mode.specs.Xts.{doubled}
 
-pub doubled_is : (tweak : ℕ) → tweak < 2 ^ 128 → bit_xor (tweak * 2 % 2 ^ 128) (tweak / 2 ^ 127 * 135) ≡ doubled tweak
+pub doubled_is : (tweak : ℕ) → tweak < 2 ^ 128
+    → bit_xor (tweak * 2 % 2 ^ 128) (tweak / 2 ^ 127 * 135) ≡ doubled tweak
 unfolding doubled
 doubled_is tweak fits =
     elim (cases_lt tweak (2 ^ 127)) [

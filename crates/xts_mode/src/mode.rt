@@ -63,17 +63,23 @@ impl<B: BlockCipher> SectorMode for Xts<B> {
         change_sectors(&Whitening(&inverse), &self.tweak, size, first, bytes);
     }
 
-    ghost sealed_length = { λ x. xts_keeps_lengths (B.sealed x.body) (B.sealed x.tweak) (B.sealed_block x.body) };
+    ghost sealed_length = { λ x. xts_keeps_lengths (B.sealed x.body) (B.sealed x.tweak)
+        (B.sealed_block x.body) };
 
-    ghost opened_length = { λ x. xts_keeps_lengths (B.opened x.body) (B.sealed x.tweak) (B.opened_block x.body) };
+    ghost opened_length = { λ x. xts_keeps_lengths (B.opened x.body) (B.sealed x.tweak)
+        (B.opened_block x.body) };
 
-    ghost sealed_bytes = { λ x. xts_gives_bytes (B.sealed x.body) (B.sealed x.tweak) (B.sealed_block x.body) };
+    ghost sealed_bytes = { λ x. xts_gives_bytes (B.sealed x.body) (B.sealed x.tweak)
+        (B.sealed_block x.body) };
 
-    ghost opened_bytes = { λ x. xts_gives_bytes (B.opened x.body) (B.sealed x.tweak) (B.opened_block x.body) };
+    ghost opened_bytes = { λ x. xts_gives_bytes (B.opened x.body) (B.sealed x.tweak)
+        (B.opened_block x.body) };
 
-    ghost unseal_undoes_seal = { λ x. xts_undone (B.opened x.body) (B.sealed x.body) (B.sealed x.tweak)
+    ghost unseal_undoes_seal = { λ x. xts_undone (B.opened x.body) (B.sealed x.body)
+        (B.sealed x.tweak)
         (B.sealed_block x.body) (B.unseal_undoes_seal x.body) };
 
-    ghost seal_undoes_unseal = { λ x. xts_undone (B.sealed x.body) (B.opened x.body) (B.sealed x.tweak)
+    ghost seal_undoes_unseal = { λ x. xts_undone (B.sealed x.body) (B.opened x.body)
+        (B.sealed x.tweak)
         (B.opened_block x.body) (B.seal_undoes_unseal x.body) };
 }

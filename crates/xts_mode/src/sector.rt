@@ -72,7 +72,8 @@ fn whiten_eight<C: BlockCipher>(
     blocks: &EightBlocks,
 ) -> EightBlocks
     ensures { (k : ℕ) → k < 8 → block k result
-        ≡ xored (C.sealed cipher.now (xored (block k blocks.now) (block k masks.now))) (block k masks.now) }
+        ≡ xored (C.sealed cipher.now (xored (block k blocks.now) (block k masks.now)))
+        (block k masks.now) }
 {
     let mut masked = xor_eight(blocks, masks);
     cipher.seal_eight(&mut masked);

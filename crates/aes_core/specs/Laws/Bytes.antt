@@ -1,5 +1,6 @@
 -- Facts about bytes that are computed at each of the 256.
-use Rattle.std.proofs.Common.{◌≡◌, ℕ, zero, suc, ◌<◌, ◌*◌, ◌/◌, Bool, true, false, ◌&&◌, bit_xor, refl, arith, inl, inr, eqb→eq, T, subst, sym}
+use Rattle.std.proofs.Common.{◌≡◌, ℕ, zero, suc, ◌<◌, ◌*◌, ◌/◌, Bool, true, false, ◌&&◌, bit_xor}
+use Rattle.std.proofs.Common.{refl, arith, inl, inr, eqb→eq, T, subst, sym}
 use Rattle.std.specs.Prelude.{◌==◌}
 use Rattle.std.proofs.lemmas.Bool.{cases_eq}
 use Rattle.aes_core.specs.Field.{sum_of_multiples, inverse_below, times, times_x, inverse}
@@ -52,12 +53,14 @@ s_box_fits b = omega arith
 
 pub inverse_s_box_fits : (b : ℕ) → b < 256 → inverse_s_box b < 256
 unfolding agree_below inverse_s_box inverse_below sum_of_multiples
-inverse_s_box_fits b lt = let high : inverse_s_box b / 256 ≡ 0 = at_each_byte (λ b. inverse_s_box b / 256) (λ _. 0) refl b lt in omega arith
+inverse_s_box_fits b lt = let high : inverse_s_box b / 256 ≡ 0 =
+    at_each_byte (λ b. inverse_s_box b / 256) (λ _. 0) refl b lt in omega arith
 
 -- a product by x, and its parts
 pub times_x_fits : (b : ℕ) → b < 256 → times_x b < 256
 unfolding agree_below
-times_x_fits b lt = let high : times_x b / 256 ≡ 0 = at_each_byte (λ b. times_x b / 256) (λ _. 0) refl b lt in omega arith
+times_x_fits b lt = let high : times_x b / 256 ≡ 0 =
+    at_each_byte (λ b. times_x b / 256) (λ _. 0) refl b lt in omega arith
 
 pub times_x_parts : (b : ℕ) → b < 256 → times_x b ≡ bit_xor (b * 2) (b / 128 * 0x11b)
 unfolding agree_below

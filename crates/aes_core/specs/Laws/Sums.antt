@@ -1,5 +1,6 @@
 -- Sums of bytes, and that products distribute over them.
-use Rattle.std.proofs.Common.{◌≡◌, ℕ, zero, suc, ◌<◌, ◌+◌, ◌*◌, ◌%◌, ◌/◌, ◌^◌, Bool, true, false, cond, bit_xor, refl, arith, sym, ap, ◌∙◌, add-zero}
+use Rattle.std.proofs.Common.{◌≡◌, ℕ, zero, suc, ◌<◌, ◌+◌, ◌*◌, ◌%◌, ◌/◌, ◌^◌, Bool, true, false}
+use Rattle.std.proofs.Common.{cond, bit_xor, refl, arith, sym, ap, ◌∙◌, add-zero}
 use Rattle.std.specs.Prelude.{◌==◌}
 use Rattle.std.specs.Int.Bits.{xor_assoc, xor_self, xor_zero_r, xor_shr, xor_block}
 use Rattle.std.proofs.lemmas.Nat.{xor_comm, xor_of_8}
@@ -10,10 +11,12 @@ use Rattle.aes_core.specs.Laws.Bytes.{agree_below, at_each_byte, times_x_fits, t
 pub sum_undone : (a k : ℕ) → bit_xor (bit_xor a k) k ≡ a
 sum_undone a k = xor_assoc a k k ∙ ap (bit_xor a) (xor_self k) ∙ xor_zero_r a
 
-pub swapped : (a b c d : ℕ) → bit_xor (bit_xor a b) (bit_xor c d) ≡ bit_xor (bit_xor a c) (bit_xor b d)
+pub swapped : (a b c d : ℕ)
+    → bit_xor (bit_xor a b) (bit_xor c d) ≡ bit_xor (bit_xor a c) (bit_xor b d)
 swapped a b c d =
     xor_assoc a b (bit_xor c d)
-    ∙ ap (bit_xor a) (sym (xor_assoc b c d) ∙ ap (λ x. bit_xor x d) (xor_comm b c) ∙ xor_assoc c b d)
+    ∙ ap (bit_xor a)
+    (sym (xor_assoc b c d) ∙ ap (λ x. bit_xor x d) (xor_comm b c) ∙ xor_assoc c b d)
     ∙ sym (xor_assoc a c (bit_xor b d))
 
 -- a sum of four
@@ -25,21 +28,26 @@ sum4_fits a b c d p q r s = xor_of_8 _ _ (xor_of_8 a b p q) (xor_of_8 c d r s)
 
 turned : (a b c d : ℕ) → sum4 a b c d ≡ sum4 d a b c
 turned a b c d =
-    xor_comm (bit_xor a b) (bit_xor c d) ∙ ap (λ x. bit_xor x (bit_xor a b)) (xor_comm c d) ∙ swapped d c a b
+    xor_comm (bit_xor a b) (bit_xor c d) ∙ ap (λ x. bit_xor x (bit_xor a b)) (xor_comm c d)
+    ∙ swapped d c a b
     ∙ ap (bit_xor (bit_xor d a)) (xor_comm c b)
 
 pub paired : (a b c d a' b' c' d' : ℕ)
-    → sum4 (bit_xor a a') (bit_xor b b') (bit_xor c c') (bit_xor d d') ≡ bit_xor (sum4 a b c d) (sum4 a' b' c' d')
+    → sum4 (bit_xor a a') (bit_xor b b') (bit_xor c c') (bit_xor d d')
+    ≡ bit_xor (sum4 a b c d) (sum4 a' b' c' d')
 paired a b c d a' b' c' d' =
-    rw (swapped a a' b b', swapped c c' d d') (swapped (bit_xor a b) (bit_xor a' b') (bit_xor c d) (bit_xor c' d'))
+    rw (swapped a a' b b', swapped c c' d d')
+    (swapped (bit_xor a b) (bit_xor a' b') (bit_xor c d) (bit_xor c' d'))
 
 -- the sum of four rows is the sum of four columns
 transposed : (a0 a1 a2 a3 b0 b1 b2 b3 c0 c1 c2 c3 d0 d1 d2 d3 : ℕ)
     → sum4 (sum4 a0 a1 a2 a3) (sum4 b0 b1 b2 b3) (sum4 c0 c1 c2 c3) (sum4 d0 d1 d2 d3)
     ≡ sum4 (sum4 a0 b0 c0 d0) (sum4 a1 b1 c1 d1) (sum4 a2 b2 c2 d2) (sum4 a3 b3 c3 d3)
 transposed a0 a1 a2 a3 b0 b1 b2 b3 c0 c1 c2 c3 d0 d1 d2 d3 =
-    paired (bit_xor a0 a1) (bit_xor b0 b1) (bit_xor c0 c1) (bit_xor d0 d1) (bit_xor a2 a3) (bit_xor b2 b3) (bit_xor c2 c3) (bit_xor d2 d3)
-    ∙ ap (λ x. bit_xor x (sum4 (bit_xor a2 a3) (bit_xor b2 b3) (bit_xor c2 c3) (bit_xor d2 d3))) (paired a0 b0 c0 d0 a1 b1 c1 d1)
+    paired (bit_xor a0 a1) (bit_xor b0 b1) (bit_xor c0 c1) (bit_xor d0 d1) (bit_xor a2 a3)
+    (bit_xor b2 b3) (bit_xor c2 c3) (bit_xor d2 d3)
+    ∙ ap (λ x. bit_xor x (sum4 (bit_xor a2 a3) (bit_xor b2 b3) (bit_xor c2 c3) (bit_xor d2 d3)))
+    (paired a0 b0 c0 d0 a1 b1 c1 d1)
     ∙ ap (bit_xor (bit_xor (sum4 a0 b0 c0 d0) (sum4 a1 b1 c1 d1))) (paired a2 b2 c2 d2 a3 b3 c3 d3)
 
 -- ---- products
@@ -57,7 +65,8 @@ carried_sum (suc zero) (suc zero) p_lt q_lt = refl
 carried_sum (suc zero) (suc (suc q)) p_lt q_lt = absurd (omega arith)
 carried_sum (suc (suc p)) q p_lt q_lt = absurd (omega arith)
 
-pub times_x_sum : (a b : ℕ) → a < 256 → b < 256 → times_x (bit_xor a b) ≡ bit_xor (times_x a) (times_x b)
+pub times_x_sum : (a b : ℕ) → a < 256 → b < 256
+    → times_x (bit_xor a b) ≡ bit_xor (times_x a) (times_x b)
 times_x_sum a b a_fits b_fits =
     let carries : bit_xor a b / 128 ≡ bit_xor (a / 128) (b / 128) = xor_shr a b 7 in
     rw (
@@ -86,7 +95,8 @@ sum_of_multiples_sum (suc n) a x y x_fits y_fits =
     rw (
       chosen_sum (a % 2 == 1) x y,
       times_x_sum x y x_fits y_fits,
-      sum_of_multiples_sum n (a / 2) (times_x x) (times_x y) (times_x_fits x x_fits) (times_x_fits y y_fits),
+      sum_of_multiples_sum n (a / 2) (times_x x) (times_x y) (times_x_fits x x_fits)
+          (times_x_fits y y_fits),
     )
     (swapped (cond (a % 2 == 1) x 0) (cond (a % 2 == 1) y 0)
     (sum_of_multiples n (a / 2) (times_x x)) (sum_of_multiples n (a / 2) (times_x y)))
@@ -95,7 +105,8 @@ sum_of_multiples_fits : (n a x : ℕ) → x < 256 → sum_of_multiples n a x < 2
 unfolding sum_of_multiples
 sum_of_multiples_fits zero a x lt = omega arith
 sum_of_multiples_fits (suc n) a x lt =
-    xor_of_8 _ _ (chosen_fits (a % 2 == 1) x lt) (sum_of_multiples_fits n (a / 2) (times_x x) (times_x_fits x lt))
+    xor_of_8 _ _ (chosen_fits (a % 2 == 1) x lt)
+    (sum_of_multiples_fits n (a / 2) (times_x x) (times_x_fits x lt))
 
 pub times_fits : (a x : ℕ) → x < 256 → times a x < 256
 times_fits a x lt = sum_of_multiples_fits 8 a x lt
@@ -104,7 +115,8 @@ times_sum4 : (p a b c d : ℕ) → a < 256 → b < 256 → c < 256 → d < 256
     → times p (sum4 a b c d) ≡ sum4 (times p a) (times p b) (times p c) (times p d)
 times_sum4 p a b c d a_fits b_fits c_fits d_fits =
     rw (
-      sum_of_multiples_sum 8 p (bit_xor a b) (bit_xor c d) (xor_of_8 a b a_fits b_fits) (xor_of_8 c d c_fits d_fits),
+      sum_of_multiples_sum 8 p (bit_xor a b) (bit_xor c d) (xor_of_8 a b a_fits b_fits)
+          (xor_of_8 c d c_fits d_fits),
       sum_of_multiples_sum 8 p a b a_fits b_fits,
       sum_of_multiples_sum 8 p c d c_fits d_fits,
     )
@@ -116,7 +128,8 @@ times_sum4 p a b c d a_fits b_fits c_fits d_fits =
 -- it adds to the byte n places before
 abbrev same_place : (p0 p1 p2 p3 q0 q1 q2 q3 x : ℕ) → ℕ
 same_place p0 p1 p2 p3 q0 q1 q2 q3 x =
-    sum4 (times p0 (times q0 x)) (times p1 (times q3 x)) (times p2 (times q2 x)) (times p3 (times q1 x))
+    sum4 (times p0 (times q0 x)) (times p1 (times q3 x)) (times p2 (times q2 x))
+    (times p3 (times q1 x))
 
 -- the word w is the product of the words p and q
 pub record AreFactors (p0 p1 p2 p3 q0 q1 q2 q3 w0 w1 w2 w3 : ℕ) : Type 0 where
@@ -140,7 +153,8 @@ computed_factors p0 p1 p2 p3 q0 q1 q2 q3 w0 w1 w2 w3 own first second third = re
 }
 
 -- a byte of a column that was multiplied by the one and then by the other
-pub column_product : (p0 p1 p2 p3 q0 q1 q2 q3 w0 w1 w2 w3 : ℕ) → AreFactors p0 p1 p2 p3 q0 q1 q2 q3 w0 w1 w2 w3
+pub column_product : (p0 p1 p2 p3 q0 q1 q2 q3 w0 w1 w2 w3 : ℕ)
+    → AreFactors p0 p1 p2 p3 q0 q1 q2 q3 w0 w1 w2 w3
     → (a b c d : ℕ) → a < 256 → b < 256 → c < 256 → d < 256
     → sum4
     (times p0 (sum4 (times q0 a) (times q1 b) (times q2 c) (times q3 d)))
@@ -151,14 +165,22 @@ pub column_product : (p0 p1 p2 p3 q0 q1 q2 q3 w0 w1 w2 w3 : ℕ) → AreFactors 
 column_product p0 p1 p2 p3 q0 q1 q2 q3 w0 w1 w2 w3 factors a b c d a_fits b_fits c_fits d_fits =
     let f : (q x : ℕ) → x < 256 → times q x < 256 = times_fits in
     rw (
-      times_sum4 p0 (times q0 a) (times q1 b) (times q2 c) (times q3 d) (f q0 a a_fits) (f q1 b b_fits) (f q2 c c_fits) (f q3 d d_fits),
-      times_sum4 p1 (times q0 b) (times q1 c) (times q2 d) (times q3 a) (f q0 b b_fits) (f q1 c c_fits) (f q2 d d_fits) (f q3 a a_fits),
-      times_sum4 p2 (times q0 c) (times q1 d) (times q2 a) (times q3 b) (f q0 c c_fits) (f q1 d d_fits) (f q2 a a_fits) (f q3 b b_fits),
-      times_sum4 p3 (times q0 d) (times q1 a) (times q2 b) (times q3 c) (f q0 d d_fits) (f q1 a a_fits) (f q2 b b_fits) (f q3 c c_fits),
-      turned (times p1 (times q0 b)) (times p1 (times q1 c)) (times p1 (times q2 d)) (times p1 (times q3 a)),
-      turned (times p2 (times q0 c)) (times p2 (times q1 d)) (times p2 (times q2 a)) (times p2 (times q3 b)),
-      turned (times p2 (times q3 b)) (times p2 (times q0 c)) (times p2 (times q1 d)) (times p2 (times q2 a)),
-      ← turned (times p3 (times q1 a)) (times p3 (times q2 b)) (times p3 (times q3 c)) (times p3 (times q0 d)),
+      times_sum4 p0 (times q0 a) (times q1 b) (times q2 c) (times q3 d) (f q0 a a_fits)
+          (f q1 b b_fits) (f q2 c c_fits) (f q3 d d_fits),
+      times_sum4 p1 (times q0 b) (times q1 c) (times q2 d) (times q3 a) (f q0 b b_fits)
+          (f q1 c c_fits) (f q2 d d_fits) (f q3 a a_fits),
+      times_sum4 p2 (times q0 c) (times q1 d) (times q2 a) (times q3 b) (f q0 c c_fits)
+          (f q1 d d_fits) (f q2 a a_fits) (f q3 b b_fits),
+      times_sum4 p3 (times q0 d) (times q1 a) (times q2 b) (times q3 c) (f q0 d d_fits)
+          (f q1 a a_fits) (f q2 b b_fits) (f q3 c c_fits),
+      turned (times p1 (times q0 b)) (times p1 (times q1 c)) (times p1 (times q2 d))
+          (times p1 (times q3 a)),
+      turned (times p2 (times q0 c)) (times p2 (times q1 d)) (times p2 (times q2 a))
+          (times p2 (times q3 b)),
+      turned (times p2 (times q3 b)) (times p2 (times q0 c)) (times p2 (times q1 d))
+          (times p2 (times q2 a)),
+      ← turned (times p3 (times q1 a)) (times p3 (times q2 b)) (times p3 (times q3 c))
+          (times p3 (times q0 d)),
       transposed,
       factors.own a a_fits,
       factors.first b b_fits,

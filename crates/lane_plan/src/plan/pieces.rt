@@ -22,7 +22,7 @@ impl Plan {
     ghost use Rattle.volume_machine.specs.Seals.{KeysFit, Seals, seals_of};
     ghost use Rattle.lane_plan.specs.Plans.{Awaits, Goes, HasPlace, IsBack, IsBegun, IsOnly};
     ghost use Rattle.lane_plan.specs.Plans.{IsPart};
-    ghost use Rattle.lane_plan.specs.Plans.{IsTakenIn, IsTold, IsUnderWay, calls_left, place_in};
+    ghost use Rattle.lane_plan.specs.Plans.{IsTakenIn, IsTold, calls_left, place_in};
     ghost use Rattle.lane_plan.specs.declared.calls.Answer.TheVariants as Answers;
     ghost use Rattle.lane_plan.specs.declared.calls.Next.TheVariants as Nexts;
 
@@ -59,8 +59,7 @@ impl Plan {
     fn last_call(&mut self) -> Call
         requires all { self.old.operation.next ≡ self.old.operation.range.end }
         ensures awaits { (seals : Seals) (op : Op) (alone : Alone) (map : Map) →
-            IsUnderWay self.old.shape self.old.operation self.old.whole op alone map →
-            Awaits seals self.new op alone result }
+            IsBack self.old op alone map → Awaits seals self.new op alone result }
         ensures begun { IsBegun result }
         ensures fewer { calls_left self.new ≤ 1 }
         ensures shape { self.new.shape ≡ self.old.shape }

@@ -12,7 +12,9 @@ pub loop-i-preserved : goal.loop-i-preserved
 loop-i-preserved c = record {
   long = length-set c.loop-i.words c.loop-i.i c.next_word.result ∙ c.loop-i.invariant.long;
   words =
-      take_more_set c.loop-i.words c.loop-i.i c.next_word.result (omega (arith, c.loop-i.invariant.long))
+      take_more_set c.loop-i.words c.loop-i.i c.next_word.result
+      (omega (arith, c.loop-i.invariant.long))
       ∙ ap (λ w. take c.loop-i.i c.loop-i.words ++ w ∷ []) c.next_word.ensures
-      ∙ key_expansion_more c.args.key.now c.loop-i.words c.loop-i.i (omega arith) c.loop-i.invariant.words;
+      ∙ key_expansion_more c.args.key.now c.loop-i.words c.loop-i.i (omega arith)
+      c.loop-i.invariant.words;
 }

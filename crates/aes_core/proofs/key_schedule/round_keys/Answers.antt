@@ -18,14 +18,18 @@ loop-round-preserved c =
     record {
       long = length-set c.loop-round.keys round _ ∙ kept.long;
       keys = below_more _ _
-          (λ r h. ap (λ planes. carried r (state_in 0 planes)) (planes_at-set_other c.loop-round.keys round r made (omega arith)) ∙ kept.keys r h)
+          (λ r h. ap (λ planes. carried r (state_in 0 planes))
+          (planes_at-set_other c.loop-round.keys round r made (omega arith)) ∙ kept.keys r h)
           (ap (λ planes. carried round (state_in 0 planes)) added
           ∙ ap (carried round) (c.key_planes.ensures 0 (omega arith))
           ∙ carried_twice round c.joined-bytes.result c.joined-bytes.ensures.block.length_is
           ∙ c.joined-bytes.ensures.bytes);
       alike = below_more _ _
-          (λ r h k below. ap (state_in k) (planes_at-set_other c.loop-round.keys round r made (omega arith)) ∙ kept.alike r h k below
-          ∙ sym (ap (state_in 0) (planes_at-set_other c.loop-round.keys round r made (omega arith))))
+          (λ r h k below. ap (state_in k)
+          (planes_at-set_other c.loop-round.keys round r made (omega arith))
+          ∙ kept.alike r h k below
+          ∙ sym (ap (state_in 0)
+          (planes_at-set_other c.loop-round.keys round r made (omega arith))))
           (λ k below. ap (state_in k) added ∙ c.key_planes.ensures k below
           ∙ sym (ap (state_in 0) added ∙ c.key_planes.ensures 0 (omega arith)));
     }

@@ -9,5 +9,6 @@ abbrev pub invariant-loop-round : goal.invariant-loop-round
 invariant-loop-round l = record {
   long : length l.keys ≡ 15;
   keys : (r : ℕ) → r < l.round → key_at l.keys r ≡ round_key l.words r;
-  alike : (r : ℕ) → r < l.round → (k : ℕ) → k < 8 → state_in k (planes_at l.keys r) ≡ state_in 0 (planes_at l.keys r);
+  alike : (r : ℕ) → r < l.round → (k : ℕ) → k < 8
+      → state_in k (planes_at l.keys r) ≡ state_in 0 (planes_at l.keys r);
 }

@@ -9,6 +9,10 @@ use Rattle.aes_core.proofs.s_box.inverse_sub_bytes.Goals as goal
 pub returns : goal.returns
 unfolding inverse_sub_bytes translated
 returns c k =
-    state_substituted (λ v. inverse_s_box (bit_xor v 0x63)) k c.args.state c.inverse_sums.result (λ p.
-    byte_from_bits (λ bits. inverse_sums (inversion (inverse_forms bits))) (λ v. inverse_s_box (bit_xor v 0x63)) inverse_s_box_circuit k p c.args.state c.inverse_sums.result
-    (c.inverse_sums.ensures k p ∙ ap inverse_sums (c.inversion.ensures k p ∙ ap inversion (c.inverse_forms.ensures k p))))
+    state_substituted (λ v. inverse_s_box (bit_xor v 0x63)) k c.args.state c.inverse_sums.result
+    (λ p.
+    byte_from_bits (λ bits. inverse_sums (inversion (inverse_forms bits)))
+    (λ v. inverse_s_box (bit_xor v 0x63)) inverse_s_box_circuit k p c.args.state
+    c.inverse_sums.result
+    (c.inverse_sums.ensures k p
+    ∙ ap inverse_sums (c.inversion.ensures k p ∙ ap inversion (c.inverse_forms.ensures k p))))

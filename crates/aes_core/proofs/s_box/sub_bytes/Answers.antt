@@ -10,5 +10,7 @@ pub returns : goal.returns
 unfolding sub_bytes translated
 returns c k =
     state_substituted (λ v. bit_xor (s_box v) 0x63) k c.args.state c.sums.result (λ p.
-    byte_from_bits (λ bits. sums (inversion (linear_forms bits))) (λ v. bit_xor (s_box v) 0x63) s_box_circuit k p c.args.state c.sums.result
-    (c.sums.ensures k p ∙ ap sums (c.inversion.ensures k p ∙ ap inversion (c.linear_forms.ensures k p))))
+    byte_from_bits (λ bits. sums (inversion (linear_forms bits))) (λ v. bit_xor (s_box v) 0x63)
+    s_box_circuit k p c.args.state c.sums.result
+    (c.sums.ensures k p
+    ∙ ap sums (c.inversion.ensures k p ∙ ap inversion (c.linear_forms.ensures k p))))

@@ -6,4 +6,5 @@ pub returns : goal.returns
 unfolding bit_in
 returns c k below =
     state_from_bits k _ _ (c.turned.ensures k below) _ (λ p within.
-    column_is_row c.turned.result c.transposed-square.result p (c.transposed-square.ensures p within) k below)
+    column_is_row c.turned.result c.transposed-square.result p
+    (c.transposed-square.ensures p within) k below)

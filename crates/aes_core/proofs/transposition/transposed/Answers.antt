@@ -31,5 +31,6 @@ returns c p within =
       c.exchange-a67.ensures.first p within,
       c.exchange-a67.ensures.second p within,
     )
-    (square_transposed (slice_index x.b0 p) (slice_index x.b1 p) (slice_index x.b2 p) (slice_index x.b3 p)
+    (square_transposed (slice_index x.b0 p) (slice_index x.b1 p) (slice_index x.b2 p)
+    (slice_index x.b3 p)
     (slice_index x.b4 p) (slice_index x.b5 p) (slice_index x.b6 p) (slice_index x.b7 p))

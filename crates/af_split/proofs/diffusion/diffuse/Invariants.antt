@@ -4,4 +4,5 @@ use Rattle.af_split.proofs.diffusion.diffuse.Given as goal
 
 -- the parts before this one are hashed, and the rest stands
 abbrev pub invariant-parts : goal.invariant-parts
-invariant-parts l = l.bytes ≡ hashed_parts l.hash l.initial.bytes l.i ++ drop (l.i * l.len) l.initial.bytes
+invariant-parts l =
+    l.bytes ≡ hashed_parts l.hash l.initial.bytes l.i ++ drop (l.i * l.len) l.initial.bytes

@@ -9,7 +9,9 @@ stripes-init c = c.fill.ensures.after (λ y is. is)
 pub stripes-preserved : goal.stripes-preserved
 unfolding chain
 stripes-preserved c =
-    let cut : c.stripes.k * length c.args.last.now + length c.args.last.now - c.stripes.k * length c.args.last.now ≡ length c.args.last.now = omega arith in
+    let cut : c.stripes.k * length c.args.last.now
+    + length c.args.last.now - c.stripes.k * length c.args.last.now ≡ length c.args.last.now =
+    omega arith in
     rw (add-one, ← c.stripes.invariant) (c.diffuse.ensures ∙ rw (c.xor_into.ensures, cut) refl)
 
 pub returns : goal.returns

@@ -15,9 +15,13 @@ loop-i-preserved g c =
     let unseal = g.C.BlockCipher.opened c.args.cipher.now in
     let unsealed = λ (k : ℕ) (below : k < 8).
     c.xor_eight.ensures k below
-    ∙ ap (λ (b : List ℕ). xored b (block k c.shifted.result)) (c.unseal_eight.ensures k below ∙ ap unseal (c.eight_at-sealed.ensures k below))
+    ∙ ap (λ (b : List ℕ). xored b (block k c.shifted.result))
+    (c.unseal_eight.ensures k below ∙ ap unseal (c.eight_at-sealed.ensures k below))
     ∙ ap (xored (unseal _)) (c.shifted.ensures k below)
     in
-    under_way_row c.loop-i.invariant 8 ((length c.put_eight.new.sector - 128 * (c.loop-i.i + 1)) / 16) (128 * (c.loop-i.i + 1))
-    (before c.loop-i.chain c.eight_at-sealed.result) (λ k. block k c.xor_eight.result) c.put_eight.new.sector
-    (omega arith) (omega arith) (omega arith) (omega arith) refl unsealed c.eight_at-sealed.ensures c.put_eight.ensures
+    under_way_row c.loop-i.invariant 8
+    ((length c.put_eight.new.sector - 128 * (c.loop-i.i + 1)) / 16) (128 * (c.loop-i.i + 1))
+    (before c.loop-i.chain c.eight_at-sealed.result) (λ k. block k c.xor_eight.result)
+    c.put_eight.new.sector
+    (omega arith) (omega arith) (omega arith) (omega arith) refl unsealed c.eight_at-sealed.ensures
+    c.put_eight.ensures

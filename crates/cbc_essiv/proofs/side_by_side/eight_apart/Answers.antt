@@ -19,4 +19,5 @@ returns c =
       b7 = c.vector_in-8.result;
     } in
     each_of_eight (λ k. block k apart ≡ block_of (sector_of c.args.size k c.args.row.now) c.args.at)
-    c.vector_in.ensures c.vector_in-2.ensures c.vector_in-3.ensures c.vector_in-4.ensures c.vector_in-5.ensures c.vector_in-6.ensures c.vector_in-7.ensures c.vector_in-8.ensures
+    c.vector_in.ensures c.vector_in-2.ensures c.vector_in-3.ensures c.vector_in-4.ensures
+    c.vector_in-5.ensures c.vector_in-6.ensures c.vector_in-7.ensures c.vector_in-8.ensures

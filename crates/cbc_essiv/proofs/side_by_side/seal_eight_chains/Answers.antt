@@ -20,11 +20,18 @@ loop-i-preserved g c k below =
     let row = c.loop-i.row in
     let long = length-sector c.args.size k row below (c.loop-i.auto.row ∙ c.requires.eight) in
     let sealed : block k c.seal_eight.new.blocks ≡ seal_after seal (block k c.loop-i.chain) _ =
-    c.seal_eight.ensures k below ∙ ap seal (c.xor_eight-blocks.ensures k below ∙ ap (λ (b : List ℕ). xored b (block k c.loop-i.chain)) (c.eight_apart.ensures k below)) in
-    under_way_more (c.loop-i.invariant k below) (c.args.size / 16 - (c.loop-i.i + 1)) (16 * (c.loop-i.i + 1)) (block k c.seal_eight.new.blocks) (block k c.seal_eight.new.blocks) (sector_of c.args.size k c.put_apart.new.row)
-    (omega arith) (omega arith) (omega (arith, long)) (c.put_apart.ensures.lengths k below) sealed refl (c.put_apart.ensures.put k below)
+    c.seal_eight.ensures k below
+    ∙ ap seal
+    (c.xor_eight-blocks.ensures k below
+    ∙ ap (λ (b : List ℕ). xored b (block k c.loop-i.chain)) (c.eight_apart.ensures k below)) in
+    under_way_more (c.loop-i.invariant k below) (c.args.size / 16 - (c.loop-i.i + 1))
+    (16 * (c.loop-i.i + 1)) (block k c.seal_eight.new.blocks) (block k c.seal_eight.new.blocks)
+    (sector_of c.args.size k c.put_apart.new.row)
+    (omega arith) (omega arith) (omega (arith, long)) (c.put_apart.ensures.lengths k below) sealed
+    refl (c.put_apart.ensures.put k below)
 
 pub returns : goal.returns
 returns g c k below =
-    let long = length-sector c.args.size k c.loop-i.row below (c.loop-i.auto.row ∙ c.requires.eight) in
+    let long =
+    length-sector c.args.size k c.loop-i.row below (c.loop-i.auto.row ∙ c.requires.eight) in
     under_way_last (c.loop-i.invariant k below) (omega arith) (omega (arith, long))

@@ -7,7 +7,9 @@ use Rattle.cipher_blocks.proofs.numbers.sealed_numbers.Goals as goal
 pub returns : goal.returns
 returns g c =
     let sealed = g.C.BlockCipher.sealed c.args.cipher.now in
-    each_of_eight (λ k. c.args.first + k * c.args.step < 2 ^ 64 → block k c.seal_eight.new.blocks ≡ sealed (number_block (c.args.first + k * c.args.step)))
+    each_of_eight
+    (λ k. c.args.first + k * c.args.step < 2 ^ 64
+    → block k c.seal_eight.new.blocks ≡ sealed (number_block (c.args.first + k * c.args.step)))
     (λ fits. c.seal_eight.ensures 0 (lit< tt) ∙ ap sealed (c.number_after.ensures fits))
     (λ fits. c.seal_eight.ensures 1 (lit< tt) ∙ ap sealed (c.number_after-2.ensures fits))
     (λ fits. c.seal_eight.ensures 2 (lit< tt) ∙ ap sealed (c.number_after-3.ensures fits))

@@ -12,6 +12,7 @@ slice_bounds-read_header-end c =
 pub read_header-requires : goal.read_header-requires
 read_header-requires c =
     let is = sized _ _ _ _ (sym c.in-Ok.ensures) in
-    let len : length (take c.in-Ok.size c.args.bytes.now) ≡ c.in-Ok.size = length-take-le c.in-Ok.size c.args.bytes.now is.room in
+    let len : length (take c.in-Ok.size c.args.bytes.now) ≡ c.in-Ok.size =
+    length-take-le c.in-Ok.size c.args.bytes.now is.room in
     let least : 16384 ≤ c.in-Ok.size = size-least _ is.one_of_nine in
     omega arith

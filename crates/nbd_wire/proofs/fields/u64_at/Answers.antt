@@ -2,4 +2,6 @@ use Rattle.nbd_wire.proofs.FieldLemmas.{u64-there}
 use Rattle.nbd_wire.proofs.fields.u64_at.Goals as goal
 
 pub returns : goal.returns
-returns c = u64-there c.args.bytes.now c.args.at c.from_be_bytes.result c.requires c.type_inv.bytes c.from_be_bytes.ensures
+returns c =
+    u64-there c.args.bytes.now c.args.at c.from_be_bytes.result c.requires c.type_inv.bytes
+    c.from_be_bytes.ensures

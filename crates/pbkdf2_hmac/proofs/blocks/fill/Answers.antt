@@ -19,12 +19,17 @@ output-preserved g c = λ pass keyed.
     let i = c.output.i in
     let made = blocks_of h pass c.args.salt.now c.args.rounds i in
     let block = block_of h pass c.args.salt.now c.args.rounds (suc i) in
-    let within = start_within i len (length c.args.out.now) c.digest_len-len.ensures.some (rw c.div_ceil-count.ensures at c.output-test.true) in
+    let within =
+    start_within i len (length c.args.out.now) c.digest_len-len.ensures.some
+    (rw c.div_ceil-count.ensures at c.output-test.true) in
     let block_is : c.put_block.new.sum ≡ block = rw add-one at (c.put_block.ensures pass keyed) in
     let next : (i + 1) * len ≡ i * len + len = omega arith in
-    let cut = take-put_mid_cut c.output.out made block c.copy_from_slice.new.self (i * len) len c.min-end.result
+    let cut =
+    take-put_mid_cut c.output.out made block c.copy_from_slice.new.self (i * len) len
+    c.min-end.result
     (omega (arith, within))
-    (rw (← c.digest_len-len.ensures.is) at (length-blocks_of h pass c.args.salt.now c.args.rounds i))
+    (rw (← c.digest_len-len.ensures.is) at
+    (length-blocks_of h pass c.args.salt.now c.args.rounds i))
     (length-block_of h pass c.args.salt.now c.args.rounds (suc i) ∙ sym c.digest_len-len.ensures.is)
     c.min-end.ensures
     (rw block_is at c.copy_from_slice.ensures.after)
@@ -34,7 +39,10 @@ output-preserved g c = λ pass keyed.
 pub returns : goal.returns
 unfolding derived_key
 returns g c = λ pass keyed.
-    let times = div_ceil_times (length c.args.out.now) c.digest_len-len.result c.digest_len-len.ensures.some in
-    let end : c.output.i ≡ div_ceil (length c.args.out.now) c.digest_len-len.result = omega (arith, c.div_ceil-count.ensures) in
-    let all = take_all (c.output.i * c.digest_len-len.result) c.output.out (rw end (omega (arith, times))) in
+    let times =
+    div_ceil_times (length c.args.out.now) c.digest_len-len.result c.digest_len-len.ensures.some in
+    let end : c.output.i ≡ div_ceil (length c.args.out.now) c.digest_len-len.result =
+    omega (arith, c.div_ceil-count.ensures) in
+    let all =
+    take_all (c.output.i * c.digest_len-len.result) c.output.out (rw end (omega (arith, times))) in
     sym all ∙ c.output.invariant pass keyed ∙ rw (← c.digest_len-len.ensures.is, ← end) (cc)

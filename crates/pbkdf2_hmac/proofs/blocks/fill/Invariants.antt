@@ -6,4 +6,5 @@ use Rattle.pbkdf2_hmac.proofs.blocks.fill.Given as goal
 -- the front of the output holds the blocks so far, cut to its length
 abbrev pub invariant-output : goal.invariant-output
 invariant-output g l = (pass : List ℕ) → IsKeyed g.H.Hasher.hash g.H.Hasher.holds l.keyed pass
-    → take (l.i * l.len) l.out ≡ take (length l.initial.out) (blocks_of g.H.Hasher.hash pass l.salt l.rounds l.i)
+    → take (l.i * l.len) l.out
+    ≡ take (length l.initial.out) (blocks_of g.H.Hasher.hash pass l.salt l.rounds l.i)

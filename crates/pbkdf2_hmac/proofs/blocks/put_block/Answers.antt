@@ -10,12 +10,15 @@ rounds-init g c = λ pass keyed.
     let h = g.H.Hasher.hash in
     let seed = c.args.salt.now ++ to_be_bytes w32 c.args.number in
     let held = c.take-2.ensures _ (c.take.ensures _ (c.begin-seed.ensures pass keyed)) in
-    let tag : c.end.new.out ≡ hmac_of h pass seed = c.end.ensures pass seed keyed (rw (append_assoc, c.to_be_bytes.ensures) at held) in
+    let tag : c.end.new.out ≡ hmac_of h pass seed =
+    c.end.ensures pass seed keyed (rw (append_assoc, c.to_be_bytes.ensures) at held) in
     rw c.copy_from_slice.ensures.after (after_first h pass seed c.end.new.out tag)
 
 pub rounds-preserved : goal.rounds-preserved
 rounds-preserved g c = λ pass keyed.
-    rw add-one (after_next _ pass _ _ c.rounds.iterate c.rounds.sum _ _ (c.rounds.invariant pass keyed) (c.advance.ensures pass keyed) c.xor_into.ensures)
+    rw add-one
+    (after_next _ pass _ _ c.rounds.iterate c.rounds.sum _ _ (c.rounds.invariant pass keyed)
+    (c.advance.ensures pass keyed) c.xor_into.ensures)
 
 pub returns : goal.returns
 unfolding block_of

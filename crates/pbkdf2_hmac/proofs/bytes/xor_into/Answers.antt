@@ -10,9 +10,15 @@ bytes-preserved c =
     length-zip2 bit_xor c.args.target.now c.args.other.now c.requires in
     let below : c.bytes.i < length c.args.target.now = omega arith in
     let was : get_or c.bytes.target c.bytes.i 0 ≡ get_or c.args.target.now c.bytes.i 0 =
-    rw c.bytes.invariant (get_or-overwritten c.args.target.now (xor_bytes c.args.target.now c.args.other.now) c.bytes.i same below) in
-    let value = get_or-zip2 bit_xor c.args.target.now c.args.other.now c.bytes.i 0 0 0 below (omega (arith, c.requires)) in
-    let step = set-overwritten c.args.target.now (xor_bytes c.args.target.now c.args.other.now) c.bytes.i same below in
+    rw c.bytes.invariant
+    (get_or-overwritten c.args.target.now (xor_bytes c.args.target.now c.args.other.now) c.bytes.i
+    same below) in
+    let value =
+    get_or-zip2 bit_xor c.args.target.now c.args.other.now c.bytes.i 0 0 0 below
+    (omega (arith, c.requires)) in
+    let step =
+    set-overwritten c.args.target.now (xor_bytes c.args.target.now c.args.other.now) c.bytes.i same
+    below in
     rw (was, ← value, c.bytes.invariant, add-one) step
 
 pub returns : goal.returns

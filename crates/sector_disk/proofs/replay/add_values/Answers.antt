@@ -7,7 +7,8 @@ pub loop-left-preserved : goal.loop-left-preserved
 loop-left-preserved c = record {
   changes =
       rw (c.in_ok-add.ensures, c.split_at.ensures.front, c.split_at.ensures.back)
-      (changed_step (added c.args.is_current) c.loop-left.cells c.loop-left.place c.args.atom c.loop-left.left
+      (changed_step (added c.args.is_current) c.loop-left.cells c.loop-left.place c.args.atom
+      c.loop-left.left
       c.loop-left.rest.now _ c.index-cells-place.result
       c.if-place-cells.true c.loop-left-test.true c.loop-left.invariant.changes);
   enough =
@@ -16,7 +17,9 @@ loop-left-preserved c = record {
 }
 
 pub returns-else-place-cells : goal.returns-else-place-cells
-returns-else-place-cells c = changed_end _ _ _ _ _ _ _ c.loop-left.invariant.changes (inr (omega arith))
+returns-else-place-cells c =
+    changed_end _ _ _ _ _ _ _ c.loop-left.invariant.changes (inr (omega arith))
 
 pub returns-after-loop-left : goal.returns-after-loop-left
-returns-after-loop-left c = changed_end _ _ _ _ _ _ _ c.loop-left.invariant.changes (inl (omega arith))
+returns-after-loop-left c =
+    changed_end _ _ _ _ _ _ _ c.loop-left.invariant.changes (inl (omega arith))

@@ -6,7 +6,8 @@ use Rattle.sector_disk.proofs.replay.add_values.Given as goal
 abbrev pub invariant-loop-left : goal.invariant-loop-left
 invariant-loop-left l = record {
   changes : changed (added l.is_current) l.cells l.place (blocks_of l.atom l.left l.rest)
-      ≡ changed (added l.is_current) l.initial.cells l.at (blocks_of l.atom (length l.body / l.atom) l.body);
+      ≡ changed (added l.is_current) l.initial.cells l.at
+      (blocks_of l.atom (length l.body / l.atom) l.body);
   enough : l.left * l.atom ≤ length l.rest;
 }
 

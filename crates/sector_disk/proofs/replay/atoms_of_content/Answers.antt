@@ -5,7 +5,12 @@ use Rattle.sector_disk.proofs.replay.atoms_of_content.Goals as goal
 pub loop-left-preserved : goal.loop-left-preserved
 loop-left-preserved c = record {
   made =
-      rw (c.in_ok-push.ensures.items, c.in_ok-new.ensures, c.split_at.ensures.front, c.split_at.ensures.back)
+      rw (
+        c.in_ok-push.ensures.items,
+        c.in_ok-new.ensures,
+        c.split_at.ensures.front,
+        c.split_at.ensures.back,
+      )
       (sures_step _ _ _ _ _ c.loop-left.invariant.made c.loop-left-test.true);
   enough =
       let less = one_less c.loop-left.left c.args.atom c.loop-left-test.true in

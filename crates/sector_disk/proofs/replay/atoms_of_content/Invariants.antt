@@ -5,7 +5,8 @@ use Rattle.sector_disk.proofs.replay.atoms_of_content.Given as goal
 
 abbrev pub invariant-loop-left : goal.invariant-loop-left
 invariant-loop-left l = record {
-  made : l.cells.items ++ sures (blocks_of l.atom l.left l.rest) ≡ sures (blocks_of l.atom l.atoms l.content);
+  made : l.cells.items ++ sures (blocks_of l.atom l.left l.rest)
+      ≡ sures (blocks_of l.atom l.atoms l.content);
   enough : length l.rest ≡ l.left * l.atom;
 }
 

@@ -25,9 +25,14 @@ close-closed-requires-clause-whole g c =
     let b = c.split-left.ensures.pass.1 ∙ ap having_split a in
     let d = c.split-right.ensures.pass.1 ∙ ap having_split b in
     both-back tt _ l r
-    (c.join-2.ensures.pass.1 ∙ ap (λ (x : Known). having_joined x r) (c.join.ensures.pass.1 ∙ ap (λ (x : Known). having_joined x l) d))
-    (c.in-Ok-turn-3.ensures.same.name ∙ (c.in-Ok-turn.ensures.same.name ∙ (ap (λ (x : Known). x.name) c.split-left.ensures.new.1 ∙ ap (λ (x : Known). next_name x) a)))
-    (c.in-Ok-turn-2.ensures.same.name ∙ (ap (λ (x : Known). x.name) c.split-right.ensures.new.1 ∙ ap (λ (x : Known). next_name x) b))
+    (c.join-2.ensures.pass.1
+    ∙ ap (λ (x : Known). having_joined x r)
+    (c.join.ensures.pass.1 ∙ ap (λ (x : Known). having_joined x l) d))
+    (c.in-Ok-turn-3.ensures.same.name
+    ∙ (c.in-Ok-turn.ensures.same.name
+    ∙ (ap (λ (x : Known). x.name) c.split-left.ensures.new.1 ∙ ap (λ (x : Known). next_name x) a)))
+    (c.in-Ok-turn-2.ensures.same.name
+    ∙ (ap (λ (x : Known). x.name) c.split-right.ensures.new.1 ∙ ap (λ (x : Known). next_name x) b))
 
 pub returns : goal.returns
 returns g c =
@@ -35,16 +40,40 @@ returns g c =
     let a = c.in-Ok.ensures.pass.1 in
     let b = c.split-left.ensures.pass.1 ∙ ap having_split a in
     let d = c.split-right.ensures.pass.1 ∙ ap having_split b in
-    let t = c.close-closed.ensures.pass ∙ ap retired (c.join-2.ensures.pass.1 ∙ ap (λ (x : Known). having_joined x r) (c.join.ensures.pass.1 ∙ ap (λ (x : Known). having_joined x l) d)) in
-    let ln = c.in-Ok-turn-3.ensures.same.name ∙ (c.in-Ok-turn.ensures.same.name ∙ (ap (λ (x : Known). x.name) c.split-left.ensures.new.1 ∙ ap (λ (x : Known). next_name x) a)) in
-    let rn = c.in-Ok-turn-2.ensures.same.name ∙ (ap (λ (x : Known). x.name) c.split-right.ensures.new.1 ∙ ap (λ (x : Known). next_name x) b) in
-    let lj = c.in-Ok-turn-3.ensures.same.joined ∙ (c.in-Ok-turn.ensures.same.joined ∙ ap (λ (x : Known). x.joined) c.split-left.ensures.new.1) in
-    let rj = c.in-Ok-turn-2.ensures.same.joined ∙ ap (λ (x : Known). x.joined) c.split-right.ensures.new.1 in
+    let t = c.close-closed.ensures.pass
+    ∙ ap retired
+    (c.join-2.ensures.pass.1
+    ∙ ap (λ (x : Known). having_joined x r)
+    (c.join.ensures.pass.1 ∙ ap (λ (x : Known). having_joined x l) d)) in
+    let ln =
+    c.in-Ok-turn-3.ensures.same.name
+    ∙ (c.in-Ok-turn.ensures.same.name
+    ∙ (ap (λ (x : Known). x.name) c.split-left.ensures.new.1
+    ∙ ap (λ (x : Known). next_name x) a)) in
+    let rn =
+    c.in-Ok-turn-2.ensures.same.name
+    ∙ (ap (λ (x : Known). x.name) c.split-right.ensures.new.1
+    ∙ ap (λ (x : Known). next_name x) b) in
+    let lj =
+    c.in-Ok-turn-3.ensures.same.joined
+    ∙ (c.in-Ok-turn.ensures.same.joined
+    ∙ ap (λ (x : Known). x.joined) c.split-left.ensures.new.1) in
+    let rj =
+    c.in-Ok-turn-2.ensures.same.joined ∙ ap (λ (x : Known). x.joined) c.split-right.ensures.new.1 in
     let law = c.close-closed.ensures.law in
-    let lc = c.in-Ok-turn-3.ensures.answer.calls ∙ ap (λ (k : Calls). k ++ call tt c.in-Ok-turn-3.three ∷ []) (c.in-Ok-turn.ensures.answer.calls ∙ ap (λ (k : Calls). k ++ call tt c.in-Ok-turn.one ∷ []) (ap (λ (x : Known). x.calls) c.split-left.ensures.new.1)) in
-    let rc = c.in-Ok-turn-2.ensures.answer.calls ∙ ap (λ (k : Calls). k ++ call tt c.in-Ok-turn-2.two ∷ []) (ap (λ (x : Known). x.calls) c.split-right.ensures.new.1) in record {
+    let lc =
+    c.in-Ok-turn-3.ensures.answer.calls
+    ∙ ap (λ (k : Calls). k ++ call tt c.in-Ok-turn-3.three ∷ [])
+    (c.in-Ok-turn.ensures.answer.calls
+    ∙ ap (λ (k : Calls). k ++ call tt c.in-Ok-turn.one ∷ [])
+    (ap (λ (x : Known). x.calls) c.split-left.ensures.new.1)) in
+    let rc =
+    c.in-Ok-turn-2.ensures.answer.calls
+    ∙ ap (λ (k : Calls). k ++ call tt c.in-Ok-turn-2.two ∷ [])
+    (ap (λ (x : Known). x.calls) c.split-right.ensures.new.1) in record {
       left = drawn-left tt _ l r t ln lj rn rj law ∙ lc;
       right = drawn-right tt _ l r t ln lj rn rj law ∙ rc;
-      all = drawn-all tt _ l r t ln lj rn rj law ∙ ap (λ (z : Calls × Calls). length z.0 + length z.1) (λ i. (lc i, rc i));
+      all = drawn-all tt _ l r t ln lj rn rj law
+          ∙ ap (λ (z : Calls × Calls). length z.0 + length z.1) (λ i. (lc i, rc i));
       numbers = c.close-closed.ensures.stands.1;
     }

@@ -4,4 +4,6 @@ use Rattle.volume_cell.specs.Passes.{known, IsPassOf}
 use Rattle.volume_cell.proofs.tests.ask_often.Given as goal
 
 abbrev pub invariant-loop : goal.invariant-loop
-invariant-loop g l = IsPassOf l.fn.cell l.pass × IsWhole (known l.pass) × ((known l.pass).name ≡ (known l.initial.pass).name)
+invariant-loop g l =
+    IsPassOf l.fn.cell l.pass × IsWhole (known l.pass)
+    × ((known l.pass).name ≡ (known l.initial.pass).name)

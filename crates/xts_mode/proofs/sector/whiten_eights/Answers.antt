@@ -16,10 +16,14 @@ loop-i-preserved g c =
     let tweak = c.loop-i.tweak in
     let worked_on = λ (k : ℕ) (below : k < 8).
     c.whiten_eight-blocks.ensures k below
-    ∙ ap (λ (mask : List ℕ). xored (change (xored (block k c.eight_at.result) mask)) mask) (c.eight_tweaks-next.ensures.masks k below)
-    ∙ ap (λ (b : List ℕ). xored (change (xored b (number_block (doubled_times k tweak)))) (number_block (doubled_times k tweak))) (c.eight_at.ensures k below)
+    ∙ ap (λ (mask : List ℕ). xored (change (xored (block k c.eight_at.result) mask)) mask)
+    (c.eight_tweaks-next.ensures.masks k below)
+    ∙ ap (λ (b : List ℕ). xored (change (xored b (number_block (doubled_times k tweak))))
+    (number_block (doubled_times k tweak))) (c.eight_at.ensures k below)
     in
     rw c.eight_tweaks-next.ensures.next
-    (under_way_row c.loop-i.invariant 8 ((length c.put_eight.new.sector - 128 * (c.loop-i.i + 1)) / 16) (128 * (c.loop-i.i + 1))
+    (under_way_row c.loop-i.invariant 8
+    ((length c.put_eight.new.sector - 128 * (c.loop-i.i + 1)) / 16) (128 * (c.loop-i.i + 1))
     (λ k. doubled_times k tweak) (λ k. block k c.whiten_eight-blocks.result) c.put_eight.new.sector
-    (omega arith) (omega arith) (omega arith) (omega arith) refl worked_on (λ k below. refl) c.put_eight.ensures)
+    (omega arith) (omega arith) (omega arith) (omega arith) refl worked_on (λ k below. refl)
+    c.put_eight.ensures)

@@ -6,5 +6,7 @@ use Rattle.xts_mode.proofs.tweak.mask.Goals as goal
 pub returns : goal.returns
 unfolding number_block
 returns c =
-    let whole : c.args.tweak % 18446744073709551616 + 18446744073709551616 * (c.args.tweak / 18446744073709551616 + 0) ≡ c.args.tweak = omega arith in
+    let whole : c.args.tweak % 18446744073709551616
+    + 18446744073709551616 * (c.args.tweak / 18446744073709551616 + 0) ≡ c.args.tweak =
+    omega arith in
     rw whole (bytes_one_by_one c.args.tweak)

@@ -8,4 +8,5 @@ use Rattle.aes_core.proofs.cipher.AesBlockCipher.seal_eight.Given as goal
 -- the states after the rounds before this one
 abbrev pub invariant-loop-round : goal.invariant-loop-round
 invariant-loop-round l =
-    (k : ℕ) → k < 8 → state_in k l.state ≡ after_rounds (key_at l.self.round_keys) (block k l.blocks) (l.round - 1)
+    (k : ℕ) → k < 8
+    → state_in k l.state ≡ after_rounds (key_at l.self.round_keys) (block k l.blocks) (l.round - 1)

@@ -10,4 +10,5 @@ unfolding bit_in agree_below
 returns c k row column =
     ap (λ n. bit_at n k)
     (moved (0 ∷ 1 ∷ 2 ∷ 3 ∷ 7 ∷ 4 ∷ 5 ∷ 6 ∷ 10 ∷ 11 ∷ 8 ∷ 9 ∷ 13 ∷ 14 ∷ 15 ∷ 12 ∷ [])
-    (λ p. 4 * (p / 4) + (p % 4 + 3 * (p / 4)) % 4) refl tt refl c.args.self.0 (omega arith) row column (place row (column + 3 * row)) (omega arith))
+    (λ p. 4 * (p / 4) + (p % 4 + 3 * (p / 4)) % 4) refl tt refl c.args.self.0 (omega arith) row
+    column (place row (column + 3 * row)) (omega arith))

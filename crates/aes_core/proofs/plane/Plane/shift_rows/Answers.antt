@@ -10,4 +10,5 @@ unfolding bit_in agree_below
 returns c k row column =
     ap (λ n. bit_at n k)
     (moved (0 ∷ 1 ∷ 2 ∷ 3 ∷ 5 ∷ 6 ∷ 7 ∷ 4 ∷ 10 ∷ 11 ∷ 8 ∷ 9 ∷ 15 ∷ 12 ∷ 13 ∷ 14 ∷ [])
-    (λ p. 4 * (p / 4) + (p % 4 + p / 4) % 4) refl tt refl c.args.self.0 (omega arith) row column (place row (column + row)) (omega arith))
+    (λ p. 4 * (p / 4) + (p % 4 + p / 4) % 4) refl tt refl c.args.self.0 (omega arith) row column
+    (place row (column + row)) (omega arith))

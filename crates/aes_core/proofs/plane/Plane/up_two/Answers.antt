@@ -10,4 +10,5 @@ unfolding bit_in agree_below
 returns c k row column =
     ap (λ n. bit_at n k)
     (moved (8 ∷ 9 ∷ 10 ∷ 11 ∷ 12 ∷ 13 ∷ 14 ∷ 15 ∷ 0 ∷ 1 ∷ 2 ∷ 3 ∷ 4 ∷ 5 ∷ 6 ∷ 7 ∷ [])
-    (λ p. 4 * ((p / 4 + 2) % 4) + p % 4) refl tt refl c.args.self.0 (omega arith) row column (place (row + 2) column) (omega arith))
+    (λ p. 4 * ((p / 4 + 2) % 4) + p % 4) refl tt refl c.args.self.0 (omega arith) row column
+    (place (row + 2) column) (omega arith))

@@ -4,9 +4,11 @@ use Rattle.nbd_wire.specs.Options.{IsOptionHead, option_of}
 use Rattle.nbd_wire.proofs.OptionLemmas.{option-once, option-there, option-magic}
 use Rattle.nbd_wire.proofs.options.OptionHead.read.Goals as goal
 
-pub returns-then-magic-ne-OPTION_MAGIC-clause-only : goal.returns-then-magic-ne-OPTION_MAGIC-clause-only
+pub returns-then-magic-ne-OPTION_MAGIC-clause-only :
+    goal.returns-then-magic-ne-OPTION_MAGIC-clause-only
 returns-then-magic-ne-OPTION_MAGIC-clause-only c = λ head is e.
-    absurd (c.if-magic-ne-OPTION_MAGIC.true (option-magic c.args.bytes.now head _ c.u64_at-magic.type_inv e c.u64_at-magic.ensures))
+    absurd (c.if-magic-ne-OPTION_MAGIC.true
+    (option-magic c.args.bytes.now head _ c.u64_at-magic.type_inv e c.u64_at-magic.ensures))
 
 pub returns-clause-taken : goal.returns-clause-taken
 returns-clause-taken c =
@@ -17,7 +19,8 @@ returns-clause-taken c =
       size = c.u32_at-2.type_inv;
     } in (
       fields,
-      option-there c.args.bytes.now _ (omega arith) (ap u64_text (sym c.if-magic-ne-OPTION_MAGIC.false) ∙ c.u64_at-magic.ensures)
+      option-there c.args.bytes.now _ (omega arith)
+          (ap u64_text (sym c.if-magic-ne-OPTION_MAGIC.false) ∙ c.u64_at-magic.ensures)
           (ap u32_text option.back ∙ c.u32_at.ensures) c.u32_at-2.ensures,
     )
 

@@ -2,7 +2,8 @@ use Rattle.std.proofs.Common.{refl, arith}
 use Rattle.sector_disk.proofs.CallLemmas.{calls_of-push, HasRoom-note, room_for_log}
 use Rattle.sector_disk.proofs.call_record.CallRecord.note.Goals as goal
 
-pub unreachable-requires-in_default-extend_from_slice : goal.unreachable-requires-in_default-extend_from_slice
+pub unreachable-requires-in_default-extend_from_slice :
+    goal.unreachable-requires-in_default-extend_from_slice
 unreachable-requires-in_default-extend_from_slice c =
     let some = rw (← c.self.view_is) at c.requires.some in
     let whole = rw (← c.self.view_is) at c.requires.whole in

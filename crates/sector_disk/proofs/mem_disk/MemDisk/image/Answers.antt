@@ -13,11 +13,13 @@ returns c =
     let begun : c.deref_mut.result.now ≡ sures
     (blocks_of c.args.self.now.atom c.args.self.now.atoms c.args.self.now.start.items) =
     c.deref_mut.ensures.value ∙ c.in_ok-cells.ensures
-    ∙ ap (λ text. sures (blocks_of c.args.self.now.atom c.args.self.now.atoms text)) c.as_slice.ensures.value
+    ∙ ap (λ text. sures (blocks_of c.args.self.now.atom c.args.self.now.atoms text))
+    c.as_slice.ensures.value
     in
     let made : c.deref.result.now ≡ last_table c.args.self.now.atom
     (sures (blocks_of c.args.self.now.atom c.args.self.now.atoms c.args.self.now.start.items))
     c.args.self.now.calls.calls =
     c.deref.ensures.value ∙ take_at _ _ _ len ∙ c.in_ok-replay.ensures
-    ∙ ap₂ (λ atom cells. last_table atom cells c.args.self.now.calls.calls) c.args.self.now.same_atom begun in
+    ∙ ap₂ (λ atom cells. last_table atom cells c.args.self.now.calls.calls)
+    c.args.self.now.same_atom begun in
     rw made at c.image_bytes.ensures

@@ -11,11 +11,13 @@ begun_with-requires c =
 
 pub returns-in-Ok-clause-told : goal.returns-in-Ok-clause-told
 returns-in-Ok-clause-told c =
-    let blocks = blocks_of-joined _ _ _ (even_image _ _ _ _ _ c.requires c.args.self.began c.args.self.even) in
+    let blocks =
+    blocks_of-joined _ _ _ (even_image _ _ _ _ _ c.requires c.args.self.began c.args.self.even) in
     rw (c.begun_with.ensures.told, c.in-Ok.ensures, blocks) refl
 
 pub returns-in-Ok-clause-image : goal.returns-in-Ok-clause-image
 returns-in-Ok-clause-image c =
-    let blocks = blocks_of-joined _ _ _ (even_image _ _ _ _ _ c.requires c.args.self.began c.args.self.even) in
+    let blocks =
+    blocks_of-joined _ _ _ (even_image _ _ _ _ _ c.requires c.args.self.began c.args.self.even) in
     rw (ap (λ told. told.now) c.begun_with.ensures.told, c.in-Ok.ensures, blocks, currents_sures _)
     (image_is _ _ _ c.requires (held_table _ _ _ _))

@@ -1,0 +1,4 @@
+pub mod ItemLemmas
+pub mod MatchLemmas
+pub mod ProductLemmas
+pub mod ValueLemmas

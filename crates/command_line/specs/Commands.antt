@@ -1,0 +1,85 @@
+-- What the words of a command line ask for.
+use Rattle.std.specs.Prelude.{ℕ, ◌&&◌, ◌==◌, Bool, not, List, length, codes, if◌then◌else◌}
+use Rattle.std.specs.Prelude.{Option, Some, None, option_and_then, option_map}
+use Rattle.std.specs.Str.{bytes_eq}
+use Rattle.clap.specs.Walk.{Row, Text, first_of}
+use Rattle.clap.specs.Simple.{subcommand_of}
+use Rattle.clap.specs.Faults.{fault_of}
+use Rattle.command_line.specs.Product.{product}
+use Rattle.command_line.specs.Values.{◌>>=◌, atom_or_default, is_given, is_set, number_or}
+use Rattle.command_line.specs.declared.command.Serve.{Serve}
+use Rattle.command_line.specs.declared.command.Status.{Status}
+use Rattle.command_line.specs.declared.command.Command.{Command}
+use Rattle.command_line.specs.declared.command.Command.TheVariants as commands
+
+-- sessions over a plain disk, in atoms of so many bytes, that are dealt to so many links to the
+-- clients of an address
+pub record Serving : Type 0 where
+  pub disk : Text
+  pub atom : ℕ
+  pub address : Text
+  pub workers : ℕ
+  pub sessions : ℕ
+
+-- what the header of a disk says, which is read in atoms of so many bytes
+pub record Showing : Type 0 where
+  pub disk : Text
+  pub atom : ℕ
+
+pub data Asked : Type 0 where
+  serves : Serving → Asked
+  shows : Showing → Asked
+
+abbrev pub serving : Serve → Serving
+serving words = record {
+  disk = words.disk.now;
+  atom = words.atom;
+  address = words.address.now;
+  workers = words.workers;
+  sessions = words.sessions;
+}
+
+abbrev pub showing : Status → Showing
+showing words = record { disk = words.disk.now; atom = words.atom }
+
+abbrev pub asked_by : Command → Asked
+asked_by (commands.Serve words) = serves (serving words)
+asked_by (commands.Status words) = shows (showing words)
+
+-- a disk is served plain alone, and without a header of its own
+abbrev pub is_plain : List Row → Bool
+is_plain rows = is_set (codes "plain") rows
+    && (not (is_given (codes "key-file") rows) && not (is_given (codes "header") rows))
+
+unfoldable pub serving_in : List Row → Option Serving
+serving_in rows = do
+  disk ← first_of (codes "disk") rows
+  atom ← atom_or_default (first_of (codes "atom") rows)
+  address ← first_of (codes "listen") rows
+  workers ← number_or 4 1 16 (first_of (codes "workers") rows)
+  sessions ← number_or 65535 1 65535 (first_of (codes "sessions") rows)
+  if is_plain rows then Some (record {
+    disk = disk;
+    atom = atom;
+    address = address;
+    workers = workers;
+    sessions = sessions;
+  }) else None
+
+unfoldable pub showing_in : List Row → Option Showing
+showing_in rows = do
+  disk ← first_of (codes "disk") rows
+  atom ← atom_or_default (first_of (codes "atom") rows)
+  if is_given (codes "header") rows then None else Some (record { disk = disk; atom = atom })
+
+-- the command of this name, with these values; no other is built yet
+unfoldable pub command_in : Text → List Row → Option Asked
+command_in name rows = if bytes_eq name (codes "serve") then option_map serves (serving_in rows)
+    else (if bytes_eq name (codes "status") then option_map shows (showing_in rows) else None)
+
+-- What the words ask for: where `clap` takes them, the command that it finds in them, if each of its
+-- values is of its form and in its range.
+unfoldable pub asked : List Text → Option Asked
+asked words = if length (fault_of product words) == 0
+    then option_and_then (λ found. command_in found.0 found.1) (subcommand_of product words)
+    else None

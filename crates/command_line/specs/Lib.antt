@@ -1,0 +1,4 @@
+pub mod Commands
+pub mod Items
+pub mod Product
+pub mod Values

@@ -1,0 +1,171 @@
+ghost use Rattle.std.specs.Prelude.{◌≡◌, ◌≢◌, map, string_bytes, IfOk, IfErr, MatchResult};
+ghost use Rattle.std.specs.Prelude.{None, Some, []};
+ghost use Rattle.clap.specs.Words.{fault_of, found_of, kind_of, rows_of, subcommand_of};
+ghost use Rattle.clap.specs.Words.{subcommand_rows_of};
+ghost use Rattle.clap.specs.declared.error.kind.ErrorKind.TheVariants.{OutOfMemory};
+ghost use Rattle.command_line.specs.Product.{product};
+ghost use Rattle.command_line.specs.Values.{Reads};
+ghost use Rattle.command_line.specs.Commands.{
+  asked,
+  asked_by,
+  command_in,
+  serving,
+  serving_in,
+  showing,
+  showing_in,
+};
+
+use crate::product::product;
+use crate::values::{Refused, atom_or_default, is_given, is_set, number_or, required};
+use clap::error::ErrorKind;
+use clap::{ArgMatches, Error};
+use std::alloc::{AllocError, Global};
+
+/// `serve` on a plain disk.
+#[derive(Clone, Copy, Debug)]
+pub struct Serve<'a> {
+    pub disk: &'a str,
+    /// The bytes of an atom: 512 or 4096.
+    pub atom: u32,
+    pub address: &'a str,
+    /// How many links the sessions are dealt to: 1 to 16.
+    pub workers: u32,
+    /// How many sessions are served at most: 1 to 65535.
+    pub sessions: u32,
+}
+
+/// `status`: what the header of a disk says.
+#[derive(Clone, Copy, Debug)]
+pub struct Status<'a> {
+    pub disk: &'a str,
+    /// The bytes of an atom: 512 or 4096.
+    pub atom: u32,
+}
+
+/// What the words of a command line ask for.
+#[derive(Clone, Copy, Debug)]
+pub enum Command<'a> {
+    Serve(Serve<'a>),
+    Status(Status<'a>),
+}
+
+/// Why no command was read.
+#[derive(Clone, Copy, Debug, PartialEq, Eq)]
+pub enum Refusal {
+    /// The words ask for nothing, or for what isn't built yet.
+    Usage,
+    /// Memory was wanted.
+    Memory,
+}
+
+/// What `clap` finds in the words.
+fn matches_of<'a>(alloc: Global, words: &'a [String]) -> Result<ArgMatches<'a>, Error>
+    ensures taken { IfOk result (λ m. fault_of product (map string_bytes words.now) ≡ []) }
+    ensures found { IfOk result
+        (λ m. subcommand_rows_of m ≡ subcommand_of product (map string_bytes words.now)) }
+    ensures refused { IfErr result (λ e. kind_of e ≢ OutOfMemory →
+        fault_of product (map string_bytes words.now) ≢ []) }
+{
+    product(alloc)?.try_get_matches_from(words)
+}
+
+#[tactic(auto, unfolding(crate::specs::Commands::serving_in))]
+fn read_serve<'a>(matches: &ArgMatches<'a>) -> Result<Serve<'a>, Refused>
+    ensures { Reads serving result (serving_in (rows_of (found_of matches.now))) }
+{
+    let disk = required(matches, "disk")?;
+    let atom = atom_or_default(matches)?;
+    let address = required(matches, "listen")?;
+    let count = Refused("--workers takes a number from 1 to 16");
+    let workers = number_or(matches, "workers", 4, 1, 16, count)?;
+    let count = Refused("--sessions takes a number from 1 to 65535");
+    let sessions = number_or(matches, "sessions", 65535, 1, 65535, count)?;
+    if !is_set(matches, "plain") {
+        return Err(Refused("serve takes --plain; no header is served yet"));
+    }
+    if is_given(matches, "key-file") {
+        return Err(Refused("serve takes --key-file or --plain, not both"));
+    }
+    if is_given(matches, "header") {
+        return Err(Refused("--plain takes no --header"));
+    }
+    Ok(Serve {
+        disk,
+        atom,
+        address,
+        workers: workers as u32,
+        sessions: sessions as u32,
+    })
+}
+
+#[tactic(auto, unfolding(crate::specs::Commands::showing_in))]
+fn read_status<'a>(matches: &ArgMatches<'a>) -> Result<Status<'a>, Refused>
+    ensures { Reads showing result (showing_in (rows_of (found_of matches.now))) }
+{
+    let disk = required(matches, "disk")?;
+    let atom = atom_or_default(matches)?;
+    if is_given(matches, "header") {
+        return Err(Refused("--header is not built yet"));
+    }
+    Ok(Status { disk, atom })
+}
+
+/// The command of this name, by its values.
+#[tactic(auto, unfolding(crate::specs::Commands::command_in))]
+fn read_command<'a>(name: &str, matches: &ArgMatches<'a>) -> Result<Command<'a>, Refused>
+    ensures { Reads asked_by result (command_in name.now (rows_of (found_of matches.now))) }
+{
+    if name == "serve" {
+        let serve = read_serve(matches)?;
+        return Ok(Command::Serve(serve));
+    }
+    if name == "status" {
+        let status = read_status(matches)?;
+        return Ok(Command::Status(status));
+    }
+    Err(Refused("this command is not built yet"))
+}
+
+/// What the words of a command line ask for.
+///
+/// # Errors
+///
+/// `Usage` exactly where they ask for nothing, or for what isn't built yet; or `Memory`.
+#[tactic(auto, unfolding(crate::specs::Commands::asked))]
+pub fn read_words(alloc: Global, words: &[String]) -> Result<Command<'_>, Refusal>
+    ensures { MatchResult result
+        (λ command. asked (map string_bytes words.now) ≡ Some (asked_by command))
+        (λ refusal. refusal ≡ Refusal.Usage → asked (map string_bytes words.now) ≡ None) }
+{
+    let matches = match matches_of(alloc, words) {
+        Ok(matches) => matches,
+        Err(error) if error.kind() == ErrorKind::OutOfMemory => return Err(Refusal::Memory),
+        Err(_) => return Err(Refusal::Usage),
+    };
+    let Some((name, found)) = matches.subcommand() else {
+        return Err(Refusal::Usage);
+    };
+    match read_command(name, found) {
+        Ok(command) => Ok(command),
+        Err(_) => Err(Refusal::Usage),
+    }
+}
+
+/// What to tell a person whose words were refused: help that they asked for, or what is wrong with
+/// them. None where they are taken.
+pub fn explain_words(alloc: Global, words: &[String]) -> Result<Option<String>, AllocError> {
+    let matches = match matches_of(alloc, words) {
+        Ok(matches) => matches,
+        Err(error) => return Ok(Some(error.to_string(alloc)?)),
+    };
+    let Some((name, found)) = matches.subcommand() else {
+        return Ok(None);
+    };
+    match read_command(name, found) {
+        Ok(_) => Ok(None),
+        Err(Refused(reason)) => {
+            let error = product(alloc)?.error(ErrorKind::ValueValidation, reason)?;
+            Ok(Some(error.to_string(alloc)?))
+        }
+    }
+}

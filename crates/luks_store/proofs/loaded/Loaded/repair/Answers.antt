@@ -1,0 +1,33 @@
+use Rattle.std.proofs.Common.{◌≡◌, ℕ, ◌+◌, ◌*◌, ◌%◌, ◌≤◌, max, List, ◌++◌, length, Ok, IsOk, refl, sym, ◌∙◌, ap, subst, arith}
+use Rattle.luks_store.proofs.CopyLemmas.{long_enough}
+use Rattle.luks_store.proofs.RepairLemmas.{first-repaired, second-repaired}
+use Rattle.luks_store.specs.Commits.{Repairs}
+use Rattle.luks_store.specs.declared.loaded.Stored.{Stored}
+use Rattle.luks_store.proofs.loaded.Loaded.repair.Goals as goal
+
+pub new-requires : goal.new-requires
+new-requires c = subst (λ bytes. 4096 ≤ length bytes) (sym c.as_slice-used.ensures) (long_enough _ _ c.self.invariant.copies.whole)
+
+pub new-requires-then-not-is_good-2 : goal.new-requires-then-not-is_good-2
+new-requires-then-not-is_good-2 c =
+    subst (λ bytes. 4096 ≤ length bytes) (sym c.as_slice-used.ensures) (long_enough _ _ c.self.invariant.copies.whole)
+
+pub returns-then-not-is_good : goal.returns-then-not-is_good
+returns-then-not-is_good c =
+    let copies = c.self.inside.stored.copies in
+    let made = c.in_ok-repair.ensures in
+    let is = c.as_slice-used.ensures in
+    subst (λ (s : Stored). Repairs s.copies c.in_ok-repair.repair) c.self.view_is
+    (first-repaired c.copies_are_spelt.ensures copies c.in_ok-repair.repair c.self.invariant.copies
+    (λ good. (let e = c.if-not-is_good.ensures.1 good in cc)) made.begun made.place
+    (rw is at made.size) (rw is at made.shared) (rw is at made.valid) (rw is at made.primary))
+
+pub returns-then-not-is_good-2 : goal.returns-then-not-is_good-2
+returns-then-not-is_good-2 c =
+    let copies = c.self.inside.stored.copies in
+    let made = c.in_ok-repair-2.ensures in
+    let is = c.as_slice-used.ensures in
+    subst (λ (s : Stored). Repairs s.copies c.in_ok-repair-2.repair) c.self.view_is
+    (second-repaired c.copies_are_spelt.ensures copies c.in_ok-repair-2.repair c.self.invariant.copies
+    (c.if-not-is_good.ensures.0 refl) (λ good. (let e = c.if-not-is_good-2.ensures.1 good in cc)) made.begun made.place
+    (rw is at made.size) (rw is at made.shared) (rw is at made.valid) (rw is at made.secondary))
