@@ -8,6 +8,7 @@
 #![tactic(auto)]
 
 mod answers;
+mod calls;
 mod volume;
 
 pub use answers::{Admitted, Asked, PieceRead, PieceWritten, Progress, Settled};

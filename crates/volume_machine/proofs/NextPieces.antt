@@ -1,15 +1,14 @@
 -- The next piece of an operation: there is only one, and it lies on the disk.
 use Rattle.std.proofs.Common.{◌≡◌, inl, inr, ℕ, suc, ◌+◌, ◌*◌, ◌<◌, ◌≤◌, Some, refl, sym, ◌∙◌, ap, subst, arith}
-use Rattle.std.proofs.Math.Nat.{mul-mod_left, mul-le-mul_right}
+use Rattle.std.proofs.Math.Nat.{mul-le-mul_right}
 use Rattle.std.proofs.lemmas.Bool.{cases_lt}
 use Rattle.block_range.specs.declared.BlockRange.{BlockRange}
-use Rattle.sector_disk.specs.Geometry.{IsInDisk}
 use Rattle.segment_map.specs.declared.Side.{Side}
 use Rattle.segment_map.specs.declared.Side.TheVariants.{Old, New, Zone}
 use Rattle.segment_map.specs.declared.map.Map.{Map}
 use Rattle.segment_map.specs.declared.map.Piece.{Piece}
 use Rattle.segment_map.specs.Maps.{IsNextPiece, side_at, place_on, place_at, most_bytes}
-use Rattle.volume_machine.specs.Pieces.{AgreeOn, IsPieceOf, place_of, size_of_piece}
+use Rattle.volume_machine.specs.Pieces.{AgreeOn, IsPieceOf, place_of}
 use Rattle.volume_machine.specs.Sound.{MapFits}
 use Rattle.volume_machine.specs.declared.open.Open.{Open}
 
@@ -64,20 +63,6 @@ pub on_disk : (map : Map) (atoms first count : ℕ) (side : Side) → MapFits ma
 on_disk map atoms first count Old fits within = (let places = fits.old_places in omega (arith, places, within))
 on_disk map atoms first count Zone fits within = (let places = fits.old_places in omega (arith, places, within))
 on_disk map atoms first count New fits within = (let places = fits.new_places in omega (arith, places, within))
-
-in_bytes : (atom at n atoms : ℕ) → at + n ≤ atoms → at * atom + n * atom ≤ atoms * atom
-in_bytes atom at n atoms within = (let le : (at + n) * atom ≤ atoms * atom = mul-le-mul_right atom within in omega (arith, le))
-
-pub piece-on-disk : (map : Map) (atoms size place len : ℕ) (o : Open) (piece : Piece) → MapFits map atoms → IsPieceOf map o piece →
-    o.range.end ≤ map.blocks → map.atom ≡ size → place ≡ place_of map piece → len ≡ size_of_piece map piece → IsInDisk size atoms place len
-piece-on-disk map atoms size place len o piece fits next inside atom at long =
-    let first = next.first in
-    let within = next.within in
-    let on : place + piece.count ≤ atoms = rw at (on_disk map atoms piece.first piece.count piece.side fits (omega (arith, first, within, inside))) in
-    rw (← atom, long) (record {
-      whole = mul-mod_left piece.count map.atom;
-      within = in_bytes map.atom place piece.count atoms on;
-    })
 
 -- maps that have the blocks of a range alike
 pub agrees_itself : (range : BlockRange) (map : Map) → AgreeOn range map map
