@@ -31,14 +31,14 @@ sized : {K : Type 0} (state : State K) (plain : ℕ → List ℕ) (left : List B
 sized state plain left logic = λ b below. (let one = (logic.are.newest b (let count = logic.are.count in omega (arith, count, below))).size in omega (arith, one))
 
 -- a read that ends
-read_ended : {K P : Type 0} (seals : Seals) (old new : State K) (plain : ℕ → List ℕ) (left : List Block) (lane : ℕ) (o : Open) (one : Answered) (exchanges : List Exchange) →
-    Here P old seals plain left → IsFine new → open_at old.lanes lane ≡ Some o → IsRead o.ask → Ends old new lane → new.disk ≡ old.disk →
+read_ended : {K P Q : Type 0} (seals : Seals) (old new : State K) (plain : ℕ → List ℕ) (left : List Block) (lane : ℕ) (o : Open) (one : Answered) (exchanges : List Exchange) →
+    Here P Q old seals plain left → IsFine new → open_at old.lanes lane ≡ Some o → IsRead o.ask → Ends old new lane → new.disk ≡ old.disk →
     ((exchange : Exchange) → Rattle.volume_machine.specs.Answers.IsExchange one exchange → Rattle.plain_disk.specs.Plain.Step old.map.atom left exchange left) →
-    AreExchanges (one ∷ []) exchanges → Served P seals old new plain left exchanges
+    AreExchanges (one ∷ []) exchanges → Served P Q seals old new plain left exchanges
 read_ended seals old new plain left lane o one exchanges here sound at reading goes rests step are = record {
   next = left;
   legal = legal_one old.map.atom left left one exchanges are step;
-  here = here_after old new seals plain plain left left IsUnchanged here goes.map sound.works (logic_ended old new plain left lane here.logic sound.sound goes)
+  here = here_after old new seals plain plain left left IsUnchanged here goes.map sound.works (λ whole. (sym goes.broken_is ∙ whole, refl)) (logic_ended old new plain left lane here.logic sound.sound goes)
       (moves_not old.map.atom here.bytes old.disk new.disk rests here.values)
       (λ view after unchanged shown. shown_read_ended old new plain seals left lane o view after at reading goes unchanged shown);
   map = goes.map;
@@ -46,7 +46,7 @@ read_ended seals old new plain left lane o one exchanges here sound at reading g
   newest = λ b below of. refl;
 }
 
-read_right : {K P : Type 0} (seals : Seals) (old : State K) (plain : ℕ → List ℕ) (left : List Block) (lane : ℕ) (o : Open) (offset len : ℕ) → Here P old seals plain left →
+read_right : {K P Q : Type 0} (seals : Seals) (old : State K) (plain : ℕ → List ℕ) (left : List Block) (lane : ℕ) (o : Open) (offset len : ℕ) → Here P Q old seals plain left →
     open_at old.lanes lane ≡ Some o → o.ask ≡ Read offset len → o.failed ≡ false → o.next ≡ o.range.end →
     (plain lane ≡ take len (drop offset (newest_bytes left))) × AreSure (take (len / old.map.atom) (drop (offset / old.map.atom) left))
 read_right seals old plain left lane o offset len here at is whole ended =
@@ -74,16 +74,16 @@ read_right seals old plain left lane o offset len here at is whole ended =
     )
 
 -- a write that ends, with what it made of its blocks
-write_ended : {K P : Type 0} (seals : Seals) (old new : State K) (plain : ℕ → List ℕ) (left : List Block) (lane : ℕ) (o : Open) (change : Block → List ℕ → Block) (count : ℕ) (one : Answered)
-    (exchanges : List Exchange) → Here P old seals plain left → IsFine new → new.disk ≡ old.disk → (it : EndsWrite old new plain left lane o change count) →
+write_ended : {K P Q : Type 0} (seals : Seals) (old new : State K) (plain : ℕ → List ℕ) (left : List Block) (lane : ℕ) (o : Open) (change : Block → List ℕ → Block) (count : ℕ) (one : Answered)
+    (exchanges : List Exchange) → Here P Q old seals plain left → IsFine new → new.disk ≡ old.disk → (it : EndsWrite old new plain left lane o change count) →
     (old.broken ≡ false → (block : Block) (value : List ℕ) → (change block value).unsure ≡ false) →
     ((exchange : Exchange) → Rattle.volume_machine.specs.Answers.IsExchange one exchange →
     Rattle.plain_disk.specs.Plain.Step old.map.atom left exchange (ended_blocks old plain left lane o change count)) →
-    AreExchanges (one ∷ []) exchanges → Served P seals old new plain left exchanges
+    AreExchanges (one ∷ []) exchanges → Served P Q seals old new plain left exchanges
 write_ended seals old new plain left lane o change count one exchanges here sound rests it sure step are = record {
   next = ended_blocks old plain left lane o change count;
   legal = legal_one old.map.atom left (ended_blocks old plain left lane o change count) one exchanges are step;
-  here = here_after old new seals plain plain left (ended_blocks old plain left lane o change count) IsUnchanged here it.goes.map sound.works
+  here = here_after old new seals plain plain left (ended_blocks old plain left lane o change count) IsUnchanged here it.goes.map sound.works (λ whole. (sym it.goes.broken_is ∙ whole, refl))
       (logic_write_ended old new plain left lane o change count it sound.sound sure) (moves_not old.map.atom here.bytes old.disk new.disk rests here.values)
       (λ view after unchanged shown. shown_write_ended old new seals plain left lane o change count view after it unchanged shown);
   map = it.goes.map;
@@ -142,7 +142,7 @@ change_sure : (fua : Bool) (block : Block) (value : List ℕ) → (change_of fua
 change_sure true block value = refl
 change_sure false block value = refl
 
-ends_write : {K P : Type 0} (seals : Seals) (old new : State K) (plain : ℕ → List ℕ) (left : List Block) (lane : ℕ) (o : Open) (change : Block → List ℕ → Block) (here : Here P old seals plain left) →
+ends_write : {K P Q : Type 0} (seals : Seals) (old new : State K) (plain : ℕ → List ℕ) (left : List Block) (lane : ℕ) (o : Open) (change : Block → List ℕ → Block) (here : Here P Q old seals plain left) →
     (at : open_at old.lanes lane ≡ Some o) → IsWrite o.ask → Holds old lane → Ends old new lane → ((block : Block) (value : List ℕ) → (change block value).newest ≡ value) →
     ((block : Block) (value : List ℕ) → Contains (values_of (change block value)) value) →
     (((block : Block) (value other : List ℕ) → Contains (values_of block) other → Contains (values_of (change block value)) other) ⊎ (IsForced o.ask × (o.settled ≡ true))) →
@@ -165,9 +165,9 @@ ends_write seals old new plain left lane o change here at writing holds goes new
     }
 
 -- a write that failed
-failed_write_served : {K P : Type 0} (seals : Seals) (old new : State K) (plain : ℕ → List ℕ) (left : List Block) (lane : ℕ) (o : Open) (offset len : ℕ) (fua : Bool) (exchanges : List Exchange) →
-    Here P old seals plain left → IsFine new → open_at old.lanes lane ≡ Some o → o.ask ≡ Write offset len fua → o.failed ≡ true → Holds old lane → Ends old new lane → new.disk ≡ old.disk →
-    AreExchanges (record { session = o.session; ask = Write offset len fua; plain = plain lane; reply = Errno 5 } ∷ []) exchanges → Served P seals old new plain left exchanges
+failed_write_served : {K P Q : Type 0} (seals : Seals) (old new : State K) (plain : ℕ → List ℕ) (left : List Block) (lane : ℕ) (o : Open) (offset len : ℕ) (fua : Bool) (exchanges : List Exchange) →
+    Here P Q old seals plain left → IsFine new → open_at old.lanes lane ≡ Some o → o.ask ≡ Write offset len fua → o.failed ≡ true → Holds old lane → Ends old new lane → new.disk ≡ old.disk →
+    AreExchanges (record { session = o.session; ask = Write offset len fua; plain = plain lane; reply = Errno 5 } ∷ []) exchanges → Served P Q seals old new plain left exchanges
 failed_write_served seals old new plain left lane o offset len fua exchanges here sound at is failed holds goes rests are =
     let knows = here.logic.lanes lane o at in
     let body = knows_body old plain left lane o offset len fua here.logic at is in
@@ -184,9 +184,9 @@ unfolding blocks_of
 no_blocks_change change atom n at_block left text none = rw none (changed-nil change left at_block)
 
 -- a write that is done
-written_served : {K P : Type 0} (seals : Seals) (old new : State K) (plain : ℕ → List ℕ) (left : List Block) (lane : ℕ) (o : Open) (offset len : ℕ) (fua : Bool) (exchanges : List Exchange) →
-    Here P old seals plain left → IsFine new → open_at old.lanes lane ≡ Some o → o.ask ≡ Write offset len fua → o.failed ≡ false → IsComplete o → Holds old lane → Ends old new lane → new.disk ≡ old.disk →
-    AreExchanges (record { session = o.session; ask = Write offset len fua; plain = plain lane; reply = Done } ∷ []) exchanges → Served P seals old new plain left exchanges
+written_served : {K P Q : Type 0} (seals : Seals) (old new : State K) (plain : ℕ → List ℕ) (left : List Block) (lane : ℕ) (o : Open) (offset len : ℕ) (fua : Bool) (exchanges : List Exchange) →
+    Here P Q old seals plain left → IsFine new → open_at old.lanes lane ≡ Some o → o.ask ≡ Write offset len fua → o.failed ≡ false → IsComplete o → Holds old lane → Ends old new lane → new.disk ≡ old.disk →
+    AreExchanges (record { session = o.session; ask = Write offset len fua; plain = plain lane; reply = Done } ∷ []) exchanges → Served P Q seals old new plain left exchanges
 written_served seals old new plain left lane o offset len fua exchanges here sound at is whole complete holds goes rests are =
     let atom = old.map.atom in
     let knows = here.logic.lanes lane o at in
@@ -221,9 +221,9 @@ written_served seals old new plain left lane o offset len fua exchanges here sou
     kept false asked some = inl written-keeps
 
 -- an operation that ends is answered
-end_by : {K P : Type 0} (seals : Seals) (old new : State K) (plain : ℕ → List ℕ) (left : List Block) (lane : ℕ) (o : Open) (ask : Ask) (exchanges : List Exchange) →
-    Here P old seals plain left → IsFine new → open_at old.lanes lane ≡ Some o → o.ask ≡ ask → has_lock ask ≡ true → (o.failed ≡ true) ⊎ ((o.failed ≡ false) × IsComplete o) → Holds old lane → Ends old new lane →
-    new.disk ≡ old.disk → AreExchanges (record { session = o.session; ask = ask; plain = plain lane; reply = if o.failed then Errno 5 else full_reply ask (plain lane) } ∷ []) exchanges → Served P seals old new plain left exchanges
+end_by : {K P Q : Type 0} (seals : Seals) (old new : State K) (plain : ℕ → List ℕ) (left : List Block) (lane : ℕ) (o : Open) (ask : Ask) (exchanges : List Exchange) →
+    Here P Q old seals plain left → IsFine new → open_at old.lanes lane ≡ Some o → o.ask ≡ ask → has_lock ask ≡ true → (o.failed ≡ true) ⊎ ((o.failed ≡ false) × IsComplete o) → Holds old lane → Ends old new lane →
+    new.disk ≡ old.disk → AreExchanges (record { session = o.session; ask = ask; plain = plain lane; reply = if o.failed then Errno 5 else full_reply ask (plain lane) } ∷ []) exchanges → Served P Q seals old new plain left exchanges
 end_by seals old new plain left lane o (Read offset len) exchanges here sound at is has (inl failed) holds goes rests are =
     let under_way = here.logic.sound.under_way lane o at in
     let proper : wrong_ask old.map.atom (old.map.blocks * old.map.atom) (Read offset len) ≡ None = subst (λ a. wrong_ask old.map.atom (size_of old.map) a ≡ None) is under_way.proper in
@@ -245,9 +245,9 @@ end_by seals old new plain left lane o (Write offset len fua) exchanges here sou
     (subst (λ b. AreExchanges (record { session = o.session; ask = Write offset len fua; plain = plain lane; reply = if b then Errno 5 else Done } ∷ []) exchanges) whole are)
 end_by seals old new plain left lane o Flush exchanges here sound at is has ended holds goes rests are = absurd (cc)
 
-pub finish_served : {K P : Type 0} (seals : Seals) (old new : State K) (plain : ℕ → List ℕ) (left : List Block) (lane : ℕ) (o : Open) (exchanges : List Exchange) →
-    Here P old seals plain left → IsFine new → open_at old.lanes lane ≡ Some o → has_lock o.ask ≡ true → (o.failed ≡ true) ⊎ IsComplete o → Holds old lane → Ends old new lane →
-    new.disk ≡ old.disk → AreExchanges (by_finish (Some o) (plain lane)) exchanges → Served P seals old new plain left exchanges
+pub finish_served : {K P Q : Type 0} (seals : Seals) (old new : State K) (plain : ℕ → List ℕ) (left : List Block) (lane : ℕ) (o : Open) (exchanges : List Exchange) →
+    Here P Q old seals plain left → IsFine new → open_at old.lanes lane ≡ Some o → has_lock o.ask ≡ true → (o.failed ≡ true) ⊎ IsComplete o → Holds old lane → Ends old new lane →
+    new.disk ≡ old.disk → AreExchanges (by_finish (Some o) (plain lane)) exchanges → Served P Q seals old new plain left exchanges
 finish_served seals old new plain left lane o exchanges here sound at has (inl failed) holds goes rests are =
     end_by seals old new plain left lane o o.ask exchanges here sound at refl has (inl failed) holds goes rests are
 finish_served seals old new plain left lane o exchanges here sound at has (inr complete) holds goes rests are = elim (either o.failed) [

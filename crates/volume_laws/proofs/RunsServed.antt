@@ -10,7 +10,7 @@ use Rattle.volume_laws.specs.Contents.{block_in, StopsAllowed, IsTriedBy}
 use Rattle.disk_views.specs.Parts.{cell_in, value_in}
 use Rattle.volume_machine.specs.Events.{Event, admits, asks, reads, writes, settles, finishes, Outcome, lane_of}
 use Rattle.volume_machine.specs.Pieces.{place_in}
-use Rattle.volume_laws.specs.Promises.{Starts, StartsCovered, ServesEachRun}
+use Rattle.volume_laws.specs.Promises.{Starts, StartsCovered, TellsWhole, ServesEachRun}
 use Rattle.volume_machine.specs.Answers.{AreExchanges, by_settle, by_finish, flush_reply}
 use Rattle.volume_machine.specs.Runs.{Happening, IsRun, last_of, answered_in, answered_by, plain_in, plain_after, no_plain}
 use Rattle.volume_machine.specs.Seals.{Seals}
@@ -34,9 +34,9 @@ use Rattle.volume_laws.proofs.SealLemmas.{length-sealed}
 use Rattle.volume_machine.proofs.Soundness.{sound_kept}
 use Rattle.disk_views.proofs.TableEntries.{place_of_some}
 
-settles_served : {K P : Type 0} (seals : Seals) (old new : State K) (plain : ℕ → List ℕ) (left : List Block) (lane : ℕ) (o : Open) (outcome : Outcome) (exchanges : List Exchange) →
-    Here P old seals plain left → IsFine new → open_at old.lanes lane ≡ Some o → CanSettle o → SettleStep old lane o outcome new →
-    AreExchanges (by_settle (Some o) outcome) exchanges → Served P seals old new plain left exchanges
+settles_served : {K P Q : Type 0} (seals : Seals) (old new : State K) (plain : ℕ → List ℕ) (left : List Block) (lane : ℕ) (o : Open) (outcome : Outcome) (exchanges : List Exchange) →
+    Here P Q old seals plain left → IsFine new → open_at old.lanes lane ≡ Some o → CanSettle o → SettleStep old lane o outcome new →
+    AreExchanges (by_settle (Some o) outcome) exchanges → Served P Q seals old new plain left exchanges
 settles_served seals old new plain left lane o outcome exchanges here sound at (inl is) step are =
     flush_served seals old new plain left lane o outcome exchanges here sound at is step
     (subst (λ xs. AreExchanges xs exchanges) (let e : by_settle (Some o) outcome ≡ record { session = o.session; ask = Flush; plain = []; reply = flush_reply outcome } ∷ [] = rw is refl in e) are)
@@ -62,22 +62,22 @@ works_after old new event outcome meets step works =
     (λ stays. or_first old.broken (breaks event outcome) (sym goes.broken_is ∙ stays)) goes.lane_is.count
     (λ lane last. let left = event_left old new event outcome lane step (λ same. omega (arith, client, last, same)) in (left.own, left.holds)) works
 
-fine_after : {K P : Type 0} (seals : Seals) (old new : State K) (plain : ℕ → List ℕ) (left : List Block) (event : Event) (outcome : Outcome) →
-    Here P old seals plain left → Meets old event → Step old event outcome new → IsFine new
+fine_after : {K P Q : Type 0} (seals : Seals) (old new : State K) (plain : ℕ → List ℕ) (left : List Block) (event : Event) (outcome : Outcome) →
+    Here P Q old seals plain left → Meets old event → Step old event outcome new → IsFine new
 fine_after seals old new plain left event outcome here meets step = record {
   sound = sound_kept old new event outcome here.logic.sound meets step;
   works = works_after old new event outcome meets step here.works;
 }
 
 -- each event
-pub event_served : {K P : Type 0} (seals : Seals) (old new : State K) (plain : ℕ → List ℕ) (left : List Block) (event : Event) (outcome : Outcome) (exchanges : List Exchange) →
-    Here P old seals plain left → Meets old event → Step old event outcome new → AreExchanges (answered_by old event outcome plain) exchanges →
-    Served P seals old new (plain_after seals old event outcome plain) left exchanges
+pub event_served : {K P Q : Type 0} (seals : Seals) (old new : State K) (plain : ℕ → List ℕ) (left : List Block) (event : Event) (outcome : Outcome) (exchanges : List Exchange) →
+    Here P Q old seals plain left → Meets old event → Step old event outcome new → AreExchanges (answered_by old event outcome plain) exchanges →
+    Served P Q seals old new (plain_after seals old event outcome plain) left exchanges
 unfolding Can Step answered_by plain_after
 event_served seals old new plain left (admits lane session ask) outcome exchanges here meets step are =
     admit_by seals old new plain left lane session ask outcome exchanges _ refl here (fine_after seals old new plain left (admits lane session ask) outcome here meets step) meets.can step are
-event_served {P = P} seals old new plain left (asks lane) outcome exchanges here meets step are =
-    goes_on seals old new plain left exchanges are (subst (λ s. Here P s seals plain left) (sym step.1) here) (ap (λ s. s.map) step.1) (ap (λ s. s.work) step.1)
+event_served {P = P} {Q = Q} seals old new plain left (asks lane) outcome exchanges here meets step are =
+    goes_on seals old new plain left exchanges are (subst (λ s. Here P Q s seals plain left) (sym step.1) here) (ap (λ s. s.map) step.1) (ap (λ s. s.work) step.1)
 event_served seals old new plain left (reads lane len) outcome exchanges here meets (o, at, step) are =
     let (p, is, can) = meets.can.0 in
     let same : p ≡ o = cc in
@@ -119,13 +119,13 @@ legal_joined atom old middle new [] ys first rest = rw (← first) rest
 legal_joined atom old middle new (exchange ∷ xs) ys (next, step, first) rest = (next, step, legal_joined atom next middle new xs ys first rest)
 
 -- a run goes on from a moment to another
-record Ran {K : Type 0} (P : Type 0) (seals : Seals) (old : State K) (plain : ℕ → List ℕ) (left : List Block) (run : List (Happening K)) (exchanges : List Exchange) : Type 0 where
+record Ran {K : Type 0} (P Q : Type 0) (seals : Seals) (old : State K) (plain : ℕ → List ℕ) (left : List Block) (run : List (Happening K)) (exchanges : List Exchange) : Type 0 where
   next : List Block
   legal : Legal old.map.atom left exchanges next
-  here : Here P (last_of old run) seals (plain_in seals old plain run) next
+  here : Here P Q (last_of old run) seals (plain_in seals old plain run) next
 
-run_served : {K P : Type 0} (seals : Seals) (old : State K) (plain : ℕ → List ℕ) (left : List Block) (run : List (Happening K)) (exchanges : List Exchange) →
-    Here P old seals plain left → IsRun old run → AreExchanges (answered_in seals old plain run) exchanges → Ran P seals old plain left run exchanges
+run_served : {K P Q : Type 0} (seals : Seals) (old : State K) (plain : ℕ → List ℕ) (left : List Block) (run : List (Happening K)) (exchanges : List Exchange) →
+    Here P Q old seals plain left → IsRun old run → AreExchanges (answered_in seals old plain run) exchanges → Ran P Q seals old plain left run exchanges
 unfolding IsRun last_of answered_in plain_in
 run_served seals old plain left [] exchanges here is are = record { next = left; legal = legal_none old.map.atom left exchanges are; here = here }
 run_served seals old plain left (one ∷ rest) exchanges here (meets, step, is) are =
@@ -142,7 +142,7 @@ run_served seals old plain left (one ∷ rest) exchanges here (meets, step, is) 
 
 -- a start is a moment
 pub starts_here : {K : Type 0} (start : State K) (seals : Seals) (blocks : List Block) (bytes : List ℕ) → Starts start seals blocks bytes →
-    Here (StartsCovered start seals blocks) start seals no_plain blocks
+    Here (StartsCovered start seals blocks) (TellsWhole start) start seals no_plain blocks
 starts_here start seals blocks bytes starts =
     let none : (lane b : ℕ) (value : List ℕ) → IsTriedBy start no_plain lane b value → ⊥ = λ lane b value tried. idle start no_plain lane b value (starts.fresh.lanes lane) tried in record {
       logic = record {
@@ -156,6 +156,8 @@ starts_here start seals blocks bytes starts =
       works = λ work is. absurd (let none = starts.fresh.rests in cc);
       bytes = bytes;
       values = starts.values;
+      size = λ whole unbroken. whole.bytes bytes starts.values;
+      cells = λ whole covered told is. whole.cells told is;
       shown = record {
         current = λ whole b below. ((block_in blocks b).newest, inr (λ lane other tried. none lane b other tried, refl), starts.stands b below.inside);
         candidates = λ b below atom contains. absurd (omega (arith, contains.1));
@@ -174,7 +176,7 @@ starts_here start seals blocks bytes starts =
     }
 
 -- a stop at a moment leaves what is allowed
-stops_here : {K P : Type 0} (state : State K) (seals : Seals) (plain : ℕ → List ℕ) (left : List Block) → Here P state seals plain left → P → (told : Told) → state.disk.told ≡ Some told →
+stops_here : {K P Q : Type 0} (state : State K) (seals : Seals) (plain : ℕ → List ℕ) (left : List Block) → Here P Q state seals plain left → P → (told : Told) → state.disk.told ≡ Some told →
     StopsAllowed state seals plain left told.now
 stops_here state seals plain left here premise told is = λ image is_image b below.
     (here.tables premise told is).candidates b below (value_in image (place_in state.map b)) (image_in told.now image (place_in state.map b) is_image (here.places premise told is b below.inside))
@@ -189,5 +191,7 @@ serves_each_run start seals = λ blocks bytes run exchanges starts is are.
       now = here.bytes;
       values = here.values;
       stands = here.shown.current;
+      size = here.size;
+      cells = here.cells;
       stops = stops_here (last_of start run) seals (plain_in seals start no_plain run) ran.next here;
     }

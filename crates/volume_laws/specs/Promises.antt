@@ -1,5 +1,5 @@
 -- What is promised of every run of events.
-use Rattle.std.specs.Prelude.{ℕ, ◌≡◌, ◌↔◌, Bool, true, false, ◌==◌, ◌||◌, if◌then◌else◌, List, [], ◌∷◌, replicate, Some, None}
+use Rattle.std.specs.Prelude.{length, ℕ, ◌≡◌, ◌*◌, ◌↔◌, Bool, true, false, ◌==◌, ◌||◌, if◌then◌else◌, List, [], ◌∷◌, replicate, Some, None}
 use Rattle.base_terms.specs.Blocks.{lengths}
 use Rattle.base_terms.specs.ErrorNumbers.{device_error}
 use Rattle.plain_disk.specs.Plain.{Block, Exchange, AreSure, Legal}
@@ -38,9 +38,16 @@ abbrev pub TellsSettled : {K : Type 0} → State K → List ℕ → Type 0
 TellsSettled start bytes = (told : Told) → start.disk.told ≡ Some told → AreSettled told.now
     × (bytes ≡ content told.now) × (lengths (currents told.now) ≡ replicate start.disk.atoms start.map.atom)
 
+-- where the disk tells its bytes there are an atom's for each atom, and where it tells its tables a cell
+pub record TellsWhole {K : Type 0} (state : State K) : Type 0 where
+  pub bytes : (bytes : List ℕ) → state.disk.values ≡ Some bytes →
+      length bytes ≡ state.disk.atoms * state.map.atom
+  pub cells : (told : Told) → state.disk.told ≡ Some told → length told.now ≡ state.disk.atoms
+
 -- The operations of a run are those of one plain disk: their history is legal; while nothing has
 -- failed the disk stands for the newest values with those of unfinished writes over them; and a stop
--- leaves what is allowed. A run may end anywhere, so this holds after each event.
+-- leaves what is allowed. A disk that told all its atoms tells them all while nothing has failed, and all its
+-- cells. A run may end anywhere, so this holds after each event.
 pub record IsServed {K : Type 0} (start : State K) (seals : Seals) (blocks : List Block)
     (run : List (Happening K)) (exchanges : List Exchange) : Type 0 where
   pub left : List Block
@@ -49,6 +56,10 @@ pub record IsServed {K : Type 0} (start : State K) (seals : Seals) (blocks : Lis
   pub values : (last_of start run).disk.values ≡ Some now
   pub stands : (last_of start run).broken ≡ false →
       StandsNow (last_of start run) seals (plain_in seals start no_plain run) left now
+  pub size : TellsWhole start → (last_of start run).broken ≡ false →
+      length now ≡ (last_of start run).disk.atoms * (last_of start run).map.atom
+  pub cells : TellsWhole start → StartsCovered start seals blocks → (told : Told) →
+      (last_of start run).disk.told ≡ Some told → length told.now ≡ (last_of start run).disk.atoms
   pub stops : StartsCovered start seals blocks → (told : Told) → (last_of start run).disk.told ≡ Some told →
       StopsAllowed (last_of start run) seals (plain_in seals start no_plain run) left told.now
 
