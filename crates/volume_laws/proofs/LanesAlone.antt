@@ -1,17 +1,25 @@
 -- Lanes of a run, each by its own calls.
-use Rattle.std.proofs.Common.{◌≡◌, ◌≢◌, inl, inr, ℕ, suc, ◌*◌, ◌<◌, ◌≤◌, ◌==◌, true, false, if◌then◌else◌, nat_eq, List, [], ◌∷◌, ◌++◌, length, Option, Some, None, MatchOption, MatchBool, refl, sym, ◌∙◌, ap, subst, arith, append_assoc, option_map}
+use Rattle.std.proofs.Common.{◌≡◌, ◌≢◌, inl, inr, ℕ, suc, ◌*◌, ◌<◌, ◌≤◌, ◌==◌, true, false}
+use Rattle.std.proofs.Common.{if◌then◌else◌, nat_eq, List, [], ◌∷◌, ◌++◌, length, Option, Some}
+use Rattle.std.proofs.Common.{None, MatchOption, MatchBool, refl, sym, ◌∙◌, ap, subst, arith}
+use Rattle.std.proofs.Common.{append_assoc, option_map}
 use Rattle.std.proofs.lemmas.List.{append-nil}
 use Rattle.range_lock.specs.Locks.{is_of}
 use Rattle.segment_map.specs.declared.map.Map.{Map}
-use Rattle.volume_machine.specs.Alone.{Alone, AreMet, Call, MeetsAlone, after_got, after_put, after_sync, alone_after, alone_of, answered_alone, answers_of, granted_after, idle_lane, open_after, settled_as, plain_with, with_piece, opened_by}
+use Rattle.volume_machine.specs.Alone.{Alone, AreMet, Call, MeetsAlone, after_got, after_put}
+use Rattle.volume_machine.specs.Alone.{after_sync, alone_after, alone_of, answered_alone}
+use Rattle.volume_machine.specs.Alone.{answers_of, granted_after, idle_lane, open_after, settled_as}
+use Rattle.volume_machine.specs.Alone.{plain_with, with_piece, opened_by}
 use Rattle.volume_machine.specs.Answers.{answers}
 use Rattle.volume_machine.specs.Asks.{IsRead, IsWrite, has_lock, wrong_ask, entry_of}
 use Rattle.volume_machine.specs.Beginnings.{IsFresh}
-use Rattle.volume_machine.specs.Events.{Event, admits, asks, reads, writes, settles, finishes, lane_of, Outcome, held, refused, got, done, device, broken}
+use Rattle.volume_machine.specs.Events.{Event, admits, asks, reads, writes, settles, finishes}
+use Rattle.volume_machine.specs.Events.{lane_of, Outcome, held, refused, got, done, device, broken}
 use Rattle.block_range.specs.declared.BlockRange.{BlockRange}
 use Rattle.volume_machine.specs.Pieces.{AgreeOn, known_side, rest_of}
 use Rattle.volume_machine.proofs.NextPieces.{agrees_itself, agrees_now, next_agrees}
-use Rattle.volume_machine.specs.Runs.{Happening, IsRun, answered_by, last_of, no_plain, plain_after, plain_in, plain_piece, with_plain}
+use Rattle.volume_machine.specs.Runs.{Happening, IsRun, answered_by, last_of, no_plain, plain_after}
+use Rattle.volume_machine.specs.Runs.{plain_in, plain_piece, with_plain}
 use Rattle.volume_machine.specs.Seals.{Seals}
 use Rattle.volume_machine.specs.Sound.{IsSound}
 use Rattle.volume_machine.specs.States.{State, IsClient, begun, open_at, size_of}
@@ -23,7 +31,8 @@ use Rattle.volume_machine.specs.declared.open.Open.{Open}
 use Rattle.volume_machine.proofs.EventEffects.{event_effects}
 use Rattle.volume_machine.proofs.Locking.{either, same_or_not, is_of-own, find-last, before-last}
 use Rattle.volume_machine.proofs.Soundness.{match_true, match_false, sound_kept}
-use Rattle.volume_laws.specs.Lanes.{AreAlone, AreMetByLanes, AreOfClients, AreSteps, IsLane, alone_in, answered_under, call_of, own_calls}
+use Rattle.volume_laws.specs.Lanes.{AreAlone, AreMetByLanes, AreOfClients, AreSteps, IsLane}
+use Rattle.volume_laws.specs.Lanes.{alone_in, answered_under, call_of, own_calls}
 use Rattle.volume_laws.proofs.Admits.{plain-other, plain-own}
 use Rattle.volume_laws.proofs.Failures.{settled_is}
 use Rattle.volume_laws.proofs.OtherLanes.{event_left}
@@ -131,7 +140,8 @@ still_agrees : {K : Type 0} (old : State K) (plain : ℕ → List ℕ) (lane : �
 still_agrees old plain lane alone map o f is same granted None at now = absurd (cc)
 still_agrees old plain lane alone map o f is same granted (Some q) at now =
     let e : o ≡ f q = cc in
-    subst (λ r. AgreeOn r map old.map) (sym (ap (λ x. x.range) e ∙ same q)) (is.map map q granted at)
+    subst (λ r. AgreeOn r map old.map) (sym (ap (λ x. x.range) e ∙ same q))
+    (is.map map q granted at)
 
 told_agrees : (range : BlockRange) (map granted now : Map) → map ≡ granted → granted ≡ now →
     AgreeOn range map now
@@ -451,7 +461,8 @@ lane_step seals old plain one alone lane sound are meets step =
           (subst (λ calls. IsLane one.after (plain_after seals old one.event one.outcome plain)
           (lane_of one.event) (alone_of old.map.atom seals (alone (lane_of one.event)) calls))
           (sym (call-own one))
-          (own_step seals old one.after plain one.event one.outcome (alone (lane_of one.event)) sound
+          (own_step seals old one.after plain one.event one.outcome (alone (lane_of one.event))
+          sound
           (are (lane_of one.event)) meets step))
       | inr other ↦ subst (λ calls. IsLane one.after
           (plain_after seals old one.event one.outcome plain) lane

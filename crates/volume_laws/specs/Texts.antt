@@ -1,6 +1,6 @@
--- The atoms of the blocks of the zone at hand, on either side, by their newest values; and those that
--- were saved.
-use Rattle.std.specs.Prelude.{ℕ, ◌+◌, List}
+-- The atoms of the blocks of the zone at hand, on either side, by their newest values; and those
+-- that were saved.
+use Rattle.std.specs.Prelude.{◌+◌, List}
 use Rattle.disk_views.specs.Parts.{value_in}
 use Rattle.disk_zones.specs.Zones.{Texts}
 use Rattle.plain_disk.specs.Plain.{Block}

@@ -1,5 +1,6 @@
 -- A volume between two events.
-use Rattle.std.specs.Prelude.{ℕ, suc, ◌≡◌, ◌<◌, ◌≤◌, false, List, Option, None, ◌≢◌, ◌*◌, Bool, length, slice_index_or, IsSomeAnd}
+use Rattle.std.specs.Prelude.{ℕ, suc, ◌≡◌, ◌<◌, ◌≤◌, false, List, Option, None, ◌≢◌, ◌*◌, Bool}
+use Rattle.std.specs.Prelude.{length, slice_index_or, IsSomeAnd}
 use Rattle.range_lock.specs.declared.Entry.{Entry}
 use Rattle.segment_map.specs.declared.map.Map.{Map}
 use Rattle.volume_machine.specs.Asks.{range_of}
@@ -9,8 +10,8 @@ use Rattle.volume_machine.specs.Works.{Work}
 use Rattle.sector_disk.specs.Devices.{Device}
 
 -- the map of its blocks, the keys of its sides, the table of locks and its room, the open operation
--- of each lane, whether a write or a sync has failed, the conversion's work, where there is a header,
--- and its disk, whose atoms are the map's
+-- of each lane, whether a write or a sync has failed, the conversion's work, where there is a
+-- header, and its disk, whose atoms are the map's
 pub record State (K : Type 0) : Type 0 where
   pub map : Map
   pub keys : K

@@ -1,5 +1,5 @@
--- A zone at hand between two events: the last lane holds its blocks, and what its calls write lies apart
--- from all other blocks.
+-- A zone at hand between two events: the last lane holds its blocks, and what its calls write lies
+-- apart from all other blocks.
 use Rattle.std.specs.Prelude.{ℕ, suc, ◌≡◌, ◌+◌, ◌<◌, ◌≤◌, false, length, Option, Some}
 use Rattle.disk_areas.specs.Areas.{Area}
 use Rattle.disk_views.specs.Views.{IsOutside}

@@ -4,10 +4,10 @@ use Rattle.block_range.specs.declared.BlockRange.{BlockRange}
 use Rattle.disk_areas.specs.Headers.{Layout}
 use Rattle.disk_zones.specs.Zones.{Hotzone, Phase}
 
--- Where the header's copies lie; the zone, how far it has come, and its blocks; and the atoms that were
--- saved of them. From the zone's first sync on, when what its blocks hold is certain, until its header
--- says that they are new, its blocks are known by its steps. Between two zones this is a zone without
--- blocks.
+-- Where the header's copies lie; the zone, how far it has come, and its blocks; and the atoms that
+-- were saved of them. From the zone's first sync on, when what its blocks hold is certain, until
+-- its header says that they are new, its blocks are known by its steps. Between two zones this is a
+-- zone without blocks.
 pub record Work : Type 0 where
   pub layout : Layout
   pub zone : Hotzone (List ℕ)
