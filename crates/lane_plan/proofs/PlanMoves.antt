@@ -1,6 +1,6 @@
 -- What a plan is told of its pieces.
 use Rattle.std.specs.Prelude.{option_map}
-use Rattle.std.proofs.Common.{◌≡◌, inl, inr, ◌+◌, ◌-◌, ◌*◌, ◌/◌, ◌^◌, ◌<◌, ◌≤◌, ℕ, List, [], ◌++◌}
+use Rattle.std.proofs.Common.{◌≡◌, inl, inr, ◌+◌, ◌-◌, ◌*◌, ◌/◌, ◌^◌, ◌<◌, ◌≤◌, ℕ, List, ◌++◌}
 use Rattle.std.proofs.Common.{length, take, Option, Some, refl, sym, ◌∙◌, ap, subst, arith}
 use Rattle.std.proofs.Common.{length-append}
 use Rattle.std.proofs.Math.Nat.{mul-div_left, mul-le-mul_right}
@@ -48,15 +48,13 @@ unfolding IsTold
 told-got seals plan buffer len
     (op, alone, _, reads map piece lent n moves reading size within, may) =
     let same = may.1 in
-    let is = may.0 in (
-      map,
-      piece,
-      record {
-        awaits = record { op = op; alone = alone; moves = rw same moves };
-        size = is ∙ size;
-        within = omega (arith, same, is, within);
-      },
-    )
+    let is = may.0 in
+    let it : AwaitsRead plan map piece (length buffer) len = record {
+      awaits = record { op = op; alone = alone; moves = rw same moves };
+      size = is ∙ size;
+      within = omega (arith, same, is, within);
+    } in
+    (map, piece, it)
 told-got seals plan buffer len (op, alone, _, _, may) = absurd may
 
 pub told-written : (seals : Seals) (plan : Plan) (buffer : List ℕ) →

@@ -1,5 +1,5 @@
 -- Lemmas on commits of a header that was loaded.
-use Rattle.std.proofs.Common.{◌≡◌, ◌↔◌, inl, inr, ℕ, ◌+◌, ◌*◌, ◌/◌, ◌%◌, ◌<◌, ◌≤◌, max, List, [], ◌++◌, length, take, drop, Some, None, Result, Ok, Err, IsOk, IfOk, is_ok, refl, sym, ◌∙◌, ap, subst, arith, length-append}
+use Rattle.std.proofs.Common.{◌≡◌, ℕ, ◌+◌, ◌*◌, ◌%◌, ◌≤◌, max, List, [], ◌++◌, length, take, Some, None, Result, Ok, Err, IsOk, IfOk, is_ok, refl, sym, ◌∙◌, ap, subst, arith, length-append}
 use Rattle.std.proofs.Math.Nat.{mul-le-mul_right}
 use Rattle.std.proofs.lemmas.List.{append-nil, take_all, take_at, drop_at}
 use Rattle.disk_sizes.specs.declared.Sizes.{Sizes}
@@ -29,7 +29,7 @@ use Rattle.luks_store.specs.declared.copies.CopyState.TheVariants.{Good}
 use Rattle.luks_store.specs.declared.copies.HeaderCopy.{HeaderCopy}
 use Rattle.luks_store.specs.declared.loaded.Stored.{Stored}
 use Rattle.sector_disk.specs.Devices.{Device}
-use Rattle.sector_disk.specs.Geometry.{IsAtom, IsInDisk}
+use Rattle.sector_disk.specs.Geometry.{IsAtom}
 
 -- a copy as it is written
 pub whole-text : Spelt → (place : ℕ) (bytes : List ℕ) (h : BinHeader) → copy_of place bytes ≡ Ok h → length bytes ≡ h.hdr_size

@@ -1,21 +1,20 @@
 -- Lemmas on what reads leave of a disk.
-use Rattle.std.proofs.Common.{◌≡◌, ◌⊎◌, inl, inr, ℕ, ◌*◌, ◌/◌, ◌%◌, ◌<◌, ◌≤◌, List, [], ◌∷◌, ◌++◌, length, take, drop, Option, Some, Result, Ok, Err, IsOk, IfErr, refl, sym, ◌∙◌, ap, subst, arith, append_assoc}
+use Rattle.std.proofs.Common.{◌≡◌, inl, inr, ℕ, ◌*◌, ◌/◌, ◌%◌, List, [], ◌∷◌, ◌++◌, length, take, drop, Option, Some, Result, Ok, Err, IsOk, IfErr, refl, sym, ◌∙◌, ap, subst, arith, append_assoc}
 use Rattle.std.specs.List.{All}
 use Rattle.std.proofs.lemmas.List.{append-nil}
 use Rattle.std.proofs.lemmas.List.Elements.{All-nil, All-cons, All-append}
-use Rattle.base_terms.specs.Causes.{Rose}
 use Rattle.base_terms.specs.declared.failed.Failed.{Failed}
-use Rattle.luks_store.specs.Devices.{IsCauseOf, IsRead, IsUnwritten, store_fault}
+use Rattle.joined_disk.specs.Joined.{Joint, joined_disk}
+use Rattle.joined_disk.specs.JoinedCalls.{JointRead}
+use Rattle.luks_store.specs.Devices.{IsRead, IsUnwritten, KeepsBytes}
 use Rattle.luks_store.proofs.PageLemmas.{page-place}
 use Rattle.luks_store.specs.Loads.{HasCause, IsNoRead, Says}
 use Rattle.luks_store.specs.Used.{Refusal}
-use Rattle.luks_store.specs.declared.fault.ReadFault.{ReadFault}
-use Rattle.luks_store.specs.declared.fault.ReadFault.TheVariants.{Memory, Device}
 use Rattle.luks_store.specs.declared.fault.StoreFault.{StoreFault}
 use Rattle.luks_store.specs.declared.fault.StoreFault.TheVariants as faults
 use Rattle.sector_disk.specs.Geometry.{IsAtom}
 use Rattle.sector_disk.specs.Cells.{Cell}
-use Rattle.sector_disk.specs.Devices.{ReadCall}
+use Rattle.sector_disk.specs.Devices.{ReadCall, marked}
 use Rattle.sector_disk.specs.Devices.{Device as disk_type}
 use Rattle.sector_disk.specs.Steps.{Told, IsKept, IsMoved, TellsRead}
 
@@ -51,20 +50,49 @@ told-since old new (Ok done) tells now is = let (before, was, moved) = tells now
 told-since old new (Err failed) (inl same) now is = (now, sym same ∙ is, read-none now)
 told-since old new (Err failed) (inr tells) now is = let (before, was, moved) = tells now is in (before, was, read-moved before now moved)
 
-pub unwritten-none : (d : disk_type) → IsUnwritten d d
-unwritten-none d = record { size = refl; atoms = refl; values = refl; told = λ now is. (now, is, read-none now); later = omega arith }
+keeps-none : (d : disk_type) → KeepsBytes d d
+keeps-none d = record { size = refl; atoms = refl; values = refl }
 
-pub unwritten-call : (atom at : ℕ) (bytes : List ℕ) (old new : disk_type) (result : Result (Unit {0}) Failed)
-    → ReadCall atom at bytes old new result → IsUnwritten old new
-unwritten-call atom at bytes old new result call = record {
-  size = call.size;
-  atoms = call.atoms;
-  values = call.values;
-  told = told-since old.told new.told result call.told;
-  later = call.cause.later;
+keeps-same : (old new : disk_type) → new ≡ old → KeepsBytes old new
+keeps-same old new same = subst (KeepsBytes old) (sym same) (keeps-none old)
+
+keeps-marked : (size at number : ℕ) (bytes : List ℕ) (old new : disk_type) (result : Result (Unit {0}) Failed)
+    → ReadCall size at bytes (marked old number) new result → KeepsBytes old new
+keeps-marked size at number bytes old new result call =
+    record { size = call.size; atoms = call.atoms; values = call.values }
+
+keeps-joined : (a b c : disk_type) → KeepsBytes a b → KeepsBytes b c → KeepsBytes a c
+keeps-joined a b c first later = record {
+  size = later.size ∙ first.size;
+  atoms = later.atoms ∙ first.atoms;
+  values = later.values ∙ first.values;
 }
 
-pub unwritten-joined : (a b c : disk_type) → IsUnwritten a b → IsUnwritten b c → IsUnwritten a c
+-- a read of two joined disks leaves what each of them holds
+keeps-both : (at : ℕ) (bytes : List ℕ) (old new : Joint) (result : Result (Unit {0}) Failed)
+    → JointRead at bytes old new result → KeepsBytes old.head new.head × KeepsBytes old.main new.main
+keeps-both at bytes old new result each = elim each [
+  | inl (empty, same, call) ↦ (keeps-same old.head new.head same, keeps-marked _ _ _ _ old.main new.main _ call)
+  | inr (inl (done, same, call)) ↦ (keeps-marked _ _ _ _ old.head new.head _ call, keeps-same old.main new.main same)
+  | inr (inr (front, back)) ↦ (keeps-marked _ _ _ _ old.head new.head _ front, keeps-marked _ _ _ _ old.main new.main _ back)
+]
+
+pub unwritten-call : (atom at : ℕ) (bytes : List ℕ) (old new : Joint) (result : Result (Unit {0}) Failed)
+    → ReadCall atom at bytes (joined_disk old) (joined_disk new) result → JointRead at bytes old new result
+    → IsUnwritten old new
+unwritten-call atom at bytes old new result call each =
+    let both = keeps-both at bytes old new result each in
+    record {
+      size = call.size;
+      atoms = call.atoms;
+      values = call.values;
+      told = told-since (joined_disk old).told (joined_disk new).told result call.told;
+      later = call.cause.later;
+      head = both.0;
+      main = both.1;
+    }
+
+pub unwritten-joined : (a b c : Joint) → IsUnwritten a b → IsUnwritten b c → IsUnwritten a c
 unwritten-joined a b c first later = record {
   size = later.size ∙ first.size;
   atoms = later.atoms ∙ first.atoms;
@@ -72,28 +100,9 @@ unwritten-joined a b c first later = record {
   told = λ now is. (let (mid, of_mid, reads) = later.told now is in let (before, was, earlier) = first.told mid of_mid in
       (before, was, read-joined before mid now earlier reads));
   later = (let one = first.later in let two = later.later in omega (arith, one, two));
+  head = keeps-joined a.head b.head c.head first.head later.head;
+  main = keeps-joined a.main b.main c.main first.main later.main;
 }
-
--- a count that rose
-rose-later : (a b c : ℕ) → a ≤ b → Rose b c → Rose a c
-rose-later a b c le (inl rose) = inl (omega (arith, le, rose))
-rose-later a b c le (inr full) = inr full
-
-pub cause-call : (atom at : ℕ) (bytes : List ℕ) (old new : disk_type) (failed : Failed)
-    → ReadCall atom at bytes old new (Err failed) → IsCauseOf old new Device
-cause-call atom at bytes old new failed call = call.cause.failed refl
-
-pub cause-later : (a b c : disk_type) (fault : ReadFault) → IsUnwritten a b → IsCauseOf b c fault → IsCauseOf a c fault
-cause-later a b c Memory first cause = tt
-cause-later a b c Device first cause = rose-later a.faults b.faults c.faults first.later cause
-
-pub store-cause : (old new : disk_type) (fault : ReadFault) → IsCauseOf old new fault → HasCause old new (store_fault fault)
-store-cause old new Memory cause = tt
-store-cause old new Device cause = cause
-
-pub store-says : {X : Type 0} (fault : ReadFault) (held : Result X Refusal) → Says (store_fault fault) held
-store-says Memory held = tt
-store-says Device held = tt
 
 -- a fault of what was read is no read
 pub cause-judged : (old new : disk_type) (fault : StoreFault) → IsNoRead fault → HasCause old new fault

@@ -1,9 +1,9 @@
 -- Lemmas on the copy that is used, as the header that a disk's bytes have.
-use Rattle.std.proofs.Common.{◌≡◌, ◌↔◌, ◌≢◌, ◌⊎◌, inl, inr, ℕ, zero, suc, ◌+◌, ◌-◌, ◌<◌, ◌≤◌, nat_lt, List, [], ◌∷◌, length, take, drop, Option, Some, None, Bool, true, false, Result, Ok, Err, refl, sym, ◌∙◌, ap, subst, arith}
+use Rattle.std.proofs.Common.{◌≡◌, inl, inr, ℕ, ◌<◌, ◌≤◌, nat_lt, List, length, take, drop, Option, Some, None, Bool, true, false, Result, Ok, Err, refl, sym, ◌∙◌, ap, subst, arith}
 use Rattle.std.specs.Str.{bytes_eq}
 use Rattle.std.proofs.lemmas.Bool.{ltb-true, ltb-false}
 use Rattle.std.proofs.lemmas.Slice.Eq.{bytes_eq-Decides}
-use Rattle.disk_areas.specs.Headers.{found, Gives, HasNoneBelow, IsNotNewer}
+use Rattle.disk_areas.specs.Headers.{found, Gives}
 use Rattle.luks_bin.proofs.FieldLemmas.{size-least}
 use Rattle.luks_bin.specs.Copies.{copy_of, ◌>>=◌}
 use Rattle.luks_bin.specs.declared.header.BinFault.{BinFault}
@@ -11,9 +11,8 @@ use Rattle.luks_bin.specs.declared.header.BinHeader.{BinHeader}
 use Rattle.luks_copies.proofs.MeaningLemmas.{seqid_is, size_is}
 use Rattle.luks_copies.specs.Meanings.{header_reader, meaning_at, meaning_if, meaning_of, seqid_in, size_in}
 use Rattle.luks_store.proofs.CopyLemmas.{Spelt, whole-from}
-use Rattle.luks_store.proofs.UsedLemmas.{same-size}
 use Rattle.luks_store.specs.Found.{copy_at, copy_from, IsWholeAt}
-use Rattle.luks_store.specs.Used.{at_farther, at_nearest, beside, copies_by, copies_in, differ, farther, kept, nearest, newer_of, no_header, primary_alone, secondary_alone, Refusal}
+use Rattle.luks_store.specs.Used.{beside, differ, kept, newer_of, Refusal}
 use Rattle.luks_store.specs.declared.copies.Copies.{Copies}
 use Rattle.luks_store.specs.declared.copies.CopyState.TheVariants.{Good, Older}
 use Rattle.luks_store.specs.declared.copies.HeaderCopy.{HeaderCopy}

@@ -1,9 +1,8 @@
 -- Lemmas on headers that are loaded by what they mean.
-use Rattle.std.proofs.Common.{◌≡◌, ◌⊎◌, inl, inr, ℕ, List, drop, Option, Some, None, Result, Ok, Err, refl, sym, ◌∙◌, ap, subst, arith}
-use Rattle.disk_areas.specs.Headers.{Gives}
+use Rattle.std.proofs.Common.{◌≡◌, ℕ, List, drop, Option, Some, None, Result, Ok, Err, refl, sym, ◌∙◌, ap, subst}
 use Rattle.disk_sizes.specs.declared.Sizes.{Sizes}
 use Rattle.luks_bin.specs.declared.header.BinFault.{BinFault}
-use Rattle.luks_copies.specs.Meanings.{header_reader, meaning_of}
+use Rattle.luks_copies.specs.Meanings.{meaning_of}
 use Rattle.luks_copies.specs.Promises.{MeanTheSame}
 use Rattle.luks_json.specs.declared.meta.Parts.{Parts}
 use Rattle.luks_rules.specs.Rules.{first_fault}
@@ -14,9 +13,9 @@ use Rattle.luks_store.proofs.PlaceLemmas.{alone, first-is, places}
 use Rattle.luks_store.proofs.TextLemmas.{meta-same}
 use Rattle.luks_store.proofs.UsesLemmas.{given-used}
 use Rattle.luks_store.specs.Found.{copy_at, IsWholeAt}
-use Rattle.luks_store.specs.Loads.{judged, objects_in, stored_in, unless, IsStored, ◌>>=◌}
+use Rattle.luks_store.specs.Loads.{judged, objects_in, stored_in, unless, ◌>>=◌}
 use Rattle.luks_store.specs.Promises.{LoadsByMeaning}
-use Rattle.luks_store.specs.Used.{at_nearest, beside, copies_by, copies_in, nearest, newer_of, rule, Refusal}
+use Rattle.luks_store.specs.Used.{beside, copies_by, copies_in, nearest, newer_of, rule, Refusal}
 use Rattle.luks_store.specs.declared.copies.Copies.{Copies}
 use Rattle.luks_store.specs.declared.copies.HeaderCopy.{HeaderCopy}
 use Rattle.luks_store.specs.declared.loaded.Stored.{Stored}

@@ -1,11 +1,11 @@
 -- Lemmas on whole pages of 4096 bytes: they are whole atoms, and so are the nine sizes.
-use Rattle.std.proofs.Common.{◌≡◌, inl, inr, ℕ, zero, suc, ◌+◌, ◌*◌, ◌/◌, ◌%◌, ◌<◌, ◌≤◌, ◌==◌, ◌&&◌, nat_lt, List, [], ◌∷◌, length, get_or, true, refl, sym, ap, ◌∙◌, subst, arith}
+use Rattle.std.proofs.Common.{◌≡◌, inl, inr, ℕ, zero, suc, ◌*◌, ◌/◌, ◌%◌, ◌<◌, ◌≤◌, ◌==◌, ◌&&◌, nat_lt, List, [], ◌∷◌, length, get_or, true, refl, sym, ap, ◌∙◌, arith}
 use Rattle.std.specs.List.{list_any, list_all}
 use Rattle.std.proofs.Math.Nat.{mul-le-mul_right}
 use Rattle.std.proofs.lemmas.Bool.{eqb-true, ltb-true, or_cases, and_parts}
 use Rattle.luks_bin.specs.Fields.{sizes, is_size}
 use Rattle.luks_store.specs.Devices.{are_pages}
-use Rattle.sector_disk.specs.Geometry.{IsAtom, IsInDisk}
+use Rattle.sector_disk.specs.Geometry.{IsAtom}
 
 pages-of : (n : ℕ) (xs : List ℕ) → list_all (λ x. x % 4096 == 0) xs ≡ true → list_any (λ x. x == n) xs ≡ true → n % 4096 ≡ 0
 pages-of n [] all any = cc
@@ -27,15 +27,6 @@ page-atoms atom n (inr is) page = rw is page
 pub page-place : (atom n : ℕ) → IsAtom atom → n % 4096 ≡ 0 → n / atom * atom ≡ n
 page-place atom n (inl is) page = rw is (omega (arith, page))
 page-place atom n (inr is) page = rw is (omega (arith, page))
-
--- whole pages of a disk in front of others
-pub in-disk : (atom atoms size header place len : ℕ) → IsAtom atom → atom ≡ size → header ≤ atoms → place % 4096 ≡ 0
-    → len % 4096 ≡ 0 → place + len ≤ header * atom → IsInDisk size atoms (place / atom) len
-in-disk atom atoms size header place len known same fewer place_page len_page within =
-    let most : header * atom ≤ atoms * atom = mul-le-mul_right atom fewer in
-    let at = page-place atom place known place_page in
-    subst (λ s. IsInDisk s atoms (place / atom) len) same
-    (record { whole = page-atoms atom len known len_page; within = omega (arith, at, most, within) })
 
 -- the front of a disk is in its bytes
 pub front-within : (atom atoms header : ℕ) (all : List ℕ) → header ≤ atoms → length all ≡ atoms * atom → header * atom ≤ length all

@@ -1,13 +1,13 @@
 -- Lemmas on the nine places of a secondary: the first copy there counts, and the bytes have no other.
-use Rattle.std.proofs.Common.{◌≡◌, ◌⊎◌, inl, inr, ℕ, zero, suc, ◌<◌, ◌≤◌, ◌==◌, ◌&&◌, nat_lt, List, [], ◌∷◌, drop, Option, Some, None, Bool, true, false, Result, Ok, Err, refl, sym, ◌∙◌, ap, subst, arith}
+use Rattle.std.proofs.Common.{◌≡◌, inl, inr, ℕ, zero, suc, ◌<◌, ◌==◌, ◌&&◌, nat_lt, List, [], ◌∷◌, drop, Option, Some, None, Bool, true, Result, Ok, Err, refl, sym, ◌∙◌, ap, subst, arith}
 use Rattle.std.specs.List.{list_all, list_any}
 use Rattle.std.proofs.lemmas.Bool.{eqb-true, ltb-true, or_cases, and_parts}
-use Rattle.disk_areas.specs.Headers.{found, Gives, HasNoneBelow}
+use Rattle.disk_areas.specs.Headers.{found, Gives}
 use Rattle.luks_bin.specs.Copies.{copy_of}
 use Rattle.luks_bin.specs.Fields.{is_size}
 use Rattle.luks_bin.specs.declared.header.BinFault.{BinFault}
 use Rattle.luks_copies.specs.Meanings.{header_reader, meaning_of}
-use Rattle.luks_store.proofs.CopyLemmas.{Spelt, found-here, found-later, found-none, whole-behind}
+use Rattle.luks_store.proofs.CopyLemmas.{Spelt, found-here, found-later, whole-behind}
 use Rattle.luks_store.proofs.GivenLemmas.{Newer, is_first, is_second, are_same, are_other, newer, copy-found, copy-whole, fault-of, given-beside, none-found, ok-is, sized-by}
 use Rattle.luks_store.specs.Found.{copy_at, or_later, first_at, IsWholeBehind}
 use Rattle.luks_store.specs.Promises.{NoneStands, UsedIsGiven}

@@ -1,5 +1,5 @@
 -- Lemmas on the repair of a header that was loaded.
-use Rattle.std.proofs.Common.{◌≡◌, ◌≢◌, ◌⊎◌, inl, inr, ℕ, ◌<◌, ◌≤◌, List, length, take, Result, Ok, Err, refl, sym, ◌∙◌, ap, subst, arith}
+use Rattle.std.proofs.Common.{◌≡◌, ◌≢◌, ◌⊎◌, inl, inr, ℕ, length, Ok, refl, sym, ◌∙◌, subst, arith}
 use Rattle.std.proofs.lemmas.List.{take_all}
 use Rattle.disk_areas.specs.Headers.{IsHeader}
 use Rattle.luks_bin.specs.Copies.{copy_of, IsCopy}
@@ -11,7 +11,6 @@ use Rattle.luks_copies.specs.declared.repair.Repair.{Repair}
 use Rattle.luks_copies.specs.declared.repair.RepairStage.TheVariants.{Broken}
 use Rattle.luks_store.proofs.CopyLemmas.{Spelt}
 use Rattle.luks_store.specs.Commits.{Repairs}
-use Rattle.luks_store.specs.Found.{IsWholeAt}
 use Rattle.luks_store.specs.Used.{AreCopies}
 use Rattle.luks_store.specs.declared.copies.Copies.{Copies}
 use Rattle.luks_store.specs.declared.copies.CopyState.TheVariants.{Good}

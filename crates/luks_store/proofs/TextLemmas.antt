@@ -1,20 +1,17 @@
 -- Lemmas on copies that mean the same: they hold the same text.
-use Rattle.std.proofs.Common.{◌≡◌, ◌⊎◌, inr, ℕ, ◌+◌, ◌-◌, ◌<◌, ◌≤◌, List, length, drop, Result, sym, ◌∙◌, ap, arith, length-drop}
+use Rattle.std.proofs.Common.{◌≡◌, inr, ℕ, ◌+◌, ◌-◌, List, length, drop, sym, ◌∙◌, ap, arith, length-drop}
 use Rattle.std.proofs.lemmas.List.{ext_get_or, get_or-drop}
-use Rattle.json_members.specs.declared.faults.JsonFault.{JsonFault}
 use Rattle.luks_bin.proofs.FieldLemmas.{size-least}
 use Rattle.luks_bin.specs.Copies.{text_of, up_to_nul}
 use Rattle.luks_bin.specs.Shares.{Agree}
-use Rattle.luks_copies.specs.Meanings.{meaning_of, size_in}
+use Rattle.luks_copies.specs.Meanings.{size_in}
 use Rattle.luks_copies.specs.Promises.{MeanTheSame}
 use Rattle.luks_json.specs.Metas.{meta_from}
 use Rattle.luks_json.specs.declared.meta.Parts.{Parts}
 use Rattle.luks_store.proofs.GivenLemmas.{sized-by}
-use Rattle.luks_store.specs.Found.{IsWholeAt}
-use Rattle.luks_store.specs.Loads.{because, objects_in}
+use Rattle.luks_store.specs.Loads.{because}
 use Rattle.luks_store.specs.Promises.{MetaByMeaning}
 use Rattle.luks_store.specs.Used.{text}
-use Rattle.luks_store.specs.declared.copies.HeaderCopy.{HeaderCopy}
 
 text-same : (a b : List ℕ) → length a ≡ length b → Agree a b → text_of a ≡ text_of b
 unfolding text_of Agree

@@ -1,5 +1,5 @@
 -- Lemmas on which of two copies is used.
-use Rattle.std.proofs.Common.{◌≡◌, ◌↔◌, ◌≢◌, ◌⊎◌, inl, inr, ℕ, ◌<◌, ◌≤◌, nat_lt, List, length, Bool, true, false, Result, Ok, Err, refl, sym, ◌∙◌, ap, subst, arith}
+use Rattle.std.proofs.Common.{◌≡◌, ◌≢◌, inl, inr, ℕ, ◌≤◌, nat_lt, length, Bool, true, false, Ok, Err, refl, sym, ◌∙◌, ap, arith}
 use Rattle.std.specs.Str.{bytes_eq}
 use Rattle.std.proofs.lemmas.Bool.{le-ltb}
 use Rattle.std.proofs.lemmas.Slice.Eq.{bytes_eq-Decides}
@@ -8,10 +8,10 @@ use Rattle.luks_bin.specs.Shares.{Agree, DifferFirst}
 use Rattle.luks_copies.specs.Meanings.{meaning_of}
 use Rattle.luks_copies.specs.Promises.{MeanTheSame}
 use Rattle.luks_store.specs.Found.{IsWholeAt, IsWholeBehind}
-use Rattle.luks_store.specs.Used.{differ, kept, newer_of, Refusal, AreCopies}
+use Rattle.luks_store.specs.Used.{differ, kept, newer_of, AreCopies}
 use Rattle.luks_store.specs.declared.copies.Copies.{Copies}
 use Rattle.luks_store.specs.declared.copies.CopyPlace.{CopyPlace}
-use Rattle.luks_store.specs.declared.copies.CopyState.TheVariants.{Good, Older, Lacking}
+use Rattle.luks_store.specs.declared.copies.CopyState.TheVariants.{Good, Older}
 use Rattle.luks_store.specs.declared.copies.HeaderCopy.{HeaderCopy}
 
 -- a secondary at a primary's size has that size
@@ -63,10 +63,6 @@ differing mean first second at one two a b differ_at = both-differ first second 
     (unequal _ (λ same. differ_at.differ
     ((mean first.bytes second.bytes (some-long first one) (same-length first second one two)).0
     ((bytes_eq-Decides (meaning_of first.bytes) (meaning_of second.bytes)).0 same) at differ_at.is_shared)))
-
--- ---- the copy that is used stands at its place
-pub primary-stands : (copies : Copies) → copies.primary.state ≡ Good → IsWholeAt 0 copies.used → AreCopies copies
-primary-stands copies good is = record { whole = is.whole; stands = inl (good, is.here) }
 
 pub secondary-stands : (copies : Copies) → copies.primary.state ≢ Good → copies.secondary.state ≡ Good → IsWholeBehind copies.used
     → AreCopies copies

@@ -1,16 +1,15 @@
 -- Lemmas on headers that a disk's bytes have: they are used.
-use Rattle.std.proofs.Common.{◌≡◌, ◌⊎◌, inl, inr, ℕ, ◌<◌, ◌≤◌, ◌==◌, ◌&&◌, nat_lt, List, [], ◌∷◌, drop, Option, Some, None, Bool, true, false, Result, Ok, Err, refl, sym, ◌∙◌, ap, subst, arith}
+use Rattle.std.proofs.Common.{◌≡◌, inl, inr, ℕ, ◌<◌, ◌==◌, nat_lt, List, [], ◌∷◌, drop, Some, None, true, Result, Ok, Err, refl, sym, ◌∙◌, ap, subst, arith}
 use Rattle.std.specs.List.{list_all}
 use Rattle.std.proofs.lemmas.Bool.{eqb-true, ltb-true, or_cases, and_parts}
-use Rattle.disk_areas.specs.Headers.{found, Gives, HasNoneBelow, IsNotNewer}
-use Rattle.luks_bin.proofs.FieldLemmas.{size-least}
+use Rattle.disk_areas.specs.Headers.{found, HasNoneBelow, IsNotNewer}
 use Rattle.luks_bin.specs.Fields.{is_size}
 use Rattle.luks_bin.specs.declared.header.BinFault.{BinFault}
 use Rattle.luks_copies.specs.Meanings.{header_reader, meaning_of, seqid_in, size_in}
-use Rattle.luks_store.proofs.CopyLemmas.{Spelt, found-here, found-later, whole-behind}
+use Rattle.luks_store.proofs.CopyLemmas.{Spelt, found-here, found-later}
 use Rattle.luks_store.proofs.GivenLemmas.{Newer, is_first, is_second, are_same, are_other, Both, both, copy-found, copy-whole, inside, newer, none-found, numbered-by, sized-by}
 use Rattle.luks_store.proofs.PlaceLemmas.{above, are_some, holds, is_rising, places, some-is, StandsNone}
-use Rattle.luks_store.specs.Found.{copy_at, first_at, IsWholeAt}
+use Rattle.luks_store.specs.Found.{copy_at, first_at}
 use Rattle.luks_store.specs.Promises.{GivenIsUsed}
 use Rattle.luks_store.specs.Used.{at_farther, at_nearest, beside, copies_by, copies_in, farther, nearest, primary_alone, secondary_alone}
 use Rattle.luks_store.specs.declared.copies.Copies.{Copies}

@@ -4,7 +4,7 @@ use Rattle.std.specs.List.{All, list_all}
 use Rattle.base_terms.specs.Causes.{Rose}
 use Rattle.disk_sizes.specs.declared.Sizes.{Sizes}
 use Rattle.joined_disk.specs.Counts.{joint_in}
-use Rattle.joined_disk.specs.Joined.{joined_disk}
+use Rattle.joined_disk.specs.Joined.{Joint, joined_disk}
 use Rattle.joined_disk.specs.declared.joined.JoinedDisk.{JoinedDisk}
 use Rattle.luks_rules.specs.Areas.{header_bytes}
 use Rattle.luks_store.specs.declared.fault.ReadFault.{ReadFault}
@@ -32,13 +32,23 @@ pub record IsRead (before now : Told) : Type 0 where
   pub past : now.past ≡ before.past ++ more
   pub same : All (λ table. table.1 ≡ before.now) more
 
--- Nothing was written: what the disk holds is as before, and so is each table that it tells since.
-pub record IsUnwritten (old new : disk_type) : Type 0 where
+-- what one disk holds stands
+pub record KeepsBytes (old new : disk_type) : Type 0 where
   pub size : new.size ≡ old.size
   pub atoms : new.atoms ≡ old.atoms
   pub values : new.values ≡ old.values
-  pub told : (now : Told) → new.told ≡ Some now → (before : Told) × (old.told ≡ Some before) × IsRead before now
-  pub later : old.faults ≤ new.faults
+
+-- Nothing was written to two joined disks: what both hold as one is as before, and so is each table that they
+-- tell since; and what each of them holds.
+pub record IsUnwritten (old new : Joint) : Type 0 where
+  pub size : (joined_disk new).size ≡ (joined_disk old).size
+  pub atoms : (joined_disk new).atoms ≡ (joined_disk old).atoms
+  pub values : (joined_disk new).values ≡ (joined_disk old).values
+  pub told : (now : Told) → (joined_disk new).told ≡ Some now
+      → (before : Told) × ((joined_disk old).told ≡ Some before) × IsRead before now
+  pub later : (joined_disk old).faults ≤ (joined_disk new).faults
+  pub head : KeepsBytes old.head new.head
+  pub main : KeepsBytes old.main new.main
 
 -- a read failed only where the count of the disk's faults rose
 abbrev pub IsCauseOf : disk_type → disk_type → ReadFault → Type 0

@@ -1,5 +1,5 @@
 -- The copies that stand on a disk.
-use Rattle.std.specs.Prelude.{◌≡◌, ℕ, ◌%◌, List, [], ◌∷◌, take, drop, Option, Some, None, Result, Ok, Err}
+use Rattle.std.specs.Prelude.{◌≡◌, ℕ, List, [], ◌∷◌, take, drop, Option, Some, None, Result, Ok, Err}
 use Rattle.luks_bin.specs.Copies.{copy_of, IsCopy, ◌>>=◌}
 use Rattle.luks_bin.specs.declared.header.BinFault.{BinFault}
 use Rattle.luks_store.specs.declared.copies.HeaderCopy.{HeaderCopy}

@@ -2,7 +2,7 @@
 
 ghost use Rattle.std.specs.Prelude.{◌≡◌, ◌<◌, ℕ, List, Some, IfErr, IfOk};
 ghost use Rattle.disk_sizes.specs.declared.Sizes.{Sizes as sizes_type};
-ghost use Rattle.joined_disk.specs.Counts.{sizes_of};
+ghost use Rattle.joined_disk.specs.Counts.{joint_in, sizes_of};
 ghost use Rattle.luks_store.specs.Devices.{device_of, front_of, IsUnwritten};
 ghost use Rattle.luks_store.specs.Loads.{judged, stored_in, Answers, HasCause, IsNoRead};
 ghost use Rattle.luks_store.specs.Used.{AreCopies};
@@ -83,7 +83,7 @@ pub fn load<D: Disk>(alloc: Global, disk: &mut JoinedDisk<D>) -> Result<Loaded, 
     ensures held { (all : List ℕ) → (device_of disk.old).values ≡ Some all → Answers result
         (stored_in (sizes_of disk.old) (front_of (sizes_of disk.old) all)) }
     ensures sized { IfOk result (λ loaded. loaded.valid.sizes ≡ sizes_of disk.old) }
-    ensures unwritten { IsUnwritten (device_of disk.old) (device_of disk.new) }
+    ensures unwritten { IsUnwritten (joint_in disk.old) (joint_in disk.new) }
     ensures sizes { sizes_of disk.new ≡ sizes_of disk.old }
     ensures cause { IfErr result (λ fault. HasCause (device_of disk.old) (device_of disk.new) fault) }
 {

@@ -1,7 +1,7 @@
 // Copies as they are read from a disk.
 
 ghost use Rattle.std.specs.Prelude.{◌≡◌, ◌+◌, ◌%◌, ◌≤◌, ℕ, List, length, take, drop, Some, IfErr, IfOk, IfSome, IsTrue};
-ghost use Rattle.joined_disk.specs.Counts.{sizes_of};
+ghost use Rattle.joined_disk.specs.Counts.{joint_in, sizes_of};
 ghost use Rattle.luks_rules.specs.Areas.{header_bytes};
 ghost use Rattle.luks_store.specs.Devices.{are_pages, device_of, front_of, IsCauseOf, IsUnwritten};
 ghost use Rattle.luks_store.specs.Found.{copy_at, copy_from, first_at, IsWholeAt, IsWholeBehind};
@@ -30,7 +30,7 @@ fn read_bytes<D: Disk>(
     ensures bytes { IfOk result (λ bytes. (all : List ℕ) → (device_of disk.old).values ≡ Some all
         → bytes ≡ take len (drop place all)) }
     ensures length { IfOk result (λ bytes. length bytes ≡ len) }
-    ensures unwritten { IsUnwritten (device_of disk.old) (device_of disk.new) }
+    ensures unwritten { IsUnwritten (joint_in disk.old) (joint_in disk.new) }
     ensures sizes { sizes_of disk.new ≡ sizes_of disk.old }
     ensures cause { IfErr result (λ fault. IsCauseOf (device_of disk.old) (device_of disk.new) fault) }
 {
@@ -77,7 +77,7 @@ pub(crate) fn read_at<D: Disk>(
     ensures found { IfOk result (λ found. (all : List ℕ) → (device_of disk.old).values ≡ Some all
         → found ≡ copy_at place (front_of (sizes_of disk.old) all)) }
     ensures whole { IfOk result (λ found. IfOk found (IsWholeAt place)) }
-    ensures unwritten { IsUnwritten (device_of disk.old) (device_of disk.new) }
+    ensures unwritten { IsUnwritten (joint_in disk.old) (joint_in disk.new) }
     ensures sizes { sizes_of disk.new ≡ sizes_of disk.old }
     ensures cause { IfErr result (λ fault. IsCauseOf (device_of disk.old) (device_of disk.new) fault) }
 {
@@ -113,7 +113,7 @@ pub(crate) fn read_first<D: Disk>(
     ensures found { IfOk result (λ found. (all : List ℕ) → (device_of disk.old).values ≡ Some all
         → found ≡ first_at places.now (front_of (sizes_of disk.old) all)) }
     ensures whole { IfOk result (λ found. IfSome found IsWholeBehind) }
-    ensures unwritten { IsUnwritten (device_of disk.old) (device_of disk.new) }
+    ensures unwritten { IsUnwritten (joint_in disk.old) (joint_in disk.new) }
     ensures sizes { sizes_of disk.new ≡ sizes_of disk.old }
     ensures cause { IfErr result (λ fault. IsCauseOf (device_of disk.old) (device_of disk.new) fault) }
 {

@@ -1,7 +1,7 @@
 // Which of the two copies is used.
 
 ghost use Rattle.std.specs.Prelude.{◌≡◌, ℕ, List, Some, IfErr, IfOk};
-ghost use Rattle.joined_disk.specs.Counts.{sizes_of};
+ghost use Rattle.joined_disk.specs.Counts.{joint_in, sizes_of};
 ghost use Rattle.luks_store.specs.Devices.{device_of, front_of, IsUnwritten};
 ghost use Rattle.luks_store.specs.Found.{copy_at, IsWholeAt, IsWholeBehind};
 ghost use Rattle.luks_store.specs.Loads.{Answers, HasCause, IsNoRead};
@@ -112,7 +112,7 @@ fn read_beside<D: Disk>(
     ensures used { (all : List ℕ) → (device_of disk.old).values ≡ Some all → Answers result
         (beside first (copy_at first.header.hdr_size (front_of (sizes_of disk.old) all))) }
     ensures are { IfOk result AreCopies }
-    ensures unwritten { IsUnwritten (device_of disk.old) (device_of disk.new) }
+    ensures unwritten { IsUnwritten (joint_in disk.old) (joint_in disk.new) }
     ensures sizes { sizes_of disk.new ≡ sizes_of disk.old }
     ensures cause { IfErr result (λ fault. HasCause (device_of disk.old) (device_of disk.new) fault) }
 {
@@ -133,7 +133,7 @@ fn read_behind<D: Disk>(
         (at_nearest fault (front_of (sizes_of disk.old) all)
         (copy_at nearest (front_of (sizes_of disk.old) all))) }
     ensures are { IfOk result AreCopies }
-    ensures unwritten { IsUnwritten (device_of disk.old) (device_of disk.new) }
+    ensures unwritten { IsUnwritten (joint_in disk.old) (joint_in disk.new) }
     ensures sizes { sizes_of disk.new ≡ sizes_of disk.old }
     ensures cause { IfErr result (λ fault. HasCause (device_of disk.old) (device_of disk.new) fault) }
 {
@@ -162,7 +162,7 @@ pub(crate) fn read_copies<D: Disk>(
     ensures used { (all : List ℕ) → (device_of disk.old).values ≡ Some all →
         Answers result (copies_in (front_of (sizes_of disk.old) all)) }
     ensures are { IfOk result AreCopies }
-    ensures unwritten { IsUnwritten (device_of disk.old) (device_of disk.new) }
+    ensures unwritten { IsUnwritten (joint_in disk.old) (joint_in disk.new) }
     ensures sizes { sizes_of disk.new ≡ sizes_of disk.old }
     ensures cause { IfErr result (λ fault. HasCause (device_of disk.old) (device_of disk.new) fault) }
 {

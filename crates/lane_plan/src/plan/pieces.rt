@@ -27,6 +27,7 @@ impl Plan {
     ghost use Rattle.lane_plan.specs.declared.calls.Next.TheVariants as Nexts;
 
     /// The next call of an operation all of whose pieces so far were made.
+    #[inline(always)]
     pub(super) fn go_on<C: SectorCipher>(&mut self, keys: &Keys<C>, map: Map) -> Call
         requires fits { KeysFit C.sector keys.now self.old.shape.atom self.old.shape.blocks }
         requires back { (op : Op) × (alone : Alone) × IsBack self.old op alone map }
@@ -56,6 +57,7 @@ impl Plan {
     }
 
     /// The call after all pieces.
+    #[inline(always)]
     fn last_call(&mut self) -> Call
         requires all { self.old.operation.next ≡ self.old.operation.range.end }
         ensures awaits { (seals : Seals) (op : Op) (alone : Alone) (map : Map) →
@@ -82,6 +84,7 @@ impl Plan {
     }
 
     /// The buffer of a piece: the whole one where it is all of the operation.
+    #[inline(always)]
     fn lent(&mut self, piece: Piece) -> Buffer
         requires { self.old.operation.range.start ≤ self.old.operation.range.end }
         ensures part { IsPart self.old.operation piece → (result ≡ self.old.part)
@@ -97,6 +100,7 @@ impl Plan {
     }
 
     /// The next piece of a body, which begins at byte `from` of it, sealed.
+    #[inline(always)]
     fn prepared<C: SectorCipher>(
         &mut self,
         keys: &Keys<C>,
@@ -128,6 +132,7 @@ impl Plan {
     }
 
     /// The buffer of a piece of a body, with its bytes at the front.
+    #[inline(always)]
     fn filled(&mut self, piece: Piece, from: usize, len: usize) -> Buffer
         requires order { self.old.operation.range.start ≤ self.old.operation.range.end }
         requires small { from + len < 2 ^ 63 }
@@ -158,6 +163,7 @@ impl Plan {
     }
 
     /// The next call once a piece was read.
+    #[inline(always)]
     pub(super) fn got<C: SectorCipher>(
         &mut self,
         keys: &Keys<C>,
@@ -186,6 +192,7 @@ impl Plan {
 
     /// Puts an opened piece behind those before it. One that is all of the operation lies where it
     /// is to.
+    #[inline(always)]
     fn take_in(&mut self, piece: Piece, buffer: Buffer, len: usize)
         requires order { self.old.operation.range.start ≤ self.old.operation.range.end }
         requires front { len ≤ length buffer }
@@ -206,6 +213,7 @@ impl Plan {
     }
 
     /// The next call once a piece was written.
+    #[inline(always)]
     pub(super) fn written<C: SectorCipher>(&mut self, keys: &Keys<C>, buffer: Buffer) -> Call
         requires fits { KeysFit C.sector keys.now self.old.shape.atom self.old.shape.blocks }
         requires told { IsTold (seals_of C.sealed C.opened self.old.shape.atom keys.now)
@@ -226,6 +234,7 @@ impl Plan {
     }
 
     /// Keeps the buffer of a piece that was written.
+    #[inline(always)]
     fn put_back(&mut self, piece: Piece, buffer: Buffer)
         requires { self.old.operation.range.start ≤ self.old.operation.range.end }
         ensures part { IsPart self.old.operation piece →

@@ -1,4 +1,4 @@
-use Rattle.std.proofs.Common.{◌≡◌, ℕ, ◌+◌, ◌*◌, ◌%◌, ◌≤◌, max, List, ◌++◌, length, Ok, IsOk, refl, sym, ◌∙◌, ap, subst, arith}
+use Rattle.std.proofs.Common.{◌+◌, ◌∙◌, ap}
 use Rattle.luks_bin.specs.declared.header.BinHeader.{BinHeader}
 use Rattle.luks_json.specs.Metas.{data_of, meta_from}
 use Rattle.luks_rules.proofs.SoundLemmas.{sound}

@@ -14,7 +14,7 @@ returns-in-Ok-read-clause-bytes g c = λ all told.
     c.sizes-sizes.ensures.atom c.requires.place long (c.in-Ok-read.ensures.call.content all told)
 
 pub returns-in-Ok-read-clause-unwritten : goal.returns-in-Ok-read-clause-unwritten
-returns-in-Ok-read-clause-unwritten g c = unwritten-call _ _ _ _ _ _ c.read.ensures.call
+returns-in-Ok-read-clause-unwritten g c = unwritten-call _ _ _ _ _ _ c.read.ensures.call c.read.ensures.each
 
 pub returns-in-Err-read-clause-unwritten : goal.returns-in-Err-read-clause-unwritten
-returns-in-Err-read-clause-unwritten g c = unwritten-call _ _ _ _ _ _ c.read.ensures.call
+returns-in-Err-read-clause-unwritten g c = unwritten-call _ _ _ _ _ _ c.read.ensures.call c.read.ensures.each

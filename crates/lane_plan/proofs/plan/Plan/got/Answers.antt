@@ -11,31 +11,19 @@ pub unreachable-requires : goal.unreachable-requires
 unreachable-requires g c = (let (map, piece, it) = told-got _ _ _ _ c.requires.told in
     c.in_default.not-Moving map piece it.awaits.moves.stage)
 
-pub unseal_front-requires-clause-known : goal.unseal_front-requires-clause-known
-unseal_front-requires-clause-known g c = (safe g.C.SectorCipher.sector c.args.keys.now
-    c.requires.fits (got-here _ _ _ _ c.requires.told c.in-Moving.is).awaits).known
+pub unseal_front-requires : goal.unseal_front-requires
+unseal_front-requires g c =
+    let here = got-here _ _ _ _ c.requires.told c.in-Moving.is in
+    let it = safe g.C.SectorCipher.sector c.args.keys.now c.requires.fits here.awaits in
+    record { known = it.known; fits = it.fits; size = here.size; front = here.within }
 
-pub unseal_front-requires-clause-fits : goal.unseal_front-requires-clause-fits
-unseal_front-requires-clause-fits g c = (safe g.C.SectorCipher.sector c.args.keys.now
-    c.requires.fits (got-here _ _ _ _ c.requires.told c.in-Moving.is).awaits).fits
-
-pub unseal_front-requires-clause-size : goal.unseal_front-requires-clause-size
-unseal_front-requires-clause-size g c = (got-here _ _ _ _ c.requires.told c.in-Moving.is).size
-
-pub unseal_front-requires-clause-front : goal.unseal_front-requires-clause-front
-unseal_front-requires-clause-front g c = (got-here _ _ _ _ c.requires.told c.in-Moving.is).within
-
-pub take_in-requires-clause-order : goal.take_in-requires-clause-order
-take_in-requires-clause-order g c = (safe g.C.SectorCipher.sector c.args.keys.now c.requires.fits
-    (got-here _ _ _ _ c.requires.told c.in-Moving.is).awaits).order
-
-pub take_in-requires-clause-front : goal.take_in-requires-clause-front
-take_in-requires-clause-front g c =
-    (let within = (got-here _ _ _ _ c.requires.told c.in-Moving.is).within
-    in let same = c.unseal_front.ensures.length in omega (arith, within, same))
-
-pub take_in-requires-clause-part : goal.take_in-requires-clause-part
-take_in-requires-clause-part g c = has-place (got-here _ _ _ _ c.requires.told c.in-Moving.is)
+pub take_in-requires : goal.take_in-requires
+take_in-requires g c =
+    let here = got-here _ _ _ _ c.requires.told c.in-Moving.is in
+    let it = safe g.C.SectorCipher.sector c.args.keys.now c.requires.fits here.awaits in
+    let within = here.within in
+    let same = c.unseal_front.ensures.length in
+    record { order = it.order; front = omega (arith, within, same); part = has-place here }
 
 pub moved-self-requires : goal.moved-self-requires
 moved-self-requires g c = (let few = (safe g.C.SectorCipher.sector c.args.keys.now c.requires.fits

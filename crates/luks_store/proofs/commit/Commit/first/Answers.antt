@@ -1,4 +1,4 @@
-use Rattle.std.proofs.Common.{◌≡◌, ℕ, ◌+◌, ◌*◌, ◌%◌, ◌≤◌, max, List, ◌++◌, length, Ok, IsOk, refl, sym, ◌∙◌, ap, subst, arith}
+use Rattle.std.proofs.Common.{ap, arith}
 use Rattle.luks_bin.proofs.FieldLemmas.{size-most}
 use Rattle.luks_json.specs.declared.meta.Parts.{Parts}
 use Rattle.luks_store.proofs.commit.Commit.first.Goals as goal

@@ -1,4 +1,4 @@
-use Rattle.std.proofs.Common.{◌≡◌, ℕ, ◌+◌, ◌*◌, ◌%◌, ◌≤◌, max, List, ◌++◌, length, Ok, IsOk, refl, sym, ◌∙◌, ap, subst, arith}
+use Rattle.std.proofs.Common.{◌≡◌, ℕ, List, ◌++◌, Ok, IsOk, refl, sym, ◌∙◌, ap, subst}
 use Rattle.luks_copies.specs.Held.{primary_of, secondary_of}
 use Rattle.luks_store.proofs.CommitLemmas.{both-used, stored-by}
 use Rattle.luks_store.proofs.DiskLemmas.{memory-alone}

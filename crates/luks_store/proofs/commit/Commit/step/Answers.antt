@@ -1,4 +1,4 @@
-use Rattle.std.proofs.Common.{◌≡◌, ℕ, ◌+◌, ◌*◌, ◌%◌, ◌≤◌, max, List, ◌++◌, length, Ok, IsOk, refl, sym, ◌∙◌, ap, subst, arith}
+use Rattle.std.proofs.Common.{sym, subst}
 use Rattle.luks_copies.specs.Steps.{FitDisk}
 use Rattle.luks_store.proofs.CommitLemmas.{fits-disk}
 use Rattle.luks_store.proofs.PageLemmas.{size-pages}

@@ -1,4 +1,4 @@
-use Rattle.std.proofs.Common.{◌≡◌, ℕ, ◌+◌, ◌*◌, ◌%◌, ◌≤◌, max, List, ◌++◌, length, Ok, IsOk, refl, sym, ◌∙◌, ap, subst, arith}
+use Rattle.std.proofs.Common.{◌≤◌, length, refl, sym, subst}
 use Rattle.luks_store.proofs.CopyLemmas.{long_enough}
 use Rattle.luks_store.proofs.RepairLemmas.{first-repaired, second-repaired}
 use Rattle.luks_store.specs.Commits.{Repairs}
