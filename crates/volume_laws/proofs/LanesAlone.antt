@@ -83,25 +83,29 @@ admits_told old new lane session ask grant sound free step =
     admit_told old new lane session ask grant sound free
     (held_admit old new lane session ask grant _ refl step)
 
--- an operation that goes on asks for what it asked for
-got_ask : (atom : ℕ) (outcome : Outcome) (o : Open) → (after_got atom outcome o).ask ≡ o.ask
-got_ask atom (got sealed) o = refl
-got_ask atom device o = refl
-got_ask atom broken o = refl
-got_ask atom _ o = refl
+-- an operation that goes on asks for what it asked for, and has the blocks that it had
+record IsSameAsk (o next : Open) : Type 0 where
+  ask : next.ask ≡ o.ask
+  range : next.range ≡ o.range
 
-put_ask : (atom : ℕ) (sealed : List ℕ) (outcome : Outcome) (o : Open) →
-    (after_put atom sealed outcome o).ask ≡ o.ask
-put_ask atom sealed done o = refl
-put_ask atom sealed device o = refl
-put_ask atom sealed broken o = refl
-put_ask atom sealed _ o = refl
+got_same : (atom : ℕ) (outcome : Outcome) (o : Open) → IsSameAsk o (after_got atom outcome o)
+got_same atom (got sealed) o = record { ask = refl; range = refl }
+got_same atom device o = record { ask = refl; range = refl }
+got_same atom broken o = record { ask = refl; range = refl }
+got_same atom _ o = record { ask = refl; range = refl }
 
-sync_ask : (outcome : Outcome) (o : Open) → (after_sync outcome o).ask ≡ o.ask
-sync_ask done o = refl
-sync_ask device o = refl
-sync_ask broken o = refl
-sync_ask _ o = refl
+put_same : (atom : ℕ) (sealed : List ℕ) (outcome : Outcome) (o : Open) →
+    IsSameAsk o (after_put atom sealed outcome o)
+put_same atom sealed done o = record { ask = refl; range = refl }
+put_same atom sealed device o = record { ask = refl; range = refl }
+put_same atom sealed broken o = record { ask = refl; range = refl }
+put_same atom sealed _ o = record { ask = refl; range = refl }
+
+sync_same : (outcome : Outcome) (o : Open) → IsSameAsk o (after_sync outcome o)
+sync_same done o = record { ask = refl; range = refl }
+sync_same device o = record { ask = refl; range = refl }
+sync_same broken o = record { ask = refl; range = refl }
+sync_same _ o = record { ask = refl; range = refl }
 
 reads_lock : (ask : Ask) → IsRead ask → has_lock ask ≡ true
 reads_lock (Read offset len) is = refl
@@ -113,34 +117,15 @@ writes_lock (Read offset len) is = absurd is
 writes_lock (Write offset len fua) is = refl
 writes_lock Flush is = absurd is
 
--- an operation that goes on has the blocks that it had
-got_range : (atom : ℕ) (outcome : Outcome) (o : Open) → (after_got atom outcome o).range ≡ o.range
-got_range atom (got sealed) o = refl
-got_range atom device o = refl
-got_range atom broken o = refl
-got_range atom _ o = refl
-
-put_range : (atom : ℕ) (sealed : List ℕ) (outcome : Outcome) (o : Open) →
-    (after_put atom sealed outcome o).range ≡ o.range
-put_range atom sealed done o = refl
-put_range atom sealed device o = refl
-put_range atom sealed broken o = refl
-put_range atom sealed _ o = refl
-
-sync_range : (outcome : Outcome) (o : Open) → (after_sync outcome o).range ≡ o.range
-sync_range done o = refl
-sync_range device o = refl
-sync_range broken o = refl
-sync_range _ o = refl
-
+-- what a grant told of the operation's blocks goes on to hold
 still_agrees : {K : Type 0} (old : State K) (plain : ℕ → List ℕ) (lane : ℕ) (alone : Alone)
     (map : Map) (o : Open) (f : Open → Open) → IsLane old plain lane alone →
-    ((q : Open) → (f q).range ≡ q.range) → alone.granted ≡ Some map → (now : Option Open) →
+    ((q : Open) → IsSameAsk q (f q)) → alone.granted ≡ Some map → (now : Option Open) →
     alone.operation ≡ now → option_map f now ≡ Some o → AgreeOn o.range map old.map
 still_agrees old plain lane alone map o f is same granted None at now = absurd (cc)
 still_agrees old plain lane alone map o f is same granted (Some q) at now =
     let e : o ≡ f q = cc in
-    subst (λ r. AgreeOn r map old.map) (sym (ap (λ x. x.range) e ∙ same q))
+    subst (λ r. AgreeOn r map old.map) (sym (ap (λ x. x.range) e ∙ (same q).range))
     (is.map map q granted at)
 
 told_agrees : (range : BlockRange) (map granted now : Map) → map ≡ granted → granted ≡ now →
@@ -166,10 +151,10 @@ own_map old new plain (asks lane) (held grant) alone map o sound is meets
 own_map old new plain (asks lane) _ alone map o sound is meets step granted now = absurd (cc)
 own_map old new plain (reads lane len) outcome alone map o sound is meets step granted now =
     still_agrees old plain lane alone map o (after_got old.map.atom outcome) is
-    (got_range old.map.atom outcome) granted alone.operation refl now
+    (got_same old.map.atom outcome) granted alone.operation refl now
 own_map old new plain (writes lane bytes) outcome alone map o sound is meets step granted now =
     still_agrees old plain lane alone map o (after_put old.map.atom bytes outcome) is
-    (put_range old.map.atom bytes outcome) granted alone.operation refl now
+    (put_same old.map.atom bytes outcome) granted alone.operation refl now
 own_map old new plain (settles lane) outcome alone map o sound is meets step granted now =
     settle_agrees alone.operation refl now
   where
@@ -178,7 +163,7 @@ own_map old new plain (settles lane) outcome alone map o sound is meets step gra
     settle_agrees None is_at now_so = absurd (cc)
     settle_agrees (Some q) is_at now_so =
         let e : o ≡ after_sync outcome q = settled_is q (after_sync outcome q) o now_so in
-        subst (λ r. AgreeOn r map old.map) (sym (ap (λ x. x.range) e ∙ sync_range outcome q))
+        subst (λ r. AgreeOn r map old.map) (sym (ap (λ x. x.range) e ∙ (sync_same outcome q).range))
         (is.map map q granted is_at)
 own_map old new plain (finishes lane) outcome alone map o sound is meets step granted now =
     absurd (cc)
@@ -187,7 +172,7 @@ own_map old new plain (finishes lane) outcome alone map o sound is meets step gr
 still_holds : {K : Type 0} (old new : State K) (plain : ℕ → List ℕ) (event : Event)
     (outcome : Outcome) (alone : Alone) (map : Map) (o : Open) (f : Open → Open) →
     IsLane old plain (lane_of event) alone → new.entries ≡ old.entries →
-    ((q : Open) → (f q).ask ≡ q.ask) → alone.granted ≡ Some map →
+    ((q : Open) → IsSameAsk q (f q)) → alone.granted ≡ Some map →
     (now : Option Open) → alone.operation ≡ now → option_map f now ≡ Some o →
     has_lock o.ask ≡ true → Holds new (lane_of event)
 still_holds old new plain event outcome alone map o f is entries asks_so granted None at now has =
@@ -195,7 +180,7 @@ still_holds old new plain event outcome alone map o f is entries asks_so granted
 still_holds old new plain event outcome alone map o f is entries asks_so granted
     (Some q) at now has =
     let e : o ≡ f q = cc in
-    let locks : has_lock q.ask ≡ true = ap (λ a. has_lock a) (sym (asks_so q))
+    let locks : has_lock q.ask ≡ true = ap (λ a. has_lock a) (sym (asks_so q).ask)
     ∙ ap (λ x. has_lock x.ask) (sym e) ∙ has in
     rw entries (is.holds map q granted at locks)
 
@@ -221,13 +206,13 @@ own_holds old new plain (reads lane len) outcome alone map o sound is meets step
     still_holds old new plain (reads lane len) outcome alone map o
     (after_got old.map.atom outcome) is
     (event_effects old new (reads lane len) outcome step).entries_are
-    (got_ask old.map.atom outcome) granted alone.operation refl now has
+    (got_same old.map.atom outcome) granted alone.operation refl now has
 own_holds old new plain (writes lane bytes) outcome alone map o sound is meets step granted now
     has =
     still_holds old new plain (writes lane bytes) outcome alone map o
     (after_put old.map.atom bytes outcome) is
     (event_effects old new (writes lane bytes) outcome step).entries_are
-    (put_ask old.map.atom bytes outcome) granted alone.operation refl now has
+    (put_same old.map.atom bytes outcome) granted alone.operation refl now has
 own_holds old new plain (settles lane) outcome alone map o sound is meets step granted now has =
     settle_holds alone.operation refl now
   where
@@ -236,7 +221,7 @@ own_holds old new plain (settles lane) outcome alone map o sound is meets step g
     settle_holds None is_at now_so = absurd (cc)
     settle_holds (Some q) is_at now_so =
         let e : o ≡ after_sync outcome q = settled_is q (after_sync outcome q) o now_so in
-        let locks : has_lock q.ask ≡ true = ap (λ a. has_lock a) (sym (sync_ask outcome q))
+        let locks : has_lock q.ask ≡ true = ap (λ a. has_lock a) (sym (sync_same outcome q).ask)
         ∙ ap (λ x. has_lock x.ask) (sym e) ∙ has in
         rw (event_effects old new (settles lane) outcome step).entries_are
         (is.holds map q granted is_at locks)

@@ -1,6 +1,7 @@
 //! What follows for every run of events. Each law is the contract of a function that does nothing.
 //! A proof above cites it by its call.
 
+ghost use Rattle.std.specs.Prelude.{true, false};
 ghost use Rattle.std.specs.Prelude.{◌≡◌, ◌≢◌, ◌<◌, ◌≤◌, ◌⊎◌, ◌%◌, ◌+◌, ◌*◌, ◌++◌, ◌∷◌, [], ℕ, List};
 ghost use Rattle.std.specs.Prelude.{length, None, Some};
 ghost use Rattle.disk_areas.specs.Headers.{IsReader};
