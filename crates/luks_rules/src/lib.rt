@@ -38,7 +38,9 @@ pub use disk_sizes::Sizes;
 pub use extents::{Extent, Mark};
 pub use fault::{CheckError, RuleFault};
 pub use idle::Idle;
-pub use laws::{rules_are_plain, shapes_are_choices};
+pub use laws::{
+    conversions_are_shaped, rules_are_plain, shapes_are_choices, sound_metadata_are_valid,
+};
 pub use overlaps::overlaps_are_shared_bytes;
 pub use plan::Plan;
 pub use references::lists_number;

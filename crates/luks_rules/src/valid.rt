@@ -112,7 +112,8 @@ impl Valid {
 
     /// The digest of a number, if there is one.
     pub fn digest(&self, number: u64) -> Option<&Digest>
-        ensures there { option_map (λ digest. digest.now) result ≡ value_at self.now.meta.digests number }
+        ensures there { option_map (λ digest. digest.now) result
+            ≡ value_at self.now.meta.digests number }
         ensures right { IfSome result (λ digest. IsDigest digest.now) }
     {
         find_digest(self.checked.meta.parts().digests.as_slice(), number)

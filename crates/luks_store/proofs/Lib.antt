@@ -11,4 +11,5 @@ pub mod CommitLemmas
 pub mod RoomLemmas
 pub mod LoadLemmas
 pub mod RepairLemmas
+pub mod StoredLemmas
 pub mod JudgeLemmas

@@ -1,5 +1,5 @@
 -- Lemmas on the repair of a header that was loaded.
-use Rattle.std.proofs.Common.{◌≡◌, ◌≢◌, ◌⊎◌, inl, inr, ℕ, length, Ok, refl, sym, ◌∙◌, subst, arith}
+use Rattle.std.proofs.Common.{ap, ◌≡◌, ◌≢◌, ◌⊎◌, inl, inr, ℕ, length, Ok, refl, sym, ◌∙◌, subst, arith, ◌*◌, ◌/◌, ◌≤◌, max}
 use Rattle.std.proofs.lemmas.List.{take_all}
 use Rattle.disk_areas.specs.Headers.{IsHeader}
 use Rattle.luks_bin.specs.Copies.{copy_of, IsCopy}
@@ -10,7 +10,12 @@ use Rattle.luks_copies.specs.Meanings.{header_of, header_reader}
 use Rattle.luks_copies.specs.declared.repair.Repair.{Repair}
 use Rattle.luks_copies.specs.declared.repair.RepairStage.TheVariants.{Broken}
 use Rattle.luks_store.proofs.CopyLemmas.{Spelt}
-use Rattle.luks_store.specs.Commits.{Repairs}
+use Rattle.disk_sizes.specs.declared.Sizes.{Sizes}
+use Rattle.luks_rules.specs.Areas.{header_bytes, main_bytes}
+use Rattle.luks_store.proofs.CommitLemmas.{fits-disk}
+use Rattle.luks_store.proofs.PageLemmas.{size-pages}
+use Rattle.luks_store.specs.Commits.{FitsDisks, Repairs}
+use Rattle.sector_disk.specs.Geometry.{IsInDisk}
 use Rattle.luks_store.specs.Used.{AreCopies}
 use Rattle.luks_store.specs.declared.copies.Copies.{Copies}
 use Rattle.luks_store.specs.declared.copies.CopyState.TheVariants.{Good}
@@ -91,3 +96,29 @@ second-repaired spelt copies repair are good bad begun at size shared valid whol
         },
       ),
     )
+
+-- ---- it lies on the disk
+pub first-fits : (sizes : Sizes) (copies : Copies) (repair : Repair) → AreCopies copies
+    → 2 * copies.used.header.hdr_size ≤ max (header_bytes sizes) (main_bytes sizes)
+    → place_in repair ≡ 0 → length (copy_in repair) ≡ length copies.used.bytes → FitsDisks sizes repair
+first-fits sizes copies repair are room at size device has known =
+    let n = copies.used.header.hdr_size in
+    let long = size ∙ are.whole.whole in
+    let fits = fits-disk sizes device n (copy_in repair) (copy_in repair) has known
+    (size-pages n are.whole.one_of_nine) long long room in
+    let some : 0 / device.size ≡ 0 = elim known [
+      | inl is ↦ rw is refl
+      | inr is ↦ rw is refl
+    ] in
+    subst (λ place. IsInDisk device.size device.atoms place (length (copy_in repair)))
+    (sym (ap (λ place. place / device.size) at ∙ some)) fits.first
+
+pub second-fits : (sizes : Sizes) (copies : Copies) (repair : Repair) → AreCopies copies
+    → 2 * copies.used.header.hdr_size ≤ max (header_bytes sizes) (main_bytes sizes)
+    → place_in repair ≡ copies.used.header.hdr_size → length (copy_in repair) ≡ length copies.used.bytes → FitsDisks sizes repair
+second-fits sizes copies repair are room at size device has known =
+    let n = copies.used.header.hdr_size in
+    let long = size ∙ are.whole.whole in
+    let fits = fits-disk sizes device n (copy_in repair) (copy_in repair) has known
+    (size-pages n are.whole.one_of_nine) long long room in
+    subst (λ place. IsInDisk device.size device.atoms (place / device.size) (length (copy_in repair))) (sym at) fits.second

@@ -1,5 +1,5 @@
 -- Commits and repairs of a header that was loaded.
-use Rattle.std.specs.Prelude.{◌≡◌, ◌≢◌, ℕ, ◌+◌, ◌*◌, ◌<◌, ◌≤◌, max, List, length, replicate, Ok, IsOk}
+use Rattle.std.specs.Prelude.{◌≡◌, ◌≢◌, ℕ, ◌+◌, ◌*◌, ◌/◌, ◌<◌, ◌≤◌, max, List, length, replicate, Ok, IsOk}
 use Rattle.disk_areas.specs.Commits.{Follows}
 use Rattle.disk_areas.specs.Headers.{Header, IsHeader}
 use Rattle.disk_sizes.specs.declared.Sizes.{Sizes}
@@ -23,6 +23,7 @@ use Rattle.luks_store.specs.declared.copies.Copies.{Copies}
 use Rattle.luks_store.specs.declared.copies.CopyState.TheVariants.{Good}
 use Rattle.luks_store.specs.declared.loaded.Stored.{Stored}
 use Rattle.sector_disk.specs.Devices.{Device}
+use Rattle.sector_disk.specs.Geometry.{IsAtom, IsInDisk}
 use Rattle.serde_json.specs.Written.{compact_text}
 
 -- the text of metadata
@@ -110,3 +111,8 @@ Repairs copies repair =
     → IsRepairOf copies 0 copies.primary.salt (header_of (copy_in repair) copies.used.bytes) repair)
     × (copies.primary.state ≡ Good → (copies.secondary.state ≢ Good)
     × IsRepairOf copies copies.used.header.hdr_size copies.secondary.salt (header_of copies.used.bytes (copy_in repair)) repair)
+
+-- what it writes lies on each disk of these sizes
+abbrev pub FitsDisks : Sizes → Repair → Type 0
+FitsDisks sizes repair = (device : Device) → HasSizes sizes device → IsAtom device.size
+    → IsInDisk device.size device.atoms (place_in repair / device.size) (length (copy_in repair))

@@ -50,7 +50,7 @@ impl Model for Loaded {
 }
 
 /// The metadata in the copy that is used, where they break no rule for disks of these sizes.
-#[tactic(auto, unfolding(crate::specs::Loads::judged), using(crate::proofs::CopyLemmas::long_enough))]
+#[tactic(auto, unfolding(crate::specs::Loads::judged))]
 pub(crate) fn judge(alloc: Global, copies: Copies, sizes: Sizes) -> Result<Loaded, StoreFault>
     requires copies { AreCopies copies }
     requires atom { 0 < sizes.atom }
@@ -95,13 +95,22 @@ pub fn load<D: Disk>(alloc: Global, disk: &mut JoinedDisk<D>) -> Result<Loaded, 
 }
 
 impl Loaded {
+    ghost use Rattle.std.specs.Prelude.{◌+◌, ◌*◌, ◌≤◌, max, None};
+    ghost use Rattle.luks_rules.specs.Areas.{header_bytes, main_bytes};
+    ghost use Rattle.luks_rules.specs.Rules.{first_fault};
     ghost use Rattle.luks_store.specs.Loads.{IsStored};
 
-    /// What the disk held: a law, with nothing to run.
+    /// What the disk held: a law, with nothing to run. The metadata break no rule for these sizes, and
+    /// state the size of the copy that is used, of which the disk has room for two.
     pub fn is_stored(&self)
-        ensures { IsStored self.now }
+        ensures stored { IsStored self.now }
+        ensures rules { first_fault self.now.valid.meta self.now.valid.sizes ≡ None }
+        ensures size { self.now.valid.meta.config.json_size + 4096
+            ≡ self.now.copies.used.header.hdr_size }
+        ensures room { 2 * self.now.copies.used.header.hdr_size
+            ≤ max (header_bytes self.now.valid.sizes) (main_bytes self.now.valid.sizes) }
     {
-        let _stored = &self.stored;
+        let _parts = self.stored.valid.meta().parts();
     }
 
     /// The binary header of the copy that is used.

@@ -1,12 +1,27 @@
+ghost use Rattle.std.specs.Prelude.{◌≡◌};
+ghost use Rattle.luks_bin.specs.Copies.{holds_nul};
+ghost use Rattle.luks_store.specs.Commits.{HasSizes};
+ghost use Rattle.luks_store.specs.Devices.{device_of};
+ghost use Rattle.sector_disk.specs.Mem.{atom_of, atoms_of};
+
 use crate::{Commit, CopyState, Loaded, StoreFault, load};
-use base_terms::zeros;
+use base_terms::{Failed, zeros};
 use joined_disk::JoinedDisk;
 use json_members::JsonFaultKind;
-use luks_bin::{BinFault, BinHeader, write_copy};
+use luks_bin::{BinFault, BinHeader, is_header_size, write_copy};
 use luks_rules::RuleFault;
 use sector_disk::{Disk, MemDisk};
-use std::alloc::Global;
+use std::alloc::{AllocError, Global};
 use std::test::Fail;
+
+/// What a step answered, and None where none may follow.
+type Step = Option<Result<bool, Failed>>;
+
+const DONE: Step = Some(Ok(false));
+
+const LAST: Step = Some(Ok(true));
+
+const FAILED: Step = Some(Err(Failed));
 
 const TEXT: &str =
     r#"{"config":{"json_size":"12288","keyslots_size":"0"},"digests":{"0":{"digest":"ZGlnZXN0","hash":"sha256","iterations":1000,"keyslots":[],"salt":"c2FsdA==","segments":["0"],"type":"pbkdf2"}},"keyslots":{},"segments":{"0":{"encryption":"aes-xts-plain64","iv_tweak":"0","offset":"0","sector_size":512,"size":"dynamic","type":"crypt"}},"tokens":{}}"#;
@@ -27,22 +42,47 @@ enum Outcome {
 /// A copy by the byte at which it stands, its number, and the first byte of its label.
 type Copy = (u64, u64, u8);
 
-fn header(copy: Copy, hdr_size: u64) -> BinHeader {
+/// Whether a text has a NUL.
+fn has_nul(text: &[u8]) -> bool
+    ensures { result ≡ holds_nul text.now }
+{
+    text.iter().any(|byte| *byte == 0)
+}
+
+/// Puts a copy of so many bytes with this text on a disk, at the front or at its size.
+fn put(alloc: Global, disk: &mut MemDisk, copy: Copy, size: u64, text: &[u8]) -> Result<(), Fail>
+    requires atom { atom_of disk.old ≡ 512 }
+    requires atoms { atoms_of disk.old ≡ 256 }
+    ensures atom { atom_of disk.new ≡ 512 }
+    ensures atoms { atoms_of disk.new ≡ 256 }
+{
+    let (place, seqid, letter) = copy;
+    let stands = place == 0 || place == size;
+    if !is_header_size(size) || !stands || size % 512 != 0 || 65536 < size {
+        return Err(Fail::from(AllocError));
+    }
+    if 8192 < text.len() || has_nul(text) {
+        return Err(Fail::from(AllocError));
+    }
     let mut label = [0; 48];
-    label[0] = copy.2;
-    BinHeader {
-        hdr_size,
-        seqid: copy.1,
+    label[0] = letter;
+    let header = BinHeader {
+        hdr_size: size,
+        seqid,
         label,
         salt: [7; 64],
         uuid: [0; 40],
         subsystem: [0; 48],
-        hdr_offset: copy.0,
-    }
+        hdr_offset: place,
+    };
+    let mut bytes = zeros(alloc, size as usize)?;
+    write_copy(&header, text, &mut bytes);
+    disk.write(place / 512, &bytes)?;
+    Ok(())
 }
 
-/// A detached header of two copies of so many bytes, of which these stand there with this text, before a
-/// disk of one block. Calls of these numbers on the header's disk fail.
+/// A detached header of which these copies of so many bytes stand there with this text, before a disk of
+/// eight blocks. Calls of these numbers on the header's disk fail.
 fn disk_with(
     alloc: Global,
     copies: &[Copy],
@@ -50,12 +90,10 @@ fn disk_with(
     text: &str,
     fails: &[u64],
 ) -> Result<JoinedDisk<MemDisk>, Fail> {
-    let mut head = MemDisk::new(alloc, 512, 2 * size / 512, 1000, fails)?;
+    let mut head = MemDisk::new(alloc, 512, 256, 1000, fails)?;
     let main = MemDisk::new(alloc, 512, 8, 1000, &[])?;
     for copy in copies.iter() {
-        let mut bytes = zeros(alloc, size as usize)?;
-        write_copy(&header(*copy, size), text.as_bytes(), &mut bytes);
-        let _ = head.write(copy.0 / 512, &bytes);
+        put(alloc, &mut head, *copy, size, text.as_bytes())?;
     }
     Ok(JoinedDisk::with(head, main))
 }
@@ -151,39 +189,74 @@ fn the_metadata_of_the_copy_that_is_used_are_judged(rt: HostRuntime) -> Result<(
     Ok(())
 }
 
-/// Commits the same metadata again, and gives what is loaded then.
-fn committed(alloc: Global, disk: &mut JoinedDisk<MemDisk>) -> Result<[Outcome; 2], Fail> {
-    let loaded = load(alloc, disk)?;
-    let mut commit = Commit::new(alloc, &loaded, loaded.valid().meta())?;
-    let next = commit.next(alloc)?;
-    while !commit.is_over() {
-        commit.step(disk)?;
+/// One more step, where one may follow.
+fn step(commit: &mut Commit, disk: &mut JoinedDisk<MemDisk>) -> Step
+    requires { HasSizes commit.old.sizes (device_of disk.old) }
+    ensures { HasSizes commit.new.sizes (device_of disk.new) }
+{
+    if commit.is_over() {
+        return None;
     }
-    Ok([told_by(&Ok(next)), told_by(&load(alloc, disk))])
+    Some(commit.step(disk))
+}
+
+/// Commits the metadata again, on a disk whose calls of these numbers fail: what the steps answer, and
+/// what is loaded then.
+fn committed(alloc: Global, fails: &[u64]) -> Result<([Step; 4], Outcome), Fail> {
+    let copies = [(0, 7, 0), (16384, 7, 0)];
+    let mut disk = disk_with(alloc, &copies, 16384, TEXT, fails)?;
+    let loaded = load(alloc, &mut disk)?;
+    let _sizes = disk.sizes();
+    loaded.is_stored();
+    let mut commit = Commit::new(alloc, &loaded, loaded.valid().meta())?;
+    let steps = [
+        step(&mut commit, &mut disk),
+        step(&mut commit, &mut disk),
+        step(&mut commit, &mut disk),
+        step(&mut commit, &mut disk),
+    ];
+    Ok((steps, told_by(&load(alloc, &mut disk))))
 }
 
 #[test]
-fn the_header_of_a_commit_is_loaded(rt: HostRuntime) -> Result<(), Fail> {
+fn a_commit_that_stops_leaves_the_header_before_or_the_next_one(rt: HostRuntime) -> Result<(), Fail> {
     let alloc = rt.alloc();
-    let mut disk = disk_with(alloc, &[(0, 7, 0), (16384, 7, 0)], 16384, TEXT, &[])?;
+    let seven = Outcome::Used(7, CopyState::Good, CopyState::Good);
+    let between = Outcome::Used(8, CopyState::Good, CopyState::Older);
     let eight = Outcome::Used(8, CopyState::Good, CopyState::Good);
-    assert_eq!(rt; committed(alloc, &mut disk)?, [eight, eight]);
+    assert_eq!(rt; committed(alloc, &[])?, ([DONE, DONE, DONE, LAST], eight));
+    assert_eq!(rt; committed(alloc, &[6])?, ([FAILED, None, None, None], seven));
+    assert_eq!(rt; committed(alloc, &[7])?, ([DONE, FAILED, None, None], between));
+    assert_eq!(rt; committed(alloc, &[8])?, ([DONE, DONE, FAILED, None], between));
     Ok(())
+}
+
+/// What the two steps of the repair of a header with these copies answer, and what is loaded then.
+fn repaired(alloc: Global, copies: &[Copy]) -> Result<([Step; 2], Outcome), Fail> {
+    let mut disk = disk_with(alloc, copies, 16384, TEXT, &[])?;
+    let loaded = load(alloc, &mut disk)?;
+    let _sizes = disk.sizes();
+    let steps = match loaded.repair(alloc)? {
+        Some(mut repair) => {
+            let first = repair.step(&mut disk);
+            if repair.is_over() {
+                return Err(Fail::from(AllocError));
+            }
+            [Some(first), Some(repair.step(&mut disk))]
+        }
+        None => [None, None],
+    };
+    Ok((steps, told_by(&load(alloc, &mut disk))))
 }
 
 #[test]
 fn a_repair_makes_both_copies_good(rt: HostRuntime) -> Result<(), Fail> {
     let alloc = rt.alloc();
-    for copies in [[(0, 7, 0), (16384, 8, 0)], [(16384, 8, 0), (16384, 8, 0)]] {
-        let mut disk = disk_with(alloc, &copies, 16384, TEXT, &[])?;
-        let loaded = load(alloc, &mut disk)?;
-        let mut repair = loaded.repair(alloc)?.expect(&rt, "a copy lacks");
-        assert_eq!(rt; repair.step(&mut disk), Ok(false));
-        assert_eq!(rt; repair.step(&mut disk), Ok(true));
-        assert_eq!(rt;
-            told_by(&load(alloc, &mut disk)),
-            Outcome::Used(8, CopyState::Good, CopyState::Good)
-        );
-    }
+    let eight = Outcome::Used(8, CopyState::Good, CopyState::Good);
+    let older = [(0, 7, 0), (16384, 8, 0)];
+    assert_eq!(rt; repaired(alloc, &older)?, ([DONE, LAST], eight));
+    assert_eq!(rt; repaired(alloc, &[(0, 8, 0)])?, ([DONE, LAST], eight));
+    let good = [(0, 8, 0), (16384, 8, 0)];
+    assert_eq!(rt; repaired(alloc, &good)?, ([None, None], eight));
     Ok(())
 }

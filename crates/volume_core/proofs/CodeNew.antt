@@ -1,5 +1,6 @@
 -- A volume that has begun is sound.
-use Rattle.std.proofs.Common.{◌≡◌, ℕ, zero, suc, ◌<◌, false, Option, None, List, [], replicate, refl, sym, ◌∙◌}
+use Rattle.std.proofs.Common.{◌≡◌, ℕ, zero, suc, ◌<◌, false, Option, None, List, [], replicate}
+use Rattle.std.proofs.Common.{refl, sym, ◌∙◌}
 use Rattle.std.proofs.lemmas.List.{length-replicate}
 use Rattle.range_lock.specs.Locks.{Locks}
 use Rattle.segment_map.specs.declared.map.Map.{Map}

@@ -1,5 +1,6 @@
 -- What the calls on a volume find before they do a step, and what a step leaves.
-use Rattle.std.proofs.Common.{◌≡◌, ℕ, zero, suc, ◌<◌, ◌≤◌, Bool, true, false, Option, Some, None, List, [], ◌∷◌, length, refl, ◌∙◌, arith}
+use Rattle.std.proofs.Common.{◌≡◌, ℕ, zero, suc, ◌<◌, ◌≤◌, Bool, true, false, Option, Some, None}
+use Rattle.std.proofs.Common.{List, [], ◌∷◌, length, refl, ◌∙◌, arith}
 use Rattle.range_lock.specs.declared.Entry.{Entry}
 use Rattle.range_lock.specs.Locks.{has_entry}
 use Rattle.volume_machine.specs.Asks.{has_lock, entry_of}
@@ -18,7 +19,8 @@ pub has-lane : (lanes : List (Option Open)) (lane : ℕ) (o : Open) → open_at 
     lane < length lanes
 has-lane [] lane o is = absurd (cc)
 has-lane (one ∷ lanes) zero o is = omega arith
-has-lane (one ∷ lanes) (suc lane) o is = (let rest = has-lane lanes lane o is in omega (arith, rest))
+has-lane (one ∷ lanes) (suc lane) o is =
+    (let rest = has-lane lanes lane o is in omega (arith, rest))
 
 module _ {K : Type 0} (state : State K) (lane : ℕ) (sound : IsSound state) where
   -- an operation with a lock has an entry

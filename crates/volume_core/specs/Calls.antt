@@ -11,7 +11,8 @@ use Rattle.sector_disk.specs.Devices.{Device, ReadCall, WriteCall, SyncCall, suc
 use Rattle.segment_map.specs.declared.map.Map.{Map}
 use Rattle.segment_map.specs.declared.map.Piece.{Piece}
 use Rattle.volume_machine.specs.Events.{Outcome, got, done, device, broken}
-use Rattle.volume_machine.specs.Pieces.{IsPieceOf, ArePieceBytes, place_of, moved, failing, settling}
+use Rattle.volume_machine.specs.Pieces.{IsPieceOf, ArePieceBytes, place_of, moved, failing}
+use Rattle.volume_machine.specs.Pieces.{settling}
 use Rattle.volume_machine.specs.declared.open.Open.{Open}
 
 -- an operation that locks its blocks has its entry behind all others; any other is held without one

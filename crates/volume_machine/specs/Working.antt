@@ -1,6 +1,6 @@
 -- A zone at hand between two events: the last lane holds its blocks, and what its calls write lies
 -- apart from all other blocks.
-use Rattle.std.specs.Prelude.{ℕ, suc, ◌≡◌, ◌+◌, ◌<◌, ◌≤◌, false, length, Option, Some}
+use Rattle.std.specs.Prelude.{ℕ, suc, ◌≡◌, ◌+◌, ◌<◌, ◌≤◌, false, length, Some}
 use Rattle.disk_areas.specs.Areas.{Area}
 use Rattle.disk_views.specs.Views.{IsOutside}
 use Rattle.disk_zones.specs.Zones.{IsApart, Reaches}

@@ -13,11 +13,15 @@ returns-in-Ok-clause-reads g c =
       next = next;
       call = (
         record {
-          size = front-size c.args.len c.in-Ok.buffer c.args.buffer c.in-Ok.ensures.length c.requires.front
+          size = front-size c.args.len c.in-Ok.buffer c.args.buffer c.in-Ok.ensures.length
+              c.requires.front
               ∙ read-size _ c.args.len c.args.operation.now piece c.requires.can next;
           are_bytes = c.in-Ok.ensures.bytes;
         },
-        rw (← place-of _ c.args.operation.now piece c.place.result next c.place.ensures, c.requires.atom)
+        rw (
+          ← place-of _ c.args.operation.now piece c.place.result next c.place.ensures,
+          c.requires.atom,
+        )
             c.in-Ok.ensures.read,
       );
       leaves = c.moved.ensures;

@@ -11,7 +11,11 @@ returns-in-Ok-clause-writes g c =
       next = next;
       call = (
         write-bytes _ _ c.args.operation.now _ c.requires.can next,
-        rw (← place-of _ c.args.operation.now _ c.place.result next c.place.ensures, c.requires.atom, ← c.as_slice.ensures)
+        rw (
+          ← place-of _ c.args.operation.now _ c.place.result next c.place.ensures,
+          c.requires.atom,
+          ← c.as_slice.ensures,
+        )
             c.in-Ok.ensures.call,
       );
       leaves = c.moved.ensures;
@@ -26,7 +30,11 @@ returns-in-Err-clause-writes g c =
       next = next;
       call = (
         write-bytes _ _ c.args.operation.now _ c.requires.can next,
-        rw (← place-of _ c.args.operation.now _ c.place.result next c.place.ensures, c.requires.atom, ← c.as_slice.ensures)
+        rw (
+          ← place-of _ c.args.operation.now _ c.place.result next c.place.ensures,
+          c.requires.atom,
+          ← c.as_slice.ensures,
+        )
             c.in-Err.ensures.call,
       );
       leaves = c.failing-in-Err.ensures;

@@ -24,7 +24,8 @@ pub returns-in-Held : goal.returns-in-Held
 unfolding Step
 returns-in-Held g c =
     let is = rw c.deref.ensures.value at c.open_of-open.ensures in
-    rw (← c.self.view_is) ((c.open_of-open.result, is, (c.in-Held.ensures, record { map = refl; range_is = refl })), refl)
+    rw (← c.self.view_is)
+    ((c.open_of-open.result, is, (c.in-Held.ensures, record { map = refl; range_is = refl })), refl)
 
 pub returns-in-Waiting : goal.returns-in-Waiting
 unfolding Step
