@@ -1,5 +1,5 @@
 -- A volume as its state: what it shows, what it keeps, and how it begins.
-use Rattle.std.specs.Prelude.{ℕ, ◌≡◌, Bool, List, Option}
+use Rattle.std.specs.Prelude.{ℕ, ◌≡◌, Bool, List, Option, None}
 use Rattle.range_lock.specs.Locks.{Locks}
 use Rattle.segment_map.specs.declared.map.Map.{Map}
 use Rattle.volume_machine.specs.Seals.{KeysFit}
@@ -18,6 +18,7 @@ state_of map keys table lanes broken disk = record {
   entries = table.entries;
   lanes = lanes;
   broken = broken;
+  work = None;
   disk = disk;
 }
 

@@ -94,7 +94,7 @@ one-more {K} seals old mid now run alone answered event outcome course own some 
     λ plain. subst (λ k. IsLane mid (plain_in seals old plain run) k alone) (sym own)
     (course.lane plain) in
     let met : Meets mid event =
-    meets_by mid (plain_in seals old no_plain run) event alone (here no_plain) client meets in
+    meets_by mid (plain_in seals old no_plain run) event alone course.sound (here no_plain) client meets in
     let one : Happening K = record { event = event; outcome = outcome; after = now } in
     let after = alone_after mid.map.atom seals alone event outcome in
     record {
@@ -128,7 +128,7 @@ free-is : {K : Type 0} (state : State K) (plain : ℕ → List ℕ) → IsIdle s
 free-is state plain idle = record {
   operation = idle 0;
   plain_is = refl;
-  map = λ map granted. absurd (cc);
+  map = λ map o granted at. absurd (cc);
   holds = λ map o granted. absurd (cc);
 }
 

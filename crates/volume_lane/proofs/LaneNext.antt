@@ -190,7 +190,7 @@ pub way-meets : {K : Type 0} (seals : Seals) (old mid : State K) (plan : Plan) (
 way-meets seals old mid plan session op call way some =
     let own = lane-is 0 call in
     let count = way.course.count in
-    meets_by mid (plain_in seals old no_plain way.run) (event_of 0 call) way.alone
+    meets_by mid (plain_in seals old no_plain way.run) (event_of 0 call) way.alone way.course.sound
     (subst (λ k. IsLane mid (plain_in seals old no_plain way.run) k way.alone) (sym own)
     (way.course.lane no_plain))
     (omega (arith, own, count, some)) way.meets

@@ -43,6 +43,7 @@ invariant_of-self g c =
     (record {
       map = refl;
       keys = refl;
+      work = refl;
       room = c.lock.ensures.room;
       entries_are = refl;
       lane_is = c.set_lane.ensures;
@@ -65,6 +66,7 @@ returns g c =
     (record {
       map = refl;
       keys = refl;
+      work = refl;
       room = c.lock.ensures.room;
       entries_are = refl;
       lane_is = c.set_lane.ensures;

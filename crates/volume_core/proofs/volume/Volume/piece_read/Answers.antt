@@ -32,6 +32,7 @@ invariant_of-self g c =
     (record {
       map = refl;
       keys = refl;
+      work = refl;
       room = refl;
       entries_are = refl;
       lane_is = c.set_lane.ensures;
@@ -45,6 +46,7 @@ returns-clause-step g c =
     c.read_next-read.ensures.reads (record {
       map = refl;
       keys = refl;
+      work = refl;
       room = refl;
       entries_are = refl;
       lane_is = c.set_lane.ensures;

@@ -33,6 +33,7 @@ invariant_of-self g c =
     (record {
       map = refl;
       keys = refl;
+      work = refl;
       room = refl;
       entries_are = refl;
       lane_is = c.set_lane.ensures;
@@ -47,6 +48,7 @@ returns-clause-step g c =
     (record {
       map = refl;
       keys = refl;
+      work = refl;
       room = refl;
       entries_are = refl;
       lane_is = c.set_lane.ensures;

@@ -22,6 +22,7 @@ invariant_of-self g c =
     (record {
       map = refl;
       keys = refl;
+      work = refl;
       room = refl;
       entries_are = refl;
       lane_is = rw c.after_settle.ensures at c.set_lane.ensures;
@@ -35,6 +36,7 @@ returns g c =
     (record {
       map = refl;
       keys = refl;
+      work = refl;
       room = refl;
       entries_are = refl;
       lane_is = rw c.after_settle.ensures at c.set_lane.ensures;
