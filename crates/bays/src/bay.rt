@@ -4,7 +4,7 @@ ghost use Rattle.sector_disk.specs.Geometry.{IsAtom};
 ghost use Rattle.bays.specs.Bays.{AfterDisk, AfterLinks, AreBounded, AreFresh, HasBayCause};
 ghost use Rattle.bays.specs.Bays.{Holdings, LeavesAll};
 
-use crate::{Link, ReadOnly};
+use crate::Link;
 use base_terms::Bytes;
 use sector_disk::Disk;
 use std::alloc::Global;
@@ -53,23 +53,15 @@ pub trait Bay {
         ensures leaves { AfterDisk name.now (holdings self.old) (holdings self.new) result }
         ensures cause { HasBayCause (holdings self.old).faults (holdings self.new).faults result };
 
-    /// The same disk, to be read alone: it refuses to be written, and is had also while another
-    /// program has it. All else in the bay stands.
-    fn disk_to_read(
-        &mut self,
-        alloc: Global,
-        name: &str,
-        atom: u32,
-    ) -> Result<ReadOnly<Self::Disk>, BayFault>
+    /// The same disk, opened to be read alone: it is had also while another program has it locked,
+    /// and the machine refuses to write to it. All else in the bay stands.
+    fn disk_to_read(&mut self, alloc: Global, name: &str, atom: u32) -> Result<Self::Disk, BayFault>
         requires { IsAtom atom }
-        ensures asked { MatchResult result
-            (λ opened. asks_reading self.old name.now atom (Ok opened.disk) self.new)
-            (λ fault. asks_reading self.old name.now atom (Err fault) self.new) }
-        ensures atom { IfOk result (λ opened. (Self.Disk.device opened.disk).size ≡ atom) }
-        ensures fresh { IfOk result (λ opened. opened.refused ≡ 0) }
+        ensures asked { asks_reading self.old name.now atom result self.new }
+        ensures atom { IfOk result (λ disk. (Self.Disk.device disk).size ≡ atom) }
         ensures told { IfOk result
-            (λ opened. (kept : Self.Disk) → (holdings self.old).shelf name.now ≡ Some kept →
-            opened.disk ≡ kept) }
+            (λ disk. (kept : Self.Disk) → (holdings self.old).shelf name.now ≡ Some kept →
+            disk ≡ kept) }
         ensures leaves { AfterDisk name.now (holdings self.old) (holdings self.new) result }
         ensures cause { HasBayCause (holdings self.old).faults (holdings self.new).faults result };
 

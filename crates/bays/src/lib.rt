@@ -12,7 +12,6 @@ mod link;
 mod mem_bay;
 mod mem_link;
 mod names;
-mod read_only;
 #[cfg(test)]
 mod tests;
 
@@ -20,4 +19,3 @@ pub use bay::{Bay, BayFault};
 pub use link::Link;
 pub use mem_bay::MemBay;
 pub use mem_link::MemLink;
-pub use read_only::ReadOnly;

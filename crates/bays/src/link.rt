@@ -16,7 +16,8 @@ pub trait Link {
 
     /// The next connection; None exactly where there is no more to come.
     fn next(&mut self) -> Result<Option<(Self::In, Self::Out)>, Failed>
-        ensures told { Gives Self.In.intake Self.Out.outlet (state self.old) (state self.new) result }
+        ensures told { Gives Self.In.intake Self.Out.outlet (state self.old) (state self.new)
+            result }
         ensures at_end { IfOk result (λ given. IfNone given (HasNoneAhead (state self.new))) }
         ensures counts { CountsGiven (state self.old) (state self.new) result }
         ensures cause { HasCause (state self.old).faults (state self.new).faults result };

@@ -17,7 +17,7 @@ ghost use Rattle.std.specs.declared.string.String.{String};
 ghost use Rattle.sector_disk.specs.declared.mem_disk.MemDisk.{MemDisk};
 
 use crate::names::find_name;
-use crate::{Bay, BayFault, MemLink, ReadOnly};
+use crate::{Bay, BayFault, MemLink};
 use base_terms::Bytes;
 use io_edge::{FaultPlan, ListSink, ListSource};
 use sector_disk::{Disk, MemDisk};
@@ -197,24 +197,17 @@ impl Bay for MemBay {
     }
 
     /// Gives what `disk` gives, each disk once in all, and fails where that fails.
-    fn disk_to_read(
-        &mut self,
-        alloc: Global,
-        name: &str,
-        atom: u32,
-    ) -> Result<ReadOnly<MemDisk>, BayFault>
+    fn disk_to_read(&mut self, alloc: Global, name: &str, atom: u32) -> Result<MemDisk, BayFault>
         requires { IsAtom atom }
-        ensures atom { IfOk result (λ opened. atom_of opened.disk ≡ atom) }
-        ensures fresh { IfOk result (λ opened. opened.refused ≡ 0) }
+        ensures atom { IfOk result (λ disk. atom_of disk ≡ atom) }
         ensures told { IfOk result
-            (λ opened. (kept : MemDisk) → named name.now self.old.disks ≡ Some kept →
-            opened.disk ≡ kept) }
+            (λ disk. (kept : MemDisk) → named name.now self.old.disks ≡ Some kept → disk ≡ kept) }
         ensures leaves { AfterDisk name.now (holdings_of self.old) (holdings_of self.new) result }
         ensures cause { HasBayCause self.old.plan.faults self.new.plan.faults result }
         ensures exact { IsErr result ↔
             (IsTrue (not (has_disk name.now atom self.old.disks))
             ⊎ Contains self.old.plan.fails self.old.plan.calls) }
-        ensures is { IfOk result (λ opened. named name.now self.old.disks ≡ Some opened.disk) }
+        ensures is { IfOk result (λ disk. named name.now self.old.disks ≡ Some disk) }
         ensures takes { OnOk result
             (self.new ≡ record self.old {
               disks = without name.now self.old.disks;
@@ -225,10 +218,7 @@ impl Bay for MemBay {
         ensures fails { OnErr result
             (self.new ≡ record self.old { plan = next_plan self.old.plan true }) }
     {
-        match self.disk(alloc, name, atom) {
-            Ok(disk) => Ok(ReadOnly::new(disk)),
-            Err(fault) => Err(fault),
-        }
+        self.disk(alloc, name, atom)
     }
 
     /// Fails exactly where the call's number is one of those that are to fail, and where there is
@@ -275,7 +265,8 @@ impl Bay for MemBay {
             (λ links. AreFresh link_state ((holdings_of self.old).inputs address.now) workers
             sessions links.items) }
         ensures bound { IfOk result (λ links. AreBounded link_state workers sessions links.items) }
-        ensures leaves { AfterLinks address.now (holdings_of self.old) (holdings_of self.new) result }
+        ensures leaves { AfterLinks address.now (holdings_of self.old) (holdings_of self.new)
+            result }
         ensures cause { HasBayCause self.old.plan.faults self.new.plan.faults result }
         ensures exact { IsErrOf result BayFault.Failed ↔
             (IsTrue (not (bytes_eq address.now self.old.address))
@@ -284,7 +275,8 @@ impl Bay for MemBay {
             (λ links. AreDealt self.old.connections self.old.link_fails workers sessions
             links.items) }
         ensures gives { OnOk result
-            (self.new ≡ record self.old { connections = []; plan = next_plan self.old.plan false }) }
+            (self.new
+            ≡ record self.old { connections = []; plan = next_plan self.old.plan false }) }
         ensures fails { IsErr result →
             self.new ≡ record self.old { plan = next_plan self.old.plan (is_failed result) } }
     {

@@ -92,7 +92,8 @@ impl Link for MemLink {
     /// Fails exactly where the call's number is one of those that are to fail; then nothing changes
     /// but the counts. There is no connection exactly where none is ahead.
     fn next(&mut self) -> Result<Option<(ListSource, ListSink)>, Failed>
-        ensures told { Gives intake_of outlet_of (link_state self.old) (link_state self.new) result }
+        ensures told { Gives intake_of outlet_of (link_state self.old) (link_state self.new)
+            result }
         ensures at_end { IfOk result (λ given. IfNone given (HasNoneAhead (link_state self.new))) }
         ensures counts { CountsGiven (link_state self.old) (link_state self.new) result }
         ensures cause { HasCause self.old.plan.faults self.new.plan.faults result }

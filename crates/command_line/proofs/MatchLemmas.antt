@@ -2,14 +2,16 @@
 use Rattle.std.proofs.Common.{◌≡◌, ◌≢◌, List, [], true, refl, inl, inr, subst}
 use Rattle.std.specs.Prelude.{Result, Ok, Err, IfOk, IfErr}
 use Rattle.clap.proofs.WalkLemmas.{both}
-use Rattle.clap.specs.Words.{FailsBy, HasMatchesOf, IsAmong, Kinds, is_simple, is_simple_and_free, kind_of}
+use Rattle.clap.specs.Words.{FailsBy, HasMatchesOf, IsAmong, Kinds, is_simple, is_simple_and_free}
+use Rattle.clap.specs.Words.{kind_of}
 use Rattle.clap.specs.Words.{subcommand_of, subcommand_rows_of}
 use Rattle.clap.specs.Simple.{App}
 use Rattle.clap.specs.Walk.{Text}
 use Rattle.clap.specs.declared.error.Error.{Error}
 use Rattle.clap.specs.declared.error.kind.ErrorKind.TheVariants.{OutOfMemory}
 use Rattle.clap.specs.declared.parser.matches.ArgMatches.{ArgMatches}
-use Rattle.command_line.specs.Product.{product, format_rules, init_rules, serve_rules, resume_rules, status_rules, demo_rules}
+use Rattle.command_line.specs.Product.{product, format_rules, init_rules, serve_rules, resume_rules}
+use Rattle.command_line.specs.Product.{status_rules, demo_rules}
 
 pub simple : is_simple_and_free product ≡ true
 unfolding product format_rules init_rules serve_rules resume_rules status_rules demo_rules

@@ -1,5 +1,6 @@
 -- Decimal digits as a number.
-use Rattle.std.proofs.Common.{◌≡◌, ◌+◌, ◌-◌, ◌*◌, ◌^◌, ◌<◌, ◌≤◌, ℕ, List, length, Bool, true, false, cond, fold, rules, refl, arith, Some, None, [], ◌∷◌, inl, inr}
+use Rattle.std.proofs.Common.{◌≡◌, ◌+◌, ◌-◌, ◌*◌, ◌^◌, ◌<◌, ◌≤◌, ℕ, List, length, Bool, true, false}
+use Rattle.std.proofs.Common.{cond, fold, rules, refl, arith, Some, None, [], ◌∷◌, inl, inr}
 use Rattle.std.proofs.lemmas.Bool.{cases_lt, leb-true, le-leb}
 use Rattle.std.proofs.lemmas.Str.Parse.{IsNumeralModel, numerals_by_fold, parse_digits}
 use Rattle.std.specs.Prelude.{Result, Ok, Err}
@@ -62,5 +63,6 @@ too_large least most word (Err e) parses number small none =
 -- the number that `parse` gives
 pub same : {E : Type 0} (word : Text) (r : Result ℕ E) (n : ℕ) → ParsesUnsigned 64 10 word r →
     is_number word ≡ true → r ≡ Ok n → n ≡ number_of word
-same {E} word (Ok m) n parses number is = let found : m ≡ number_of word = (parsed {E = E} word (Ok m) parses number).1 in cc
+same {E} word (Ok m) n parses number is = let found : m ≡ number_of word =
+    (parsed {E = E} word (Ok m) parses number).1 in cc
 same {E} word (Err e) n parses number is = search

@@ -1,5 +1,6 @@
 -- What the words of a command line ask for.
-use Rattle.std.specs.Prelude.{ℕ, ◌&&◌, ◌==◌, Bool, not, List, length, codes, if◌then◌else◌}
+use Rattle.std.specs.Prelude.{ℕ, ◌≡◌, ◌<◌, ◌≤◌, ◌⊎◌, ◌&&◌, ◌==◌, Bool, not, List, length, codes}
+use Rattle.std.specs.Prelude.{if◌then◌else◌}
 use Rattle.std.specs.Prelude.{Option, Some, None, option_and_then, option_map}
 use Rattle.std.specs.Str.{bytes_eq}
 use Rattle.clap.specs.Walk.{Row, Text, first_of}
@@ -46,6 +47,20 @@ abbrev pub asked_by : Command → Asked
 asked_by (commands.Serve words) = serves (serving words)
 asked_by (commands.Status words) = shows (showing words)
 
+-- the values of a command are within their bounds
+abbrev pub IsAtomSize : ℕ → Type 0
+IsAtomSize atom = (atom ≡ 512) ⊎ (atom ≡ 4096)
+
+pub record IsServing (words : Serving) : Type 0 where
+  pub atom : IsAtomSize words.atom
+  pub some_worker : 0 < words.workers
+  pub workers : words.workers ≤ 16
+  pub sessions : words.sessions ≤ 65535
+
+abbrev pub IsBounded : Asked → Type 0
+IsBounded (serves words) = IsServing words
+IsBounded (shows words) = IsAtomSize words.atom
+
 -- a disk is served plain alone, and without a header of its own
 abbrev pub is_plain : List Row → Bool
 is_plain rows = is_set (codes "plain") rows
@@ -77,8 +92,8 @@ unfoldable pub command_in : Text → List Row → Option Asked
 command_in name rows = if bytes_eq name (codes "serve") then option_map serves (serving_in rows)
     else (if bytes_eq name (codes "status") then option_map shows (showing_in rows) else None)
 
--- What the words ask for: where `clap` takes them, the command that it finds in them, if each of its
--- values is of its form and in its range.
+-- What the words ask for: where `clap` takes them, the command that it finds in them, if each of
+-- its values is of its form and in its range.
 unfoldable pub asked : List Text → Option Asked
 asked words = if length (fault_of product words) == 0
     then option_and_then (λ found. command_in found.0 found.1) (subcommand_of product words)

@@ -6,6 +6,9 @@ ghost use Rattle.clap.specs.declared.error.kind.ErrorKind.TheVariants.{OutOfMemo
 ghost use Rattle.command_line.specs.Product.{product};
 ghost use Rattle.command_line.specs.Values.{Reads};
 ghost use Rattle.command_line.specs.Commands.{
+  IsAtomSize,
+  IsBounded,
+  IsServing,
   asked,
   asked_by,
   command_in,
@@ -71,7 +74,8 @@ fn matches_of<'a>(alloc: Global, words: &'a [String]) -> Result<ArgMatches<'a>, 
 
 #[tactic(auto, unfolding(crate::specs::Commands::serving_in))]
 fn read_serve<'a>(matches: &ArgMatches<'a>) -> Result<Serve<'a>, Refused>
-    ensures { Reads serving result (serving_in (rows_of (found_of matches.now))) }
+    ensures reads { Reads serving result (serving_in (rows_of (found_of matches.now))) }
+    ensures bounded { IfOk result (λ words. IsServing (serving words)) }
 {
     let disk = required(matches, "disk")?;
     let atom = atom_or_default(matches)?;
@@ -100,7 +104,8 @@ fn read_serve<'a>(matches: &ArgMatches<'a>) -> Result<Serve<'a>, Refused>
 
 #[tactic(auto, unfolding(crate::specs::Commands::showing_in))]
 fn read_status<'a>(matches: &ArgMatches<'a>) -> Result<Status<'a>, Refused>
-    ensures { Reads showing result (showing_in (rows_of (found_of matches.now))) }
+    ensures reads { Reads showing result (showing_in (rows_of (found_of matches.now))) }
+    ensures bounded { IfOk result (λ words. IsAtomSize words.atom) }
 {
     let disk = required(matches, "disk")?;
     let atom = atom_or_default(matches)?;
@@ -113,7 +118,8 @@ fn read_status<'a>(matches: &ArgMatches<'a>) -> Result<Status<'a>, Refused>
 /// The command of this name, by its values.
 #[tactic(auto, unfolding(crate::specs::Commands::command_in))]
 fn read_command<'a>(name: &str, matches: &ArgMatches<'a>) -> Result<Command<'a>, Refused>
-    ensures { Reads asked_by result (command_in name.now (rows_of (found_of matches.now))) }
+    ensures reads { Reads asked_by result (command_in name.now (rows_of (found_of matches.now))) }
+    ensures bounded { IfOk result (λ command. IsBounded (asked_by command)) }
 {
     if name == "serve" {
         let serve = read_serve(matches)?;
@@ -133,9 +139,10 @@ fn read_command<'a>(name: &str, matches: &ArgMatches<'a>) -> Result<Command<'a>,
 /// `Usage` exactly where they ask for nothing, or for what isn't built yet; or `Memory`.
 #[tactic(auto, unfolding(crate::specs::Commands::asked))]
 pub fn read_words(alloc: Global, words: &[String]) -> Result<Command<'_>, Refusal>
-    ensures { MatchResult result
+    ensures asked { MatchResult result
         (λ command. asked (map string_bytes words.now) ≡ Some (asked_by command))
         (λ refusal. refusal ≡ Refusal.Usage → asked (map string_bytes words.now) ≡ None) }
+    ensures bounded { IfOk result (λ command. IsBounded (asked_by command)) }
 {
     let matches = match matches_of(alloc, words) {
         Ok(matches) => matches,

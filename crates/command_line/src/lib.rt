@@ -1,16 +1,13 @@
 //! The words of the program's command line, read by `clap`: which command they ask for, with every
 //! value that it has, or that they ask for nothing. The layer above may rely on one definition of
-//! what words ask for: where `clap` takes them, the values that it finds, each of its form and in its
-//! range, and the defaults of those that aren't given. Words that ask for nothing are explained to a
-//! person by the texts of `clap`.
+//! what words ask for, `asked`: where `clap` takes them, the values that it finds, each of its form
+//! and in its range, and the defaults of those that aren't given. Words that ask for nothing are
+//! explained to a person by the texts of `clap`.
 #![tactic(auto)]
 
+mod command;
+mod item;
+mod product;
+mod values;
 
-pub mod command;
-pub mod item;
-pub mod product;
-pub mod values;
-
-
-
-
+pub use command::{Command, Refusal, Serve, Status, explain_words, read_words};

@@ -205,7 +205,12 @@ fn resume<'a>(alloc: Global) -> Result<Command<'a>, AllocError>
     ensures local { IfOk result (λ c. (out-Command c).has_globals ≡ false) }
 {
     let items = [Item::Disk, HEADER, ATOM, KEY_FILE];
-    leaf(alloc, "resume", "Convert to the end (not built yet)", &items)
+    leaf(
+        alloc,
+        "resume",
+        "Convert to the end (not built yet)",
+        &items,
+    )
 }
 
 #[tactic(auto, unfolding(crate::specs::Product::status_rules))]
@@ -242,7 +247,12 @@ fn demo<'a>(alloc: Global) -> Result<Command<'a>, AllocError>
             required: true,
         },
     ];
-    leaf(alloc, "demo", "Convert a volume in memory (not built yet)", &items)
+    leaf(
+        alloc,
+        "demo",
+        "Convert a volume in memory (not built yet)",
+        &items,
+    )
 }
 
 /// The whole command line, as `clap` reads it.

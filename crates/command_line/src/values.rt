@@ -2,6 +2,7 @@ ghost use Rattle.std.specs.Prelude.{◌≡◌, ◌≤◌, option_map, codes, IfO
 ghost use Rattle.std.specs.Char.{is_ascii_digit};
 ghost use Rattle.std.specs.List.{list_all};
 ghost use Rattle.clap.specs.Words.{found_of, rows_of, first_of};
+ghost use Rattle.command_line.specs.Commands.{IsAtomSize};
 ghost use Rattle.command_line.specs.Values.{
   Reads,
   atom_named,
@@ -74,6 +75,7 @@ fn are_digits(word: &[u8]) -> bool
 #[tactic(auto, unfolding(crate::specs::Values::number_within))]
 fn number_within(word: &str, least: u64, most: u64) -> Option<u64>
     ensures is { result ≡ number_within least most word.now }
+    ensures above { IfSome result (λ number. least ≤ number) }
     ensures within { IfSome result (λ number. number ≤ most) }
 {
     if !is_number(word) {
@@ -101,9 +103,11 @@ pub fn number_or(
     most: u64,
     refused: Refused,
 ) -> Result<u64, Refused>
-    requires { default ≤ most }
+    requires above { least ≤ default }
+    requires within { default ≤ most }
     ensures reads { Reads (λ number. number) result
         (number_or default least most (first_of name.now (rows_of (found_of matches.now)))) }
+    ensures above { IfOk result (λ number. least ≤ number) }
     ensures within { IfOk result (λ number. number ≤ most) }
 {
     let Some(word) = text_of(matches, name) else {
@@ -118,7 +122,8 @@ pub fn number_or(
 /// The bytes of an atom.
 #[tactic(auto, unfolding(crate::specs::Values::atom_named))]
 fn atom_named(word: &str) -> Option<u32>
-    ensures { result ≡ atom_named word.now }
+    ensures is { result ≡ atom_named word.now }
+    ensures known { IfSome result IsAtomSize }
 {
     if word == "512" {
         Some(512)
@@ -132,8 +137,9 @@ fn atom_named(word: &str) -> Option<u32>
 /// The value of `--atom`, or its default.
 #[tactic(auto, unfolding(crate::specs::Values::atom_or_default))]
 pub fn atom_or_default(matches: &ArgMatches<'_>) -> Result<u32, Refused>
-    ensures { Reads (λ atom. atom) result
+    ensures reads { Reads (λ atom. atom) result
         (atom_or_default (first_of (codes "atom") (rows_of (found_of matches.now)))) }
+    ensures known { IfOk result IsAtomSize }
 {
     let Some(word) = text_of(matches, "atom") else {
         return Ok(4096);

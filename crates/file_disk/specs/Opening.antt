@@ -15,8 +15,8 @@ OpensLocked {F} opens locks measures result = MatchResult result
     ⊎ ((file locked left : F) × opens (Ok file) × locks file (Ok tt) locked
     × measures locked (Err error) left))
 
--- The file was opened to be read alone, and measured, each by one call of the system; or the first of
--- these calls that the system refused said why, and none came behind it.
+-- The file was opened to be read alone, and measured, each by one call of the system; or the first
+-- of these calls that the system refused said why, and none came behind it.
 unfoldable pub OpensToRead : {F : Type 0} → (Result F Error → Type 0) →
     (F → Result ℕ Error → F → Type 0) → Result (F × ℕ) Error → Type 0
 OpensToRead {F} opens measures result = MatchResult result

@@ -41,7 +41,8 @@ pub trait FileSystem {
     /// What opening the file of a name for reading alone gives.
     ghost opens_to_read: { Self → List ℕ → Result Self.Opened Error → Type 0 };
 
-    /// Opens the file or block device of that name for reading alone: the system refuses each write.
+    /// Opens the file or block device of that name for reading alone: the system refuses each
+    /// write.
     fn open_to_read(&self, path: &str) -> io::Result<Self::Opened>
         ensures { opens_to_read self.now path.now result };
 
@@ -143,7 +144,7 @@ pub fn open_for_reading<S: FileSystem>(system: &S, path: &str) -> io::Result<(S:
         Err(error) => return Err(error),
     };
     match file.measure() {
-        Ok(len) => Ok((file, len)),
+        Ok(bytes) => Ok((file, bytes)),
         Err(error) => Err(error),
     }
 }

@@ -17,7 +17,7 @@ use crate::host_link::HostLink;
 use crate::network::Network;
 use crate::notices::{announce, complain};
 use base_terms::Bytes;
-use bays::{Bay, BayFault, ReadOnly};
+use bays::{Bay, BayFault};
 use file_disk::{FileDisk, FileSystem, open_for_reading, open_locked};
 use std::alloc::Global;
 use std::io::{self, ErrorKind, Stderr, Stdin, Stdout};
@@ -212,14 +212,13 @@ impl<R: FileSystem + Network + Drop> Bay for HostBay<R> {
         alloc: Global,
         name: &str,
         atom: u32,
-    ) -> Result<ReadOnly<Self::Disk>, BayFault>
+    ) -> Result<Self::Disk, BayFault>
         requires { IsAtom atom }
-        ensures atom { IfOk result (λ opened. opened.disk.atom ≡ atom) }
-        ensures fresh { IfOk result (λ opened. opened.refused ≡ 0) }
-        ensures opened { IfOk result (λ opened. (len : ℕ)
+        ensures atom { IfOk result (λ disk. disk.atom ≡ atom) }
+        ensures opened { IfOk result (λ disk. (len : ℕ)
             × OpensToRead (R.opens_to_read self.old.machine name.now)
-            R.Opened.measures (Ok (opened.disk.file.file, len))
-            × (opened.disk.atoms ≡ whole_atoms atom len)) }
+            R.Opened.measures (Ok (disk.file.file, len))
+            × (disk.atoms ≡ whole_atoms atom len)) }
         ensures refused { IfErr result (λ fault. fault ≡ BayFault.Failed → (error : Error)
             × OpensToRead (R.opens_to_read self.old.machine name.now)
             R.Opened.measures (Err error)) }
@@ -227,7 +226,7 @@ impl<R: FileSystem + Network + Drop> Bay for HostBay<R> {
         ensures cause { HasBayCause self.old.faults self.new.faults result }
     {
         match self.named(alloc, name, open_for_reading(&self.machine, name)) {
-            Ok((file, len)) => Ok(ReadOnly::new(FileDisk::new(file, len, atom))),
+            Ok((file, len)) => Ok(FileDisk::new(file, len, atom)),
             Err(error) => Err(self.refused(alloc, name, &error)),
         }
     }

@@ -13,8 +13,14 @@ returns-in-Disk-clause-rule c =
 
 pub returns-in-Valued-clause-rule : goal.returns-in-Valued-clause-rule
 returns-in-Valued-clause-rule c =
-    rw (c.in-Valued.is, c.action-in-Valued.ensures, c.required-in-Valued.ensures,
-    c.help-in-Valued.ensures, c.value_name-in-Valued.ensures, c.long.ensures)
+    rw (
+      c.in-Valued.is,
+      c.action-in-Valued.ensures,
+      c.required-in-Valued.ensures,
+      c.help-in-Valued.ensures,
+      c.value_name-in-Valued.ensures,
+      c.long.ensures,
+    )
     (ap (λ (r : Rule). record r {
       long = Some c.in-Valued.name.now;
       value_names = 1;
