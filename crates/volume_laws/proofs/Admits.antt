@@ -67,8 +67,8 @@ forget_writes : {K : Type 0} (state : State K) (plain : ℕ → List ℕ) (lane 
     KeepsWrites state plain state (with_plain plain lane now)
 forget_writes state plain lane now free =
     writes_stay state plain state (with_plain plain lane now) lane (open_at state.lanes lane) refl
-    (becomes_itself state.lanes lane)
-    (plain-other plain lane now) (λ b value. idle state plain lane b value free)
+    (becomes_itself state.lanes lane) (plain-other plain lane now)
+    (λ b value. idle state plain lane b value free)
     (λ b value. idle state (with_plain plain lane now) lane b value free)
     (λ o is forced settled. cc)
 
@@ -81,9 +81,8 @@ logic_forgets state plain left lane now free logic = record {
   sure = logic.sure;
   lanes = lanes_still state plain state (with_plain plain lane now) left lane
       (open_at state.lanes lane) (record { map = refl; work = refl })
-      (becomes_itself state.lanes lane)
-      (plain-other plain lane now) (λ k other holds. holds) (λ was. was) (λ o is. absurd (cc))
-      logic.lanes;
+      (becomes_itself state.lanes lane) (plain-other plain lane now) (λ k other holds. holds)
+      (λ was. was) (λ o is. absurd (cc)) logic.lanes;
 }
 
 pub shown_forgets : {K : Type 0} (state : State K) (seals : Seals) (plain : ℕ → List ℕ)
@@ -113,72 +112,67 @@ knows_nothing state plain left lane o none first ordered unsettled unfailed = re
   beside = λ b from to of. absurd (omega (arith, from, to));
 }
 
--- which entries hold stays when another enters
-pub holds_admitted : {K : Type 0} (old new : State K) (lane session : ℕ) (ask : Ask)
-    (outcome : Outcome) → IsAdmitted old lane session ask outcome new →
-    (k : ℕ) → k ≢ lane → Holds old k → Holds new k
-holds_admitted old new lane session ask outcome is k other holds = elim (either (has_lock ask)) [
-  | inl has ↦ (let enters = match_true (has_lock ask) _ _ has is.enters in
-      rw enters.0
-      (holds-more k old.entries (entry_of old.map.atom lane ask) (λ same. other (sym same)) holds))
-  | inr has_none ↦
-      (let enters = match_false (has_lock ask) _ _ has_none is.enters in rw enters.0 holds)
-]
+module _ {K : Type 0} (old new : State K) (lane session : ℕ) (ask : Ask) (outcome : Outcome)
+    (is : IsAdmitted old lane session ask outcome new) where
+  -- which entries hold stays when another enters
+  pub holds_admitted : (k : ℕ) → k ≢ lane → Holds old k → Holds new k
+  holds_admitted k other holds = elim (either (has_lock ask)) [
+    | inl has ↦ (let enters = match_true (has_lock ask) _ _ has is.enters in
+        rw enters.0
+        (holds-more k old.entries (entry_of old.map.atom lane ask) (λ same. other (sym same))
+        holds))
+    | inr has_none ↦
+        (let enters = match_false (has_lock ask) _ _ has_none is.enters in rw enters.0 holds)
+  ]
 
-pub logic_admitted : {K : Type 0} (old new : State K) (plain : ℕ → List ℕ) (left : List Block)
-    (lane session : ℕ) (ask : Ask) (outcome : Outcome) →
-    Logic old plain left → IsSound new → wrong_ask old.map.atom (size_of old.map) ask ≡ None
-    → IsAdmitted old lane session ask outcome new →
-    Logic new (with_plain plain lane []) left
-logic_admitted old new plain left lane session ask outcome logic sound proper is =
-    let under_way = begins old.map session ask logic.sound.fits.known proper in record {
-      sound = sound;
-      are = rw is.goes.map logic.are;
-      sure = λ whole b below. logic.sure (sym is.goes.broken_is ∙ whole) b
-          (subst (λ m. b < m.blocks) is.goes.map below);
-      lanes = lanes_still old plain new (with_plain plain lane []) left lane
-          (Some (begun old.map.atom session ask)) (goes_stays is.goes) is.goes.lane_is
-          (plain-other plain lane []) (holds_admitted old new lane session ask outcome is)
-          (λ was. is.goes.broken_is ∙ was)
-          (λ o same. let e : o ≡ begun old.map.atom session ask = cc in
-          rw e (knows_nothing new (with_plain plain lane []) left lane
-          (begun old.map.atom session ask) (plain-own plain lane []) refl
-          (let from = under_way.begun in let to = under_way.within in omega (arith, from, to)) refl
-          refl))
-          logic.lanes;
-    }
+  pub logic_admitted : (plain : ℕ → List ℕ) (left : List Block) → Logic old plain left → IsSound new
+      → wrong_ask old.map.atom (size_of old.map) ask ≡ None
+      → Logic new (with_plain plain lane []) left
+  logic_admitted plain left logic sound proper =
+      let under_way = begins old.map session ask logic.sound.fits.known proper in record {
+        sound = sound;
+        are = rw is.goes.map logic.are;
+        sure = λ whole b below. logic.sure (sym is.goes.broken_is ∙ whole) b
+            (subst (λ m. b < m.blocks) is.goes.map below);
+        lanes = lanes_still old plain new (with_plain plain lane []) left lane
+            (Some (begun old.map.atom session ask)) (goes_stays is.goes) is.goes.lane_is
+            (plain-other plain lane []) (holds_admitted) (λ was. is.goes.broken_is ∙ was)
+            (λ o same. let e : o ≡ begun old.map.atom session ask = cc in
+            rw e (knows_nothing new (with_plain plain lane []) left lane
+            (begun old.map.atom session ask) (plain-own plain lane []) refl
+            (let from = under_way.begun in let to = under_way.within in omega (arith, from, to))
+            refl
+            refl)) logic.lanes;
+      }
 
-pub shown_admitted : {K : Type 0} (old new : State K) (seals : Seals) (plain : ℕ → List ℕ)
-    (left : List Block) (lane session : ℕ) (ask : Ask) (outcome : Outcome) (view next : View) →
-    0 < old.map.atom → open_at old.lanes lane ≡ None → IsAdmitted old lane session ask outcome new
-    → IsUnchanged view next →
-    Shown old seals plain left view → Shown new seals (with_plain plain lane []) left next
-shown_admitted old new seals plain left lane session ask outcome view next some free is same shown =
-    shown_kept old plain new (with_plain plain lane []) seals left view next (goes_stays is.goes)
-    (writes_stay old plain new (with_plain plain lane []) lane
-    (Some (begun old.map.atom session ask)) is.goes.map is.goes.lane_is
-    (plain-other plain lane []) (λ b value. idle old plain lane b value free)
-    (λ b value. untried new (with_plain plain lane []) lane b value (rw is.goes.map some)
-    (plain-own plain lane []))
-    (λ o begins_so forced settled. let e : o ≡ begun old.map.atom session ask =
-    cc in let never : false ≡ true = subst (λ p. p.settled ≡ true) e settled in cc))
-    (λ whole. (sym is.goes.broken_is ∙ whole, same.current)) same.candidates shown
+  pub shown_admitted : (seals : Seals) (plain : ℕ → List ℕ) (left : List Block) (view next : View)
+      → 0 < old.map.atom → open_at old.lanes lane ≡ None → IsUnchanged view next
+      → Shown old seals plain left view → Shown new seals (with_plain plain lane []) left next
+  shown_admitted seals plain left view next some free same shown =
+      shown_kept old plain new (with_plain plain lane []) seals left view next (goes_stays is.goes)
+      (writes_stay old plain new (with_plain plain lane []) lane
+      (Some (begun old.map.atom session ask)) is.goes.map is.goes.lane_is
+      (plain-other plain lane []) (λ b value. idle old plain lane b value free)
+      (λ b value. untried new (with_plain plain lane []) lane b value (rw is.goes.map some)
+      (plain-own plain lane []))
+      (λ o begins_so forced settled. let e : o ≡ begun old.map.atom session ask =
+      cc in let never : false ≡ true = subst (λ p. p.settled ≡ true) e settled in cc))
+      (λ whole. (sym is.goes.broken_is ∙ whole, same.current)) same.candidates shown
 
--- an operation that was admitted isn't answered yet
-pub unanswered : {K : Type 0} (old new : State K) (lane session : ℕ) (ask : Ask) (outcome : Outcome)
-    → IsAdmitted old lane session ask outcome new → by_admit session ask outcome ≡ []
-unanswered old new lane session ask outcome is = elim (either (has_lock ask)) [
-  | inl has ↦
-      standing_tells outcome (IsStanding old.entries (entry_of old.map.atom lane ask))
-      (match_true (has_lock ask) _ _ has is.enters).1
-  | inr has_none ↦
-      standing_tells outcome (λ standing. standing ≡ Held)
-      (match_false (has_lock ask) _ _ has_none is.enters).1
-]
-  where
-    standing_tells : (outcome : Outcome) (stands : Standing → Type 0)
-        → TellsStanding old (range_of old.map.atom ask) stands outcome
-        → by_admit session ask outcome ≡ []
-    standing_tells (held grant) stands tells = refl
-    standing_tells (waits other) stands tells = refl
-    standing_tells _ stands tells = absurd tells
+  -- an operation that was admitted isn't answered yet
+  pub unanswered : by_admit session ask outcome ≡ []
+  unanswered = elim (either (has_lock ask)) [
+    | inl has ↦
+        standing_tells outcome (IsStanding old.entries (entry_of old.map.atom lane ask))
+        (match_true (has_lock ask) _ _ has is.enters).1
+    | inr has_none ↦
+        standing_tells outcome (λ standing. standing ≡ Held)
+        (match_false (has_lock ask) _ _ has_none is.enters).1
+  ]
+    where
+      standing_tells : (outcome : Outcome) (stands : Standing → Type 0)
+          → TellsStanding old (range_of old.map.atom ask) stands outcome
+          → by_admit session ask outcome ≡ []
+      standing_tells (held grant) stands tells = refl
+      standing_tells (waits other) stands tells = refl
+      standing_tells _ stands tells = absurd tells

@@ -114,69 +114,6 @@ proper_full : (atom size : ℕ) (answered : Answered) → wrong_ask atom size an
     → IsFull answered answered.ask → AreFull atom size (answered ∷ [])
 proper_full atom size answered proper full = one_full atom size answered (rw proper full)
 
--- a piece has its length in plain
-piece_length : {K : Type 0} (old : State K) (seals : Seals) (plain : ℕ → List ℕ) (lane : ℕ)
-    (o : Open) (piece : Piece) (bytes : List ℕ) → IsFine old seals plain
-    → open_at old.lanes lane ≡ Some o →
-    has_lock o.ask ≡ true → IsPieceOf old.map o piece → ArePieceBytes old.map piece bytes →
-    length (with_plain plain lane (plain lane ++ plain_piece seals old lane bytes) lane)
-    ≡ ((moved o piece).next - o.range.start) * old.map.atom
-piece_length old seals plain lane o piece bytes fine at has next are =
-    let size = (fine.lanes lane o at).1 has in
-    let begun = (fine.sound.under_way lane o at).begun in
-    let first : piece.first ≡ o.next = next.first in
-    let more = (piece_blocks old.map seals o piece bytes fine.lawful next are).size in
-    let opened : plain_piece seals old lane bytes
-    ≡ seals.opened (side_in old.map o.next) o.next bytes = rw at refl in
-    let count : (moved o piece).next - o.range.start ≡ (o.next - o.range.start) + piece.count =
-    omega (arith, first, begun) in
-    ap (λ xs. length xs) (plain-own plain lane (plain lane ++ plain_piece seals old lane bytes))
-    ∙ length-append (plain lane) (plain_piece seals old lane bytes)
-    ∙ rw (count, opened, size, more) (grind arith)
-
-fine_read : {K : Type 0} (old new : State K) (seals : Seals) (plain : ℕ → List ℕ) (lane : ℕ)
-    (o : Open) (outcome : Outcome) → IsFine old seals plain → IsSound new
-    → open_at old.lanes lane ≡ Some o → IsRead o.ask →
-    new.disk.faults ≡ old.disk.faults → old.disk.faults < 2 ^ 64 - 1
-    → ReadStep old lane o outcome new → IsFine new seals (after_read seals old lane outcome plain)
-fine_read old new seals plain lane o (got bytes) fine sound at reading same below step =
-    fine_after old new seals plain
-    (with_plain plain lane (plain lane ++ plain_piece seals old lane bytes)) lane old.entries
-    (Some (moved o step.piece)) fine sound step.goes
-    (plain-other plain lane (plain lane ++ plain_piece seals old lane bytes))
-    (λ p is. let e : p ≡ moved o step.piece = cc in
-    rw e (
-      (fine.lanes lane o at).0,
-      λ has. piece_length old seals plain lane o step.piece bytes fine at has step.next step.are,
-    ))
-fine_read old new seals plain lane o device fine sound at reading same below step =
-    absurd (rose_not old.disk.faults new.disk.faults (step.call.cause.failed refl) same below)
-fine_read old new seals plain lane o broken fine sound at reading same below step =
-    absurd (let was = step.was in let whole = fine.unbroken in cc)
-fine_read old new seals plain lane o _ fine sound at reading same below step = absurd step
-
-fine_write : {K : Type 0} (old new : State K) (seals : Seals) (plain : ℕ → List ℕ) (lane : ℕ)
-    (o : Open) (bytes : List ℕ) (outcome : Outcome) → IsFine old seals plain → IsSound new
-    → open_at old.lanes lane ≡ Some o →
-    IsWrite o.ask → new.disk.faults ≡ old.disk.faults → old.disk.faults < 2 ^ 64 - 1
-    → WriteStep old lane o bytes outcome new
-    → IsFine new seals (after_write seals old lane bytes outcome plain)
-fine_write old new seals plain lane o bytes done fine sound at writing same below step =
-    fine_after old new seals plain
-    (with_plain plain lane (plain lane ++ plain_piece seals old lane bytes)) lane old.entries
-    (Some (moved o step.piece)) fine sound step.goes
-    (plain-other plain lane (plain lane ++ plain_piece seals old lane bytes))
-    (λ p is. let e : p ≡ moved o step.piece = cc in
-    rw e (
-      (fine.lanes lane o at).0,
-      λ has. piece_length old seals plain lane o step.piece bytes fine at has step.next step.are,
-    ))
-fine_write old new seals plain lane o bytes device fine sound at writing same below step =
-    absurd (rose_not old.disk.faults new.disk.faults (step.call.cause.failed refl) same below)
-fine_write old new seals plain lane o bytes broken fine sound at writing same below step =
-    absurd (let was = step.was in let whole = fine.unbroken in cc)
-fine_write old new seals plain lane o bytes _ fine sound at writing same below step = absurd step
-
 -- a settle
 ends_or_settled : (o p : Open) → after_settle o (settling o) ≡ Some p → p ≡ settling o
 ends_or_settled o p is = elim (either (has_lock o.ask)) [
@@ -198,139 +135,189 @@ settle_full old o proper (inr (forced, ended, unfailed, unsettled)) =
     (let has = forced_locks o.ask forced in let e : [] ≡ by_settle (Some o) done = rw has refl in e)
     (none_full old.map.atom (size_of old.map))
 
-fine_settle : {K : Type 0} (old new : State K) (seals : Seals) (plain : ℕ → List ℕ) (lane : ℕ)
-    (o : Open) (outcome : Outcome) → IsFine old seals plain → IsSound new
-    → open_at old.lanes lane ≡ Some o → CanSettle o →
-    new.disk.faults ≡ old.disk.faults → old.disk.faults < 2 ^ 64 - 1
-    → SettleStep old lane o outcome new → FineAfter old new seals plain (by_settle (Some o) outcome)
-fine_settle old new seals plain lane o done fine sound at can same below step = record {
-  fine = fine_after old new seals plain plain lane old.entries (after_settle o (settling o)) fine
-      sound step.goes (λ k other. refl)
-      (λ p is. let e : p ≡ settling o = ends_or_settled o p is in rw e (fine.lanes lane o at));
-  full = settle_full old o (fine.sound.under_way lane o at).proper can;
-}
-fine_settle old new seals plain lane o device fine sound at can same below step =
-    absurd (rose_not old.disk.faults new.disk.faults (step.call.cause.failed refl) same below)
-fine_settle old new seals plain lane o broken fine sound at can same below step =
-    absurd (let was = step.was in let whole = fine.unbroken in cc)
-fine_settle old new seals plain lane o _ fine sound at can same below step = absurd step
+module _ {K : Type 0} (old new : State K) (seals : Seals) (plain : ℕ → List ℕ) (lane : ℕ)
+    (fine : IsFine old seals plain) (sound : IsSound new) where
+  -- a piece has its length in plain
+  piece_length : (o : Open) (piece : Piece) (bytes : List ℕ) → open_at old.lanes lane ≡ Some o
+      → has_lock o.ask ≡ true → IsPieceOf old.map o piece → ArePieceBytes old.map piece bytes
+      → length (with_plain plain lane (plain lane ++ plain_piece seals old lane bytes) lane)
+      ≡ ((moved o piece).next - o.range.start) * old.map.atom
+  piece_length o piece bytes at has next are =
+      let size = (fine.lanes lane o at).1 has in
+      let begun = (fine.sound.under_way lane o at).begun in
+      let first : piece.first ≡ o.next = next.first in
+      let more = (piece_blocks old.map seals o piece bytes fine.lawful next are).size in
+      let opened : plain_piece seals old lane bytes
+      ≡ seals.opened (side_in old.map o.next) o.next bytes = rw at refl in
+      let count : (moved o piece).next - o.range.start ≡ (o.next - o.range.start) + piece.count =
+      omega (arith, first, begun) in
+      ap (λ xs. length xs) (plain-own plain lane (plain lane ++ plain_piece seals old lane bytes))
+      ∙ length-append (plain lane) (plain_piece seals old lane bytes)
+      ∙ rw (count, opened, size, more) (grind arith)
 
--- an operation that ends
-finish_full : {K : Type 0} (old : State K) (seals : Seals) (plain : ℕ → List ℕ) (lane : ℕ)
-    (o : Open) (ask : Ask) → IsFine old seals plain → open_at old.lanes lane ≡ Some o → o.ask ≡ ask
-    → has_lock o.ask ≡ true →
-    (o.failed ≡ true) ⊎ IsComplete o
-    → IsFull
-    (record {
+  fine_read : (o : Open) (outcome : Outcome) → open_at old.lanes lane ≡ Some o → IsRead o.ask
+      → new.disk.faults ≡ old.disk.faults → old.disk.faults < 2 ^ 64 - 1
+      → ReadStep old lane o outcome new → IsFine new seals (after_read seals old lane outcome plain)
+  fine_read o (got bytes) at reading same below step =
+      fine_after old new seals plain
+      (with_plain plain lane (plain lane ++ plain_piece seals old lane bytes)) lane old.entries
+      (Some (moved o step.piece)) fine sound step.goes
+      (plain-other plain lane (plain lane ++ plain_piece seals old lane bytes))
+      (λ p is. let e : p ≡ moved o step.piece = cc in
+      rw e (
+        (fine.lanes lane o at).0,
+        λ has. piece_length o step.piece bytes at has step.next step.are,
+      ))
+  fine_read o device at reading same below step =
+      absurd (rose_not old.disk.faults new.disk.faults (step.call.cause.failed refl) same below)
+  fine_read o broken at reading same below step =
+      absurd (let was = step.was in let whole = fine.unbroken in cc)
+  fine_read o _ at reading same below step = absurd step
+
+  fine_write : (o : Open) (bytes : List ℕ) (outcome : Outcome) → open_at old.lanes lane ≡ Some o
+      → IsWrite o.ask → new.disk.faults ≡ old.disk.faults → old.disk.faults < 2 ^ 64 - 1
+      → WriteStep old lane o bytes outcome new
+      → IsFine new seals (after_write seals old lane bytes outcome plain)
+  fine_write o bytes done at writing same below step =
+      fine_after old new seals plain
+      (with_plain plain lane (plain lane ++ plain_piece seals old lane bytes)) lane old.entries
+      (Some (moved o step.piece)) fine sound step.goes
+      (plain-other plain lane (plain lane ++ plain_piece seals old lane bytes))
+      (λ p is. let e : p ≡ moved o step.piece = cc in
+      rw e (
+        (fine.lanes lane o at).0,
+        λ has. piece_length o step.piece bytes at has step.next step.are,
+      ))
+  fine_write o bytes device at writing same below step =
+      absurd (rose_not old.disk.faults new.disk.faults (step.call.cause.failed refl) same below)
+  fine_write o bytes broken at writing same below step =
+      absurd (let was = step.was in let whole = fine.unbroken in cc)
+  fine_write o bytes _ at writing same below step = absurd step
+
+  fine_settle : (o : Open) (outcome : Outcome) → open_at old.lanes lane ≡ Some o → CanSettle o
+      → new.disk.faults ≡ old.disk.faults → old.disk.faults < 2 ^ 64 - 1
+      → SettleStep old lane o outcome new
+      → FineAfter old new seals plain (by_settle (Some o) outcome)
+  fine_settle o done at can same below step = record {
+    fine = fine_after old new seals plain plain lane old.entries (after_settle o (settling o)) fine
+        sound step.goes (λ k other. refl)
+        (λ p is. let e : p ≡ settling o = ends_or_settled o p is in rw e (fine.lanes lane o at));
+    full = settle_full old o (fine.sound.under_way lane o at).proper can;
+  }
+  fine_settle o device at can same below step =
+      absurd (rose_not old.disk.faults new.disk.faults (step.call.cause.failed refl) same below)
+  fine_settle o broken at can same below step =
+      absurd (let was = step.was in let whole = fine.unbroken in cc)
+  fine_settle o _ at can same below step = absurd step
+
+  -- an operation that ends
+  finish_full : (o : Open) (ask : Ask) → open_at old.lanes lane ≡ Some o → o.ask ≡ ask
+      → has_lock o.ask ≡ true → (o.failed ≡ true) ⊎ IsComplete o → IsFull
+      (record {
+        session = o.session;
+        ask = ask;
+        plain = plain lane;
+        reply =
+            full_reply ask (plain lane);
+      }) ask
+  finish_full o (Read offset len) at is has ended =
+      let parts = fine.lanes lane o at in
+      let complete : IsComplete o = elim ended [
+        | inl failed ↦ absurd (let whole = parts.0 in cc)
+        | inr complete ↦ complete
+      ] in
+      let under_way = fine.sound.under_way lane o at in
+      let proper : wrong_ask old.map.atom (size_of old.map) (Read offset len) ≡ None =
+      subst (λ a. wrong_ask old.map.atom (size_of old.map) a ≡ None) is under_way.proper in
+      let range : o.range ≡ range_of old.map.atom (Read offset len) =
+      under_way.range_is ∙ ap (λ a. range_of old.map.atom a) is in
+      let start : o.range.start ≡ offset / old.map.atom = ap (λ r. r.start) range in
+      let end : o.range.end ≡ offset / old.map.atom + len / old.map.atom = ap (λ r. r.end) range in
+      let whole = complete.pieces in
+      let count : o.next - o.range.start ≡ len / old.map.atom =
+      omega (arith, start, end, whole) in (
+        refl,
+        parts.1 has ∙ ap (λ n. n * old.map.atom) count
+            ∙ (read_whole old.map.atom (size_of old.map) offset len fine.sound.fits.known proper).1,
+      )
+  finish_full o (Write offset len fua) at is has ended = refl
+  finish_full o Flush at is has ended = refl
+
+  fine_finish : (o : Open) (outcome : Outcome) → open_at old.lanes lane ≡ Some o
+      → has_lock o.ask ≡ true → (o.failed ≡ true) ⊎ IsComplete o → FinishStep old lane outcome new
+      → FineAfter old new seals plain (by_finish (Some o) (plain lane))
+  fine_finish o outcome at has ended step = record {
+    fine = fine_after old new seals plain plain lane (without lane old.entries) None fine sound
+        (subst (λ b. Goes old new lane (without lane old.entries) None b) fine.unbroken step.goes)
+        (λ k other. refl) (λ p is. absurd (cc));
+    full = subst (λ b. AreFull old.map.atom (size_of old.map) (record {
       session = o.session;
-      ask = ask;
+      ask = o.ask;
       plain = plain lane;
       reply =
-          full_reply ask (plain lane);
-    }) ask
-finish_full old seals plain lane o (Read offset len) fine at is has ended =
-    let parts = fine.lanes lane o at in
-    let complete : IsComplete o = elim ended [
-      | inl failed ↦ absurd (let whole = parts.0 in cc)
-      | inr complete ↦ complete
-    ] in
-    let under_way = fine.sound.under_way lane o at in
-    let proper : wrong_ask old.map.atom (size_of old.map) (Read offset len) ≡ None =
-    subst (λ a. wrong_ask old.map.atom (size_of old.map) a ≡ None) is under_way.proper in
-    let range : o.range ≡ range_of old.map.atom (Read offset len) =
-    under_way.range_is ∙ ap (λ a. range_of old.map.atom a) is in
-    let start : o.range.start ≡ offset / old.map.atom = ap (λ r. r.start) range in
-    let end : o.range.end ≡ offset / old.map.atom + len / old.map.atom = ap (λ r. r.end) range in
-    let whole = complete.pieces in
-    let count : o.next - o.range.start ≡ len / old.map.atom = omega (arith, start, end, whole) in (
-      refl,
-      parts.1 has ∙ ap (λ n. n * old.map.atom) count
-          ∙ (read_whole old.map.atom (size_of old.map) offset len fine.sound.fits.known proper).1,
-    )
-finish_full old seals plain lane o (Write offset len fua) fine at is has ended = refl
-finish_full old seals plain lane o Flush fine at is has ended = refl
+          if b then Errno 5 else full_reply o.ask (plain lane);
+    } ∷ [])) (sym (fine.lanes lane o at).0)
+        (proper_full old.map.atom (size_of old.map)
+        (record {
+          session = o.session;
+          ask = o.ask;
+          plain = plain lane;
+          reply =
+              full_reply o.ask (plain lane);
+        }) (fine.sound.under_way lane o at).proper
+        (finish_full o o.ask at refl has ended));
+  }
 
-fine_finish : {K : Type 0} (old new : State K) (seals : Seals) (plain : ℕ → List ℕ) (lane : ℕ)
-    (o : Open) (outcome : Outcome) → IsFine old seals plain → IsSound new
-    → open_at old.lanes lane ≡ Some o →
-    has_lock o.ask ≡ true → (o.failed ≡ true) ⊎ IsComplete o → FinishStep old lane outcome new
-    → FineAfter old new seals plain (by_finish (Some o) (plain lane))
-fine_finish old new seals plain lane o outcome fine sound at has ended step = record {
-  fine = fine_after old new seals plain plain lane (without lane old.entries) None fine sound
-      (subst (λ b. Goes old new lane (without lane old.entries) None b) fine.unbroken step.goes)
-      (λ k other. refl) (λ p is. absurd (cc));
-  full = subst
-      (λ b. AreFull old.map.atom (size_of old.map)
-      (record {
-        session = o.session;
-        ask = o.ask;
-        plain = plain lane;
-        reply =
-            if b then Errno 5 else full_reply o.ask (plain lane);
-      } ∷ [])) (sym (fine.lanes lane o at).0)
-      (proper_full old.map.atom (size_of old.map)
-      (record {
-        session = o.session;
-        ask = o.ask;
-        plain = plain lane;
-        reply =
-            full_reply o.ask (plain lane);
-      }) (fine.sound.under_way lane o at).proper
-      (finish_full old seals plain lane o o.ask fine at refl has ended));
-}
+  -- an operation that begins
+  fine_forgets : open_at old.lanes lane ≡ None → IsFine old seals (with_plain plain lane [])
+  fine_forgets free = record {
+    sound = fine.sound;
+    lawful = fine.lawful;
+    unbroken = fine.unbroken;
+    lanes = λ k o is. elim (same_or_not k lane) [
+      | inl same ↦ absurd (let at = ap (λ n. open_at old.lanes n) (sym same) ∙ is in cc)
+      | inr other ↦
+          (let parts =
+          fine.lanes k o is in
+          (parts.0, λ has. rw (plain-other plain lane [] k other) (parts.1 has)))
+    ];
+  }
 
--- an operation that begins
-fine_forgets : {K : Type 0} (old : State K) (seals : Seals) (plain : ℕ → List ℕ) (lane : ℕ)
-    → IsFine old seals plain → open_at old.lanes lane ≡ None
-    → IsFine old seals (with_plain plain lane [])
-fine_forgets old seals plain lane fine free = record {
-  sound = fine.sound;
-  lawful = fine.lawful;
-  unbroken = fine.unbroken;
-  lanes = λ k o is. elim (same_or_not k lane) [
-    | inl same ↦ absurd (let at = ap (λ n. open_at old.lanes n) (sym same) ∙ is in cc)
-    | inr other ↦
-        (let parts =
-        fine.lanes k o is in (parts.0, λ has. rw (plain-other plain lane [] k other) (parts.1 has)))
-  ];
-}
-
-fine_admit : {K : Type 0} (old new : State K) (seals : Seals) (plain : ℕ → List ℕ)
-    (lane session : ℕ) (ask : Ask) (outcome : Outcome) (wrong : Option ℕ)
-    → wrong_ask old.map.atom (size_of old.map) ask ≡ wrong →
-    IsFine old seals plain → IsSound new → open_at old.lanes lane ≡ None →
-    MatchOption wrong
-    (MatchBool old.broken ((outcome ≡ refused 5) × (new ≡ old))
-    (IsAdmitted old lane session ask outcome new))
-    (λ number. (outcome ≡ refused number) × (new ≡ old)) →
-    FineAfter old new seals (with_plain plain lane []) (by_admit session ask outcome)
-fine_admit old new seals plain lane session ask outcome (Some number) is fine sound free step =
-    record {
-      fine = subst (λ s. IsFine s seals (with_plain plain lane [])) (sym step.1)
-          (fine_forgets old seals plain lane fine free);
-      full = subst (λ o. AreFull old.map.atom (size_of old.map) (by_admit session ask o))
-          (sym step.0)
-          (wrong_full old.map.atom (size_of old.map) session number ask is);
-    }
-fine_admit old new seals plain lane session ask outcome None is fine sound free step =
-    let admitted =
-    match_false old.broken ((outcome ≡ refused 5) × (new ≡ old))
-    (IsAdmitted old lane session ask outcome new) fine.unbroken step in record {
-      fine = fine_after old new seals plain (with_plain plain lane []) lane new.entries
-          (Some (begun old.map.atom session ask)) fine sound
-          (subst (λ b. Goes old new lane new.entries (Some (begun old.map.atom session ask)) b)
-          fine.unbroken admitted.goes) (plain-other plain lane [])
-          (λ o same. let e : o ≡ begun old.map.atom session ask =
-          cc in rw e (
-            refl,
-            λ has. ap (λ xs. length xs) (plain-own plain lane [])
-                ∙ (let none : (range_of old.map.atom ask).start - (range_of old.map.atom ask).start
-                ≡ 0 = omega arith in rw none (omega arith)),
-          ));
-      full = subst (λ xs. AreFull old.map.atom (size_of old.map) xs)
-          (sym (unanswered old new lane session ask outcome admitted))
-          (none_full old.map.atom (size_of old.map));
-    }
+  fine_admit : (session : ℕ) (ask : Ask) (outcome : Outcome) (wrong : Option ℕ)
+      → wrong_ask old.map.atom (size_of old.map) ask ≡ wrong → open_at old.lanes lane ≡ None
+      → MatchOption wrong
+      (MatchBool old.broken ((outcome ≡ refused 5) × (new ≡ old))
+      (IsAdmitted old lane session ask outcome new))
+      (λ number. (outcome ≡ refused number) × (new ≡ old))
+      → FineAfter old new seals (with_plain plain lane []) (by_admit session ask outcome)
+  fine_admit session ask outcome (Some number) is free step =
+      record {
+        fine = subst (λ s. IsFine s seals (with_plain plain lane [])) (sym step.1)
+            (fine_forgets free);
+        full = subst (λ o. AreFull old.map.atom (size_of old.map) (by_admit session ask o))
+            (sym step.0)
+            (wrong_full old.map.atom (size_of old.map) session number ask is);
+      }
+  fine_admit session ask outcome None is free step =
+      let admitted =
+      match_false old.broken ((outcome ≡ refused 5) × (new ≡ old))
+      (IsAdmitted old lane session ask outcome new) fine.unbroken step in record {
+        fine = fine_after old new seals plain (with_plain plain lane []) lane new.entries
+            (Some (begun old.map.atom session ask)) fine sound
+            (subst (λ b. Goes old new lane new.entries (Some (begun old.map.atom session ask)) b)
+            fine.unbroken admitted.goes) (plain-other plain lane [])
+            (λ o same. let e : o ≡ begun old.map.atom session ask =
+            cc in rw e (
+              refl,
+              λ has. ap (λ xs. length xs) (plain-own plain lane [])
+                  ∙ (let none : (range_of old.map.atom ask).start
+                  - (range_of old.map.atom ask).start
+                  ≡ 0 = omega arith in rw none (omega arith)),
+            ));
+        full = subst (λ xs. AreFull old.map.atom (size_of old.map) xs)
+            (sym (unanswered old new lane session ask outcome admitted))
+            (none_full old.map.atom (size_of old.map));
+      }
 
 fine_event : {K : Type 0} (old new : State K) (seals : Seals) (plain : ℕ → List ℕ) (event : Event)
     (outcome : Outcome) → IsFine old seals plain → Meets old event → Step old event outcome new →
@@ -339,31 +326,32 @@ fine_event : {K : Type 0} (old new : State K) (seals : Seals) (plain : ℕ → L
     (answered_by old event outcome plain)
 unfolding Can Step answered_by plain_after
 fine_event old new seals plain (admits lane session ask) outcome fine meets step same below =
-    fine_admit old new seals plain lane session ask outcome _ refl fine
-    (sound_kept old new (admits lane session ask) outcome fine.sound meets step) meets.can step
+    fine_admit old new seals plain lane fine
+    (sound_kept old new (admits lane session ask) outcome fine.sound meets step) session ask outcome
+    _ refl meets.can step
 fine_event old new seals plain (asks lane) outcome fine meets step same below = record {
   fine = subst (λ s. IsFine s seals plain) (sym step.1) fine;
   full = none_full old.map.atom (size_of old.map);
 }
 fine_event old new seals plain (reads lane len) outcome fine meets (o, at, step) same below =
     let (p, is, can) = meets.can.0 in let one : p ≡ o = cc in record {
-      fine = fine_read old new seals plain lane o outcome fine
-          (sound_kept old new (reads lane len) outcome fine.sound meets (o, at, step)) at
+      fine = fine_read old new seals plain lane fine
+          (sound_kept old new (reads lane len) outcome fine.sound meets (o, at, step)) o outcome at
           (subst (λ q. IsRead q.ask) one can.reads) same below step;
       full = none_full old.map.atom (size_of old.map);
     }
 fine_event old new seals plain (writes lane bytes) outcome fine meets (o, at, step) same below =
     let (p, is, can) = meets.can.0 in let one : p ≡ o = cc in record {
-      fine = fine_write old new seals plain lane o bytes outcome fine
-          (sound_kept old new (writes lane bytes) outcome fine.sound meets (o, at, step)) at
-          (subst (λ q. IsWrite q.ask) one can.writes) same below step;
+      fine = fine_write old new seals plain lane fine
+          (sound_kept old new (writes lane bytes) outcome fine.sound meets (o, at, step)) o bytes
+          outcome at (subst (λ q. IsWrite q.ask) one can.writes) same below step;
       full = none_full old.map.atom (size_of old.map);
     }
 fine_event old new seals plain (settles lane) outcome fine meets (o, at, step) same below =
     let (p, is, can) = meets.can in let one : p ≡ o = cc in
     let after =
-    fine_settle old new seals plain lane o outcome fine
-    (sound_kept old new (settles lane) outcome fine.sound meets (o, at, step)) at
+    fine_settle old new seals plain lane fine
+    (sound_kept old new (settles lane) outcome fine.sound meets (o, at, step)) o outcome at
     (subst (λ q. CanSettle q) one can) same below step in
     record {
       fine = after.fine;
@@ -374,8 +362,9 @@ fine_event old new seals plain (settles lane) outcome fine meets (o, at, step) s
 fine_event old new seals plain (finishes lane) outcome fine meets step same below =
     let (o, at, can) = meets.can.0 in
     let after =
-    fine_finish old new seals plain lane o outcome fine
-    (sound_kept old new (finishes lane) outcome fine.sound meets step) at can.locks can.ends step in
+    fine_finish old new seals plain lane fine
+    (sound_kept old new (finishes lane) outcome fine.sound meets step) o outcome at can.locks
+    can.ends step in
     record {
       fine = after.fine;
       full =

@@ -121,108 +121,6 @@ tried_by old plain new now lane b value o next map is is_next ask range known tr
       value_is = rw (range, ← same, map, known) tried.value_is;
     }
 
--- one lane's operation goes on with what it asked for and knows
-pub tried_go_on : {K : Type 0} (old : State K) (plain : ℕ → List ℕ) (new : State K)
-    (now : ℕ → List ℕ) (lane : ℕ) (o next : Open) →
-    new.map ≡ old.map → LaneBecomes old.lanes new.lanes lane (Some next)
-    → open_at old.lanes lane ≡ Some o → next.ask ≡ o.ask → next.range ≡ o.range →
-    ((k : ℕ) → now k ≡ plain k) → KeepsTried old plain new now
-tried_go_on old plain new now lane o next map lanes is ask range known = record {
-  kept = λ k b value tried. elim (same_or_not k lane) [
-    | inl same ↦
-        tried_by old plain new now k b value o next map (ap (λ n. open_at old.lanes n) same ∙ is)
-        (ap (λ n. open_at new.lanes n) same ∙ lanes.own) ask range (known k) tried
-    | inr other ↦ tried_goes old plain new now k b value map (lanes.others k other) (known k) tried
-  ];
-  back = λ k b value tried. elim (same_or_not k lane) [
-    | inl same ↦
-        tried_by new now old plain k b value next o (sym map)
-        (ap (λ n. open_at new.lanes n) same ∙ lanes.own) (ap (λ n. open_at old.lanes n) same ∙ is)
-        (sym ask) (sym range) (sym (known k)) tried
-    | inr other ↦
-        tried_goes new now old plain k b value (sym map) (sym (lanes.others k other))
-        (sym (known k)) tried
-  ];
-}
-
-pub writes_go_on : {K : Type 0} (old : State K) (plain : ℕ → List ℕ) (new : State K)
-    (now : ℕ → List ℕ) (lane : ℕ) (o next : Open) →
-    new.map ≡ old.map → LaneBecomes old.lanes new.lanes lane (Some next)
-    → open_at old.lanes lane ≡ Some o → next.ask ≡ o.ask → next.range ≡ o.range →
-    next.settled ≡ o.settled → ((k : ℕ) → now k ≡ plain k) → KeepsWrites old plain new now
-writes_go_on old plain new now lane o next map lanes is ask range settled known = record {
-  tried = tried_go_on old plain new now lane o next map lanes is ask range known;
-  settled = λ k one is_one forced is_settled. elim (same_or_not k lane) [
-    | inl same ↦
-        (let e : one ≡ next =
-        (let at = sym (ap (λ n. open_at new.lanes n) same ∙ lanes.own) ∙ is_one in cc) in (
-          o,
-          ap (λ n. open_at old.lanes n) same ∙ is,
-          rw e (sym ask),
-          rw e (sym range),
-          sym settled ∙ rw (← e) is_settled,
-          known k,
-        ))
-    | inr other ↦ (one, sym (lanes.others k other) ∙ is_one, refl, refl, is_settled, known k)
-  ];
-}
-
--- one lane has tried nothing before and after
-pub tried_stay : {K : Type 0} (old : State K) (plain : ℕ → List ℕ) (new : State K)
-    (now : ℕ → List ℕ) (lane : ℕ) (next : Option Open) →
-    new.map ≡ old.map → LaneBecomes old.lanes new.lanes lane next
-    → ((k : ℕ) → k ≢ lane → now k ≡ plain k) →
-    ((b : ℕ) (value : List ℕ) → IsTriedBy old plain lane b value → ⊥)
-    → ((b : ℕ) (value : List ℕ) → IsTriedBy new now lane b value → ⊥) →
-    KeepsTried old plain new now
-tried_stay old plain new now lane next map lanes known before after = record {
-  kept = λ k b value tried. elim (same_or_not k lane) [
-    | inl same ↦ absurd (before b value (subst (λ n. IsTriedBy old plain n b value) same tried))
-    | inr other ↦
-        tried_goes old plain new now k b value map (lanes.others k other) (known k other) tried
-  ];
-  back = λ k b value tried. elim (same_or_not k lane) [
-    | inl same ↦ absurd (after b value (subst (λ n. IsTriedBy new now n b value) same tried))
-    | inr other ↦
-        tried_goes new now old plain k b value (sym map) (sym (lanes.others k other))
-        (sym (known k other)) tried
-  ];
-}
-
-pub writes_stay : {K : Type 0} (old : State K) (plain : ℕ → List ℕ) (new : State K)
-    (now : ℕ → List ℕ) (lane : ℕ) (next : Option Open) →
-    new.map ≡ old.map → LaneBecomes old.lanes new.lanes lane next
-    → ((k : ℕ) → k ≢ lane → now k ≡ plain k) →
-    ((b : ℕ) (value : List ℕ) → IsTriedBy old plain lane b value → ⊥)
-    → ((b : ℕ) (value : List ℕ) → IsTriedBy new now lane b value → ⊥) →
-    ((o : Open) → next ≡ Some o → IsForced o.ask → o.settled ≡ true → ⊥)
-    → KeepsWrites old plain new now
-writes_stay old plain new now lane next map lanes known before after unsettled = record {
-  tried = tried_stay old plain new now lane next map lanes known before after;
-  settled = λ k one is_one forced is_settled. elim (same_or_not k lane) [
-    | inl same ↦
-        absurd (unsettled one (sym lanes.own ∙ ap (λ n. open_at new.lanes n) (sym same) ∙ is_one)
-        forced is_settled)
-    | inr other ↦ (one, sym (lanes.others k other) ∙ is_one, refl, refl, is_settled, known k other)
-  ];
-}
-
-pub now_kept : {K : Type 0} (old : State K) (plain : ℕ → List ℕ) (new : State K) (now : ℕ → List ℕ)
-    (left : List Block) (b : ℕ) (value : List ℕ) →
-    KeepsTried old plain new now → IsNow old plain left b value → IsNow new now left b value
-now_kept old plain new now left b value keeps (inl (lane, tried)) =
-    inl (lane, keeps.kept lane b value tried)
-now_kept old plain new now left b value keeps (inr (none, is)) =
-    inr (λ lane other tried. none lane other (keeps.back lane b other tried), is)
-
-pub allowed_kept : {K : Type 0} (old : State K) (plain : ℕ → List ℕ) (new : State K)
-    (now : ℕ → List ℕ) (left : List Block) (b : ℕ) (value : List ℕ) →
-    KeepsTried old plain new now → IsAllowedAt old plain left b value
-    → IsAllowedAt new now left b value
-allowed_kept old plain new now left b value keeps (inl contains) = inl contains
-allowed_kept old plain new now left b value keeps (inr (lane, tried)) =
-    inr (lane, keeps.kept lane b value tried)
-
 -- blocks and their places stay, and which of them the zone at hand knows
 pub record Stays {K : Type 0} (old new : State K) : Type 0 where
   pub map : new.map ≡ old.map
@@ -247,84 +145,174 @@ live_back {old = old} {new = new} b stays live = record {
       (sym stays.work) governed);
 }
 
--- what the disk shows stays where no write was tried, finished or settled
-pub shown_kept : {K : Type 0} (old : State K) (plain : ℕ → List ℕ) (new : State K)
-    (now : ℕ → List ℕ) (seals : Seals) (left : List Block) (view next : View) →
-    Stays old new → KeepsWrites old plain new now →
-    (new.broken ≡ false
-    → (old.broken ≡ false) × ((place : ℕ) → next.current place ≡ view.current place))
-    → IsThinned view next →
-    Shown old seals plain left view → Shown new seals now left next
-shown_kept old plain new now seals left view next stays keeps unbroken thinned shown = let map =
-    stays.map in record {
-      current =
-          λ whole b below. subst
-          (λ m. (value : List ℕ) × IsNow new now left b value
-          × IsSealed m seals b value (next.current (place_in m b))) (sym map)
-          (let (was, same) = unbroken whole in
-          let (value, is_now, sealed) = shown.current was b (live_back b stays below) in (
-            value,
-            now_kept old plain new now left b value keeps.tried is_now,
-            rw (same (place_in old.map b)) sealed,
-          ));
-      candidates =
-          λ b below atom contains. subst
-          (λ m. (value : List ℕ) × IsAllowedAt new now left b value × IsSealed m seals b value atom)
-          (sym map)
-          (let (value, allowed, sealed) = shown.candidates b (live_back b stays below) atom
-          (thinned (place_in old.map b) atom
-          (subst (λ m. Contains (next.candidates (place_in m b)) atom) map contains)) in
-          (value, allowed_kept old plain new now left b value keeps.tried allowed, sealed));
-      settled = λ lane o is forced is_settled b from to atom contains.
-          let (before, was, ask, range, was_settled, known) =
-          keeps.settled lane o is forced is_settled in
-          let sealed =
-          shown.settled lane before was (subst (λ a. IsForced a) (sym ask) forced) was_settled b
-          (rw range from) (rw range to) atom
-          (thinned (place_in old.map b) atom
-          (subst (λ m. Contains (next.candidates (place_in m b)) atom) map contains)) in
-          rw (map, known, ← range) sealed;
-      zone = λ work is. rw map
-          (zone_kept old.map.atom work.layout work.zone (texts_of seals left work) work.phase
-          old.broken new.broken view next unbroken thinned (shown.zone work (sym stays.work ∙ is)));
-    }
-
--- what the other lanes know stays
-pub knows_still : {K : Type 0} (old : State K) (plain : ℕ → List ℕ) (new : State K)
-    (now : ℕ → List ℕ) (left : List Block) (lane : ℕ) (o : Open) →
-    new.map ≡ old.map → now lane ≡ plain lane → (Holds old lane → Holds new lane)
-    → (old.broken ≡ true → new.broken ≡ true) →
-    (knows : LaneKnows old plain left lane o)
-    → ((b : ℕ) → o.range.start ≤ b → b < o.range.start + knows.count → IsGoverned new b → ⊥)
-    → LaneKnows new now left lane o
-knows_still old plain new now left lane o map known holds broken knows beside = record {
-  beside = beside;
-  count = knows.count;
-  are = rw (map, known) knows.are;
-  least = knows.least;
-  most = knows.most;
-  exact = knows.exact;
-  holds = λ some. holds (knows.holds some);
-  reads = λ is k below. rw (map, known) (knows.reads is k below);
-  kept = knows.kept;
-  breaks = λ writes failed. broken (knows.breaks writes failed);
-}
-
-pub lanes_still : {K : Type 0} (old : State K) (plain : ℕ → List ℕ) (new : State K)
-    (now : ℕ → List ℕ) (left : List Block) (lane : ℕ) (next : Option Open) →
-    Stays old new → LaneBecomes old.lanes new.lanes lane next
-    → ((k : ℕ) → k ≢ lane → now k ≡ plain k) →
-    ((k : ℕ) → k ≢ lane → Holds old k → Holds new k) → (old.broken ≡ true → new.broken ≡ true)
-    → ((o : Open) → next ≡ Some o → LaneKnows new now left lane o) →
-    ((k : ℕ) (o : Open) → open_at old.lanes k ≡ Some o → LaneKnows old plain left k o) →
-    (k : ℕ) (o : Open) → open_at new.lanes k ≡ Some o → LaneKnows new now left k o
-lanes_still old plain new now left lane next stays lanes known holds broken own all k o is =
-    elim (same_or_not k lane) [
+module _ {K : Type 0} (old : State K) (plain : ℕ → List ℕ) (new : State K) (now : ℕ → List ℕ) where
+  -- one lane's operation goes on with what it asked for and knows
+  pub tried_go_on : (lane : ℕ) (o next : Open) → new.map ≡ old.map
+      → LaneBecomes old.lanes new.lanes lane (Some next) → open_at old.lanes lane ≡ Some o
+      → next.ask ≡ o.ask → next.range ≡ o.range → ((k : ℕ) → now k ≡ plain k)
+      → KeepsTried old plain new now
+  tried_go_on lane o next map lanes is ask range known = record {
+    kept = λ k b value tried. elim (same_or_not k lane) [
       | inl same ↦
-          subst (λ n. LaneKnows new now left n o) (sym same)
-          (own o (sym lanes.own ∙ ap (λ n. open_at new.lanes n) (sym same) ∙ is))
-      | inr other ↦ (let knows = all k o (sym (lanes.others k other) ∙ is) in
-          knows_still old plain new now left k o stays.map (known k other) (holds k other) broken
-          knows
-          (λ b from to of. knows.beside b from to (governed_back b stays of)))
-    ]
+          tried_by old plain new now k b value o next map (ap (λ n. open_at old.lanes n) same ∙ is)
+          (ap (λ n. open_at new.lanes n) same ∙ lanes.own) ask range (known k) tried
+      | inr other ↦
+          tried_goes old plain new now k b value map (lanes.others k other) (known k) tried
+    ];
+    back = λ k b value tried. elim (same_or_not k lane) [
+      | inl same ↦
+          tried_by new now old plain k b value next o (sym map)
+          (ap (λ n. open_at new.lanes n) same ∙ lanes.own) (ap (λ n. open_at old.lanes n) same ∙ is)
+          (sym ask) (sym range) (sym (known k)) tried
+      | inr other ↦
+          tried_goes new now old plain k b value (sym map) (sym (lanes.others k other))
+          (sym (known k)) tried
+    ];
+  }
+
+  pub writes_go_on : (lane : ℕ) (o next : Open) → new.map ≡ old.map
+      → LaneBecomes old.lanes new.lanes lane (Some next) → open_at old.lanes lane ≡ Some o
+      → next.ask ≡ o.ask → next.range ≡ o.range → next.settled ≡ o.settled
+      → ((k : ℕ) → now k ≡ plain k) → KeepsWrites old plain new now
+  writes_go_on lane o next map lanes is ask range settled known = record {
+    tried = tried_go_on lane o next map lanes is ask range known;
+    settled = λ k one is_one forced is_settled. elim (same_or_not k lane) [
+      | inl same ↦
+          (let e : one ≡ next =
+          (let at = sym (ap (λ n. open_at new.lanes n) same ∙ lanes.own) ∙ is_one in cc) in (
+            o,
+            ap (λ n. open_at old.lanes n) same ∙ is,
+            rw e (sym ask),
+            rw e (sym range),
+            sym settled ∙ rw (← e) is_settled,
+            known k,
+          ))
+      | inr other ↦ (one, sym (lanes.others k other) ∙ is_one, refl, refl, is_settled, known k)
+    ];
+  }
+
+  -- one lane has tried nothing before and after
+  pub tried_stay : (lane : ℕ) (next : Option Open) → new.map ≡ old.map
+      → LaneBecomes old.lanes new.lanes lane next → ((k : ℕ) → k ≢ lane → now k ≡ plain k)
+      → ((b : ℕ) (value : List ℕ) → IsTriedBy old plain lane b value → ⊥)
+      → ((b : ℕ) (value : List ℕ) → IsTriedBy new now lane b value → ⊥)
+      → KeepsTried old plain new now
+  tried_stay lane next map lanes known before after = record {
+    kept = λ k b value tried. elim (same_or_not k lane) [
+      | inl same ↦ absurd (before b value (subst (λ n. IsTriedBy old plain n b value) same tried))
+      | inr other ↦
+          tried_goes old plain new now k b value map (lanes.others k other) (known k other) tried
+    ];
+    back = λ k b value tried. elim (same_or_not k lane) [
+      | inl same ↦ absurd (after b value (subst (λ n. IsTriedBy new now n b value) same tried))
+      | inr other ↦
+          tried_goes new now old plain k b value (sym map) (sym (lanes.others k other))
+          (sym (known k other)) tried
+    ];
+  }
+
+  pub writes_stay : (lane : ℕ) (next : Option Open) → new.map ≡ old.map
+      → LaneBecomes old.lanes new.lanes lane next → ((k : ℕ) → k ≢ lane → now k ≡ plain k)
+      → ((b : ℕ) (value : List ℕ) → IsTriedBy old plain lane b value → ⊥)
+      → ((b : ℕ) (value : List ℕ) → IsTriedBy new now lane b value → ⊥)
+      → ((o : Open) → next ≡ Some o → IsForced o.ask → o.settled ≡ true → ⊥)
+      → KeepsWrites old plain new now
+  writes_stay lane next map lanes known before after unsettled = record {
+    tried = tried_stay lane next map lanes known before after;
+    settled = λ k one is_one forced is_settled. elim (same_or_not k lane) [
+      | inl same ↦
+          absurd (unsettled one (sym lanes.own ∙ ap (λ n. open_at new.lanes n) (sym same) ∙ is_one)
+          forced is_settled)
+      | inr other ↦
+          (one, sym (lanes.others k other) ∙ is_one, refl, refl, is_settled, known k other)
+    ];
+  }
+
+  pub now_kept : (left : List Block) (b : ℕ) (value : List ℕ) → KeepsTried old plain new now
+      → IsNow old plain left b value → IsNow new now left b value
+  now_kept left b value keeps (inl (lane, tried)) =
+      inl (lane, keeps.kept lane b value tried)
+  now_kept left b value keeps (inr (none, is)) =
+      inr (λ lane other tried. none lane other (keeps.back lane b other tried), is)
+
+  pub allowed_kept : (left : List Block) (b : ℕ) (value : List ℕ) → KeepsTried old plain new now
+      → IsAllowedAt old plain left b value → IsAllowedAt new now left b value
+  allowed_kept left b value keeps (inl contains) = inl contains
+  allowed_kept left b value keeps (inr (lane, tried)) =
+      inr (lane, keeps.kept lane b value tried)
+
+  -- what the disk shows stays where no write was tried, finished or settled
+  pub shown_kept : (seals : Seals) (left : List Block) (view next : View) → Stays old new
+      → KeepsWrites old plain new now → (new.broken ≡ false
+      → (old.broken ≡ false) × ((place : ℕ) → next.current place ≡ view.current place))
+      → IsThinned view next → Shown old seals plain left view → Shown new seals now left next
+  shown_kept seals left view next stays keeps unbroken thinned shown = let map =
+      stays.map in record {
+        current =
+            λ whole b below. subst
+            (λ m. (value : List ℕ) × IsNow new now left b value
+            × IsSealed m seals b value (next.current (place_in m b))) (sym map)
+            (let (was, same) = unbroken whole in
+            let (value, is_now, sealed) = shown.current was b (live_back b stays below) in (
+              value,
+              now_kept left b value keeps.tried is_now,
+              rw (same (place_in old.map b)) sealed,
+            ));
+        candidates =
+            λ b below atom contains. subst
+            (λ m. (value : List ℕ) × IsAllowedAt new now left b value
+            × IsSealed m seals b value atom)
+            (sym map)
+            (let (value, allowed, sealed) = shown.candidates b (live_back b stays below) atom
+            (thinned (place_in old.map b) atom
+            (subst (λ m. Contains (next.candidates (place_in m b)) atom) map contains)) in
+            (value, allowed_kept left b value keeps.tried allowed, sealed));
+        settled = λ lane o is forced is_settled b from to atom contains.
+            let (before, was, ask, range, was_settled, known) =
+            keeps.settled lane o is forced is_settled in
+            let sealed =
+            shown.settled lane before was (subst (λ a. IsForced a) (sym ask) forced) was_settled b
+            (rw range from) (rw range to) atom
+            (thinned (place_in old.map b) atom
+            (subst (λ m. Contains (next.candidates (place_in m b)) atom) map contains)) in
+            rw (map, known, ← range) sealed;
+        zone = λ work is. rw map
+            (zone_kept old.map.atom work.layout work.zone (texts_of seals left work) work.phase
+            old.broken new.broken view next unbroken thinned
+            (shown.zone work (sym stays.work ∙ is)));
+      }
+
+  -- what the other lanes know stays
+  pub knows_still : (left : List Block) (lane : ℕ) (o : Open) → new.map ≡ old.map
+      → now lane ≡ plain lane → (Holds old lane → Holds new lane)
+      → (old.broken ≡ true → new.broken ≡ true) → (knows : LaneKnows old plain left lane o)
+      → ((b : ℕ) → o.range.start ≤ b → b < o.range.start + knows.count → IsGoverned new b → ⊥)
+      → LaneKnows new now left lane o
+  knows_still left lane o map known holds broken knows beside = record {
+    beside = beside;
+    count = knows.count;
+    are = rw (map, known) knows.are;
+    least = knows.least;
+    most = knows.most;
+    exact = knows.exact;
+    holds = λ some. holds (knows.holds some);
+    reads = λ is k below. rw (map, known) (knows.reads is k below);
+    kept = knows.kept;
+    breaks = λ writes failed. broken (knows.breaks writes failed);
+  }
+
+  pub lanes_still : (left : List Block) (lane : ℕ) (next : Option Open) → Stays old new
+      → LaneBecomes old.lanes new.lanes lane next → ((k : ℕ) → k ≢ lane → now k ≡ plain k)
+      → ((k : ℕ) → k ≢ lane → Holds old k → Holds new k) → (old.broken ≡ true → new.broken ≡ true)
+      → ((o : Open) → next ≡ Some o → LaneKnows new now left lane o)
+      → ((k : ℕ) (o : Open) → open_at old.lanes k ≡ Some o → LaneKnows old plain left k o)
+      → (k : ℕ) (o : Open) → open_at new.lanes k ≡ Some o → LaneKnows new now left k o
+  lanes_still left lane next stays lanes known holds broken own all k o is =
+      elim (same_or_not k lane) [
+        | inl same ↦
+            subst (λ n. LaneKnows new now left n o) (sym same)
+            (own o (sym lanes.own ∙ ap (λ n. open_at new.lanes n) (sym same) ∙ is))
+        | inr other ↦ (let knows = all k o (sym (lanes.others k other) ∙ is) in
+            knows_still left k o stays.map (known k other) (holds k other) broken knows
+            (λ b from to of. knows.beside b from to (governed_back b stays of)))
+      ]

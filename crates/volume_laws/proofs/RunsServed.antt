@@ -44,14 +44,14 @@ settles_served : {K P Q : Type 0} (seals : Seals) (old new : State K) (plain : �
     AreExchanges (by_settle (Some o) outcome) exchanges
     → Served P Q seals old new plain left exchanges
 settles_served seals old new plain left lane o outcome exchanges here sound at (inl is) step are =
-    flush_served seals old new plain left lane o outcome exchanges here sound at is step
+    flush_served seals old new plain left lane here o outcome exchanges sound at is step
     (subst (λ xs. AreExchanges xs exchanges)
     (let e : by_settle (Some o) outcome
     ≡ record { session = o.session; ask = Flush; plain = []; reply = flush_reply outcome } ∷ [] =
     rw is refl in e) are)
 settles_served seals old new plain left lane o outcome exchanges here sound at
     (inr (forced, whole, unfailed, unsettled)) step are =
-    settle_served seals old new plain left lane o outcome exchanges here sound at forced whole step
+    settle_served seals old new plain left lane here o outcome exchanges sound at forced whole step
     (subst (λ xs. AreExchanges xs exchanges)
     (let has = locks o.ask forced in let e : by_settle (Some o) outcome ≡ [] = rw has refl in e)
     are)
@@ -66,7 +66,8 @@ or_first : (a b : Bool) → (a || b) ≡ false → a ≡ false
 or_first true b is = absurd (cc)
 or_first false b is = refl
 
-pub works_after : {K : Type 0} (old new : State K) (event : Event) (outcome : Outcome) → Meets old event
+pub works_after : {K : Type 0} (old new : State K) (event : Event) (outcome : Outcome)
+    → Meets old event
     → Step old event outcome new → Works old → Works new
 works_after old new event outcome meets step works =
     let goes = event_effects old new event outcome step in
@@ -95,7 +96,7 @@ pub event_served : {K P Q : Type 0} (seals : Seals) (old new : State K) (plain :
 unfolding Can Step answered_by plain_after
 event_served seals old new plain left (admits lane session ask) outcome exchanges here meets step
     are =
-    admit_by seals old new plain left lane session ask outcome exchanges _ refl here
+    admit_by seals old new plain left lane here session ask outcome exchanges _ refl
     (fine_after seals old new plain left (admits lane session ask) outcome here meets step)
     meets.can step are
 event_served {P = P} {Q = Q} seals old new plain left (asks lane) outcome exchanges here meets step
@@ -107,7 +108,7 @@ event_served seals old new plain left (reads lane len) outcome exchanges here me
     are =
     let (p, is, can) = meets.can.0 in
     let same : p ≡ o = cc in
-    read_served seals old new plain left lane o outcome exchanges here
+    read_served seals old new plain left lane here o outcome exchanges
     (fine_after seals old new plain left (reads lane len) outcome here meets (o, at, step)) at
     (subst (λ q. IsRead q.ask) same can.reads) (subst (λ q. HasPiece q) same can.has) meets.can.1
     (λ whole. client_live old lane o here.logic.sound here.works whole at
@@ -116,7 +117,7 @@ event_served seals old new plain left (writes lane bytes) outcome exchanges here
     are =
     let (p, is, can) = meets.can.0 in
     let same : p ≡ o = cc in
-    write_served seals old new plain left lane o bytes outcome exchanges here
+    write_served seals old new plain left lane here o bytes outcome exchanges
     (fine_after seals old new plain left (writes lane bytes) outcome here meets (o, at, step)) at
     (subst (λ q. IsWrite q.ask) same can.writes) (subst (λ q. HasPiece q) same can.has) meets.can.1
     (λ whole. client_live old lane o here.logic.sound here.works whole at
@@ -132,7 +133,7 @@ event_served seals old new plain left (settles lane) outcome exchanges here meet
     (subst (λ x. AreExchanges (by_settle x outcome) exchanges) at are)
 event_served seals old new plain left (finishes lane) outcome exchanges here meets step are =
     let (o, at, can) = meets.can.0 in
-    finish_served seals old new plain left lane o exchanges here
+    finish_served seals old new plain left lane o here exchanges
     (fine_after seals old new plain left (finishes lane) outcome here meets step) at can.locks
     can.ends meets.can.1 step.goes step.rests
     (subst (λ x. AreExchanges (by_finish x (plain lane)) exchanges) at are)
@@ -226,9 +227,7 @@ starts_here start seals blocks bytes starts =
         settled = λ lane o is. absurd (let free = starts.fresh.lanes lane in cc);
         zone = λ work is. absurd (let rests = starts.fresh.rests in cc);
       };
-      places = λ covered told is b below.
-          place_of_some told.now (place_in start.map b)
-          (let size =
+      places = λ covered told is b below. place_of_some told.now (place_in start.map b) (let size =
           length-sealed start.map seals b (block_in blocks b).newest
           (cell_in told.now (place_in start.map b)).current starts.lawful
           ((covered told is).current b below) in let some =

@@ -135,8 +135,7 @@ shown_synced old new plain seals left next_left view next some logic works stays
           synced.candidates (place_in old.map b) atom
           (subst (λ m. Contains (next.candidates (place_in m b)) atom) map contains) in
           rw (← range, ← own, same) sealed);
-      zone = λ work is.
-          (let was_so =
+      zone = λ work is. (let was_so =
           sym stays.work ∙ is in
           rw map (zone_renewed old work seals left next_left old.map.atom new.broken next
           (works work was_so) was_so (λ b below of. newest b below)
@@ -182,8 +181,7 @@ logic_renewed state plain left next logic are renewed = record {
         most = knows.most;
         exact = knows.exact;
         holds = knows.holds;
-        reads = λ reading k below.
-            (let right =
+        reads = λ reading k below. (let right =
             knows.reads reading k below in let b_inside : o.range.start + k < state.map.blocks =
             omega (arith, below, most, inside) in (
               right.0 ∙ sym (renewed.newest (o.range.start + k) b_inside),
@@ -210,76 +208,6 @@ flush_untried state plain lane b value o is free tried =
     let one : tried.o ≡ o = (let t = tried.is in cc) in
     let locks = writes_lock o.ask (subst (λ p. IsWrite p.ask) one tried.writes) in cc
 
-pub logic_flushed : {K : Type 0} (old new : State K) (plain : ℕ → List ℕ) (left : List Block)
-    (lane : ℕ) → Logic old plain left → IsSound new →
-    Goes old new lane old.entries None false → old.broken ≡ false
-    → Logic new plain (map flushed left)
-logic_flushed old new plain left lane logic sound goes was =
-    let ended =
-    logic_goes_on old new plain left lane None false logic sound goes (λ whole. was)
-    (λ o is. absurd (cc)) in
-    let count : length left ≡ new.map.blocks = ended.are.count in
-    let renewed : AreRenewed left (map flushed left) new.map.blocks =
-    subst (λ n. AreRenewed left (map flushed left) n) count (flush_renews left) in
-    logic_renewed new plain left (map flushed left) ended
-    (record {
-      count = length-map left flushed ∙ count;
-      newest = λ b below. rw (renewed.newest b below) (ended.are.newest b below);
-    })
-    renewed
-
-pub shown_flushed : {K : Type 0} (old new : State K) (plain : ℕ → List ℕ) (seals : Seals)
-    (left : List Block) (lane : ℕ) (o : Open) (view next : View) → 0 < old.map.atom
-    → Logic old plain left →
-    open_at old.lanes lane ≡ Some o → has_lock o.ask ≡ false
-    → Goes old new lane old.entries None false → old.broken ≡ false → Works old → IsSynced view next
-    → Shown old seals plain left view →
-    Shown new seals plain (map flushed left) next
-shown_flushed old new plain seals left lane o view next some logic is free goes was works synced
-    shown =
-    shown_synced old new plain seals left (map flushed left) view next some logic works
-    (goes_stays goes) was
-    (tried_stay old plain new plain lane None goes.map goes.lane_is (λ k other. refl)
-    (λ b value. flush_untried old plain lane b value o is free)
-    (λ b value. idle new plain lane b value goes.lane_is.own))
-    (λ b below. (flush_renews left).newest b
-    (let count = logic.are.count in omega (arith, count, below)))
-    (λ k one at forced settled. elim (same_or_not k lane) [
-      | inl same ↦ absurd (let own = ap (λ n. open_at new.lanes n) same ∙ goes.lane_is.own in cc)
-      | inr other ↦
-          (let before =
-          sym (goes.lane_is.others k other) ∙ at in
-          (one, before, forced, refl, (logic.lanes k one before).kept settled))
-    ])
-    synced shown
-
--- a flush that failed
-flush_keeps : {K : Type 0} (old new : State K) (plain : ℕ → List ℕ) (lane : ℕ) (o : Open)
-    (is_broken : Bool) → open_at old.lanes lane ≡ Some o → has_lock o.ask ≡ false →
-    Goes old new lane old.entries None is_broken → KeepsWrites old plain new plain
-flush_keeps old new plain lane o is_broken is free goes =
-    writes_stay old plain new plain lane None goes.map goes.lane_is (λ k other. refl)
-    (λ b value. flush_untried old plain lane b value o is free)
-    (λ b value. idle new plain lane b value goes.lane_is.own) (λ one same. absurd (cc))
-
-pub logic_unflushed : {K : Type 0} (old new : State K) (plain : ℕ → List ℕ) (left : List Block)
-    (lane : ℕ) (is_broken : Bool) → Logic old plain left → IsSound new →
-    Goes old new lane old.entries None is_broken → (is_broken ≡ false → old.broken ≡ false)
-    → Logic new plain left
-logic_unflushed old new plain left lane is_broken logic sound goes unbroken =
-    logic_goes_on old new plain left lane None is_broken logic sound goes unbroken
-    (λ o is. absurd (cc))
-
-pub shown_unflushed : {K : Type 0} (old new : State K) (plain : ℕ → List ℕ) (seals : Seals)
-    (left : List Block) (lane : ℕ) (o : Open) (view next : View) →
-    open_at old.lanes lane ≡ Some o → has_lock o.ask ≡ false
-    → Goes old new lane old.entries None true → IsThinned view next
-    → Shown old seals plain left view → Shown new seals plain left next
-shown_unflushed old new plain seals left lane o view next is free goes thinned shown =
-    shown_kept old plain new plain seals left view next (goes_stays goes)
-    (flush_keeps old new plain lane o true is free goes)
-    (λ whole. absurd (let yes_broken = goes.broken_is in cc)) thinned shown
-
 -- a write that is settled
 knows_settled : {K : Type 0} (state : State K) (plain : ℕ → List ℕ) (left : List Block) (lane : ℕ)
     (o : Open) → o.next ≡ o.range.end → LaneKnows state plain left lane o →
@@ -297,37 +225,99 @@ knows_settled state plain left lane o whole knows = record {
   beside = knows.beside;
 }
 
-pub logic_settled : {K : Type 0} (old new : State K) (plain : ℕ → List ℕ) (left : List Block)
-    (lane : ℕ) (o : Open) → Logic old plain left → IsSound new → open_at old.lanes lane ≡ Some o →
-    o.next ≡ o.range.end → Goes old new lane old.entries (Some (settling o)) false
-    → old.broken ≡ false → Logic new plain left
-logic_settled old new plain left lane o logic sound is whole goes was =
-    logic_goes_on old new plain left lane (Some (settling o)) false logic sound goes (λ stays. was)
-    (λ one same. let e : one ≡ settling o = cc in
-    rw e (knows_settled new plain left lane o whole
-    (knows_on old new plain left lane (Some (settling o)) false o goes (λ stays. was)
-    (logic.lanes lane o is))))
+module _ {K : Type 0} (old new : State K) (plain : ℕ → List ℕ) (left : List Block) (lane : ℕ) where
+  pub logic_flushed : Logic old plain left → IsSound new → Goes old new lane old.entries None false
+      → old.broken ≡ false → Logic new plain (map flushed left)
+  logic_flushed logic sound goes was =
+      let ended =
+      logic_goes_on old new plain left lane None false logic sound goes (λ whole. was)
+      (λ o is. absurd (cc)) in
+      let count : length left ≡ new.map.blocks = ended.are.count in
+      let renewed : AreRenewed left (map flushed left) new.map.blocks =
+      subst (λ n. AreRenewed left (map flushed left) n) count (flush_renews left) in
+      logic_renewed new plain left (map flushed left) ended
+      (record {
+        count = length-map left flushed ∙ count;
+        newest = λ b below. rw (renewed.newest b below) (ended.are.newest b below);
+      })
+      renewed
 
-pub shown_settled : {K : Type 0} (old new : State K) (plain : ℕ → List ℕ) (seals : Seals)
-    (left : List Block) (lane : ℕ) (o : Open) (view next : View) → 0 < old.map.atom
-    → Logic old plain left →
-    open_at old.lanes lane ≡ Some o → IsForced o.ask → o.next ≡ o.range.end
-    → Goes old new lane old.entries (Some (settling o)) false → old.broken ≡ false → Works old
-    → IsSynced view next →
-    Shown old seals plain left view → Shown new seals plain left next
-shown_settled old new plain seals left lane o view next some logic is forced whole goes was works
-    synced shown =
-    shown_synced old new plain seals left left view next some logic works (goes_stays goes) was
-    (tried_go_on old plain new plain lane o (settling o) goes.map goes.lane_is is refl refl
-    (λ k. refl)) (λ b below. refl)
-    (λ k one at is_forced settled. elim (same_or_not k lane) [
-      | inl same ↦
-          (let e : one ≡ settling o =
-          (let own = ap (λ n. open_at new.lanes n) same ∙ goes.lane_is.own in cc) in
-          (o, ap (λ n. open_at old.lanes n) same ∙ is, forced, ap (λ p. p.range) (sym e), whole))
-      | inr other ↦
-          (let before =
-          sym (goes.lane_is.others k other) ∙ at in
-          (one, before, is_forced, refl, (logic.lanes k one before).kept settled))
-    ])
-    synced shown
+  pub shown_flushed : (seals : Seals) (o : Open) (view next : View) → 0 < old.map.atom
+      → Logic old plain left → open_at old.lanes lane ≡ Some o → has_lock o.ask ≡ false
+      → Goes old new lane old.entries None false → old.broken ≡ false → Works old
+      → IsSynced view next → Shown old seals plain left view
+      → Shown new seals plain (map flushed left) next
+  shown_flushed seals o view next some logic is free goes was works synced shown =
+      shown_synced old new plain seals left (map flushed left) view next some logic works
+      (goes_stays goes) was
+      (tried_stay old plain new plain lane None goes.map goes.lane_is (λ k other. refl)
+      (λ b value. flush_untried old plain lane b value o is free)
+      (λ b value. idle new plain lane b value goes.lane_is.own))
+      (λ b below. (flush_renews left).newest b
+      (let count = logic.are.count in omega (arith, count, below)))
+      (λ k one at forced settled. elim (same_or_not k lane) [
+        | inl same ↦ absurd (let own = ap (λ n. open_at new.lanes n) same ∙ goes.lane_is.own in cc)
+        | inr other ↦
+            (let before =
+            sym (goes.lane_is.others k other) ∙ at in
+            (one, before, forced, refl, (logic.lanes k one before).kept settled))
+      ])
+      synced shown
+
+  -- a flush that failed
+  flush_keeps : (o : Open) (is_broken : Bool) → open_at old.lanes lane ≡ Some o
+      → has_lock o.ask ≡ false → Goes old new lane old.entries None is_broken
+      → KeepsWrites old plain new plain
+  flush_keeps o is_broken is free goes =
+      writes_stay old plain new plain lane None goes.map goes.lane_is (λ k other. refl)
+      (λ b value. flush_untried old plain lane b value o is free)
+      (λ b value. idle new plain lane b value goes.lane_is.own) (λ one same. absurd (cc))
+
+  pub logic_unflushed : (is_broken : Bool) → Logic old plain left → IsSound new
+      → Goes old new lane old.entries None is_broken → (is_broken ≡ false → old.broken ≡ false)
+      → Logic new plain left
+  logic_unflushed is_broken logic sound goes unbroken =
+      logic_goes_on old new plain left lane None is_broken logic sound goes unbroken
+      (λ o is. absurd (cc))
+
+  pub shown_unflushed : (seals : Seals) (o : Open) (view next : View)
+      → open_at old.lanes lane ≡ Some o → has_lock o.ask ≡ false
+      → Goes old new lane old.entries None true → IsThinned view next
+      → Shown old seals plain left view → Shown new seals plain left next
+  shown_unflushed seals o view next is free goes thinned shown =
+      shown_kept old plain new plain seals left view next (goes_stays goes)
+      (flush_keeps o true is free goes) (λ whole. absurd (let yes_broken = goes.broken_is in cc))
+      thinned shown
+
+  pub logic_settled : (o : Open) → Logic old plain left → IsSound new
+      → open_at old.lanes lane ≡ Some o → o.next ≡ o.range.end
+      → Goes old new lane old.entries (Some (settling o)) false → old.broken ≡ false
+      → Logic new plain left
+  logic_settled o logic sound is whole goes was =
+      logic_goes_on old new plain left lane (Some (settling o)) false logic sound goes
+      (λ stays. was)
+      (λ one same. let e : one ≡ settling o = cc in
+      rw e (knows_settled new plain left lane o whole
+      (knows_on old new plain left lane (Some (settling o)) false o goes (λ stays. was)
+      (logic.lanes lane o is))))
+
+  pub shown_settled : (seals : Seals) (o : Open) (view next : View) → 0 < old.map.atom
+      → Logic old plain left → open_at old.lanes lane ≡ Some o → IsForced o.ask
+      → o.next ≡ o.range.end → Goes old new lane old.entries (Some (settling o)) false
+      → old.broken ≡ false → Works old → IsSynced view next → Shown old seals plain left view
+      → Shown new seals plain left next
+  shown_settled seals o view next some logic is forced whole goes was works synced shown =
+      shown_synced old new plain seals left left view next some logic works (goes_stays goes) was
+      (tried_go_on old plain new plain lane o (settling o) goes.map goes.lane_is is refl refl
+      (λ k. refl)) (λ b below. refl)
+      (λ k one at is_forced settled. elim (same_or_not k lane) [
+        | inl same ↦
+            (let e : one ≡ settling o =
+            (let own = ap (λ n. open_at new.lanes n) same ∙ goes.lane_is.own in cc) in
+            (o, ap (λ n. open_at old.lanes n) same ∙ is, forced, ap (λ p. p.range) (sym e), whole))
+        | inr other ↦
+            (let before =
+            sym (goes.lane_is.others k other) ∙ at in
+            (one, before, is_forced, refl, (logic.lanes k one before).kept settled))
+      ])
+      synced shown

@@ -85,9 +85,9 @@ pub fn events_leave_other_lanes<C: SectorCipher>()
         → Meets new next }
 {}
 
-/// An event of a client leaves the zone at hand: it is held, and lies apart from all other blocks, as
-/// before. What a client's lane holds while nothing has failed is live, so its pieces lie beside the
-/// zone.
+/// An event of a client leaves the zone at hand: it is held, and lies apart from all other blocks,
+/// as before. What a client's lane holds while nothing has failed is live, so its pieces lie beside
+/// the zone.
 pub fn events_leave_the_zone<C: SectorCipher>()
     ensures stays { (old new : State (Keys C)) (event : Event) (outcome : Outcome) →
         Meets old event → Step old event outcome new → Works old →
