@@ -60,6 +60,7 @@ impl<D: Disk, C: SectorCipher + Copy> Port for VolumePort<D, C> {
     ghost did_more = { λ first second third xs ys. did_joined C.sealed C.opened
         first.session second.session third.session first.volume second.volume third.volume xs ys };
 
+    #[inline(always)]
     fn submit(&mut self, alloc: Global, op: Op, spare: Bytes) -> Result<Submitted, AllocError> {
         match execute(
             alloc,
