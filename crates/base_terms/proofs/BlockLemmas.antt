@@ -85,92 +85,90 @@ lengths-blocks_of size (suc n) text is =
     (lengths-blocks_of size n (drop size text) (length-drop size text
     ∙ (let e : length text - size ≡ n * size = grind arith in e)))
 
--- cells of which each holds a block of one size
-abbrev pub AreEven : {C : Type 0} → (C → List ℕ) → ℕ → ℕ → List C → Type 0
-AreEven held count size cells = lengths (map held cells) ≡ replicate count size
+module _ {C : Type 0} (held : C → List ℕ) where
+  -- cells of which each holds a block of one size
+  abbrev pub AreEven : ℕ → ℕ → List C → Type 0
+  AreEven count size cells = lengths (map held cells) ≡ replicate count size
 
-pub even_front : {C : Type 0} (held : C → List ℕ) (count size : ℕ) (cell : C) (cells : List C)
-    → AreEven held (suc count) size (cell ∷ cells) → length (held cell) ≡ size
-unfolding lengths
-even_front held count size cell cells even = cc
+  pub even_front : (count size : ℕ) (cell : C) (cells : List C)
+      → AreEven (suc count) size (cell ∷ cells) → length (held cell) ≡ size
+  unfolding lengths
+  even_front count size cell cells even = cc
 
-pub even_rest : {C : Type 0} (held : C → List ℕ) (count size : ℕ) (cell : C) (cells : List C)
-    → AreEven held (suc count) size (cell ∷ cells) → AreEven held count size cells
-unfolding lengths
-even_rest held count size cell cells even = cc
+  pub even_rest : (count size : ℕ) (cell : C) (cells : List C)
+      → AreEven (suc count) size (cell ∷ cells) → AreEven count size cells
+  unfolding lengths
+  even_rest count size cell cells even = cc
 
--- cells stay even where blocks of their size are put into them
-pub even_changed : {C : Type 0} (held : C → List ℕ) (change : C → List ℕ → C)
-    → ((cell : C) (value : List ℕ) → held (change cell value) ≡ value)
-    → (count size at n : ℕ) (cells : List C) (text : List ℕ) → AreEven held count size cells
-    → length text ≡ n * size
-    → AreEven held count size (changed change cells at (blocks_of size n text))
-unfolding lengths changed blocks_of
-even_changed held change holds count size at n [] text even is = even
-even_changed held change holds zero size at n (cell ∷ cells) text even is = absurd (cc)
-even_changed held change holds (suc count) size at zero (cell ∷ cells) text even is = even
-even_changed held change holds (suc count) size zero (suc n) (cell ∷ cells) text even is =
-    let enough : size ≤ length text = grind arith in
-    let left : length (drop size text) ≡ n * size =
-    length-drop size text ∙ (let e : length text - size ≡ n * size = grind arith in e) in
-    ap₂ (λ x xs. x ∷ xs) (ap (λ value. length value) (holds cell (take size text))
-    ∙ length-take-le size text enough)
-    (even_changed held change holds count size 0 n cells (drop size text)
-    (even_rest held count size cell cells even) left)
-even_changed held change holds (suc count) size (suc at) (suc n) (cell ∷ cells) text even is =
-    ap₂ (λ x xs. x ∷ xs) (even_front held count size cell cells even)
-    (even_changed held change holds count size at (suc n) cells text
-    (even_rest held count size cell cells even) is)
+  module _ (change : C → List ℕ → C)
+      (holds : (cell : C) (value : List ℕ) → held (change cell value) ≡ value) where
+    -- cells stay even where blocks of their size are put into them
+    pub even_changed : (count size at n : ℕ) (cells : List C) (text : List ℕ)
+        → AreEven count size cells
+        → length text ≡ n * size
+        → AreEven count size (changed change cells at (blocks_of size n text))
+    unfolding lengths changed blocks_of
+    even_changed count size at n [] text even is = even
+    even_changed zero size at n (cell ∷ cells) text even is = absurd (cc)
+    even_changed (suc count) size at zero (cell ∷ cells) text even is = even
+    even_changed (suc count) size zero (suc n) (cell ∷ cells) text even is =
+        let enough : size ≤ length text = grind arith in
+        let left : length (drop size text) ≡ n * size =
+        length-drop size text ∙ (let e : length text - size ≡ n * size = grind arith in e) in
+        ap₂ (λ x xs. x ∷ xs) (ap (λ value. length value) (holds cell (take size text))
+        ∙ length-take-le size text enough)
+        (even_changed count size 0 n cells (drop size text)
+        (even_rest count size cell cells even) left)
+    even_changed (suc count) size (suc at) (suc n) (cell ∷ cells) text even is =
+        ap₂ (λ x xs. x ∷ xs) (even_front count size cell cells even)
+        (even_changed count size at (suc n) cells text
+        (even_rest count size cell cells even) is)
 
--- a text put into even cells stands in its place in their content
-pub joined_changed : {C : Type 0} (held : C → List ℕ) (change : C → List ℕ → C)
-    → ((cell : C) (value : List ℕ) → held (change cell value) ≡ value)
-    → (count size at n : ℕ) (cells : List C) (text : List ℕ) → AreEven held count size cells
-    → at + n ≤ count → length text ≡ n * size
-    → joined (map held (changed change cells at (blocks_of size n text)))
-    ≡ pasted (joined (map held cells)) (at * size) text
-unfolding lengths joined changed blocks_of
-joined_changed held change holds zero size at n [] text even in_disk is =
-    let none : text ≡ [] = nil_from_length text (grind arith) in
-    rw none (sym (pasted-nil [] (at * size)))
-joined_changed held change holds (suc count) size at n [] text even in_disk is = absurd (cc)
-joined_changed held change holds zero size at n (cell ∷ cells) text even in_disk is = absurd (cc)
-joined_changed held change holds (suc count) size at zero (cell ∷ cells) text even in_disk is =
-    let none : text ≡ [] = nil_from_length text (is ∙ omega arith) in
-    rw none (sym (pasted-nil (joined (map held (cell ∷ cells))) (at * size)))
-joined_changed held change holds (suc count) size zero (suc n) (cell ∷ cells) text even in_disk is =
-    let enough : size ≤ length text = grind arith in
-    let left : length (drop size text) ≡ n * size =
-    length-drop size text ∙ (let e : length text - size ≡ n * size = grind arith in e) in
-    let place : 0 * size ≡ 0 = grind arith in
-    let below = rw place at (joined_changed held change holds count size 0 n cells (drop size text)
-    (even_rest held count size cell cells even) (omega arith) left) in
-    rw place
-    (ap₂ (λ front rest. front ++ rest) (holds cell (take size text)) below
-    ∙ sym (pasted_over (held cell) (joined (map held cells)) size text
-    (even_front held count size cell cells even) enough))
-joined_changed held change holds (suc count) size (suc at) (suc n) (cell ∷ cells) text even in_disk
-    is =
-    let place : suc at * size ≡ size + at * size = grind arith in
-    ap (λ rest. held cell ++ rest)
-    (joined_changed held change holds count size at (suc n) cells text
-    (even_rest held count size cell cells even) (omega arith) is)
-    ∙ sym (rw place (pasted_behind (held cell) (joined (map held cells)) size (at * size) text
-    (even_front held count size cell cells even)))
+    -- a text put into even cells stands in its place in their content
+    pub joined_changed : (count size at n : ℕ) (cells : List C) (text : List ℕ)
+        → AreEven count size cells
+        → at + n ≤ count → length text ≡ n * size
+        → joined (map held (changed change cells at (blocks_of size n text)))
+        ≡ pasted (joined (map held cells)) (at * size) text
+    unfolding lengths joined changed blocks_of
+    joined_changed zero size at n [] text even in_disk is =
+        let none : text ≡ [] = nil_from_length text (grind arith) in
+        rw none (sym (pasted-nil [] (at * size)))
+    joined_changed (suc count) size at n [] text even in_disk is = absurd (cc)
+    joined_changed zero size at n (cell ∷ cells) text even in_disk is = absurd (cc)
+    joined_changed (suc count) size at zero (cell ∷ cells) text even in_disk is =
+        let none : text ≡ [] = nil_from_length text (is ∙ omega arith) in
+        rw none (sym (pasted-nil (joined (map held (cell ∷ cells))) (at * size)))
+    joined_changed (suc count) size zero (suc n) (cell ∷ cells) text even in_disk is =
+        let enough : size ≤ length text = grind arith in
+        let left : length (drop size text) ≡ n * size =
+        length-drop size text ∙ (let e : length text - size ≡ n * size = grind arith in e) in
+        let place : 0 * size ≡ 0 = grind arith in
+        let below = rw place at (joined_changed count size 0 n cells (drop size text)
+        (even_rest count size cell cells even) (omega arith) left) in
+        rw place
+        (ap₂ (λ front rest. front ++ rest) (holds cell (take size text)) below
+        ∙ sym (pasted_over (held cell) (joined (map held cells)) size text
+        (even_front count size cell cells even) enough))
+    joined_changed (suc count) size (suc at) (suc n) (cell ∷ cells) text even in_disk is =
+        let place : suc at * size ≡ size + at * size = grind arith in
+        ap (λ rest. held cell ++ rest)
+        (joined_changed count size at (suc n) cells text
+        (even_rest count size cell cells even) (omega arith) is)
+        ∙ sym (rw place (pasted_behind (held cell) (joined (map held cells)) size (at * size) text
+        (even_front count size cell cells even)))
 
--- what is held after a change that puts values in place
-pub held_changed : {C : Type 0} (held : C → List ℕ) (change : C → List ℕ → C)
-    → ((cell : C) (value : List ℕ) → held (change cell value) ≡ value)
-    → (cells : List C) (at : ℕ) (values : List (List ℕ))
-    → map held (changed change cells at values)
-    ≡ changed (λ _ value. value) (map held cells) at values
-unfolding changed
-held_changed held change holds [] at values = refl
-held_changed held change holds (cell ∷ cells) at [] = refl
-held_changed held change holds (cell ∷ cells) zero (value ∷ values) =
-    ap₂ (λ x xs. x ∷ xs) (holds cell value) (held_changed held change holds cells 0 values)
-held_changed held change holds (cell ∷ cells) (suc at) (value ∷ values) =
-    ap (λ rest. held cell ∷ rest) (held_changed held change holds cells at (value ∷ values))
+    -- what is held after a change that puts values in place
+    pub held_changed : (cells : List C) (at : ℕ) (values : List (List ℕ))
+        → map held (changed change cells at values)
+        ≡ changed (λ _ value. value) (map held cells) at values
+    unfolding changed
+    held_changed [] at values = refl
+    held_changed (cell ∷ cells) at [] = refl
+    held_changed (cell ∷ cells) zero (value ∷ values) =
+        ap₂ (λ x xs. x ∷ xs) (holds cell value) (held_changed cells 0 values)
+    held_changed (cell ∷ cells) (suc at) (value ∷ values) =
+        ap (λ rest. held cell ∷ rest) (held_changed cells at (value ∷ values))
 
 -- as many blocks as were asked for
 pub length-blocks_of : (size n : ℕ) (text : List ℕ) → length (blocks_of size n text) ≡ n

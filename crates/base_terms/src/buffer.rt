@@ -85,27 +85,3 @@ impl Buffer {
         Bytes::front_of(vec, len)
     }
 }
-
-#[cfg(test)]
-mod tests {
-    use super::*;
-    use std::test::Fail;
-
-    #[test]
-    fn a_buffer_keeps_its_longest_length(rt: HostRuntime) -> Result<(), Fail> {
-        let mut buffer = Buffer::empty(rt.alloc());
-        for (wanted, len) in [(0, 0), (3, 3), (2, 3), (5, 5), (0, 5)] {
-            buffer.grow(wanted)?;
-            assert_eq!(rt; buffer.len(), len);
-        }
-        let mut buffer = Buffer::new(b"abc".to_vec(rt.alloc())?);
-        buffer.grow(5)?;
-        assert_eq!(rt; buffer.front(4), b"abc\0".as_slice());
-        buffer.as_mut_slice().fill(b'x');
-        let text = buffer.into_text(2);
-        assert_eq!(rt; text.as_slice(), b"xx".as_slice());
-        let buffer = text.into_buffer();
-        assert_eq!(rt; buffer.len(), 5, "the text kept the whole buffer");
-        Ok(())
-    }
-}

@@ -75,21 +75,3 @@ impl Bytes {
         Buffer::new(vec)
     }
 }
-
-#[cfg(test)]
-mod tests {
-    use super::*;
-    use std::test::Fail;
-
-    #[test]
-    fn bytes_are_those_of_the_vector(rt: HostRuntime) -> Result<(), Fail> {
-        for (text, is_empty) in [(b"".as_slice(), true), (b"abc".as_slice(), false)] {
-            let bytes = Bytes::new(text.to_vec(rt.alloc())?);
-            assert_eq!(rt; bytes.len(), text.len());
-            assert_eq!(rt; bytes.is_empty(), is_empty);
-            assert_eq!(rt; bytes.as_slice(), text);
-            assert_eq!(rt; bytes.into_vec().as_slice(), text);
-        }
-        Ok(())
-    }
-}

@@ -28,26 +28,3 @@ pub fn paste(into: &mut Vec<u8>, from: usize, bytes: &[u8])
     into[from..from + bytes.len()].copy_from_slice(bytes);
     bytes_are_below_256(into);
 }
-
-#[cfg(test)]
-mod tests {
-    use super::*;
-    use std::test::Fail;
-
-    #[test]
-    fn zeros_are_as_many_as_asked_for(rt: HostRuntime) -> Result<(), Fail> {
-        assert_eq!(rt; zeros(rt.alloc(), 0)?.as_slice(), b"".as_slice());
-        assert_eq!(rt; zeros(rt.alloc(), 3)?.as_slice(), b"\0\0\0".as_slice());
-        Ok(())
-    }
-
-    #[test]
-    fn bytes_are_put_in_place(rt: HostRuntime) -> Result<(), Fail> {
-        for (from, text) in [(0, b"xyzdef"), (2, b"abxyzf"), (3, b"abcxyz")] {
-            let mut bytes = b"abcdef".to_vec(rt.alloc())?;
-            paste(&mut bytes, from, b"xyz");
-            assert_eq!(rt; bytes.as_slice(), text.as_slice());
-        }
-        Ok(())
-    }
-}

@@ -1,5 +1,6 @@
 -- Areas of a disk: runs of atoms that one writer has for itself, and what is known of them.
-use Rattle.std.specs.Prelude.{ℕ, zero, suc, ◌≡◌, ◌+◌, ◌<◌, ◌≤◌, ◌⊎◌, Bool, false, List, [], ◌++◌, length, Contains}
+use Rattle.std.specs.Prelude.{ℕ, zero, suc, ◌≡◌, ◌+◌, ◌<◌, ◌≤◌, ◌⊎◌, Bool, false, List, [], ◌++◌}
+use Rattle.std.specs.Prelude.{length, Contains}
 use Rattle.disk_views.specs.Parts.{block_at}
 use Rattle.disk_views.specs.Views.{View}
 
@@ -13,7 +14,8 @@ abbrev pub AreApart : Area → Area → Type 0
 AreApart a b = (a.start + a.count ≤ b.start) ⊎ (b.start + b.count ≤ a.start)
 
 -- what an area holds while nothing has failed, and what a stop may leave in it, atom by atom
-pub record Shows (area : Area) (Now Left : ℕ → List ℕ → Type 0) (broken : Bool) (view : View) : Type 0 where
+pub record Shows (area : Area) (Now Left : ℕ → List ℕ → Type 0) (broken : Bool) (view : View) : Type
+    0 where
   pub now : broken ≡ false → (i : ℕ) → i < area.count → Now i (view.current (area.start + i))
   pub left : (i : ℕ) → i < area.count → (value : List ℕ)
       → Contains (view.candidates (area.start + i)) value → Left i value

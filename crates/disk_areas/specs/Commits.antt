@@ -1,12 +1,13 @@
--- A commit: four device calls that lead both copies from one header to the next. A repair: two that write
--- one copy anew.
+-- A commit: four device calls that lead both copies from one header to the next. A repair: two that
+-- write one copy anew.
 use Rattle.std.specs.Prelude.{ℕ, ◌≡◌, ◌<◌, ◌⊎◌, Bool, true, List, ◌∷◌, [], ◌++◌, Contains, Some}
 use Rattle.disk_areas.specs.Areas.{Shows, IsOf, IsAny}
-use Rattle.disk_areas.specs.Headers.{Copy, primary, secondary, Reader, Layout, place_of, byte_of, Header, text_of, Handed}
+use Rattle.disk_areas.specs.Headers.{Copy, primary, secondary, Reader, Layout, place_of, byte_of}
+use Rattle.disk_areas.specs.Headers.{Header, text_of, Handed}
 use Rattle.disk_views.specs.Views.{View, IsWritten, IsTried, IsSynced, IsThinned}
 
--- which of its calls are done: none; the primary was written; it is certain to be kept; the secondary was
--- written
+-- which of its calls are done: none; the primary was written; it is certain to be kept; the
+-- secondary was written
 pub data Stage : Type 0 where
   begun : Stage
   first_written : Stage
@@ -26,13 +27,15 @@ CopyLeft atom primary first_written text = IsAny
 CopyLeft atom secondary second_written text = IsAny
 CopyLeft atom _ _ text = IsOf atom text
 
-abbrev pub ShowsCopy : {M : Type 0} → ℕ → Layout → Header M → Header M → Stage → Bool → View → Copy → Type 0
+abbrev pub ShowsCopy : {M : Type 0} → ℕ → Layout → Header M → Header M → Stage → Bool → View → Copy
+    → Type 0
 ShowsCopy atom layout from to stage broken view copy =
     Shows (place_of layout copy) (IsOf atom (text_of (written_of copy stage from to) copy))
     (CopyLeft atom copy stage (text_of (written_of copy stage from to) copy)) broken view
 
 -- what the disk shows of both copies
-pub record ShowsCommit {M : Type 0} (atom : ℕ) (layout : Layout) (from to : Header M) (stage : Stage) (broken : Bool) (view : View) : Type 0 where
+pub record ShowsCommit {M : Type 0} (atom : ℕ) (layout : Layout) (from to : Header M)
+    (stage : Stage) (broken : Bool) (view : View) : Type 0 where
   pub first : ShowsCopy atom layout from to stage broken view primary
   pub second : ShowsCopy atom layout from to stage broken view secondary
 
@@ -45,7 +48,8 @@ MayBe _ from to m = m ≡ to
 -- the device call that comes next, as it moves what the disk shows
 abbrev pub WritesCopy : {M : Type 0} → ℕ → Layout → Header M → Copy → View → View → Type 0
 WritesCopy atom layout to copy old new =
-    IsWritten atom (place_of layout copy).start (place_of layout copy).count (text_of to copy) old new
+    IsWritten atom (place_of layout copy).start (place_of layout copy).count (text_of to copy) old
+    new
 
 abbrev pub TriesCopy : {M : Type 0} → ℕ → Layout → Header M → Copy → View → View → Type 0
 TriesCopy atom layout to copy old new =
@@ -111,26 +115,32 @@ IsLater reader _ from to = Follows reader from to
 abbrev pub IsOlder : {M : Type 0} → Reader M → M → M → Type 0
 IsOlder reader from m = (reader.seq m < reader.seq from) × (reader.size m ≡ reader.size from)
 
--- the texts handed so far, as far as they are copies, mean the header, an older one, or the next one where
--- it was handed to that place
-pub record IsDated {M : Type 0} (reader : Reader M) (from to : Header M) (stage : Stage) (handed : Handed) : Type 0 where
+-- the texts handed so far, as far as they are copies, mean the header, an older one, or the next
+-- one where it was handed to that place
+pub record IsDated {M : Type 0} (reader : Reader M) (from to : Header M) (stage : Stage)
+    (handed : Handed) : Type 0 where
   pub later : IsLater reader stage from.means to.means
   pub each : (copy : Copy) (text : List ℕ) (m : M) → Contains (handed copy) text
       → reader.decode (byte_of (reader.size from.means) copy) text ≡ Some m
       → (m ≡ from.means) ⊎ (IsOlder reader from.means m ⊎ (WasHanded copy stage × (m ≡ to.means)))
 
--- ---- a repair: one copy is certain, and what a stop leaves of the other is older, the same or no copy
+-- ---- a repair: one copy is certain, and what a stop leaves of the other is older, the same or no
+-- copy
 abbrev pub other : Copy → Copy
 other primary = secondary
 other secondary = primary
 
-pub record ShowsRepair {M : Type 0} (atom : ℕ) (layout : Layout) (header : Header M) (bad : Copy) (written broken : Bool) (view : View) : Type 0 where
-  pub good : Shows (place_of layout (other bad)) (IsOf atom (text_of header (other bad))) (IsOf atom (text_of header (other bad))) broken view
-  pub now : written ≡ true → Shows (place_of layout bad) (IsOf atom (text_of header bad)) IsAny broken view
+pub record ShowsRepair {M : Type 0} (atom : ℕ) (layout : Layout) (header : Header M) (bad : Copy)
+    (written broken : Bool) (view : View) : Type 0 where
+  pub good : Shows (place_of layout (other bad)) (IsOf atom (text_of header (other bad)))
+      (IsOf atom (text_of header (other bad))) broken view
+  pub now : written ≡ true
+      → Shows (place_of layout bad) (IsOf atom (text_of header bad)) IsAny broken view
 
 -- the texts handed mean the header or an older one
 abbrev pub HasPast : {M : Type 0} → Reader M → Header M → Handed → Type 0
-HasPast {M} reader header handed = (copy : Copy) (text : List ℕ) (m : M) → Contains (handed copy) text
+HasPast {M} reader header handed =
+    (copy : Copy) (text : List ℕ) (m : M) → Contains (handed copy) text
     → reader.decode (byte_of (reader.size header.means) copy) text ≡ Some m
     → (m ≡ header.means) ⊎ IsOlder reader header.means m
 
@@ -139,4 +149,5 @@ abbrev pub handed_by_repair : {M : Type 0} → Copy → Header M → Handed → 
 handed_by_repair primary header handed primary = handed primary ++ text_of header primary ∷ []
 handed_by_repair primary header handed secondary = handed secondary
 handed_by_repair secondary header handed primary = handed primary
-handed_by_repair secondary header handed secondary = handed secondary ++ text_of header secondary ∷ []
+handed_by_repair secondary header handed secondary =
+    handed secondary ++ text_of header secondary ∷ []

@@ -1,38 +1,40 @@
 // Laws of headers, with nothing to run.
 
-ghost use Rattle.disk_areas.specs.Promises.{CommitDated, CommitGives, CommitGoes, HeaderIsOne, ImageTaken, OpeningDated, RepairDated, RepairGives, RepairGoes};
+ghost use Rattle.disk_areas.specs.Promises.{CommitDated, CommitGives, CommitGoes, HeaderIsOne};
+ghost use Rattle.disk_areas.specs.Promises.{ImageTaken, OpeningDated, RepairDated, RepairGives};
+ghost use Rattle.disk_areas.specs.Promises.{RepairGoes};
 
 /// The bytes of a disk have at most one header.
 pub fn disks_have_one_header()
     ensures { HeaderIsOne }
 {}
 
-/// Each image during a commit has the header from before or the next one, and from its first sync on the
-/// next one; its calls lead from what is known to what is known; and what its writes hand to the copies'
-/// places is the header, an older one or the next.
+/// Each image during a commit has the header from before or the next one, and from its first sync
+/// on the next one; its calls lead from what is known to what is known; and what its writes hand to
+/// the copies' places is the header, an older one or the next.
 pub fn commits_keep_headers()
     ensures gives { CommitGives }
     ensures goes { CommitGoes }
     ensures dated { CommitDated }
 {}
 
-/// Where a disk's bytes have a header, the copies that stand there at opening mean that one or an older
-/// one.
+/// Where a disk's bytes have a header, the copies that stand there at opening mean that one or an
+/// older one.
 pub fn openings_are_dated()
     ensures { OpeningDated }
 {}
 
-/// Each image during a repair has the header that is used, and after it both copies hold it for certain.
-/// What the copies' places were handed is that header or an older one, from the opening on and after its
-/// write, whether it failed or not; so is it for the commit that comes next.
+/// Each image during a repair has the header that is used, and after it both copies hold it for
+/// certain. What the copies' places were handed is that header or an older one, from the opening on
+/// and after its write, whether it failed or not; so is it for the commit that comes next.
 pub fn repairs_keep_headers()
     ensures gives { RepairGives }
     ensures goes { RepairGoes }
     ensures dated { RepairDated }
 {}
 
-/// What a stop leaves of a table is an image as these laws speak of it, and the bytes of the disk that is
-/// found then are what its header is read from.
+/// What a stop leaves of a table is an image as these laws speak of it, and the bytes of the disk
+/// that is found then are what its header is read from.
 pub fn images_are_taken()
     ensures { ImageTaken }
 {}

@@ -1,8 +1,14 @@
 -- Lemmas on texts, block by block.
-use Rattle.std.proofs.Common.{◌≡◌, ℕ, zero, suc, ◌+◌, ◌-◌, ◌*◌, ◌<◌, ◌≤◌, List, ◌++◌, length, take, drop, refl, sym, ◌∙◌, ap, ap₂, subst, inl, inr, arith, lit<, append_assoc, length-append, length-drop, length-take, length-take-le, suc-le-suc, mul-le-mul_right}
+use Rattle.std.proofs.Common.{◌≡◌, ℕ, zero, suc, ◌+◌, ◌-◌, ◌*◌, ◌<◌, ◌≤◌, List, ◌++◌, length, take}
+use Rattle.std.proofs.Common.{drop, refl, sym, ◌∙◌, ap, ap₂, subst, inl, inr, arith, lit<}
+use Rattle.std.proofs.Common.{append_assoc, length-append, length-drop, length-take, length-take-le}
+use Rattle.std.proofs.Common.{suc-le-suc, mul-le-mul_right}
 use Rattle.std.specs.Prelude.{get_or}
 use Rattle.std.proofs.lemmas.Bool.{cases_lt}
-use Rattle.std.proofs.lemmas.List.{take-append-drop, take-append-le, drop-append-le, take_all, take-take, drop-drop, drop-take, nil_from_length, get_or_past, get_or_append_left, get_or-append_right, get_or-take, get_or-drop}
+use Rattle.std.proofs.lemmas.List.{take-append-drop, take-append-le, drop-append-le, take_all}
+use Rattle.std.proofs.lemmas.List.{take-take, drop-drop, drop-take, nil_from_length, get_or_past}
+use Rattle.std.proofs.lemmas.List.{get_or_append_left, get_or-append_right, get_or-take}
+use Rattle.std.proofs.lemmas.List.{get_or-drop}
 use Rattle.std.proofs.Math.Seq.{drop-append-add}
 use Rattle.base_terms.specs.Blocks.{pasted}
 use Rattle.cipher_laws.specs.Bytes.{AreBytes}
@@ -21,7 +27,8 @@ block_within atom n k inside =
     let ends : suc k * atom ≤ n * atom = mul-le-mul_right atom inside in
     omega (arith, block_end atom k, ends)
 
-pub blocks_within : (atom count at n : ℕ) (bytes : List ℕ) → length bytes ≡ count * atom → at + n ≤ count
+pub blocks_within : (atom count at n : ℕ) (bytes : List ℕ) → length bytes ≡ count * atom
+    → at + n ≤ count
     → (at + n) * atom ≤ length bytes
 blocks_within atom count at n bytes long within =
     let ends : (at + n) * atom ≤ count * atom = mul-le-mul_right atom within in omega (arith, long)
@@ -38,7 +45,8 @@ pub bytes-append : (xs ys : List ℕ) → AreBytes xs → AreBytes ys → AreByt
 bytes-append xs ys in_xs in_ys k =
     elim (cases_lt k (length xs)) [
       | inl front ↦ subst (λ x. x < 256) (sym (get_or_append_left xs ys 0 k front)) (in_xs k)
-      | inr behind ↦ subst (λ x. x < 256) (sym (get_or-append_right xs ys (length xs) k 0 refl behind))
+      | inr behind ↦
+          subst (λ x. x < 256) (sym (get_or-append_right xs ys (length xs) k 0 refl behind))
           (in_ys (k - length xs))
     ]
 
@@ -66,20 +74,25 @@ place_of_whole atom bytes place some whole =
     omega (arith, some, whole, taken, left, block_end atom place)
 
 pub blocks_of_whole : (atom at n : ℕ) (bytes : List ℕ) → 0 < atom → 0 < n
-    → ((k : ℕ) → k < n → length (block_at atom bytes (at + k)) ≡ atom) → (at + n) * atom ≤ length bytes
+    → ((k : ℕ) → k < n → length (block_at atom bytes (at + k)) ≡ atom)
+    → (at + n) * atom ≤ length bytes
 blocks_of_whole atom at n bytes some more whole =
     let last : suc (at + (n - 1)) ≡ at + n = omega arith in
     subst (λ m. m * atom ≤ length bytes) last
     (place_of_whole atom bytes (at + (n - 1)) some (whole (n - 1) (omega arith)))
 
-pub bytes-block_at : (atom : ℕ) (bytes : List ℕ) (k : ℕ) → AreBytes bytes → AreBytes (block_at atom bytes k)
-bytes-block_at atom bytes k are = bytes-take atom (drop (k * atom) bytes) (bytes-drop (k * atom) bytes are)
+pub bytes-block_at : (atom : ℕ) (bytes : List ℕ) (k : ℕ) → AreBytes bytes
+    → AreBytes (block_at atom bytes k)
+bytes-block_at atom bytes k are =
+    bytes-take atom (drop (k * atom) bytes) (bytes-drop (k * atom) bytes are)
 
 -- the first block of a text, and a text of one block
 pub block_at-first : (atom : ℕ) (bytes : List ℕ) → block_at atom bytes 0 ≡ take atom bytes
-block_at-first atom bytes = ap (λ n. take atom (drop n bytes)) (let e : 0 * atom ≡ 0 = omega arith in e)
+block_at-first atom bytes =
+    ap (λ n. take atom (drop n bytes)) (let e : 0 * atom ≡ 0 = omega arith in e)
 
-pub block_at-one : (atom : ℕ) (bytes : List ℕ) → length bytes ≡ 1 * atom → block_at atom bytes 0 ≡ bytes
+pub block_at-one : (atom : ℕ) (bytes : List ℕ) → length bytes ≡ 1 * atom
+    → block_at atom bytes 0 ≡ bytes
 block_at-one atom bytes is = block_at-first atom bytes ∙ take_all atom bytes (omega arith)
 
 -- the blocks of what lies behind some blocks
@@ -146,7 +159,8 @@ same_blocks atom (suc n) xs ys long_xs long_ys same =
     same_blocks atom n (drop atom xs) (drop atom ys)
     (length-drop atom xs ∙ (let e : length xs - atom ≡ n * atom = omega (arith, one) in e))
     (length-drop atom ys ∙ (let e : length ys - atom ≡ n * atom = omega (arith, one) in e))
-    (λ k inside. block_at-next atom xs k ∙ same (suc k) (suc-le-suc inside) ∙ sym (block_at-next atom ys k)) in
+    (λ k inside. block_at-next atom xs k ∙ same (suc k) (suc-le-suc inside)
+    ∙ sym (block_at-next atom ys k)) in
     sym (take-append-drop atom xs) ∙ ap₂ (λ front behind. front ++ behind) first rest
     ∙ take-append-drop atom ys
 
@@ -169,7 +183,8 @@ pub blocks_part : (atom count s n : ℕ) (bytes : List ℕ) → AreBlocks atom c
     → AreBlocks atom n (take (n * atom) (drop (s * atom) bytes))
 blocks_part atom count s n bytes are within = record {
   size = length-part atom s n bytes (blocks_within atom count s n bytes are.size within);
-  are_bytes = bytes-take (n * atom) (drop (s * atom) bytes) (bytes-drop (s * atom) bytes are.are_bytes);
+  are_bytes =
+      bytes-take (n * atom) (drop (s * atom) bytes) (bytes-drop (s * atom) bytes are.are_bytes);
 }
 
 -- a text put in place of blocks of another
@@ -196,7 +211,8 @@ block_at-pasted atom at n old text k within is inside =
     let front = length-take-le (at * atom) old (omega (arith, blocks_end atom at n)) in
     ap (λ all. block_at atom all (at + k))
     (append_assoc (take (at * atom) old) text (drop (at * atom + length text) old))
-    ∙ block_at-behind atom at (take (at * atom) old) (text ++ drop (at * atom + length text) old) k front
+    ∙ block_at-behind atom at (take (at * atom) old) (text ++ drop (at * atom + length text) old) k
+    front
     ∙ block_at-front atom n text (drop (at * atom + length text) old) k inside (omega arith)
 
 pub block_at-pasted_outside : (atom at n : ℕ) (old text : List ℕ) (place : ℕ)
@@ -207,7 +223,8 @@ block_at-pasted_outside atom at n old text place within is (inl before) =
     let front = length-take-le (at * atom) old (omega (arith, blocks_end atom at n)) in
     ap (λ all. block_at atom all place)
     (append_assoc (take (at * atom) old) text (drop (at * atom + length text) old))
-    ∙ block_at-front atom at (take (at * atom) old) (text ++ drop (at * atom + length text) old) place before
+    ∙ block_at-front atom at (take (at * atom) old) (text ++ drop (at * atom + length text) old)
+    place before
     (omega (arith, front))
     ∙ block_at-take atom at old place before
 block_at-pasted_outside atom at n old text place within is (inr behind) =

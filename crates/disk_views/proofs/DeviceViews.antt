@@ -1,5 +1,6 @@
 -- Lemmas on what device calls do to a disk as a run sees it.
-use Rattle.std.proofs.Common.{◌≡◌, ℕ, ◌+◌, ◌*◌, ◌/◌, ◌<◌, ◌≤◌, List, length, take, drop, map, Some, Result, Ok, Err, refl, sym, ◌∙◌, ap, subst, inl, inr, arith}
+use Rattle.std.proofs.Common.{◌≡◌, ℕ, ◌+◌, ◌*◌, ◌/◌, ◌<◌, ◌≤◌, List, length, take, drop, map, Some}
+use Rattle.std.proofs.Common.{Result, Ok, Err, refl, sym, ◌∙◌, ap, subst, inl, inr, arith}
 use Rattle.std.proofs.lemmas.List.{length-map}
 use Rattle.std.proofs.Math.Nat.{mul-div_cancel}
 use Rattle.base_terms.specs.declared.failed.Failed.{Failed}
@@ -12,14 +13,19 @@ use Rattle.sector_disk.specs.Devices.{ReadCall, WriteCall, SyncCall}
 use Rattle.disk_views.specs.Parts.{block_at}
 use Rattle.sector_disk.specs.Devices.{Device}
 use Rattle.sector_disk.specs.Devices.{succeeded, failed_call}
-use Rattle.disk_views.specs.Views.{View, view_of_bytes, view_of_cells, IsUnchanged, IsTried, IsWritten, IsSynced}
+use Rattle.disk_views.specs.Views.{View, view_of_bytes, view_of_cells, IsUnchanged, IsTried}
+use Rattle.disk_views.specs.Views.{IsWritten, IsSynced}
 use Rattle.disk_views.specs.Views as views
-use Rattle.disk_views.proofs.Blockwise.{length-pasted_blocks, block_at-pasted, block_at-pasted_outside, block_at-part}
+use Rattle.disk_views.proofs.Blockwise.{length-pasted_blocks, block_at-pasted}
+use Rattle.disk_views.proofs.Blockwise.{block_at-pasted_outside, block_at-part}
 use Rattle.disk_views.proofs.Entries.{length-changed}
-use Rattle.disk_views.proofs.TableEntries.{none_contained, place_of_some, kept_view, wrote_view, length-tried, tried_view, untried_view, synced_view, length-thinned, thinned_view, unthinned_view}
+use Rattle.disk_views.proofs.TableEntries.{none_contained, place_of_some, kept_view, wrote_view}
+use Rattle.disk_views.proofs.TableEntries.{length-tried, tried_view, untried_view, synced_view}
+use Rattle.disk_views.proofs.TableEntries.{length-thinned, thinned_view, unthinned_view}
 
 -- a call leaves other bytes that are told, as many, and by this step of what a run sees
-pub record TurnsBytes (atom : ℕ) (bytes : List ℕ) (new : Device) (Step : View → View → Type 0) : Type 0 where
+pub record TurnsBytes (atom : ℕ) (bytes : List ℕ) (new : Device)
+    (Step : View → View → Type 0) : Type 0 where
   pub now : List ℕ
   pub told : new.values ≡ Some now
   pub size : length now ≡ length bytes
@@ -35,8 +41,10 @@ pub record TurnsTable (old : Device) (now : Told) (Step : View → View → Type
 -- bytes that are told
 
 -- a read, also one that fails
-pub bytes-read : (atom at : ℕ) (text bytes : List ℕ) (old new : Device) (result : Result (Unit {0}) Failed)
-    → ReadCall atom at text old new result → old.values ≡ Some bytes → TurnsBytes atom bytes new IsUnchanged
+pub bytes-read : (atom at : ℕ) (text bytes : List ℕ) (old new : Device)
+    (result : Result (Unit {0}) Failed)
+    → ReadCall atom at text old new result → old.values ≡ Some bytes
+    → TurnsBytes atom bytes new IsUnchanged
 bytes-read atom at text bytes old new result call told = record {
   now = bytes;
   told = call.values ∙ told;
@@ -51,11 +59,13 @@ pub text-read : (atom at : ℕ) (text bytes : List ℕ) (old new : Device)
 text-read atom at text bytes old new call told = call.content bytes told
 
 pub block-read : (atom at n : ℕ) (text bytes : List ℕ) (old new : Device) (k : ℕ)
-    → ReadCall atom at text old new succeeded → old.values ≡ Some bytes → length text ≡ n * atom → k < n
+    → ReadCall atom at text old new succeeded → old.values ≡ Some bytes → length text ≡ n * atom
+    → k < n
     → block_at atom text k ≡ block_at atom bytes (at + k)
 block-read atom at n text bytes old new k call told long inside =
     ap (λ all. block_at atom all k)
-    (text-read atom at text bytes old new call told ∙ ap (λ m. take m (drop (at * atom) bytes)) long)
+    (text-read atom at text bytes old new call told
+    ∙ ap (λ m. take m (drop (at * atom) bytes)) long)
     ∙ block_at-part atom at n bytes k inside
 
 -- a write
@@ -94,7 +104,8 @@ bytes-tried atom at n text bytes old new call told long =
     }
 
 -- a sync, also one that fails
-pub bytes-synced : (atom : ℕ) (bytes : List ℕ) (old new : Device) (result : Result (Unit {0}) Failed)
+pub bytes-synced : (atom : ℕ) (bytes : List ℕ) (old new : Device)
+    (result : Result (Unit {0}) Failed)
     → SyncCall old new result → old.values ≡ Some bytes → TurnsBytes atom bytes new IsSynced
 bytes-synced atom bytes old new result call told = record {
   now = bytes;
@@ -106,7 +117,8 @@ bytes-synced atom bytes old new result call told = record {
   };
 }
 
-pub bytes-thinned : (atom : ℕ) (bytes : List ℕ) (old new : Device) (result : Result (Unit {0}) Failed)
+pub bytes-thinned : (atom : ℕ) (bytes : List ℕ) (old new : Device)
+    (result : Result (Unit {0}) Failed)
     → SyncCall old new result → old.values ≡ Some bytes → TurnsBytes atom bytes new views.IsThinned
 bytes-thinned atom bytes old new result call told =
     record { now = bytes; told = call.values ∙ told; size = refl; step = λ place value has. has }
@@ -118,8 +130,10 @@ record TurnsCells (old new : List Cell) (Step : View → View → Type 0) : Type
   size : length new ≡ length old
   step : Step (view_of_cells old) (view_of_cells new)
 
-turns_by_move : (Move : List Cell → List Cell → Type 0) (Step : View → View → Type 0) (old new : Device) (now : Told)
-    → ((before : Told) → old.told ≡ Some before → Move before.now now.now → TurnsCells before.now now.now Step)
+turns_by_move : (Move : List Cell → List Cell → Type 0) (Step : View → View → Type 0)
+    (old new : Device) (now : Told)
+    → ((before : Told) → old.told ≡ Some before → Move before.now now.now
+    → TurnsCells before.now now.now Step)
     → Moves Move old.told new.told → new.told ≡ Some now → TurnsTable old now Step
 turns_by_move Move Step old new now turns moves told =
     let (before, was, is) = moves now told in
@@ -127,9 +141,11 @@ turns_by_move Move Step old new now turns moves told =
     record { before = before; told = was; size = turned.size; step = turned.step }
 
 -- a failed call may have made no device call
-turns_or_not : (Move : List Cell → List Cell → Type 0) (Step : View → View → Type 0) (old new : Device) (now : Told)
+turns_or_not : (Move : List Cell → List Cell → Type 0) (Step : View → View → Type 0)
+    (old new : Device) (now : Told)
     → ((cells : List Cell) → Step (view_of_cells cells) (view_of_cells cells))
-    → ((before : Told) → old.told ≡ Some before → Move before.now now.now → TurnsCells before.now now.now Step)
+    → ((before : Told) → old.told ≡ Some before → Move before.now now.now
+    → TurnsCells before.now now.now Step)
     → MovesOrNot Move old.told new.told → new.told ≡ Some now → TurnsTable old now Step
 turns_or_not Move Step old new now stays turns (inl same) told =
     record { before = now; told = sym same ∙ told; size = refl; step = stays now.now }
@@ -140,26 +156,31 @@ turns_or_not Move Step old new now stays turns (inr moves) told =
 kept : (old new : List Cell) → new ≡ old → TurnsCells old new IsUnchanged
 kept old new is = record { size = ap (λ cells. length cells) is; step = kept_view old new is }
 
-pub table-read : (atom at : ℕ) (text : List ℕ) (old new : Device) (result : Result (Unit {0}) Failed) (now : Told)
+pub table-read : (atom at : ℕ) (text : List ℕ) (old new : Device)
+    (result : Result (Unit {0}) Failed) (now : Told)
     → ReadCall atom at text old new result → new.told ≡ Some now → TurnsTable old now IsUnchanged
 table-read atom at text old new (Ok done) now call told =
-    turns_by_move IsKept IsUnchanged old new now (λ before _ is. kept before.now now.now is) call.told told
+    turns_by_move IsKept IsUnchanged old new now (λ before _ is. kept before.now now.now is)
+    call.told told
 table-read atom at text old new (Err failed) now call told =
     turns_or_not IsKept IsUnchanged old new now (λ cells. kept_view cells cells refl)
     (λ before _ is. kept before.now now.now is) call.told told
 
 -- the blocks of a text of so many
-count_of_blocks : (atom n : ℕ) (text : List ℕ) → 0 < atom → length text ≡ n * atom → length text / atom ≡ n
+count_of_blocks : (atom n : ℕ) (text : List ℕ) → 0 < atom → length text ≡ n * atom
+    → length text / atom ≡ n
 count_of_blocks atom n text some long = ap (λ m. m / atom) long ∙ mul-div_cancel n some
 
 -- the `n` atoms from `at` on are in the table before a call
 abbrev pub HasPlaces : Device → ℕ → ℕ → Type 0
-HasPlaces old at n = (before : Told) → old.told ≡ Some before → (k : ℕ) → k < n → at + k < length before.now
+HasPlaces old at n =
+    (before : Told) → old.told ≡ Some before → (k : ℕ) → k < n → at + k < length before.now
 
 pub places_of_atoms : (old : Device) (atoms at n : ℕ)
     → ((before : Told) → old.told ≡ Some before → length before.now ≡ atoms) → at + n ≤ atoms
     → HasPlaces old at n
-places_of_atoms old atoms at n had within before was k below = omega (arith, had before was, within, below)
+places_of_atoms old atoms at n had within before was k below =
+    omega (arith, had before was, within, below)
 
 pub places_of_current : (old : Device) (atom at n : ℕ) → 0 < atom
     → ((before : Told) → old.told ≡ Some before → (k : ℕ) → k < n
@@ -174,13 +195,16 @@ pub table-written : (atom at n : ℕ) (text : List ℕ) (old new : Device) (now 
     → 0 < atom → length text ≡ n * atom → HasPlaces old at n
     → TurnsTable old now (IsWritten atom at n text)
 table-written atom at n text old new now call told some long has =
-    turns_by_move (λ cells next. next ≡ changed wrote cells at (blocks_of atom (length text / atom) text))
+    turns_by_move
+    (λ cells next. next ≡ changed wrote cells at (blocks_of atom (length text / atom) text))
     (IsWritten atom at n text) old new now
     (λ before was is.
     let exact : now.now ≡ changed wrote before.now at (blocks_of atom n text) =
-    is ∙ ap (λ m. changed wrote before.now at (blocks_of atom m text)) (count_of_blocks atom n text some long) in
+    is ∙ ap (λ m. changed wrote before.now at (blocks_of atom m text))
+    (count_of_blocks atom n text some long) in
     record {
-      size = ap (λ cells. length cells) exact ∙ length-changed wrote before.now at (blocks_of atom n text);
+      size = ap (λ cells. length cells) exact
+          ∙ length-changed wrote before.now at (blocks_of atom n text);
       step = wrote_view atom at n text before.now now.now (has before was) exact;
     }) call.told told
 
@@ -190,7 +214,8 @@ pub table-tried : (atom at n : ℕ) (text : List ℕ) (old new : Device) (now : 
     → 0 < atom → length text ≡ n * atom
     → TurnsTable old now (IsTried atom at n text)
 table-tried atom at n text old new now call told some long =
-    turns_or_not (λ cells next. disk_cells.IsTried cells at (blocks_of atom (length text / atom) text) next)
+    turns_or_not
+    (λ cells next. disk_cells.IsTried cells at (blocks_of atom (length text / atom) text) next)
     (IsTried atom at n text) old new now (λ cells. untried_view atom at n text cells cells refl)
     (λ before was is.
     let exact : disk_cells.IsTried before.now at (blocks_of atom n text) now.now =
@@ -202,7 +227,8 @@ table-tried atom at n text old new now call told some long =
     }) call.told told
 
 -- a sync
-pub table-synced : (old new : Device) (now : Told) → SyncCall old new succeeded → new.told ≡ Some now
+pub table-synced : (old new : Device) (now : Told) → SyncCall old new succeeded
+    → new.told ≡ Some now
     → TurnsTable old now IsSynced
 table-synced old new now call told =
     turns_by_move (λ cells next. next ≡ map synced cells) IsSynced old new now
@@ -212,7 +238,8 @@ table-synced old new now call told =
     }) call.told told
 
 -- a sync that failed
-pub table-thinned : (old new : Device) (now : Told) → SyncCall old new failed_call → new.told ≡ Some now
+pub table-thinned : (old new : Device) (now : Told) → SyncCall old new failed_call
+    → new.told ≡ Some now
     → TurnsTable old now views.IsThinned
 table-thinned old new now call told =
     turns_or_not IsThinned views.IsThinned old new now (λ cells. unthinned_view cells cells refl)

@@ -1,5 +1,6 @@
 -- Lemmas on lists of which some entries are changed, entry by entry.
-use Rattle.std.proofs.Common.{◌≡◌, ℕ, zero, suc, ◌+◌, ◌<◌, List, [], ◌∷◌, length, drop, refl, sym, ◌∙◌, ap, inl, inr, arith, le_of_suc-le-suc}
+use Rattle.std.proofs.Common.{◌≡◌, ℕ, zero, suc, ◌+◌, ◌<◌, List, [], ◌∷◌, length, drop, refl, sym}
+use Rattle.std.proofs.Common.{◌∙◌, ap, inl, inr, arith, le_of_suc-le-suc}
 use Rattle.std.specs.Prelude.{slice_index_or, Contains}
 use Rattle.base_terms.specs.Blocks.{blocks_of, changed}
 use Rattle.sector_disk.specs.Cells.{Cell, IsImage}
@@ -9,7 +10,8 @@ use Rattle.disk_views.specs.Views.{IsOutside}
 use Rattle.disk_views.proofs.Blockwise.{block_at-first, block_at-next}
 
 -- a change keeps how many there are
-pub length-changed : {C : Type 0} (change : C → List ℕ → C) (cells : List C) (at : ℕ) (values : List (List ℕ))
+pub length-changed : {C : Type 0} (change : C → List ℕ → C) (cells : List C) (at : ℕ)
+    (values : List (List ℕ))
     → length (changed change cells at values) ≡ length cells
 unfolding changed
 length-changed change [] at values = refl
@@ -26,9 +28,12 @@ pub changed-outside : {C : Type 0} (change : C → List ℕ → C) (cells : List
 unfolding changed
 changed-outside change [] at values place d is = refl
 changed-outside change (cell ∷ cells) at [] place d is = refl
-changed-outside change (cell ∷ cells) zero (value ∷ values) zero d (inl before) = absurd (omega arith)
-changed-outside change (cell ∷ cells) zero (value ∷ values) zero d (inr behind) = absurd (omega arith)
-changed-outside change (cell ∷ cells) zero (value ∷ values) (suc place) d (inl before) = absurd (omega arith)
+changed-outside change (cell ∷ cells) zero (value ∷ values) zero d (inl before) =
+    absurd (omega arith)
+changed-outside change (cell ∷ cells) zero (value ∷ values) zero d (inr behind) =
+    absurd (omega arith)
+changed-outside change (cell ∷ cells) zero (value ∷ values) (suc place) d (inl before) =
+    absurd (omega arith)
 changed-outside change (cell ∷ cells) zero (value ∷ values) (suc place) d (inr behind) =
     changed-outside change cells 0 values place d (inr (omega arith))
 changed-outside change (cell ∷ cells) (suc at) (value ∷ values) zero d is = refl
@@ -38,7 +43,8 @@ changed-outside change (cell ∷ cells) (suc at) (value ∷ values) (suc place) 
     changed-outside change cells at (value ∷ values) place d (inr (omega arith))
 
 -- an entry inside is changed by its value
-changed_at : {C : Type 0} (change : C → List ℕ → C) (cells : List C) (at : ℕ) (values : List (List ℕ))
+changed_at : {C : Type 0} (change : C → List ℕ → C) (cells : List C) (at : ℕ)
+    (values : List (List ℕ))
     (k place : ℕ) (d : C) (e : List ℕ) → place ≡ at + k → k < length values → place < length cells
     → slice_index_or (changed change cells at values) place d
     ≡ change (slice_index_or cells place d) (slice_index_or values k e)
@@ -46,16 +52,20 @@ unfolding changed
 changed_at change [] at values k place d e is inside within = absurd (omega arith)
 changed_at change (cell ∷ cells) at [] k place d e is inside within = absurd (omega arith)
 changed_at change (cell ∷ cells) zero (value ∷ values) zero zero d e is inside within = refl
-changed_at change (cell ∷ cells) zero (value ∷ values) zero (suc place) d e is inside within = absurd (omega arith)
-changed_at change (cell ∷ cells) zero (value ∷ values) (suc k) zero d e is inside within = absurd (omega arith)
+changed_at change (cell ∷ cells) zero (value ∷ values) zero (suc place) d e is inside within =
+    absurd (omega arith)
+changed_at change (cell ∷ cells) zero (value ∷ values) (suc k) zero d e is inside within =
+    absurd (omega arith)
 changed_at change (cell ∷ cells) zero (value ∷ values) (suc k) (suc place) d e is inside within =
     changed_at change cells 0 values k place d e (omega arith) (omega arith) (omega arith)
-changed_at change (cell ∷ cells) (suc at) (value ∷ values) k zero d e is inside within = absurd (omega arith)
+changed_at change (cell ∷ cells) (suc at) (value ∷ values) k zero d e is inside within =
+    absurd (omega arith)
 changed_at change (cell ∷ cells) (suc at) (value ∷ values) k (suc place) d e is inside within =
     changed_at change cells at (value ∷ values) k place d e (omega arith) inside (omega arith)
 
 pub changed-inside : {C : Type 0} (change : C → List ℕ → C) (cells : List C) (at : ℕ)
-    (values : List (List ℕ)) (k : ℕ) (d : C) (e : List ℕ) → k < length values → at + k < length cells
+    (values : List (List ℕ)) (k : ℕ) (d : C) (e : List ℕ) → k < length values
+    → at + k < length cells
     → slice_index_or (changed change cells at values) (at + k) d
     ≡ change (slice_index_or cells (at + k) d) (slice_index_or values k e)
 changed-inside change cells at values k d e inside within =
@@ -78,7 +88,8 @@ blocks_of-at atom (suc n) text (suc k) e inside =
 -- entries that are changed by the blocks of a text
 pub changed_blocks-outside : {C : Type 0} (change : C → List ℕ → C) (cells : List C) (atom at n : ℕ)
     (text : List ℕ) (place : ℕ) (d : C) → IsOutside at n place
-    → slice_index_or (changed change cells at (blocks_of atom n text)) place d ≡ slice_index_or cells place d
+    → slice_index_or (changed change cells at (blocks_of atom n text)) place d
+    ≡ slice_index_or cells place d
 changed_blocks-outside change cells atom at n text place d (inl before) =
     changed-outside change cells at (blocks_of atom n text) place d (inl before)
 changed_blocks-outside change cells atom at n text place d (inr behind) =
@@ -90,8 +101,10 @@ pub changed_blocks-inside : {C : Type 0} (change : C → List ℕ → C) (cells 
     → slice_index_or (changed change cells at (blocks_of atom n text)) (at + k) d
     ≡ change (slice_index_or cells (at + k) d) (block_at atom text k)
 changed_blocks-inside change cells atom at n text k d inside within =
-    changed-inside change cells at (blocks_of atom n text) k d [] (rw (length-blocks_of atom n text) inside) within
-    ∙ ap (λ value. change (slice_index_or cells (at + k) d) value) (blocks_of-at atom n text k [] inside)
+    changed-inside change cells at (blocks_of atom n text) k d []
+    (rw (length-blocks_of atom n text) inside) within
+    ∙ ap (λ value. change (slice_index_or cells (at + k) d) value)
+    (blocks_of-at atom n text k [] inside)
 
 -- an image takes a candidate of each atom
 pub image_in : (cells : List Cell) (image : List (List ℕ)) (place : ℕ) → IsImage cells image

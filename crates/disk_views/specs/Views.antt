@@ -24,7 +24,8 @@ view_of_cells cells = record {
 
 -- each candidate of the place was one before
 abbrev pub HasNoMore : View → View → ℕ → Type 0
-HasNoMore old new place = (atom : List ℕ) → Contains (new.candidates place) atom → Contains (old.candidates place) atom
+HasNoMore old new place =
+    (atom : List ℕ) → Contains (new.candidates place) atom → Contains (old.candidates place) atom
 
 -- the place is none of the `n` from `at` on
 abbrev pub IsOutside : ℕ → ℕ → ℕ → Type 0
@@ -35,7 +36,8 @@ pub record IsUnchanged (old new : View) : Type 0 where
   pub current : (place : ℕ) → new.current place ≡ old.current place
   pub candidates : (place : ℕ) → HasNoMore old new place
 
--- after a write of the blocks of a text that may have failed: only they were added, and only in their places
+-- after a write of the blocks of a text that may have failed: only they were added, and only in
+-- their places
 pub record IsTried (atom at n : ℕ) (bytes : List ℕ) (old new : View) : Type 0 where
   pub inside : (k : ℕ) → k < n → (value : List ℕ) → Contains (new.candidates (at + k)) value →
       Contains (old.candidates (at + k)) value ⊎ (value ≡ block_at atom bytes k)
@@ -50,7 +52,8 @@ pub record IsWritten (atom at n : ℕ) (bytes : List ℕ) (old new : View) : Typ
 -- after a sync that succeeded only the current values are left
 pub record IsSynced (old new : View) : Type 0 where
   pub current : (place : ℕ) → new.current place ≡ old.current place
-  pub candidates : (place : ℕ) (value : List ℕ) → Contains (new.candidates place) value → value ≡ old.current place
+  pub candidates : (place : ℕ) (value : List ℕ) → Contains (new.candidates place) value
+      → value ≡ old.current place
 
 -- after a sync that failed
 abbrev pub IsThinned : View → View → Type 0

@@ -1,6 +1,10 @@
--- Lemmas on reads, failed writes and blocks of a text that lies across two texts, one behind the other.
-use Rattle.std.proofs.Common.{◌≡◌, ℕ, zero, suc, ◌+◌, ◌-◌, ◌*◌, ◌/◌, ◌<◌, ◌≤◌, ◌⊎◌, List, [], ◌∷◌, ◌++◌, length, take, drop, min, refl, sym, ◌∙◌, ap, ap₂, inl, inr, arith, append_assoc, length-append, length-drop}
-use Rattle.std.proofs.lemmas.List.{take_all, drop_all, drop-drop, drop-take, take-take, length-take, length-take-le, take_at, drop_at, nil_from_length}
+-- Lemmas on reads, failed writes and blocks of a text that lies across two texts, one behind the
+-- other.
+use Rattle.std.proofs.Common.{◌≡◌, ℕ, zero, suc, ◌+◌, ◌-◌, ◌*◌, ◌/◌, ◌<◌, ◌≤◌, ◌⊎◌, List, [], ◌∷◌}
+use Rattle.std.proofs.Common.{◌++◌, length, take, drop, min, refl, sym, ◌∙◌, ap, ap₂, inl, inr}
+use Rattle.std.proofs.Common.{arith, append_assoc, length-append, length-drop}
+use Rattle.std.proofs.lemmas.List.{take_all, drop_all, drop-drop, drop-take, take-take, length-take}
+use Rattle.std.proofs.lemmas.List.{length-take-le, take_at, drop_at, nil_from_length}
 use Rattle.std.proofs.Math.Seq.{take-nil, drop-nil}
 use Rattle.std.proofs.Math.Nat.{mul-div_cancel, mul-le-mul_right, mul-sub, mul_comm}
 use Rattle.base_terms.specs.Blocks.{pasted, blocks_of}
@@ -28,15 +32,18 @@ take_as_long (suc n) [] = refl
 take_as_long (suc n) (x ∷ xs) = ap (λ rest. x ∷ rest) (take_as_long n xs)
 
 -- a part of a front that reaches so far
-part_of_front : (used at n : ℕ) (xs : List ℕ) → at + n ≤ used → take n (drop at (take used xs)) ≡ take n (drop at xs)
+part_of_front : (used at n : ℕ) (xs : List ℕ) → at + n ≤ used
+    → take n (drop at (take used xs)) ≡ take n (drop at xs)
 part_of_front used at n xs within =
     let more : used ≡ at + (used - at) = omega (arith, within) in
-    ap (λ m. take n (drop at (take m xs))) more ∙ ap (λ rest. take n rest) (drop-take at (used - at) xs)
+    ap (λ m. take n (drop at (take m xs))) more
+    ∙ ap (λ rest. take n rest) (drop-take at (used - at) xs)
     ∙ take-take n (used - at) (drop at xs) (omega (arith, within))
 
 -- what was read of both is what was read across them
 pub read_both : (used at : ℕ) (xs ys front back : List ℕ)
-    → (front ≡ take (length front) (drop at xs)) → (back ≡ take (length back) (drop (at - length xs) ys))
+    → (front ≡ take (length front) (drop at xs))
+    → (back ≡ take (length back) (drop (at - length xs) ys))
     → at + length (front ++ back) ≤ length xs + used
     → length front ≡ min (length xs - at) (length (front ++ back))
     → front ++ back ≡ take (length (front ++ back)) (drop at (xs ++ take used ys))
@@ -48,12 +55,14 @@ read_both used at xs ys front back of_front of_back within cut =
     sym (take_as_long (length (front ++ back)) (drop at xs))
     ∙ ap (λ n. take n (drop at xs)) (length-take (length (front ++ back)) (drop at xs)
     ∙ ap (λ n. min (length (front ++ back)) n) (length-drop at xs)
-    ∙ (let e : min (length (front ++ back)) (length xs - at) ≡ length front = omega (arith, cut) in e))
+    ∙ (let e : min (length (front ++ back)) (length xs - at) ≡ length front =
+    omega (arith, cut) in e))
     ∙ sym of_front in
     sym (ap (λ all. take (length (front ++ back)) all) (drop_append at xs (take used ys))
     ∙ take_append (length (front ++ back)) (drop at xs) (drop (at - length xs) (take used ys))
     ∙ ap₂ (λ a b. a ++ b) head (ap (λ n. take n (drop (at - length xs) (take used ys))) rest
-    ∙ part_of_front used (at - length xs) (length back) ys (let e : at - length xs + length back ≤ used =
+    ∙ part_of_front used (at - length xs) (length back) ys
+    (let e : at - length xs + length back ≤ used =
     omega (arith, within, long, cut) in e) ∙ sym of_back))
 
 -- a write leaves what lies outside of it
@@ -64,14 +73,16 @@ same_pasted at old text within =
     let fits : at ≤ length old = omega (arith, within) in
     let front : length (take at old) ≡ at = length-take-le at old fits in
     record {
-      before = ap (λ all. take at all) (append_assoc (take at old) text (drop (at + length text) old))
+      before =
+          ap (λ all. take at all) (append_assoc (take at old) text (drop (at + length text) old))
           ∙ take_at (take at old) (text ++ drop (at + length text) old) at front;
       behind = drop_at (take at old ++ text) (drop (at + length text) old) (at + length text)
           (length-append (take at old) text ∙ ap (λ n. n + length text) front);
     }
 
 -- what both leave outside of their parts is left outside of the whole
-pub same_both : (used at len : ℕ) (xs ys nx ny : List ℕ) → length nx ≡ length xs → length ny ≡ length ys
+pub same_both : (used at len : ℕ) (xs ys nx ny : List ℕ) → length nx ≡ length xs
+    → length ny ≡ length ys
     → SameOutside at (min (length xs - at) len) xs nx
     → SameOutside (at - length xs) (len - (length xs - at)) ys ny
     → at + len ≤ length xs + used
@@ -84,16 +95,22 @@ same_both used at len xs ys nx ny long_x long_y of_xs of_ys within = record {
       ∙ sym (take-take (at - length xs) used ys (omega (arith, within))))
       ∙ sym (take_append at xs (take used ys));
   behind =
-      let more : at + len ≡ at + min (length xs - at) len + (len - min (length xs - at) len) = omega arith in
+      let more : at + len ≡ at + min (length xs - at) len + (len - min (length xs - at) len) =
+      omega arith in
       let there : at + len - length xs ≡ at - length xs + (len - (length xs - at)) = omega arith in
       let far : at - length xs + (len - (length xs - at)) ≤ used = omega (arith, within) in
-      let end : used ≡ at - length xs + (len - (length xs - at)) + (used - (at - length xs + (len - (length xs - at)))) = omega (arith, far) in
+      let end : used
+      ≡ at - length xs + (len - (length xs - at))
+      + (used - (at - length xs + (len - (length xs - at)))) = omega (arith, far) in
       let behind_x : drop (at + len) nx ≡ drop (at + len) xs =
-      ap (λ n. drop n nx) more ∙ sym (drop-drop _ _ nx) ∙ ap (λ rest. drop (len - min (length xs - at) len) rest) of_xs.behind
+      ap (λ n. drop n nx) more ∙ sym (drop-drop _ _ nx)
+      ∙ ap (λ rest. drop (len - min (length xs - at) len) rest) of_xs.behind
       ∙ drop-drop _ _ xs ∙ ap (λ n. drop n xs) (sym more) in
       let cut : (zs : List ℕ) → drop (at - length xs + (len - (length xs - at))) (take used zs)
-      ≡ take (used - (at - length xs + (len - (length xs - at)))) (drop (at - length xs + (len - (length xs - at))) zs) =
-      λ zs. ap (λ n. drop (at - length xs + (len - (length xs - at))) (take n zs)) end ∙ drop-take _ _ zs in
+      ≡ take (used - (at - length xs + (len - (length xs - at))))
+      (drop (at - length xs + (len - (length xs - at))) zs) =
+      λ zs. ap (λ n. drop (at - length xs + (len - (length xs - at))) (take n zs)) end
+      ∙ drop-take _ _ zs in
       drop_append (at + len) nx (take used ny)
       ∙ ap₂ (λ a b. a ++ b) behind_x (ap (λ n. drop (at + len - n) (take used ny)) long_x
       ∙ ap (λ n. drop n (take used ny)) there ∙ cut ny
@@ -105,7 +122,9 @@ same_both used at len xs ys nx ny long_x long_y of_xs of_ys within = record {
 pub le_or : (k n : ℕ) → (k ≤ n) ⊎ (n ≤ k)
 le_or zero n = inl (omega arith)
 le_or (suc k) zero = inr (omega arith)
-le_or (suc k) (suc n) = elim (le_or k n) [ inl below ↦ inl (omega (arith, below)) | inr above ↦ inr (omega (arith, above)) ]
+le_or (suc k) (suc n) =
+    elim (le_or k n)
+    [ inl below ↦ inl (omega (arith, below)) | inr above ↦ inr (omega (arith, above)) ]
 
 -- the blocks of a front, and of what is behind it
 blocks_front : (size k n : ℕ) (text : List ℕ) → k ≤ n
@@ -119,7 +138,8 @@ blocks_front size (suc k) (suc n) text below =
     (ap (λ rest. blocks_of size k rest) (drop-take size (k * size) text)
     ∙ blocks_front size k n (drop size text) (omega (arith, below))))
 
-blocks_behind : (size k m : ℕ) (text : List ℕ) → blocks_of size m (drop (k * size) text) ≡ drop k (blocks_of size (k + m) text)
+blocks_behind : (size k m : ℕ) (text : List ℕ)
+    → blocks_of size m (drop (k * size) text) ≡ drop k (blocks_of size (k + m) text)
 unfolding blocks_of
 blocks_behind size zero m text =
     let place : 0 * size ≡ 0 = grind arith in
@@ -132,7 +152,8 @@ blocks_behind size (suc k) m text =
     ∙ blocks_behind size k m (drop size text))
 
 pub none_of : (size : ℕ) → 0 < size → blocks_of size (0 / size) [] ≡ []
-none_of size some = nil_from_length (blocks_of size (0 / size) []) (length-blocks_of size (0 / size) []
+none_of size some =
+    nil_from_length (blocks_of size (0 / size) []) (length-blocks_of size (0 / size) []
     ∙ (let e : 0 / size ≡ 0 = grind arith in e))
 
 -- values that lie in front of the seam, and those behind it
@@ -150,12 +171,14 @@ values_front size k n text some is = by_order (le_or k n)
     by_order (inl below) =
         let fits : k * size ≤ n * size = mul-le-mul_right size below in
         let long : length (take (k * size) text) / size ≡ k =
-        ap (λ m. m / size) (length-take-le (k * size) text (omega (arith, fits, is))) ∙ mul-div_cancel k some in
+        ap (λ m. m / size) (length-take-le (k * size) text (omega (arith, fits, is)))
+        ∙ mul-div_cancel k some in
         ap (λ m. blocks_of size m (take (k * size) text)) long ∙ blocks_front size k n text below
         ∙ ap (λ m. take k (blocks_of size m text)) (sym whole)
     by_order (inr above) =
         let fits : n * size ≤ k * size = mul-le-mul_right size above in
-        ap (λ all. blocks_of size (length all / size) all) (take_all (k * size) text (omega (arith, fits, is)))
+        ap (λ all. blocks_of size (length all / size) all)
+        (take_all (k * size) text (omega (arith, fits, is)))
         ∙ sym (take_all k (blocks_of size (length text / size) text)
         (rw (length-blocks_of size (length text / size) text, whole) above))
 
@@ -174,8 +197,10 @@ values_behind size k n text some is = by_order (le_or k n)
         let split : n ≡ k + (n - k) = omega (arith, below) in
         let left : length (drop (k * size) text) ≡ (n - k) * size =
         length-drop (k * size) text ∙ ap (λ m. m - k * size) is
-        ∙ sym (mul_comm (n - k) size ∙ mul-sub size n k ∙ ap₂ (λ a b. a - b) (mul_comm size n) (mul_comm size k)) in
-        ap (λ m. blocks_of size m (drop (k * size) text)) (ap (λ m. m / size) left ∙ mul-div_cancel (n - k) some)
+        ∙ sym (mul_comm (n - k) size ∙ mul-sub size n k
+        ∙ ap₂ (λ a b. a - b) (mul_comm size n) (mul_comm size k)) in
+        ap (λ m. blocks_of size m (drop (k * size) text))
+        (ap (λ m. m / size) left ∙ mul-div_cancel (n - k) some)
         ∙ blocks_behind size k (n - k) text
         ∙ ap (λ m. drop k (blocks_of size m text)) (sym split ∙ sym whole)
     by_order (inr above) =

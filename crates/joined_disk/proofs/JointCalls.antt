@@ -1,5 +1,7 @@
 -- Lemmas on a call on two joined disks: it does to them as one what a call does to a disk.
-use Rattle.std.proofs.Common.{◌≡◌, ℕ, ◌+◌, ◌-◌, ◌^◌, ◌||◌, Bool, true, false, List, [], map, min, Option, Some, None, Result, Ok, Err, refl, sym, ◌∙◌, ap, ap₂, subst, inl, inr, arith}
+use Rattle.std.proofs.Common.{◌≡◌, ℕ, ◌+◌, ◌-◌, ◌^◌, ◌||◌, Bool, true, false, List, [], map, min}
+use Rattle.std.proofs.Common.{Option, Some, None, Result, Ok, Err, refl, sym, ◌∙◌, ap, ap₂, subst}
+use Rattle.std.proofs.Common.{inl, inr, arith}
 use Rattle.base_terms.specs.declared.failed.Failed.{Failed}
 use Rattle.base_terms.specs.Causes.{HasCause, Rose}
 use Rattle.sector_disk.specs.Cells.{Cell, synced, IsThinned, AreHeld}
@@ -9,7 +11,8 @@ use Rattle.joined_disk.specs.JoinedCalls.{BothSynced}
 use Rattle.joined_disk.specs.JoinedLaws.{ShowsDisk}
 use Rattle.sector_disk.specs.Steps.{Told, remarked, IsMoved, MovesOrNot}
 use Rattle.joined_disk.proofs.TurnLemmas.{StepIf, Turned, under, turned, turned_or_not, turned_not}
-use Rattle.joined_disk.proofs.JointLemmas.{BothStep, IsJointCall, joint_moves, joint_moves_or_not, moves_by, joint_goes_on}
+use Rattle.joined_disk.proofs.JointLemmas.{BothStep, IsJointCall, joint_moves, joint_moves_or_not}
+use Rattle.joined_disk.proofs.JointLemmas.{moves_by, joint_goes_on}
 use Rattle.joined_disk.proofs.SplitLemmas.{synced_both, thinned_not, thinned_all, thinned_both}
 
 -- two disks between two joint calls, and after one
@@ -27,14 +30,18 @@ pub record Joins (old new : Joint) : Type 0 where
 pub any_turn : (number : ℕ) (Step : List Cell → List Cell → Type 0) (old new : Option Told)
     → MovesOrNot Step (under number old) new → (called : Bool) × Turned number called Step old new
 any_turn number Step old new moves =
-    elim (turned_or_not number Step old new moves) [ inl turn ↦ (true, turn) | inr turn ↦ (false, turn) ]
+    elim (turned_or_not number Step old new moves)
+    [ inl turn ↦ (true, turn) | inr turn ↦ (false, turn) ]
 
 pub not_turn : (number : ℕ) (Step : List Cell → List Cell → Type 0) (old new : Device) → new ≡ old
     → (called : Bool) × Turned number called Step old.told new.told
-not_turn number Step old new same = (false, turned_not number Step old.told new.told (ap (λ one. one.told) same))
+not_turn number Step old new same =
+    (false, turned_not number Step old.told new.told (ap (λ one. one.told) same))
 
-pub is_call : (of_head of_main : Bool) (Head Main : List Cell → List Cell → Type 0) (old new : Joint) → Joins old new
-    → Turned old.calls of_head Head old.head.told new.head.told → Turned old.calls of_main Main old.main.told new.main.told
+pub is_call : (of_head of_main : Bool) (Head Main : List Cell → List Cell → Type 0)
+    (old new : Joint) → Joins old new
+    → Turned old.calls of_head Head old.head.told new.head.told
+    → Turned old.calls of_main Main old.main.told new.main.told
     → IsJointCall of_head of_main Head Main old new
 is_call of_head of_main Head Main old new joins head main = record {
   head_was = joins.head_was;
@@ -48,7 +55,8 @@ is_call of_head of_main Head Main old new joins head main = record {
 }
 
 -- causes of both
-pub cause_left : {T : Type 0} (head head' main main' : ℕ) (result : Result T Failed) → HasCause head head' result → main' ≡ main
+pub cause_left : {T : Type 0} (head head' main main' : ℕ) (result : Result T Failed)
+    → HasCause head head' result → main' ≡ main
     → HasCause (head + main) (head' + main') result
 cause_left head head' main main' result cause same = record {
   later = omega (arith, cause.later, same);
@@ -60,7 +68,8 @@ cause_left head head' main main' result cause same = record {
     rose_left (inl more) = inl (omega (arith, more, same))
     rose_left (inr most) = inr (omega (arith, most))
 
-pub cause_right : {T : Type 0} (head head' main main' : ℕ) (result : Result T Failed) → HasCause main main' result → head' ≡ head
+pub cause_right : {T : Type 0} (head head' main main' : ℕ) (result : Result T Failed)
+    → HasCause main main' result → head' ≡ head
     → HasCause (head + main) (head' + main') result
 cause_right head head' main main' result cause same = record {
   later = omega (arith, cause.later, same);
@@ -86,50 +95,62 @@ stays_alone old new same = record {
 }
 
 -- a sync of both
-sync_stays : (number : ℕ) (old new : Device) (result : Result (Unit {0}) Failed) → SyncCall (marked old number) new result → Stays old new
-sync_stays number old new result call = record { size = call.size; atoms = call.atoms; values = call.values }
+sync_stays : (number : ℕ) (old new : Device) (result : Result (Unit {0}) Failed)
+    → SyncCall (marked old number) new result → Stays old new
+sync_stays number old new result call =
+    record { size = call.size; atoms = call.atoms; values = call.values }
 
 abbrev Synced : List Cell → List Cell → Type 0
 Synced cells next = next ≡ map synced cells
 
-pub values_stay : (old new : Joint) → Joins old new → Stays old.head new.head → Stays old.main new.main
+pub values_stay : (old new : Joint) → Joins old new → Stays old.head new.head
+    → Stays old.main new.main
     → (joined_disk new).values ≡ (joined_disk old).values
 values_stay old new joins head main = rw (head.values, main.values, joins.used, main.size) refl
 
 -- both tables synced, and a head without atoms with a main disk that was
-synced_step : (old : Joint) (cells next : List Cell) → BothStep old true true Synced Synced cells next → Synced cells next
+synced_step : (old : Joint) (cells next : List Cell)
+    → BothStep old true true Synced Synced cells next → Synced cells next
 synced_step old cells next step =
     step.new_is ∙ ap₂ (λ a b. both_tables old.used a b) step.head_step step.main_step
-    ∙ synced_both old.used step.head.now step.main.now ∙ ap (λ all. map synced all) (sym step.old_is)
+    ∙ synced_both old.used step.head.now step.main.now
+    ∙ ap (λ all. map synced all) (sym step.old_is)
 
-alone_step : (old : Joint) (told : Told) → old.head.told ≡ Some told → told.now ≡ [] → (cells next : List Cell)
+alone_step : (old : Joint) (told : Told) → old.head.told ≡ Some told → told.now ≡ []
+    → (cells next : List Cell)
     → BothStep old false true Synced Synced cells next → Synced cells next
 alone_step old told is none cells next step =
-    let same : told ≡ step.head = (let e : Some told ≡ Some step.head = sym is ∙ step.head_is in cc) in
+    let same : told ≡ step.head =
+    (let e : Some told ≡ Some step.head = sym is ∙ step.head_is in cc) in
     let empty : step.head.now ≡ [] = ap (λ one. one.now) (sym same) ∙ none in
     step.new_is ∙ ap₂ (λ a b. both_tables old.used a b) (step.head_step ∙ empty) step.main_step
     ∙ synced_both old.used [] step.main.now
-    ∙ ap (λ all. map synced all) (ap (λ a. both_tables old.used a step.main.now) (sym empty) ∙ sym step.old_is)
+    ∙ ap (λ all. map synced all)
+    (ap (λ a. both_tables old.used a step.main.now) (sym empty) ∙ sym step.old_is)
 
 sync_ok : (old new : Joint) → Joins old new → Stays old.head new.head → Stays old.main new.main
     → (of_head of_main : Bool) → (of_head || of_main) ≡ true
     → Turned old.calls of_head Synced old.head.told new.head.told
     → Turned old.calls of_main Synced old.main.told new.main.told
-    → ((cells next : List Cell) → BothStep old of_head of_main Synced Synced cells next → Synced cells next)
+    → ((cells next : List Cell) → BothStep old of_head of_main Synced Synced cells next
+    → Synced cells next)
     → HasCause {T = Unit {0}} (joined_disk old).faults (joined_disk new).faults (Ok tt)
     → SyncCall (joined_disk old) (joined_disk new) (Ok tt)
 sync_ok old new joins head main of_head of_main any turn_head turn_main step cause = record {
   size = main.size;
   atoms = ap₂ (λ a b. a + b) head.atoms joins.used;
   values = values_stay old new joins head main;
-  told = moves_by (BothStep old of_head of_main Synced Synced) Synced (joint_told old) (joint_told new) step
-      (joint_moves of_head of_main Synced Synced old new (is_call of_head of_main Synced Synced old new joins turn_head turn_main) any);
+  told = moves_by (BothStep old of_head of_main Synced Synced) Synced (joint_told old)
+      (joint_told new) step
+      (joint_moves of_head of_main Synced Synced old new
+      (is_call of_head of_main Synced Synced old new joins turn_head turn_main) any);
   goes_on = λ before is. inr (joint_goes_on old new before is);
   cause = cause;
 }
 
 -- a failed sync thins both
-thinned_if : (called : Bool) (cells next : List Cell) → StepIf called IsThinned cells next → IsThinned cells next
+thinned_if : (called : Bool) (cells next : List Cell) → StepIf called IsThinned cells next
+    → IsThinned cells next
 thinned_if true cells next step = step
 thinned_if false cells next step = rw step (thinned_not cells)
 
@@ -141,7 +162,8 @@ thinned_step of_head of_main old cells next step =
     (thinned_if of_head step.head.now step.next_head step.head_step)
     (thinned_if of_main step.main.now step.next_main step.main_step))
 
-sync_err : (failed : Failed) (old new : Joint) → Joins old new → Stays old.head new.head → Stays old.main new.main
+sync_err : (failed : Failed) (old new : Joint) → Joins old new → Stays old.head new.head
+    → Stays old.main new.main
     → (called : Bool) × Turned old.calls called IsThinned old.head.told new.head.told
     → (called : Bool) × Turned old.calls called IsThinned old.main.told new.main.told
     → HasCause {T = Unit {0}} (joined_disk old).faults (joined_disk new).faults (Err failed)
@@ -150,13 +172,15 @@ sync_err failed old new joins head main (of_head, turn_head) (of_main, turn_main
   size = main.size;
   atoms = ap₂ (λ a b. a + b) head.atoms joins.used;
   values = values_stay old new joins head main;
-  told = joint_moves_or_not of_head of_main IsThinned IsThinned IsThinned old new (thinned_step of_head of_main old)
+  told = joint_moves_or_not of_head of_main IsThinned IsThinned IsThinned old new
+      (thinned_step of_head of_main old)
       (is_call of_head of_main IsThinned IsThinned old new joins turn_head turn_main);
   goes_on = λ before is. inr (joint_goes_on old new before is);
   cause = cause;
 }
 
-held_under : (number : ℕ) (old : Device) → ShowsDisk old → (told : Option Told) (before : Told) → told ≡ old.told
+held_under : (number : ℕ) (old : Device) → ShowsDisk old → (told : Option Told) (before : Told)
+    → told ≡ old.told
     → under number told ≡ Some before → AreHeld before.now
 held_under number old shows None before same was = absurd (cc)
 held_under number old shows (Some told) before same was =
@@ -164,39 +188,55 @@ held_under number old shows (Some told) before same was =
     subst (λ one. AreHeld one.now) e (shows.held told (sym same))
 
 -- a sync of a disk that was done thins it too
-thinned_by_sync : (number : ℕ) (old new : Device) → ShowsDisk old → SyncCall (marked old number) new (Ok tt)
+thinned_by_sync : (number : ℕ) (old new : Device) → ShowsDisk old
+    → SyncCall (marked old number) new (Ok tt)
     → MovesOrNot IsThinned (under number old.told) new.told
 thinned_by_sync number old new shows call = inr (λ now is. thins (call.told now is))
   where
-    thins : {now : Told} → (before : Told) × (under number old.told ≡ Some before) × IsMoved Synced before now
+    thins : {now : Told}
+        → (before : Told) × (under number old.told ≡ Some before) × IsMoved Synced before now
         → (before : Told) × (under number old.told ≡ Some before) × IsMoved IsThinned before now
-    thins {now} (before, was, moved) =
-        (before, was, record { step = rw moved.step (thinned_all before.now (held_under number old shows old.told before refl was)); one = moved.one })
+    thins {now} (before, was, moved) = (
+      before,
+      was,
+      record {
+        step =
+            rw moved.step
+            (thinned_all before.now (held_under number old shows old.told before refl was));
+        one = moved.one;
+      },
+    )
 
-pub joint_sync : (old new : Joint) (result : Result (Unit {0}) Failed) (Alone : Type 0) → Joins old new
+pub joint_sync : (old new : Joint) (result : Result (Unit {0}) Failed) (Alone : Type 0)
+    → Joins old new
     → (Alone → (told : Told) × (old.head.told ≡ Some told) × (told.now ≡ []))
     → BothSynced Alone old.calls old.head new.head old.main new.main result
     → SyncCall (joined_disk old) (joined_disk new) result
 joint_sync old new (Ok tt) Alone joins alone (inl (is_alone, same, call)) =
     let (told, is, none) = alone is_alone in
     sync_ok old new joins (stays_alone _ _ same) (sync_stays _ _ _ _ call) false true refl
-    (turned_not old.calls Synced old.head.told new.head.told (ap (λ one. one.told) same)) (turned old.calls Synced old.main.told new.main.told call.told)
+    (turned_not old.calls Synced old.head.told new.head.told (ap (λ one. one.told) same))
+    (turned old.calls Synced old.main.told new.main.told call.told)
     (alone_step old told is none) (cause_right _ _ _ _ _ call.cause (ap (λ one. one.faults) same))
 joint_sync old new (Ok tt) Alone joins alone (inr (inl (done, same, call))) = absurd (done refl)
 joint_sync old new (Ok tt) Alone joins alone (inr (inr (first, call))) =
     sync_ok old new joins (sync_stays _ _ _ _ first) (sync_stays _ _ _ _ call) true true refl
-    (turned old.calls Synced old.head.told new.head.told first.told) (turned old.calls Synced old.main.told new.main.told call.told)
+    (turned old.calls Synced old.head.told new.head.told first.told)
+    (turned old.calls Synced old.main.told new.main.told call.told)
     (synced_step old) (cause_right _ _ _ _ _ call.cause (first.cause.held refl))
 joint_sync old new (Err failed) Alone joins alone (inl (is_alone, same, call)) =
     sync_err failed old new joins (stays_alone _ _ same) (sync_stays _ _ _ _ call)
-    (not_turn old.calls IsThinned old.head new.head same) (any_turn old.calls IsThinned old.main.told new.main.told call.told)
+    (not_turn old.calls IsThinned old.head new.head same)
+    (any_turn old.calls IsThinned old.main.told new.main.told call.told)
     (cause_right _ _ _ _ _ call.cause (ap (λ one. one.faults) same))
 joint_sync old new (Err failed) Alone joins alone (inr (inl (done, same, call))) =
     sync_err failed old new joins (sync_stays _ _ _ _ call) (stays_alone _ _ same)
-    (any_turn old.calls IsThinned old.head.told new.head.told call.told) (not_turn old.calls IsThinned old.main new.main same)
+    (any_turn old.calls IsThinned old.head.told new.head.told call.told)
+    (not_turn old.calls IsThinned old.main new.main same)
     (cause_left _ _ _ _ _ call.cause (ap (λ one. one.faults) same))
 joint_sync old new (Err failed) Alone joins alone (inr (inr (first, call))) =
     sync_err failed old new joins (sync_stays _ _ _ _ first) (sync_stays _ _ _ _ call)
-    (any_turn old.calls IsThinned old.head.told new.head.told (thinned_by_sync old.calls old.head new.head joins.head first))
+    (any_turn old.calls IsThinned old.head.told new.head.told
+    (thinned_by_sync old.calls old.head new.head joins.head first))
     (any_turn old.calls IsThinned old.main.told new.main.told call.told)
     (cause_right _ _ _ _ _ call.cause (first.cause.held refl))

@@ -1,5 +1,7 @@
 -- Lemmas on what is written across two texts or two tables that stand one behind the other.
-use Rattle.std.proofs.Common.{◌≡◌, ℕ, zero, suc, ◌+◌, ◌-◌, ◌≤◌, List, [], ◌∷◌, ◌++◌, length, take, drop, map, Contains, refl, sym, ◌∙◌, ap, ap₂, inl, inr, arith, length-drop}
+use Rattle.std.proofs.Common.{◌≡◌, ℕ, zero, suc, ◌+◌, ◌-◌, ◌≤◌, List, [], ◌∷◌, ◌++◌, length, take}
+use Rattle.std.proofs.Common.{drop, map, Contains, refl, sym, ◌∙◌, ap, ap₂, inl, inr, arith}
+use Rattle.std.proofs.Common.{length-drop}
 use Rattle.std.proofs.Math.Seq.{take-nil, drop-nil}
 use Rattle.std.proofs.lemmas.List.Elements.{All-nil, All-cons, All-contains_itself}
 use Rattle.base_terms.specs.Blocks.{pasted, changed}
@@ -8,9 +10,11 @@ use Rattle.sector_disk.specs.Cells.{Cell, wrote, synced, IsTried, IsThinned, Are
 
 -- cells
 
-pub changed_append : {C : Type 0} (change : C → List ℕ → C) (xs ys : List C) (at : ℕ) (values : List (List ℕ))
+pub changed_append : {C : Type 0} (change : C → List ℕ → C) (xs ys : List C) (at : ℕ)
+    (values : List (List ℕ))
     → changed change (xs ++ ys) at values
-    ≡ changed change xs at values ++ changed change ys (at - length xs) (drop (length xs - at) values)
+    ≡ changed change xs at values
+    ++ changed change ys (at - length xs) (drop (length xs - at) values)
 unfolding changed
 changed_append change [] ys at values =
     let here : at - 0 ≡ at = omega arith in
@@ -18,7 +22,8 @@ changed_append change [] ys at values =
     rw (here, none) refl
 changed_append change (x ∷ xs) ys at [] =
     ap (λ rest. x ∷ (xs ++ rest)) (sym (changed-nil change ys (at - suc (length xs)))
-    ∙ ap (λ none. changed change ys (at - suc (length xs)) none) (sym (drop-nil (suc (length xs) - at))))
+    ∙ ap (λ none. changed change ys (at - suc (length xs)) none)
+    (sym (drop-nil (suc (length xs) - at))))
 changed_append change (x ∷ xs) ys zero (value ∷ values) =
     let here : 0 - suc (length xs) ≡ 0 - length xs = omega arith in
     let left : suc (length xs) - 0 ≡ suc (length xs - 0) = omega arith in
@@ -28,7 +33,8 @@ changed_append change (x ∷ xs) ys (suc at) (value ∷ values) =
     let left : suc (length xs) - suc at ≡ length xs - at = omega arith in
     rw (here, left) (ap (λ rest. x ∷ rest) (changed_append change xs ys at (value ∷ values)))
 
-pub take_changed : {C : Type 0} (change : C → List ℕ → C) (n : ℕ) (xs : List C) (at : ℕ) (values : List (List ℕ))
+pub take_changed : {C : Type 0} (change : C → List ℕ → C) (n : ℕ) (xs : List C) (at : ℕ)
+    (values : List (List ℕ))
     → take n (changed change xs at values) ≡ changed change (take n xs) at values
 unfolding changed
 take_changed change zero xs at values = refl
@@ -40,7 +46,8 @@ take_changed change (suc n) (x ∷ xs) (suc at) (value ∷ values) =
     ap (λ rest. x ∷ rest) (take_changed change n xs at (value ∷ values))
 
 -- no value behind the end counts
-changed_beyond : {C : Type 0} (change : C → List ℕ → C) (xs : List C) (at : ℕ) (values : List (List ℕ))
+changed_beyond : {C : Type 0} (change : C → List ℕ → C) (xs : List C) (at : ℕ)
+    (values : List (List ℕ))
     → length xs ≤ at → changed change xs at values ≡ xs
 unfolding changed
 changed_beyond change [] at values beyond = refl
@@ -49,21 +56,26 @@ changed_beyond change (x ∷ xs) zero (value ∷ values) beyond = absurd (omega 
 changed_beyond change (x ∷ xs) (suc at) (value ∷ values) beyond =
     ap (λ rest. x ∷ rest) (changed_beyond change xs at (value ∷ values) (omega (arith, beyond)))
 
-changed_cut : {C : Type 0} (change : C → List ℕ → C) (xs : List C) (at k : ℕ) (values : List (List ℕ))
+changed_cut : {C : Type 0} (change : C → List ℕ → C) (xs : List C) (at k : ℕ)
+    (values : List (List ℕ))
     → length xs ≤ at + k → changed change xs at (take k values) ≡ changed change xs at values
 unfolding changed
 changed_cut change [] at k values enough = refl
-changed_cut change (x ∷ xs) at k [] enough = ap (λ none. changed change (x ∷ xs) at none) (take-nil k)
+changed_cut change (x ∷ xs) at k [] enough =
+    ap (λ none. changed change (x ∷ xs) at none) (take-nil k)
 changed_cut change (x ∷ xs) zero zero (value ∷ values) enough = absurd (omega (arith, enough))
 changed_cut change (x ∷ xs) zero (suc k) (value ∷ values) enough =
     ap (λ rest. change x value ∷ rest) (changed_cut change xs 0 k values (omega (arith, enough)))
 changed_cut change (x ∷ xs) (suc at) zero (value ∷ values) enough =
-    ap (λ rest. x ∷ rest) (sym (changed_beyond change xs at (value ∷ values) (omega (arith, enough))))
+    ap (λ rest. x ∷ rest)
+    (sym (changed_beyond change xs at (value ∷ values) (omega (arith, enough))))
 changed_cut change (x ∷ xs) (suc at) (suc k) (value ∷ values) enough =
-    ap (λ rest. x ∷ rest) (changed_cut change xs at (suc k) (value ∷ values) (omega (arith, enough)))
+    ap (λ rest. x ∷ rest)
+    (changed_cut change xs at (suc k) (value ∷ values) (omega (arith, enough)))
 
 -- what a write across both leaves
-pub changed_both : {C : Type 0} (change : C → List ℕ → C) (used : ℕ) (xs ys : List C) (at : ℕ) (values : List (List ℕ))
+pub changed_both : {C : Type 0} (change : C → List ℕ → C) (used : ℕ) (xs ys : List C) (at : ℕ)
+    (values : List (List ℕ))
     → changed change xs at (take (length xs - at) values)
     ++ take used (changed change ys (at - length xs) (drop (length xs - at) values))
     ≡ changed change (xs ++ take used ys) at values
@@ -81,7 +93,8 @@ tried_not (x ∷ xs) at [] = refl
 tried_not (x ∷ xs) zero (value ∷ values) = (inl refl, tried_not xs 0 values)
 tried_not (x ∷ xs) (suc at) (value ∷ values) = (refl, tried_not xs at (value ∷ values))
 
-pub tried_all : (xs : List Cell) (at : ℕ) (values : List (List ℕ)) → IsTried xs at values (changed wrote xs at values)
+pub tried_all : (xs : List Cell) (at : ℕ) (values : List (List ℕ))
+    → IsTried xs at values (changed wrote xs at values)
 unfolding IsTried changed
 tried_all [] at values = refl
 tried_all (x ∷ xs) at [] = refl
@@ -103,7 +116,8 @@ tried_append [] ys at values nx ny of_xs of_ys =
     rw of_xs (rw (here, none) at of_ys)
 tried_append (x ∷ xs) ys at [] nx ny of_xs of_ys =
     ap₂ (λ front back. front ++ back) of_xs
-    (tried_none ys (at - suc (length xs)) ny (rw (drop-nil {A = List ℕ} (suc (length xs) - at)) at of_ys))
+    (tried_none ys (at - suc (length xs)) ny
+    (rw (drop-nil {A = List ℕ} (suc (length xs) - at)) at of_ys))
 tried_append (x ∷ xs) ys zero (value ∷ values) [] ny of_xs of_ys = absurd of_xs
 tried_append (x ∷ xs) ys zero (value ∷ values) (next ∷ nx) ny of_xs of_ys =
     let left : suc (length xs) - 0 ≡ suc (length xs - 0) = omega arith in
@@ -115,7 +129,8 @@ tried_append (x ∷ xs) ys (suc at) (value ∷ values) (next ∷ nx) ny of_xs of
     let here : suc at - suc (length xs) ≡ at - length xs = omega arith in
     (of_xs.0, tried_append xs ys at (value ∷ values) nx ny of_xs.1 (rw (here, left) at of_ys))
 
-tried_cut : (xs : List Cell) (at k : ℕ) (values : List (List ℕ)) (nx : List Cell) → length xs ≤ at + k
+tried_cut : (xs : List Cell) (at k : ℕ) (values : List (List ℕ)) (nx : List Cell)
+    → length xs ≤ at + k
     → IsTried xs at (take k values) nx → IsTried xs at values nx
 unfolding IsTried
 tried_cut [] at k values nx enough is = is
@@ -137,13 +152,15 @@ tried_take zero xs at values nx is = refl
 tried_take (suc n) [] at values nx is = ap (λ all. take (suc n) all) is
 tried_take (suc n) (x ∷ xs) at [] nx is = ap (λ all. take (suc n) all) is
 tried_take (suc n) (x ∷ xs) zero (value ∷ values) [] is = absurd is
-tried_take (suc n) (x ∷ xs) zero (value ∷ values) (next ∷ nx) is = (is.0, tried_take n xs 0 values nx is.1)
+tried_take (suc n) (x ∷ xs) zero (value ∷ values) (next ∷ nx) is =
+    (is.0, tried_take n xs 0 values nx is.1)
 tried_take (suc n) (x ∷ xs) (suc at) (value ∷ values) [] is = absurd is
 tried_take (suc n) (x ∷ xs) (suc at) (value ∷ values) (next ∷ nx) is =
     (is.0, tried_take n xs at (value ∷ values) nx is.1)
 
 -- what a failed write across both leaves
-pub tried_both : (used : ℕ) (xs ys : List Cell) (at : ℕ) (values : List (List ℕ)) (nx ny : List Cell)
+pub tried_both : (used : ℕ) (xs ys : List Cell) (at : ℕ) (values : List (List ℕ))
+    (nx ny : List Cell)
     → IsTried xs at (take (length xs - at) values) nx
     → IsTried ys (at - length xs) (drop (length xs - at) values) ny
     → IsTried (xs ++ take used ys) at values (nx ++ take used ny)
@@ -166,7 +183,8 @@ synced_both used (x ∷ xs) ys = ap (λ rest. synced x ∷ rest) (synced_both us
 pub thinned_not : (xs : List Cell) → IsThinned xs xs
 unfolding IsThinned
 thinned_not [] = tt
-thinned_not (x ∷ xs) = (record { current = refl; candidates = All-contains_itself x.candidates }, thinned_not xs)
+thinned_not (x ∷ xs) =
+    (record { current = refl; candidates = All-contains_itself x.candidates }, thinned_not xs)
 
 pub thinned_all : (xs : List Cell) → AreHeld xs → IsThinned xs (map synced xs)
 unfolding IsThinned
@@ -179,12 +197,14 @@ thinned_all (x ∷ xs) held = (
   thinned_all xs held.1,
 )
 
-thinned_append : (xs ys nx ny : List Cell) → IsThinned xs nx → IsThinned ys ny → IsThinned (xs ++ ys) (nx ++ ny)
+thinned_append : (xs ys nx ny : List Cell) → IsThinned xs nx → IsThinned ys ny
+    → IsThinned (xs ++ ys) (nx ++ ny)
 unfolding IsThinned
 thinned_append [] ys [] ny of_xs of_ys = of_ys
 thinned_append [] ys (next ∷ nx) ny of_xs of_ys = absurd of_xs
 thinned_append (x ∷ xs) ys [] ny of_xs of_ys = absurd of_xs
-thinned_append (x ∷ xs) ys (next ∷ nx) ny of_xs of_ys = (of_xs.0, thinned_append xs ys nx ny of_xs.1 of_ys)
+thinned_append (x ∷ xs) ys (next ∷ nx) ny of_xs of_ys =
+    (of_xs.0, thinned_append xs ys nx ny of_xs.1 of_ys)
 
 thinned_take : (n : ℕ) (xs nx : List Cell) → IsThinned xs nx → IsThinned (take n xs) (take n nx)
 unfolding IsThinned
@@ -201,18 +221,21 @@ thinned_both used xs ys nx ny of_xs of_ys =
 
 -- texts
 
-pasted_over_first : (x c : ℕ) (xs text : List ℕ) → pasted (x ∷ xs) 0 (c ∷ text) ≡ c ∷ pasted xs 0 text
+pasted_over_first : (x c : ℕ) (xs text : List ℕ)
+    → pasted (x ∷ xs) 0 (c ∷ text) ≡ c ∷ pasted xs 0 text
 unfolding pasted
 pasted_over_first x c xs text =
     let one : 0 + suc (length text) ≡ suc (0 + length text) = omega arith in rw one refl
 
-pasted_next : (x : ℕ) (xs : List ℕ) (at : ℕ) (text : List ℕ) → pasted (x ∷ xs) (suc at) text ≡ x ∷ pasted xs at text
+pasted_next : (x : ℕ) (xs : List ℕ) (at : ℕ) (text : List ℕ)
+    → pasted (x ∷ xs) (suc at) text ≡ x ∷ pasted xs at text
 unfolding pasted
 pasted_next x xs at text =
     let one : suc at + length text ≡ suc (at + length text) = omega arith in rw one refl
 
 pasted_append : (xs ys : List ℕ) (at : ℕ) (text : List ℕ)
-    → pasted xs at (take (length xs - at) text) ++ pasted ys (at - length xs) (drop (length xs - at) text)
+    → pasted xs at (take (length xs - at) text)
+    ++ pasted ys (at - length xs) (drop (length xs - at) text)
     ≡ pasted (xs ++ ys) at text
 pasted_append [] ys at text =
     let here : at - 0 ≡ at = omega arith in
@@ -229,12 +252,22 @@ pasted_append (x ∷ xs) ys at [] =
 pasted_append (x ∷ xs) ys zero (c ∷ text) =
     let left : suc (length xs) - 0 ≡ suc (length xs - 0) = omega arith in
     let here : 0 - suc (length xs) ≡ 0 - length xs = omega arith in
-    rw (left, here, pasted_over_first x c xs (take (length xs - 0) text), pasted_over_first x c (xs ++ ys) text)
+    rw (
+      left,
+      here,
+      pasted_over_first x c xs (take (length xs - 0) text),
+      pasted_over_first x c (xs ++ ys) text,
+    )
     (ap (λ rest. c ∷ rest) (pasted_append xs ys 0 text))
 pasted_append (x ∷ xs) ys (suc at) (c ∷ text) =
     let left : suc (length xs) - suc at ≡ length xs - at = omega arith in
     let here : suc at - suc (length xs) ≡ at - length xs = omega arith in
-    rw (left, here, pasted_next x xs at (take (length xs - at) (c ∷ text)), pasted_next x (xs ++ ys) at (c ∷ text))
+    rw (
+      left,
+      here,
+      pasted_next x xs at (take (length xs - at) (c ∷ text)),
+      pasted_next x (xs ++ ys) at (c ∷ text),
+    )
     (ap (λ rest. x ∷ rest) (pasted_append xs ys at (c ∷ text)))
 
 take_pasted : (n : ℕ) (xs : List ℕ) (at : ℕ) (text : List ℕ) → at + length text ≤ n → n ≤ length xs
@@ -247,7 +280,8 @@ take_pasted (suc n) (x ∷ xs) zero (c ∷ text) within fits =
     (ap (λ rest. c ∷ rest) (take_pasted n xs 0 text (omega (arith, within)) (omega (arith, fits))))
 take_pasted (suc n) (x ∷ xs) (suc at) (c ∷ text) within fits =
     rw (pasted_next x xs at (c ∷ text), pasted_next x (take n xs) at (c ∷ text))
-    (ap (λ rest. x ∷ rest) (take_pasted n xs at (c ∷ text) (omega (arith, within)) (omega (arith, fits))))
+    (ap (λ rest. x ∷ rest)
+    (take_pasted n xs at (c ∷ text) (omega (arith, within)) (omega (arith, fits))))
 
 -- what a write across both texts leaves
 pub pasted_both : (used : ℕ) (xs ys : List ℕ) (at : ℕ) (text : List ℕ)
@@ -261,5 +295,6 @@ pasted_both used xs ys at text within fits =
     (rw (length-drop (length xs - at) text) (behind (length xs) at (length text) used within)) fits)
     ∙ pasted_append xs (take used ys) at text
   where
-    behind : (long at len used : ℕ) → at + len ≤ long + used → at - long + (len - (long - at)) ≤ used
+    behind : (long at len used : ℕ) → at + len ≤ long + used
+        → at - long + (len - (long - at)) ≤ used
     behind long at len used within = omega (arith, within)

@@ -1,5 +1,5 @@
--- What callers see of two joined disks besides what they show as one: both disks, the count of calls, and
--- the sizes that a header is judged by.
+-- What callers see of two joined disks besides what they show as one: both disks, the count of
+-- calls, and the sizes that a header is judged by.
 use Rattle.std.specs.Prelude.{◌≡◌, ◌+◌, ◌<◌, min, Bool, if◌then◌else◌, IsSome, is_some}
 use Rattle.disk_sizes.specs.declared.Sizes.{Sizes}
 use Rattle.sector_disk.specs.declared.device.Disk.{Ghosts}
@@ -8,7 +8,9 @@ use Rattle.joined_disk.specs.declared.joined.JoinedDisk.{JoinedDisk}
 
 -- both disks, by what each of them shows
 abbrev pub joint_in : {D : Type 0} {shown : Ghosts D} → JoinedDisk D shown → Joint
-joint_in {D} {shown} disk = joint_of shown.device disk.atom disk.head_was.value disk.main_was.value disk.head disk.main disk.used disk.calls
+joint_in {D} {shown} disk =
+    joint_of shown.device disk.atom disk.head_was.value disk.main_was.value disk.head disk.main
+    disk.used disk.calls
 
 -- whether there is a head
 abbrev pub has_head : {D : Type 0} {shown : Ghosts D} → JoinedDisk D shown → Bool
@@ -23,8 +25,8 @@ sizes_of disk = record {
   detached = is_some disk.head;
 }
 
--- One device call more was counted, and what the disks were when they were joined stands. Below the full
--- count a disk that told its tables tells them after it.
+-- One device call more was counted, and what the disks were when they were joined stands. Below the
+-- full count a disk that told its tables tells them after it.
 pub record Counts (old new : Joint) : Type 0 where
   pub calls : new.calls ≡ min (old.calls + 1) last_call
   pub used : new.used ≡ old.used

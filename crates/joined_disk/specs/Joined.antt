@@ -1,5 +1,7 @@
 -- Two disks joined to one: what it shows, and in which order its disks' tables stand.
-use Rattle.std.specs.Prelude.{ℕ, zero, suc, ◌≡◌, ◌+◌, ◌-◌, ◌*◌, ◌/◌, ◌^◌, ◌<◌, ◌≤◌, ◌==◌, ◌||◌, Bool, false, nat_lt, List, [], ◌∷◌, ◌++◌, length, take, drop, min, Option, Some, None, if◌then◌else◌}
+use Rattle.std.specs.Prelude.{ℕ, zero, suc, ◌≡◌, ◌+◌, ◌-◌, ◌*◌, ◌/◌, ◌^◌, ◌<◌, ◌≤◌, ◌==◌, ◌||◌}
+use Rattle.std.specs.Prelude.{Bool, false, nat_lt, List, [], ◌∷◌, ◌++◌, length, take, drop, min}
+use Rattle.std.specs.Prelude.{Option, Some, None, if◌then◌else◌}
 use Rattle.sector_disk.specs.Cells.{Cell}
 use Rattle.sector_disk.specs.Devices.{Device}
 use Rattle.sector_disk.specs.Steps.{Told}
@@ -66,8 +68,8 @@ since was now = drop (length was.past) now.past
 abbrev pub both_tables : ℕ → List Cell → List Cell → List Cell
 both_tables used head main = head ++ take used main
 
--- The tables after each of the first `n` calls: the two disks' tables stand in the order of the calls'
--- numbers, and a call that neither disk made left no table.
+-- The tables after each of the first `n` calls: the two disks' tables stand in the order of the
+-- calls' numbers, and a call that neither disk made left no table.
 unfoldable pub tables_of_both : ℕ → Told → Told → Told → Told → ℕ → List (Option ℕ × List Cell)
 tables_of_both used head_was head main_was main zero = []
 tables_of_both used head_was head main_was main (suc n) =
@@ -116,7 +118,8 @@ abbrev pub both_values : ℕ → Option (List ℕ) → Option (List ℕ) → Opt
 both_values len (Some head) (Some main) = Some (head ++ take len main)
 both_values len _ _ = None
 
--- what a disk of two shows: the atoms of the head, and behind them those of the main disk that are used
+-- what a disk of two shows: the atoms of the head, and behind them those of the main disk that are
+-- used
 abbrev pub joined_disk : Joint → Device
 joined_disk joint = record {
   size = joint.main.size;
@@ -148,10 +151,11 @@ joint_of device size head_was main_was head main used calls = record {
   calls = calls;
 }
 
--- what keeps both disks' tables in one order: until the count is full, no call since a disk was joined has
--- a number from `calls` on, so up to any of these its table is the current one
+-- what keeps both disks' tables in one order: until the count is full, no call since a disk was
+-- joined has a number from `calls` on, so up to any of these its table is the current one
 abbrev pub Follows : ℕ → Option Told → Option Told → Type 0
-Follows calls was now = calls < last_call → (before told : Told) → was ≡ Some before → with_marks now ≡ Some told →
+Follows calls was now =
+    calls < last_call → (before told : Told) → was ≡ Some before → with_marks now ≡ Some told →
     (length before.past ≤ length told.past)
     × ((number : ℕ) → calls ≤ number → (has_call number (since before told) ≡ false)
     × (table_by number before.now (since before told) ≡ told.now))

@@ -1,7 +1,9 @@
 // Two disks as one.
 
-ghost use Rattle.std.specs.Prelude.{◌≡◌, ℕ, ◌+◌, ◌*◌, ◌^◌, ◌<◌, ◌≤◌, List, ◌++◌, [], length, take, None, Some, false, true, is_some};
-ghost use Rattle.joined_disk.specs.Joined.{Follows, nothing, in_front, joint_of, joint_told, joined_disk, begun_joint, used_atoms, with_marks};
+ghost use Rattle.std.specs.Prelude.{◌≡◌, ℕ, ◌+◌, ◌*◌, ◌^◌, ◌<◌, ◌≤◌, List, ◌++◌, [], length, take};
+ghost use Rattle.std.specs.Prelude.{None, Some, false, true, is_some};
+ghost use Rattle.joined_disk.specs.Joined.{Follows, nothing, in_front, joint_of, joint_told};
+ghost use Rattle.joined_disk.specs.Joined.{joined_disk, begun_joint, used_atoms, with_marks};
 ghost use Rattle.joined_disk.specs.JoinedLaws.{Follows-prop};
 ghost use Rattle.sector_disk.specs.Devices.{ReadCall, WriteCall, SyncCall, marked};
 ghost use Rattle.sector_disk.specs.Geometry.{IsAtom, IsInDisk};
@@ -14,15 +16,15 @@ use sector_disk::Disk;
 use std::snapshot::Snapshot;
 
 /// Two disks as one: the atoms of a head, where there is one, and behind them those of a main disk.
-/// Wherever a header is read, it is read from such a disk: it lies on the main disk, or on a disk of
-/// its own. The disks have atoms of one size. Of the main disk what would not lie below `2^63` bytes
-/// is left unused.
+/// Wherever a header is read, it is read from such a disk: it lies on the main disk, or on a disk
+/// of its own. The disks have atoms of one size. Of the main disk what would not lie below `2^63`
+/// bytes is left unused.
 ///
-/// It counts its calls, and marks a disk with the call's number, counted from 0, before it calls it; a
-/// call on both disks marks both alike, and the head is called first. So the tables of both disks stand
-/// in one order, also once they are apart again. It keeps no marks of its own, and once its count stands
-/// at `2^64 - 1` it tells its tables no more. After a call on the head that failed the main disk isn't
-/// called.
+/// It counts its calls, and marks a disk with the call's number, counted from 0, before it calls
+/// it; a call on both disks marks both alike, and the head is called first. So the tables of both
+/// disks stand in one order, also once they are apart again. It keeps no marks of its own, and once
+/// its count stands at `2^64 - 1` it tells its tables no more. After a call on the head that failed
+/// the main disk isn't called.
 #[derive(Drop)]
 pub struct JoinedDisk<D: Disk> {
     head: Option<D>,
@@ -39,9 +41,12 @@ pub struct JoinedDisk<D: Disk> {
     ghost within: { used ≤ (D.device main).atoms },
     ghost fits: { (base + used) * atom < 2 ^ 63 },
     ghost head_follows: { Follows calls (in_front D.device atom head_was.value).told
-        (in_front D.device atom head).told } by { Follows-prop calls (in_front D.device atom head_was.value).told
+        (in_front D.device atom head).told } by { Follows-prop calls
+            (in_front D.device atom head_was.value).told
             (in_front D.device atom head).told },
-    ghost main_follows: { Follows calls (D.device main_was.value).told (D.device main).told } by { Follows-prop calls (D.device main_was.value).told (D.device main).told },
+    ghost main_follows: { Follows calls (D.device main_was.value).told
+        (D.device main).told } by { Follows-prop calls (D.device main_was.value).told
+            (D.device main).told },
 }
 
 impl<D: Disk> JoinedDisk<D> {
@@ -122,8 +127,8 @@ impl<D: Disk> JoinedDisk<D> {
         self.head.is_some()
     }
 
-    /// The sizes that a header on it is judged by. Neither the header's disk nor the main disk has more
-    /// atoms than both.
+    /// The sizes that a header on it is judged by. Neither the header's disk nor the main disk has
+    /// more atoms than both.
     pub fn sizes(&self) -> Sizes
         ensures is { result ≡ sizes_of self.now }
         ensures atom { result.atom ≡ (joined_disk (joint_in self.now)).size }
@@ -146,16 +151,17 @@ impl<D: Disk> JoinedDisk<D> {
         }
     }
 
-    /// The head, where there is one, and the main disk. The tables that were told are those of both in the
-    /// order of the calls' numbers, with which both are marked.
+    /// The head, where there is one, and the main disk. The tables that were told are those of both
+    /// in the order of the calls' numbers, with which both are marked.
     pub fn parts(self) -> (Option<D>, D)
         ensures head { result.0 ≡ self.head }
         ensures main { result.1 ≡ self.main }
         ensures has_head { is_some result.0 ≡ has_head self }
-        ensures order { (⟦<JoinedDisk<D> as Disk>⟧.device self).told ≡ joint_told (record (joint_in self) {
-          head = in_front D.device (D.device result.1).size result.0;
-          main = D.device result.1;
-        }) }
+        ensures order { (⟦<JoinedDisk<D> as Disk>⟧.device self).told
+            ≡ joint_told (record (joint_in self) {
+              head = in_front D.device (D.device result.1).size result.0;
+              main = D.device result.1;
+            }) }
     {
         let JoinedDisk { head, main, .. } = self;
         (head, main)
@@ -172,28 +178,39 @@ impl<D: Disk> Disk for JoinedDisk<D> {
     ghost device = { λ d. joined_disk (joint_of D.device d.atom d.head_was.value d.main_was.value
         d.head d.main d.used d.calls) };
 
-    ghost geometry = { λ d. joint_geometry (joint_of D.device d.atom d.head_was.value d.main_was.value
+    ghost geometry = { λ d. joint_geometry
+        (joint_of D.device d.atom d.head_was.value d.main_was.value
         d.head d.main d.used d.calls) d.atom d.base (D.geometry d.main) d.size d.front d.fits };
 
     ghost whole = { λ d. (shows_joint (joint_of D.device d.atom d.head_was.value d.main_was.value
-        d.head d.main d.used d.calls) (shows_front D.device (shows D.device D.whole D.bytes D.agrees D.even D.held) d.atom d.head)
-        (shows D.device D.whole D.bytes D.agrees D.even D.held d.main) (d.same_size ∙ sym d.size) d.within).whole };
+        d.head d.main d.used d.calls) (shows_front D.device
+        (shows D.device D.whole D.bytes D.agrees D.even D.held) d.atom d.head)
+        (shows D.device D.whole D.bytes D.agrees D.even D.held d.main) (d.same_size ∙ sym d.size)
+        d.within).whole };
 
     ghost bytes = { λ d. (shows_joint (joint_of D.device d.atom d.head_was.value d.main_was.value
-        d.head d.main d.used d.calls) (shows_front D.device (shows D.device D.whole D.bytes D.agrees D.even D.held) d.atom d.head)
-        (shows D.device D.whole D.bytes D.agrees D.even D.held d.main) (d.same_size ∙ sym d.size) d.within).bytes };
+        d.head d.main d.used d.calls) (shows_front D.device
+        (shows D.device D.whole D.bytes D.agrees D.even D.held) d.atom d.head)
+        (shows D.device D.whole D.bytes D.agrees D.even D.held d.main) (d.same_size ∙ sym d.size)
+        d.within).bytes };
 
     ghost agrees = { λ d. (shows_joint (joint_of D.device d.atom d.head_was.value d.main_was.value
-        d.head d.main d.used d.calls) (shows_front D.device (shows D.device D.whole D.bytes D.agrees D.even D.held) d.atom d.head)
-        (shows D.device D.whole D.bytes D.agrees D.even D.held d.main) (d.same_size ∙ sym d.size) d.within).agrees };
+        d.head d.main d.used d.calls) (shows_front D.device
+        (shows D.device D.whole D.bytes D.agrees D.even D.held) d.atom d.head)
+        (shows D.device D.whole D.bytes D.agrees D.even D.held d.main) (d.same_size ∙ sym d.size)
+        d.within).agrees };
 
     ghost even = { λ d. (shows_joint (joint_of D.device d.atom d.head_was.value d.main_was.value
-        d.head d.main d.used d.calls) (shows_front D.device (shows D.device D.whole D.bytes D.agrees D.even D.held) d.atom d.head)
-        (shows D.device D.whole D.bytes D.agrees D.even D.held d.main) (d.same_size ∙ sym d.size) d.within).even };
+        d.head d.main d.used d.calls) (shows_front D.device
+        (shows D.device D.whole D.bytes D.agrees D.even D.held) d.atom d.head)
+        (shows D.device D.whole D.bytes D.agrees D.even D.held d.main) (d.same_size ∙ sym d.size)
+        d.within).even };
 
     ghost held = { λ d. (shows_joint (joint_of D.device d.atom d.head_was.value d.main_was.value
-        d.head d.main d.used d.calls) (shows_front D.device (shows D.device D.whole D.bytes D.agrees D.even D.held) d.atom d.head)
-        (shows D.device D.whole D.bytes D.agrees D.even D.held d.main) (d.same_size ∙ sym d.size) d.within).held };
+        d.head d.main d.used d.calls) (shows_front D.device
+        (shows D.device D.whole D.bytes D.agrees D.even D.held) d.atom d.head)
+        (shows D.device D.whole D.bytes D.agrees D.even D.held d.main) (d.same_size ∙ sym d.size)
+        d.within).held };
 
     fn atom(&self) -> u32 {
         self.atom

@@ -1,6 +1,9 @@
 -- A value without floats has no first one, and the first item or member with a float has the first.
-use Rattle.std.proofs.Common.{◌≡◌, ℕ, suc, ◌+◌, ◌<◌, List, [], length, drop, get_or, cond, Bool, true, false, ◌||◌, Option, Some, None, decimal, refl, sym, ap, drop-cons, arith}
-use Rattle.serde_json.specs.Data.{Data, null, boolean, number, string, array, object, Items, no_items, item, Members, no_members, member}
+use Rattle.std.proofs.Common.{◌≡◌, ℕ, suc, ◌+◌, ◌<◌, List, [], length, drop, get_or, cond, Bool}
+use Rattle.std.proofs.Common.{true, false, ◌||◌, Option, Some, None, decimal, refl, sym, ap}
+use Rattle.std.proofs.Common.{drop-cons, arith}
+use Rattle.serde_json.specs.Data.{Data, null, boolean, number, string, array, object, Items}
+use Rattle.serde_json.specs.Data.{no_items, item, Members, no_members, member}
 use Rattle.serde_json.specs.Find.{is_float}
 use Rattle.serde_json.specs.View.{view, items_view}
 use Rattle.serde_json.specs.declared.value.Value.{Value}
@@ -23,13 +26,15 @@ mutual
   float_in-whole path (array ds) h = items-whole path 0 ds h
   float_in-whole path (object ms) h = members-whole path ms h
 
-  items-whole : (path : List ℕ) (i : ℕ) (ds : Items) → items_have_float ds ≡ false → float_in_items path i ds ≡ None
+  items-whole : (path : List ℕ) (i : ℕ) (ds : Items) → items_have_float ds ≡ false
+      → float_in_items path i ds ≡ None
   items-whole path i no_items h = refl
   items-whole path i (item d ds) h =
       let k = neither (has_float d) (items_have_float ds) h in
       rw (float_in-whole (under path (decimal i)) d k.0) (items-whole path (i + 1) ds k.1)
 
-  members-whole : (path : List ℕ) (ms : Members) → members_have_float ms ≡ false → float_in_members path ms ≡ None
+  members-whole : (path : List ℕ) (ms : Members) → members_have_float ms ≡ false
+      → float_in_members path ms ≡ None
   members-whole path no_members h = refl
   members-whole path (member k d ms) h =
       let n = neither (has_float d) (members_have_float ms) h in
@@ -62,13 +67,15 @@ mutual
   whole-float_in path (array ds) h = whole-items path 0 ds h
   whole-float_in path (object ms) h = whole-members path ms h
 
-  whole-items : (path : List ℕ) (i : ℕ) (ds : Items) → float_in_items path i ds ≡ None → items_have_float ds ≡ false
+  whole-items : (path : List ℕ) (i : ℕ) (ds : Items) → float_in_items path i ds ≡ None
+      → items_have_float ds ≡ false
   whole-items path i no_items h = refl
   whole-items path i (item d ds) h =
       let k = later (float_in (under path (decimal i)) d) (float_in_items path (i + 1) ds) h in
       none _ _ (whole-float_in (under path (decimal i)) d k.0) (whole-items path (i + 1) ds k.1)
 
-  whole-members : (path : List ℕ) (ms : Members) → float_in_members path ms ≡ None → members_have_float ms ≡ false
+  whole-members : (path : List ℕ) (ms : Members) → float_in_members path ms ≡ None
+      → members_have_float ms ≡ false
   whole-members path no_members h = refl
   whole-members path (member k d ms) h =
       let n = later (float_in (under path k) d) (float_in_members path ms) h in
@@ -79,24 +86,32 @@ at_first : (o p : Option (List ℕ)) (b : Bool) → b ≡ true → (o ≡ None �
 at_first None p b h none = let no : b ≡ false = none refl in cc
 at_first (Some path) p b h none = refl
 
-pub passed_item : (path : List ℕ) (vs : List Value) (i : ℕ) (v : Value) → i < length vs → has_float (view (get_or vs i v)) ≡ false
-    → float_in_items path (i + 1) (items_view (drop (i + 1) vs)) ≡ float_in_items path i (items_view (drop i vs))
+pub passed_item : (path : List ℕ) (vs : List Value) (i : ℕ) (v : Value) → i < length vs
+    → has_float (view (get_or vs i v)) ≡ false
+    → float_in_items path (i + 1) (items_view (drop (i + 1) vs))
+    ≡ float_in_items path i (items_view (drop i vs))
 unfolding float_in_items
 passed_item path vs i v h whole =
     let next : i + 1 ≡ suc i = omega arith in
     rw (drop-cons vs i v h, float_in-whole (under path (decimal i)) (view (get_or vs i v)) whole)
     (ap (λ (k : ℕ). float_in_items path (i + 1) (items_view (drop k vs))) next)
 
-pub found_item : (path : List ℕ) (vs : List Value) (i : ℕ) (v : Value) → i < length vs → has_float (view (get_or vs i v)) ≡ true
-    → float_in (under path (decimal i)) (view (get_or vs i v)) ≡ float_in_items path i (items_view (drop i vs))
+pub found_item : (path : List ℕ) (vs : List Value) (i : ℕ) (v : Value) → i < length vs
+    → has_float (view (get_or vs i v)) ≡ true
+    → float_in (under path (decimal i)) (view (get_or vs i v))
+    ≡ float_in_items path i (items_view (drop i vs))
 unfolding float_in_items
 found_item path vs i v h float =
-    rw (drop-cons vs i v h) (sym (at_first _ _ (has_float (view (get_or vs i v))) float (λ e. whole-float_in (under path (decimal i)) (view (get_or vs i v)) e)))
+    rw (drop-cons vs i v h)
+    (sym (at_first _ _ (has_float (view (get_or vs i v))) float
+    (λ e. whole-float_in (under path (decimal i)) (view (get_or vs i v)) e)))
 
-pub passed_member : (path k : List ℕ) (d : Data) (ms : Members) → has_float d ≡ false → float_in_members path (member k d ms) ≡ float_in_members path ms
+pub passed_member : (path k : List ℕ) (d : Data) (ms : Members) → has_float d ≡ false
+    → float_in_members path (member k d ms) ≡ float_in_members path ms
 unfolding float_in_members
 passed_member path k d ms h = rw (float_in-whole (under path k) d h) refl
 
-pub found_member : (path k : List ℕ) (d : Data) (ms : Members) → has_float d ≡ true → float_in_members path (member k d ms) ≡ float_in (under path k) d
+pub found_member : (path k : List ℕ) (d : Data) (ms : Members) → has_float d ≡ true
+    → float_in_members path (member k d ms) ≡ float_in (under path k) d
 unfolding float_in_members
 found_member path k d ms h = at_first _ _ (has_float d) h (λ e. whole-float_in (under path k) d e)

@@ -17,7 +17,8 @@ abbrev pub viewed : List (ℕ × Value) → List (ℕ × Data)
 viewed es = map (λ e. (e.0, view e.1)) es
 
 -- the members by rising number, after these; a key that is no number is a fault
-unfoldable pub numbered_from : List ℕ → List (ℕ × Data) → Members → Result (List (ℕ × Data)) JsonFault
+unfoldable pub numbered_from : List ℕ → List (ℕ × Data) → Members
+    → Result (List (ℕ × Data)) JsonFault
 numbered_from path found no_members = Ok found
 numbered_from path found (member k d ms) = do
   n ← required Number path k (number_of k)
@@ -27,13 +28,15 @@ abbrev pub numbered_in : List ℕ → Members → Result (List (ℕ × Data)) Js
 numbered_in path ms = numbered_from path [] ms
 
 -- the object at a number
-unfoldable pub entry_at : {X : Type 0} → (List ℕ → Members → Result X JsonFault) → List ℕ → ℕ × Data → Result X JsonFault
+unfoldable pub entry_at : {X : Type 0} → (List ℕ → Members → Result X JsonFault) → List ℕ → ℕ × Data
+    → Result X JsonFault
 entry_at of path e = do
   ms ← required Kind path (decimal e.0) (as_object e.1)
   of (under path (decimal e.0)) ms
 
 -- each of the objects, the first fault first
-unfoldable pub each_of : {X : Type 0} → (List ℕ → Members → Result X JsonFault) → List ℕ → List (ℕ × Data) → Result (List (ℕ × X)) JsonFault
+unfoldable pub each_of : {X : Type 0} → (List ℕ → Members → Result X JsonFault) → List ℕ
+    → List (ℕ × Data) → Result (List (ℕ × X)) JsonFault
 each_of of path [] = Ok []
 each_of of path (e ∷ es) = do
   x ← entry_at of path e
@@ -41,7 +44,8 @@ each_of of path (e ∷ es) = do
   Ok ((e.0, x) ∷ xs)
 
 -- the objects of a map by numbers: bad keys first, and then the objects by rising number
-unfoldable pub objects_in : {X : Type 0} → (List ℕ → Members → Result X JsonFault) → List ℕ → Members → Result (List (ℕ × X)) JsonFault
+unfoldable pub objects_in : {X : Type 0} → (List ℕ → Members → Result X JsonFault) → List ℕ
+    → Members → Result (List (ℕ × X)) JsonFault
 objects_in of path ms = do
   es ← numbered_in path ms
   each_of of path es
@@ -49,7 +53,8 @@ objects_in of path ms = do
 -- ---- and back
 abbrev pub objects_onto : {X : Type 0} → (X → Members) → List (ℕ × X) → Members → Members
 objects_onto members [] ms = ms
-objects_onto members (e ∷ es) ms = objects_onto members es (put (decimal e.0) (object (members e.1)) ms)
+objects_onto members (e ∷ es) ms =
+    objects_onto members es (put (decimal e.0) (object (members e.1)) ms)
 
 abbrev pub objects_members : {X : Type 0} → (X → Members) → List (ℕ × X) → Members
 objects_members members es = objects_onto members es no_members

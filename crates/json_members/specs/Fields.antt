@@ -1,5 +1,7 @@
 -- The members of an object, each with the first fault that it has.
-use Rattle.std.specs.Prelude.{◌≡◌, ℕ, ◌+◌, ◌==◌, ◌&&◌, nat_lt, Bool, true, List, [], ◌∷◌, ◌++◌, length, codes, Option, Some, None, map, Result, Ok, Err, if◌then◌else◌, decimal}
+use Rattle.std.specs.Prelude.{◌≡◌, ℕ, ◌+◌, ◌==◌, ◌&&◌, nat_lt, Bool, true, List, [], ◌∷◌, ◌++◌}
+use Rattle.std.specs.Prelude.{length, codes, Option, Some, None, map, Result, Ok, Err}
+use Rattle.std.specs.Prelude.{if◌then◌else◌, decimal}
 use Rattle.std.specs.Str.{bytes_eq}
 use Rattle.base64.specs.GeneralPurpose.{encode_of, decoded_bytes_of}
 use Rattle.base64.specs.Engines.{standard}
@@ -8,14 +10,16 @@ use Rattle.serde_json.specs.Find.{get_member, as_str, as_array, as_object, as_nu
 use Rattle.serde_json.specs.View.{items_of}
 use Rattle.json_members.specs.declared.faults.JsonFault.{JsonFault}
 use Rattle.json_members.specs.declared.faults.JsonFaultKind.{JsonFaultKind}
-use Rattle.json_members.specs.declared.faults.JsonFaultKind.TheVariants.{Missing, Kind, Number, Base64, Unsupported}
+use Rattle.json_members.specs.declared.faults.JsonFaultKind.TheVariants.{Missing, Kind, Number}
+use Rattle.json_members.specs.declared.faults.JsonFaultKind.TheVariants.{Base64, Unsupported}
 use Rattle.json_members.specs.declared.faults.ReadError.{ReadError}
 use Rattle.json_members.specs.declared.faults.ReadError.TheVariants as errors
 use Rattle.json_members.specs.Decimals.{number_of}
 
 -- first this, then what follows from it; the first fault ends it
 infixl 10 ◌>>=◌
-abbrev pub ◌>>=◌ : {A B : Type 0} → Result A JsonFault → (A → Result B JsonFault) → Result B JsonFault
+abbrev pub ◌>>=◌ : {A B : Type 0} → Result A JsonFault → (A → Result B JsonFault)
+    → Result B JsonFault
 (Ok x) >>= f = f x
 (Err e) >>= f = Err e
 
@@ -69,7 +73,10 @@ are_bytes (b ∷ bs) = nat_lt b 256 && are_bytes bs
 
 -- the bytes of which the text is the base64
 unfoldable pub bytes_of : List ℕ → Option (List ℕ)
-bytes_of text = if bytes_eq (encode_of standard (decoded_bytes_of standard text)) text && are_bytes (decoded_bytes_of standard text) then Some (decoded_bytes_of standard text) else None
+bytes_of text =
+    if bytes_eq (encode_of standard (decoded_bytes_of standard text)) text
+    && are_bytes (decoded_bytes_of standard text) then Some (decoded_bytes_of standard text) else
+    None
 
 -- bytes in base64
 unfoldable pub bytes_in : List ℕ → List ℕ → Members → Result (List ℕ) JsonFault
@@ -78,13 +85,15 @@ bytes_in path name ms = do
   required Base64 path name (bytes_of text)
 
 -- a text that has a meaning; another is a fault of the kind `what`
-unfoldable pub meant_in : {X : Type 0} → JsonFaultKind → (List ℕ → Option X) → List ℕ → List ℕ → Members → Result X JsonFault
+unfoldable pub meant_in : {X : Type 0} → JsonFaultKind → (List ℕ → Option X) → List ℕ → List ℕ
+    → Members → Result X JsonFault
 meant_in what meaning path name ms = do
   text ← text_in path name ms
   required what path name (meaning text)
 
 -- a number that has a meaning; another is a fault of the kind Number
-unfoldable pub counted_in : {X : Type 0} → (ℕ → Option X) → List ℕ → List ℕ → Members → Result X JsonFault
+unfoldable pub counted_in : {X : Type 0} → (ℕ → Option X) → List ℕ → List ℕ → Members
+    → Result X JsonFault
 counted_in meaning path name ms = do
   n ← number_in path name ms
   required Number path name (meaning n)
@@ -106,7 +115,8 @@ object_in path name ms = do
 
 -- ---- lists
 -- what each item of the list at a path is, by `of`, from the item of this number on
-unfoldable pub each_item : {X : Type 0} → (List ℕ → ℕ → Data → Result X JsonFault) → List ℕ → ℕ → Items → Result (List X) JsonFault
+unfoldable pub each_item : {X : Type 0} → (List ℕ → ℕ → Data → Result X JsonFault) → List ℕ → ℕ
+    → Items → Result (List X) JsonFault
 each_item of path i no_items = Ok []
 each_item of path i (item d ds) = do
   x ← of path i d
@@ -143,13 +153,15 @@ decimals_in path name ms = do
 
 -- ---- members that need not be there, and those that must not
 -- what is read of a member, where there is one
-abbrev pub optional_at : {X : Type 0} → Option Data → Result X JsonFault → Result (Option X) JsonFault
+abbrev pub optional_at : {X : Type 0} → Option Data → Result X JsonFault
+    → Result (Option X) JsonFault
 optional_at None read = Ok None
 optional_at (Some d) read = do
   x ← read
   Ok (Some x)
 
-abbrev pub optional : {X : Type 0} → List ℕ → Members → Result X JsonFault → Result (Option X) JsonFault
+abbrev pub optional : {X : Type 0} → List ℕ → Members → Result X JsonFault
+    → Result (Option X) JsonFault
 optional name ms read = optional_at (get_member name ms) read
 
 abbrev pub absent_at : JsonFaultKind → List ℕ → List ℕ → Option Data → Result (Unit {0}) JsonFault

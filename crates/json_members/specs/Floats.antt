@@ -1,6 +1,7 @@
 -- The first number that isn't whole within 64 bits, in the order of writing.
 use Rattle.std.specs.Prelude.{ℕ, ◌+◌, List, Option, Some, None, if◌then◌else◌, decimal}
-use Rattle.serde_json.specs.Data.{Data, null, boolean, number, string, array, object, Items, no_items, item, Members, no_members, member}
+use Rattle.serde_json.specs.Data.{Data, null, boolean, number, string, array, object, Items}
+use Rattle.serde_json.specs.Data.{no_items, item, Members, no_members, member}
 use Rattle.serde_json.specs.Find.{is_float}
 use Rattle.json_members.specs.Fields.{under}
 
@@ -19,8 +20,10 @@ unfoldable mutual
 
   pub float_in_items : List ℕ → ℕ → Items → Option (List ℕ)
   float_in_items path i no_items = None
-  float_in_items path i (item d ds) = or_later (float_in (under path (decimal i)) d) (float_in_items path (i + 1) ds)
+  float_in_items path i (item d ds) =
+      or_later (float_in (under path (decimal i)) d) (float_in_items path (i + 1) ds)
 
   pub float_in_members : List ℕ → Members → Option (List ℕ)
   float_in_members path no_members = None
-  float_in_members path (member k d ms) = or_later (float_in (under path k) d) (float_in_members path ms)
+  float_in_members path (member k d ms) =
+      or_later (float_in (under path k) d) (float_in_members path ms)

@@ -37,7 +37,9 @@ HasTexts name texts ms = get_member name ms ≡ Some (array (texts_data texts))
 
 -- a list of the decimal digits of these numbers of 64 bits
 abbrev pub HasDecimals : List ℕ → List ℕ → Members → Type 0
-HasDecimals name numbers ms = (get_member name ms ≡ Some (array (decimals_data numbers))) × AllByRecursion (λ n. n < 2 ^ 64) numbers
+HasDecimals name numbers ms =
+    (get_member name ms ≡ Some (array (decimals_data numbers)))
+    × AllByRecursion (λ n. n < 2 ^ 64) numbers
 
 -- a member of this form, or none of this name
 abbrev pub HasOptional : {X : Type 0} → List ℕ → (X → Type 0) → Option X → Members → Type 0

@@ -3,7 +3,8 @@ ghost use Rattle.serde_json.specs.Data.{Members, put as with_member, object as o
 ghost use Rattle.serde_json.specs.View.{view};
 ghost use Rattle.json_members.specs.declared.faults.JsonFault.{JsonFault};
 ghost use Rattle.json_members.specs.Fields.{Gives};
-ghost use Rattle.json_members.specs.Entries.{viewed, numbered_in, objects_in, entry_at, objects_members};
+ghost use Rattle.json_members.specs.Entries.{viewed, numbered_in, objects_in, entry_at};
+ghost use Rattle.json_members.specs.Entries.{objects_members};
 
 use crate::decimal::{decimal_number, decimal_text};
 use crate::faults::{JsonFaultKind, ReadError, fault_at, path_of};
@@ -115,7 +116,9 @@ fn write_entry<E: Entry>(
     object: &mut Object,
     entry: &(u64, E),
 ) -> Result<(), AllocError>
-    ensures { OnOk result (object.new ≡ with_member (decimal entry.now.0) (object_data (E.members entry.now.1)) object.old) }
+    ensures { OnOk result
+        (object.new
+        ≡ with_member (decimal entry.now.0) (object_data (E.members entry.now.1)) object.old) }
 {
     let members = entry.1.write(alloc)?;
     let name = decimal_text(alloc, entry.0)?;

@@ -2,7 +2,10 @@ ghost use Rattle.std.specs.Prelude.{◌≡◌, IfOk, option_map, decimal};
 ghost use Rattle.serde_json.specs.Find.{get_member};
 ghost use Rattle.serde_json.specs.View.{view, items_view};
 ghost use Rattle.json_members.specs.declared.faults.JsonFaultKind.TheVariants.{Missing};
-ghost use Rattle.json_members.specs.Fields.{Gives, required, IsFaultAt, items_in, text_in, word_in, number_in, decimal_in, object_in, texts_in, decimals_in, each_item, text_item, decimal_item, bytes_in, bytes_of};
+ghost use Rattle.json_members.specs.Fields.{Gives, required, IsFaultAt, items_in, text_in, word_in};
+ghost use Rattle.json_members.specs.Fields.{number_in, decimal_in, object_in, texts_in};
+ghost use Rattle.json_members.specs.Fields.{decimals_in, each_item, text_item, decimal_item};
+ghost use Rattle.json_members.specs.Fields.{bytes_in, bytes_of};
 
 use crate::decimal::{decimal_number, decimal_text};
 use crate::faults::{JsonFaultKind, ReadError, fault_at, path_of};
@@ -22,7 +25,8 @@ fn member_at<'a>(
     object: &'a Object,
     name: &str,
 ) -> Result<&'a Value, ReadError>
-    ensures { Gives (λ v. view v.now) result (required Missing path.now name.now (get_member name.now object.now)) }
+    ensures { Gives (λ v. view v.now) result
+        (required Missing path.now name.now (get_member name.now object.now)) }
 {
     let Some(value) = object.get(name) else {
         return Err(fault_at(alloc, JsonFaultKind::Missing, path, name));
@@ -196,7 +200,8 @@ fn texts(alloc: Global, path: &str, values: &[Value]) -> Result<Vec<Text>, ReadE
 }
 
 fn decimals(alloc: Global, path: &str, values: &[Value]) -> Result<Vec<u64>, ReadError>
-    ensures { Gives (λ v. v.items) result (each_item decimal_item path.now 0 (items_view values.now)) }
+    ensures { Gives (λ v. v.items) result
+        (each_item decimal_item path.now 0 (items_view values.now)) }
 {
     let mut found = Vec::new(alloc);
     for i in 0..values.len() {

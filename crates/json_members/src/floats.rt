@@ -71,7 +71,8 @@ fn float_path_in_items(
     path: &str,
     items: &Vec<Value>,
 ) -> Result<Option<String>, AllocError>
-    ensures { IfOk result (λ o. option_map string_bytes o ≡ float_in_items path.now 0 (items_view items.now.items)) }
+    ensures { IfOk result
+        (λ o. option_map string_bytes o ≡ float_in_items path.now 0 (items_view items.now.items)) }
 {
     for i in 0..items.len() {
         if any_float(&items[i]) {
@@ -90,7 +91,9 @@ fn float_path_in_members(
     path: &str,
     members: &Map<String, Value>,
 ) -> Result<Option<String>, AllocError>
-    ensures { IfOk result (λ o. option_map string_bytes o ≡ float_in_members path.now (members_view members.now.entries)) }
+    ensures { IfOk result
+        (λ o. option_map string_bytes o
+        ≡ float_in_members path.now (members_view members.now.entries)) }
 {
     for (key, member) in members.iter() {
         if any_float(member) {

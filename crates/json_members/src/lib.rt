@@ -19,8 +19,6 @@ mod laws;
 mod listed;
 mod object;
 mod optional;
-#[cfg(test)]
-mod tests;
 mod text;
 mod writing;
 
@@ -32,7 +30,7 @@ pub use fields::{
     word_at,
 };
 pub use floats::{any_float, first_float};
-pub use laws::{members_are_read_by_form, other_members_are_kept};
+pub use laws::{members_are_read_by_form, other_members_are_kept, put_members_are_found};
 pub use listed::Listed;
 pub use object::{Object, copy_members};
 pub use optional::{optional_object_at, optional_texts_at};

@@ -14,7 +14,8 @@ pub fn optional_texts_at(
     object: &Object,
     name: &str,
 ) -> Result<Option<Listed<Text>>, ReadError>
-    ensures { Gives (λ t. t) result (optional name.now object.now (texts_in path.now name.now object.now)) }
+    ensures { Gives (λ t. t) result
+        (optional name.now object.now (texts_in path.now name.now object.now)) }
 {
     let Some(_) = object.get(name) else {
         return Ok(None);
@@ -30,7 +31,8 @@ pub fn optional_object_at(
     object: &Object,
     name: &str,
 ) -> Result<Option<Object>, ReadError>
-    ensures { Gives (λ o. o) result (optional name.now object.now (object_in path.now name.now object.now)) }
+    ensures { Gives (λ o. o) result
+        (optional name.now object.now (object_in path.now name.now object.now)) }
 {
     let Some(_) = object.get(name) else {
         return Ok(None);

@@ -3,7 +3,8 @@
 ghost use Rattle.std.specs.Prelude.{◌≡◌, OnOk, OnErr, IfOk, decimal};
 ghost use Rattle.base64.specs.GeneralPurpose.{encode_of};
 ghost use Rattle.base64.specs.Engines.{standard};
-ghost use Rattle.serde_json.specs.Data.{put as with_member, string, number, unsigned, array, object as object_data};
+ghost use Rattle.serde_json.specs.Data.{put as with_member, string, number, unsigned, array};
+ghost use Rattle.serde_json.specs.Data.{object as object_data};
 ghost use Rattle.serde_json.specs.View.{items_view};
 ghost use Rattle.json_members.specs.Fields.{texts_data, decimals_data};
 
@@ -52,7 +53,8 @@ pub fn put_bytes(
     name: &str,
     bytes: &[u8],
 ) -> Result<(), AllocError>
-    ensures ok { OnOk result (object.new ≡ with_member name.now (string (encode_of standard bytes.now)) object.old) }
+    ensures ok { OnOk result
+        (object.new ≡ with_member name.now (string (encode_of standard bytes.now)) object.old) }
     ensures err { OnErr result (object.new ≡ object.old) }
 {
     let value = Value::String(STANDARD.encode(alloc, bytes)?);
@@ -89,7 +91,8 @@ pub fn put_texts(
     name: &str,
     texts: &[Text],
 ) -> Result<(), AllocError>
-    ensures ok { OnOk result (object.new ≡ with_member name.now (array (texts_data texts.now)) object.old) }
+    ensures ok { OnOk result
+        (object.new ≡ with_member name.now (array (texts_data texts.now)) object.old) }
     ensures err { OnErr result (object.new ≡ object.old) }
 {
     let value = Value::Array(values_of(alloc, texts)?);
@@ -113,7 +116,8 @@ pub fn put_decimals(
     name: &str,
     numbers: &[u64],
 ) -> Result<(), AllocError>
-    ensures ok { OnOk result (object.new ≡ with_member name.now (array (decimals_data numbers.now)) object.old) }
+    ensures ok { OnOk result
+        (object.new ≡ with_member name.now (array (decimals_data numbers.now)) object.old) }
     ensures err { OnErr result (object.new ≡ object.old) }
 {
     let value = Value::Array(decimal_values(alloc, numbers)?);

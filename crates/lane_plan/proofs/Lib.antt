@@ -1,10 +1,5 @@
 pub mod PlanBegins
+pub mod PlanCourse
 pub mod PlanEnds
-pub mod PlanFewer
-pub mod PlanMeets
 pub mod PlanMoves
-pub mod PlanPieces
-pub mod PlanReads
 pub mod PlanSizes
-pub mod PlanTold
-pub mod PlanWrites

@@ -1,24 +1,26 @@
 -- Plans before their grant, and what a grant makes of them.
-use Rattle.std.proofs.Common.{◌≡◌, ◌*◌, ◌≤◌, ℕ, Bool, true, false, max, List, [], length, take}
-use Rattle.std.proofs.Common.{Some, None, refl, sym, ◌∙◌, ap, subst, arith}
+use Rattle.std.proofs.Common.{◌≡◌, ◌+◌, ◌-◌, ◌*◌, ◌<◌, ◌≤◌, ℕ, true, false, max, List, [], length}
+use Rattle.std.proofs.Common.{take, Some, None, refl, sym, ◌∙◌, ap, arith}
 use Rattle.std.proofs.Math.Nat.{le-max_right}
 use Rattle.std.proofs.lemmas.List.{take-take}
 use Rattle.plain_disk.specs.declared.operation.Op.{Op}
 use Rattle.plain_disk.specs.declared.operation.Op.TheVariants as Ops
-use Rattle.block_range.specs.declared.BlockRange.{BlockRange}
-use Rattle.volume_machine.specs.Alone.{Alone, alone_after, answered_alone}
-use Rattle.volume_machine.specs.Asks.{has_lock, range_of, wrong_ask}
-use Rattle.volume_machine.specs.Events.{held}
+use Rattle.segment_map.specs.declared.map.Map.{Map}
+use Rattle.volume_machine.specs.Alone.{Alone, MeetsAlone, alone_after, answered_alone}
+use Rattle.volume_machine.specs.Answers.{Answered}
+use Rattle.volume_machine.specs.Asks.{range_of, wrong_ask}
 use Rattle.volume_machine.specs.Seals.{Seals}
 use Rattle.volume_machine.specs.States.{begun}
+use Rattle.volume_machine.specs.Steps.{CanRead, CanWrite}
 use Rattle.volume_machine.specs.declared.ask.Ask.{Ask}
 use Rattle.volume_machine.specs.declared.grant.Grant.{Grant}
 use Rattle.volume_machine.specs.declared.open.Open.{Open}
-use Rattle.lane_plan.specs.Calls.{ask_of, event_of}
+use Rattle.lane_plan.specs.Calls.{ask_of, event_of, outcome_of}
 use Rattle.lane_plan.specs.Plans.{first_call, shape_of, Awaits, refuses, begins, asks, reads}
-use Rattle.lane_plan.specs.Plans.{writes, settles, finishes, Goes, HasPlain, HasRest, IsBack}
-use Rattle.lane_plan.specs.Plans.{IsGrantFor, IsShape, IsSupplied, IsUnderWay, MayAnswer, bytes_of}
-use Rattle.lane_plan.specs.Plans.{part_of}
+use Rattle.lane_plan.specs.Plans.{writes, settles, finishes, Follows, Goes, HasRest, IsBack}
+use Rattle.lane_plan.specs.Plans.{IsGrantFor, IsShape, IsSupplied, IsTold, MayAnswer, bytes_of}
+use Rattle.lane_plan.specs.Plans.{calls_left, left_at, part_of}
+use Rattle.lane_plan.specs.declared.calls.Answer.{Answer}
 use Rattle.lane_plan.specs.declared.calls.Answer.TheVariants as Answers
 use Rattle.lane_plan.specs.declared.calls.Call.{Call}
 use Rattle.lane_plan.specs.declared.calls.Call.TheVariants as Calls
@@ -26,170 +28,171 @@ use Rattle.lane_plan.specs.declared.calls.Next.TheVariants as Nexts
 use Rattle.lane_plan.specs.declared.plan.Plan.{Plan}
 use Rattle.lane_plan.specs.declared.plan.Shape.{Shape}
 use Rattle.lane_plan.specs.declared.plan.Stage.TheVariants.{Refusing, Beginning, Waiting}
-use Rattle.lane_plan.proofs.PlanMeets.{follows-call}
+use Rattle.lane_plan.proofs.PlanCourse.{none-yet, some-left}
 use Rattle.lane_plan.proofs.PlanSizes.{body-long, inside, ordered, size-none, some-atom}
 
--- no byte was read or written yet
-pub none-yet : (whole : List ℕ) (op : Op) → HasPlain whole op []
-none-yet whole (Ops.Read offset len) = refl
-none-yet whole (Ops.Write offset body fua) = refl
-none-yet whole Ops.Flush = refl
+-- the call that a plan awaits the answer to met its conditions
+awaits-meets : (seals : Seals) (plan : Plan) (op : Op) (alone : Alone) (call : Call) →
+    Awaits seals plan op alone call → (lane : ℕ) → MeetsAlone alone (event_of lane call)
+unfolding MeetsAlone
+awaits-meets seals plan op alone _ (refuses stage asked none) lane = none
+awaits-meets seals plan op alone _ (begins stage supplied none) lane = none
+awaits-meets seals plan op alone _ (asks stage supplied is ungranted none has) lane = (_, is, has)
+awaits-meets seals plan op alone _ (reads map piece buffer len moves reading size within) lane =
+    let course = moves.course in
+    let same = course.atom in
+    let can : CanRead map len plan.operation = record {
+      reads = reading;
+      has = record { some = some-left plan.operation moves.next; goes_on = course.unfailed };
+      piece = piece;
+      next = moves.next;
+      size = rw same size;
+    } in
+    (plan.operation, course.operation, (map, course.granted, can))
+awaits-meets seals plan op alone _ (writes map piece prepared moves writing is_sealed) lane =
+    let course = moves.course in
+    let same = course.atom in
+    let can : CanWrite map prepared.bytes plan.operation = record {
+      writes = writing;
+      has = record { some = some-left plan.operation moves.next; goes_on = course.unfailed };
+      piece = piece;
+      next = moves.next;
+      are = record { size = rw same is_sealed.size; are_bytes = is_sealed.are_bytes };
+    } in
+    (plan.operation, course.operation, (map, course.granted, can))
+awaits-meets seals plan op alone _ (settles map stage course plain can ends) lane =
+    (plan.operation, course.operation, can)
+awaits-meets seals plan op alone _ (finishes stage ending) lane =
+    (plan.operation, ending.operation, (ending.map, ending.granted, ending.can))
 
--- an operation that has just begun is under way
-just-begun : (shape : Shape) (o : Open) (whole part : List ℕ) (op : Op) (alone : Alone)
-    (grant : Grant) → IsSupplied shape o whole part op →
-    alone.operation ≡ Some (begun shape.atom o.session o.ask) → alone.granted ≡ Some grant.map →
-    alone.plain ≡ [] →
-    grant.map.atom ≡ shape.atom → grant.map.blocks ≡ shape.blocks →
-    IsUnderWay shape (begun shape.atom o.session o.ask) whole op alone grant.map
-just-begun shape o whole part op alone grant supplied operation granted plain atom blocks = record {
-  known = supplied.known;
-  operation = operation;
-  granted = granted;
-  asks = supplied.asks;
-  atom = atom;
-  blocks = blocks;
-  proper = supplied.proper;
-  range_is = refl;
-  inside = inside shape.atom shape.blocks o.ask (some-atom shape.atom supplied.known.known)
-      supplied.proper;
-  starts = omega arith;
-  within = ordered shape.atom o.ask;
-  unfailed = refl;
-  unsettled = refl;
-  size = ap (λ xs. length xs) plain ∙ size-none (range_of shape.atom o.ask).start shape.atom;
-  plain = (rw plain (none-yet whole op));
-}
+-- so it follows where nothing was answered
+pub follows-call : {seals : Seals} {plan : Plan} {op : Op} {alone : Alone} {call : Call}
+    (answered : List Answered) → answered ≡ [] → Awaits seals plan op alone call →
+    Follows seals plan op alone answered (Nexts.Call call)
+follows-call {seals} {plan} {op} {alone} {call} answered none awaits =
+    (none, awaits-meets seals plan op alone call awaits, awaits)
+
+-- an answer that leaves an operation all of whose pieces so far were made
+abbrev pub IsBackBy : Seals → Plan → Answer → Plan → Map → Type 0
+IsBackBy seals old answer mid map = (op : Op) (alone : Alone) (call : Call) (lane : ℕ) →
+    Awaits seals old op alone call → MayAnswer old call answer →
+    (answered_alone alone (event_of lane call) (outcome_of answer) ≡ [])
+    × IsBack mid op (alone_after old.shape.atom seals alone (event_of lane call)
+    (outcome_of answer)) map
+
+pub goes-by : (seals : Seals) (old mid new : Plan) (answer : Answer) (map : Map) (result : Call) →
+    IsBackBy seals old answer mid map →
+    ((op : Op) (alone : Alone) → IsBack mid op alone map → Awaits seals new op alone result) →
+    Goes seals old answer new (Nexts.Call result)
+unfolding Goes
+goes-by seals old mid new answer map result back on op alone call lane awaits may =
+    let it = back op alone call lane awaits may in follows-call _ it.0 (on op _ it.1)
+
+pub told-by : (seals : Seals) (old mid : Plan) (answer : Answer) (map : Map) →
+    IsBackBy seals old answer mid map → IsTold seals old answer →
+    (op : Op) × (alone : Alone) × IsBack mid op alone map
+unfolding IsTold
+told-by seals old mid answer map back (op, alone, call, awaits, may) =
+    (op, _, (back op alone call 0 awaits may).1)
 
 -- the operation as its grant has it
-opened-as-begun : (shape : Shape) (o now : Open) (grant : Grant) →
-    grant.range ≡ range_of shape.atom o.ask →
-    now ≡ record {
-      session = o.session;
-      ask = o.ask;
-      range = grant.range;
-      next = grant.range.start;
-      settled = false;
-      failed = false;
-    } →
-    now ≡ begun shape.atom o.session o.ask
-opened-as-begun shape o now grant range is =
-    is ∙ ap (λ (r : BlockRange). the-open o r) range where
-      the-open : Open → BlockRange → Open
-      the-open o r = record {
-        session = o.session;
-        ask = o.ask;
-        range = r;
-        next = r.start;
-        settled = false;
-        failed = false;
-      }
+abbrev pub opened : Open → Grant → Open
+opened o grant = record {
+  session = o.session;
+  ask = o.ask;
+  range = grant.range;
+  next = grant.range.start;
+  settled = false;
+  failed = false;
+}
 
 back-begun : (plan : Plan) (now : Open) (op : Op) (alone : Alone) (grant : Grant) →
     IsSupplied plan.shape plan.operation plan.whole plan.part op →
     alone.operation ≡ Some (begun plan.shape.atom plan.operation.session plan.operation.ask) →
     alone.granted ≡ Some grant.map → alone.plain ≡ [] →
-    IsGrantFor plan grant → now ≡ record {
-      session = plan.operation.session;
-      ask = plan.operation.ask;
-      range = grant.range;
-      next = grant.range.start;
-      settled = false;
-      failed = false;
-    } →
+    IsGrantFor plan grant → now ≡ opened plan.operation grant →
     IsBack (record plan { operation = now }) op alone grant.map
 back-begun plan now op alone grant supplied operation granted plain fit is =
-    subst (λ (o : Open). IsBack (record plan { operation = o }) op alone grant.map)
-    (sym (opened-as-begun plan.shape plan.operation now grant fit.range_is is))
-    (record {
-      course = just-begun plan.shape plan.operation plan.whole plan.part op alone grant supplied
-          operation granted plain fit.atom fit.blocks;
+    let known = supplied.known in
+    let range = fit.range_is in
+    let now_is : now ≡ begun plan.shape.atom plan.operation.session plan.operation.ask =
+    rw (is, range) refl in
+    rw now_is (record {
+      course = record {
+        known = known;
+        operation = operation;
+        granted = granted;
+        asks = supplied.asks;
+        atom = fit.atom;
+        blocks = fit.blocks;
+        proper = supplied.proper;
+        range_is = refl;
+        inside = inside plan.shape.atom plan.shape.blocks plan.operation.ask
+            (some-atom plan.shape.atom known.known) supplied.proper;
+        starts = omega arith;
+        within = ordered plan.shape.atom plan.operation.ask;
+        unfailed = refl;
+        unsettled = refl;
+        size = ap (λ xs. length xs) plain
+            ∙ size-none (range_of plan.shape.atom plan.operation.ask).start plan.shape.atom;
+      };
+      plain = rw plain (none-yet plan.whole op);
       rest = λ some. supplied.rest;
       part = λ some. supplied.room;
     })
 
 -- a grant makes the operation go on
-pub back-held : (seals : Seals) (plan : Plan) (now : Open) (op : Op) (alone : Alone) (call : Call)
-    (lane : ℕ) (grant : Grant) → Awaits seals plan op alone call →
-    MayAnswer plan call (Answers.Held grant) →
-    now ≡ record {
-      session = plan.operation.session;
-      ask = plan.operation.ask;
-      range = grant.range;
-      next = grant.range.start;
-      settled = false;
-      failed = false;
-    } →
-    IsBack (record plan { operation = now }) op
-    (alone_after plan.shape.atom seals alone (event_of lane call) (held grant)) grant.map
-back-held seals plan now op alone _ lane grant (refuses stage asked none) may is =
+pub back-held : (seals : Seals) (plan : Plan) (now : Open) (grant : Grant) →
+    now ≡ opened plan.operation grant →
+    IsBackBy seals plan (Answers.Held grant) (record plan { operation = now }) grant.map
+back-held seals plan now grant is op alone _ lane (refuses stage asked none) may =
     absurd (may.0 stage)
-back-held seals plan now op alone _ lane grant (begins stage supplied none) may is =
-    back-begun plan now op _ grant supplied refl refl refl may.1 is
-back-held seals plan now op alone _ lane grant (asks stage supplied operation ungranted plain has)
-    may is = back-begun plan now op _ grant supplied operation refl plain may is
-back-held seals plan now op alone _ lane grant (reads _ _ _ _ _ _ _ _) may is = absurd may
-back-held seals plan now op alone _ lane grant (writes _ _ _ _ _ _) may is = absurd may
-back-held seals plan now op alone _ lane grant (settles _ _ _ _ _) may is = absurd may
-back-held seals plan now op alone _ lane grant (finishes _ _) may is = absurd may
+back-held seals plan now grant is op alone _ lane (begins stage supplied none) may =
+    (refl, back-begun plan now op _ grant supplied refl refl refl may.1 is)
+back-held seals plan now grant is op alone _ lane
+    (asks stage supplied operation ungranted plain has) may =
+    (refl, back-begun plan now op _ grant supplied operation refl plain may is)
+back-held seals plan now grant is op alone _ lane _ may = absurd may
 
-pub silent-held : (seals : Seals) (plan : Plan) (op : Op) (alone : Alone) (call : Call) (lane : ℕ)
-    (grant : Grant) → Awaits seals plan op alone call →
-    MayAnswer plan call (Answers.Held grant) →
-    answered_alone alone (event_of lane call) (held grant) ≡ []
-silent-held seals plan op alone _ lane grant (refuses stage asked none) may = refl
-silent-held seals plan op alone _ lane grant (begins stage supplied none) may = refl
-silent-held seals plan op alone _ lane grant (asks stage supplied operation ungranted plain has)
-    may = refl
-silent-held seals plan op alone _ lane grant (reads _ _ _ _ _ _ _ _) may = absurd may
-silent-held seals plan op alone _ lane grant (writes _ _ _ _ _ _) may = absurd may
-silent-held seals plan op alone _ lane grant (settles _ _ _ _ _) may = absurd may
-silent-held seals plan op alone _ lane grant (finishes _ _) may = absurd may
+-- at most a call a block, and one more
+pub fewer-held : (seals : Seals) (old new : Plan) (grant : Grant) →
+    IsTold seals old (Answers.Held grant) →
+    calls_left new ≤ 1 + (grant.range.end - grant.range.start) → calls_left new < calls_left old
+unfolding IsTold calls_left
+fewer-held seals old new grant (op, alone, _, refuses stage asked none, may) most =
+    absurd (may.0 stage)
+fewer-held seals old new grant (op, alone, _, begins stage supplied none, may) most =
+    let left = ap (λ s. left_at old.shape.atom old.operation s) stage in
+    let range = may.1.range_is in
+    let most_by = rw range at most in omega (arith, left, most_by)
+fewer-held seals old new grant (op, alone, _, asks stage _ _ _ _ _, may) most =
+    let left = ap (λ s. left_at old.shape.atom old.operation s) stage in
+    let range = may.range_is in
+    let most_by = rw range at most in omega (arith, left, most_by)
+fewer-held seals old new grant (op, alone, _, _, may) most = absurd may
 
 -- where others have the blocks it asks again
-awaits-asks : (seals : Seals) (plan : Plan) (op : Op) (alone : Alone) →
-    IsSupplied plan.shape plan.operation plan.whole plan.part op →
-    alone.operation ≡ Some (begun plan.shape.atom plan.operation.session plan.operation.ask) →
-    alone.granted ≡ None → alone.plain ≡ [] → has_lock plan.operation.ask ≡ true →
-    Awaits seals (record plan { stage = Waiting }) op alone Calls.Ask
-awaits-asks seals plan op alone supplied operation ungranted plain has =
-    asks refl supplied operation ungranted plain has
-
 pub goes-waiting : (seals : Seals) (plan : Plan) (other : ℕ) →
     Goes seals plan (Answers.Waiting other) (record plan { stage = Waiting }) (Nexts.Call Calls.Ask)
 unfolding Goes
 goes-waiting seals plan other op alone _ lane (refuses stage asked none) may = absurd (may.0 stage)
 goes-waiting seals plan other op alone _ lane (begins stage supplied none) may =
-    follows-call seals _ op _ _ Calls.Ask refl
-    (awaits-asks seals plan op _ supplied refl refl refl may.1)
+    follows-call _ refl (asks refl supplied refl refl refl may.1)
 goes-waiting seals plan other op alone _ lane (asks stage supplied operation ungranted plain has)
-    may =
-    follows-call seals _ op _ _ Calls.Ask refl
-    (awaits-asks seals plan op _ supplied operation refl plain has)
-goes-waiting seals plan other op alone _ lane (reads _ _ _ _ _ _ _ _) may = absurd may
-goes-waiting seals plan other op alone _ lane (writes _ _ _ _ _ _) may = absurd may
-goes-waiting seals plan other op alone _ lane (settles _ _ _ _ _) may = absurd may
-goes-waiting seals plan other op alone _ lane (finishes _ _) may = absurd may
+    may = follows-call _ refl (asks refl supplied operation refl plain has)
+goes-waiting seals plan other op alone _ lane _ may = absurd may
 
 -- plans that have made no call
-at-admit : (session : ℕ) (ask : Ask) (plan : Plan) (op : Op) (alone : Alone) (seals : Seals) →
-    plan.operation.session ≡ session → plan.operation.ask ≡ ask →
-    Awaits seals plan op alone (Calls.Admit plan.operation.session plan.operation.ask) →
-    Awaits seals plan op alone (Calls.Admit session ask)
-at-admit session ask plan op alone seals session_is ask_is awaits =
-    subst (λ s. Awaits seals plan op alone (Calls.Admit s ask)) session_is
-    (subst (λ a. Awaits seals plan op alone (Calls.Admit plan.operation.session a)) ask_is awaits)
-
-pub awaits-refusal : (seals : Seals) (plan : Plan) (op : Op) (alone : Alone) (session : ℕ) →
+pub awaits-refusal : {seals : Seals} (plan : Plan) (op : Op) {alone : Alone} (session : ℕ) →
     alone.operation ≡ None → plan.operation.session ≡ session → plan.operation.ask ≡ ask_of op →
     plan.stage ≡ Refusing → Awaits seals plan op alone (Calls.Admit session (ask_of op))
-awaits-refusal seals plan op alone session none session_is asked stage =
-    at-admit session (ask_of op) plan op alone seals session_is asked (refuses stage asked none)
+awaits-refusal plan op session none session_is asked stage =
+    rw (← session_is, ← asked) (refuses stage asked none)
 
 -- the buffer of an operation, made long enough
 body-in : (op : Op) (before whole : List ℕ) (len : ℕ) →
-    ((offset : ℕ) (body : List ℕ) (fua : Bool) → op ≡ Ops.Write offset body fua →
-    take (length body) before ≡ body) →
+    ((offset : ℕ) (body : List ℕ) (fua : Rattle.std.proofs.Common.Bool) →
+    op ≡ Ops.Write offset body fua → take (length body) before ≡ body) →
     len ≡ bytes_of (ask_of op) → length whole ≡ max (length before) len →
     take (length before) whole ≡ before → HasRest whole op
 body-in (Ops.Read offset size) before whole len body is long front =
@@ -202,26 +205,28 @@ body-in (Ops.Write offset text fua) before whole len body is long front =
     ∙ ap (λ xs. take (length text) xs) front ∙ has
 body-in Ops.Flush before whole len body is long front = tt
 
-pub awaits-admit : (seals : Seals) (plan : Plan) (op : Op) (alone : Alone) (session : ℕ)
+pub awaits-admit : {seals : Seals} (plan : Plan) (op : Op) {alone : Alone} (session : ℕ)
     (shape : Shape) (before part : List ℕ) (len room : ℕ) → alone.operation ≡ None →
     plan.operation.session ≡ session →
     plan.operation.ask ≡ ask_of op → plan.stage ≡ Beginning → plan.shape ≡ shape → IsShape shape →
     wrong_ask shape.atom (shape.blocks * shape.atom) (ask_of op) ≡ None →
-    ((offset : ℕ) (body : List ℕ) (fua : Bool) → op ≡ Ops.Write offset body fua →
-    take (length body) before ≡ body) → len ≡ bytes_of (ask_of op) →
+    ((offset : ℕ) (body : List ℕ) (fua : Rattle.std.proofs.Common.Bool) →
+    op ≡ Ops.Write offset body fua → take (length body) before ≡ body) →
+    len ≡ bytes_of (ask_of op) →
     length plan.whole ≡ max (length before) len → take (length before) plan.whole ≡ before →
     length plan.part ≡ max (length part) room → room ≡ part_of shape.atom (ask_of op) →
     Awaits seals plan op alone (Calls.Admit session (ask_of op))
-awaits-admit seals plan op alone session shape before part len room none session_is asked stage
+awaits-admit plan op session shape before part len room none session_is asked stage
     shape_is known proper body len_is long front as_long room_is =
-    at-admit session (ask_of op) plan op alone seals session_is asked (begins stage (record {
+    let supplied : IsSupplied plan.shape plan.operation plan.whole plan.part op = record {
       known = rw shape_is known;
       asks = asked;
       proper = rw (shape_is, asked) proper;
       rest = body-in op before plan.whole len body len_is long front;
       room = rw (shape_is, asked) (let m : room ≤ max (length part) room =
           le-max_right (length part) room in omega (arith, m, room_is, as_long));
-    }) none)
+    } in
+    rw (← session_is, ← asked) (begins stage supplied none)
 
 -- what a grant of a plan's blocks is, to those who know its first call
 pub grant-for : (plan : Plan) (grant : Grant) (session : ℕ) (ask : Ask) →
@@ -234,6 +239,5 @@ grant-for plan grant session ask first atom blocks range =
     record {
       atom = atom;
       blocks = blocks;
-      range_is = range
-          ∙ ap (λ a. range_of plan.shape.atom a) (sym same);
+      range_is = range ∙ ap (λ a. range_of plan.shape.atom a) (sym same);
     }

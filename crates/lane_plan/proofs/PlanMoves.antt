@@ -1,108 +1,105 @@
 -- What a plan is told of its pieces.
-use Rattle.std.proofs.Common.{◌≡◌, ◌+◌, ◌-◌, ◌*◌, ◌^◌, ◌<◌, ◌≤◌, ℕ, List, [], ◌++◌, length, take}
-use Rattle.std.proofs.Common.{Option, Some, refl, sym, ◌∙◌, ap, arith}
-use Rattle.std.proofs.Math.Nat.{mul-le-mul_right}
+use Rattle.std.specs.Prelude.{option_map}
+use Rattle.std.proofs.Common.{◌≡◌, inl, inr, ◌+◌, ◌-◌, ◌*◌, ◌/◌, ◌^◌, ◌<◌, ◌≤◌, ℕ, List, ◌++◌}
+use Rattle.std.proofs.Common.{length, take, Option, Some, refl, sym, ◌∙◌, ap, subst, arith}
+use Rattle.std.proofs.Common.{length-append}
+use Rattle.std.proofs.Math.Nat.{mul-div_left, mul-le-mul_right}
 use Rattle.std.proofs.lemmas.List.{length-take-le}
 use Rattle.sector_disk.specs.Geometry.{IsAtom}
 use Rattle.plain_disk.specs.declared.operation.Op.{Op}
+use Rattle.plain_disk.specs.declared.operation.Op.TheVariants as Ops
+use Rattle.segment_map.specs.declared.Side.{Side}
 use Rattle.segment_map.specs.declared.map.Map.{Map}
 use Rattle.segment_map.specs.declared.map.Piece.{Piece}
-use Rattle.volume_machine.specs.Alone.{Alone, after_got, after_put, alone_after, answered_alone}
-use Rattle.volume_machine.specs.Alone.{opened_by, with_piece}
+use Rattle.volume_machine.specs.Alone.{Alone, opened_by, passed, with_piece}
 use Rattle.volume_machine.specs.Asks.{IsRead}
-use Rattle.volume_machine.specs.Events.{got, done}
-use Rattle.volume_machine.specs.Pieces.{IsPieceOf, moved}
+use Rattle.volume_machine.specs.Pieces.{IsPieceOf, known_side, moved}
 use Rattle.volume_machine.specs.Seals.{KeysFit, Seals}
 use Rattle.volume_machine.specs.declared.keys.Keys.{Keys}
 use Rattle.volume_machine.proofs.KeyLemmas.{fewer-blocks}
 use Rattle.volume_machine.specs.declared.open.Open.{Open}
-use Rattle.lane_plan.specs.Calls.{event_of}
-use Rattle.lane_plan.specs.Plans.{Awaits, refuses, begins, asks, reads, writes, settles, finishes}
-use Rattle.lane_plan.specs.Plans.{HasPlace, IsBack, IsPart, IsTakenIn, IsTold, MayAnswer, Moves}
-use Rattle.lane_plan.specs.Plans.{bytes_of}
+use Rattle.lane_plan.specs.Calls.{ask_of}
+use Rattle.lane_plan.specs.Plans.{reads, writes, HasPlace, HasPlain, HasRest, IsBack, IsOnly}
+use Rattle.lane_plan.specs.Plans.{IsPart, IsTakenIn, IsTold, Moves, bytes_of, calls_left, left_at}
+use Rattle.lane_plan.specs.Plans.{place_in}
 use Rattle.lane_plan.specs.declared.calls.Answer.TheVariants as Answers
-use Rattle.lane_plan.specs.declared.calls.Call.{Call}
 use Rattle.lane_plan.specs.declared.plan.Plan.{Plan}
 use Rattle.lane_plan.specs.declared.plan.Stage.TheVariants.{Moving}
-use Rattle.lane_plan.proofs.PlanReads.{TakesIn, back-read, back-written, known-opened, passed-moved}
-use Rattle.lane_plan.proofs.PlanPieces.{all-bytes}
-use Rattle.lane_plan.proofs.PlanSizes.{blocks-small, rest-long, some-atom}
-use Rattle.lane_plan.proofs.PlanWrites.{ends-within}
+use Rattle.lane_plan.proofs.PlanBegins.{IsBackBy}
+use Rattle.lane_plan.proofs.PlanCourse.{all-bytes, ends-within, none-before, only-or-part}
+use Rattle.lane_plan.proofs.PlanSizes.{blocks-small, rest-long, size-more, some-atom}
+use Rattle.lane_plan.proofs.PlanCourse.{of-body}
 
--- a plan that awaits a piece's answer
-pub record AwaitsPiece (plan : Plan) (room : ℕ) : Type 0 where
+-- a plan that awaits the answer to a piece's read or write
+pub record AwaitsPiece (plan : Plan) (map : Map) (piece : Piece) (room : ℕ) : Type 0 where
   pub op : Op
   pub alone : Alone
-  pub map : Map
-  pub piece : Piece
   pub moves : Moves plan op alone map piece room
 
-pub record AwaitsRead (plan : Plan) (room len : ℕ) : Type 0 where
-  pub piece_is : AwaitsPiece plan room
-  pub size : len ≡ piece_is.piece.count * plan.shape.atom
+pub record AwaitsRead (plan : Plan) (map : Map) (piece : Piece) (room len : ℕ) : Type 0 where
+  pub awaits : AwaitsPiece plan map piece room
+  pub size : len ≡ piece.count * plan.shape.atom
   pub within : len ≤ room
 
 pub told-got : (seals : Seals) (plan : Plan) (buffer : List ℕ) (len : ℕ) →
-    IsTold seals plan (Answers.Got buffer len) → AwaitsRead plan (length buffer) len
+    IsTold seals plan (Answers.Got buffer len) →
+    (map : Map) × (piece : Piece) × AwaitsRead plan map piece (length buffer) len
 unfolding IsTold
-told-got seals plan buffer len (_, _, _, refuses _ _ _, may) = absurd may
-told-got seals plan buffer len (_, _, _, begins _ _ _, may) = absurd may
-told-got seals plan buffer len (_, _, _, asks _ _ _ _ _ _, may) = absurd may
-told-got seals plan buffer len (
-  op,
-  alone,
-  _,
-  reads map piece lent n moves reading size within,
-  may,
-) = record {
-  piece_is = record {
-    op = op;
-    alone = alone;
-    map = map;
-    piece = piece;
-    moves = (let same = may.1 in rw same moves);
-  };
-  size = may.0 ∙ size;
-  within = (let same = may.1 in let is = may.0 in omega (arith, same, is, within));
-}
-told-got seals plan buffer len (_, _, _, writes _ _ _ _ _ _, may) = absurd may
-told-got seals plan buffer len (_, _, _, settles _ _ _ _ _, may) = absurd may
-told-got seals plan buffer len (_, _, _, finishes _ _, may) = absurd may
+told-got seals plan buffer len
+    (op, alone, _, reads map piece lent n moves reading size within, may) =
+    let same = may.1 in
+    let is = may.0 in
+    let it : AwaitsRead plan map piece (length buffer) len = record {
+      awaits = record { op = op; alone = alone; moves = rw same moves };
+      size = is ∙ size;
+      within = omega (arith, same, is, within);
+    } in
+    (map, piece, it)
+told-got seals plan buffer len (op, alone, _, _, may) = absurd may
 
 pub told-written : (seals : Seals) (plan : Plan) (buffer : List ℕ) →
-    IsTold seals plan (Answers.Written buffer) → AwaitsPiece plan (length buffer)
+    IsTold seals plan (Answers.Written buffer) →
+    (map : Map) × (piece : Piece) × AwaitsPiece plan map piece (length buffer)
 unfolding IsTold
-told-written seals plan buffer (_, _, _, refuses _ _ _, may) = absurd may
-told-written seals plan buffer (_, _, _, begins _ _ _, may) = absurd may
-told-written seals plan buffer (_, _, _, asks _ _ _ _ _ _, may) = absurd may
-told-written seals plan buffer (_, _, _, reads _ _ _ _ _ _ _ _, may) = absurd may
 told-written seals plan buffer (op, alone, _, writes map piece prepared moves writing sealed, may) =
-    record {
-      op = op;
-      alone = alone;
-      map = map;
-      piece = piece;
-      moves = (let same = may in rw same moves);
-    }
-told-written seals plan buffer (_, _, _, settles _ _ _ _ _, may) = absurd may
-told-written seals plan buffer (_, _, _, finishes _ _, may) = absurd may
+    (map, piece, record { op = op; alone = alone; moves = rw may moves })
+told-written seals plan buffer (op, alone, _, _, may) = absurd may
 
--- it is the one of the stage
-pub same-map : (plan : Plan) (room : ℕ) (map : Map) (piece : Piece)
-    (awaits : AwaitsPiece plan room) → plan.stage ≡ Moving map piece → awaits.map ≡ map
-same-map plan room map piece awaits is = (let other = awaits.moves.stage in cc)
+-- it is the piece of the stage
+same-piece : (plan : Plan) {m map : Map} {p piece : Piece} → plan.stage ≡ Moving m p →
+    plan.stage ≡ Moving map piece → (m ≡ map) × (p ≡ piece)
+same-piece plan is other = (cc, cc)
 
-pub same-piece : (plan : Plan) (room : ℕ) (map : Map) (piece : Piece)
-    (awaits : AwaitsPiece plan room) → plan.stage ≡ Moving map piece → awaits.piece ≡ piece
-same-piece plan room map piece awaits is = (let other = awaits.moves.stage in cc)
+moves-by : {plan : Plan} {op : Op} {alone : Alone} {m map : Map} {p piece : Piece} {room : ℕ} →
+    Moves plan op alone m p room → plan.stage ≡ Moving map piece →
+    Moves plan op alone map piece room
+moves-by {plan} moves is = (let same = same-piece plan moves.stage is in
+    let map_is = same.0 in let piece_is = same.1 in rw (map_is, piece_is) at moves)
 
-one-map : (plan : Plan) (m map : Map) (p piece : Piece) → plan.stage ≡ Moving m p →
-    plan.stage ≡ Moving map piece → m ≡ map
-one-map plan m map p piece is other = cc
+pub got-here : (seals : Seals) (plan : Plan) {map : Map} {piece : Piece} (buffer : List ℕ)
+    (len : ℕ) → IsTold seals plan (Answers.Got buffer len) → plan.stage ≡ Moving map piece →
+    AwaitsRead plan map piece (length buffer) len
+got-here seals plan buffer len told is = (let (m, p, it) = told-got seals plan buffer len told in
+    let same = same-piece plan it.awaits.moves.stage is
+    in let map_is = same.0 in let piece_is = same.1 in rw (map_is, piece_is) at it)
 
-one-piece : (plan : Plan) (m map : Map) (p piece : Piece) → plan.stage ≡ Moving m p →
-    plan.stage ≡ Moving map piece → p ≡ piece
-one-piece plan m map p piece is other = cc
+pub written-here : (seals : Seals) (plan : Plan) {map : Map} {piece : Piece} (buffer : List ℕ) →
+    IsTold seals plan (Answers.Written buffer) → plan.stage ≡ Moving map piece →
+    AwaitsPiece plan map piece (length buffer)
+written-here seals plan buffer told is = (let (m, p, it) = told-written seals plan buffer told in
+    let same = same-piece plan it.moves.stage is
+    in let map_is = same.0 in let piece_is = same.1 in rw (map_is, piece_is) at it)
+
+-- the bytes of the next piece are opened as the lane knows them
+known-opened : (seals : Seals) (map : Map) (o : Open) (piece : Piece) (sealed : List ℕ) →
+    IsPieceOf map o piece →
+    opened_by seals map (Some o) sealed ≡ seals.opened piece.side piece.first sealed
+known-opened seals map o piece sealed next =
+    let first = next.first in
+    let none : o.next + 0 ≡ o.next = omega arith in
+    let at = rw none at (next.one_side 0 next.some) in
+    ap (λ (x : Option Side). seals.opened (known_side x) o.next sealed) at
+    ∙ ap (λ (k : ℕ). seals.opened piece.side k sealed) (sym first)
 
 -- the plain bytes with those of the piece
 pub with-opened : (seals : Seals) (alone : Alone) (map : Map) (o : Open) (piece : Piece)
@@ -114,135 +111,214 @@ with-opened seals alone map o piece sealed operation granted next =
     ∙ ap (λ (x : Option Open). alone.plain ++ opened_by seals map x sealed) operation
     ∙ ap (λ xs. alone.plain ++ xs) (known-opened seals map o piece sealed next)
 
-moves-by : (plan : Plan) (op : Op) (alone : Alone) (m map : Map) (p piece : Piece) (room : ℕ) →
-    Moves plan op alone m p room → plan.stage ≡ Moving map piece →
-    Moves plan op alone map piece room
-moves-by plan op alone m map p piece room moves is =
-    let map_is = one-map plan m map p piece moves.stage is in
-    let piece_is = one-piece plan m map p piece moves.stage is in
-    rw (map_is, piece_is) at moves
+-- the operation is then behind the piece
+passed-moved : (map : Map) (o : Open) (piece : Piece) (atom : ℕ) (sealed : List ℕ) →
+    IsPieceOf map o piece → 0 < atom → length sealed ≡ piece.count * atom →
+    passed atom sealed o ≡ moved o piece
+passed-moved map o piece atom sealed next some size =
+    let count : length sealed / atom ≡ piece.count = rw size (mul-div_left piece.count some) in
+    let first = next.first in
+    ap (λ (k : ℕ). the-open o k) (omega (arith, count, first)) where
+      the-open : Open → ℕ → Open
+      the-open o k = record o { next = k }
+
+pub mapped : (f : Open → Open) {o now : Open} {x : Option Open} → x ≡ Some o → f o ≡ now →
+    option_map f x ≡ Some now
+mapped f is same = ap (λ (x : Option Open). option_map f x) is ∙ ap (λ (o : Open). Some o) same
+
+-- a part isn't the last of all where there is more
+more-left : (o : Open) (map : Map) (piece : Piece) → IsPieceOf map o piece →
+    o.range.start ≤ o.next → (moved o piece).next < o.range.end → IsPart o piece
+more-left o map piece next starts less same = (let first = next.first in let some = next.some in
+    omega (arith, same, first, some, less, starts))
+
+-- the plan behind a piece
+behind : (old now : Plan) (o : Open) (piece : Piece) →
+    now ≡ record old { whole = now.whole; part = now.part } → o ≡ moved now.operation piece →
+    record now { operation = o } ≡ record old {
+      operation = moved old.operation piece;
+      whole = now.whole;
+      part = now.part;
+    }
+behind old now o piece same is =
+    ap (λ (q : Plan). with-these q o now) same
+    ∙ ap (λ (p : Open). with-these old p now) (is ∙ ap (λ (q : Plan). moved q.operation piece) same)
+  where
+    with-these : Plan → Open → Plan → Plan
+    with-these q o now = record q { operation = o; whole = now.whole; part = now.part }
+
+back-moved : (old now : Plan) (op : Op) (alone after : Alone) (map : Map) (piece : Piece) (room : ℕ)
+    (o : Open) (more : List ℕ) → Moves old op alone map piece room →
+    now ≡ record old { whole = now.whole; part = now.part } → o ≡ moved now.operation piece →
+    after.operation ≡ Some (moved old.operation piece) → after.granted ≡ Some map →
+    after.plain ≡ alone.plain ++ more → length more ≡ piece.count * old.shape.atom →
+    HasPlain now.whole op (alone.plain ++ more) →
+    (IsPart old.operation piece → HasRest now.whole op × (length now.part ≡ room)) →
+    IsBack (record now { operation = o }) op after map
+back-moved old now op alone after map piece room o more moves same is operation granted plain size
+    has kept =
+    let course = moves.course in
+    let next = moves.next in
+    let first = next.first in
+    let within = next.within in
+    let starts = course.starts in
+    let other = λ (less : (moved old.operation piece).next < old.operation.range.end).
+    more-left old.operation map piece next starts less in
+    subst (λ (p : Plan). IsBack p op after map) (sym (behind old now o piece same is)) (record {
+      course = record {
+        known = course.known;
+        operation = operation;
+        granted = granted;
+        asks = course.asks;
+        atom = course.atom;
+        blocks = course.blocks;
+        proper = course.proper;
+        range_is = course.range_is;
+        inside = course.inside;
+        starts = omega (arith, starts, first);
+        within = omega (arith, within, first);
+        unfailed = course.unfailed;
+        unsettled = course.unsettled;
+        size = ap (λ xs. length xs) plain ∙ length-append alone.plain more
+            ∙ (let so_far = course.size in
+            let sum = size-more old.operation.range.start old.operation.next piece.count
+            (piece.first + piece.count) old.shape.atom starts (omega (arith, first)) in
+            omega (arith, so_far, sum, size));
+      };
+      plain = rw plain has;
+      rest = λ less. (kept (other less)).0;
+      part = λ less. (let room_is = (kept (other less)).1 in rw room_is (moves.part (other less)));
+    })
+
+-- the read of a piece
+read-part : (op : Op) (whole other plain more : List ℕ) (at n : ℕ) → IsRead (ask_of op) →
+    at ≡ length plain → length more ≡ n →
+    take (at + n) other ≡ take at whole ++ more → HasPlain whole op plain →
+    HasPlain other op (plain ++ more)
+read-part (Ops.Read offset len) whole other plain more at n reading is size front so_far =
+    ap (λ k. take k other) (length-append plain more ∙ (omega (arith, is, size))) ∙ front
+    ∙ ap (λ xs. xs ++ more) (ap (λ k. take k whole) is ∙ so_far)
+read-part _ whole other plain more at n reading is size front so_far = absurd reading
+
+read-rest : (op : Op) (whole other : List ℕ) → IsRead (ask_of op) → length other ≡ length whole →
+    HasRest whole op → HasRest other op
+read-rest (Ops.Read offset len) whole other reading same rest = rw same rest
+read-rest _ whole other reading same rest = absurd reading
 
 -- a piece was read
-got-moves : (seals : Seals) (plan : Plan) (op : Op) (alone : Alone) (map : Map) (piece : Piece)
-    (buffer whole part : List ℕ) (len room : ℕ) →
-    Moves plan op alone map piece room → IsRead plan.operation.ask →
-    len ≡ piece.count * plan.shape.atom → len ≤ length buffer →
-    length (seals.opened piece.side piece.first (take len buffer)) ≡ len →
-    TakesIn plan piece len (seals.opened piece.side piece.first (take len buffer)) whole part →
-    (IsPart plan.operation piece → length part ≡ room) → (lane : ℕ) →
-    IsBack (record plan { operation = moved plan.operation piece; whole = whole; part = part }) op
-    (alone_after plan.shape.atom seals alone (Rattle.volume_machine.specs.Events.reads lane len)
-    (got (take len buffer))) map
-got-moves seals plan op alone map piece buffer whole part len room moves reading size within opened
-    takes back lane =
+pub back-got : (seals : Seals) (old now : Plan) (map : Map) (piece : Piece) (o : Open)
+    (buffer unsealed : List ℕ) (len : ℕ) → old.stage ≡ Moving map piece →
+    take len unsealed ≡ seals.opened piece.side piece.first (take len buffer) →
+    length unsealed ≡ length buffer → (IsOnly old.operation piece → now.whole ≡ unsealed) →
+    (IsPart old.operation piece → IsTakenIn old now piece len unsealed) →
+    now ≡ record old { whole = now.whole; part = now.part } → o ≡ moved now.operation piece →
+    IsBackBy seals old (Answers.Got buffer len) (record now { operation = o }) map
+back-got seals old now map piece o buffer unsealed len stage front long only part same is op alone _
+    lane (reads m p lent n moved_here reading size_is within) may =
+    let moves = moves-by moved_here stage in
     let course = moves.course in
-    let long : length (take len buffer) ≡ piece.count * plan.shape.atom =
-    length-take-le len buffer within ∙ size in
-    let sealed = take len buffer in
-    back-read plan op alone (alone_after plan.shape.atom seals alone
-    (Rattle.volume_machine.specs.Events.reads lane len) (got sealed)) map piece room len
-    (seals.opened piece.side piece.first sealed) whole part moves reading opened size takes back
-    (ap (λ (x : Option Open). Rattle.std.specs.Prelude.option_map
-    (after_got plan.shape.atom (got sealed)) x) course.operation
-    ∙ ap (λ (o : Open). Some o) (passed-moved map plan.operation piece plan.shape.atom sealed
-    moves.next (some-atom plan.shape.atom course.known.known) long))
-    course.granted (with-opened seals alone map plan.operation piece sealed course.operation
-    course.granted moves.next)
-
-pub back-got : (seals : Seals) (plan : Plan) (op : Op) (alone : Alone) (call : Call) (lane : ℕ)
-    (map : Map) (piece : Piece) (buffer whole part : List ℕ) (len : ℕ) →
-    Awaits seals plan op alone call → MayAnswer plan call (Answers.Got buffer len) →
-    plan.stage ≡ Moving map piece →
-    length (seals.opened piece.side piece.first (take len buffer)) ≡ len →
-    TakesIn plan piece len (seals.opened piece.side piece.first (take len buffer)) whole part →
-    (IsPart plan.operation piece → length part ≡ length buffer) →
-    (answered_alone alone (event_of lane call) (got (take len buffer)) ≡ [])
-    × IsBack (record plan { operation = moved plan.operation piece; whole = whole; part = part }) op
-    (alone_after plan.shape.atom seals alone (event_of lane call) (got (take len buffer))) map
-back-got seals plan op alone _ lane map piece buffer whole part len (refuses _ _ _) may is opened
-    takes back = absurd may
-back-got seals plan op alone _ lane map piece buffer whole part len (begins _ _ _) may is opened
-    takes back = absurd may
-back-got seals plan op alone _ lane map piece buffer whole part len (asks _ _ _ _ _ _) may is opened
-    takes back = absurd may
-back-got seals plan op alone _ lane map piece buffer whole part len
-    (reads m p lent n moves reading size within) may is opened takes back =
-    let here = moves-by plan op alone m map p piece (length lent) moves is in
-    let piece_is = one-piece plan m map p piece moves.stage is in
+    let next = moves.next in
     let as_long = may.1 in
     let len_is = may.0 in
-    let n_is : n ≡ len = sym len_is in (
+    let size : len ≡ piece.count * old.shape.atom = len_is ∙ size_is
+    ∙ ap (λ (q : Piece). q.count * old.shape.atom) (same-piece old moved_here.stage stage).1 in
+    let fits : len ≤ length buffer = omega (arith, as_long, len_is, within) in
+    let sealed = take len buffer in
+    let more = seals.opened piece.side piece.first sealed in
+    let more_size : length more ≡ len = ap (λ xs. length xs) (sym front)
+    ∙ length-take-le len unsealed (omega (arith, long, fits)) in
+    let reading_op = subst (λ a. IsRead a) course.asks reading in
+    let has : HasPlain now.whole op (alone.plain ++ more) = elim (only-or-part course next) [
+      | inl all ↦ read-part op old.whole now.whole alone.plain more 0 len reading_op
+          (sym (ap (λ xs. length xs) (none-before course next all))) more_size
+          (ap (λ k. take k now.whole) (omega arith) ∙ ap (λ xs. take len xs) (only all) ∙ front)
+          moves.plain
+      | inr other ↦ read-part op old.whole now.whole alone.plain more (place_in old piece) len
+          reading_op (ap (λ k. (k - old.operation.range.start) * old.shape.atom) next.first
+          ∙ sym course.size) more_size ((part other).front
+          ∙ ap (λ xs. take (place_in old piece) old.whole ++ xs) front) moves.plain
+    ] in (
       refl,
-      got-moves seals plan op alone map piece buffer whole part len (length lent) here reading
-          (len_is ∙ size ∙ ap (λ (q : Piece). q.count * plan.shape.atom) piece_is)
-          (omega (arith, as_long, len_is, within)) opened takes (λ other. back other ∙ as_long)
-          lane,
+      back-moved old now op alone _ map piece _ o more moves same is
+          (mapped _ course.operation
+          (passed-moved map old.operation piece old.shape.atom sealed next
+          (some-atom old.shape.atom course.known.known) (length-take-le len buffer fits ∙ size)))
+          course.granted
+          (with-opened seals alone map old.operation piece sealed course.operation course.granted
+          next)
+          (more_size ∙ size) has (λ other. (
+            read-rest op old.whole now.whole reading_op (part other).whole (moves.rest other),
+            ap (λ xs. length xs) (part other).part ∙ long ∙ as_long,
+          )),
     )
-back-got seals plan op alone _ lane map piece buffer whole part len (writes _ _ _ _ _ _) may is
-    opened takes back = absurd may
-back-got seals plan op alone _ lane map piece buffer whole part len (settles _ _ _ _ _) may is
-    opened takes back = absurd may
-back-got seals plan op alone _ lane map piece buffer whole part len (finishes _ _) may is opened
-    takes back = absurd may
+back-got seals old now map piece o buffer unsealed len stage front long only part same is op alone _
+    lane _ may = absurd may
 
 -- a piece was written
-pub back-put : (seals : Seals) (plan : Plan) (op : Op) (alone : Alone) (call : Call) (lane : ℕ)
-    (map : Map) (piece : Piece) (buffer whole part : List ℕ) →
-    Awaits seals plan op alone call → MayAnswer plan call (Answers.Written buffer) →
-    plan.stage ≡ Moving map piece →
-    (IsPart plan.operation piece → (whole ≡ plan.whole) × (part ≡ buffer)) →
-    (answered_alone alone (event_of lane call) done ≡ [])
-    × IsBack (record plan { operation = moved plan.operation piece; whole = whole; part = part }) op
-    (alone_after plan.shape.atom seals alone (event_of lane call) done) map
-back-put seals plan op alone _ lane map piece buffer whole part (refuses _ _ _) may is back =
-    absurd may
-back-put seals plan op alone _ lane map piece buffer whole part (begins _ _ _) may is back =
-    absurd may
-back-put seals plan op alone _ lane map piece buffer whole part (asks _ _ _ _ _ _) may is back =
-    absurd may
-back-put seals plan op alone _ lane map piece buffer whole part (reads _ _ _ _ _ _ _ _) may is
-    back = absurd may
-back-put seals plan op alone _ lane map piece buffer whole part
-    (writes m p prepared moves writing sealed) may is back =
-    let here = moves-by plan op alone m map p piece prepared.room moves is in
-    let piece_is = one-piece plan m map p piece moves.stage is in
-    let made = rw piece_is at sealed in
-    let course = here.course in (
+pub back-put : (seals : Seals) (old now : Plan) (map : Map) (piece : Piece) (o : Open)
+    (buffer : List ℕ) → old.stage ≡ Moving map piece →
+    (IsPart old.operation piece → (now.whole ≡ old.whole) × (now.part ≡ buffer)) →
+    now ≡ record old { whole = now.whole; part = now.part } → o ≡ moved now.operation piece →
+    IsBackBy seals old (Answers.Written buffer) (record now { operation = o }) map
+back-put seals old now map piece o buffer stage back same is op alone _ lane
+    (writes m p prepared moved_here writing sealed_here) may =
+    let moves = moves-by moved_here stage in
+    let course = moves.course in
+    let piece_is = (same-piece old moved_here.stage stage).1 in
+    let sealed = rw piece_is at sealed_here in
+    let writing_op =
+    subst (λ a. Rattle.volume_machine.specs.Asks.IsWrite a) course.asks writing in (
       refl,
-      back-written plan op alone (alone_after plan.shape.atom seals alone
-          (Rattle.volume_machine.specs.Events.writes lane prepared.bytes) done) map piece
-          prepared.room
-          (seals.opened piece.side piece.first prepared.bytes) whole part here writing
-          made.opened_size made.so_far
-          (λ other. ((back other).0, ap (λ xs. length xs) (back other).1 ∙ may))
-          (ap (λ (x : Option Open). Rattle.std.specs.Prelude.option_map
-          (after_put plan.shape.atom prepared.bytes done) x) course.operation
-          ∙ ap (λ (o : Open). Some o) (passed-moved map plan.operation piece plan.shape.atom
-          prepared.bytes here.next (some-atom plan.shape.atom course.known.known) made.size))
-          course.granted (with-opened seals alone map plan.operation piece prepared.bytes
-          course.operation course.granted here.next),
+      back-moved old now op alone _ map piece _ o
+          (seals.opened piece.side piece.first prepared.bytes) moves same is
+          (mapped _ course.operation
+          (passed-moved map old.operation piece old.shape.atom prepared.bytes
+          moves.next (some-atom old.shape.atom course.known.known) sealed.size)) course.granted
+          (with-opened seals alone map old.operation piece prepared.bytes course.operation
+          course.granted
+          moves.next) sealed.opened_size (of-body old.whole now.whole op _ writing_op sealed.so_far)
+          (λ other. (let whole = (back other).0 in
+          (rw whole (moves.rest other), ap (λ xs. length xs) (back other).1 ∙ may))),
     )
-back-put seals plan op alone _ lane map piece buffer whole part (settles _ _ _ _ _) may is back =
-    absurd may
-back-put seals plan op alone _ lane map piece buffer whole part (finishes _ _) may is back =
-    absurd may
+back-put seals old now map piece o buffer stage back same is op alone _ lane _ may = absurd may
+
+-- a piece leaves as many calls as blocks are left after it
+pub fewer-moved : {old : Plan} {map : Map} {piece : Piece} {room : ℕ} (new : Plan) →
+    AwaitsPiece old map piece room →
+    calls_left new ≤ 1 + (old.operation.range.end - (piece.first + piece.count)) →
+    calls_left new < calls_left old
+unfolding calls_left
+fewer-moved {old} new awaits most =
+    let next = awaits.moves.next in
+    let left = ap (λ s. left_at old.shape.atom old.operation s) awaits.moves.stage in
+    let first = next.first in
+    let some = next.some in
+    let within = next.within in
+    omega (arith, left, first, some, within, most)
+
+-- it leaves itself and as many as blocks are left
+pub fewer-next : (old new : Plan) {map : Map} {piece : Piece} →
+    new ≡ record old { stage = Moving map piece; whole = new.whole; part = new.part } →
+    calls_left new ≤ 1 + (old.operation.range.end - old.operation.next)
+unfolding calls_left
+fewer-next old new is =
+    let at = ap (λ (p : Plan). left_at p.shape.atom p.operation p.stage) is in omega (arith, at)
 
 -- what a piece needs of its plan
-pub record IsSafe {C : Type 0} (sector : C → ℕ) (keys : Keys C) (plan : Plan) (piece : Piece) : Type
-    0 where
+pub record IsSafe {C : Type 0} (sector : C → ℕ) (keys : Keys C) (plan : Plan) (piece : Piece) :
+    Type 0 where
   pub known : IsAtom plan.shape.atom
   pub fits : KeysFit sector keys plan.shape.atom (piece.first + piece.count)
   pub order : plan.operation.range.start ≤ plan.operation.range.end
   pub few : piece.first + piece.count < 2 ^ 63
 
-safe-piece : {C : Type 0} (sector : C → ℕ) (keys : Keys C) (plan : Plan) (op : Op) (alone : Alone)
-    (map : Map) (piece : Piece) (room : ℕ) →
-    KeysFit sector keys plan.shape.atom plan.shape.blocks → Moves plan op alone map piece room →
-    IsSafe sector keys plan piece
-safe-piece sector keys plan op alone map piece room fits moves =
-    let course = moves.course in
-    let first = moves.next.first in
-    let within = moves.next.within in
+pub safe : {C : Type 0} (sector : C → ℕ) (keys : Keys C) {plan : Plan} {map : Map} {piece : Piece}
+    {room : ℕ} → KeysFit sector keys plan.shape.atom plan.shape.blocks →
+    AwaitsPiece plan map piece room → IsSafe sector keys plan piece
+safe sector keys {plan} {piece} fits awaits =
+    let course = awaits.moves.course in
+    let first = awaits.moves.next.first in
+    let within = awaits.moves.next.within in
     let inside = course.inside in
     let starts = course.starts in
     let stops = course.within in
@@ -256,69 +332,26 @@ safe-piece sector keys plan op alone map piece room fits moves =
       few = omega (arith, first, within, inside, few);
     }
 
-pub safe : {C : Type 0} (sector : C → ℕ) (keys : Keys C) (plan : Plan) (room : ℕ) (map : Map)
-    (piece : Piece) → KeysFit sector keys plan.shape.atom plan.shape.blocks →
-    AwaitsPiece plan room → plan.stage ≡ Moving map piece → IsSafe sector keys plan piece
-safe sector keys plan room map piece fits awaits is =
-    safe-piece sector keys plan awaits.op awaits.alone map piece room fits
-    (moves-by plan awaits.op awaits.alone awaits.map map awaits.piece piece room awaits.moves is)
-
-pub read-size : (plan : Plan) (room len : ℕ) (map : Map) (piece : Piece) →
-    AwaitsRead plan room len → plan.stage ≡ Moving map piece → len ≡ piece.count * plan.shape.atom
-read-size plan room len map piece awaits is =
-    awaits.size ∙ ap (λ (p : Piece). p.count * plan.shape.atom)
-    (same-piece plan room map piece awaits.piece_is is)
-
 -- where the piece goes in the whole buffer
-place-of-moves : (plan : Plan) (op : Op) (alone : Alone) (map : Map) (piece : Piece)
-    (room len : ℕ) → Moves plan op alone map piece room →
-    len ≡ piece.count * plan.shape.atom → IsPart plan.operation piece → HasPlace plan piece len
-place-of-moves plan op alone map piece room len moves size part =
+pub has-place : {plan : Plan} {map : Map} {piece : Piece} {room len : ℕ} →
+    AwaitsRead plan map piece room len → IsPart plan.operation piece → HasPlace plan piece len
+has-place {plan} {piece} it part =
+    let moves = it.awaits.moves in
     let course = moves.course in
     let first = moves.next.first in
     let starts = course.starts in
-    let ends = ends-within plan.shape plan.operation plan.whole op alone map piece course moves.next
-    in
-    let long = rest-long plan.whole op (moves.rest part) in
+    let ends = ends-within course moves.next in
+    let long = rest-long plan.whole it.awaits.op (moves.rest part) in
     let asks = ap (λ a. bytes_of a) course.asks in
-    let all = all-bytes plan.shape plan.operation plan.whole op alone map course in
+    let all = all-bytes course in
     let inside = course.inside in
     let most : (plan.operation.range.end - plan.operation.range.start)
     * plan.shape.atom ≤ plan.shape.blocks * plan.shape.atom =
     mul-le-mul_right plan.shape.atom (omega (arith, inside)) in
     let small = course.known.small in
+    let size = it.size in
     record {
       order = omega (arith, first, starts);
       small = omega (arith, ends, all, most, small);
       within = omega (arith, ends, long, asks, size);
     }
-
-pub has-place : (plan : Plan) (room len : ℕ) (map : Map) (piece : Piece) →
-    AwaitsRead plan room len → plan.stage ≡ Moving map piece → IsPart plan.operation piece →
-    HasPlace plan piece len
-has-place plan room len map piece awaits is part =
-    let it = awaits.piece_is in
-    place-of-moves plan it.op it.alone map piece room len
-    (moves-by plan it.op it.alone it.map map it.piece piece room it.moves is)
-    (read-size plan room len map piece awaits is) part
-
-pub taken-in : (old new : Plan) (piece : Piece) (len : ℕ) (buffer more : List ℕ) →
-    take len buffer ≡ more →
-    (piece.count ≡ old.operation.range.end - old.operation.range.start → new.whole ≡ buffer) →
-    (IsPart old.operation piece → IsTakenIn old new piece len buffer) →
-    TakesIn old piece len more new.whole new.part
-taken-in old new piece len buffer more is only part = record {
-  only = λ all. ap (λ xs. take len xs) (only all) ∙ is;
-  front = λ other. (part other).front ∙ ap (λ xs. take
-      ((piece.first - old.operation.range.start) * old.shape.atom) old.whole ++ xs) is;
-  long = λ other. (part other).whole;
-}
-
-pub not-moving : (plan : Plan) (room : ℕ) → AwaitsPiece plan room →
-    ((map : Map) (piece : Piece) → plan.stage ≡ Moving map piece → ⊥) → ⊥
-not-moving plan room awaits other = other awaits.map awaits.piece awaits.moves.stage
-
-pub opened-size : (buffer opened more : List ℕ) (len : ℕ) → take len opened ≡ more →
-    length opened ≡ length buffer → len ≤ length buffer → length more ≡ len
-opened-size buffer opened more len is same within = ap (λ xs. length xs) (sym is)
-    ∙ length-take-le len opened (omega (arith, same, within))

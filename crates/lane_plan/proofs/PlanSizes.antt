@@ -6,7 +6,7 @@ use Rattle.std.proofs.lemmas.Bool.{cases_lt}
 use Rattle.std.proofs.lemmas.Grind.{common_steps}
 use Rattle.std.proofs.lemmas.List.{length-take}
 use Rattle.plain_disk.specs.Operations.{wrong_range_of}
-use Rattle.plain_disk.proofs.RangeFacts.{range_of_proper, whole_blocks, blocks_within}
+use Rattle.plain_disk.proofs.RangeLemmas.{range_of_proper, whole_blocks, blocks_within}
 use Rattle.plain_disk.specs.declared.operation.Op.{Op}
 use Rattle.plain_disk.specs.declared.operation.Op.TheVariants as Ops
 use Rattle.sector_disk.specs.Geometry.{IsAtom}

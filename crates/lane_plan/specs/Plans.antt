@@ -88,23 +88,22 @@ pub record IsSupplied (shape : Shape) (o : Open) (whole part : List ℕ) (op : O
   pub room : part_of shape.atom o.ask ≤ length part
 
 -- an operation is under way under this map, and none of its calls failed
-pub record IsUnderWay (shape : Shape) (o : Open) (whole : List ℕ) (op : Op) (alone : Alone)
-    (map : Map) : Type 0 where
-  pub known : IsShape shape
-  pub operation : alone.operation ≡ Some o
-  pub granted : alone.granted ≡ Some map
-  pub asks : o.ask ≡ ask_of op
-  pub atom : map.atom ≡ shape.atom
-  pub blocks : map.blocks ≡ shape.blocks
-  pub proper : wrong_ask shape.atom (shape.blocks * shape.atom) o.ask ≡ None
-  pub range_is : o.range ≡ range_of shape.atom o.ask
-  pub inside : o.range.end ≤ shape.blocks
-  pub starts : o.range.start ≤ o.next
-  pub within : o.next ≤ o.range.end
-  pub unfailed : o.failed ≡ false
-  pub unsettled : o.settled ≡ false
-  pub size : length alone.plain ≡ (o.next - o.range.start) * shape.atom
-  pub plain : HasPlain whole op alone.plain
+pub record IsUnderWay (shape : Shape) (o : Open) (op : Op) (alone : Alone) (map : Map) : Type 0
+  where
+    pub known : IsShape shape
+    pub operation : alone.operation ≡ Some o
+    pub granted : alone.granted ≡ Some map
+    pub asks : o.ask ≡ ask_of op
+    pub atom : map.atom ≡ shape.atom
+    pub blocks : map.blocks ≡ shape.blocks
+    pub proper : wrong_ask shape.atom (shape.blocks * shape.atom) o.ask ≡ None
+    pub range_is : o.range ≡ range_of shape.atom o.ask
+    pub inside : o.range.end ≤ shape.blocks
+    pub starts : o.range.start ≤ o.next
+    pub within : o.next ≤ o.range.end
+    pub unfailed : o.failed ≡ false
+    pub unsettled : o.settled ≡ false
+    pub size : length alone.plain ≡ (o.next - o.range.start) * shape.atom
 
 -- a piece is all of an operation, or isn't
 abbrev pub IsOnly : Open → Piece → Type 0
@@ -115,7 +114,8 @@ IsPart o piece = piece.count ≢ o.range.end - o.range.start
 
 -- all pieces up to the next one were made, and the buffers are back
 pub record IsBack (plan : Plan) (op : Op) (alone : Alone) (map : Map) : Type 0 where
-  pub course : IsUnderWay plan.shape plan.operation plan.whole op alone map
+  pub course : IsUnderWay plan.shape plan.operation op alone map
+  pub plain : HasPlain plan.whole op alone.plain
   pub rest : plan.operation.next < plan.operation.range.end → HasRest plan.whole op
   pub part : plan.operation.next < plan.operation.range.end →
       part_of plan.shape.atom plan.operation.ask ≤ length plan.part
@@ -124,8 +124,9 @@ pub record IsBack (plan : Plan) (op : Op) (alone : Alone) (map : Map) : Type 0 w
 pub record Moves (plan : Plan) (op : Op) (alone : Alone) (map : Map) (piece : Piece)
     (room : ℕ) : Type 0 where
   pub stage : plan.stage ≡ Moving map piece
-  pub course : IsUnderWay plan.shape plan.operation plan.whole op alone map
+  pub course : IsUnderWay plan.shape plan.operation op alone map
   pub next : IsPieceOf map plan.operation piece
+  pub plain : HasPlain plan.whole op alone.plain
   pub rest : IsPart plan.operation piece → HasRest plan.whole op
   pub part : IsPart plan.operation piece → part_of plan.shape.atom plan.operation.ask ≤ room
 
@@ -168,7 +169,7 @@ pub data Awaits (seals : Seals) (plan : Plan) (op : Op) (alone : Alone) : Call �
       prepared.bytes →
       Awaits seals plan op alone (Calls.Write prepared)
   settles : (map : Map) → plan.stage ≡ Settling →
-      IsUnderWay plan.shape plan.operation plan.whole op alone map →
+      IsUnderWay plan.shape plan.operation op alone map → HasPlain plan.whole op alone.plain →
       CanSettle plan.operation → plan.operation.next ≡ plan.operation.range.end →
       Awaits seals plan op alone Calls.Settle
   finishes : plan.stage ≡ Ending → IsEnding plan.operation plan.whole op alone →
@@ -212,8 +213,8 @@ pub record IsAnswered (session : ℕ) (op : Op) (reply : Reply) (alone : Alone)
   pub tried : ℕ
   pub exchange : IsExchange one (record { op = op; reply = reply; tried = tried })
 
--- What comes next on a lane that stands so, where the last call has answered these operations: a call
--- that meets its conditions, or the reply.
+-- What comes next on a lane that stands so, where the last call has answered these operations: a
+-- call that meets its conditions, or the reply.
 abbrev pub Follows : Seals → Plan → Op → Alone → List Answered → Next → Type 0
 Follows seals plan op alone answered (Nexts.Call call) =
     (answered ≡ []) × ((lane : ℕ) → MeetsAlone alone (event_of lane call))

@@ -12,6 +12,7 @@ use std::mem;
 use volume_machine::Keys;
 
 /// Takes a buffer, and leaves an empty one, which has no memory.
+#[inline(always)]
 pub(crate) fn taken(alloc: Global, buffer: &mut Buffer) -> Buffer
     ensures taken { result ≡ buffer.old }
     ensures left { buffer.new ≡ [] }

@@ -75,6 +75,7 @@ impl Plan {
     /// read's content comes in the spare buffer, made long enough; an operation of more than a
     /// block has a buffer of at most 1 MiB besides, for pieces that aren't all of it. A wrong
     /// operation has none, and neither has a flush.
+    #[inline(always)]
     pub fn new(
         alloc: Global,
         session: u64,
@@ -127,6 +128,7 @@ impl Plan {
     }
 
     /// A plan at its first stage.
+    #[inline(always)]
     fn of(
         alloc: Global,
         session: u64,
@@ -159,6 +161,7 @@ impl Plan {
     }
 
     /// Its first call: the admit.
+    #[inline(always)]
     pub fn first(&self) -> Call
         ensures { result ≡ first_call self.now }
     {
@@ -169,6 +172,7 @@ impl Plan {
     }
 
     /// What comes next, once the last call was answered so. The keys are the volume's.
+    #[inline(always)]
     pub fn told<C: SectorCipher>(&mut self, keys: &Keys<C>, answer: Answer) -> Next
         requires fits { KeysFit C.sector keys.now
             (shape_of self.old).atom (shape_of self.old).blocks }
@@ -203,6 +207,7 @@ impl Plan {
     }
 
     /// The buffer for pieces, for the plan of another operation.
+    #[inline(always)]
     pub fn into_part(self) -> Buffer
         ensures { result ≡ part_in self }
     {

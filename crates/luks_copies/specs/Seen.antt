@@ -1,13 +1,15 @@
 -- The device calls of commits and repairs, as they move what the disk shows.
 use Rattle.std.specs.Prelude.{ℕ, ◌≡◌, ◌<◌, List, length, Some}
-use Rattle.disk_areas.specs.Commits.{CommitCall, CommitFails, begun, first_written, first_kept, second_written, WritesCopy, TriesCopy}
+use Rattle.disk_areas.specs.Commits.{CommitCall, CommitFails, begun, first_written, first_kept}
+use Rattle.disk_areas.specs.Commits.{second_written, WritesCopy, TriesCopy}
 use Rattle.disk_areas.specs.Commits.{Stage as CommitStage}
 use Rattle.disk_areas.specs.Headers.{Copy, byte_of, text_of, IsLaidOut, Layout}
 use Rattle.disk_views.specs.Views.{view_of_cells, IsSynced, IsThinned}
 use Rattle.luks_copies.specs.Meanings.{header_of}
 use Rattle.luks_copies.specs.Steps.{CopyCall, RepairCall}
 use Rattle.luks_copies.specs.declared.commit.Stage.{Stage}
-use Rattle.luks_copies.specs.declared.commit.Stage.TheVariants.{Begun, FirstWritten, FirstKept, SecondWritten, Ended}
+use Rattle.luks_copies.specs.declared.commit.Stage.TheVariants.{Begun, FirstWritten, FirstKept}
+use Rattle.luks_copies.specs.declared.commit.Stage.TheVariants.{SecondWritten, Ended}
 use Rattle.luks_copies.specs.declared.repair.RepairStage.TheVariants.{Broken, Written}
 use Rattle.sector_disk.specs.Devices.{Device, succeeded, failed_call}
 use Rattle.sector_disk.specs.Steps.{Told}
@@ -28,27 +30,35 @@ pub record HasRoomFor (size : ℕ) (one two : List ℕ) (layout : Layout) (disk 
   pub second : length two ≡ size
   pub even : (told : Told) → disk.told ≡ Some told → length told.now ≡ disk.atoms
 
--- Where a disk tells its table after a call of a commit it told it before, and the call moved what the
--- disk shows as the laws of headers say; so did one that failed.
+-- Where a disk tells its table after a call of a commit it told it before, and the call moved what
+-- the disk shows as the laws of headers say; so did one that failed.
 abbrev pub CallsAreSeen : Type 0
-CallsAreSeen = (stage : Stage) (one two : List ℕ) (size : ℕ) (layout : Layout) (old new : Device) (now : Told)
+CallsAreSeen =
+    (stage : Stage) (one two : List ℕ) (size : ℕ) (layout : Layout) (old new : Device) (now : Told)
     → HasRoomFor size one two layout old → new.told ≡ Some now
     → (CopyCall stage one two size old new succeeded → (before : Told) × (old.told ≡ Some before)
-    × CommitCall old.size layout (header_of one two) (stage_of stage) (view_of_cells before.now) (view_of_cells now.now))
+    × CommitCall old.size layout (header_of one two) (stage_of stage) (view_of_cells before.now)
+    (view_of_cells now.now))
     × (CopyCall stage one two size old new failed_call → (before : Told) × (old.told ≡ Some before)
-    × CommitFails old.size layout (header_of one two) (stage_of stage) (view_of_cells before.now) (view_of_cells now.now))
+    × CommitFails old.size layout (header_of one two) (stage_of stage) (view_of_cells before.now)
+    (view_of_cells now.now))
 
 -- So with the two calls of a repair of one of the copies.
 abbrev pub RepairsAreSeen : Type 0
-RepairsAreSeen = (one two : List ℕ) (bad : Copy) (size : ℕ) (layout : Layout) (old new : Device) (now : Told)
+RepairsAreSeen =
+    (one two : List ℕ) (bad : Copy) (size : ℕ) (layout : Layout) (old new : Device) (now : Told)
     → HasRoomFor size one two layout old → new.told ≡ Some now
     → (RepairCall Broken (text_of (header_of one two) bad) (byte_of size bad) old new succeeded
     → (before : Told) × (old.told ≡ Some before)
-    × WritesCopy old.size layout (header_of one two) bad (view_of_cells before.now) (view_of_cells now.now))
+    × WritesCopy old.size layout (header_of one two) bad (view_of_cells before.now)
+    (view_of_cells now.now))
     × (RepairCall Broken (text_of (header_of one two) bad) (byte_of size bad) old new failed_call
     → (before : Told) × (old.told ≡ Some before)
-    × TriesCopy old.size layout (header_of one two) bad (view_of_cells before.now) (view_of_cells now.now))
+    × TriesCopy old.size layout (header_of one two) bad (view_of_cells before.now)
+    (view_of_cells now.now))
     × (RepairCall Written (text_of (header_of one two) bad) (byte_of size bad) old new succeeded
-    → (before : Told) × (old.told ≡ Some before) × IsSynced (view_of_cells before.now) (view_of_cells now.now))
+    → (before : Told) × (old.told ≡ Some before)
+    × IsSynced (view_of_cells before.now) (view_of_cells now.now))
     × (RepairCall Written (text_of (header_of one two) bad) (byte_of size bad) old new failed_call
-    → (before : Told) × (old.told ≡ Some before) × IsThinned (view_of_cells before.now) (view_of_cells now.now))
+    → (before : Told) × (old.told ≡ Some before)
+    × IsThinned (view_of_cells before.now) (view_of_cells now.now))

@@ -1,11 +1,13 @@
 -- The device calls of a commit and of a repair, and what stands after each.
-use Rattle.std.specs.Prelude.{ℕ, ◌≡◌, ◌≢◌, ◌-◌, ◌/◌, ◌^◌, ◌<◌, ◌≤◌, Bool, true, false, List, length, Result, Ok, Err}
+use Rattle.std.specs.Prelude.{ℕ, ◌≡◌, ◌≢◌, ◌-◌, ◌/◌, ◌^◌, ◌<◌, ◌≤◌, Bool, true, false, List, length}
+use Rattle.std.specs.Prelude.{Result, Ok, Err}
 use Rattle.base_terms.specs.declared.failed.Failed.{Failed}
 use Rattle.luks_bin.specs.declared.header.BinHeader.{BinHeader}
 use Rattle.luks_copies.specs.declared.commit.CommitError.{CommitError}
 use Rattle.luks_copies.specs.declared.commit.CommitError.TheVariants.{Memory, SeqEnd, JsonFull}
 use Rattle.luks_copies.specs.declared.commit.Stage.{Stage}
-use Rattle.luks_copies.specs.declared.commit.Stage.TheVariants.{Begun, FirstWritten, FirstKept, SecondWritten, Ended}
+use Rattle.luks_copies.specs.declared.commit.Stage.TheVariants.{Begun, FirstWritten, FirstKept}
+use Rattle.luks_copies.specs.declared.commit.Stage.TheVariants.{SecondWritten, Ended}
 use Rattle.luks_copies.specs.declared.repair.RepairStage.{RepairStage}
 use Rattle.luks_copies.specs.declared.repair.RepairStage.TheVariants.{Broken, Written, Over}
 use Rattle.sector_disk.specs.Devices.{Device, WriteCall, SyncCall}
@@ -17,7 +19,8 @@ done_of (Ok value) = Ok tt
 done_of (Err failed) = Err failed
 
 -- the device call that comes next: write the primary, sync, write the secondary at its size, sync
-abbrev pub CopyCall : Stage → List ℕ → List ℕ → ℕ → Device → Device → Result (Unit {0}) Failed → Type 0
+abbrev pub CopyCall : Stage → List ℕ → List ℕ → ℕ → Device → Device → Result (Unit {0}) Failed
+    → Type 0
 CopyCall Begun first second size old = WriteCall old.size 0 first old
 CopyCall FirstWritten first second size old = SyncCall old
 CopyCall FirstKept first second size old = WriteCall old.size (size / old.size) second old
@@ -45,7 +48,8 @@ stage_after stage (Err failed) = Ended
 
 -- the header that one of a commit's copies has: the number, the salt and the place are its own
 abbrev pub copy_header : BinHeader → ℕ → List ℕ → ℕ → BinHeader
-copy_header header seqid salt place = record header { seqid = seqid; salt = salt; hdr_offset = place }
+copy_header header seqid salt place =
+    record header { seqid = seqid; salt = salt; hdr_offset = place }
 
 -- both copies lie on the disk
 pub record FitDisk (one two : List ℕ) (size : ℕ) (disk : Device) : Type 0 where
@@ -69,12 +73,14 @@ pub record HasNext (header : BinHeader) (json : List ℕ) : Type 0 where
 abbrev pub IsRefusal : BinHeader → List ℕ → CommitError → Type 0
 IsRefusal header json SeqEnd = header.seqid ≡ last_seqid
 IsRefusal header json (JsonFull len limit) =
-    (header.seqid ≢ last_seqid) × (len ≡ length json) × (limit ≡ longest_text header) × (limit < len)
+    (header.seqid ≢ last_seqid) × (len ≡ length json) × (limit ≡ longest_text header)
+    × (limit < len)
 IsRefusal header json Memory = HasNext header json
 
 -- ---- a repair
 -- the device call that comes next: write the copy at its place, sync
-abbrev pub RepairCall : RepairStage → List ℕ → ℕ → Device → Device → Result (Unit {0}) Failed → Type 0
+abbrev pub RepairCall : RepairStage → List ℕ → ℕ → Device → Device → Result (Unit {0}) Failed
+    → Type 0
 RepairCall Broken copy place old = WriteCall old.size (place / old.size) copy old
 RepairCall Written copy place old = SyncCall old
 RepairCall Over copy place old = λ new result. ⊥

@@ -1,12 +1,15 @@
 // A commit of a header: both copies, and how far their writing is.
 
-ghost use Rattle.std.specs.Prelude.{◌≡◌, ◌≢◌, ◌↔◌, ◌+◌, ◌≤◌, true, length, Ok, IfOk, IsTrue, MatchResult};
+ghost use Rattle.std.specs.Prelude.{◌≡◌, ◌≢◌, ◌↔◌, ◌+◌, ◌≤◌, true, length, Ok, IfOk, IsTrue};
+ghost use Rattle.std.specs.Prelude.{MatchResult};
 ghost use Rattle.disk_areas.specs.Headers.{IsHeader};
 ghost use Rattle.luks_bin.specs.Copies.{copy_of, holds_nul, text_of};
 ghost use Rattle.luks_bin.specs.Shares.{Agree};
 ghost use Rattle.luks_bin.specs.Writing.{common, written, FitsArea, IsWritable};
-ghost use Rattle.luks_copies.specs.Meanings.{header_of, header_reader, meaning_of, seqid_in, size_in};
-ghost use Rattle.luks_copies.specs.Steps.{CopyCall, FitDisk, HasNext, IsRefusal, copy_header, done_of, is_last, next_of, stage_after};
+ghost use Rattle.luks_copies.specs.Meanings.{header_of, header_reader, meaning_of, seqid_in};
+ghost use Rattle.luks_copies.specs.Meanings.{size_in};
+ghost use Rattle.luks_copies.specs.Steps.{CopyCall, FitDisk, HasNext, IsRefusal, copy_header};
+ghost use Rattle.luks_copies.specs.Steps.{done_of, is_last, next_of, stage_after};
 ghost use Rattle.luks_copies.specs.declared.commit.Stage.TheVariants.{Begun, Ended};
 
 use base_terms::{Bytes, Failed, zeros};
@@ -45,8 +48,8 @@ pub enum CommitError {
     },
 }
 
-/// A commit of a header: the bytes of both copies of the next one, and how far their writing is. It is
-/// four device calls: write the primary, sync, write the secondary, sync.
+/// A commit of a header: the bytes of both copies of the next one, and how far their writing is. It
+/// is four device calls: write the primary, sync, write the secondary, sync.
 #[derive(Debug, Drop)]
 pub struct Commit {
     first: Bytes,
@@ -73,11 +76,12 @@ fn copy_with(alloc: Global, header: &BinHeader, json: &[u8]) -> Result<Bytes, Al
 impl Commit {
     ghost use Rattle.luks_copies.specs.Held.{primary_of, secondary_of};
 
-    /// A commit of this text under the next number, with the loaded header's other fields and the salts
-    /// of the primary and the secondary. The text has no NUL; behind it, and in the padding, stand zeros.
-    /// There is none, `SeqEnd`, exactly where the number is `2^64 - 1`, else none, `JsonFull`, exactly
-    /// where the text is longer than its area less one byte. The first commit of a new header is made of
-    /// one with the number 0, which stands on no disk, and has the number 1.
+    /// A commit of this text under the next number, with the loaded header's other fields and the
+    /// salts of the primary and the secondary. The text has no NUL; behind it, and in the padding,
+    /// stand zeros. There is none, `SeqEnd`, exactly where the number is `2^64 - 1`, else none,
+    /// `JsonFull`, exactly where the text is longer than its area less one byte. The first commit
+    /// of a new header is made of one with the number 0, which stands on no disk, and has the
+    /// number 1.
     #[tactic(auto, using(crate::proofs::MeaningLemmas::least_size))]
     pub fn new(
         alloc: Global,
@@ -92,7 +96,8 @@ impl Commit {
             (λ error. IsRefusal header.now json.now error) }
         ensures begun { IfOk result (λ commit. commit.stage ≡ Begun) }
         ensures size { IfOk result (λ commit. commit.size ≡ header.now.hdr_size) }
-        ensures valid { IfOk result (λ commit. IsHeader header_reader (header_of commit.first commit.second)) }
+        ensures valid { IfOk result
+            (λ commit. IsHeader header_reader (header_of commit.first commit.second)) }
         ensures first_bytes { IfOk result (λ commit. commit.first ≡ written
             (copy_header header.now (header.now.seqid + 1) first_salt.now 0) json.now) }
         ensures second_bytes { IfOk result (λ commit. commit.second ≡ written
@@ -164,8 +169,8 @@ impl Commit {
         self.stage == Stage::Ended
     }
 
-    /// The next device call. It answers true exactly at the last one; after a call that failed none may
-    /// follow.
+    /// The next device call. It answers true exactly at the last one; after a call that failed none
+    /// may follow.
     pub fn step<D: Disk>(&mut self, disk: &mut D) -> Result<bool, Failed>
         requires under_way { self.old.stage ≢ Ended }
         requires fits { FitDisk self.old.first self.old.second self.old.size (D.device disk.old) }

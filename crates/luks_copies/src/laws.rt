@@ -7,8 +7,8 @@ ghost use Rattle.luks_copies.specs.Seen.{CallsAreSeen, RepairsAreSeen};
 
 use luks_bin::copies_are_spelt;
 
-/// Copies are read as the laws of headers ask: a copy is told by its own bytes, whatever stands behind
-/// it, and stands at 0 or at its own size.
+/// Copies are read as the laws of headers ask: a copy is told by its own bytes, whatever stands
+/// behind it, and stands at 0 or at its own size.
 pub fn copies_are_read()
     ensures { IsReader header_reader }
 {
@@ -20,9 +20,9 @@ pub fn copies_mean_what_they_share()
     ensures { MeanTheSame }
 {}
 
-/// A whole copy means what its bytes mean, with the number and the size of the header that is read from
-/// it; and a primary and a secondary of one size that share all bytes that copies share are a header as
-/// the laws of headers speak of it.
+/// A whole copy means what its bytes mean, with the number and the size of the header that is read
+/// from it; and a primary and a secondary of one size that share all bytes that copies share are a
+/// header as the laws of headers speak of it.
 pub fn copies_mean_their_headers()
     ensures each { MeanTheirHeaders }
     ensures both { AreOneHeader }
@@ -30,8 +30,9 @@ pub fn copies_mean_their_headers()
     copies_are_spelt();
 }
 
-/// The device calls of a commit and of a repair move what the disk shows as the laws of headers say, so
-/// that these hold of each table that the disk tells, and of each image that a stop leaves of it.
+/// The device calls of a commit and of a repair move what the disk shows as the laws of headers
+/// say, so that these hold of each table that the disk tells, and of each image that a stop leaves
+/// of it.
 pub fn calls_are_seen()
     ensures commits { CallsAreSeen }
     ensures repairs { RepairsAreSeen }

@@ -7,7 +7,8 @@ ghost use Rattle.luks_bin.specs.Shares.{Agree};
 ghost use Rattle.luks_bin.specs.Writing.{moved};
 ghost use Rattle.luks_bin.specs.declared.header.BinHeader.{BinHeader};
 ghost use Rattle.luks_copies.specs.Meanings.{header_of, header_reader};
-ghost use Rattle.luks_copies.specs.Steps.{RepairCall, done_of, is_last_repair, repair_after, repair_next};
+ghost use Rattle.luks_copies.specs.Steps.{RepairCall, done_of, is_last_repair, repair_after};
+ghost use Rattle.luks_copies.specs.Steps.{repair_next};
 ghost use Rattle.luks_copies.specs.declared.repair.RepairStage.TheVariants.{Broken, Over};
 ghost use Rattle.sector_disk.specs.Geometry.{IsInDisk};
 
@@ -27,8 +28,8 @@ pub enum RepairStage {
     Over,
 }
 
-/// A repair of a header: the copy that is written anew with the bytes of the one that is used, and how
-/// far this is. It is two device calls: write the copy, sync.
+/// A repair of a header: the copy that is written anew with the bytes of the one that is used, and
+/// how far this is. It is two device calls: write the copy, sync.
 #[derive(Debug, Drop)]
 pub struct Repair {
     copy: Bytes,
@@ -56,9 +57,10 @@ impl Repair {
     ghost use Rattle.luks_copies.specs.Held.{copy_in};
 
     /// A repair that writes the copy that is used as it stands, but for magic, salt, hdr_offset and
-    /// checksum, to another place with this salt. The place is the byte of the disk: 0 for the primary,
-    /// the header's size for the secondary. Of no other place is anything said but the bytes; both copies
-    /// are a header where the one that is used is valid and this is the other's place.
+    /// checksum, to another place with this salt. The place is the byte of the disk: 0 for the
+    /// primary, the header's size for the secondary. Of no other place is anything said but the
+    /// bytes; both copies are a header where the one that is used is valid and this is the other's
+    /// place.
     pub fn new(
         alloc: Global,
         used: &[u8],
@@ -72,10 +74,12 @@ impl Repair {
         ensures size { IfOk result (λ repair. length repair.copy ≡ length used.now) }
         ensures shared { IfOk result (λ repair. Agree repair.copy used.now) }
         ensures text { IfOk result (λ repair. text_of repair.copy ≡ text_of used.now) }
-        ensures valid { IfOk result (λ repair. (from : ℕ) (h : BinHeader) → copy_of from used.now ≡ Ok h
+        ensures valid { IfOk result
+            (λ repair. (from : ℕ) (h : BinHeader) → copy_of from used.now ≡ Ok h
             → length used.now ≡ h.hdr_size → (place ≡ 0) ⊎ (place ≡ h.hdr_size)
             → copy_of place repair.copy ≡ Ok (record h { hdr_offset = place; salt = salt.now })) }
-        ensures primary { IfOk result (λ repair. (h : BinHeader) → copy_of h.hdr_size used.now ≡ Ok h
+        ensures primary { IfOk result
+            (λ repair. (h : BinHeader) → copy_of h.hdr_size used.now ≡ Ok h
             → length used.now ≡ h.hdr_size → place ≡ 0
             → IsHeader header_reader (header_of repair.copy used.now)) }
         ensures secondary { IfOk result (λ repair. (h : BinHeader) → copy_of 0 used.now ≡ Ok h
@@ -105,8 +109,8 @@ impl Repair {
         self.stage == RepairStage::Over
     }
 
-    /// The next device call. It answers true exactly at the last one; after a call that failed none may
-    /// follow.
+    /// The next device call. It answers true exactly at the last one; after a call that failed none
+    /// may follow.
     pub fn step<D: Disk>(&mut self, disk: &mut D) -> Result<bool, Failed>
         requires under_way { self.old.stage ≢ Over }
         requires fits { IsInDisk (D.device disk.old).size (D.device disk.old).atoms

@@ -83,7 +83,8 @@ fn number_at(alloc: Global, disk: &mut MemDisk, atom: u64) -> Result<u64, Fail>
     }
 }
 
-/// What five steps answer on a disk whose calls of these numbers fail, and the copies' numbers then.
+/// What five steps answer on a disk whose calls of these numbers fail, and the copies' numbers
+/// then.
 fn outcomes(alloc: Global, fails: &[u64]) -> Result<([Step; 5], [u64; 2]), Fail> {
     let mut disk = MemDisk::new(alloc, 512, 64, 1000, fails)?;
     let mut commit = begun(alloc)?;
@@ -142,8 +143,8 @@ fn repair_step(repair: &mut Repair, disk: &mut MemDisk) -> Step
     Some(repair.step(disk))
 }
 
-/// What three steps of a repair by this copy answer on a disk that has none and whose calls of these
-/// numbers fail, and the copies' numbers then.
+/// What three steps of a repair by this copy answer on a disk that has none and whose calls of
+/// these numbers fail, and the copies' numbers then.
 fn repaired(
     alloc: Global,
     used: &[u8],

@@ -1,12 +1,16 @@
 -- The sizes and requirements as the members of an object.
-use Rattle.std.specs.Prelude.{◌≡◌, ℕ, ◌^◌, ◌-◌, ◌<◌, ◌==◌, ◌||◌, not, Bool, true, false, List, [], ◌∷◌, codes, Option, Some, None, option_map, option_and_then, Result, Ok, Err, if◌then◌else◌, decimal, IfSome}
+use Rattle.std.specs.Prelude.{◌≡◌, ℕ, ◌^◌, ◌-◌, ◌<◌, ◌==◌, ◌||◌, not, Bool, true, false, List, []}
+use Rattle.std.specs.Prelude.{◌∷◌, codes, Option, Some, None, option_map, option_and_then, Result}
+use Rattle.std.specs.Prelude.{Ok, Err, if◌then◌else◌, decimal, IfSome}
 use Rattle.std.specs.Str.{bytes_eq}
-use Rattle.serde_json.specs.Data.{Data, null, boolean, number, string, array, object, Items, no_items, item, Members}
+use Rattle.serde_json.specs.Data.{Data, null, boolean, number, string, array, object, Items}
+use Rattle.serde_json.specs.Data.{no_items, item, Members}
 use Rattle.serde_json.specs.Find.{get, get_member, as_array}
 use Rattle.json_members.specs.declared.faults.JsonFault.{JsonFault}
 use Rattle.json_members.specs.declared.faults.JsonFaultKind.TheVariants.{Number}
 use Rattle.json_members.specs.Decimals.{number_of}
-use Rattle.json_members.specs.Fields.{◌>>=◌, under, meant_in, decimal_in, texts_in, object_in, optional, texts_data}
+use Rattle.json_members.specs.Fields.{◌>>=◌, under, meant_in, decimal_in, texts_in, object_in}
+use Rattle.json_members.specs.Fields.{optional, texts_data}
 use Rattle.json_members.specs.Forms.{HasDecimal, HasObject, HasTexts, HasOptional}
 use Rattle.json_members.specs.Members.{without_all, put_all, put_optional, Lacks, IsPlain}
 use Rattle.luks_json.specs.declared.config.Config.{Config}
@@ -43,7 +47,13 @@ config_of hdr_size path ms = do
   json_size ← meant_in Number (json_size_named hdr_size) path (codes "json_size") ms
   keyslots_size ← decimal_in path (codes "keyslots_size") ms
   requirements ← optional (codes "requirements") ms (requirements_in path ms)
-  Ok (record { json_size = json_size; keyslots_size = keyslots_size; requirements = requirements; rest = without_all config_names ms })
+  Ok (record {
+    json_size = json_size;
+    keyslots_size = keyslots_size;
+    requirements = requirements;
+    rest =
+        without_all config_names ms;
+  })
 
 -- ---- and back
 abbrev pub requirements_fields : Requirements → List (List ℕ × Data)
@@ -53,10 +63,15 @@ unfoldable pub requirements_members : Requirements → Members
 requirements_members r = put_all (requirements_fields r) r.rest
 
 abbrev pub config_fields : Config → List (List ℕ × Data)
-config_fields c = (codes "json_size", string (decimal c.json_size)) ∷ (codes "keyslots_size", string (decimal c.keyslots_size)) ∷ []
+config_fields c =
+    (codes "json_size", string (decimal c.json_size))
+    ∷ (codes "keyslots_size", string (decimal c.keyslots_size)) ∷ []
 
 unfoldable pub config_members : Config → Members
-config_members c = put_all (config_fields c) (put_optional (codes "requirements") (option_map (λ r. object (requirements_members r)) c.requirements) c.rest)
+config_members c =
+    put_all (config_fields c)
+    (put_optional (codes "requirements")
+    (option_map (λ r. object (requirements_members r)) c.requirements) c.rest)
 
 -- ---- which members, of which form
 pub record HasRequirements (ms : Members) (r : Requirements) : Type 0 where
@@ -67,7 +82,9 @@ pub record HasConfig (hdr_size : ℕ) (ms : Members) (c : Config) : Type 0 where
   pub json_size : HasDecimal (codes "json_size") c.json_size ms
   pub fits : c.json_size ≡ hdr_size - 4096
   pub keyslots_size : HasDecimal (codes "keyslots_size") c.keyslots_size ms
-  pub requirements : HasOptional (codes "requirements") (λ r. (inner : Members) × HasObject (codes "requirements") inner ms × HasRequirements inner r) c.requirements ms
+  pub requirements : HasOptional (codes "requirements")
+      (λ r. (inner : Members) × HasObject (codes "requirements") inner ms × HasRequirements inner r)
+      c.requirements ms
   pub rest : c.rest ≡ without_all config_names ms
 
 -- ---- sizes and requirements that have a text
@@ -124,7 +141,10 @@ any_foreign_in None = false
 any_foreign_in (Some ds) = any_foreign_item ds
 
 unfoldable pub mandatory_in : Members → Option Items
-mandatory_in ms = option_and_then as_array (option_and_then (get (codes "mandatory")) (option_and_then (get (codes "requirements")) (get_member (codes "config") ms)))
+mandatory_in ms =
+    option_and_then as_array
+    (option_and_then (get (codes "mandatory"))
+    (option_and_then (get (codes "requirements")) (get_member (codes "config") ms)))
 
 unfoldable pub origin_in : Members → Origin
 origin_in ms = origin_by (any_foreign_in (mandatory_in ms))

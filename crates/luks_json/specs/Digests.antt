@@ -1,19 +1,23 @@
 -- A digest as the members of an object.
-use Rattle.std.specs.Prelude.{◌≡◌, ℕ, ◌^◌, ◌<◌, List, [], ◌∷◌, codes, true, Result, Ok, Err, decimal}
+use Rattle.std.specs.Prelude.{◌≡◌, ℕ, ◌^◌, ◌<◌, List, [], ◌∷◌, codes, true, Result, Ok, Err}
+use Rattle.std.specs.Prelude.{decimal}
 use Rattle.std.specs.List.{AllByRecursion}
 use Rattle.base64.specs.GeneralPurpose.{encode_of, IsBytes}
 use Rattle.base64.specs.Engines.{standard}
 use Rattle.serde_json.specs.Data.{Data, string, number, unsigned, array, Members}
 use Rattle.json_members.specs.declared.faults.JsonFault.{JsonFault}
 use Rattle.json_members.specs.declared.faults.JsonFaultKind.TheVariants.{Unsupported}
-use Rattle.json_members.specs.Fields.{◌>>=◌, meant_in, word_in, counted_in, bytes_in, decimals_in, decimals_data}
+use Rattle.json_members.specs.Fields.{◌>>=◌, meant_in, word_in, counted_in, bytes_in, decimals_in}
+use Rattle.json_members.specs.Fields.{decimals_data}
 use Rattle.json_members.specs.Forms.{HasText, HasNumber, HasBytes, HasDecimals}
 use Rattle.json_members.specs.Members.{without_all, put_all, Lacks, IsPlain}
 use Rattle.luks_json.specs.declared.digest.Digest.{Digest}
 use Rattle.luks_json.specs.Names.{hash_name, hash_named, is_iterations, iterations_of}
 
 abbrev pub digest_names : List (List ℕ)
-digest_names = codes "type" ∷ codes "keyslots" ∷ codes "segments" ∷ codes "hash" ∷ codes "iterations" ∷ codes "salt" ∷ codes "digest" ∷ []
+digest_names =
+    codes "type" ∷ codes "keyslots" ∷ codes "segments" ∷ codes "hash" ∷ codes "iterations"
+    ∷ codes "salt" ∷ codes "digest" ∷ []
 
 -- the digest that an object is, or its first fault
 unfoldable pub digest_of : List ℕ → Members → Result Digest JsonFault
@@ -25,12 +29,25 @@ digest_of path ms = do
   iterations ← counted_in iterations_of path (codes "iterations") ms
   salt ← bytes_in path (codes "salt") ms
   digest ← bytes_in path (codes "digest") ms
-  Ok (record { keyslots = keyslots; segments = segments; hash = hash; iterations = iterations; salt = salt; digest = digest; rest = without_all digest_names ms })
+  Ok (record {
+    keyslots = keyslots;
+    segments = segments;
+    hash = hash;
+    iterations = iterations;
+    salt =
+        salt;
+    digest = digest;
+    rest = without_all digest_names ms;
+  })
 
 abbrev pub digest_fields : Digest → List (List ℕ × Data)
 digest_fields d =
-    (codes "type", string (codes "pbkdf2")) ∷ (codes "keyslots", array (decimals_data d.keyslots)) ∷ (codes "segments", array (decimals_data d.segments)) ∷ (codes "hash", string (hash_name d.hash))
-    ∷ (codes "iterations", number (unsigned d.iterations)) ∷ (codes "salt", string (encode_of standard d.salt)) ∷ (codes "digest", string (encode_of standard d.digest)) ∷ []
+    (codes "type", string (codes "pbkdf2")) ∷ (codes "keyslots", array (decimals_data d.keyslots))
+    ∷ (codes "segments", array (decimals_data d.segments))
+    ∷ (codes "hash", string (hash_name d.hash))
+    ∷ (codes "iterations", number (unsigned d.iterations))
+    ∷ (codes "salt", string (encode_of standard d.salt))
+    ∷ (codes "digest", string (encode_of standard d.digest)) ∷ []
 
 -- the members of a digest
 unfoldable pub digest_members : Digest → Members

@@ -1,13 +1,17 @@
 -- A keyslot as the members of an object.
-use Rattle.std.specs.Prelude.{◌≡◌, ℕ, ◌^◌, ◌<◌, ◌&&◌, ◌==◌, List, [], ◌∷◌, codes, Bool, true, false, Option, Some, None, option_map, Result, Ok, Err, if◌then◌else◌, decimal, IfSome}
+use Rattle.std.specs.Prelude.{◌≡◌, ℕ, ◌^◌, ◌<◌, ◌&&◌, ◌==◌, List, [], ◌∷◌, codes, Bool, true, false}
+use Rattle.std.specs.Prelude.{Option, Some, None, option_map, Result, Ok, Err, if◌then◌else◌}
+use Rattle.std.specs.Prelude.{decimal, IfSome}
 use Rattle.std.specs.Str.{bytes_eq}
 use Rattle.base64.specs.GeneralPurpose.{encode_of, IsBytes}
 use Rattle.base64.specs.Engines.{standard}
 use Rattle.serde_json.specs.Data.{Data, string, number, unsigned, object, Members}
 use Rattle.json_members.specs.declared.faults.JsonFault.{JsonFault}
 use Rattle.json_members.specs.declared.faults.JsonFaultKind.TheVariants.{Number, Unsupported}
-use Rattle.json_members.specs.Fields.{◌>>=◌, under, text_in, word_in, number_in, counted_in, decimal_in, bytes_in, object_in, optional}
-use Rattle.json_members.specs.Forms.{HasText, HasNumber, HasDecimal, HasBytes, HasObject, HasOptional}
+use Rattle.json_members.specs.Fields.{◌>>=◌, under, text_in, word_in, number_in, counted_in}
+use Rattle.json_members.specs.Fields.{decimal_in, bytes_in, object_in, optional}
+use Rattle.json_members.specs.Forms.{HasText, HasNumber, HasDecimal, HasBytes, HasObject}
+use Rattle.json_members.specs.Forms.{HasOptional}
 use Rattle.json_members.specs.Members.{without_all, put_all, put_optional, Lacks, IsPlain}
 use Rattle.luks_json.specs.declared.keyslot.SlotArea.{SlotArea}
 use Rattle.luks_json.specs.declared.keyslot.Pbkdf2.{Pbkdf2}
@@ -31,7 +35,8 @@ use Rattle.luks_json.specs.Reencrypts.{reencrypt_of, reencrypt_members, HasReenc
 
 -- ---- from members to a keyslot
 abbrev pub slot_area_names : List (List ℕ)
-slot_area_names = codes "type" ∷ codes "encryption" ∷ codes "key_size" ∷ codes "offset" ∷ codes "size" ∷ []
+slot_area_names =
+    codes "type" ∷ codes "encryption" ∷ codes "key_size" ∷ codes "offset" ∷ codes "size" ∷ []
 
 unfoldable pub slot_area_of : List ℕ → Members → Result SlotArea JsonFault
 slot_area_of path ms = do
@@ -40,7 +45,14 @@ slot_area_of path ms = do
   key_size ← number_in path (codes "key_size") ms
   offset ← decimal_in path (codes "offset") ms
   size ← decimal_in path (codes "size") ms
-  Ok (record { encryption = encryption; key_size = key_size; offset = offset; size = size; rest = without_all slot_area_names ms })
+  Ok (record {
+    encryption = encryption;
+    key_size = key_size;
+    offset = offset;
+    size = size;
+    rest =
+        without_all slot_area_names ms;
+  })
 
 unfoldable pub pbkdf2_in : List ℕ → Members → Result Pbkdf2 JsonFault
 pbkdf2_in path ms = do
@@ -56,7 +68,8 @@ derivation_by true kind path ms = do
 derivation_by false kind path ms = Ok (derivations.Unknown kind)
 
 abbrev pub kdf_names : Derivation → List (List ℕ)
-kdf_names (derivations.Pbkdf2 k) = codes "type" ∷ codes "hash" ∷ codes "iterations" ∷ codes "salt" ∷ []
+kdf_names (derivations.Pbkdf2 k) =
+    codes "type" ∷ codes "hash" ∷ codes "iterations" ∷ codes "salt" ∷ []
 kdf_names (derivations.Unknown kind) = codes "type" ∷ []
 
 unfoldable pub kdf_of : List ℕ → Members → Result Kdf JsonFault
@@ -76,10 +89,14 @@ splitter_of path ms = do
   Ok (record { stripes = stripes; hash = hash; rest = without_all splitter_names ms })
 
 abbrev pub priority_of : ℕ → Option Priority
-priority_of n = if n == 0 then Some Ignore else (if n == 1 then Some Normal else (if n == 2 then Some High else None))
+priority_of n =
+    if n == 0 then Some Ignore else
+    (if n == 1 then Some Normal else (if n == 2 then Some High else None))
 
 abbrev pub luks2_names : List (List ℕ)
-luks2_names = codes "type" ∷ codes "key_size" ∷ codes "area" ∷ codes "kdf" ∷ codes "af" ∷ codes "priority" ∷ []
+luks2_names =
+    codes "type" ∷ codes "key_size" ∷ codes "area" ∷ codes "kdf" ∷ codes "af" ∷ codes "priority"
+    ∷ []
 
 unfoldable pub luks2_of : List ℕ → Members → Result Luks2 JsonFault
 luks2_of path ms = do
@@ -91,7 +108,15 @@ luks2_of path ms = do
   af_members ← object_in path (codes "af") ms
   af ← splitter_of (under path (codes "af")) af_members
   priority ← optional (codes "priority") ms (counted_in priority_of path (codes "priority") ms)
-  Ok (record { key_size = key_size; area = area; kdf = kdf; af = af; priority = priority; rest = without_all luks2_names ms })
+  Ok (record {
+    key_size = key_size;
+    area = area;
+    kdf = kdf;
+    af = af;
+    priority = priority;
+    rest =
+        without_all luks2_names ms;
+  })
 
 abbrev pub other_area_names : List (List ℕ)
 other_area_names = codes "offset" ∷ codes "size" ∷ []
@@ -122,7 +147,9 @@ is_own Foreign = false
 -- by which table a keyslot of a type is read: in a header that asks for something foreign, one of
 -- the type reencrypt is as any other
 abbrev pub slot_type : Origin → List ℕ → SlotType
-slot_type origin kind = if bytes_eq kind (codes "luks2") then types.Luks2 else (if bytes_eq kind (codes "reencrypt") && is_own origin then types.Reencrypt else types.Unknown)
+slot_type origin kind =
+    if bytes_eq kind (codes "luks2") then types.Luks2 else
+    (if bytes_eq kind (codes "reencrypt") && is_own origin then types.Reencrypt else types.Unknown)
 
 abbrev pub keyslot_by : SlotType → List ℕ → List ℕ → Members → Result Keyslot JsonFault
 keyslot_by types.Luks2 kind path ms = do
@@ -144,7 +171,8 @@ keyslot_of origin path ms = do
 -- ---- and back
 abbrev pub slot_area_fields : SlotArea → List (List ℕ × Data)
 slot_area_fields a =
-    (codes "type", string (codes "raw")) ∷ (codes "encryption", string a.encryption) ∷ (codes "key_size", number (unsigned a.key_size))
+    (codes "type", string (codes "raw")) ∷ (codes "encryption", string a.encryption)
+    ∷ (codes "key_size", number (unsigned a.key_size))
     ∷ (codes "offset", string (decimal a.offset)) ∷ (codes "size", string (decimal a.size)) ∷ []
 
 unfoldable pub slot_area_members : SlotArea → Members
@@ -152,14 +180,18 @@ slot_area_members a = put_all (slot_area_fields a) a.rest
 
 abbrev pub kdf_fields : Derivation → List (List ℕ × Data)
 kdf_fields (derivations.Pbkdf2 k) =
-    (codes "type", string (codes "pbkdf2")) ∷ (codes "hash", string k.hash) ∷ (codes "iterations", number (unsigned k.iterations)) ∷ (codes "salt", string (encode_of standard k.salt)) ∷ []
+    (codes "type", string (codes "pbkdf2")) ∷ (codes "hash", string k.hash)
+    ∷ (codes "iterations", number (unsigned k.iterations))
+    ∷ (codes "salt", string (encode_of standard k.salt)) ∷ []
 kdf_fields (derivations.Unknown kind) = (codes "type", string kind) ∷ []
 
 unfoldable pub kdf_members : Kdf → Members
 kdf_members k = put_all (kdf_fields k.derivation) k.rest
 
 abbrev pub splitter_fields : Splitter → List (List ℕ × Data)
-splitter_fields s = (codes "type", string (codes "luks1")) ∷ (codes "stripes", number (unsigned s.stripes)) ∷ (codes "hash", string s.hash) ∷ []
+splitter_fields s =
+    (codes "type", string (codes "luks1")) ∷ (codes "stripes", number (unsigned s.stripes))
+    ∷ (codes "hash", string s.hash) ∷ []
 
 unfoldable pub splitter_members : Splitter → Members
 splitter_members s = put_all (splitter_fields s) s.rest
@@ -171,14 +203,19 @@ priority_number High = 2
 
 abbrev pub luks2_fields : Luks2 → List (List ℕ × Data)
 luks2_fields s =
-    (codes "type", string (codes "luks2")) ∷ (codes "key_size", number (unsigned s.key_size)) ∷ (codes "area", object (slot_area_members s.area))
+    (codes "type", string (codes "luks2")) ∷ (codes "key_size", number (unsigned s.key_size))
+    ∷ (codes "area", object (slot_area_members s.area))
     ∷ (codes "kdf", object (kdf_members s.kdf)) ∷ (codes "af", object (splitter_members s.af)) ∷ []
 
 unfoldable pub luks2_members : Luks2 → Members
-luks2_members s = put_all (luks2_fields s) (put_optional (codes "priority") (option_map (λ p. number (unsigned (priority_number p))) s.priority) s.rest)
+luks2_members s =
+    put_all (luks2_fields s)
+    (put_optional (codes "priority")
+    (option_map (λ p. number (unsigned (priority_number p))) s.priority) s.rest)
 
 abbrev pub other_area_fields : OtherArea → List (List ℕ × Data)
-other_area_fields a = (codes "offset", string (decimal a.offset)) ∷ (codes "size", string (decimal a.size)) ∷ []
+other_area_fields a =
+    (codes "offset", string (decimal a.offset)) ∷ (codes "size", string (decimal a.size)) ∷ []
 
 unfoldable pub other_area_members : OtherArea → Members
 other_area_members a = put_all (other_area_fields a) a.rest
@@ -187,7 +224,9 @@ abbrev pub other_fields : OtherSlot → List (List ℕ × Data)
 other_fields s = (codes "type", string s.kind) ∷ []
 
 unfoldable pub other_members : OtherSlot → Members
-other_members s = put_all (other_fields s) (put_optional (codes "area") (option_map (λ a. object (other_area_members a)) s.area) s.rest)
+other_members s =
+    put_all (other_fields s)
+    (put_optional (codes "area") (option_map (λ a. object (other_area_members a)) s.area) s.rest)
 
 -- the members of a keyslot
 unfoldable pub keyslot_members : Keyslot → Members
@@ -234,7 +273,8 @@ pub record HasLuks2 (ms : Members) (s : Luks2) : Type 0 where
   pub area : (inner : Members) × HasObject (codes "area") inner ms × HasSlotArea inner s.area
   pub kdf : (inner : Members) × HasObject (codes "kdf") inner ms × HasKdf inner s.kdf
   pub af : (inner : Members) × HasObject (codes "af") inner ms × HasSplitter inner s.af
-  pub priority : HasOptional (codes "priority") (λ p. HasNumber (codes "priority") (priority_number p) ms) s.priority ms
+  pub priority : HasOptional (codes "priority")
+      (λ p. HasNumber (codes "priority") (priority_number p) ms) s.priority ms
   pub rest : s.rest ≡ without_all luks2_names ms
 
 pub record HasOtherArea (ms : Members) (a : OtherArea) : Type 0 where
@@ -243,13 +283,16 @@ pub record HasOtherArea (ms : Members) (a : OtherArea) : Type 0 where
   pub rest : a.rest ≡ without_all other_area_names ms
 
 pub record HasOther (ms : Members) (s : OtherSlot) : Type 0 where
-  pub area : HasOptional (codes "area") (λ a. (inner : Members) × HasObject (codes "area") inner ms × HasOtherArea inner a) s.area ms
+  pub area : HasOptional (codes "area")
+      (λ a. (inner : Members) × HasObject (codes "area") inner ms × HasOtherArea inner a) s.area ms
   pub rest : s.rest ≡ without_all other_names ms
 
 abbrev pub HasKeyslot : Origin → Members → Keyslot → Type 0
 HasKeyslot origin ms (keyslots.Luks2 s) = HasText (codes "type") (codes "luks2") ms × HasLuks2 ms s
-HasKeyslot origin ms (keyslots.Reencrypt s) = HasText (codes "type") (codes "reencrypt") ms × (origin ≡ Own) × HasReencrypt ms s
-HasKeyslot origin ms (keyslots.Unknown s) = HasText (codes "type") s.kind ms × (slot_type origin s.kind ≡ types.Unknown) × HasOther ms s
+HasKeyslot origin ms (keyslots.Reencrypt s) =
+    HasText (codes "type") (codes "reencrypt") ms × (origin ≡ Own) × HasReencrypt ms s
+HasKeyslot origin ms (keyslots.Unknown s) =
+    HasText (codes "type") s.kind ms × (slot_type origin s.kind ≡ types.Unknown) × HasOther ms s
 
 -- ---- keyslots that have a text
 pub record IsSlotArea (a : SlotArea) : Type 0 where

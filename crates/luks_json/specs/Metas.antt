@@ -1,12 +1,14 @@
 -- Metadata as a JSON text.
-use Rattle.std.specs.Prelude.{◌≡◌, ℕ, List, [], ◌∷◌, codes, Option, Some, None, Result, Ok, Err, if◌then◌else◌}
+use Rattle.std.specs.Prelude.{◌≡◌, ℕ, List, [], ◌∷◌, codes, Option, Some, None, Result, Ok, Err}
+use Rattle.std.specs.Prelude.{if◌then◌else◌}
 use Rattle.std.specs.Str.{is_utf8}
 use Rattle.serde_json.specs.Data.{Data, object, Members}
 use Rattle.serde_json.specs.Find.{get_member, as_object}
 use Rattle.serde_json.specs.Read.{read}
 use Rattle.json_members.specs.declared.faults.JsonFault.{JsonFault}
 use Rattle.json_members.specs.declared.faults.JsonFaultKind.{JsonFaultKind}
-use Rattle.json_members.specs.declared.faults.JsonFaultKind.TheVariants.{NotJson, Missing, Kind, Number}
+use Rattle.json_members.specs.declared.faults.JsonFaultKind.TheVariants.{NotJson, Missing, Kind}
+use Rattle.json_members.specs.declared.faults.JsonFaultKind.TheVariants.{Number}
 use Rattle.json_members.specs.Fields.{◌>>=◌, required, object_in}
 use Rattle.json_members.specs.Floats.{float_in}
 use Rattle.json_members.specs.Forms.{HasObject}
@@ -14,7 +16,8 @@ use Rattle.json_members.specs.Members.{without_all, put_all, Lacks, IsPlain}
 use Rattle.json_members.specs.Entries.{objects_in, objects_members, AreEntries}
 use Rattle.luks_json.specs.declared.config.Config.{Config}
 use Rattle.luks_json.specs.declared.meta.Parts.{Parts}
-use Rattle.luks_json.specs.Configs.{config_of, config_members, HasConfig, IsConfig, origin_of, origin_in}
+use Rattle.luks_json.specs.Configs.{config_of, config_members, HasConfig, IsConfig, origin_of}
+use Rattle.luks_json.specs.Configs.{origin_in}
 use Rattle.luks_json.specs.Digests.{digest_of, digest_members, IsDigest}
 use Rattle.luks_json.specs.Keyslots.{keyslot_of, keyslot_members, IsKeyslot}
 use Rattle.luks_json.specs.Segments.{segment_of, segment_members, IsSegment}
@@ -29,7 +32,8 @@ text_fault what = record { kind = what; path = top }
 
 -- ---- from a text to metadata
 abbrev pub meta_names : List (List ℕ)
-meta_names = codes "keyslots" ∷ codes "tokens" ∷ codes "segments" ∷ codes "digests" ∷ codes "config" ∷ []
+meta_names =
+    codes "keyslots" ∷ codes "tokens" ∷ codes "segments" ∷ codes "digests" ∷ codes "config" ∷ []
 
 -- this top member is there
 unfoldable pub there_in : List ℕ → Members → Result (Unit {0}) JsonFault
@@ -45,7 +49,8 @@ all_there (name ∷ names) ms = do
   all_there names ms
 
 -- the objects by rising number of a top member
-unfoldable pub list_in : {X : Type 0} → (List ℕ → Members → Result X JsonFault) → List ℕ → Members → Result (List (ℕ × X)) JsonFault
+unfoldable pub list_in : {X : Type 0} → (List ℕ → Members → Result X JsonFault) → List ℕ → Members
+    → Result (List (ℕ × X)) JsonFault
 list_in of name ms = do
   inner ← object_in top name ms
   objects_in of name inner
@@ -64,7 +69,15 @@ parts_of hdr_size ms = do
   segments ← list_in segment_of (codes "segments") ms
   digests ← list_in digest_of (codes "digests") ms
   config ← config_in hdr_size ms
-  Ok (record { keyslots = keyslots; tokens = tokens; segments = segments; digests = digests; config = config; rest = without_all meta_names ms })
+  Ok (record {
+    keyslots = keyslots;
+    tokens = tokens;
+    segments = segments;
+    digests = digests;
+    config =
+        config;
+    rest = without_all meta_names ms;
+  })
 
 -- the metadata that a value is; the whole is an object
 abbrev pub whole_of : ℕ → Data → Result Parts JsonFault
@@ -89,13 +102,17 @@ read_as hdr_size (Some d) = meta_of hdr_size d
 
 -- the metadata that a text is in a copy of so many bytes, or its first fault
 unfoldable pub meta_from : ℕ → List ℕ → Result Parts JsonFault
-meta_from hdr_size text = if is_utf8 text then read_as hdr_size (read text) else Err (text_fault NotJson)
+meta_from hdr_size text =
+    if is_utf8 text then read_as hdr_size (read text) else Err (text_fault NotJson)
 
 -- ---- and back
 abbrev pub meta_fields : Parts → List (List ℕ × Data)
 meta_fields m =
-    (codes "keyslots", object (objects_members keyslot_members m.keyslots)) ∷ (codes "tokens", object (objects_members token_members m.tokens)) ∷ (codes "segments", object (objects_members segment_members m.segments))
-    ∷ (codes "digests", object (objects_members digest_members m.digests)) ∷ (codes "config", object (config_members m.config)) ∷ []
+    (codes "keyslots", object (objects_members keyslot_members m.keyslots))
+    ∷ (codes "tokens", object (objects_members token_members m.tokens))
+    ∷ (codes "segments", object (objects_members segment_members m.segments))
+    ∷ (codes "digests", object (objects_members digest_members m.digests))
+    ∷ (codes "config", object (config_members m.config)) ∷ []
 
 unfoldable pub meta_members : Parts → Members
 meta_members m = put_all (meta_fields m) m.rest

@@ -1,10 +1,12 @@
 -- The keyslot of a conversion as the members of an object.
-use Rattle.std.specs.Prelude.{◌≡◌, ℕ, ◌^◌, ◌<◌, ◌==◌, List, [], ◌∷◌, codes, Option, Some, None, Result, Ok, Err, if◌then◌else◌, decimal}
+use Rattle.std.specs.Prelude.{◌≡◌, ℕ, ◌^◌, ◌<◌, ◌==◌, List, [], ◌∷◌, codes, Option, Some, None}
+use Rattle.std.specs.Prelude.{Result, Ok, Err, if◌then◌else◌, decimal}
 use Rattle.std.specs.Str.{bytes_eq}
 use Rattle.serde_json.specs.Data.{Data, string, number, unsigned, object, Members}
 use Rattle.json_members.specs.declared.faults.JsonFault.{JsonFault}
 use Rattle.json_members.specs.declared.faults.JsonFaultKind.TheVariants.{Number, Unsupported}
-use Rattle.json_members.specs.Fields.{◌>>=◌, under, meant_in, word_in, number_in, counted_in, decimal_in, object_in}
+use Rattle.json_members.specs.Fields.{◌>>=◌, under, meant_in, word_in, number_in, counted_in}
+use Rattle.json_members.specs.Fields.{decimal_in, object_in}
 use Rattle.json_members.specs.Forms.{HasText, HasNumber, HasDecimal, HasObject}
 use Rattle.json_members.specs.Members.{without_all, put_all, Lacks, IsPlain}
 use Rattle.luks_json.specs.declared.reencrypt.Mode.{Mode}
@@ -24,17 +26,25 @@ mode_name modes.Encrypt = codes "encrypt"
 mode_name modes.Decrypt = codes "decrypt"
 
 abbrev pub mode_named : List ℕ → Option Mode
-mode_named name = if bytes_eq name (codes "reencrypt") then Some modes.Reencrypt else (if bytes_eq name (codes "encrypt") then Some modes.Encrypt else (if bytes_eq name (codes "decrypt") then Some modes.Decrypt else None))
+mode_named name =
+    if bytes_eq name (codes "reencrypt") then Some modes.Reencrypt else
+    (if bytes_eq name (codes "encrypt") then Some modes.Encrypt else
+    (if bytes_eq name (codes "decrypt") then Some modes.Decrypt else None))
 
 abbrev pub direction_name : Direction → List ℕ
 direction_name Forward = codes "forward"
 direction_name Backward = codes "backward"
 
 abbrev pub direction_named : List ℕ → Option Direction
-direction_named name = if bytes_eq name (codes "forward") then Some Forward else (if bytes_eq name (codes "backward") then Some Backward else None)
+direction_named name =
+    if bytes_eq name (codes "forward") then Some Forward else
+    (if bytes_eq name (codes "backward") then Some Backward else None)
 
 abbrev pub area_type_named : List ℕ → Option AreaType
-area_type_named name = if bytes_eq name (codes "journal") then Some types.Journal else (if bytes_eq name (codes "checksum") then Some types.Checksum else (if bytes_eq name (codes "datashift") then Some types.Datashift else None))
+area_type_named name =
+    if bytes_eq name (codes "journal") then Some types.Journal else
+    (if bytes_eq name (codes "checksum") then Some types.Checksum else
+    (if bytes_eq name (codes "datashift") then Some types.Datashift else None))
 
 abbrev pub area_type_name : Resilience → List ℕ
 area_type_name Journal = codes "journal"
@@ -58,7 +68,8 @@ resilience_by types.Datashift path ms = do
 
 abbrev pub area_names : Resilience → List (List ℕ)
 area_names Journal = codes "type" ∷ codes "offset" ∷ codes "size" ∷ []
-area_names (Checksum n) = codes "type" ∷ codes "offset" ∷ codes "size" ∷ codes "hash" ∷ codes "sector_size" ∷ []
+area_names (Checksum n) =
+    codes "type" ∷ codes "offset" ∷ codes "size" ∷ codes "hash" ∷ codes "sector_size" ∷ []
 area_names (Datashift n) = codes "type" ∷ codes "offset" ∷ codes "size" ∷ codes "shift_size" ∷ []
 
 unfoldable pub area_of : List ℕ → Members → Result ReencryptArea JsonFault
@@ -67,14 +78,21 @@ area_of path ms = do
   offset ← decimal_in path (codes "offset") ms
   size ← decimal_in path (codes "size") ms
   resilience ← resilience_by kind path ms
-  Ok (record { resilience = resilience; offset = offset; size = size; rest = without_all (area_names resilience) ms })
+  Ok (record {
+    resilience = resilience;
+    offset = offset;
+    size = size;
+    rest =
+        without_all (area_names resilience) ms;
+  })
 
 -- the key_size that the keyslot of a conversion has
 abbrev pub only_one : ℕ → Option (Unit {0})
 only_one n = if n == 1 then Some (tt {0}) else None
 
 abbrev pub reencrypt_names : List (List ℕ)
-reencrypt_names = codes "type" ∷ codes "key_size" ∷ codes "mode" ∷ codes "direction" ∷ codes "area" ∷ []
+reencrypt_names =
+    codes "type" ∷ codes "key_size" ∷ codes "mode" ∷ codes "direction" ∷ codes "area" ∷ []
 
 -- the keyslot that an object of the type reencrypt is, or its first fault
 unfoldable pub reencrypt_of : List ℕ → Members → Result Reencrypt JsonFault
@@ -84,27 +102,36 @@ reencrypt_of path ms = do
   direction ← meant_in Unsupported direction_named path (codes "direction") ms
   area_members ← object_in path (codes "area") ms
   area ← area_of (under path (codes "area")) area_members
-  Ok (record { mode = mode; direction = direction; area = area; rest = without_all reencrypt_names ms })
+  Ok (record
+      { mode = mode; direction = direction; area = area; rest = without_all reencrypt_names ms })
 
 -- ---- and back
 -- the members that each area has
 abbrev pub placed_fields : List ℕ → ℕ → ℕ → List (List ℕ × Data)
-placed_fields kind offset size = (codes "type", string kind) ∷ (codes "offset", string (decimal offset)) ∷ (codes "size", string (decimal size)) ∷ []
+placed_fields kind offset size =
+    (codes "type", string kind) ∷ (codes "offset", string (decimal offset))
+    ∷ (codes "size", string (decimal size)) ∷ []
 
 abbrev pub area_fields : Resilience → ℕ → ℕ → List (List ℕ × Data)
-area_fields Journal offset size = (codes "type", string (codes "journal")) ∷ (codes "offset", string (decimal offset)) ∷ (codes "size", string (decimal size)) ∷ []
+area_fields Journal offset size =
+    (codes "type", string (codes "journal")) ∷ (codes "offset", string (decimal offset))
+    ∷ (codes "size", string (decimal size)) ∷ []
 area_fields (Checksum n) offset size =
-    (codes "type", string (codes "checksum")) ∷ (codes "offset", string (decimal offset)) ∷ (codes "size", string (decimal size))
+    (codes "type", string (codes "checksum")) ∷ (codes "offset", string (decimal offset))
+    ∷ (codes "size", string (decimal size))
     ∷ (codes "hash", string (codes "sha256")) ∷ (codes "sector_size", number (unsigned n)) ∷ []
 area_fields (Datashift n) offset size =
-    (codes "type", string (codes "datashift")) ∷ (codes "offset", string (decimal offset)) ∷ (codes "size", string (decimal size)) ∷ (codes "shift_size", string (decimal n)) ∷ []
+    (codes "type", string (codes "datashift")) ∷ (codes "offset", string (decimal offset))
+    ∷ (codes "size", string (decimal size)) ∷ (codes "shift_size", string (decimal n)) ∷ []
 
 unfoldable pub area_members : ReencryptArea → Members
 area_members a = put_all (area_fields a.resilience a.offset a.size) a.rest
 
 abbrev pub reencrypt_fields : Reencrypt → List (List ℕ × Data)
 reencrypt_fields s =
-    (codes "type", string (codes "reencrypt")) ∷ (codes "key_size", number (unsigned 1)) ∷ (codes "mode", string (mode_name s.mode)) ∷ (codes "direction", string (direction_name s.direction))
+    (codes "type", string (codes "reencrypt")) ∷ (codes "key_size", number (unsigned 1))
+    ∷ (codes "mode", string (mode_name s.mode))
+    ∷ (codes "direction", string (direction_name s.direction))
     ∷ (codes "area", object (area_members s.area)) ∷ []
 
 unfoldable pub reencrypt_members : Reencrypt → Members
@@ -113,7 +140,8 @@ reencrypt_members s = put_all (reencrypt_fields s) s.rest
 -- ---- which members, of which form
 abbrev pub HasResilience : Members → Resilience → Type 0
 HasResilience ms Journal = Unit {0}
-HasResilience ms (Checksum n) = HasText (codes "hash") (codes "sha256") ms × HasNumber (codes "sector_size") n ms
+HasResilience ms (Checksum n) =
+    HasText (codes "hash") (codes "sha256") ms × HasNumber (codes "sector_size") n ms
 HasResilience ms (Datashift n) = HasDecimal (codes "shift_size") n ms
 
 pub record HasArea (ms : Members) (a : ReencryptArea) : Type 0 where

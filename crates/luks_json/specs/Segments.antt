@@ -1,11 +1,14 @@
 -- A segment as the members of an object.
-use Rattle.std.specs.Prelude.{◌≡◌, ℕ, ◌^◌, ◌<◌, ◌||◌, ◌==◌, List, [], ◌∷◌, ◌++◌, codes, Bool, true, Option, Some, None, option_map, Result, Ok, Err, if◌then◌else◌, decimal, IfSome}
+use Rattle.std.specs.Prelude.{◌≡◌, ℕ, ◌^◌, ◌<◌, ◌||◌, ◌==◌, List, [], ◌∷◌, ◌++◌, codes, Bool, true}
+use Rattle.std.specs.Prelude.{Option, Some, None, option_map, Result, Ok, Err, if◌then◌else◌}
+use Rattle.std.specs.Prelude.{decimal, IfSome}
 use Rattle.std.specs.Str.{bytes_eq}
 use Rattle.serde_json.specs.Data.{Data, string, number, unsigned, array, Members}
 use Rattle.json_members.specs.declared.faults.JsonFault.{JsonFault}
 use Rattle.json_members.specs.declared.faults.JsonFaultKind.TheVariants.{Number, Unsupported}
 use Rattle.json_members.specs.Decimals.{number_of}
-use Rattle.json_members.specs.Fields.{◌>>=◌, meant_in, counted_in, decimal_in, texts_in, optional, absent, texts_data}
+use Rattle.json_members.specs.Fields.{◌>>=◌, meant_in, counted_in, decimal_in, texts_in, optional}
+use Rattle.json_members.specs.Fields.{absent, texts_data}
 use Rattle.json_members.specs.Forms.{HasNone, HasText, HasNumber, HasDecimal, HasTexts, HasOptional}
 use Rattle.json_members.specs.Members.{without_all, put_all, put_optional, Lacks, IsPlain}
 use Rattle.luks_json.specs.declared.names.Cipher.{Cipher}
@@ -18,10 +21,13 @@ use Rattle.luks_json.specs.declared.segment.SegmentType.TheVariants.{Crypt, Line
 use Rattle.luks_json.specs.Names.{cipher_name, cipher_named}
 
 abbrev pub type_named : List ℕ → Option SegmentType
-type_named name = if bytes_eq name (codes "crypt") then Some Crypt else (if bytes_eq name (codes "linear") then Some Linear else None)
+type_named name =
+    if bytes_eq name (codes "crypt") then Some Crypt else
+    (if bytes_eq name (codes "linear") then Some Linear else None)
 
 abbrev pub size_named : List ℕ → Option SegmentSize
-size_named text = if bytes_eq text (codes "dynamic") then Some Dynamic else option_map Sized (number_of text)
+size_named text =
+    if bytes_eq text (codes "dynamic") then Some Dynamic else option_map Sized (number_of text)
 
 abbrev pub is_sector_size : ℕ → Bool
 is_sector_size n = (n == 512) || (n == 1024) || (n == 2048) || (n == 4096)
@@ -46,7 +52,9 @@ encryption_by Linear path ms = Ok None
 -- the names of a segment's members
 abbrev pub segment_names : Option Encryption → List (List ℕ)
 segment_names None = codes "type" ∷ codes "offset" ∷ codes "size" ∷ codes "flags" ∷ []
-segment_names (Some e) = codes "type" ∷ codes "offset" ∷ codes "size" ∷ codes "flags" ∷ codes "iv_tweak" ∷ codes "encryption" ∷ codes "sector_size" ∷ []
+segment_names (Some e) =
+    codes "type" ∷ codes "offset" ∷ codes "size" ∷ codes "flags" ∷ codes "iv_tweak"
+    ∷ codes "encryption" ∷ codes "sector_size" ∷ []
 
 -- the segment that an object is, or its first fault
 unfoldable pub segment_of : List ℕ → Members → Result Segment JsonFault
@@ -57,7 +65,14 @@ segment_of path ms = do
   size ← meant_in Number size_named path (codes "size") ms
   encryption ← encryption_by kind path ms
   flags ← optional (codes "flags") ms (texts_in path (codes "flags") ms)
-  Ok (record { offset = offset; size = size; encryption = encryption; flags = flags; rest = without_all (segment_names encryption) ms })
+  Ok (record {
+    offset = offset;
+    size = size;
+    encryption = encryption;
+    flags = flags;
+    rest =
+        without_all (segment_names encryption) ms;
+  })
 
 -- ---- and back
 abbrev pub size_text : SegmentSize → List ℕ
@@ -70,21 +85,27 @@ type_name (Some e) = codes "crypt"
 
 abbrev pub encryption_fields : Encryption → List (List ℕ × Data)
 encryption_fields e =
-    (codes "iv_tweak", string (decimal e.iv_tweak)) ∷ (codes "encryption", string (cipher_name e.cipher)) ∷ (codes "sector_size", number (unsigned e.sector_size)) ∷ []
+    (codes "iv_tweak", string (decimal e.iv_tweak))
+    ∷ (codes "encryption", string (cipher_name e.cipher))
+    ∷ (codes "sector_size", number (unsigned e.sector_size)) ∷ []
 
 abbrev pub put_encryption : Option Encryption → Members → Members
 put_encryption None ms = ms
 put_encryption (Some e) ms = put_all (encryption_fields e) ms
 
 abbrev pub segment_fields : Segment → List (List ℕ × Data)
-segment_fields s = (codes "type", string (type_name s.encryption)) ∷ (codes "offset", string (decimal s.offset)) ∷ (codes "size", string (size_text s.size)) ∷ []
+segment_fields s =
+    (codes "type", string (type_name s.encryption)) ∷ (codes "offset", string (decimal s.offset))
+    ∷ (codes "size", string (size_text s.size)) ∷ []
 
 abbrev pub flags_data : Option (List (List ℕ)) → Option Data
 flags_data flags = option_map (λ ss. array (texts_data ss)) flags
 
 -- the members of a segment
 unfoldable pub segment_members : Segment → Members
-segment_members s = put_encryption s.encryption (put_all (segment_fields s) (put_optional (codes "flags") (flags_data s.flags) s.rest))
+segment_members s =
+    put_encryption s.encryption
+    (put_all (segment_fields s) (put_optional (codes "flags") (flags_data s.flags) s.rest))
 
 -- ---- which members, of which form
 abbrev pub IsSize : SegmentSize → Type 0

@@ -77,7 +77,8 @@ fn optional_requirements_at(
     path: &str,
     object: &Object,
 ) -> Result<Option<Requirements>, ReadError>
-    ensures { Gives (λ r. r) result (optional (codes "requirements") object.now (requirements_in path.now object.now)) }
+    ensures { Gives (λ r. r) result
+        (optional (codes "requirements") object.now (requirements_in path.now object.now)) }
 {
     let Some(_) = object.get("requirements") else {
         return Ok(None);
@@ -102,7 +103,8 @@ fn json_size_of(hdr_size: u64, text: &str) -> Option<u64>
 
 #[tactic(auto, unfolding(json_members::specs::Fields::meant_in))]
 fn json_size_at(alloc: Global, hdr_size: u64, path: &str, object: &Object) -> Result<u64, ReadError>
-    ensures { Gives (λ n. n) result (meant_in Number (json_size_named hdr_size) path.now (codes "json_size") object.now) }
+    ensures { Gives (λ n. n) result
+        (meant_in Number (json_size_named hdr_size) path.now (codes "json_size") object.now) }
 {
     let text = text_at(alloc, path, object, "json_size")?;
     let Some(size) = json_size_of(hdr_size, text) else {
@@ -155,7 +157,10 @@ fn put_requirements(
     object: &mut Object,
     requirements: &Option<Requirements>,
 ) -> Result<(), AllocError>
-    ensures { OnOk result (object.new ≡ put_optional (codes "requirements") (option_map (λ r. object_data (requirements_members r)) requirements.now) object.old) }
+    ensures { OnOk result
+        (object.new
+        ≡ put_optional (codes "requirements")
+        (option_map (λ r. object_data (requirements_members r)) requirements.now) object.old) }
 {
     match requirements {
         Some(requirements) => {

@@ -32,7 +32,8 @@ pub struct Digest {
 
 #[tactic(auto, unfolding(json_members::specs::Fields::meant_in))]
 fn hash_at(alloc: Global, path: &str, object: &Object) -> Result<Hash, ReadError>
-    ensures { Gives (λ h. h) result (meant_in Unsupported hash_named path.now (codes "hash") object.now) }
+    ensures { Gives (λ h. h) result
+        (meant_in Unsupported hash_named path.now (codes "hash") object.now) }
 {
     let name = text_at(alloc, path, object, "hash")?;
     let Some(hash) = Hash::of_name(name) else {

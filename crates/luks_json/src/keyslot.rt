@@ -176,7 +176,8 @@ fn optional_area_at(
     path: &str,
     object: &Object,
 ) -> Result<Option<OtherArea>, ReadError>
-    ensures { Gives (λ a. a) result (optional (codes "area") object.now (other_area_in path.now object.now)) }
+    ensures { Gives (λ a. a) result
+        (optional (codes "area") object.now (other_area_in path.now object.now)) }
 {
     let Some(_) = object.get("area") else {
         return Ok(None);
@@ -251,7 +252,10 @@ fn put_other_area(
     object: &mut Object,
     area: &Option<OtherArea>,
 ) -> Result<(), AllocError>
-    ensures { OnOk result (object.new ≡ put_optional (codes "area") (option_map (λ a. object_data (other_area_members a)) area.now) object.old) }
+    ensures { OnOk result
+        (object.new
+        ≡ put_optional (codes "area")
+        (option_map (λ a. object_data (other_area_members a)) area.now) object.old) }
 {
     match area {
         Some(area) => {

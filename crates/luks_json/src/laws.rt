@@ -15,8 +15,12 @@ ghost use Rattle.luks_json.specs.Segments.{segment_of, HasSegment};
 
 /// Keyslots, segments, digests and the config are read by the forms of their members.
 pub fn objects_are_read_by_form()
-    ensures keyslots { (origin : origin_type) (path : List ℕ) (ms : Members) (slot : keyslot) → (keyslot_of origin path ms ≡ Ok slot) ↔ (HasKeyslot origin ms slot) }
-    ensures segments { (path : List ℕ) (ms : Members) (s : segment) → (segment_of path ms ≡ Ok s) ↔ (HasSegment ms s) }
-    ensures digests { (path : List ℕ) (ms : Members) (d : digest) → (digest_of path ms ≡ Ok d) ↔ (HasDigest ms d) }
-    ensures config { (hdr_size : ℕ) (path : List ℕ) (ms : Members) (c : config) → (config_of hdr_size path ms ≡ Ok c) ↔ (HasConfig hdr_size ms c) }
+    ensures keyslots { (origin : origin_type) (path : List ℕ) (ms : Members) (slot : keyslot)
+        → (keyslot_of origin path ms ≡ Ok slot) ↔ (HasKeyslot origin ms slot) }
+    ensures segments { (path : List ℕ) (ms : Members) (s : segment)
+        → (segment_of path ms ≡ Ok s) ↔ (HasSegment ms s) }
+    ensures digests { (path : List ℕ) (ms : Members) (d : digest)
+        → (digest_of path ms ≡ Ok d) ↔ (HasDigest ms d) }
+    ensures config { (hdr_size : ℕ) (path : List ℕ) (ms : Members) (c : config)
+        → (config_of hdr_size path ms ≡ Ok c) ↔ (HasConfig hdr_size ms c) }
 {}

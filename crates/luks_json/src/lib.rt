@@ -2,26 +2,21 @@
 //! the objects that it holds, or the first fault in it with its path, and the objects become a text
 //! again. Members that the format gives no name are kept as they were read, and written again.
 //!
-//! The layer above may rely on one definition, `meta_from`: the objects that a text is, or its first
-//! fault; beside it stands for each object which members it has, of which form. `Meta::read` gives
-//! exactly that. And it may rely on `Meta::write`: what is written is read as the same metadata.
+//! The layer above may rely on one definition, `meta_from`: the objects that a text is, or its
+//! first fault; beside it stands for each object which members it has, of which form. `Meta::read`
+//! gives exactly that. And it may rely on `Meta::write`: what is written is read as the same
+//! metadata.
 #![tactic(auto)]
 
 mod config;
 mod digest;
-#[cfg(test)]
-mod fault_tests;
 mod keyslot;
 mod laws;
 mod luks2;
 mod meta;
 mod names;
 mod reencrypt;
-#[cfg(test)]
-mod samples;
 mod segment;
-#[cfg(test)]
-mod tests;
 mod token;
 
 pub use config::{Config, PROFILE, Requirements};

@@ -111,7 +111,8 @@ fn read_splitter(alloc: Global, path: &str, object: Object) -> Result<Splitter, 
 
 #[tactic(auto, unfolding(json_members::specs::Fields::counted_in))]
 fn priority_at(alloc: Global, path: &str, object: &Object) -> Result<Priority, ReadError>
-    ensures { Gives (λ p. p) result (counted_in priority_of path.now (codes "priority") object.now) }
+    ensures { Gives (λ p. p) result
+        (counted_in priority_of path.now (codes "priority") object.now) }
 {
     let n = number_at(alloc, path, object, "priority")?;
     if n == 0 {
@@ -130,7 +131,9 @@ fn optional_priority_at(
     path: &str,
     object: &Object,
 ) -> Result<Option<Priority>, ReadError>
-    ensures { Gives (λ p. p) result (optional (codes "priority") object.now (counted_in priority_of path.now (codes "priority") object.now)) }
+    ensures { Gives (λ p. p) result
+        (optional (codes "priority") object.now
+        (counted_in priority_of path.now (codes "priority") object.now)) }
 {
     let Some(_) = object.get("priority") else {
         return Ok(None);
@@ -241,7 +244,10 @@ fn put_priority(
     object: &mut Object,
     priority: Option<Priority>,
 ) -> Result<(), AllocError>
-    ensures { OnOk result (object.new ≡ put_optional (codes "priority") (option_map (λ p. number (unsigned (priority_number p))) priority) object.old) }
+    ensures { OnOk result
+        (object.new
+        ≡ put_optional (codes "priority")
+        (option_map (λ p. number (unsigned (priority_number p))) priority) object.old) }
 {
     match priority {
         Some(priority) => put_number(alloc, object, "priority", priority.number()),

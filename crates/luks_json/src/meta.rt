@@ -4,7 +4,9 @@ ghost use Rattle.std.specs.Prelude.{◌≡◌, ◌+◌, IfOk, Ok};
 ghost use Rattle.serde_json.specs.View.{view};
 ghost use Rattle.serde_json.specs.Written.{compact_text};
 ghost use Rattle.json_members.specs.Fields.{Gives};
-ghost use Rattle.luks_json.specs.Metas.{meta_names, there_in, all_there, list_in, config_in, parts_of, whole_of, meta_of, meta_from, meta_members, data_of};
+ghost use Rattle.luks_json.specs.Metas.{meta_names, there_in, all_there, list_in, config_in};
+ghost use Rattle.luks_json.specs.Metas.{parts_of, whole_of, meta_of, meta_from, meta_members};
+ghost use Rattle.luks_json.specs.Metas.{data_of};
 
 use crate::config::{Config, origin_at, read_config, write_config};
 use crate::digest::Digest;
@@ -251,7 +253,8 @@ impl Meta {
     /// the size that the config says it is read as these very metadata.
     pub fn write(&self, alloc: Global) -> Result<Bytes, AllocError>
         ensures text { IfOk result (λ text. text ≡ compact_text (data_of self.now)) }
-        ensures back { IfOk result (λ text. meta_from (self.now.config.json_size + 4096) text ≡ Ok self.now) }
+        ensures back { IfOk result
+            (λ text. meta_from (self.now.config.json_size + 4096) text ≡ Ok self.now) }
     {
         let value = value_of(alloc, &self.parts)?;
         Ok(Bytes::new(value.to_vec(alloc)?))

@@ -2,7 +2,8 @@
 
 ghost use Rattle.std.specs.Prelude.{◌≡◌};
 ghost use Rattle.json_members.specs.Fields.{Gives, counted_in};
-ghost use Rattle.luks_json.specs.Names.{cipher_named, cipher_name, hash_named, hash_name, iterations_of};
+ghost use Rattle.luks_json.specs.Names.{cipher_named, cipher_name, hash_named, hash_name};
+ghost use Rattle.luks_json.specs.Names.{iterations_of};
 
 use json_members::{JsonFaultKind, Object, ReadError, fault_at, number_at};
 use std::alloc::Global;

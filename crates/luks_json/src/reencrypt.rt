@@ -157,7 +157,8 @@ impl AreaType {
 
 #[tactic(auto, unfolding(json_members::specs::Fields::meant_in))]
 fn mode_at(alloc: Global, path: &str, object: &Object) -> Result<Mode, ReadError>
-    ensures { Gives (λ m. m) result (meant_in Unsupported mode_named path.now (codes "mode") object.now) }
+    ensures { Gives (λ m. m) result
+        (meant_in Unsupported mode_named path.now (codes "mode") object.now) }
 {
     let name = text_at(alloc, path, object, "mode")?;
     let Some(mode) = Mode::of_name(name) else {
@@ -168,7 +169,8 @@ fn mode_at(alloc: Global, path: &str, object: &Object) -> Result<Mode, ReadError
 
 #[tactic(auto, unfolding(json_members::specs::Fields::meant_in))]
 fn direction_at(alloc: Global, path: &str, object: &Object) -> Result<Direction, ReadError>
-    ensures { Gives (λ d. d) result (meant_in Unsupported direction_named path.now (codes "direction") object.now) }
+    ensures { Gives (λ d. d) result
+        (meant_in Unsupported direction_named path.now (codes "direction") object.now) }
 {
     let name = text_at(alloc, path, object, "direction")?;
     let Some(direction) = Direction::of_name(name) else {
@@ -179,7 +181,8 @@ fn direction_at(alloc: Global, path: &str, object: &Object) -> Result<Direction,
 
 #[tactic(auto, unfolding(json_members::specs::Fields::meant_in))]
 fn area_type_at(alloc: Global, path: &str, object: &Object) -> Result<AreaType, ReadError>
-    ensures { Gives (λ t. t) result (meant_in Unsupported area_type_named path.now (codes "type") object.now) }
+    ensures { Gives (λ t. t) result
+        (meant_in Unsupported area_type_named path.now (codes "type") object.now) }
 {
     let name = text_at(alloc, path, object, "type")?;
     let Some(kind) = AreaType::of_name(name) else {
@@ -301,7 +304,9 @@ fn put_area_type(
 }
 
 fn put_area(alloc: Global, object: &mut Object, area: &ReencryptArea) -> Result<(), AllocError>
-    ensures { OnOk result (object.new ≡ put_all (area_fields area.now.resilience area.now.offset area.now.size) object.old) }
+    ensures { OnOk result
+        (object.new
+        ≡ put_all (area_fields area.now.resilience area.now.offset area.now.size) object.old) }
 {
     match area.resilience {
         Resilience::Journal => put_area_type(alloc, object, "journal", area.offset, area.size),

@@ -98,7 +98,8 @@ impl SegmentSize {
 
 #[tactic(auto, unfolding(json_members::specs::Fields::meant_in))]
 fn type_at(alloc: Global, path: &str, object: &Object) -> Result<SegmentType, ReadError>
-    ensures { Gives (λ t. t) result (meant_in Unsupported type_named path.now (codes "type") object.now) }
+    ensures { Gives (λ t. t) result
+        (meant_in Unsupported type_named path.now (codes "type") object.now) }
 {
     let name = text_at(alloc, path, object, "type")?;
     let Some(kind) = SegmentType::of_name(name) else {
@@ -109,7 +110,8 @@ fn type_at(alloc: Global, path: &str, object: &Object) -> Result<SegmentType, Re
 
 #[tactic(auto, unfolding(json_members::specs::Fields::meant_in))]
 fn size_at(alloc: Global, path: &str, object: &Object) -> Result<SegmentSize, ReadError>
-    ensures { Gives (λ t. t) result (meant_in Number size_named path.now (codes "size") object.now) }
+    ensures { Gives (λ t. t) result
+        (meant_in Number size_named path.now (codes "size") object.now) }
 {
     let text = text_at(alloc, path, object, "size")?;
     let Some(size) = SegmentSize::of_text(text) else {
@@ -120,7 +122,8 @@ fn size_at(alloc: Global, path: &str, object: &Object) -> Result<SegmentSize, Re
 
 #[tactic(auto, unfolding(json_members::specs::Fields::meant_in))]
 fn cipher_at(alloc: Global, path: &str, object: &Object) -> Result<Cipher, ReadError>
-    ensures { Gives (λ t. t) result (meant_in Unsupported cipher_named path.now (codes "encryption") object.now) }
+    ensures { Gives (λ t. t) result
+        (meant_in Unsupported cipher_named path.now (codes "encryption") object.now) }
 {
     let name = text_at(alloc, path, object, "encryption")?;
     let Some(cipher) = Cipher::of_name(name) else {
@@ -131,7 +134,8 @@ fn cipher_at(alloc: Global, path: &str, object: &Object) -> Result<Cipher, ReadE
 
 #[tactic(auto, unfolding(json_members::specs::Fields::counted_in))]
 fn sector_size_at(alloc: Global, path: &str, object: &Object) -> Result<u64, ReadError>
-    ensures { Gives (λ n. n) result (counted_in sector_size_of path.now (codes "sector_size") object.now) }
+    ensures { Gives (λ n. n) result
+        (counted_in sector_size_of path.now (codes "sector_size") object.now) }
 {
     let size = number_at(alloc, path, object, "sector_size")?;
     if size == 512 || size == 1024 || size == 2048 || size == 4096 {
@@ -222,7 +226,8 @@ fn read_segment(alloc: Global, path: &str, object: Object) -> Result<Segment, Re
 }
 
 fn put_size(alloc: Global, object: &mut Object, size: SegmentSize) -> Result<(), AllocError>
-    ensures { OnOk result (object.new ≡ with_member (codes "size") (string (size_text size)) object.old) }
+    ensures { OnOk result
+        (object.new ≡ with_member (codes "size") (string (size_text size)) object.old) }
 {
     match size {
         SegmentSize::Dynamic => put_text(alloc, object, "size", "dynamic"),
@@ -235,7 +240,8 @@ fn put_flags(
     object: &mut Object,
     flags: &Option<Listed<Text>>,
 ) -> Result<(), AllocError>
-    ensures { OnOk result (object.new ≡ put_optional (codes "flags") (flags_data flags.now) object.old) }
+    ensures { OnOk result
+        (object.new ≡ put_optional (codes "flags") (flags_data flags.now) object.old) }
 {
     match flags {
         Some(flags) => put_texts(alloc, object, "flags", flags.as_slice()),

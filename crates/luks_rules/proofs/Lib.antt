@@ -9,5 +9,7 @@ pub mod PlacedLemmas
 pub mod PlainLemmas
 pub mod PlanLemmas
 pub mod RuleLemmas
+pub mod ShapeLemmas
 pub mod ShareLemmas
 pub mod SoundLemmas
+pub mod ValidLemmas

@@ -1,5 +1,6 @@
 -- Metadata that break no rule, in plain words.
-use Rattle.std.proofs.Common.{◌≡◌, ◌∙◌, ℕ, ◌<◌, ◌++◌, not, nat_lt, eqb, List, [], ◌∷◌, map, Option, Some, None, Bool, true, false, cond, refl, sym, ap, subst, arith}
+use Rattle.std.proofs.Common.{◌≡◌, ◌∙◌, ℕ, ◌<◌, ◌++◌, not, nat_lt, eqb, List, [], ◌∷◌, map, Option}
+use Rattle.std.proofs.Common.{Some, None, Bool, true, false, cond, refl, sym, ap, subst, arith}
 use Rattle.std.proofs.lemmas.Bool.{ltb-false, or_parts, not-false, both_ways}
 use Rattle.std.specs.List.{All, AllByRecursion, list_any}
 use Rattle.std.specs.Option.{is_some, option_map, option_and_then}
@@ -19,21 +20,24 @@ use Rattle.luks_rules.specs.Overlaps.{overlap}
 use Rattle.luks_rules.specs.Plain.{HoldVolume}
 use Rattle.luks_rules.specs.References.{breaks_references, lists}
 use Rattle.luks_rules.specs.Rooms.{breaks_capacity, breaks_shift, capacity}
-use Rattle.luks_rules.specs.Rules.{broken, first_or, first_of, first_fault, rules_of_places, rules_of_sizes, rules_of_conversion}
+use Rattle.luks_rules.specs.Rules.{broken, first_or, first_of, first_fault, rules_of_places}
+use Rattle.luks_rules.specs.Rules.{rules_of_sizes, rules_of_conversion}
 use Rattle.luks_rules.specs.Segments.{breaks_segments, in_progress}
-use Rattle.luks_rules.specs.Shapes.{breaks_shape, is_any, progress_by, progress_from, progress_of, progress_under}
+use Rattle.luks_rules.specs.Shapes.{breaks_shape, is_any, progress_by, progress_from, progress_of}
+use Rattle.luks_rules.specs.Shapes.{progress_under}
 use Rattle.luks_rules.specs.States.{IsConverting, IsPlaced, IsSound, IsState}
 use Rattle.luks_rules.specs.declared.conversions.Conversion.{Conversion}
 use Rattle.luks_rules.specs.declared.extents.Extent.{Extent}
 use Rattle.luks_rules.specs.declared.fault.RuleFault.{RuleFault}
 use Rattle.luks_rules.specs.declared.fault.RuleFault.TheVariants as faults
 use Rattle.luks_rules.specs.declared.shape.Progress.{Progress}
-use Rattle.luks_rules.proofs.ChoiceLemmas.{find_any, state_of}
+use Rattle.luks_rules.proofs.ChoiceLemmas.{find_any}
 use Rattle.luks_rules.proofs.IdleLemmas.{idle_is}
 use Rattle.luks_rules.proofs.PlacedLemmas.{placed, last_two}
 use Rattle.luks_rules.proofs.PlainLemmas.{each, within, referred, held, sectors, atoms, numbers}
 use Rattle.luks_rules.proofs.PlaceLemmas.{on_disk}
 use Rattle.luks_rules.proofs.RuleLemmas.{by_groups}
+use Rattle.luks_rules.proofs.ShapeLemmas.{shaped, some_of}
 use Rattle.luks_rules.proofs.ShareLemmas.{overlaps}
 
 -- ---- no fault is found
@@ -49,118 +53,90 @@ unmapped : (o : Option (List ℕ)) → option_map faults.Foreign o ≡ None → 
 unmapped None h = refl
 unmapped (Some text) h = cc
 
-owned : (texts : List (List ℕ)) → first_foreign texts ≡ None → All (λ text. is_foreign text ≡ false) texts
-owned texts h = each is_foreign (λ text. is_foreign text ≡ false) texts (λ text e. e) (sym (find_any is_foreign texts) ∙ ap is_some h)
-
--- ---- the state of a conversion
-IsStateOf : ℕ → Conversion → List (ℕ × Digest) → List (ℕ × Segment) → Progress → Type 0
-IsStateOf atom c ds segments p = (live : List Extent) × (map (extent_of ds) segments ≡ live ++ p.old ∷ p.new ∷ []) × (p.conversion ≡ c) × IsState atom c live p.old p.new p.plan
-
-by_live : (atom : ℕ) (c : Conversion) (ds : List (ℕ × Digest)) (segments : List (ℕ × Segment)) (live : List Extent) (old new : Extent) (p : Progress)
-    → map (extent_of ds) segments ≡ live ++ old ∷ new ∷ [] → progress_by atom c live old new ≡ Some p → IsStateOf atom c ds segments p
-unfolding IsStateOf
-by_live atom c ds segments live old new p e h =
-    let s = state_of atom c live old new p h in
-    (live, e ∙ (λ i. live ++ (sym s.1 i) ∷ (sym s.2 i) ∷ []), s.0, subst (λ o. IsState atom c live o p.new p.plan) (sym s.1) (subst (λ n. IsState atom c live old n p.plan) (sym s.2) s.3))
-
-from_segments : (atom : ℕ) (c : Conversion) (ds : List (ℕ × Digest)) (segments : List (ℕ × Segment)) (p : Progress) → progress_from atom c ds segments ≡ Some p → IsStateOf atom c ds segments p
-unfolding progress_from
-from_segments atom c ds [] p h = cc
-from_segments atom c ds (a ∷ []) p h = cc
-from_segments atom c ds (a ∷ b ∷ []) p h = cc
-from_segments atom c ds (a ∷ old ∷ new ∷ []) p h = by_live atom c ds (a ∷ old ∷ new ∷ []) (extent_of ds a ∷ []) (extent_of ds old) (extent_of ds new) p refl h
-from_segments atom c ds (a ∷ b ∷ old ∷ new ∷ []) p h = by_live atom c ds (a ∷ b ∷ old ∷ new ∷ []) (extent_of ds a ∷ extent_of ds b ∷ []) (extent_of ds old) (extent_of ds new) p refl h
-from_segments atom c ds (a ∷ b ∷ d ∷ old ∷ new ∷ []) p h =
-    by_live atom c ds (a ∷ b ∷ d ∷ old ∷ new ∷ []) (extent_of ds a ∷ extent_of ds b ∷ extent_of ds d ∷ []) (extent_of ds old) (extent_of ds new) p refl h
-from_segments atom c ds (a ∷ b ∷ d ∷ old ∷ new ∷ more ∷ rest) p h = cc
-
-only_one : (cs : List Conversion) (c : Conversion) → only cs ≡ Some c → cs ≡ c ∷ []
-only_one [] c h = cc
-only_one (d ∷ []) c h = let same : d ≡ c = cc in ap (λ x. x ∷ []) same
-only_one (d ∷ e ∷ cs) c h = cc
-
-from_progress : (m : Parts) (sizes : Sizes) (p : Progress) → in_progress m.config ≡ true → progress_of m sizes ≡ Some p
-    → (conversions_of m.keyslots ≡ p.conversion ∷ []) × All (λ d. lists d.1.keyslots p.conversion.keyslot ≡ false) m.digests × IsStateOf sizes.atom p.conversion m.digests m.segments p
-unfolding progress_of IsStateOf
-from_progress m sizes p busy h =
-    by (only (conversions_of m.keyslots)) refl (sym (ap (λ b. cond b (option_and_then (progress_under sizes.atom m) (only (conversions_of m.keyslots))) None) busy) ∙ h)
-  where
-    under : (c : Conversion) (b : Bool) → cond b None (progress_from sizes.atom c m.digests m.segments) ≡ Some p → (b ≡ false) × (progress_from sizes.atom c m.digests m.segments ≡ Some p)
-    under c true e = cc
-    under c false e = (refl, e)
-
-    by : (o : Option Conversion) → only (conversions_of m.keyslots) ≡ o → option_and_then (progress_under sizes.atom m) o ≡ Some p
-        → (conversions_of m.keyslots ≡ p.conversion ∷ []) × All (λ d. lists d.1.keyslots p.conversion.keyslot ≡ false) m.digests × IsStateOf sizes.atom p.conversion m.digests m.segments p
-    by None e h = cc
-    by (Some c) e h =
-        let u = under c (list_any (λ d. lists d.1.keyslots c.keyslot) m.digests) h in
-        let s = from_segments sizes.atom c m.digests m.segments p u.1 in (
-          only_one (conversions_of m.keyslots) c e ∙ ap (λ x. x ∷ []) (sym s.2),
-          subst (λ x. All (λ d. lists d.1.keyslots x.keyslot ≡ false) m.digests) (sym s.2)
-          (each (λ d. lists d.1.keyslots c.keyslot) (λ d. lists d.1.keyslots c.keyslot ≡ false) m.digests (λ d k. k) u.0),
-          (s.0, s.1, refl, subst (λ x. IsState sizes.atom x s.0 p.old p.new p.plan) (sym s.2) s.3),
-        )
+owned : (texts : List (List ℕ)) → first_foreign texts ≡ None
+    → All (λ text. is_foreign text ≡ false) texts
+owned texts h =
+    each is_foreign (λ text. is_foreign text ≡ false) texts (λ text e. e)
+    (sym (find_any is_foreign texts) ∙ ap is_some h)
 
 -- ---- all of it
 nothing : (cs : List Conversion) → is_any cs ≡ false → cs ≡ []
 nothing [] h = refl
 nothing (c ∷ cs) h = cc
 
-idle_by : (m : Parts) (sizes : Sizes) → breaks_shape m (progress_of m sizes) ≡ false → in_progress m.config ≡ false → (conversions_of m.keyslots ≡ []) × (progress_of m sizes ≡ None)
+idle_by : (m : Parts) (sizes : Sizes) → breaks_shape m (progress_of m sizes) ≡ false
+    → in_progress m.config ≡ false → (conversions_of m.keyslots ≡ []) × (progress_of m sizes ≡ None)
 unfolding breaks_shape progress_of
 idle_by m sizes h e = (
-  nothing (conversions_of m.keyslots) (subst (λ b. cond b (not (is_some (progress_of m sizes))) (is_any (conversions_of m.keyslots)) ≡ false) e h),
-  ap (λ b. cond b (option_and_then (progress_under sizes.atom m) (only (conversions_of m.keyslots))) None) e,
+  nothing (conversions_of m.keyslots)
+      (subst (λ b. cond b (not (is_some (progress_of m sizes))) (is_any (conversions_of m.keyslots))
+      ≡ false) e h),
+  ap (λ b. cond b (option_and_then (progress_under sizes.atom m) (only (conversions_of m.keyslots)))
+      None) e,
 )
 
 not_idle : (m : Parts) (sizes : Sizes) → in_progress m.config ≡ true → idle_of m sizes ≡ None
 unfolding idle_of
 not_idle m sizes e = ap (λ b. cond b None (idle_from sizes m.digests m.segments)) e
 
-some_of : (o : Option Progress) → is_some o ≡ true → (p : Progress) × (o ≡ Some p)
-some_of None h = cc
-some_of (Some p) h = (p, refl)
-
-there : (m : Parts) (o : Option Progress) → breaks_shape m o ≡ false → in_progress m.config ≡ true → (p : Progress) × (o ≡ Some p)
+there : (m : Parts) (o : Option Progress) → breaks_shape m o ≡ false → in_progress m.config ≡ true
+    → (p : Progress) × (o ≡ Some p)
 unfolding breaks_shape
-there m o h e = some_of o (not-false _ (subst (λ b. cond b (not (is_some o)) (is_any (conversions_of m.keyslots)) ≡ false) e h))
+there m o h e =
+    some_of o
+    (not-false _
+    (subst (λ b. cond b (not (is_some o)) (is_any (conversions_of m.keyslots)) ≡ false) e h))
 
 some_room : (n : ℕ) → eqb n 0 ≡ false → 0 < n
 some_room n h = grind arith
 
-busy_by : (m : Parts) (sizes : Sizes) → breaks_shape m (progress_of m sizes) ≡ false → breaks_capacity sizes.atom (progress_of m sizes) ≡ false → breaks_shift (progress_of m sizes) ≡ false
-    → HoldVolume (in_progress m.config) m sizes → AllByRecursion (IsPlaced m sizes) (map (extent_of m.digests) m.segments) → in_progress m.config ≡ true
-    → (p : Progress) × (progress_of m sizes ≡ Some p) × ((live : List Extent) × IsConverting m sizes p live)
-unfolding IsStateOf
+busy_by : (m : Parts) (sizes : Sizes) → breaks_shape m (progress_of m sizes) ≡ false
+    → breaks_capacity sizes.atom (progress_of m sizes) ≡ false
+    → breaks_shift (progress_of m sizes) ≡ false
+    → HoldVolume (in_progress m.config) m sizes
+    → AllByRecursion (IsPlaced m sizes) (map (extent_of m.digests) m.segments)
+    → in_progress m.config ≡ true
+    → (p : Progress) × (progress_of m sizes ≡ Some p)
+    × ((live : List Extent) × IsConverting m sizes p live)
 busy_by m sizes h short far hold placed e =
     let t = there m (progress_of m sizes) h e in
-    let s = from_progress m sizes t.0 e t.1 in
-    let room = or_parts (eqb (capacity sizes.atom t.0) 0) (nat_lt (capacity sizes.atom t.0) t.0.plan.zone) (subst (λ o. breaks_capacity sizes.atom o ≡ false) t.1 short) in
-    let wholes = last_two (IsPlaced m sizes) s.2.0 t.0.old t.0.new (subst (AllByRecursion (IsPlaced m sizes)) s.2.1 placed) in (
+    let s = shaped m sizes t.0 e t.1 in
+    let room =
+    or_parts (eqb (capacity sizes.atom t.0) 0) (nat_lt (capacity sizes.atom t.0) t.0.plan.zone)
+    (subst (λ o. breaks_capacity sizes.atom o ≡ false) t.1 short) in
+    let wholes =
+    last_two (IsPlaced m sizes) s.0 t.0.old t.0.new
+    (subst (AllByRecursion (IsPlaced m sizes)) s.1.segments placed) in (
       t.0,
       t.1,
       (
-        s.2.0,
+        s.0,
         record {
-          keyslot = s.0;
-          alone = s.1;
-          segments = s.2.1;
-          state = s.2.3;
+          keyslot = s.1.keyslot;
+          alone = s.1.alone;
+          segments = s.1.segments;
+          state = s.1.state;
           old = wholes.0;
           new = wholes.1;
           room = some_room _ room.0;
           zone = ltb-false _ _ room.1;
           shift = subst (λ o. breaks_shift o ≡ false) t.1 far;
-          places = on_disk m sizes t.0 s.2.0 hold.on_disk s.2.1 s.2.3;
+          places = on_disk m sizes t.0 s.0 hold.on_disk s.1.segments s.1.state;
         },
       ),
     )
 
-pub sound : (m : Parts) (sizes : Sizes) → 0 < sizes.atom → IsRising m.digests → first_fault m sizes ≡ None → IsSound m sizes
+pub sound : (m : Parts) (sizes : Sizes) → 0 < sizes.atom → IsRising m.digests
+    → first_fault m sizes ≡ None → IsSound m sizes
 sound m sizes some rising none =
-    let all = none_parts (first_or (first_of (rules_of_places m sizes)) (first_of (rules_of_sizes m sizes))) (first_of (rules_of_conversion m sizes)) (sym (by_groups m sizes) ∙ none) in
-    let two = none_parts (first_of (rules_of_places m sizes)) (first_of (rules_of_sizes m sizes)) all.0 in
-    let p0 = none_parts (option_map faults.Foreign (first_foreign (mandatory m.config.requirements))) _ two.0 in
+    let all =
+    none_parts (first_or (first_of (rules_of_places m sizes)) (first_of (rules_of_sizes m sizes)))
+    (first_of (rules_of_conversion m sizes)) (sym (by_groups m sizes) ∙ none) in
+    let two =
+    none_parts (first_of (rules_of_places m sizes)) (first_of (rules_of_sizes m sizes)) all.0 in
+    let p0 =
+    none_parts (option_map faults.Foreign (first_foreign (mandatory m.config.requirements))) _
+    two.0 in
     let p1 = none_parts (broken faults.AreaBounds (breaks_bounds m sizes)) _ p0.1 in
     let p2 = none_parts (broken faults.AreaOverlap (overlap (areas_of m.keyslots))) _ p1.1 in
     let p3 = none_parts (broken faults.DigestRef (breaks_references m)) _ p2.1 in
@@ -168,30 +144,41 @@ sound m sizes some rising none =
     let s1 = none_parts (broken faults.SectorSize (breaks_sectors m sizes)) _ s0.1 in
     let s2 = none_parts (broken faults.NotAtomMultiple (breaks_multiples m sizes)) _ s1.1 in
     let s3 = none_parts (broken faults.TweakRange (breaks_tweaks m sizes)) _ s2.1 in
-    let c0 = none_parts (broken faults.ReencryptShape (breaks_shape m (progress_of m sizes))) _ all.1 in
-    let c1 = none_parts (broken faults.ResilTooSmall (breaks_capacity sizes.atom (progress_of m sizes))) _ c0.1 in
+    let c0 =
+    none_parts (broken faults.ReencryptShape (breaks_shape m (progress_of m sizes))) _ all.1 in
+    let c1 =
+    none_parts (broken faults.ResilTooSmall (breaks_capacity sizes.atom (progress_of m sizes))) _
+    c0.1 in
     let c2 = none_parts (broken faults.ShiftRoom (breaks_shift (progress_of m sizes))) _ c1.1 in
     let shape = unbroken faults.ReencryptShape (breaks_shape m (progress_of m sizes)) c0.0 in
     let inside = within m sizes (unbroken faults.AreaBounds _ p1.0) in
     let refers = referred m (unbroken faults.DigestRef (breaks_references m) p3.0) in
-    let hold = held (in_progress m.config) m sizes (unbroken faults.SegmentGap (breaks_segments m sizes) s0.0) in
+    let hold =
+    held (in_progress m.config) m sizes
+    (unbroken faults.SegmentGap (breaks_segments m sizes) s0.0) in
     let whole = sectors m sizes (unbroken faults.SectorSize (breaks_sectors m sizes) s1.0) in
     let even = atoms m sizes (unbroken faults.NotAtomMultiple (breaks_multiples m sizes) s2.0) in
     let units = numbers m sizes (unbroken faults.TweakRange (breaks_tweaks m sizes) s3.0) in
     let places = placed m sizes rising inside refers hold.on_disk whole even units in
     record {
       atom = some;
-      own = owned (mandatory m.config.requirements) (unmapped (first_foreign (mandatory m.config.requirements)) p0.0);
+      own = owned (mandatory m.config.requirements)
+          (unmapped (first_foreign (mandatory m.config.requirements)) p0.0);
       within = inside;
-      apart = λ two. both_ways _ (unbroken faults.AreaOverlap (overlap (areas_of m.keyslots)) p2.0) (overlaps (areas_of m.keyslots) two);
+      apart = λ two. both_ways _ (unbroken faults.AreaOverlap (overlap (areas_of m.keyslots)) p2.0)
+          (overlaps (areas_of m.keyslots) two);
       digests = refers;
       segments = hold;
       sectors = whole;
       atoms = even;
       numbers = units;
-      idle = λ e. (let none = idle_by m sizes shape e in (none.1, idle_is m sizes some places none.0 hold e));
+      idle = λ e.
+          (let none =
+          idle_by m sizes shape e in (none.1, idle_is m sizes some places none.0 hold e));
       busy = λ e. (
         not_idle m sizes e,
-        busy_by m sizes shape (unbroken faults.ResilTooSmall (breaks_capacity sizes.atom (progress_of m sizes)) c1.0) (unbroken faults.ShiftRoom (breaks_shift (progress_of m sizes)) c2.0) hold places e,
+        busy_by m sizes shape
+            (unbroken faults.ResilTooSmall (breaks_capacity sizes.atom (progress_of m sizes)) c1.0)
+            (unbroken faults.ShiftRoom (breaks_shift (progress_of m sizes)) c2.0) hold places e,
       );
     }

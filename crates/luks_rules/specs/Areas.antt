@@ -1,5 +1,6 @@
 -- The areas of keyslots, and where they may lie.
-use Rattle.std.specs.Prelude.{ℕ, ◌+◌, ◌*◌, ◌||◌, nat_lt, Bool, List, Option, Some, option_map, if◌then◌else◌}
+use Rattle.std.specs.Prelude.{ℕ, ◌+◌, ◌*◌, ◌||◌, nat_lt, Bool, List, Option, Some, option_map}
+use Rattle.std.specs.Prelude.{if◌then◌else◌}
 use Rattle.std.specs.List.{list_any, filter_map}
 use Rattle.luks_json.specs.declared.config.Config.{Config}
 use Rattle.luks_json.specs.declared.keyslot.Keyslot.{Keyslot}

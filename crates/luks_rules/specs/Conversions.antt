@@ -8,7 +8,14 @@ use Rattle.luks_rules.specs.declared.conversions.Conversion.{Conversion}
 
 abbrev pub conversion_by : ℕ → Reencrypt → Conversion
 conversion_by number s =
-    record { keyslot = number; mode = s.mode; direction = s.direction; resilience = s.area.resilience; area = record { offset = s.area.offset; size = s.area.size } }
+    record {
+      keyslot = number;
+      mode = s.mode;
+      direction = s.direction;
+      resilience =
+          s.area.resilience;
+      area = record { offset = s.area.offset; size = s.area.size };
+    }
 
 -- the conversion that a keyslot is of, if it is of one
 abbrev pub kept_by : ℕ → Keyslot → Option Conversion

@@ -1,5 +1,6 @@
 -- Sizes and places in whole sectors and atoms, and numbers of sectors.
-use Rattle.std.specs.Prelude.{ℕ, ◌+◌, ◌-◌, ◌/◌, ◌%◌, ◌^◌, ◌==◌, ◌||◌, nat_lt, not, Bool, false, Option, Some, None}
+use Rattle.std.specs.Prelude.{ℕ, ◌+◌, ◌-◌, ◌/◌, ◌%◌, ◌^◌, ◌==◌, ◌||◌, nat_lt, not, Bool, false}
+use Rattle.std.specs.Prelude.{Option, Some, None}
 use Rattle.std.specs.List.{list_any}
 use Rattle.luks_json.specs.declared.meta.Parts.{Parts}
 use Rattle.luks_json.specs.declared.segment.Encryption.{Encryption}
@@ -34,7 +35,9 @@ abbrev pub is_uneven_area : ℕ → Area → Bool
 is_uneven_area atom a = is_uneven atom a.offset || is_uneven atom a.size
 
 unfoldable pub breaks_multiples : Parts → Sizes → Bool
-breaks_multiples m sizes = list_any (λ s. is_uneven_segment sizes.atom s.1) m.segments || list_any (is_uneven_area sizes.atom) (areas_of m.keyslots)
+breaks_multiples m sizes =
+    list_any (λ s. is_uneven_segment sizes.atom s.1) m.segments
+    || list_any (is_uneven_area sizes.atom) (areas_of m.keyslots)
 
 -- ---- a last sector whose number has more than 64 bits
 abbrev pub passes_numbers : ℕ → Option Encryption → Bool
@@ -42,4 +45,5 @@ passes_numbers bytes None = false
 passes_numbers bytes (Some e) = nat_lt (2 ^ 64 - 1) (e.iv_tweak + bytes / 512)
 
 unfoldable pub breaks_tweaks : Parts → Sizes → Bool
-breaks_tweaks m sizes = list_any (λ s. passes_numbers (bytes_of sizes s.1) s.1.encryption) m.segments
+breaks_tweaks m sizes =
+    list_any (λ s. passes_numbers (bytes_of sizes s.1) s.1.encryption) m.segments

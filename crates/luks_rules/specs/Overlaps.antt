@@ -1,5 +1,6 @@
 -- Areas that share a byte.
-use Rattle.std.specs.Prelude.{ℕ, ◌<◌, ◌≤◌, ◌&&◌, ◌||◌, nat_lt, Bool, false, List, [], ◌∷◌, length, slice_index_or}
+use Rattle.std.specs.Prelude.{ℕ, ◌<◌, ◌≤◌, ◌&&◌, ◌||◌, nat_lt, Bool, false, List, [], ◌∷◌, length}
+use Rattle.std.specs.Prelude.{slice_index_or}
 use Rattle.std.specs.List.{list_any, filter}
 use Rattle.std.specs.List.Sorted.{IsPermutation, IsNonDecreasingBy}
 use Rattle.luks_rules.specs.Areas.{end_of}
@@ -11,7 +12,9 @@ HasByte a at = (a.offset ≤ at) × (at < end_of a)
 
 -- whether two areas have a byte in common
 abbrev pub shares : Area → Area → Bool
-shares a b = (nat_lt a.offset (end_of b) && nat_lt b.offset (end_of a)) && (nat_lt a.offset (end_of a) && nat_lt b.offset (end_of b))
+shares a b =
+    (nat_lt a.offset (end_of b) && nat_lt b.offset (end_of a))
+    && (nat_lt a.offset (end_of a) && nat_lt b.offset (end_of b))
 
 -- whether an area shares a byte with a later one
 unfoldable pub overlap : List Area → Bool

@@ -1,12 +1,14 @@
 -- The rules in plain words.
-use Rattle.std.specs.Prelude.{◌≡◌, ℕ, ◌+◌, ◌-◌, ◌/◌, ◌%◌, ◌^◌, ◌<◌, ◌≤◌, Bool, true, false, length, IfSome, IsSome}
+use Rattle.std.specs.Prelude.{◌≡◌, ℕ, ◌+◌, ◌-◌, ◌/◌, ◌%◌, ◌^◌, ◌<◌, ◌≤◌, Bool, true, false, length}
+use Rattle.std.specs.Prelude.{IfSome, IsSome}
 use Rattle.std.specs.List.{All, sum_by}
 use Rattle.disk_sizes.specs.declared.Sizes.{Sizes}
 use Rattle.luks_json.specs.declared.config.Config.{Config}
 use Rattle.luks_json.specs.declared.meta.Parts.{Parts}
 use Rattle.luks_json.specs.declared.segment.SegmentSize.{SegmentSize}
 use Rattle.luks_json.specs.declared.segment.SegmentSize.TheVariants.{Dynamic, Sized}
-use Rattle.luks_rules.specs.Areas.{areas_begin, areas_end, areas_of, end_of, header_bytes, main_bytes}
+use Rattle.luks_rules.specs.Areas.{areas_begin, areas_end, areas_of, end_of, header_bytes}
+use Rattle.luks_rules.specs.Areas.{main_bytes}
 use Rattle.luks_rules.specs.References.{is_there, times_listed}
 use Rattle.luks_rules.specs.Segments.{bytes_of, is_backup, is_dynamic, live_bytes}
 use Rattle.luks_rules.specs.declared.areas.Area.{Area}
@@ -34,7 +36,8 @@ pub record AreReferred (m : Parts) : Type 0 where
 -- ones have a block.
 pub record HoldVolume (progress : Bool) (m : Parts) (sizes : Sizes) : Type 0 where
   pub one : progress ≡ false → length m.segments ≡ 1
-  pub sized : progress ≡ true → All (λ s. is_backup s.1 ≡ false → is_dynamic s.1.size ≡ false) m.segments
+  pub sized : progress ≡ true
+      → All (λ s. is_backup s.1 ≡ false → is_dynamic s.1.size ≡ false) m.segments
   pub on_disk : All (λ s. s.1.offset + bytes_of sizes s.1 ≤ main_bytes sizes) m.segments
   pub block : sizes.atom ≤ sum_by (λ s. live_bytes progress sizes s.1) m.segments
 
@@ -46,11 +49,17 @@ IsWholeSize atom (Sized n) = n % atom ≡ 0
 -- Sectors divide the atom; places and sizes are whole atoms; and the number behind a segment's
 -- last sector has 64 bits.
 abbrev pub HaveWholeSectors : Parts → Sizes → Type 0
-HaveWholeSectors m sizes = All (λ s. IfSome s.1.encryption (λ e. (0 < e.sector_size) × (sizes.atom % e.sector_size ≡ 0))) m.segments
+HaveWholeSectors m sizes =
+    All (λ s. IfSome s.1.encryption (λ e. (0 < e.sector_size) × (sizes.atom % e.sector_size ≡ 0)))
+    m.segments
 
 pub record HaveWholeAtoms (m : Parts) (sizes : Sizes) : Type 0 where
-  pub segments : All (λ s. (s.1.offset % sizes.atom ≡ 0) × IsWholeSize sizes.atom s.1.size) m.segments
-  pub areas : All (λ a. (a.offset % sizes.atom ≡ 0) × (a.size % sizes.atom ≡ 0)) (areas_of m.keyslots)
+  pub segments : All (λ s. (s.1.offset % sizes.atom ≡ 0) × IsWholeSize sizes.atom s.1.size)
+      m.segments
+  pub areas : All (λ a. (a.offset % sizes.atom ≡ 0) × (a.size % sizes.atom ≡ 0))
+      (areas_of m.keyslots)
 
 abbrev pub HaveNumbers : Parts → Sizes → Type 0
-HaveNumbers m sizes = All (λ s. IfSome s.1.encryption (λ e. e.iv_tweak + bytes_of sizes s.1 / 512 ≤ 2 ^ 64 - 1)) m.segments
+HaveNumbers m sizes =
+    All (λ s. IfSome s.1.encryption (λ e. e.iv_tweak + bytes_of sizes s.1 / 512 ≤ 2 ^ 64 - 1))
+    m.segments

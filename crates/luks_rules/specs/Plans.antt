@@ -1,5 +1,6 @@
 -- How a conversion lays its volume out: the parts of the old and of the new segment.
-use Rattle.std.specs.Prelude.{ℕ, ◌+◌, ◌*◌, ◌/◌, ◌==◌, ◌&&◌, not, nat_lt, Bool, true, false, List, [], ◌∷◌, Option, Some, None, if◌then◌else◌}
+use Rattle.std.specs.Prelude.{ℕ, ◌+◌, ◌*◌, ◌/◌, ◌==◌, ◌&&◌, not, nat_lt, Bool, true, false, List}
+use Rattle.std.specs.Prelude.{[], ◌∷◌, Option, Some, None, if◌then◌else◌}
 use Rattle.luks_json.specs.declared.names.Cipher.{Cipher}
 use Rattle.luks_json.specs.declared.names.Cipher.TheVariants.{AesXtsPlain64, AesCbcEssivSha256}
 use Rattle.luks_json.specs.declared.reencrypt.Direction.{Direction}
@@ -21,10 +22,12 @@ blocks_in plan = plan.first + plan.zone + plan.last
 -- them is the open zone, which is where the old segment has it.
 abbrev pub parts_of : Direction → Extent → Extent → Plan → List Part
 parts_of Forward old new plan =
-    record { whole = new; zone = false; from = 0; blocks = plan.first } ∷ record { whole = old; zone = true; from = plan.first; blocks = plan.zone }
+    record { whole = new; zone = false; from = 0; blocks = plan.first }
+    ∷ record { whole = old; zone = true; from = plan.first; blocks = plan.zone }
     ∷ record { whole = old; zone = false; from = plan.first + plan.zone; blocks = plan.last } ∷ []
 parts_of Backward old new plan =
-    record { whole = old; zone = false; from = 0; blocks = plan.first } ∷ record { whole = old; zone = true; from = plan.first; blocks = plan.zone }
+    record { whole = old; zone = false; from = 0; blocks = plan.first }
+    ∷ record { whole = old; zone = true; from = plan.first; blocks = plan.zone }
     ∷ record { whole = new; zone = false; from = plan.first + plan.zone; blocks = plan.last } ∷ []
 
 -- ---- a block of the volume
@@ -61,7 +64,9 @@ abbrev pub is_encrypted : ℕ → Option Encryption → Option Encryption → Bo
 is_encrypted units None None = true
 is_encrypted units None (Some e) = false
 is_encrypted units (Some w) None = false
-is_encrypted units (Some w) (Some e) = same_cipher w.cipher e.cipher && e.sector_size == w.sector_size && e.iv_tweak == w.iv_tweak + units
+is_encrypted units (Some w) (Some e) =
+    same_cipher w.cipher e.cipher && e.sector_size == w.sector_size
+    && e.iv_tweak == w.iv_tweak + units
 
 abbrev pub same_digest : Option ℕ → Option ℕ → Bool
 same_digest None None = true

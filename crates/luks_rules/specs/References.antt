@@ -1,5 +1,6 @@
 -- The keyslots and segments that digests list.
-use Rattle.std.specs.Prelude.{ℕ, ◌==◌, ◌&&◌, ◌||◌, not, Bool, List, Option, is_some, option_map, count_by}
+use Rattle.std.specs.Prelude.{ℕ, ◌==◌, ◌&&◌, ◌||◌, not, Bool, List, Option, is_some, option_map}
+use Rattle.std.specs.Prelude.{count_by}
 use Rattle.std.specs.List.{list_any, find}
 use Rattle.luks_json.specs.declared.digest.Digest.{Digest}
 use Rattle.luks_json.specs.declared.meta.Parts.{Parts}
@@ -18,7 +19,8 @@ lists numbers n = list_any (λ number. number == n) numbers
 
 -- a digest that lists a keyslot or segment that isn't one of these
 abbrev pub lists_beyond : (ℕ → Bool) → (ℕ → Bool) → Digest → Bool
-lists_beyond keyslots segments d = list_any (λ k. not (keyslots k)) d.keyslots || list_any (λ s. not (segments s)) d.segments
+lists_beyond keyslots segments d =
+    list_any (λ k. not (keyslots k)) d.keyslots || list_any (λ s. not (segments s)) d.segments
 
 -- a digest that lists a keyslot or segment that isn't there
 abbrev pub lists_unknown : Parts → Digest → Bool
@@ -33,4 +35,5 @@ abbrev pub is_badly_listed : List (ℕ × Digest) → ℕ × Segment → Bool
 is_badly_listed digests s = is_some s.1.encryption && not (times_listed digests s.0 == 1)
 
 unfoldable pub breaks_references : Parts → Bool
-breaks_references m = list_any (λ d. lists_unknown m d.1) m.digests || list_any (is_badly_listed m.digests) m.segments
+breaks_references m =
+    list_any (λ d. lists_unknown m d.1) m.digests || list_any (is_badly_listed m.digests) m.segments

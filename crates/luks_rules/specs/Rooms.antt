@@ -31,8 +31,10 @@ is_shifted Backward shift old new = new == old + shift
 abbrev pub lacks_shift : Direction → Resilience → ℕ → ℕ → Bool
 lacks_shift direction Journal old new = false
 lacks_shift direction (Checksum n) old new = false
-lacks_shift direction (Datashift shift) old new = shift == 0 || not (is_shifted direction shift old new)
+lacks_shift direction (Datashift shift) old new =
+    shift == 0 || not (is_shifted direction shift old new)
 
 abbrev pub breaks_shift : Option Progress → Bool
 breaks_shift None = false
-breaks_shift (Some p) = lacks_shift p.conversion.direction p.conversion.resilience p.old.offset p.new.offset
+breaks_shift (Some p) =
+    lacks_shift p.conversion.direction p.conversion.resilience p.old.offset p.new.offset

@@ -1,5 +1,6 @@
 -- All rules, in their order.
-use Rattle.std.specs.Prelude.{◌≡◌, ◌<◌, ◌++◌, Bool, true, false, List, [], ◌∷◌, Option, Some, None, option_map}
+use Rattle.std.specs.Prelude.{◌≡◌, ◌<◌, ◌++◌, Bool, true, false, List, [], ◌∷◌, Option, Some, None}
+use Rattle.std.specs.Prelude.{option_map}
 use Rattle.disk_sizes.specs.declared.Sizes.{Sizes}
 use Rattle.luks_json.specs.declared.meta.Parts.{Parts}
 use Rattle.luks_json.specs.Configs.{mandatory}

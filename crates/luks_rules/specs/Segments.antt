@@ -1,5 +1,6 @@
 -- Segments: how long they are, which of them hold the volume, and how far they reach.
-use Rattle.std.specs.Prelude.{ℕ, ◌+◌, ◌-◌, ◌/◌, ◌==◌, ◌&&◌, ◌||◌, nat_lt, not, Bool, true, false, List, codes, length, Option, Some, None, if◌then◌else◌}
+use Rattle.std.specs.Prelude.{ℕ, ◌+◌, ◌-◌, ◌/◌, ◌==◌, ◌&&◌, ◌||◌, nat_lt, not, Bool, true, false}
+use Rattle.std.specs.Prelude.{List, codes, length, Option, Some, None, if◌then◌else◌}
 use Rattle.std.specs.List.{list_any, sum_by}
 use Rattle.std.specs.Str.{bytes_eq}
 use Rattle.luks_json.specs.Configs.{profile, mandatory}
@@ -42,7 +43,8 @@ whole_blocks sizes offset size = bytes_by (main_bytes sizes) offset size / sizes
 abbrev pub passes_end : Sizes → Segment → Bool
 passes_end sizes s = nat_lt (main_bytes sizes) (s.offset + bytes_of sizes s)
 
--- ---- no whole volume: segments that are too many or too few, open-ended, too far, or without a block
+-- ---- no whole volume: segments that are too many or too few, open-ended, too far, or without a
+-- block
 abbrev pub is_live : Bool → Segment → Bool
 is_live progress s = not (progress && is_backup s)
 

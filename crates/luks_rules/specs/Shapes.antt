@@ -1,5 +1,7 @@
 -- Metadata of a conversion: which segments, digests and keyslot belong together.
-use Rattle.std.specs.Prelude.{ℕ, ◌+◌, ◌*◌, ◌==◌, ◌&&◌, not, Bool, true, false, List, [], ◌∷◌, length, Option, Some, None, is_some, option_map, option_and_then, if◌then◌else◌}
+use Rattle.std.specs.Prelude.{ℕ, ◌+◌, ◌*◌, ◌==◌, ◌&&◌, not, Bool, true, false, List, [], ◌∷◌}
+use Rattle.std.specs.Prelude.{length, Option, Some, None, is_some, option_map, option_and_then}
+use Rattle.std.specs.Prelude.{if◌then◌else◌}
 use Rattle.std.specs.List.{list_any, find}
 use Rattle.luks_json.specs.declared.digest.Digest.{Digest}
 use Rattle.luks_json.specs.declared.meta.Parts.{Parts}
@@ -114,10 +116,15 @@ plan_by first zone last = record { first = first; zone = zone; last = last }
 -- All choices that the live segments leave: each part has the blocks of one of them, or none.
 abbrev pub choices : ℕ → List Extent → List Plan
 choices atom [] = []
-choices atom (a ∷ []) = plan_by (blocks_of atom a.size) 0 0 ∷ plan_by 0 (blocks_of atom a.size) 0 ∷ plan_by 0 0 (blocks_of atom a.size) ∷ []
+choices atom (a ∷ []) =
+    plan_by (blocks_of atom a.size) 0 0 ∷ plan_by 0 (blocks_of atom a.size) 0
+    ∷ plan_by 0 0 (blocks_of atom a.size) ∷ []
 choices atom (a ∷ b ∷ []) =
-    plan_by (blocks_of atom a.size) (blocks_of atom b.size) 0 ∷ plan_by (blocks_of atom a.size) 0 (blocks_of atom b.size) ∷ plan_by 0 (blocks_of atom a.size) (blocks_of atom b.size) ∷ []
-choices atom (a ∷ b ∷ c ∷ []) = plan_by (blocks_of atom a.size) (blocks_of atom b.size) (blocks_of atom c.size) ∷ []
+    plan_by (blocks_of atom a.size) (blocks_of atom b.size) 0
+    ∷ plan_by (blocks_of atom a.size) 0 (blocks_of atom b.size)
+    ∷ plan_by 0 (blocks_of atom a.size) (blocks_of atom b.size) ∷ []
+choices atom (a ∷ b ∷ c ∷ []) =
+    plan_by (blocks_of atom a.size) (blocks_of atom b.size) (blocks_of atom c.size) ∷ []
 choices atom (a ∷ b ∷ c ∷ d ∷ es) = []
 
 unfoldable pub plan_of : ℕ → Conversion → Extent → Extent → List Extent → Option Plan
@@ -129,7 +136,8 @@ numbered n [] = true
 numbered n (e ∷ es) = e.number == n && numbered (n + 1) es
 
 abbrev pub are_numbered : List Extent → Extent → Extent → Bool
-are_numbered live old new = numbered 0 live && old.number == length live && new.number == length live + 1
+are_numbered live old new =
+    numbered 0 live && old.number == length live && new.number == length live + 1
 
 abbrev pub progress_with : Conversion → Extent → Extent → Plan → Progress
 progress_with c old new plan = record { conversion = c; old = old; new = new; plan = plan }
@@ -140,19 +148,28 @@ progress_by atom c live old new =
     then option_map (progress_with c old new) (plan_of atom c old new live) else None
 
 -- one to three live segments, the whole old one, and the whole new one
-unfoldable pub progress_from : ℕ → Conversion → List (ℕ × Digest) → List (ℕ × Segment) → Option Progress
-progress_from atom c ds (a ∷ old ∷ new ∷ []) = progress_by atom c (extent_of ds a ∷ []) (extent_of ds old) (extent_of ds new)
-progress_from atom c ds (a ∷ b ∷ old ∷ new ∷ []) = progress_by atom c (extent_of ds a ∷ extent_of ds b ∷ []) (extent_of ds old) (extent_of ds new)
-progress_from atom c ds (a ∷ b ∷ d ∷ old ∷ new ∷ []) = progress_by atom c (extent_of ds a ∷ extent_of ds b ∷ extent_of ds d ∷ []) (extent_of ds old) (extent_of ds new)
+unfoldable pub progress_from : ℕ → Conversion → List (ℕ × Digest) → List (ℕ × Segment)
+    → Option Progress
+progress_from atom c ds (a ∷ old ∷ new ∷ []) =
+    progress_by atom c (extent_of ds a ∷ []) (extent_of ds old) (extent_of ds new)
+progress_from atom c ds (a ∷ b ∷ old ∷ new ∷ []) =
+    progress_by atom c (extent_of ds a ∷ extent_of ds b ∷ []) (extent_of ds old) (extent_of ds new)
+progress_from atom c ds (a ∷ b ∷ d ∷ old ∷ new ∷ []) =
+    progress_by atom c (extent_of ds a ∷ extent_of ds b ∷ extent_of ds d ∷ []) (extent_of ds old)
+    (extent_of ds new)
 progress_from atom c ds segments = None
 
 -- the conversion's keyslot is in no digest
 abbrev pub progress_under : ℕ → Parts → Conversion → Option Progress
-progress_under atom m c = if list_any (λ d. lists d.1.keyslots c.keyslot) m.digests then None else progress_from atom c m.digests m.segments
+progress_under atom m c =
+    if list_any (λ d. lists d.1.keyslots c.keyslot) m.digests then None else progress_from atom c
+    m.digests m.segments
 
 -- how far the conversion is, if metadata are those of one
 unfoldable pub progress_of : Parts → Sizes → Option Progress
-progress_of m sizes = if in_progress m.config then option_and_then (progress_under sizes.atom m) (only (conversions_of m.keyslots)) else None
+progress_of m sizes =
+    if in_progress m.config then option_and_then (progress_under sizes.atom m)
+    (only (conversions_of m.keyslots)) else None
 
 abbrev pub is_any : List Conversion → Bool
 is_any [] = false
@@ -160,4 +177,5 @@ is_any (c ∷ cs) = true
 
 -- ---- the rule: a conversion under way has a state, and where none is there is no keyslot of one
 unfoldable pub breaks_shape : Parts → Option Progress → Bool
-breaks_shape m progress = if in_progress m.config then not (is_some progress) else is_any (conversions_of m.keyslots)
+breaks_shape m progress =
+    if in_progress m.config then not (is_some progress) else is_any (conversions_of m.keyslots)

@@ -1,6 +1,7 @@
 ghost use Rattle.std.specs.Prelude.{◌≡◌, IfOk, nat_lt};
 ghost use Rattle.std.specs.List.{list_any};
-ghost use Rattle.luks_rules.specs.Areas.{area_of, areas_of, end_of, areas_begin, areas_end, is_outside, passes_limit, breaks_bounds};
+ghost use Rattle.luks_rules.specs.Areas.{area_of, areas_of, end_of, areas_begin, areas_end};
+ghost use Rattle.luks_rules.specs.Areas.{is_outside, passes_limit, breaks_bounds};
 
 use disk_sizes::Sizes;
 use luks_json::{Config, Keyslot, Parts, Segment};
@@ -39,7 +40,7 @@ fn area_of_slot(slot: &Keyslot) -> Option<Area>
 }
 
 /// The areas of keyslots, in the order of their numbers.
-pub(crate) fn list_areas(alloc: Global, slots: &[(u64, Keyslot)]) -> Result<Vec<Area>, AllocError>
+pub fn list_areas(alloc: Global, slots: &[(u64, Keyslot)]) -> Result<Vec<Area>, AllocError>
     ensures { IfOk result (λ areas. areas.items ≡ areas_of slots.now) }
 {
     let mut areas = Vec::new(alloc);

@@ -1,5 +1,6 @@
 ghost use Rattle.std.specs.Prelude.{◌≡◌, ◌<◌};
-ghost use Rattle.luks_rules.specs.Extents.{blocks_of, digest_of, extent_of, mark_by, mark_named, mark_of};
+ghost use Rattle.luks_rules.specs.Extents.{blocks_of, digest_of, extent_of, mark_by, mark_named};
+ghost use Rattle.luks_rules.specs.Extents.{mark_of};
 
 use crate::references::lists_number;
 use json_members::{Listed, Text};

@@ -13,11 +13,11 @@ pub enum RuleFault {
     AreaBounds,
     /// Two areas of keyslots share a byte.
     AreaOverlap,
-    /// A digest lists a keyslot or segment that isn't there, or a crypt segment is in no digest or in
-    /// two.
+    /// A digest lists a keyslot or segment that isn't there, or a crypt segment is in no digest or
+    /// in two.
     DigestRef,
-    /// Without a conversion there isn't exactly one segment; in one, a live segment has no size of its
-    /// own; or a segment passes the disk's end; or the volume has no block.
+    /// Without a conversion there isn't exactly one segment; in one, a live segment has no size of
+    /// its own; or a segment passes the disk's end; or the volume has no block.
     SegmentGap,
     /// A sector size doesn't divide the atom.
     SectorSize,

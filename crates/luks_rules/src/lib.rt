@@ -27,19 +27,20 @@ mod room;
 mod rules;
 mod segments;
 mod shape;
-#[cfg(test)]
-mod tests;
 mod unserved;
 mod valid;
 
-pub use areas::Area;
+pub use areas::{Area, list_areas};
 pub use conversions::Conversion;
 pub use disk_sizes::Sizes;
 pub use extents::{Extent, Mark};
 pub use fault::{CheckError, RuleFault};
 pub use idle::Idle;
-pub use laws::{rules_are_plain, shapes_are_choices};
+pub use laws::{
+    conversions_are_shaped, rules_are_plain, shapes_are_choices, sound_metadata_are_valid,
+};
 pub use overlaps::overlaps_are_shared_bytes;
 pub use plan::Plan;
+pub use references::lists_number;
 pub use shape::Progress;
 pub use valid::{Checked, Valid, check};

@@ -1,7 +1,9 @@
 ghost use Rattle.std.specs.Prelude.{◌≡◌, ◌<◌, ◌||◌, ◌^◌};
 ghost use Rattle.std.specs.List.{list_any};
 ghost use Rattle.luks_rules.specs.Areas.{areas_of};
-ghost use Rattle.luks_rules.specs.Multiples.{breaks_multiples, breaks_sectors, breaks_tweaks, cuts_atom, is_uneven, is_uneven_area, is_uneven_segment, is_uneven_size, passes_numbers};
+ghost use Rattle.luks_rules.specs.Multiples.{breaks_multiples, breaks_sectors, breaks_tweaks};
+ghost use Rattle.luks_rules.specs.Multiples.{cuts_atom, is_uneven, is_uneven_area};
+ghost use Rattle.luks_rules.specs.Multiples.{is_uneven_segment, is_uneven_size, passes_numbers};
 ghost use Rattle.luks_rules.specs.Segments.{bytes_of};
 
 use crate::areas::Area;

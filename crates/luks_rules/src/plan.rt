@@ -1,6 +1,8 @@
 ghost use Rattle.std.specs.Prelude.{◌≡◌, ◌+◌, ◌*◌, ◌/◌, ◌<◌, ◌^◌};
 ghost use Rattle.std.specs.List.{All};
-ghost use Rattle.luks_rules.specs.Plans.{blocks_in, begins, is_encrypted, is_marked, is_part, is_sized, laid_out, parts_of, rest_of, same_cipher, same_digest};
+ghost use Rattle.luks_rules.specs.Plans.{blocks_in, begins, is_encrypted, is_marked, is_part};
+ghost use Rattle.luks_rules.specs.Plans.{is_sized, laid_out, parts_of, rest_of, same_cipher};
+ghost use Rattle.luks_rules.specs.Plans.{same_digest};
 
 use crate::extents::{Extent, Mark};
 use luks_json::{Cipher, Direction, Encryption, SegmentSize};

@@ -1,9 +1,11 @@
-ghost use Rattle.std.specs.Prelude.{◌≡◌, ◌+◌, ◌<◌, ◌^◌, ◌&&◌, ◌==◌, ℕ, not, is_some, unwrap_or, OnOk, IfOk, if◌then◌else◌};
+ghost use Rattle.std.specs.Prelude.{◌≡◌, ◌+◌, ◌<◌, ◌^◌, ◌&&◌, ◌==◌, ℕ, not, is_some, unwrap_or};
+ghost use Rattle.std.specs.Prelude.{OnOk, IfOk, if◌then◌else◌};
 ghost use Rattle.std.specs.List.{list_any};
 ghost use Rattle.std.specs.Ordering.{nat_cmp};
 ghost use Rattle.std.specs.BTreeMap as map;
 ghost use Rattle.std.specs.BTreeSet as set;
-ghost use Rattle.luks_rules.specs.References.{breaks_references, is_badly_listed, is_there, lists, lists_beyond, lists_unknown, times_listed};
+ghost use Rattle.luks_rules.specs.References.{breaks_references, is_badly_listed, is_there, lists};
+ghost use Rattle.luks_rules.specs.References.{lists_beyond, lists_unknown, times_listed};
 
 use luks_json::{Digest, Parts, Segment};
 use std::alloc::{AllocError, Global};
@@ -11,7 +13,8 @@ use std::collections::{BTreeMap, BTreeSet};
 
 /// The numbers of entries, as a set.
 fn numbers_of<T>(alloc: Global, entries: &[(u64, T)]) -> Result<BTreeSet<u64>, AllocError>
-    ensures { IfOk result (λ numbers. (n : ℕ) → set.contains nat_cmp numbers n ≡ is_there entries.now n) }
+    ensures { IfOk result
+        (λ numbers. (n : ℕ) → set.contains nat_cmp numbers n ≡ is_there entries.now n) }
 {
     let mut numbers = BTreeSet::new(alloc);
     for entry in entries {
@@ -21,7 +24,7 @@ fn numbers_of<T>(alloc: Global, entries: &[(u64, T)]) -> Result<BTreeSet<u64>, A
 }
 
 /// Whether a number is one of a list.
-pub(crate) fn lists_number(numbers: &[u64], number: u64) -> bool
+pub fn lists_number(numbers: &[u64], number: u64) -> bool
     ensures { result ≡ lists numbers.now number }
 {
     numbers.iter().any(|n| *n == number)
@@ -69,7 +72,8 @@ fn count_listings(
     alloc: Global,
     digests: &[(u64, Digest)],
 ) -> Result<BTreeMap<u64, u64>, AllocError>
-    ensures { IfOk result (λ counts. (n : ℕ) → unwrap_or (map.get nat_cmp counts n) 0 ≡ times_listed digests.now n) }
+    ensures { IfOk result
+        (λ counts. (n : ℕ) → unwrap_or (map.get nat_cmp counts n) 0 ≡ times_listed digests.now n) }
 {
     let mut counts = BTreeMap::new(alloc);
     for digest in digests {
@@ -80,7 +84,9 @@ fn count_listings(
 
 /// Whether a digest lists a number that isn't in the set of keyslots' or of segments' numbers.
 fn lists_others(digest: &Digest, keyslots: &BTreeSet<u64>, segments: &BTreeSet<u64>) -> bool
-    ensures { result ≡ lists_beyond (set.contains nat_cmp keyslots.now) (set.contains nat_cmp segments.now) digest.now }
+    ensures { result
+        ≡ lists_beyond (set.contains nat_cmp keyslots.now) (set.contains nat_cmp segments.now)
+        digest.now }
 {
     any_lacks(keyslots, digest.keyslots.as_slice())
         || any_lacks(segments, digest.segments.as_slice())
@@ -91,7 +97,10 @@ fn any_lists_others(
     keyslots: &BTreeSet<u64>,
     segments: &BTreeSet<u64>,
 ) -> bool
-    ensures { result ≡ list_any (λ d. lists_beyond (set.contains nat_cmp keyslots.now) (set.contains nat_cmp segments.now) d.1) digests.now }
+    ensures { result
+        ≡ list_any
+        (λ d. lists_beyond (set.contains nat_cmp keyslots.now) (set.contains nat_cmp segments.now)
+        d.1) digests.now }
 {
     digests
         .iter()
@@ -100,7 +109,8 @@ fn any_lists_others(
 
 /// Whether a digest lists a keyslot or a segment that isn't there.
 fn any_lists_unknown(alloc: Global, parts: &Parts) -> Result<bool, AllocError>
-    ensures { IfOk result (λ found. found ≡ list_any (λ d. lists_unknown parts.now d.1) parts.now.digests) }
+    ensures { IfOk result
+        (λ found. found ≡ list_any (λ d. lists_unknown parts.now d.1) parts.now.digests) }
 {
     let keyslots = numbers_of(alloc, parts.keyslots.as_slice())?;
     let segments = numbers_of(alloc, parts.segments.as_slice())?;
@@ -109,20 +119,25 @@ fn any_lists_unknown(alloc: Global, parts: &Parts) -> Result<bool, AllocError>
 
 /// Whether a crypt segment isn't listed once by these counts.
 fn is_crypt_and_not_once(segment: &(u64, Segment), counts: &BTreeMap<u64, u64>) -> bool
-    ensures { result ≡ is_some segment.now.1.encryption && not (unwrap_or (map.get nat_cmp counts.now segment.now.0) 0 == 1) }
+    ensures { result ≡ is_some segment.now.1.encryption
+        && not (unwrap_or (map.get nat_cmp counts.now segment.now.0) 0 == 1) }
 {
     segment.1.encryption.is_some() && counts.get(&segment.0).copied().unwrap_or(0) != 1
 }
 
 fn any_not_once(segments: &[(u64, Segment)], counts: &BTreeMap<u64, u64>) -> bool
-    ensures { result ≡ list_any (λ s. is_some s.1.encryption && not (unwrap_or (map.get nat_cmp counts.now s.0) 0 == 1)) segments.now }
+    ensures { result
+        ≡ list_any
+        (λ s. is_some s.1.encryption && not (unwrap_or (map.get nat_cmp counts.now s.0) 0 == 1))
+        segments.now }
 {
     segments.iter().any(|s| is_crypt_and_not_once(s, counts))
 }
 
 /// Whether a crypt segment is in no digest or in two.
 fn any_badly_listed(alloc: Global, parts: &Parts) -> Result<bool, AllocError>
-    ensures { IfOk result (λ found. found ≡ list_any (is_badly_listed parts.now.digests) parts.now.segments) }
+    ensures { IfOk result
+        (λ found. found ≡ list_any (is_badly_listed parts.now.digests) parts.now.segments) }
 {
     let counts = count_listings(alloc, parts.digests.as_slice())?;
     Ok(any_not_once(parts.segments.as_slice(), &counts))

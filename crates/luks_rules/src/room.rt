@@ -1,5 +1,6 @@
 ghost use Rattle.std.specs.Prelude.{◌≡◌, ◌<◌};
-ghost use Rattle.luks_rules.specs.Rooms.{breaks_capacity, breaks_shift, capacity, is_shifted, lacks_shift};
+ghost use Rattle.luks_rules.specs.Rooms.{breaks_capacity, breaks_shift, capacity, is_shifted};
+ghost use Rattle.luks_rules.specs.Rooms.{lacks_shift};
 
 use crate::shape::Progress;
 use luks_json::{Direction, Resilience};

@@ -1,7 +1,8 @@
 ghost use Rattle.std.specs.Prelude.{◌≡◌, ◌<◌, IfOk, MatchResult, None};
 ghost use Rattle.luks_rules.specs.Areas.{areas_of};
 ghost use Rattle.luks_rules.specs.Conversions.{conversions_of};
-ghost use Rattle.luks_rules.specs.Rules.{IsCause, first_fault, first_of, rules_of_conversion, rules_of_places, rules_of_sizes};
+ghost use Rattle.luks_rules.specs.Rules.{IsCause, first_fault, first_of, rules_of_conversion};
+ghost use Rattle.luks_rules.specs.Rules.{rules_of_places, rules_of_sizes};
 ghost use Rattle.luks_rules.specs.Shapes.{progress_of};
 
 use crate::areas::{Area, break_bounds, list_areas};
@@ -96,7 +97,8 @@ pub(crate) fn judge(
 ) -> Result<Option<Progress>, CheckError>
     requires { 0 < sizes.now.atom }
     ensures { MatchResult result
-        (λ progress. (first_fault parts.now sizes.now ≡ None) × (progress ≡ progress_of parts.now sizes.now))
+        (λ progress. (first_fault parts.now sizes.now ≡ None)
+        × (progress ≡ progress_of parts.now sizes.now))
         (λ e. IsCause e (first_fault parts.now sizes.now)) }
 {
     let areas = list_areas(alloc, parts.keyslots.as_slice())?;

@@ -3,7 +3,9 @@ ghost use Rattle.std.specs.List.{list_any, sum_by};
 ghost use Rattle.std.specs.Str.{bytes_eq};
 ghost use Rattle.luks_json.specs.Configs.{profile};
 ghost use Rattle.luks_rules.specs.Areas.{main_bytes};
-ghost use Rattle.luks_rules.specs.Segments.{breaks_count, breaks_segments, bytes_of, flag_in, holds_none, in_progress, is_backup, is_dynamic, is_live, live_bytes, passes_end, whole_blocks};
+ghost use Rattle.luks_rules.specs.Segments.{breaks_count, breaks_segments, bytes_of, flag_in};
+ghost use Rattle.luks_rules.specs.Segments.{holds_none, in_progress, is_backup, is_dynamic};
+ghost use Rattle.luks_rules.specs.Segments.{is_live, live_bytes, passes_end, whole_blocks};
 
 use disk_sizes::Sizes;
 use json_members::{Listed, Text};
@@ -108,7 +110,8 @@ fn any_live_is_dynamic(segments: &[(u64, Segment)]) -> bool
         .any(|s| !is_backup_segment(&s.1) && is_dynamic_size(&s.1.size))
 }
 
-/// Whether the segments are too many or too few, or a live one has no size of its own in a conversion.
+/// Whether the segments are too many or too few, or a live one has no size of its own in a
+/// conversion.
 fn count_is_wrong(segments: &[(u64, Segment)], progress: bool) -> bool
     ensures { result ≡ breaks_count progress segments.now }
 {
@@ -132,7 +135,8 @@ fn bytes_if_live(segment: &Segment, progress: bool, sizes: &Sizes) -> u128
 
 /// Whether the live segments have less than one atom.
 fn lacks_block(segments: &[(u64, Segment)], progress: bool, sizes: &Sizes) -> bool
-    ensures { result ≡ nat_lt (sum_by (λ s. live_bytes progress sizes.now s.1) segments.now) sizes.now.atom }
+    ensures { result
+        ≡ nat_lt (sum_by (λ s. live_bytes progress sizes.now s.1) segments.now) sizes.now.atom }
 {
     let mut missing = sizes.atom as u128;
     for segment in segments {

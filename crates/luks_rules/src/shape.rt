@@ -2,7 +2,11 @@ ghost use Rattle.std.specs.Prelude.{◌≡◌, ◌<◌, ◌^◌, ◌+◌, ◌==�
 ghost use Rattle.std.specs.List.{find, list_any};
 ghost use Rattle.luks_rules.specs.Conversions.{conversions_of};
 ghost use Rattle.luks_rules.specs.References.{lists};
-ghost use Rattle.luks_rules.specs.Shapes.{are_numbered, are_wholes, breaks_shape, choices, fits, fits_mode, fits_place, has_own_digest, have_two_digests, is_final, is_next_size, is_previous, is_whole_size, may_open, numbered, plan_of, progress_by, progress_from, progress_of, starts_at_0, stays_dynamic};
+ghost use Rattle.luks_rules.specs.Shapes.{are_numbered, are_wholes, breaks_shape, choices, fits};
+ghost use Rattle.luks_rules.specs.Shapes.{fits_mode, fits_place, has_own_digest, have_two_digests};
+ghost use Rattle.luks_rules.specs.Shapes.{is_final, is_next_size, is_previous, is_whole_size};
+ghost use Rattle.luks_rules.specs.Shapes.{may_open, numbered, plan_of, progress_by, progress_from};
+ghost use Rattle.luks_rules.specs.Shapes.{progress_of, starts_at_0, stays_dynamic};
 
 use crate::conversions::{Conversion, only_conversion};
 use crate::extents::{Extent, Mark, blocks, make_extent};

@@ -1,6 +1,7 @@
 ghost use Rattle.std.specs.Prelude.{◌≡◌};
 ghost use Rattle.luks_rules.specs.Shapes.{progress_of};
-ghost use Rattle.luks_rules.specs.Unserved.{is_backward, is_no_journal, is_other_mode, is_unserved, unserved_keyslot};
+ghost use Rattle.luks_rules.specs.Unserved.{is_backward, is_no_journal, is_other_mode, is_unserved};
+ghost use Rattle.luks_rules.specs.Unserved.{unserved_keyslot};
 
 use crate::conversions::Conversion;
 use crate::valid::Valid;

@@ -1,4 +1,5 @@
-ghost use Rattle.std.specs.Prelude.{◌≡◌, ◌<◌, MatchResult, None, option_map};
+ghost use Rattle.std.specs.Prelude.{◌≡◌, ◌<◌, MatchResult, None, IfSome, option_map};
+ghost use Rattle.luks_json.specs.Digests.{IsDigest};
 ghost use Rattle.luks_rules.specs.Idles.{idle_of};
 ghost use Rattle.luks_rules.specs.References.{value_at};
 ghost use Rattle.luks_rules.specs.Rules.{IsCause, first_fault};
@@ -111,7 +112,9 @@ impl Valid {
 
     /// The digest of a number, if there is one.
     pub fn digest(&self, number: u64) -> Option<&Digest>
-        ensures { option_map (λ digest. digest.now) result ≡ value_at self.now.meta.digests number }
+        ensures there { option_map (λ digest. digest.now) result
+            ≡ value_at self.now.meta.digests number }
+        ensures right { IfSome result (λ digest. IsDigest digest.now) }
     {
         find_digest(self.checked.meta.parts().digests.as_slice(), number)
     }

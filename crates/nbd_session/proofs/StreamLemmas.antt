@@ -1,6 +1,5 @@
 -- Messages that come one after the other, up to the bytes that end them, where the front of what is
--- left
--- decides what comes next.
+-- left decides what comes next.
 use Rattle.std.proofs.Common.{◌≡◌, ℕ, ◌+◌, ◌≤◌, ◌<◌, Bool, true, List, [], ◌∷◌, ◌++◌, length, take}
 use Rattle.std.proofs.Common.{drop, ap, ◌∙◌, refl, sym, subst, arith, take_at, append_assoc}
 use Rattle.std.proofs.lemmas.List.{drop_at}

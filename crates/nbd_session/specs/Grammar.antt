@@ -48,8 +48,7 @@ pub record IsHeadAlone (bytes : List ℕ) (head : OptionHead) : Type 0 where
   pub parts : bytes ≡ option_text head
 
 -- The bytes that a session took of the client's flags, by the ending that they brought. `ended`
--- says that
--- the source had no more.
+-- says that the source had no more.
 abbrev pub StopsFlags : Ending → Bool → List ℕ → Type 0
 StopsFlags Closed ended bytes = (bytes ≡ []) × (ended ≡ true)
 StopsFlags (Truncated n) ended bytes = (length bytes ≡ n) × (0 < n) × (n < 4) × (ended ≡ true)
@@ -84,8 +83,7 @@ StopsRequests ReadFault ended bytes = IsCutRequest bytes
 StopsRequests _ ended bytes = ⊥
 
 -- How many options or requests were answered, by the ending: the most that one session may have
--- only
--- where that ended it, or where the answer to the last of so many didn't go out.
+-- only where that ended it, or where the answer to the last of so many didn't go out.
 abbrev pub IsCount : ℕ → Ending → ℕ → Type 0
 IsCount most (TooMany m) n = (m ≡ n) × (n ≡ most)
 IsCount most WriteFault n = (0 < n) × (n ≤ most)

@@ -64,8 +64,7 @@ last_of (message ∷ []) = message
 last_of (message ∷ (next ∷ messages)) = last_of (next ∷ messages)
 
 -- All of some messages went out; where the sink failed, a front of them, which lacks no more than
--- the
--- last one.
+-- the last one.
 abbrev pub GoesOutBy : Trouble → List (List ℕ) → List ℕ → List ℕ → Type 0
 GoesOutBy sink_failed messages whole front =
     (rest : List ℕ) × (joined messages ≡ whole ++ (front ++ rest))
@@ -76,8 +75,7 @@ abbrev pub GoesOut : Ending → List (List ℕ) → List ℕ → List ℕ → Ty
 GoesOut ending messages whole front = GoesOutBy (trouble_of ending) messages whole front
 
 -- Between two moments these bytes were taken and these messages answered; the session ended so, or
--- goes
--- on where there is no ending.
+-- goes on where there is no ending.
 pub record Talks (old new : Moment) (result : Option Ending) (taken : List ℕ)
     (messages : List (List ℕ))
     (whole front : List ℕ) (ended : Bool) : Type 0 where

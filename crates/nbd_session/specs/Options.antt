@@ -30,8 +30,7 @@ abbrev pub is_ours : List ℕ → Bool
 is_ours name = (length name == 0) || is_same name (codes "volume")
 
 -- The name in the data of GO: u32 length, name, u16 count, and so many u16 types of information.
--- None
--- of data that isn't exactly this.
+-- None of data that isn't exactly this.
 abbrev pub info_name_of : ℕ → List ℕ → Option (List ℕ)
 info_name_of len body =
     if nat_lt (length body) (6 + len) then None

@@ -42,8 +42,7 @@ pub record AreOneReading (log log' : Log) : Type 0 where
   pub taken : log.taken ≡ log'.taken
 
 -- two sessions with one input come equally far, have the same flags and options, are asked the
--- same, end
--- in the same way and take the same bytes
+-- same, end in the same way and take the same bytes
 abbrev pub ReadsOnce : Type 0
 ReadsOnce =
     (log log' : Log) (ending ending' : Ending) (input : List ℕ) → Reads log ending input →

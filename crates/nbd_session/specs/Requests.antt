@@ -36,16 +36,14 @@ operation_by Flush flags offset len body = Some Ops.Flush
 operation_by _ flags offset len body = None
 
 -- the operation of a request with this data; None of a type that isn't served, and where there is
--- another
--- flag than "force unit access" (bit 0)
+-- another flag than "force unit access" (bit 0)
 unfoldable pub operation_of : RequestHead → List ℕ → Option Op
 operation_of head body =
     if nat_lt 1 head.flags.bits then None
     else operation_by head.command head.flags.bits head.offset head.length body
 
 -- the bytes are one whole request under this cookie, with this operation if any, after which the
--- session
--- goes on
+-- session goes on
 pub record IsMessage (bytes : List ℕ) (cookie : ℕ) (asked : Option Op) : Type 0 where
   pub head : RequestHead
   pub body : List ℕ

@@ -10,8 +10,7 @@ use Rattle.nbd_session.specs.Replies.{reply_text}
 use Rattle.nbd_session.specs.Requests.{IsMessage}
 
 -- A request that was answered: its cookie, its operation, None where it has none, and the reply; of
--- a
--- write, how many bytes were tried; and whether it was submitted.
+-- a write, how many bytes were tried; and whether it was submitted.
 pub record Turn : Type 0 where
   pub cookie : ℕ
   pub asked : Option Op
@@ -20,8 +19,7 @@ pub record Turn : Type 0 where
   pub submitted : Bool
 
 -- Nothing was tried of a request that wasn't submitted. It is answered 22 where it is no operation,
--- and
--- else 12: memory was wanted for it.
+-- and else 12: memory was wanted for it.
 abbrev pub IsAnswered : Option Op → Bool → Reply → ℕ → Type 0
 IsAnswered None submitted reply tried = (submitted ≡ false) × (reply ≡ Errno invalid) × (tried ≡ 0)
 IsAnswered (Some op) true reply tried = Unit {0}

@@ -7,10 +7,10 @@ mod options;
 mod requests;
 
 use self::blocks::Blocks;
-use self::cases::{CLIENT, Case, SERVER, SESSIONS};
+use self::cases::{CLIENT, Case, PIECES, PORTS, SERVER, SINKS, SOURCES};
 use self::messages::{FLAGS, GO, LIST, bytes_of};
-use self::options::OPTIONS;
-use self::requests::REQUESTS;
+use self::options::{EXPORTS, NO_OPTIONS, REFUSED_NAMES, REFUSED_OPTIONS};
+use self::requests::{BUFFERS, FORCED, NO_REQUESTS, REFUSED_RANGES, REFUSED_TYPES};
 use crate::{Ending, Export, SessionEnd, serve_session};
 use base_terms::Failed;
 use io_edge::{ListSink, ListSource, Sink};
@@ -113,10 +113,80 @@ fn first_unmet(alloc: Global, cases: &[Case]) -> Result<Option<&'static str>, Fa
 }
 
 #[test]
-fn each_client_is_answered_as_its_case_says(rt: HostRuntime) -> Result<(), Fail> {
-    for cases in [SESSIONS, OPTIONS, REQUESTS] {
-        assert_eq!(rt; first_unmet(rt.alloc(), cases)?, None);
-    }
+fn each_request_is_answered_however_the_bytes_come(rt: HostRuntime) -> Result<(), Fail> {
+    assert_eq!(rt; first_unmet(rt.alloc(), PIECES)?, None);
+    Ok(())
+}
+
+#[test]
+fn a_port_without_memory_or_operations_is_told(rt: HostRuntime) -> Result<(), Fail> {
+    assert_eq!(rt; first_unmet(rt.alloc(), PORTS)?, None);
+    Ok(())
+}
+
+#[test]
+fn a_session_ends_by_a_sink_that_fails(rt: HostRuntime) -> Result<(), Fail> {
+    assert_eq!(rt; first_unmet(rt.alloc(), SINKS)?, None);
+    Ok(())
+}
+
+#[test]
+fn a_session_ends_by_a_source_that_fails(rt: HostRuntime) -> Result<(), Fail> {
+    assert_eq!(rt; first_unmet(rt.alloc(), SOURCES)?, None);
+    Ok(())
+}
+
+#[test]
+fn an_export_is_chosen_by_its_name(rt: HostRuntime) -> Result<(), Fail> {
+    assert_eq!(rt; first_unmet(rt.alloc(), EXPORTS)?, None);
+    Ok(())
+}
+
+#[test]
+fn a_name_is_refused_and_the_next_option_served(rt: HostRuntime) -> Result<(), Fail> {
+    assert_eq!(rt; first_unmet(rt.alloc(), REFUSED_NAMES)?, None);
+    Ok(())
+}
+
+#[test]
+fn an_option_is_refused_and_the_next_one_served(rt: HostRuntime) -> Result<(), Fail> {
+    assert_eq!(rt; first_unmet(rt.alloc(), REFUSED_OPTIONS)?, None);
+    Ok(())
+}
+
+#[test]
+fn an_option_that_is_none_ends_the_session(rt: HostRuntime) -> Result<(), Fail> {
+    assert_eq!(rt; first_unmet(rt.alloc(), NO_OPTIONS)?, None);
+    Ok(())
+}
+
+#[test]
+fn a_range_is_refused_and_the_next_request_served(rt: HostRuntime) -> Result<(), Fail> {
+    assert_eq!(rt; first_unmet(rt.alloc(), REFUSED_RANGES)?, None);
+    Ok(())
+}
+
+#[test]
+fn a_type_is_refused_and_the_next_request_served(rt: HostRuntime) -> Result<(), Fail> {
+    assert_eq!(rt; first_unmet(rt.alloc(), REFUSED_TYPES)?, None);
+    Ok(())
+}
+
+#[test]
+fn a_request_that_is_none_ends_the_session(rt: HostRuntime) -> Result<(), Fail> {
+    assert_eq!(rt; first_unmet(rt.alloc(), NO_REQUESTS)?, None);
+    Ok(())
+}
+
+#[test]
+fn a_forced_write_is_submitted_so(rt: HostRuntime) -> Result<(), Fail> {
+    assert_eq!(rt; first_unmet(rt.alloc(), FORCED)?, None);
+    Ok(())
+}
+
+#[test]
+fn a_used_buffer_takes_each_body_as_it_is(rt: HostRuntime) -> Result<(), Fail> {
+    assert_eq!(rt; first_unmet(rt.alloc(), BUFFERS)?, None);
     Ok(())
 }
 

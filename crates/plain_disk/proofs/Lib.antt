@@ -1,3 +1,3 @@
-pub mod BlockFacts
-pub mod RangeFacts
-pub mod StepFacts
+pub mod BlockLemmas
+pub mod RangeLemmas
+pub mod StepLemmas

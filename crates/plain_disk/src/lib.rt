@@ -9,6 +9,8 @@
 
 mod operation;
 mod plain_disk;
+#[cfg(test)]
+mod tests;
 
 pub use operation::{MAX_READ, Op, Reply, wrong, wrong_range};
 pub use plain_disk::PlainDisk;

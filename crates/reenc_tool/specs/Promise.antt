@@ -65,9 +65,8 @@ cause_of broken failed memory =
     else (if failed == 0 then (if memory then Memory else Fine) else Link failed)
 
 -- Where the disk told its bytes and tables, and each atom held its value for certain, a stop after
--- each event leaves only contents that the plain disk allows there; and each table that the disk
--- tells
--- in the end is one after some of the events.
+-- each event leaves only contents that the plain disk allows there, in every block, since no zone is at
+-- hand; and each table that the disk tells in the end is one after some of the events.
 abbrev pub MayStop : State PlainKeys → Seals → List (Happening PlainKeys) → List Exchange → Type 0
 MayStop start seals run exchanges = (bytes : List ℕ) (before : Told) →
     start.disk.values ≡ Some bytes →
@@ -76,9 +75,8 @@ MayStop start seals run exchanges = (bytes : List ℕ) (before : Told) →
     × StopsAlong start seals (plain_blocks start bytes) run exchanges
     × ((now : Told) → (last_of start run).disk.told ≡ Some now → TellsRun start run now)
 
--- After each event of a run an operation has failed, and the volume is broken, exactly where events
--- of
--- theirs failed, and sides, keys and places are those of the start.
+-- After each event of a run an operation has failed, and the volume is broken, exactly where events of
+-- theirs failed; sides, keys and places are those of the start, and no zone is at hand.
 abbrev pub GoesAlong : State PlainKeys → List (Happening PlainKeys) → Type 0
 GoesAlong start run = (earlier later : List (Happening PlainKeys)) → run ≡ earlier ++ later →
     GoesByEvents start earlier

@@ -1,5 +1,6 @@
 -- A volume that has begun is sound.
-use Rattle.std.proofs.Common.{◌≡◌, ℕ, zero, suc, ◌<◌, false, Option, None, List, [], replicate, refl, sym, ◌∙◌}
+use Rattle.std.proofs.Common.{◌≡◌, ℕ, zero, suc, ◌<◌, false, Option, None, List, [], replicate}
+use Rattle.std.proofs.Common.{refl, sym, ◌∙◌}
 use Rattle.std.proofs.lemmas.List.{length-replicate}
 use Rattle.range_lock.specs.Locks.{Locks}
 use Rattle.segment_map.specs.declared.map.Map.{Map}
@@ -21,23 +22,26 @@ unfolding count_locks
 no_locks zero = refl
 no_locks (suc n) = no_locks n
 
-pub new-sound : {K : Type 0} (map : Map) (keys : K) (table : Locks) (lanes : List (Option Open)) (n : ℕ) (disk : Device) → 0 < n → MapFits map disk.atoms →
-    table.room ≡ n → table.entries ≡ [] → lanes ≡ replicate n None → IsSound (state_of map keys table lanes false disk)
-new-sound map keys table lanes n disk some fits room entries are = record {
-  fits = fits;
-  room = room ∙ sym (length-replicate {A = Option Open} n None) ∙ rw are refl;
-  some = rw (are, length-replicate {A = Option Open} n None) some;
-  count = rw (entries, are) (sym (no_locks n));
-  entries = λ lane. rw (entries, are, no_open n lane) refl;
-  once = λ lane. rw entries refl;
-  under_way = λ lane o is. absurd (let none = no_open n lane in let found = rw are at is in cc);
-}
+module _ (map : Map) (table : Locks) (lanes : List (Option Open)) (n : ℕ) (disk : Device) where
+  pub new-sound : {K : Type 0} (keys : K) → 0 < n → MapFits map disk.atoms → table.room ≡ n →
+      table.entries ≡ [] → lanes ≡ replicate n None →
+      IsSound (state_of map keys table lanes false disk)
+  new-sound keys some fits room entries are = record {
+    fits = fits;
+    room = room ∙ sym (length-replicate {A = Option Open} n None) ∙ rw are refl;
+    some = rw (are, length-replicate {A = Option Open} n None) some;
+    count = rw (entries, are) (sym (no_locks n));
+    entries = λ lane. rw (entries, are, no_open n lane) refl;
+    once = λ lane. rw entries refl;
+    under_way = λ lane o is. absurd (let none = no_open n lane in let found = rw are at is in cc);
+  }
 
-pub new-volume : {C : Type 0} (sector : C → ℕ) (size : ℕ) (map : Map) (keys : Keys C) (table : Locks) (lanes : List (Option Open)) (n : ℕ) (disk : Device) → 0 < n →
-    map.atom ≡ size → MapFits map disk.atoms → KeysFit sector keys map.atom map.blocks → table.room ≡ n → table.entries ≡ [] → lanes ≡ replicate n None →
-    IsVolume sector size (state_of map keys table lanes false disk)
-new-volume sector size map keys table lanes n disk some atom fits keys_fit room entries are = record {
-  atom = atom;
-  sound = new-sound map keys table lanes n disk some fits room entries are;
-  keys = keys_fit;
-}
+  pub new-volume : {C : Type 0} (sector : C → ℕ) (keys : Keys C) → 0 < n → map.atom ≡ disk.size →
+      MapFits map disk.atoms → KeysFit sector keys map.atom map.blocks → table.room ≡ n →
+      table.entries ≡ [] → lanes ≡ replicate n None →
+      IsVolume sector (state_of map keys table lanes false disk)
+  new-volume sector keys some atom fits keys_fit room entries are = record {
+    atom = atom;
+    sound = new-sound keys some fits room entries are;
+    keys = keys_fit;
+  }

@@ -1,5 +1,5 @@
 -- A volume as its state: what it shows, what it keeps, and how it begins.
-use Rattle.std.specs.Prelude.{ℕ, ◌≡◌, Bool, List, Option}
+use Rattle.std.specs.Prelude.{ℕ, ◌≡◌, Bool, List, Option, None}
 use Rattle.range_lock.specs.Locks.{Locks}
 use Rattle.segment_map.specs.declared.map.Map.{Map}
 use Rattle.volume_machine.specs.Seals.{KeysFit}
@@ -9,7 +9,8 @@ use Rattle.sector_disk.specs.Devices.{Device}
 use Rattle.volume_machine.specs.declared.keys.Keys.{Keys}
 use Rattle.volume_machine.specs.declared.open.Open.{Open}
 
-abbrev pub state_of : {K : Type 0} → Map → K → Locks → List (Option Open) → Bool → Device → State K
+abbrev pub state_of : {K : Type 0} → Map → K → Locks → List (Option Open) → Bool → Device →
+    State K
 state_of map keys table lanes broken disk = record {
   map = map;
   keys = keys;
@@ -17,11 +18,12 @@ state_of map keys table lanes broken disk = record {
   entries = table.entries;
   lanes = lanes;
   broken = broken;
+  work = None;
   disk = disk;
 }
 
 -- its blocks have the size of the disk's atoms, it is sound, and its keys fit its blocks
-pub record IsVolume {C : Type 0} (sector : C → ℕ) (size : ℕ) (state : State (Keys C)) : Type 0 where
-  pub atom : state.map.atom ≡ size
+pub record IsVolume {C : Type 0} (sector : C → ℕ) (state : State (Keys C)) : Type 0 where
+  pub atom : state.map.atom ≡ state.disk.size
   pub sound : IsSound state
   pub keys : KeysFit sector state.keys state.map.atom state.map.blocks

@@ -5,7 +5,9 @@ ghost use Rattle.std.specs.Prelude.{IfOk, IfErr, OnOk};
 ghost use Rattle.volume_core.specs.Answers.{outcome_of_admitted, outcome_of_asked, outcome_of_read};
 ghost use Rattle.volume_core.specs.Answers.{outcome_of_written, outcome_of_settled, buffer_of_read};
 ghost use Rattle.volume_core.specs.Answers.{buffer_of_written, KeepsBuffer, is_idle};
-ghost use Rattle.volume_machine.specs.Asks.{range_of};
+ghost use Rattle.range_lock.specs.Locks.{has_entry};
+ghost use Rattle.volume_core.specs.Calls.{Locks};
+ghost use Rattle.volume_machine.specs.Asks.{kind_of, range_of};
 ghost use Rattle.volume_machine.specs.Beginnings.{IsFresh};
 ghost use Rattle.volume_machine.specs.Events.{admits, asks, reads, writes, settles, finishes, done};
 ghost use Rattle.volume_machine.specs.Events.{refused};
@@ -16,10 +18,10 @@ ghost use Rattle.volume_machine.specs.Steps.{IsReadyFor, Step, Meets};
 ghost use Rattle.volume_machine.specs.Beginnings.{IsWholeDisk, new_volume};
 
 use crate::answers::{Admitted, Asked, PieceRead, PieceWritten, Progress, Settled};
-use base_terms::{Buffer, DEVICE_ERROR, Failed};
+use crate::calls::{read_next, sync_all, write_next};
+use base_terms::{Buffer, DEVICE_ERROR};
 use block_range::BlockRange;
 use cipher_laws::SectorCipher;
-use disk_views::read_into;
 use range_lock::{Standing, Table};
 use sector_cipher::Context;
 use sector_disk::Disk;
@@ -55,7 +57,7 @@ impl<D: Disk, C: SectorCipher + Copy> Model for Volume<D, C> {
 
     ghost view = { λ v. state_of v.map v.keys v.table v.lanes.items v.broken (D.device v.disk) };
 
-    ghost invariant = { λ v. IsVolume C.sector (D.device v.disk).size
+    ghost invariant = { λ v. IsVolume C.sector
         (state_of v.map v.keys v.table v.lanes.items v.broken (D.device v.disk)) };
 }
 
@@ -221,10 +223,7 @@ impl<D: Disk, C: SectorCipher + Copy> Volume<D, C> {
         ensures { Step self.old (admits lane session ask) (outcome_of_admitted result) self.new }
     {
         match self.judge(ask) {
-            Ok(range) => match self.enter(lane, session, ask, range) {
-                Asked::Held(grant) => Admitted::Held(grant),
-                Asked::Waiting(other) => Admitted::Waiting(other),
-            },
+            Ok(range) => self.enter(lane, session, ask, range),
             Err(number) => Admitted::Refused(number),
         }
     }
@@ -233,20 +232,19 @@ impl<D: Disk, C: SectorCipher + Copy> Volume<D, C> {
     /// an `admit` that refuses nothing. A read or a write enters the table of locks behind all
     /// others, and has its blocks where no earlier entry conflicts. A flush has no blocks and never
     /// waits.
-    fn enter(&mut self, lane: u32, session: u64, ask: Ask, range: BlockRange) -> Asked
+    fn enter(&mut self, lane: u32, session: u64, ask: Ask, range: BlockRange) -> Admitted
         requires meets { Meets self.old (admits lane session ask) }
         requires ready { IsReadyFor self.old ask }
         requires blocks { range ≡ range_of self.old.map.atom ask }
-        ensures { Step self.old (admits lane session ask) (outcome_of_asked result) self.new }
+        ensures { Step self.old (admits lane session ask) (outcome_of_admitted result) self.new }
     {
         set_lane(&mut self.lanes, lane, Some(Open::new(session, ask, range)));
-        let map = self.map;
-        if !ask.has_lock() {
-            return Asked::Held(Grant { map, range });
-        }
-        match self.table.enter(lane, range, ask.kind()) {
-            Standing::Held => Asked::Held(Grant { map, range }),
-            Standing::Waiting(other) => Asked::Waiting(other),
+        match lock(&mut self.table, lane, range, ask) {
+            Standing::Held => Admitted::Held(Grant {
+                map: self.map,
+                range,
+            }),
+            Standing::Waiting(other) => Admitted::Waiting(other),
         }
     }
 
@@ -275,23 +273,17 @@ impl<D: Disk, C: SectorCipher + Copy> Volume<D, C> {
         ensures buffer { length (buffer_of_read result) ≡ length buffer }
         ensures kept { KeepsBuffer buffer result }
     {
-        let open = open_of(&self.lanes, lane);
-        if self.broken {
-            set_lane(&mut self.lanes, lane, Some(open.failing()));
-            return PieceRead::Broken(buffer);
-        }
-        let piece = self.map.next_piece(open.rest());
-        let place = self.map.place(piece.first);
-        match read_into(&mut self.disk, place, buffer, len) {
-            Ok(buffer) => {
-                set_lane(&mut self.lanes, lane, Some(open.moved(piece)));
-                PieceRead::Got(buffer)
-            }
-            Err(buffer) => {
-                set_lane(&mut self.lanes, lane, Some(open.failing()));
-                PieceRead::Device(buffer)
-            }
-        }
+        let mut open = open_of(&self.lanes, lane);
+        let read = read_next(
+            &mut self.disk,
+            self.map,
+            self.broken,
+            &mut open,
+            buffer,
+            len,
+        );
+        set_lane(&mut self.lanes, lane, Some(open));
+        read
     }
 
     /// Writes the next piece of a lane's write, which holds its blocks. The bytes are sealed with
@@ -303,24 +295,16 @@ impl<D: Disk, C: SectorCipher + Copy> Volume<D, C> {
         ensures buffer { length (buffer_of_written result) ≡ prepared.room }
         ensures kept { take (length prepared.bytes) (buffer_of_written result) ≡ prepared.bytes }
     {
-        let open = open_of(&self.lanes, lane);
-        if self.broken {
-            set_lane(&mut self.lanes, lane, Some(open.failing()));
-            return PieceWritten::Broken(prepared.into_buffer());
-        }
-        let piece = self.map.next_piece(open.rest());
-        let place = self.map.place(piece.first);
-        match self.disk.write(place, prepared.as_slice()) {
-            Ok(()) => {
-                set_lane(&mut self.lanes, lane, Some(open.moved(piece)));
-                PieceWritten::Done(prepared.into_buffer())
-            }
-            Err(Failed) => {
-                self.broken = true;
-                set_lane(&mut self.lanes, lane, Some(open.failing()));
-                PieceWritten::Device(prepared.into_buffer())
-            }
-        }
+        let mut open = open_of(&self.lanes, lane);
+        let written = write_next(
+            &mut self.disk,
+            self.map,
+            &mut self.broken,
+            &mut open,
+            prepared,
+        );
+        set_lane(&mut self.lanes, lane, Some(open));
+        written
     }
 
     /// Waits until every write so far is certain to be kept: the last event of a flush, and that of
@@ -329,22 +313,10 @@ impl<D: Disk, C: SectorCipher + Copy> Volume<D, C> {
         requires { Meets self.old (settles lane) }
         ensures { Step self.old (settles lane) (outcome_of_settled result) self.new }
     {
-        let open = open_of(&self.lanes, lane);
-        if self.broken {
-            set_lane(&mut self.lanes, lane, open.after_settle(open.failing()));
-            return Settled::Broken;
-        }
-        match self.disk.sync() {
-            Ok(()) => {
-                set_lane(&mut self.lanes, lane, open.after_settle(open.settling()));
-                Settled::Done
-            }
-            Err(Failed) => {
-                self.broken = true;
-                set_lane(&mut self.lanes, lane, open.after_settle(open.failing()));
-                Settled::Device
-            }
-        }
+        let mut open = open_of(&self.lanes, lane);
+        let settled = sync_all(&mut self.disk, &mut self.broken, &mut open);
+        set_lane(&mut self.lanes, lane, open.after_settle(open));
+        settled
     }
 
     /// Ends a lane's read or write, which holds its blocks, and leaves them. It is complete, or one
@@ -368,6 +340,20 @@ fn no_operations(alloc: Global, lanes: usize) -> Result<(Table, Vec<Option<Open>
     let table = Table::with_room(alloc, lanes)?;
     let lanes = vec![in alloc; None; lanes]?;
     Ok((table, lanes))
+}
+
+// Where an operation stands that has just begun: behind all others where it locks its blocks.
+fn lock(table: &mut Table, lane: u32, range: BlockRange, ask: Ask) -> Standing
+    requires room { length table.old.entries < table.old.room }
+    requires new { has_entry lane table.old.entries ≡ false }
+    ensures locks { Locks ask (record { lane = lane; range = range; kind = kind_of ask })
+        table.old.entries table.new.entries result }
+    ensures room { table.new.room ≡ table.old.room }
+{
+    if !ask.has_lock() {
+        return Standing::Held;
+    }
+    table.enter(lane, range, ask.kind())
 }
 
 #[cfg(test)]

@@ -1,10 +1,12 @@
--- An operation on the first lane of a volume, with none on any other, and the run that its calls are.
+-- An operation on the first lane of a volume, with none on any other, and the run that its calls
+-- are.
 use Rattle.std.specs.Prelude.{ℕ, suc, ◌≡◌, ◌≢◌, List, [], ◌∷◌, length, Some, None}
 use Rattle.plain_disk.specs.declared.operation.Op.{Op}
 use Rattle.plain_disk.specs.declared.operation.Reply.{Reply}
 use Rattle.segment_map.specs.declared.map.Map.{Map}
 use Rattle.lane_plan.specs.Calls.{ask_of, event_of}
-use Rattle.lane_plan.specs.Plans.{Awaits, WillBeRefused, calls_left, first_call, session_of, shape_of}
+use Rattle.lane_plan.specs.Plans.{Awaits, WillBeRefused, calls_left, first_call, session_of}
+use Rattle.lane_plan.specs.Plans.{shape_of}
 use Rattle.lane_plan.specs.declared.calls.Call.{Call}
 use Rattle.lane_plan.specs.declared.calls.Call.TheVariants as Calls
 use Rattle.lane_plan.specs.declared.calls.Next.{Next}
@@ -22,19 +24,21 @@ use Rattle.volume_machine.specs.Steps.{IsReadyFor}
 use Rattle.volume_lane.specs.Calling.{IsMade}
 
 -- a plan of this operation on a volume: it will be refused only where the volume refuses it
-pub record IsPlanFor {K : Type 0} (state : State K) (plan : Plan) (session : ℕ) (op : Op) : Type 0 where
-  pub awaits : (seals : Seals) (alone : Alone) → alone.operation ≡ None →
-      Awaits seals plan op alone (Calls.Admit session (ask_of op))
-  pub first : first_call plan ≡ Calls.Admit session (ask_of op)
-  pub session_is : session_of plan ≡ session
-  pub atom : (shape_of plan).atom ≡ state.map.atom
-  pub blocks : (shape_of plan).blocks ≡ state.map.blocks
-  pub refuses : WillBeRefused plan → IsReadyFor state (ask_of op) → ⊥
-  pub sound : IsSound state
+pub record IsPlanFor {K : Type 0} (state : State K) (plan : Plan) (session : ℕ) (op : Op) : Type 0
+  where
+    pub awaits : (seals : Seals) (alone : Alone) → alone.operation ≡ None →
+        Awaits seals plan op alone (Calls.Admit session (ask_of op))
+    pub first : first_call plan ≡ Calls.Admit session (ask_of op)
+    pub session_is : session_of plan ≡ session
+    pub atom : (shape_of plan).atom ≡ state.map.atom
+    pub blocks : (shape_of plan).blocks ≡ state.map.blocks
+    pub refuses : WillBeRefused plan → IsReadyFor state (ask_of op) → ⊥
+    pub sound : IsSound state
 
--- the lane's calls so far are a run from the old state to this one, which has answered these operations,
--- and by them the lane stands so
-pub record IsCourse {K : Type 0} (seals : Seals) (old now : State K) (run : List (Happening K)) (alone : Alone)
+-- the lane's calls so far are a run from the old state to this one, which has answered these
+-- operations, and by them the lane stands so
+pub record IsCourse {K : Type 0} (seals : Seals) (old now : State K) (run : List (Happening K))
+    (alone : Alone)
     (answered : List Answered) : Type 0 where
   pub is : IsRun old run
   pub last : last_of old run ≡ now
@@ -47,17 +51,20 @@ pub record IsCourse {K : Type 0} (seals : Seals) (old now : State K) (run : List
   pub count : length now.lanes ≡ length old.lanes
 
 -- an operation of a session was executed and answered so
-pub record HasExecuted {K : Type 0} (seals : Seals) (old new : State K) (session : ℕ) (op : Op) (reply : Reply) : Type 0 where
+pub record HasExecuted {K : Type 0} (seals : Seals) (old new : State K) (session : ℕ) (op : Op)
+    (reply : Reply) : Type 0 where
   pub run : List (Happening K)
   pub n : ℕ
-  pub executes : Executes seals old new run (record { session = session; exchange = record { op = op; reply = reply; tried = n } } ∷ [])
+  pub executes : Executes seals old new run
+      (record { session = session; exchange = record { op = op; reply = reply; tried = n } } ∷ [])
   pub idle : IsIdle new
   pub map : new.map ≡ old.map
   pub keys : new.keys ≡ old.keys
   pub count : length new.lanes ≡ length old.lanes
 
 -- a call is to be made on the way
-pub record IsOnTheWay {K : Type 0} (seals : Seals) (old now : State K) (plan : Plan) (session : ℕ) (op : Op) (call : Call) : Type 0 where
+pub record IsOnTheWay {K : Type 0} (seals : Seals) (old now : State K) (plan : Plan) (session : ℕ)
+    (op : Op) (call : Call) : Type 0 where
   pub run : List (Happening K)
   pub alone : Alone
   pub course : IsCourse seals old now run alone []
@@ -73,7 +80,8 @@ pub record IsOnTheWay {K : Type 0} (seals : Seals) (old now : State K) (plan : P
 -- what comes next: a call, or the reply
 abbrev pub IsAt : {K : Type 0} → Seals → State K → State K → Plan → ℕ → Op → Next → Type 0
 IsAt seals old now plan session op (Nexts.Call call) = IsOnTheWay seals old now plan session op call
-IsAt seals old now plan session op (Nexts.Reply reply spare) = HasExecuted seals old now session op reply
+IsAt seals old now plan session op (Nexts.Reply reply spare) =
+    HasExecuted seals old now session op reply
 
 -- how many calls are left at most before the reply
 abbrev pub left_of : Plan → Next → ℕ

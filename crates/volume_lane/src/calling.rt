@@ -18,6 +18,7 @@ use volume_core::{Admitted, PieceRead, PieceWritten, Settled, Volume};
 const LANE: u32 = 0;
 
 /// Begins an operation. It is the only one, so that it never waits.
+#[inline(always)]
 pub(crate) fn admitted<D: Disk, C: SectorCipher + Copy>(
     volume: &mut Volume<D, C>,
     call: Call,
@@ -40,6 +41,7 @@ pub(crate) fn admitted<D: Disk, C: SectorCipher + Copy>(
 }
 
 /// Makes a call of an operation that has its blocks.
+#[inline(always)]
 pub(crate) fn made<D: Disk, C: SectorCipher + Copy>(volume: &mut Volume<D, C>, call: Call) -> Answer
     requires meets { Meets volume.old (event_of 0 call) }
     requires made { IsMade call }

@@ -68,6 +68,7 @@ pub fn execute<D: Disk, C: SectorCipher + Copy>(
 }
 
 /// The plan of an operation on a volume. One that will be refused takes no memory.
+#[inline(always)]
 fn plan_for<D: Disk, C: SectorCipher + Copy>(
     alloc: Global,
     volume: &Volume<D, C>,
@@ -88,6 +89,7 @@ fn plan_for<D: Disk, C: SectorCipher + Copy>(
 }
 
 /// Makes the calls of a plan up to its reply.
+#[inline(always)]
 fn carry_out<D: Disk, C: SectorCipher + Copy>(
     volume: &mut Volume<D, C>,
     plan: &mut Plan,
@@ -111,6 +113,7 @@ fn carry_out<D: Disk, C: SectorCipher + Copy>(
 }
 
 /// Begins the operation of a plan.
+#[inline(always)]
 fn begin<D: Disk, C: SectorCipher + Copy>(volume: &mut Volume<D, C>, plan: &mut Plan) -> Next
     requires lanes { 1 < length volume.old.lanes }
     requires idle { IsIdle volume.old }

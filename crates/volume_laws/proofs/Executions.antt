@@ -4,74 +4,109 @@ use Rattle.plain_disk.specs.Plain.{Block, Exchange}
 use Rattle.volume_laws.specs.Executing.{Executes, StopsAlong}
 use Rattle.volume_laws.specs.Promises.{Starts}
 use Rattle.volume_machine.specs.Answers.{Answered, AreExchanges, AreTagged, Tagged, untagged}
-use Rattle.volume_machine.specs.Runs.{Happening, IsRun, last_of, answered_by, answered_in, plain_in, plain_after, no_plain}
+use Rattle.volume_machine.specs.Runs.{Happening, IsRun, last_of, answered_by, answered_in, plain_in}
+use Rattle.volume_machine.specs.Runs.{plain_after, no_plain}
 use Rattle.volume_machine.specs.Seals.{Seals}
 use Rattle.volume_machine.specs.States.{State}
 use Rattle.volume_laws.proofs.RunsServed.{split_exchanges, serves_each_run}
 
 -- runs, one after the other
-pub run-joined : {K : Type 0} (old : State K) (xs ys : List (Happening K)) → IsRun old xs → IsRun (last_of old xs) ys → IsRun old (xs ++ ys)
+pub run-joined : {K : Type 0} (old : State K) (xs ys : List (Happening K)) → IsRun old xs
+    → IsRun (last_of old xs) ys → IsRun old (xs ++ ys)
 unfolding IsRun last_of
 run-joined old [] ys first rest = rest
-run-joined old (x ∷ xs) ys (meets, step, first) rest = (meets, step, run-joined x.after xs ys first rest)
+run-joined old (x ∷ xs) ys (meets, step, first) rest =
+    (meets, step, run-joined x.after xs ys first rest)
 
-pub run-front : {K : Type 0} (old : State K) (xs ys : List (Happening K)) → IsRun old (xs ++ ys) → IsRun old xs
+pub run-front : {K : Type 0} (old : State K) (xs ys : List (Happening K)) → IsRun old (xs ++ ys)
+    → IsRun old xs
 unfolding IsRun
 run-front old [] ys is = tt
 run-front old (x ∷ xs) ys (meets, step, is) = (meets, step, run-front x.after xs ys is)
 
-pub last-joined : {K : Type 0} (old : State K) (xs ys : List (Happening K)) → last_of old (xs ++ ys) ≡ last_of (last_of old xs) ys
+pub last-joined : {K : Type 0} (old : State K) (xs ys : List (Happening K))
+    → last_of old (xs ++ ys) ≡ last_of (last_of old xs) ys
 unfolding last_of
 last-joined old [] ys = refl
 last-joined old (x ∷ xs) ys = last-joined x.after xs ys
 
-pub answered-joined : {K : Type 0} (seals : Seals) (old : State K) (plain : ℕ → List ℕ) (xs ys : List (Happening K)) →
-    answered_in seals old plain (xs ++ ys) ≡ answered_in seals old plain xs ++ answered_in seals (last_of old xs) (plain_in seals old plain xs) ys
+pub answered-joined : {K : Type 0} (seals : Seals) (old : State K) (plain : ℕ → List ℕ)
+    (xs ys : List (Happening K)) →
+    answered_in seals old plain (xs ++ ys)
+    ≡ answered_in seals old plain xs
+    ++ answered_in seals (last_of old xs) (plain_in seals old plain xs) ys
 unfolding answered_in last_of plain_in
 answered-joined seals old plain [] ys = refl
 answered-joined seals old plain (x ∷ xs) ys =
-    ap (λ rest. answered_by old x.event x.outcome plain ++ rest) (answered-joined seals x.after (plain_after seals old x.event x.outcome plain) xs ys)
-    ∙ sym (append_assoc (answered_by old x.event x.outcome plain) (answered_in seals x.after (plain_after seals old x.event x.outcome plain) xs)
-    (answered_in seals (last_of x.after xs) (plain_in seals x.after (plain_after seals old x.event x.outcome plain) xs) ys))
+    ap (λ rest. answered_by old x.event x.outcome plain ++ rest)
+    (answered-joined seals x.after (plain_after seals old x.event x.outcome plain) xs ys)
+    ∙ sym (append_assoc (answered_by old x.event x.outcome plain)
+    (answered_in seals x.after (plain_after seals old x.event x.outcome plain) xs)
+    (answered_in seals (last_of x.after xs)
+    (plain_in seals x.after (plain_after seals old x.event x.outcome plain) xs) ys))
 
-tagged-joined : (xs ys : List Answered) (first rest : List Tagged) → AreTagged xs first → AreTagged ys rest → AreTagged (xs ++ ys) (first ++ rest)
+tagged-joined : (xs ys : List Answered) (first rest : List Tagged) → AreTagged xs first
+    → AreTagged ys rest → AreTagged (xs ++ ys) (first ++ rest)
 unfolding AreTagged
 tagged-joined [] ys [] rest are_first are_rest = are_rest
 tagged-joined [] ys (tagged ∷ first) rest are_first are_rest = absurd are_first
 tagged-joined (x ∷ xs) ys [] rest are_first are_rest = absurd are_first
-tagged-joined (x ∷ xs) ys (tagged ∷ first) rest (is, session, are_first) are_rest = (is, session, tagged-joined xs ys first rest are_first are_rest)
+tagged-joined (x ∷ xs) ys (tagged ∷ first) rest (is, session, are_first) are_rest =
+    (is, session, tagged-joined xs ys first rest are_first are_rest)
 
-pub tagged-exchanges : (answered : List Answered) (history : List Tagged) → AreTagged answered history → AreExchanges answered (untagged history)
+pub tagged-exchanges : (answered : List Answered) (history : List Tagged)
+    → AreTagged answered history → AreExchanges answered (untagged history)
 unfolding AreTagged AreExchanges untagged
 tagged-exchanges [] [] are = tt
 tagged-exchanges [] (tagged ∷ history) are = absurd are
 tagged-exchanges (one ∷ rest) [] are = absurd are
-tagged-exchanges (one ∷ rest) (tagged ∷ history) (is, session, are) = (is, tagged-exchanges rest history are)
+tagged-exchanges (one ∷ rest) (tagged ∷ history) (is, session, are) =
+    (is, tagged-exchanges rest history are)
 
 -- nothing executed, and one execution after the other
-pub executes_none : {K : Type 0} (seals : Seals) (state : State K) → Executes seals state state [] []
+pub executes_none : {K : Type 0} (seals : Seals) (state : State K)
+    → Executes seals state state [] []
 unfolding IsRun last_of answered_in AreTagged
 executes_none seals state = record { is = tt; last = refl; answers = λ plain. tt }
 
-pub executes_joined : {K : Type 0} (seals : Seals) (old middle new : State K) (xs ys : List (Happening K)) (first rest : List Tagged) →
-    Executes seals old middle xs first → Executes seals middle new ys rest → Executes seals old new (xs ++ ys) (first ++ rest)
+pub executes_joined : {K : Type 0} (seals : Seals) (old middle new : State K)
+    (xs ys : List (Happening K)) (first rest : List Tagged) →
+    Executes seals old middle xs first → Executes seals middle new ys rest
+    → Executes seals old new (xs ++ ys) (first ++ rest)
 executes_joined seals old middle new xs ys first rest one other = record {
   is = run-joined old xs ys one.is (subst (λ s. IsRun s ys) (sym one.last) other.is);
   last = last-joined old xs ys ∙ ap (λ s. last_of s ys) one.last ∙ other.last;
-  answers = λ plain. subst (λ all. AreTagged all (first ++ rest)) (sym (answered-joined seals old plain xs ys))
-      (tagged-joined (answered_in seals old plain xs) (answered_in seals (last_of old xs) (plain_in seals old plain xs) ys) first rest (one.answers plain)
-      (subst (λ s. AreTagged (answered_in seals s (plain_in seals old plain xs) ys) rest) (sym one.last) (other.answers (plain_in seals old plain xs))));
+  answers =
+      λ plain. subst (λ all. AreTagged all (first ++ rest))
+      (sym (answered-joined seals old plain xs ys))
+      (tagged-joined (answered_in seals old plain xs)
+      (answered_in seals (last_of old xs) (plain_in seals old plain xs) ys) first rest
+      (one.answers plain)
+      (subst (λ s. AreTagged (answered_in seals s (plain_in seals old plain xs) ys) rest)
+      (sym one.last) (other.answers (plain_in seals old plain xs))));
 }
 
 -- stops along a run
-pub stops_along : {K : Type 0} (start : State K) (seals : Seals) (blocks : List Block) (bytes : List ℕ) (run : List (Happening K)) (exchanges : List Exchange) →
-    Starts start seals blocks bytes → IsRun start run → AreExchanges (answered_in seals start no_plain run) exchanges → StopsAlong start seals blocks run exchanges
+pub stops_along : {K : Type 0} (start : State K) (seals : Seals) (blocks : List Block)
+    (bytes : List ℕ) (run : List (Happening K)) (exchanges : List Exchange) →
+    Starts start seals blocks bytes → IsRun start run
+    → AreExchanges (answered_in seals start no_plain run) exchanges
+    → StopsAlong start seals blocks run exchanges
 stops_along start seals blocks bytes run exchanges starts is are = λ earlier later parts.
-    let all : AreExchanges (answered_in seals start no_plain earlier ++ answered_in seals (last_of start earlier) (plain_in seals start no_plain earlier) later) exchanges =
-    subst (λ xs. AreExchanges xs exchanges) (ap (λ r. answered_in seals start no_plain r) parts ∙ answered-joined seals start no_plain earlier later) are in
-    let (first, rest, is_parts, are_first, are_rest) = split_exchanges (answered_in seals start no_plain earlier)
-    (answered_in seals (last_of start earlier) (plain_in seals start no_plain earlier) later) exchanges all in
-    let served = serves_each_run start seals blocks bytes earlier first starts (run-front start earlier later (subst (λ r. IsRun start r) parts is)) are_first in record {
+    let all : AreExchanges
+    (answered_in seals start no_plain earlier
+    ++ answered_in seals (last_of start earlier) (plain_in seals start no_plain earlier) later)
+    exchanges =
+    subst (λ xs. AreExchanges xs exchanges)
+    (ap (λ r. answered_in seals start no_plain r) parts
+    ∙ answered-joined seals start no_plain earlier later) are in
+    let (first, rest, is_parts, are_first, are_rest) =
+    split_exchanges (answered_in seals start no_plain earlier)
+    (answered_in seals (last_of start earlier) (plain_in seals start no_plain earlier) later)
+    exchanges all in
+    let served =
+    serves_each_run start seals blocks bytes earlier first starts
+    (run-front start earlier later (subst (λ r. IsRun start r) parts is)) are_first in record {
       first = first;
       rest = rest;
       parts = is_parts;

@@ -1,17 +1,20 @@
 -- When operations fail and volumes break.
-use Rattle.std.proofs.Common.{◌≡◌, inl, inr, ℕ, ◌||◌, Bool, true, false, nat_eq, List, [], ◌∷◌, Option, Some, None, refl, sym, ◌∙◌, ap, arith}
+use Rattle.std.proofs.Common.{◌≡◌, inl, inr, ℕ, ◌||◌, Bool, true, false, nat_eq, List, [], ◌∷◌}
+use Rattle.std.proofs.Common.{Option, Some, None, refl, sym, ◌∙◌, ap, arith}
 use Rattle.volume_machine.specs.declared.open.Open.{Open}
 use Rattle.volume_machine.specs.Alone.{open_after, after_got, after_put, after_sync}
 use Rattle.volume_machine.specs.Asks.{has_lock}
 use Rattle.volume_machine.specs.Beginnings.{IsFresh}
 use Rattle.volume_machine.specs.Effects.{breaks}
-use Rattle.volume_machine.specs.Events.{Event, admits, asks, reads, writes, settles, finishes, lane_of, Outcome, held, waits, got, done, device, broken}
+use Rattle.volume_machine.specs.Events.{Event, admits, asks, reads, writes, settles, finishes}
+use Rattle.volume_machine.specs.Events.{lane_of, Outcome, held, waits, got, done, device, broken}
 use Rattle.volume_machine.specs.Runs.{Happening, IsRun, last_of}
 use Rattle.volume_machine.specs.States.{State, open_at, begun}
 use Rattle.volume_machine.specs.Steps.{Step, Can, Meets, after_settle}
 use Rattle.volume_machine.proofs.EventEffects.{event_effects}
 use Rattle.volume_machine.proofs.Locking.{either}
-use Rattle.volume_laws.specs.Promises.{fails, fails_in, has_failed_by, breaks_in, is_failure, GoesByEvents}
+use Rattle.volume_laws.specs.Promises.{fails, fails_in, has_failed_by, breaks_in, is_failure}
+use Rattle.volume_laws.specs.Promises.{GoesByEvents}
 
 or_true : (b : Bool) → true ≡ (b || true)
 or_true true = refl
@@ -117,11 +120,13 @@ record WholeRun {K : Type 0} (old : State K) (before : Bool)
   broken_is : (last_of old run).broken ≡ breaks_in before run
   map_is : (last_of old run).map ≡ old.map
   keys_are : (last_of old run).keys ≡ old.keys
+  work_is : (last_of old run).work ≡ old.work
 
 whole_run : {K : Type 0} (old : State K) (before : Bool) (run : List (Happening K)) →
     old.broken ≡ before → IsRun old run → WholeRun old before run
 unfolding IsRun last_of breaks_in
-whole_run old before [] was is = record { broken_is = was; map_is = refl; keys_are = refl }
+whole_run old before [] was is =
+    record { broken_is = was; map_is = refl; keys_are = refl; work_is = refl }
 whole_run old before (one ∷ rest) was (meets, step, is) =
     let goes = event_effects old one.after one.event one.outcome step in
     let rest_is = whole_run one.after (before || breaks one.event one.outcome) rest (goes.broken_is
@@ -131,6 +136,7 @@ whole_run old before (one ∷ rest) was (meets, step, is) =
       map_is = rest_is.map_is
           ∙ goes.map;
       keys_are = rest_is.keys_are ∙ goes.keys;
+      work_is = rest_is.work_is ∙ goes.work;
     }
 
 pub goes_by_events : {K : Type 0} (start : State K) (run : List (Happening K)) → IsFresh start →
@@ -142,4 +148,5 @@ goes_by_events start run fresh is =
       breaks = whole.broken_is;
       map = whole.map_is;
       keys = whole.keys_are;
+      work = whole.work_is;
     }

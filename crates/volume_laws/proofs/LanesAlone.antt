@@ -1,14 +1,25 @@
 -- Lanes of a run, each by its own calls.
-use Rattle.std.proofs.Common.{◌≡◌, ◌≢◌, inl, inr, ℕ, suc, ◌<◌, ◌==◌, true, false, if◌then◌else◌, nat_eq, List, [], ◌∷◌, ◌++◌, length, Option, Some, None, MatchOption, MatchBool, refl, sym, ◌∙◌, ap, subst, arith, append_assoc, option_map}
+use Rattle.std.proofs.Common.{◌≡◌, ◌≢◌, inl, inr, ℕ, suc, ◌*◌, ◌<◌, ◌≤◌, ◌==◌, true, false}
+use Rattle.std.proofs.Common.{if◌then◌else◌, nat_eq, List, [], ◌∷◌, ◌++◌, length, Option, Some}
+use Rattle.std.proofs.Common.{None, MatchOption, MatchBool, refl, sym, ◌∙◌, ap, subst, arith}
+use Rattle.std.proofs.Common.{append_assoc, option_map}
 use Rattle.std.proofs.lemmas.List.{append-nil}
 use Rattle.range_lock.specs.Locks.{is_of}
 use Rattle.segment_map.specs.declared.map.Map.{Map}
-use Rattle.volume_machine.specs.Alone.{Alone, AreMet, Call, MeetsAlone, after_got, after_put, after_sync, alone_after, alone_of, answered_alone, answers_of, granted_after, idle_lane, open_after, settled_as, plain_with, with_piece, opened_by}
+use Rattle.volume_machine.specs.Alone.{Alone, AreMet, Call, MeetsAlone, after_got, after_put}
+use Rattle.volume_machine.specs.Alone.{after_sync, alone_after, alone_of, answered_alone}
+use Rattle.volume_machine.specs.Alone.{answers_of, granted_after, idle_lane, open_after, settled_as}
+use Rattle.volume_machine.specs.Alone.{plain_with, with_piece, opened_by}
 use Rattle.volume_machine.specs.Answers.{answers}
 use Rattle.volume_machine.specs.Asks.{IsRead, IsWrite, has_lock, wrong_ask, entry_of}
 use Rattle.volume_machine.specs.Beginnings.{IsFresh}
-use Rattle.volume_machine.specs.Events.{Event, admits, asks, reads, writes, settles, finishes, lane_of, Outcome, held, refused, got, done, device, broken}
-use Rattle.volume_machine.specs.Runs.{Happening, IsRun, answered_by, last_of, no_plain, plain_after, plain_in, plain_piece, with_plain}
+use Rattle.volume_machine.specs.Events.{Event, admits, asks, reads, writes, settles, finishes}
+use Rattle.volume_machine.specs.Events.{lane_of, Outcome, held, refused, got, done, device, broken}
+use Rattle.block_range.specs.declared.BlockRange.{BlockRange}
+use Rattle.volume_machine.specs.Pieces.{AgreeOn, known_side, rest_of}
+use Rattle.volume_machine.proofs.NextPieces.{agrees_itself, agrees_now, next_agrees}
+use Rattle.volume_machine.specs.Runs.{Happening, IsRun, answered_by, last_of, no_plain, plain_after}
+use Rattle.volume_machine.specs.Runs.{plain_in, plain_piece, with_plain}
 use Rattle.volume_machine.specs.Seals.{Seals}
 use Rattle.volume_machine.specs.Sound.{IsSound}
 use Rattle.volume_machine.specs.States.{State, IsClient, begun, open_at, size_of}
@@ -20,7 +31,8 @@ use Rattle.volume_machine.specs.declared.open.Open.{Open}
 use Rattle.volume_machine.proofs.EventEffects.{event_effects}
 use Rattle.volume_machine.proofs.Locking.{either, same_or_not, is_of-own, find-last, before-last}
 use Rattle.volume_machine.proofs.Soundness.{match_true, match_false, sound_kept}
-use Rattle.volume_laws.specs.Lanes.{AreAlone, AreMetByLanes, AreOfClients, AreSteps, IsLane, alone_in, answered_under, call_of, own_calls}
+use Rattle.volume_laws.specs.Lanes.{AreAlone, AreMetByLanes, AreOfClients, AreSteps, IsLane}
+use Rattle.volume_laws.specs.Lanes.{alone_in, answered_under, call_of, own_calls}
 use Rattle.volume_laws.proofs.Admits.{plain-other, plain-own}
 use Rattle.volume_laws.proofs.Failures.{settled_is}
 use Rattle.volume_laws.proofs.OtherLanes.{event_left}
@@ -71,25 +83,29 @@ admits_told old new lane session ask grant sound free step =
     admit_told old new lane session ask grant sound free
     (held_admit old new lane session ask grant _ refl step)
 
--- an operation that goes on asks for what it asked for
-got_ask : (atom : ℕ) (outcome : Outcome) (o : Open) → (after_got atom outcome o).ask ≡ o.ask
-got_ask atom (got sealed) o = refl
-got_ask atom device o = refl
-got_ask atom broken o = refl
-got_ask atom _ o = refl
+-- an operation that goes on asks for what it asked for, and has the blocks that it had
+record IsSameAsk (o next : Open) : Type 0 where
+  ask : next.ask ≡ o.ask
+  range : next.range ≡ o.range
 
-put_ask : (atom : ℕ) (sealed : List ℕ) (outcome : Outcome) (o : Open) →
-    (after_put atom sealed outcome o).ask ≡ o.ask
-put_ask atom sealed done o = refl
-put_ask atom sealed device o = refl
-put_ask atom sealed broken o = refl
-put_ask atom sealed _ o = refl
+got_same : (atom : ℕ) (outcome : Outcome) (o : Open) → IsSameAsk o (after_got atom outcome o)
+got_same atom (got sealed) o = record { ask = refl; range = refl }
+got_same atom device o = record { ask = refl; range = refl }
+got_same atom broken o = record { ask = refl; range = refl }
+got_same atom _ o = record { ask = refl; range = refl }
 
-sync_ask : (outcome : Outcome) (o : Open) → (after_sync outcome o).ask ≡ o.ask
-sync_ask done o = refl
-sync_ask device o = refl
-sync_ask broken o = refl
-sync_ask _ o = refl
+put_same : (atom : ℕ) (sealed : List ℕ) (outcome : Outcome) (o : Open) →
+    IsSameAsk o (after_put atom sealed outcome o)
+put_same atom sealed done o = record { ask = refl; range = refl }
+put_same atom sealed device o = record { ask = refl; range = refl }
+put_same atom sealed broken o = record { ask = refl; range = refl }
+put_same atom sealed _ o = record { ask = refl; range = refl }
+
+sync_same : (outcome : Outcome) (o : Open) → IsSameAsk o (after_sync outcome o)
+sync_same done o = record { ask = refl; range = refl }
+sync_same device o = record { ask = refl; range = refl }
+sync_same broken o = record { ask = refl; range = refl }
+sync_same _ o = record { ask = refl; range = refl }
 
 reads_lock : (ask : Ask) → IsRead ask → has_lock ask ≡ true
 reads_lock (Read offset len) is = refl
@@ -101,28 +117,62 @@ writes_lock (Read offset len) is = absurd is
 writes_lock (Write offset len fua) is = refl
 writes_lock Flush is = absurd is
 
+-- what a grant told of the operation's blocks goes on to hold
+still_agrees : {K : Type 0} (old : State K) (plain : ℕ → List ℕ) (lane : ℕ) (alone : Alone)
+    (map : Map) (o : Open) (f : Open → Open) → IsLane old plain lane alone →
+    ((q : Open) → IsSameAsk q (f q)) → alone.granted ≡ Some map → (now : Option Open) →
+    alone.operation ≡ now → option_map f now ≡ Some o → AgreeOn o.range map old.map
+still_agrees old plain lane alone map o f is same granted None at now = absurd (cc)
+still_agrees old plain lane alone map o f is same granted (Some q) at now =
+    let e : o ≡ f q = cc in
+    subst (λ r. AgreeOn r map old.map) (sym (ap (λ x. x.range) e ∙ (same q).range))
+    (is.map map q granted at)
+
+told_agrees : (range : BlockRange) (map granted now : Map) → map ≡ granted → granted ≡ now →
+    AgreeOn range map now
+told_agrees range map granted now same is =
+    subst (λ m. AgreeOn range m now) (sym (same ∙ is)) (agrees_itself range now)
+
 -- the lane of an event is after it what it is by its own calls
 own_map : {K : Type 0} (old new : State K) (plain : ℕ → List ℕ) (event : Event) (outcome : Outcome)
-    (alone : Alone) (map : Map) → IsSound old → IsLane old plain (lane_of event) alone →
+    (alone : Alone) (map : Map) (o : Open) → IsSound old → IsLane old plain (lane_of event) alone →
     MeetsAlone alone event → Step old event outcome new →
-    granted_after event outcome alone.granted ≡ Some map → map ≡ old.map
+    granted_after event outcome alone.granted ≡ Some map →
+    open_after old.map.atom event outcome alone.operation ≡ Some o → AgreeOn o.range map old.map
 unfolding MeetsAlone Step
-own_map old new plain (admits lane session ask) (held grant) alone map sound is meets step granted =
-    let e : map ≡ grant.map = cc in e
-    ∙ (admits_told old new lane session ask grant sound (is.operation ∙ meets) step).map
-own_map old new plain (admits lane session ask) _ alone map sound is meets step granted =
+own_map old new plain (admits lane session ask)
+    (held grant) alone map o sound is meets step granted now =
+    told_agrees o.range map grant.map old.map (cc)
+    (admits_told old new lane session ask grant sound (is.operation ∙ meets) step).map
+own_map old new plain (admits lane session ask) _ alone map o sound is meets step granted now =
     absurd (cc)
-own_map old new plain (asks lane) (held grant) alone map sound is meets
-    ((o, at, tells), same) granted = (let e : map ≡ grant.map = cc in e ∙ tells.1.map)
-own_map old new plain (asks lane) _ alone map sound is meets step granted = absurd (cc)
-own_map old new plain (finishes lane) outcome alone map sound is meets step granted = absurd (cc)
-own_map old new plain _ outcome alone map sound is meets step granted = is.map map granted
+own_map old new plain (asks lane) (held grant) alone map o sound is meets
+    ((q, at, tells), same) granted now = told_agrees o.range map grant.map old.map (cc) tells.1.map
+own_map old new plain (asks lane) _ alone map o sound is meets step granted now = absurd (cc)
+own_map old new plain (reads lane len) outcome alone map o sound is meets step granted now =
+    still_agrees old plain lane alone map o (after_got old.map.atom outcome) is
+    (got_same old.map.atom outcome) granted alone.operation refl now
+own_map old new plain (writes lane bytes) outcome alone map o sound is meets step granted now =
+    still_agrees old plain lane alone map o (after_put old.map.atom bytes outcome) is
+    (put_same old.map.atom bytes outcome) granted alone.operation refl now
+own_map old new plain (settles lane) outcome alone map o sound is meets step granted now =
+    settle_agrees alone.operation refl now
+  where
+    settle_agrees : (at : Option Open) → alone.operation ≡ at → settled_as outcome at ≡ Some o →
+        AgreeOn o.range map old.map
+    settle_agrees None is_at now_so = absurd (cc)
+    settle_agrees (Some q) is_at now_so =
+        let e : o ≡ after_sync outcome q = settled_is q (after_sync outcome q) o now_so in
+        subst (λ r. AgreeOn r map old.map) (sym (ap (λ x. x.range) e ∙ (sync_same outcome q).range))
+        (is.map map q granted is_at)
+own_map old new plain (finishes lane) outcome alone map o sound is meets step granted now =
+    absurd (cc)
 
 -- it holds what it held
 still_holds : {K : Type 0} (old new : State K) (plain : ℕ → List ℕ) (event : Event)
     (outcome : Outcome) (alone : Alone) (map : Map) (o : Open) (f : Open → Open) →
     IsLane old plain (lane_of event) alone → new.entries ≡ old.entries →
-    ((q : Open) → (f q).ask ≡ q.ask) → alone.granted ≡ Some map →
+    ((q : Open) → IsSameAsk q (f q)) → alone.granted ≡ Some map →
     (now : Option Open) → alone.operation ≡ now → option_map f now ≡ Some o →
     has_lock o.ask ≡ true → Holds new (lane_of event)
 still_holds old new plain event outcome alone map o f is entries asks_so granted None at now has =
@@ -130,7 +180,7 @@ still_holds old new plain event outcome alone map o f is entries asks_so granted
 still_holds old new plain event outcome alone map o f is entries asks_so granted
     (Some q) at now has =
     let e : o ≡ f q = cc in
-    let locks : has_lock q.ask ≡ true = ap (λ a. has_lock a) (sym (asks_so q))
+    let locks : has_lock q.ask ≡ true = ap (λ a. has_lock a) (sym (asks_so q).ask)
     ∙ ap (λ x. has_lock x.ask) (sym e) ∙ has in
     rw entries (is.holds map q granted at locks)
 
@@ -156,13 +206,13 @@ own_holds old new plain (reads lane len) outcome alone map o sound is meets step
     still_holds old new plain (reads lane len) outcome alone map o
     (after_got old.map.atom outcome) is
     (event_effects old new (reads lane len) outcome step).entries_are
-    (got_ask old.map.atom outcome) granted alone.operation refl now has
+    (got_same old.map.atom outcome) granted alone.operation refl now has
 own_holds old new plain (writes lane bytes) outcome alone map o sound is meets step granted now
     has =
     still_holds old new plain (writes lane bytes) outcome alone map o
     (after_put old.map.atom bytes outcome) is
     (event_effects old new (writes lane bytes) outcome step).entries_are
-    (put_ask old.map.atom bytes outcome) granted alone.operation refl now has
+    (put_same old.map.atom bytes outcome) granted alone.operation refl now has
 own_holds old new plain (settles lane) outcome alone map o sound is meets step granted now has =
     settle_holds alone.operation refl now
   where
@@ -171,7 +221,7 @@ own_holds old new plain (settles lane) outcome alone map o sound is meets step g
     settle_holds None is_at now_so = absurd (cc)
     settle_holds (Some q) is_at now_so =
         let e : o ≡ after_sync outcome q = settled_is q (after_sync outcome q) o now_so in
-        let locks : has_lock q.ask ≡ true = ap (λ a. has_lock a) (sym (sync_ask outcome q))
+        let locks : has_lock q.ask ≡ true = ap (λ a. has_lock a) (sym (sync_same outcome q).ask)
         ∙ ap (λ x. has_lock x.ask) (sym e) ∙ has in
         rw (event_effects old new (settles lane) outcome step).entries_are
         (is.holds map q granted is_at locks)
@@ -180,35 +230,40 @@ own_holds old new plain (finishes lane) outcome alone map o sound is meets step 
 
 -- what its pieces are in plain
 piece_plain : {K : Type 0} (seals : Seals) (old : State K) (plain : ℕ → List ℕ) (lane : ℕ)
-    (alone : Alone) (map : Map) (sealed : List ℕ) → IsLane old plain lane alone →
-    alone.granted ≡ Some map → with_plain plain lane
+    (alone : Alone) (map : Map) (o : Open) (sealed : List ℕ) → IsSound old →
+    IsLane old plain lane alone → alone.granted ≡ Some map → alone.operation ≡ Some o →
+    o.next < o.range.end → with_plain plain lane
     (plain lane ++ plain_piece seals old lane sealed) lane
     ≡ with_piece seals alone sealed alone.granted
-piece_plain seals old plain lane alone map sealed is granted =
+piece_plain seals old plain lane alone map o sealed sound is granted at some =
+    let begun = (sound.under_way lane o (is.operation ∙ at)).begun in
+    let side = (is.map map o granted at).sides o.next begun some in
     plain-own plain lane (plain lane ++ plain_piece seals old lane sealed)
     ∙ ap (λ xs. xs ++ plain_piece seals old lane sealed) is.plain_is
-    ∙ ap (λ x. alone.plain ++ opened_by seals old.map x sealed) is.operation
-    ∙ ap (λ (m : Map). alone.plain ++ opened_by seals m alone.operation sealed)
-    (sym (is.map map granted))
+    ∙ ap (λ x. alone.plain ++ opened_by seals old.map x sealed) (is.operation ∙ at)
+    ∙ ap (λ s. alone.plain ++ seals.opened (known_side s) o.next sealed) (sym side)
+    ∙ ap (λ x. alone.plain ++ opened_by seals map x sealed) (sym at)
     ∙ sym (ap (λ g. with_piece seals alone sealed g) granted)
 
 own_plain : {K : Type 0} (seals : Seals) (old : State K) (plain : ℕ → List ℕ) (event : Event)
-    (outcome : Outcome) (alone : Alone) → IsLane old plain (lane_of event) alone →
+    (outcome : Outcome) (alone : Alone) → IsSound old → IsLane old plain (lane_of event) alone →
     MeetsAlone alone event → plain_after seals old event outcome plain (lane_of event)
     ≡ plain_with seals alone event outcome
 unfolding MeetsAlone plain_after
-own_plain seals old plain (admits lane session ask) outcome alone is meets = plain-own plain lane []
-own_plain seals old plain (asks lane) outcome alone is meets = is.plain_is
-own_plain seals old plain (reads lane len) (got sealed) alone is (o, at, (map, granted, can)) =
-    piece_plain seals old plain lane alone map sealed is granted
-own_plain seals old plain (reads lane len) _ alone is meets = is.plain_is
-own_plain seals old plain (writes lane sealed) done alone is (o, at, (map, granted, can)) =
-    piece_plain seals old plain lane alone map sealed is granted
-own_plain seals old plain (writes lane sealed) device alone is (o, at, (map, granted, can)) =
-    piece_plain seals old plain lane alone map sealed is granted
-own_plain seals old plain (writes lane sealed) _ alone is meets = is.plain_is
-own_plain seals old plain (settles lane) outcome alone is meets = is.plain_is
-own_plain seals old plain (finishes lane) outcome alone is meets = is.plain_is
+own_plain seals old plain (admits lane session ask) outcome alone sound is meets =
+    plain-own plain lane []
+own_plain seals old plain (asks lane) outcome alone sound is meets = is.plain_is
+own_plain seals old plain (reads lane len)
+    (got sealed) alone sound is (o, at, (map, granted, can)) =
+    piece_plain seals old plain lane alone map o sealed sound is granted at can.has.some
+own_plain seals old plain (reads lane len) _ alone sound is meets = is.plain_is
+own_plain seals old plain (writes lane sealed) done alone sound is (o, at, (map, granted, can)) =
+    piece_plain seals old plain lane alone map o sealed sound is granted at can.has.some
+own_plain seals old plain (writes lane sealed) device alone sound is (o, at, (map, granted, can)) =
+    piece_plain seals old plain lane alone map o sealed sound is granted at can.has.some
+own_plain seals old plain (writes lane sealed) _ alone sound is meets = is.plain_is
+own_plain seals old plain (settles lane) outcome alone sound is meets = is.plain_is
+own_plain seals old plain (finishes lane) outcome alone sound is meets = is.plain_is
 
 pub own_step : {K : Type 0} (seals : Seals) (old new : State K) (plain : ℕ → List ℕ) (event : Event)
     (outcome : Outcome) (alone : Alone) → IsSound old → IsLane old plain (lane_of event) alone →
@@ -218,9 +273,9 @@ pub own_step : {K : Type 0} (seals : Seals) (old new : State K) (plain : ℕ →
 own_step seals old new plain event outcome alone sound is meets step =
     let goes = event_effects old new event outcome step in record {
       operation = goes.lane_is.own ∙ ap (λ x. open_after old.map.atom event outcome x) is.operation;
-      plain_is = own_plain seals old plain event outcome alone is meets;
-      map = λ map granted. own_map old new plain event outcome alone map sound is meets step granted
-          ∙ sym goes.map;
+      plain_is = own_plain seals old plain event outcome alone sound is meets;
+      map = λ map o granted now. agrees_now o.range map old.map new.map goes.map
+          (own_map old new plain event outcome alone map o sound is meets step granted now);
       holds = λ map o granted now has. own_holds old new plain event outcome alone map o sound is
           meets step granted now has;
     }
@@ -252,39 +307,69 @@ other_step seals old new plain event outcome lane alone differ is step =
     let left = event_left old new event outcome lane step differ in record {
       operation = left.own ∙ is.operation;
       plain_is = other_plain seals old plain event outcome lane differ ∙ is.plain_is;
-      map = λ map granted. is.map map granted ∙ sym left.map;
+      map = λ map o granted at. agrees_now o.range map old.map new.map left.map
+          (is.map map o granted at);
       holds = λ map o granted at has. left.holds (is.holds map o granted at has);
     }
 
+-- what the map of a grant lets a lane read and write the state's map does
+can_read : (one other : Map) (len : ℕ) (o : Open) → AgreeOn o.range one other →
+    o.range.start ≤ o.next → CanRead one len o → CanRead other len o
+can_read one other len o agree begun can = record {
+  reads = can.reads;
+  has = can.has;
+  piece = can.piece;
+  next = next_agrees one other (rest_of o) o.range can.piece agree begun (omega arith) can.next;
+  size = can.size ∙ ap (λ a. can.piece.count * a) agree.atom;
+}
+
+can_write : (one other : Map) (bytes : List ℕ) (o : Open) → AgreeOn o.range one other →
+    o.range.start ≤ o.next → CanWrite one bytes o → CanWrite other bytes o
+can_write one other bytes o agree begun can = record {
+  writes = can.writes;
+  has = can.has;
+  piece = can.piece;
+  next = next_agrees one other (rest_of o) o.range can.piece agree begun (omega arith) can.next;
+  are = record {
+    size = can.are.size ∙ ap (λ a. can.piece.count * a) agree.atom;
+    are_bytes = can.are.are_bytes;
+  };
+}
+
 -- conditions by own calls are conditions of the state
 can_by : {K : Type 0} (state : State K) (plain : ℕ → List ℕ) (event : Event) (alone : Alone) →
-    IsLane state plain (lane_of event) alone → MeetsAlone alone event → Can state event
+    IsSound state → IsLane state plain (lane_of event) alone → MeetsAlone alone event →
+    Can state event
 unfolding MeetsAlone Can
-can_by state plain (admits lane session ask) alone is meets = is.operation ∙ meets
-can_by state plain (asks lane) alone is (o, at, has) = (o, is.operation ∙ at, has)
-can_by state plain (reads lane len) alone is (o, at, (map, granted, can)) = (
-  (o, is.operation ∙ at, subst (λ (m : Map). CanRead m len o) (is.map map granted) can),
-  is.holds
-      map o granted at (reads_lock o.ask can.reads),
-)
-can_by state plain (writes lane bytes) alone is (o, at, (map, granted, can)) = (
+can_by state plain (admits lane session ask) alone sound is meets = is.operation ∙ meets
+can_by state plain (asks lane) alone sound is (o, at, has) = (o, is.operation ∙ at, has)
+can_by state plain (reads lane len) alone sound is (o, at, (map, granted, can)) = (
   (
     o,
     is.operation ∙ at,
-    subst (λ (m : Map). CanWrite m bytes o)
-        (is.map map granted) can,
+    can_read map state.map len o (is.map map o granted at)
+        (sound.under_way lane o (is.operation ∙ at)).begun can,
+  ),
+  is.holds map o granted at (reads_lock o.ask can.reads),
+)
+can_by state plain (writes lane bytes) alone sound is (o, at, (map, granted, can)) = (
+  (
+    o,
+    is.operation ∙ at,
+    can_write map state.map bytes o (is.map map o granted at)
+        (sound.under_way lane o (is.operation ∙ at)).begun can,
   ),
   is.holds map o granted at (writes_lock o.ask can.writes),
 )
-can_by state plain (settles lane) alone is (o, at, can) = (o, is.operation ∙ at, can)
-can_by state plain (finishes lane) alone is (o, at, (map, granted, can)) =
+can_by state plain (settles lane) alone sound is (o, at, can) = (o, is.operation ∙ at, can)
+can_by state plain (finishes lane) alone sound is (o, at, (map, granted, can)) =
     ((o, is.operation ∙ at, can), is.holds map o granted at can.locks)
 
 pub meets_by : {K : Type 0} (state : State K) (plain : ℕ → List ℕ) (event : Event) (alone : Alone) →
-    IsLane state plain (lane_of event) alone → IsClient state (lane_of event) →
+    IsSound state → IsLane state plain (lane_of event) alone → IsClient state (lane_of event) →
     MeetsAlone alone event → Meets state event
-meets_by state plain event alone is client meets =
-    record { client = client; can = can_by state plain event alone is meets }
+meets_by state plain event alone sound is client meets =
+    record { client = client; can = can_by state plain event alone sound is meets }
 
 -- lists of own calls, one after the other
 alone-joined : (atom : ℕ) (seals : Seals) (alone : Alone) (xs ys : List Call) →
@@ -361,7 +446,8 @@ lane_step seals old plain one alone lane sound are meets step =
           (subst (λ calls. IsLane one.after (plain_after seals old one.event one.outcome plain)
           (lane_of one.event) (alone_of old.map.atom seals (alone (lane_of one.event)) calls))
           (sym (call-own one))
-          (own_step seals old one.after plain one.event one.outcome (alone (lane_of one.event)) sound
+          (own_step seals old one.after plain one.event one.outcome (alone (lane_of one.event))
+          sound
           (are (lane_of one.event)) meets step))
       | inr other ↦ subst (λ calls. IsLane one.after
           (plain_after seals old one.event one.outcome plain) lane
@@ -414,7 +500,7 @@ follows atom count seals old plain alone (one ∷ rest) same long sound are (ste
     let meets : MeetsAlone (alone own) one.event =
     first_met (subst (λ calls. AreMet atom seals (alone own) calls) (call-own one) (parts own).0) in
     let met_so : Meets old one.event =
-    meets_by old plain one.event (alone own) (are own) (rw long client) meets in
+    meets_by old plain one.event (alone own) sound (are own) (rw long client) meets in
     let goes = event_effects old one.after one.event one.outcome step in
     let behind = follows atom count seals one.after
     (plain_after seals old one.event one.outcome plain)
@@ -449,7 +535,7 @@ idle_is : {K : Type 0} (start : State K) (lane : ℕ) → IsFresh start →
 idle_is start lane fresh = record {
   operation = fresh.lanes lane;
   plain_is = refl;
-  map = λ map granted. absurd (cc);
+  map = λ map o granted at. absurd (cc);
   holds = λ map o granted. absurd (cc);
 }
 
@@ -468,15 +554,24 @@ lanes_stay start [] steps = refl
 lanes_stay start (one ∷ rest) (step, steps) = lanes_stay one.after rest steps
     ∙ (event_effects start one.after one.event one.outcome step).lane_is.count
 
+-- a run leaves a sound volume
+sound_after : {K : Type 0} (start : State K) (run : List (Happening K)) → IsSound start →
+    IsRun start run → IsSound (last_of start run)
+unfolding IsRun last_of
+sound_after start [] sound is = sound
+sound_after start (one ∷ rest) sound (meets, step, is) = sound_after one.after rest
+    (sound_kept start one.after one.event one.outcome sound meets step) is
+
 pub next_meets : {K : Type 0} (start : State K) (seals : Seals) (run : List (Happening K))
     (event : Event) → IsSound start → IsFresh start → AreSteps start run →
     AreMetByLanes start seals run →
     IsClient start (lane_of event) → MeetsAlone (alone_in start seals (lane_of event) run) event →
     Meets (last_of start run) event
 next_meets start seals run event sound fresh steps by client meets =
+    let alone = are_alone start seals run sound fresh steps by in
     meets_by (last_of start run) (plain_in seals start no_plain run) event
-    (alone_in start seals (lane_of event) run)
-    ((are_alone start seals run sound fresh steps by).lanes (lane_of event))
+    (alone_in start seals (lane_of event) run) (sound_after start run sound alone.is)
+    (alone.lanes (lane_of event))
     (rw (lanes_stay start run steps) client) meets
 
 -- one event more

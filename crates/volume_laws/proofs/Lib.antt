@@ -22,3 +22,5 @@ pub mod Settling
 pub mod Tables
 pub mod VolumeStart
 pub mod Writing
+pub mod Workings
+pub mod Standings

@@ -5,7 +5,8 @@ use Rattle.volume_machine.specs.declared.open.Open.{Open}
 use Rattle.volume_machine.specs.declared.ask.Ask.{Ask}
 use Rattle.volume_machine.specs.Asks.{has_lock, entry_of}
 use Rattle.volume_machine.specs.Effects.{entered, entries_after}
-use Rattle.volume_machine.specs.Events.{Event, admits, asks, reads, writes, settles, finishes, Outcome, refused, lane_of}
+use Rattle.volume_machine.specs.Events.{Event, admits, asks, reads, writes, settles, finishes}
+use Rattle.volume_machine.specs.Events.{Outcome, refused, lane_of}
 use Rattle.volume_machine.specs.States.{State, open_at}
 use Rattle.volume_machine.specs.Steps.{Step, Can, Meets, CanRead, CanWrite, Has, Holds}
 use Rattle.range_lock.specs.declared.Standing.TheVariants.{Held}

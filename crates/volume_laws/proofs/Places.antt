@@ -1,5 +1,6 @@
 -- The places of a map's blocks, and when no two of them are the same.
-use Rattle.std.proofs.Common.{◌≡◌, inl, inr, ◌⊎◌, ℕ, zero, suc, ◌+◌, ◌-◌, ◌<◌, ◌≤◌, List, ◌++◌, replicate, Option, Some, None, slice_get, refl, ◌∙◌, ap, arith}
+use Rattle.std.proofs.Common.{◌≡◌, inl, inr, ◌⊎◌, ℕ, zero, suc, ◌+◌, ◌-◌, ◌<◌, ◌≤◌, List, ◌++◌}
+use Rattle.std.proofs.Common.{replicate, Option, Some, None, slice_get, refl, ◌∙◌, ap, arith}
 use Rattle.std.proofs.lemmas.Bool.{cases_lt}
 use Rattle.segment_map.specs.declared.Direction.TheVariants.{Forward, Backward}
 use Rattle.segment_map.specs.declared.Side.{Side}
@@ -11,48 +12,63 @@ use Rattle.volume_machine.specs.Pieces.{known_side, place_in}
 use Rattle.volume_machine.specs.Sound.{AreApart}
 
 -- within a run of blocks on one side, and behind it
-run_inside : (side : Side) (n k : ℕ) (rest : List Side) → k < n → slice_get (replicate n side ++ rest) k ≡ Some side
+pub run_inside : (side : Side) (n k : ℕ) (rest : List Side) → k < n
+    → slice_get (replicate n side ++ rest) k ≡ Some side
 run_inside side zero k rest below = absurd (omega (arith, below))
 run_inside side (suc n) zero rest below = refl
 run_inside side (suc n) (suc k) rest below = run_inside side n k rest (omega (arith, below))
 
-run_behind : (side : Side) (n k at : ℕ) (rest : List Side) → at ≡ n + k → slice_get (replicate n side ++ rest) at ≡ slice_get rest k
-run_behind side zero k at rest is = (let same : at ≡ k = omega (arith, is) in ap (λ i. slice_get rest i) same)
+pub run_behind : (side : Side) (n k at : ℕ) (rest : List Side) → at ≡ n + k
+    → slice_get (replicate n side ++ rest) at ≡ slice_get rest k
+run_behind side zero k at rest is =
+    (let same : at ≡ k = omega (arith, is) in ap (λ i. slice_get rest i) same)
 run_behind side (suc n) k zero rest is = absurd (omega (arith, is))
 run_behind side (suc n) k (suc at) rest is = run_behind side n k at rest (omega (arith, is))
 
-last_run : (side : Side) (n k : ℕ) → (slice_get (replicate n side) k ≡ Some side) ⊎ (slice_get (replicate n side) k ≡ None)
+last_run : (side : Side) (n k : ℕ)
+    → (slice_get (replicate n side) k ≡ Some side) ⊎ (slice_get (replicate n side) k ≡ None)
 last_run side zero k = inr refl
 last_run side (suc n) zero = inl refl
 last_run side (suc n) (suc k) = last_run side n k
 
-run_last : (side : Side) (n k : ℕ) → k < n → slice_get (replicate n side) k ≡ Some side
+pub run_last : (side : Side) (n k : ℕ) → k < n → slice_get (replicate n side) k ≡ Some side
 run_last side zero k below = absurd (omega (arith, below))
 run_last side (suc n) zero below = refl
 run_last side (suc n) (suc k) below = run_last side n k (omega (arith, below))
 
 -- a block that isn't new is in the old segment
-on_old : (map : Map) (b : ℕ) (side : Option Side) → (side ≡ Some Old) ⊎ ((side ≡ Some Zone) ⊎ (side ≡ None)) → place_on map b (known_side side) ≡ map.old_place + b
+on_old : (map : Map) (b : ℕ) (side : Option Side)
+    → (side ≡ Some Old) ⊎ ((side ≡ Some Zone) ⊎ (side ≡ None))
+    → place_on map b (known_side side) ≡ map.old_place + b
 on_old map b side (inl is) = rw is refl
 on_old map b side (inr (inl is)) = rw is refl
 on_old map b side (inr (inr is)) = rw is refl
 
 -- forward: new below the boundary, old from it on
-forward_new : (map : Map) (b : ℕ) → map.direction ≡ Forward → b < map.boundary → place_in map b ≡ map.new_place + b
+forward_new : (map : Map) (b : ℕ) → map.direction ≡ Forward → b < map.boundary
+    → place_in map b ≡ map.new_place + b
 forward_new map b forward below =
-    let side : side_at map b ≡ Some New = rw forward (run_inside New map.boundary b (replicate map.zone Zone ++ replicate (map.blocks - map.boundary - map.zone) Old) below) in
+    let side : side_at map b ≡ Some New =
+    rw forward
+    (run_inside New map.boundary b
+    (replicate map.zone Zone ++ replicate (map.blocks - map.boundary - map.zone) Old) below) in
     rw side refl
 
-forward_old : (map : Map) (b : ℕ) → map.direction ≡ Forward → map.boundary ≤ b → place_in map b ≡ map.old_place + b
+forward_old : (map : Map) (b : ℕ) → map.direction ≡ Forward → map.boundary ≤ b
+    → place_in map b ≡ map.old_place + b
 forward_old map b forward above =
     let left = map.blocks - map.boundary - map.zone in
     let k = b - map.boundary in
     let rest : side_at map b ≡ slice_get (replicate map.zone Zone ++ replicate left Old) k =
-    rw forward (run_behind New map.boundary k b (replicate map.zone Zone ++ replicate left Old) (omega (arith, above))) in
+    rw forward
+    (run_behind New map.boundary k b (replicate map.zone Zone ++ replicate left Old)
+    (omega (arith, above))) in
     on_old map b (side_at map b) (elim (cases_lt k map.zone) [
       | inl zoned ↦ inr (inl (rest ∙ run_inside Zone map.zone k (replicate left Old) zoned))
       | inr past ↦ (
-          let last : side_at map b ≡ slice_get (replicate left Old) (k - map.zone) = rest ∙ run_behind Zone map.zone (k - map.zone) k (replicate left Old) (omega (arith, past)) in
+          let last : side_at map b ≡ slice_get (replicate left Old) (k - map.zone) =
+          rest ∙ run_behind Zone map.zone (k - map.zone) k (replicate left Old)
+          (omega (arith, past)) in
           elim (last_run Old left (k - map.zone)) [
             | inl is ↦ inl (last ∙ is)
             | inr is ↦ inr (inr (last ∙ is))
@@ -60,48 +76,115 @@ forward_old map b forward above =
     ])
 
 -- backward: old below the boundary, new from it on
-backward_old : (map : Map) (b : ℕ) → map.direction ≡ Backward → b < map.boundary → place_in map b ≡ map.old_place + b
+backward_old : (map : Map) (b : ℕ) → map.direction ≡ Backward → b < map.boundary
+    → place_in map b ≡ map.old_place + b
 backward_old map b backward below =
     let before = map.boundary - map.zone in
     let rest = replicate map.zone Zone ++ replicate (map.blocks - map.boundary) New in
     on_old map b (side_at map b) (elim (cases_lt b before) [
       | inl old ↦ inl (rw backward (run_inside Old before b rest old))
-      | inr zoned ↦ inr (inl (rw backward (run_behind Old before (b - before) b rest (omega (arith, zoned))
-          ∙ run_inside Zone map.zone (b - before) (replicate (map.blocks - map.boundary) New) (omega (arith, below, zoned)))))
+      | inr zoned ↦
+          inr (inl (rw backward (run_behind Old before (b - before) b rest (omega (arith, zoned))
+          ∙ run_inside Zone map.zone (b - before) (replicate (map.blocks - map.boundary) New)
+          (omega (arith, below, zoned)))))
     ])
 
-backward_new : (map : Map) (b : ℕ) → map.direction ≡ Backward → map.boundary ≤ b → b < map.blocks → place_in map b ≡ map.new_place + b
+backward_new : (map : Map) (b : ℕ) → map.direction ≡ Backward → map.boundary ≤ b → b < map.blocks
+    → place_in map b ≡ map.new_place + b
 backward_new map b backward above inside =
     let before = map.boundary - map.zone in
     let left = map.blocks - map.boundary in
     let k = b - map.boundary in
-    let zone : map.zone ≤ map.boundary = (let is = map.zone_left in let same : left_of map.direction map.blocks map.boundary ≡ map.boundary = rw backward refl in omega (arith, is, same)) in
+    let zone : map.zone ≤ map.boundary =
+    (let is =
+    map.zone_left in let same : left_of map.direction map.blocks map.boundary ≡ map.boundary =
+    rw backward refl in omega (arith, is, same)) in
     let side : side_at map b ≡ Some New =
-    rw backward (run_behind Old before (map.zone + k) b (replicate map.zone Zone ++ replicate left New) (omega (arith, above, zone))
-    ∙ run_behind Zone map.zone k (map.zone + k) (replicate left New) refl ∙ run_last New left k (omega (arith, above, inside))) in
+    rw backward
+    (run_behind Old before (map.zone + k) b (replicate map.zone Zone ++ replicate left New)
+    (omega (arith, above, zone))
+    ∙ run_behind Zone map.zone k (map.zone + k) (replicate left New) refl
+    ∙ run_last New left k (omega (arith, above, inside))) in
     rw side refl
 
 -- no two blocks have the same place
-pub forward_apart : (map : Map) → map.direction ≡ Forward → (map.new_place ≤ map.old_place) ⊎ (map.old_place + map.blocks ≤ map.new_place) → AreApart map
+pub forward_apart : (map : Map) → map.direction ≡ Forward
+    → (map.new_place ≤ map.old_place) ⊎ (map.old_place + map.blocks ≤ map.new_place) → AreApart map
 forward_apart map forward segments = λ a b a_inside b_inside same. elim (cases_lt a map.boundary) [
   | inl a_new ↦ elim (cases_lt b map.boundary) [
-    | inl b_new ↦ omega (arith, forward_new map a forward a_new, forward_new map b forward b_new, same)
-    | inr b_old ↦ absurd (omega (arith, forward_new map a forward a_new, forward_old map b forward b_old, same, segments, a_new, b_old, b_inside))
+    | inl b_new ↦
+        omega (arith, forward_new map a forward a_new, forward_new map b forward b_new, same)
+    | inr b_old ↦
+        absurd (omega (
+          arith,
+          forward_new map a forward a_new,
+          forward_old map b forward b_old,
+          same,
+          segments,
+          a_new,
+          b_old,
+          b_inside,
+        ))
   ]
   | inr a_old ↦ elim (cases_lt b map.boundary) [
-    | inl b_new ↦ absurd (omega (arith, forward_old map a forward a_old, forward_new map b forward b_new, same, segments, b_new, a_old, a_inside))
-    | inr b_old ↦ omega (arith, forward_old map a forward a_old, forward_old map b forward b_old, same)
+    | inl b_new ↦
+        absurd (omega (
+          arith,
+          forward_old map a forward a_old,
+          forward_new map b forward b_new,
+          same,
+          segments,
+          b_new,
+          a_old,
+          a_inside,
+        ))
+    | inr b_old ↦
+        omega (arith, forward_old map a forward a_old, forward_old map b forward b_old, same)
   ]
 ]
 
-pub backward_apart : (map : Map) → map.direction ≡ Backward → (map.old_place ≤ map.new_place) ⊎ (map.new_place + map.blocks ≤ map.old_place) → AreApart map
-backward_apart map backward segments = λ a b a_inside b_inside same. elim (cases_lt a map.boundary) [
-  | inl a_old ↦ elim (cases_lt b map.boundary) [
-    | inl b_old ↦ omega (arith, backward_old map a backward a_old, backward_old map b backward b_old, same)
-    | inr b_new ↦ absurd (omega (arith, backward_old map a backward a_old, backward_new map b backward b_new b_inside, same, segments, a_old, b_new, b_inside))
-  ]
-  | inr a_new ↦ elim (cases_lt b map.boundary) [
-    | inl b_old ↦ absurd (omega (arith, backward_new map a backward a_new a_inside, backward_old map b backward b_old, same, segments, b_old, a_new, a_inside))
-    | inr b_new ↦ omega (arith, backward_new map a backward a_new a_inside, backward_new map b backward b_new b_inside, same)
-  ]
-]
+pub backward_apart : (map : Map) → map.direction ≡ Backward
+    → (map.old_place ≤ map.new_place) ⊎ (map.new_place + map.blocks ≤ map.old_place) → AreApart map
+backward_apart map backward segments =
+    λ a b a_inside b_inside same. elim (cases_lt a map.boundary) [
+      | inl a_old ↦ elim (cases_lt b map.boundary) [
+        | inl b_old ↦
+            omega (
+              arith,
+              backward_old map a backward a_old,
+              backward_old map b backward b_old,
+              same,
+            )
+        | inr b_new ↦
+            absurd (omega (
+              arith,
+              backward_old map a backward a_old,
+              backward_new map b backward b_new b_inside,
+              same,
+              segments,
+              a_old,
+              b_new,
+              b_inside,
+            ))
+      ]
+      | inr a_new ↦ elim (cases_lt b map.boundary) [
+        | inl b_old ↦
+            absurd (omega (
+              arith,
+              backward_new map a backward a_new a_inside,
+              backward_old map b backward b_old,
+              same,
+              segments,
+              b_old,
+              a_new,
+              a_inside,
+            ))
+        | inr b_new ↦
+            omega (
+              arith,
+              backward_new map a backward a_new a_inside,
+              backward_new map b backward b_new b_inside,
+              same,
+            )
+      ]
+    ]

@@ -1,24 +1,30 @@
 -- Lemmas on the blocks of a plain disk, block by block.
-use Rattle.std.proofs.Common.{◌≡◌, ℕ, zero, suc, ◌+◌, ◌*◌, ◌<◌, ◌≤◌, false, List, [], ◌∷◌, ◌++◌, length, take, drop, map, sym, ◌∙◌, ap, ap₂, arith, length-append, length-take, suc-le-suc, le_of_suc-le-suc, mul-le-mul_right}
+use Rattle.std.proofs.Common.{◌≡◌, ℕ, zero, suc, ◌+◌, ◌*◌, ◌<◌, ◌≤◌, false, List, [], ◌∷◌, ◌++◌}
+use Rattle.std.proofs.Common.{length, take, drop, map, sym, ◌∙◌, ap, ap₂, arith, length-append}
+use Rattle.std.proofs.Common.{length-take, suc-le-suc, le_of_suc-le-suc, mul-le-mul_right}
 use Rattle.std.specs.Prelude.{Contains}
 use Rattle.std.proofs.lemmas.List.{get_or-map, get_or-take, get_or-drop, take_at, drop_at}
 use Rattle.std.proofs.lemmas.List.Elements.{Contains-push, Contains-append_left}
 use Rattle.base_terms.specs.Blocks.{blocks_of, changed, joined}
-use Rattle.plain_disk.specs.Plain.{Block, values_of, settled, written, tried, flushed, written_for_good, newest_bytes, AreSure}
+use Rattle.plain_disk.specs.Plain.{Block, values_of, settled, written, tried, flushed}
+use Rattle.plain_disk.specs.Plain.{written_for_good, newest_bytes, AreSure}
 use Rattle.volume_laws.specs.Contents.{block_in}
 use Rattle.disk_views.specs.Parts.{block_at}
 use Rattle.disk_views.specs.Views.{IsOutside}
-use Rattle.disk_views.proofs.Blockwise.{block_end, block_at-first, block_at-next, block_at-part, length-part, same_blocks}
+use Rattle.disk_views.proofs.Blockwise.{block_end, block_at-first, block_at-next, block_at-part}
+use Rattle.disk_views.proofs.Blockwise.{length-part, same_blocks}
 use Rattle.disk_views.proofs.Entries.{changed_blocks-outside, changed_blocks-inside}
 
 -- blocks that are changed by the blocks of a text, and flushed ones
-pub block_in-changed_outside : (change : Block → List ℕ → Block) (blocks : List Block) (atom at n : ℕ)
+pub block_in-changed_outside : (change : Block → List ℕ → Block) (blocks : List Block)
+    (atom at n : ℕ)
     (text : List ℕ) (b : ℕ) → IsOutside at n b
     → block_in (changed change blocks at (blocks_of atom n text)) b ≡ block_in blocks b
 block_in-changed_outside change blocks atom at n text b is =
     changed_blocks-outside change blocks atom at n text b (settled []) is
 
-pub block_in-changed_inside : (change : Block → List ℕ → Block) (blocks : List Block) (atom at n : ℕ)
+pub block_in-changed_inside : (change : Block → List ℕ → Block) (blocks : List Block)
+    (atom at n : ℕ)
     (text : List ℕ) (k : ℕ) → k < n → at + k < length blocks
     → block_in (changed change blocks at (blocks_of atom n text)) (at + k)
     ≡ change (block_in blocks (at + k)) (block_at atom text k)
@@ -63,7 +69,8 @@ block_at-newest_bytes atom (block ∷ blocks) (suc b) sized inside =
     sym (block_at-next atom (block.newest ++ newest_bytes blocks) b)
     ∙ ap (λ text. block_at atom text b)
     (drop_at block.newest (newest_bytes blocks) atom (sized_first atom block blocks sized))
-    ∙ block_at-newest_bytes atom blocks b (sized_rest atom block blocks sized) (le_of_suc-le-suc inside)
+    ∙ block_at-newest_bytes atom blocks b (sized_rest atom block blocks sized)
+    (le_of_suc-le-suc inside)
 
 -- a text of the newest values of some blocks is that part of the newest bytes
 pub is_newest_part : (atom s n : ℕ) (blocks : List Block) (text : List ℕ) → AreSized atom blocks
@@ -73,13 +80,15 @@ pub is_newest_part : (atom s n : ℕ) (blocks : List Block) (text : List ℕ) �
 is_newest_part atom s n blocks text sized within is newest =
     let ends : (s + n) * atom ≤ length blocks * atom = mul-le-mul_right atom within in
     same_blocks atom n text (take (n * atom) (drop (s * atom) (newest_bytes blocks))) is
-    (length-part atom s n (newest_bytes blocks) (omega (arith, ends, length-newest_bytes atom blocks sized)))
+    (length-part atom s n (newest_bytes blocks)
+    (omega (arith, ends, length-newest_bytes atom blocks sized)))
     (λ k inside. newest k inside
     ∙ sym (block_at-newest_bytes atom blocks (s + k) sized (omega (arith, inside, within)))
     ∙ sym (block_at-part atom s n (newest_bytes blocks) k inside))
 
 -- no block is unsure
-pub sure_blocks : (blocks : List Block) → ((b : ℕ) → b < length blocks → (block_in blocks b).unsure ≡ false)
+pub sure_blocks : (blocks : List Block)
+    → ((b : ℕ) → b < length blocks → (block_in blocks b).unsure ≡ false)
     → AreSure blocks
 unfolding AreSure
 sure_blocks [] sure = tt
@@ -100,21 +109,24 @@ sure_part s n blocks within sure =
     let rest : List Block = drop s blocks in
     sure_blocks (take n rest) (λ b inside.
     let below : b < n = omega (arith, inside, length-take n rest) in
-    ap (λ block. block.unsure) (get_or-take n rest b (settled []) below ∙ get_or-drop s blocks b (settled []))
+    ap (λ block. block.unsure)
+    (get_or-take n rest b (settled []) below ∙ get_or-drop s blocks b (settled []))
     ∙ sure (s + b) (omega arith) (omega (arith, below)))
 
 -- what stays a value of a block
 pub newest_contained : (block : Block) → Contains (values_of block) block.newest
 newest_contained block = Contains-push block.older block.newest
 
-pub written_contained : (block : Block) (value : List ℕ) → Contains (values_of (written block value)) value
+pub written_contained : (block : Block) (value : List ℕ)
+    → Contains (values_of (written block value)) value
 written_contained block value = Contains-push (values_of block) value
 
 pub written-keeps : (block : Block) (value other : List ℕ) → Contains (values_of block) other
     → Contains (values_of (written block value)) other
 written-keeps block value other has = Contains-append_left (values_of block) (value ∷ []) other has
 
-pub tried_contained : (block : Block) (value : List ℕ) → Contains (values_of (tried block value)) value
+pub tried_contained : (block : Block) (value : List ℕ)
+    → Contains (values_of (tried block value)) value
 tried_contained block value = Contains-push (values_of block) value
 
 pub tried-keeps : (block : Block) (value other : List ℕ) → Contains (values_of block) other

@@ -1,5 +1,6 @@
 -- Keys seal lawfully: what a cipher makes of a run of blocks it makes of each block by itself.
-use Rattle.std.proofs.Common.{◌≡◌, ℕ, ◌+◌, ◌-◌, ◌*◌, ◌/◌, ◌%◌, ◌<◌, List, ◌++◌, length, take, drop, sym, ◌∙◌, ap, subst, inl, inr, arith, length-drop, length-take-le}
+use Rattle.std.proofs.Common.{◌≡◌, ℕ, ◌+◌, ◌-◌, ◌*◌, ◌/◌, ◌%◌, ◌<◌, List, ◌++◌, length, take, drop}
+use Rattle.std.proofs.Common.{sym, ◌∙◌, ap, subst, inl, inr, arith, length-drop, length-take-le}
 use Rattle.std.proofs.lemmas.List.{take-append-drop}
 use Rattle.std.proofs.lemmas.Nat.{mul-mod_second}
 use Rattle.std.proofs.Math.Nat.{mul-mod_left}
@@ -14,19 +15,21 @@ use Rattle.volume_machine.specs.Pieces.{side_in}
 use Rattle.volume_machine.specs.Seals.{Seals, key_of, tweak_of, number_of, seals_of, AreLawful}
 use Rattle.disk_views.specs.Parts.{AreBlocks, block_at}
 use Rattle.volume_machine.specs.declared.keys.Keys.{Keys}
-use Rattle.disk_views.proofs.Blockwise.{blocks_end, bytes-take, bytes-drop, block_at-one, block_at-front, block_at-behind}
+use Rattle.disk_views.proofs.Blockwise.{blocks_end, bytes-take, bytes-drop, block_at-one}
+use Rattle.disk_views.proofs.Blockwise.{block_at-front, block_at-behind}
 
 -- a cipher of sectors, with any of its keys: what it makes of them has as many bytes, the two ways
 -- undo each other, and sectors in a row are worked on one after the other
-pub record AreCiphers {C : Type 0} (sector : C → ℕ) (seal unseal : C → ℕ → List ℕ → List ℕ) : Type 0 where
-  pub sealed_length : (c : C) → KeepsLengths (sector c) (seal c)
-  pub opened_length : (c : C) → KeepsLengths (sector c) (unseal c)
-  pub sealed_bytes : (c : C) → GivesBytes (sector c) (seal c)
-  pub opened_bytes : (c : C) → GivesBytes (sector c) (unseal c)
-  pub unseal_undoes_seal : (c : C) → UndoesSectors (sector c) (unseal c) (seal c)
-  pub seal_undoes_unseal : (c : C) → UndoesSectors (sector c) (seal c) (unseal c)
-  pub sealed_joined : (c : C) → JoinsSectors (sector c) (seal c)
-  pub opened_joined : (c : C) → JoinsSectors (sector c) (unseal c)
+pub record AreCiphers {C : Type 0} (sector : C → ℕ) (seal unseal : C → ℕ → List ℕ → List ℕ) : Type 0
+  where
+    pub sealed_length : (c : C) → KeepsLengths (sector c) (seal c)
+    pub opened_length : (c : C) → KeepsLengths (sector c) (unseal c)
+    pub sealed_bytes : (c : C) → GivesBytes (sector c) (seal c)
+    pub opened_bytes : (c : C) → GivesBytes (sector c) (unseal c)
+    pub unseal_undoes_seal : (c : C) → UndoesSectors (sector c) (unseal c) (seal c)
+    pub seal_undoes_unseal : (c : C) → UndoesSectors (sector c) (seal c) (unseal c)
+    pub sealed_joined : (c : C) → JoinsSectors (sector c) (seal c)
+    pub opened_joined : (c : C) → JoinsSectors (sector c) (unseal c)
 
 -- whole blocks are whole sectors
 multiple_whole : (count atom sector : ℕ) → atom % sector ≡ 0 → (count * atom) % sector ≡ 0
@@ -73,7 +76,8 @@ blocks_behind atom m n bytes are = record {
 changed_in_parts : (atom sector : ℕ) (change : ℕ → List ℕ → List ℕ) (first m n : ℕ) (bytes : List ℕ)
     → atom % sector ≡ 0 → JoinsSectors sector change → AreBlocks atom (m + n) bytes
     → change first bytes
-    ≡ change first (take (m * atom) bytes) ++ change (first + m * atom / 512) (drop (m * atom) bytes)
+    ≡ change first (take (m * atom) bytes)
+    ++ change (first + m * atom / 512) (drop (m * atom) bytes)
 changed_in_parts atom sector change first m n bytes whole joins are =
     let front : List ℕ = take (m * atom) bytes in
     let behind : List ℕ = drop (m * atom) bytes in
@@ -98,29 +102,34 @@ first_changed atom sector change first n bytes whole keeps joins are =
     let one : 1 * atom ≡ atom = omega arith in
     let long = changed_length atom sector change first 1 (take (1 * atom) bytes) whole keeps
     (front_blocks atom 1 n bytes are) in
-    ap (λ all. block_at atom all 0) (changed_in_parts atom sector change first 1 n bytes whole joins are)
+    ap (λ all. block_at atom all 0)
+    (changed_in_parts atom sector change first 1 n bytes whole joins are)
     ∙ block_at-front atom 1 (change first (take (1 * atom) bytes))
     (change (first + 1 * atom / 512) (drop (1 * atom) bytes)) 0 (omega arith) (omega (arith, long))
     ∙ block_at-one atom (change first (take (1 * atom) bytes)) long
     ∙ ap (λ m. change first (take m bytes)) one
 
 -- a run of blocks is worked on block by block
-pub each_changed : (atom sector : ℕ) (change : ℕ → List ℕ → List ℕ) (first count : ℕ) (bytes : List ℕ) (k : ℕ)
+pub each_changed : (atom sector : ℕ) (change : ℕ → List ℕ → List ℕ) (first count : ℕ)
+    (bytes : List ℕ) (k : ℕ)
     → atom % sector ≡ 0 → KeepsLengths sector change → JoinsSectors sector change
     → AreBlocks atom count bytes → k < count
     → block_at atom (change first bytes) k ≡ change (first + k * atom / 512) (block_at atom bytes k)
 each_changed atom sector change first count bytes k whole keeps joins are inside =
     let rest : ℕ = count - k - 1 in
     let split : count ≡ k + (1 + rest) = omega arith in
-    let parts : AreBlocks atom (k + (1 + rest)) bytes = subst (λ n. AreBlocks atom n bytes) split are in
+    let parts : AreBlocks atom (k + (1 + rest)) bytes =
+    subst (λ n. AreBlocks atom n bytes) split are in
     let front : List ℕ = take (k * atom) bytes in
     let behind : List ℕ = drop (k * atom) bytes in
     let further : ℕ = first + k * atom / 512 in
     let place : k ≡ k + 0 = omega arith in
-    ap (λ all. block_at atom all k) (changed_in_parts atom sector change first k (1 + rest) bytes whole joins parts)
+    ap (λ all. block_at atom all k)
+    (changed_in_parts atom sector change first k (1 + rest) bytes whole joins parts)
     ∙ ap (λ p. block_at atom (change first front ++ change further behind) p) place
     ∙ block_at-behind atom k (change first front) (change further behind) 0
-    (changed_length atom sector change first k front whole keeps (front_blocks atom k (1 + rest) bytes parts))
+    (changed_length atom sector change first k front whole keeps
+    (front_blocks atom k (1 + rest) bytes parts))
     ∙ first_changed atom sector change further rest behind whole keeps joins
     (blocks_behind atom k (1 + rest) bytes parts)
 
@@ -133,7 +142,8 @@ sides_divide sector keys atom old new New = new
 
 -- what a cipher makes of blocks are as many blocks
 changed_blocks : (atom sector : ℕ) (change : ℕ → List ℕ → List ℕ) (first n : ℕ) (bytes : List ℕ)
-    → atom % sector ≡ 0 → KeepsLengths sector change → GivesBytes sector change → AreBlocks atom n bytes
+    → atom % sector ≡ 0 → KeepsLengths sector change → GivesBytes sector change
+    → AreBlocks atom n bytes
     → AreBlocks atom n (change first bytes)
 changed_blocks atom sector change first n bytes whole keeps gives are = record {
   size = changed_length atom sector change first n bytes whole keeps are;
@@ -141,7 +151,8 @@ changed_blocks atom sector change first n bytes whole keeps gives are = record {
 }
 
 -- keys seal lawfully
-pub keys_are_lawful : {C : Type 0} (sector : C → ℕ) (seal unseal : C → ℕ → List ℕ → List ℕ) (keys : Keys C)
+pub keys_are_lawful : {C : Type 0} (sector : C → ℕ) (seal unseal : C → ℕ → List ℕ → List ℕ)
+    (keys : Keys C)
     (atom : ℕ) → AreCiphers sector seal unseal → IsAtom atom
     → atom % sector keys.old ≡ 0 → atom % sector keys.new ≡ 0
     → AreLawful atom (seals_of seal unseal atom keys)
@@ -150,11 +161,13 @@ keys_are_lawful sector seal unseal keys atom ciphers known old new =
     record {
       keeps_sealed = λ side block bytes are.
           let c = key_of keys side in
-          changed_blocks atom (sector c) (seal c) (number_of keys atom side block) 1 bytes (whole side)
+          changed_blocks atom (sector c) (seal c) (number_of keys atom side block) 1 bytes
+          (whole side)
           (ciphers.sealed_length c) (ciphers.sealed_bytes c) are;
       keeps_opened = λ side block count bytes are.
           let c = key_of keys side in
-          changed_blocks atom (sector c) (unseal c) (number_of keys atom side block) count bytes (whole side)
+          changed_blocks atom (sector c) (unseal c) (number_of keys atom side block) count bytes
+          (whole side)
           (ciphers.opened_length c) (ciphers.opened_bytes c) are;
       opens_sealed = λ side block bytes are.
           let c = key_of keys side in
@@ -166,14 +179,17 @@ keys_are_lawful sector seal unseal keys atom ciphers known old new =
           (blocks_are_sectors atom 1 (sector c) bytes (whole side) are);
       each_opened = λ side block count bytes are k inside.
           let c = key_of keys side in
-          each_changed atom (sector c) (unseal c) (number_of keys atom side block) count bytes k (whole side)
+          each_changed atom (sector c) (unseal c) (number_of keys atom side block) count bytes k
+          (whole side)
           (ciphers.opened_length c) (ciphers.opened_joined c) are inside
           ∙ ap (λ first. unseal c first (block_at atom bytes k))
           (number_behind (tweak_of keys side) atom block k known);
     }
 
 -- what holds a value of a block has a block's bytes
-pub length-sealed : (map : Map) (seals : Seals) (b : ℕ) (value text : List ℕ) → AreLawful map.atom seals
+pub length-sealed : (map : Map) (seals : Seals) (b : ℕ) (value text : List ℕ)
+    → AreLawful map.atom seals
     → IsSealed map seals b value text → length text ≡ map.atom
 length-sealed map seals b value text lawful is =
-    ap (λ bytes. length bytes) is.1 ∙ (lawful.keeps_sealed (side_in map b) b value is.0).size ∙ omega arith
+    ap (λ bytes. length bytes) is.1 ∙ (lawful.keeps_sealed (side_in map b) b value is.0).size
+    ∙ omega arith

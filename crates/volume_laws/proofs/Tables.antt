@@ -1,5 +1,6 @@
 -- The tables of a disk along a run: each event adds at most one, the one after it.
-use Rattle.std.proofs.Common.{◌≡◌, inl, inr, List, [], ◌∷◌, ◌++◌, All, Some, refl, sym, ◌∙◌, ap, append_assoc}
+use Rattle.std.proofs.Common.{◌≡◌, inl, inr, List, [], ◌∷◌, ◌++◌, All, Some, refl, sym, ◌∙◌, ap}
+use Rattle.std.proofs.Common.{append_assoc}
 use Rattle.std.proofs.lemmas.List.{append-nil}
 use Rattle.std.proofs.lemmas.List.Elements.{All-nil, All-cons}
 use Rattle.sector_disk.specs.Cells.{Cell}
@@ -10,7 +11,8 @@ use Rattle.volume_machine.specs.States.{State}
 use Rattle.volume_machine.proofs.EventEffects.{event_effects}
 
 -- a table that was told later was told
-told_later : {K : Type 0} (start : State K) (one : Happening K) (rest : List (Happening K)) (cells : List Cell) → WasTold one.after rest cells → WasTold start (one ∷ rest) cells
+told_later : {K : Type 0} (start : State K) (one : Happening K) (rest : List (Happening K))
+    (cells : List Cell) → WasTold one.after rest cells → WasTold start (one ∷ rest) cells
 unfolding last_of
 told_later start one rest cells was = record {
   earlier = one ∷ was.earlier;
@@ -21,17 +23,31 @@ told_later start one rest cells was = record {
   now = was.now;
 }
 
-told_first : {K : Type 0} (start : State K) (one : Happening K) (rest : List (Happening K)) (told : Told) → one.after.disk.told ≡ Some told → WasTold start (one ∷ rest) told.now
+told_first : {K : Type 0} (start : State K) (one : Happening K) (rest : List (Happening K))
+    (told : Told) → one.after.disk.told ≡ Some told → WasTold start (one ∷ rest) told.now
 unfolding last_of
-told_first start one rest told is = record { earlier = one ∷ []; later = rest; parts = refl; told = told; is = is; now = refl }
+told_first start one rest told is =
+    record { earlier = one ∷ []; later = rest; parts = refl; told = told; is = is; now = refl }
 
-pub tells_run : {K : Type 0} (start : State K) (run : List (Happening K)) (now : Told) → IsRun start run → (last_of start run).disk.told ≡ Some now → TellsRun start run now
+pub tells_run : {K : Type 0} (start : State K) (run : List (Happening K)) (now : Told)
+    → IsRun start run → (last_of start run).disk.told ≡ Some now → TellsRun start run now
 unfolding IsRun last_of
-tells_run start [] now is told = record { before = now; was = told; tables = []; since = sym (append-nil now.past); each = All-nil _ }
+tells_run start [] now is told =
+    record {
+      before = now;
+      was = told;
+      tables = [];
+      since = sym (append-nil now.past);
+      each =
+          All-nil _;
+    }
 tells_run start (one ∷ rest) now (meets, step, is) told =
     let behind = tells_run one.after rest now is told in
-    let (before, was, grew) = (event_effects start one.after one.event one.outcome step).disk.tables behind.before behind.was in
-    let later : All (λ table. WasTold start (one ∷ rest) table.1) behind.tables = λ k d below. told_later start one rest _ (behind.each k d below) in
+    let (before, was, grew) =
+    (event_effects start one.after one.event one.outcome step).disk.tables behind.before
+    behind.was in
+    let later : All (λ table. WasTold start (one ∷ rest) table.1) behind.tables =
+    λ k d below. told_later start one rest _ (behind.each k d below) in
     elim grew [
       | inl same ↦ record {
         before = before;
@@ -44,7 +60,10 @@ tells_run start (one ∷ rest) now (meets, step, is) told =
         before = before;
         was = was;
         tables = (before.mark, behind.before.now) ∷ behind.tables;
-        since = behind.since ∙ ap (λ t. t.past ++ behind.tables) grown ∙ append_assoc before.past ((before.mark, behind.before.now) ∷ []) behind.tables;
-        each = All-cons (λ table. WasTold start (one ∷ rest) table.1) (before.mark, behind.before.now) behind.tables (told_first start one rest behind.before behind.was) later;
+        since = behind.since ∙ ap (λ t. t.past ++ behind.tables) grown
+            ∙ append_assoc before.past ((before.mark, behind.before.now) ∷ []) behind.tables;
+        each = All-cons (λ table. WasTold start (one ∷ rest) table.1)
+            (before.mark, behind.before.now) behind.tables
+            (told_first start one rest behind.before behind.was) later;
       }
     ]

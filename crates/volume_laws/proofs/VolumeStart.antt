@@ -1,6 +1,7 @@
 -- Volumes of any map start: their bytes stand for the blocks that their keys open, and for no
 -- others.
-use Rattle.std.proofs.Common.{◌≡◌, ℕ, zero, suc, ◌+◌, ◌*◌, ◌<◌, List, length, Some, sym, ◌∙◌, ap, arith}
+use Rattle.std.proofs.Common.{◌≡◌, ℕ, zero, suc, ◌+◌, ◌*◌, ◌<◌, List, length, Some, sym, ◌∙◌, ap}
+use Rattle.std.proofs.Common.{arith}
 use Rattle.cipher_laws.specs.Bytes.{AreBytes}
 use Rattle.disk_views.specs.Parts.{AreBlocks, block_at}
 use Rattle.disk_views.proofs.Blockwise.{one_block}
@@ -12,7 +13,8 @@ use Rattle.volume_machine.specs.Seals.{AreLawful, Seals}
 use Rattle.volume_machine.specs.Sound.{AreApart, IsSound, MapFits}
 use Rattle.volume_machine.specs.States.{State}
 use Rattle.volume_machine.proofs.NextPieces.{on_disk}
-use Rattle.volume_laws.specs.Contents.{IsSealed, StandsFor, block_in, blocks_from, opened_block, opened_blocks}
+use Rattle.volume_laws.specs.Contents.{IsSealed, StandsFor, block_in, blocks_from, opened_block}
+use Rattle.volume_laws.specs.Contents.{opened_blocks}
 use Rattle.volume_laws.specs.Promises.{Starts}
 use Rattle.volume_laws.proofs.PlainBlocks.{sure_blocks}
 

@@ -1,60 +1,67 @@
 -- Pieces that are written: what holds between events goes on to hold.
-use Rattle.std.proofs.Common.{◌≡◌, ◌≢◌, inl, inr, ◌⊎◌, ℕ, suc, ◌+◌, ◌-◌, ◌*◌, ◌<◌, ◌≤◌, Bool, true, false, List, ◌++◌, length, Contains, Some, refl, sym, ◌∙◌, ap, subst, arith, nat_lt, length-append}
+use Rattle.std.proofs.Common.{◌≡◌, inl, inr, ◌⊎◌, ℕ, suc, ◌+◌, ◌-◌, ◌*◌, ◌<◌, ◌≤◌, Bool, true}
+use Rattle.std.proofs.Common.{false, List, ◌++◌, length, Contains, Some, refl, sym, ◌∙◌, ap, subst}
+use Rattle.std.proofs.Common.{arith, nat_lt, length-append}
 use Rattle.plain_disk.specs.Plain.{Block}
 use Rattle.segment_map.specs.declared.map.Map.{Map}
 use Rattle.segment_map.specs.declared.map.Piece.{Piece}
 use Rattle.volume_machine.specs.declared.open.Open.{Open}
-use Rattle.volume_machine.specs.Asks.{IsRead, IsWrite, IsForced, range_of, has_lock, entry_of}
+use Rattle.volume_machine.specs.Asks.{IsRead, IsWrite, IsForced}
 use Rattle.volume_laws.specs.Contents.{IsTriedBy, IsNow, IsAllowedAt, IsSealed}
 use Rattle.volume_machine.specs.Pieces.{side_in, place_in, place_of, IsPieceOf, ArePieceBytes}
 use Rattle.volume_machine.specs.Runs.{with_plain, plain_piece}
 use Rattle.volume_machine.specs.Seals.{Seals, AreLawful}
 use Rattle.disk_views.specs.Parts.{AreBlocks, block_at}
 use Rattle.volume_machine.specs.Sound.{IsSound, AreApart}
-use Rattle.volume_machine.specs.States.{State, open_at}
+use Rattle.volume_machine.specs.States.{State, open_at, IsLive}
 use Rattle.volume_machine.specs.Steps.{HasPiece, Holds, Goes}
 use Rattle.disk_views.specs.Views.{View, IsOutside, IsTried, IsWritten}
 use Rattle.volume_laws.proofs.Admits.{plain-other, plain-own}
 use Rattle.disk_views.proofs.Blockwise.{block_at-front, block_at-behind, blocks_joined, one_block}
 use Rattle.volume_laws.proofs.Invariant.{LaneKnows, Logic, Shown, tried_goes, lanes_still}
-use Rattle.volume_machine.proofs.Locking.{either, same_or_not, holders-apart}
-use Rattle.volume_laws.proofs.Reading.{entry_is, writes_lock, writes_alone, never_both, forced_writes, still_broken, piece_place, piece_blocks, piece_block}
-
--- two lanes that hold have no block in common where one of them writes
-pub held_apart : {K : Type 0} (state : State K) (lane other b : ℕ) (o p : Open) → IsSound state → lane ≢ other →
-    open_at state.lanes lane ≡ Some o → has_lock o.ask ≡ true → Holds state lane → o.range.start ≤ b → b < o.range.end →
-    open_at state.lanes other ≡ Some p → IsWrite p.ask → Holds state other → p.range.start ≤ b → b < p.range.end → ⊥
-held_apart state lane other b o p sound differ is has holds from to others_is writes others_hold others_from others_to =
-    let range : o.range ≡ range_of state.map.atom o.ask = (sound.under_way lane o is).range_is in
-    let others_range : p.range ≡ range_of state.map.atom p.ask = (sound.under_way other p others_is).range_is in
-    holders-apart lane other (entry_of state.map.atom lane o.ask) (entry_of state.map.atom other p.ask) state.entries differ
-    (entry_is state lane o sound is has) (entry_is state other p sound others_is (writes_lock p.ask writes)) holds others_hold
-    ((b, ((rw (← range) from, rw (← range) to), (rw (← others_range) others_from, rw (← others_range) others_to))), inr (writes_alone p.ask writes))
+use Rattle.volume_laws.proofs.Invariant.{goes_stays, live_back, governed_back}
+use Rattle.volume_machine.proofs.Locking.{either, same_or_not}
+use Rattle.volume_machine.specs.Working.{Works}
+use Rattle.volume_laws.specs.Texts.{texts_of}
+use Rattle.volume_machine.specs.Works.{Work}
+use Rattle.disk_areas.specs.Areas.{Area}
+use Rattle.disk_zones.specs.Zones.{ShowsZone, Reaches}
+use Rattle.disk_zones.proofs.ZoneFrames.{zone_stays, zone_whole}
+use Rattle.disk_zones.specs.Calls.{writes_beside, write_fails_beside}
+use Rattle.volume_laws.proofs.Reading.{AreLive, held_apart, writes_lock, never_both, forced_writes}
+use Rattle.volume_laws.proofs.Reading.{still_broken, piece_place, piece_blocks, piece_block}
 
 -- the place of a block that isn't the piece's is none of the piece's places
-pub place_outside : (map : Map) (o : Open) (piece : Piece) (b : ℕ) → AreApart map → IsPieceOf map o piece → o.range.end ≤ map.blocks → b < map.blocks →
+pub place_outside : (map : Map) (o : Open) (piece : Piece) (b : ℕ) → AreApart map
+    → IsPieceOf map o piece → o.range.end ≤ map.blocks → b < map.blocks →
     IsOutside o.next piece.count b → IsOutside (place_of map piece) piece.count (place_in map b)
 place_outside map o piece b apart next inside below outside =
     elim (either (nat_lt (place_in map b) (place_of map piece))) [
       | inl before ↦ inl (grind (arith, before))
-      | inr not_before ↦ elim (either (nat_lt (place_in map b) (place_of map piece + piece.count))) [
-        | inl within ↦
-            let j : ℕ = place_in map b - place_of map piece in
-            let ge : place_of map piece ≤ place_in map b = grind (arith, not_before) in
-            let lt : j < piece.count = (let w : place_in map b < place_of map piece + piece.count = grind (arith, within) in omega (arith, w, ge)) in
-            let bound : o.next + piece.count ≤ o.range.end = next.within in
-            let same : b ≡ o.next + j = apart b (o.next + j) below (omega (arith, lt, bound, inside))
-            (let at : place_of map piece + j ≡ place_in map b = omega (arith, ge) in sym (piece_place map o piece j next lt ∙ at)) in
-            absurd (elim outside [
-              | inl less ↦ omega (arith, same, less)
-              | inr more ↦ omega (arith, same, lt, more)
-            ])
-        | inr past ↦ inr (grind (arith, past))
-      ]
+      | inr not_before ↦
+          elim (either (nat_lt (place_in map b) (place_of map piece + piece.count))) [
+            | inl within ↦
+                let j : ℕ = place_in map b - place_of map piece in
+                let ge : place_of map piece ≤ place_in map b = grind (arith, not_before) in
+                let lt : j < piece.count =
+                (let w : place_in map b < place_of map piece + piece.count =
+                grind (arith, within) in omega (arith, w, ge)) in
+                let bound : o.next + piece.count ≤ o.range.end = next.within in
+                let same : b ≡ o.next + j =
+                apart b (o.next + j) below (omega (arith, lt, bound, inside))
+                (let at : place_of map piece + j ≡ place_in map b =
+                omega (arith, ge) in sym (piece_place map o piece j next lt ∙ at)) in
+                absurd (elim outside [
+                  | inl less ↦ omega (arith, same, less)
+                  | inr more ↦ omega (arith, same, lt, more)
+                ])
+            | inr past ↦ inr (grind (arith, past))
+          ]
     ]
 
 -- a lane's operation with one more piece that it has tried
-pub record TriesPiece {K : Type 0} (old new : State K) (seals : Seals) (plain : ℕ → List ℕ) (left : List Block) (lane : ℕ) (o next : Open) (piece : Piece) (bytes : List ℕ) : Type 0 where
+pub record TriesPiece {K : Type 0} (old new : State K) (seals : Seals) (plain : ℕ → List ℕ)
+    (left : List Block) (lane : ℕ) (o next : Open) (piece : Piece) (bytes : List ℕ) : Type 0 where
   pub lawful : AreLawful old.map.atom seals
   pub some : 0 < old.map.atom
   pub apart : AreApart old.map
@@ -70,50 +77,78 @@ pub record TriesPiece {K : Type 0} (old new : State K) (seals : Seals) (plain : 
   pub ask : next.ask ≡ o.ask
   pub range : next.range ≡ o.range
   pub unsettled : next.settled ≡ o.settled
+  pub live : AreLive old o
+  pub works : Works old
+  pub whole : old.broken ≡ false
 
 -- what it knows then
 abbrev pub now_of : {K : Type 0} → State K → Seals → (ℕ → List ℕ) → ℕ → List ℕ → ℕ → List ℕ
-now_of old seals plain lane bytes = with_plain plain lane (plain lane ++ plain_piece seals old lane bytes)
+now_of old seals plain lane bytes =
+    with_plain plain lane (plain lane ++ plain_piece seals old lane bytes)
 
 abbrev pub opened_piece : {K : Type 0} → State K → Seals → Open → List ℕ → List ℕ
 opened_piece old seals o bytes = seals.opened (side_in old.map o.next) o.next bytes
 
-pub now_is : {K : Type 0} (old : State K) (seals : Seals) (plain : ℕ → List ℕ) (lane : ℕ) (o : Open) (bytes : List ℕ) → open_at old.lanes lane ≡ Some o →
+pub now_is : {K : Type 0} (old : State K) (seals : Seals) (plain : ℕ → List ℕ) (lane : ℕ) (o : Open)
+    (bytes : List ℕ) → open_at old.lanes lane ≡ Some o →
     now_of old seals plain lane bytes lane ≡ plain lane ++ opened_piece old seals o bytes
-now_is old seals plain lane o bytes at = plain-own plain lane (plain lane ++ plain_piece seals old lane bytes) ∙ rw at refl
+now_is old seals plain lane o bytes at =
+    plain-own plain lane (plain lane ++ plain_piece seals old lane bytes) ∙ rw at refl
 
 -- what it had tried stays tried
-still_tried : {K : Type 0} (old new : State K) (seals : Seals) (plain : ℕ → List ℕ) (left : List Block) (lane k : ℕ) (o next : Open) (piece : Piece) (bytes : List ℕ) (b : ℕ) (value : List ℕ) →
-    TriesPiece old new seals plain left lane o next piece bytes → IsTriedBy old plain k b value → IsTriedBy new (now_of old seals plain lane bytes) k b value
-still_tried old new seals plain left lane k o next piece bytes b value it tried = elim (same_or_not k lane) [
-  | inl same ↦
-      let at : open_at old.lanes k ≡ Some o = ap (λ n. open_at old.lanes n) same ∙ it.at in
-      let one : tried.o ≡ o = (let t = tried.is in cc) in
-      let knows = it.logic.lanes lane o it.at in
-      let all : now_of old seals plain lane bytes k ≡ plain lane ++ opened_piece old seals o bytes = ap (λ n. now_of old seals plain lane bytes n) same ∙ now_is old seals plain lane o bytes it.at in
-      let size = knows.are.size in
-      let most : suc (b - o.range.start) * old.map.atom ≤ length (plain lane) = subst (λ n. suc (b - o.range.start) * old.map.atom ≤ length (plain n)) same (subst (λ p. suc (b - p.range.start) * old.map.atom ≤ length (plain k)) one tried.tried) in
-      let below : b - o.range.start < knows.count = (let some = it.some in grind (arith, size, most, some)) in
-      let map = it.goes.map in
-      let range = it.range in
-      record {
-        o = next;
-        is = ap (λ n. open_at new.lanes n) same ∙ it.goes.lane_is.own;
-        writes = rw it.ask it.writes;
-        begun = rw range (subst (λ p. p.range.start ≤ b) one tried.begun);
-        tried = rw (map, range, all) (let long = length-append (plain lane) (opened_piece old seals o bytes) in omega (arith, most, long));
-        value_is = rw (map, range, all) (subst (λ p. value ≡ block_at old.map.atom (plain k) (b - p.range.start)) one tried.value_is
-            ∙ ap (λ n. block_at old.map.atom (plain n) (b - o.range.start)) same
-            ∙ sym (block_at-front old.map.atom knows.count (plain lane) (opened_piece old seals o bytes) (b - o.range.start) below (omega (arith, size))));
-      }
-  | inr other ↦ tried_goes old plain new (now_of old seals plain lane bytes) k b value it.goes.map (it.goes.lane_is.others k other)
-      (plain-other plain lane (plain lane ++ plain_piece seals old lane bytes) k other) tried
-]
+still_tried : {K : Type 0} (old new : State K) (seals : Seals) (plain : ℕ → List ℕ)
+    (left : List Block) (lane k : ℕ) (o next : Open) (piece : Piece) (bytes : List ℕ) (b : ℕ)
+    (value : List ℕ) →
+    TriesPiece old new seals plain left lane o next piece bytes → IsTriedBy old plain k b value
+    → IsTriedBy new (now_of old seals plain lane bytes) k b value
+still_tried old new seals plain left lane k o next piece bytes b value it tried =
+    elim (same_or_not k lane) [
+      | inl same ↦
+          let at : open_at old.lanes k ≡ Some o = ap (λ n. open_at old.lanes n) same ∙ it.at in
+          let one : tried.o ≡ o = (let t = tried.is in cc) in
+          let knows = it.logic.lanes lane o it.at in
+          let all : now_of old seals plain lane bytes k
+          ≡ plain lane ++ opened_piece old seals o bytes =
+          ap (λ n. now_of old seals plain lane bytes n) same
+          ∙ now_is old seals plain lane o bytes it.at in
+          let size = knows.are.size in
+          let most : suc (b - o.range.start) * old.map.atom ≤ length (plain lane) =
+          subst (λ n. suc (b - o.range.start) * old.map.atom ≤ length (plain n)) same
+          (subst (λ p. suc (b - p.range.start) * old.map.atom ≤ length (plain k)) one
+          tried.tried) in
+          let below : b - o.range.start < knows.count =
+          (let some = it.some in grind (arith, size, most, some)) in
+          let map = it.goes.map in
+          let range = it.range in
+          record {
+            o = next;
+            is = ap (λ n. open_at new.lanes n) same ∙ it.goes.lane_is.own;
+            writes = rw it.ask it.writes;
+            begun = rw range (subst (λ p. p.range.start ≤ b) one tried.begun);
+            tried = rw (map, range, all)
+                (let long =
+                length-append (plain lane) (opened_piece old seals o bytes) in
+                omega (arith, most, long));
+            value_is =
+                rw (map, range, all)
+                (subst (λ p. value ≡ block_at old.map.atom (plain k) (b - p.range.start)) one
+                tried.value_is
+                ∙ ap (λ n. block_at old.map.atom (plain n) (b - o.range.start)) same
+                ∙ sym (block_at-front old.map.atom knows.count (plain lane)
+                (opened_piece old seals o bytes) (b - o.range.start) below (omega (arith, size))));
+          }
+      | inr other ↦
+          tried_goes old plain new (now_of old seals plain lane bytes) k b value it.goes.map
+          (it.goes.lane_is.others k other)
+          (plain-other plain lane (plain lane ++ plain_piece seals old lane bytes) k other) tried
+    ]
 
 -- the piece's blocks are tried now
-now_tried : {K : Type 0} (old new : State K) (seals : Seals) (plain : ℕ → List ℕ) (left : List Block) (lane : ℕ) (o next : Open) (piece : Piece) (bytes : List ℕ) (j : ℕ) →
+now_tried : {K : Type 0} (old new : State K) (seals : Seals) (plain : ℕ → List ℕ)
+    (left : List Block) (lane : ℕ) (o next : Open) (piece : Piece) (bytes : List ℕ) (j : ℕ) →
     TriesPiece old new seals plain left lane o next piece bytes → j < piece.count →
-    IsTriedBy new (now_of old seals plain lane bytes) lane (o.next + j) (block_at old.map.atom (opened_piece old seals o bytes) j)
+    IsTriedBy new (now_of old seals plain lane bytes) lane (o.next + j)
+    (block_at old.map.atom (opened_piece old seals o bytes) j)
 now_tried old new seals plain left lane o next piece bytes j it below =
     let knows = it.logic.lanes lane o it.at in
     let map = it.goes.map in
@@ -124,119 +159,175 @@ now_tried old new seals plain left lane o next piece bytes j it below =
     let piece_size = (piece_blocks old.map seals o piece bytes it.lawful it.is_piece it.are).size in
     let long = length-append (plain lane) (opened_piece old seals o bytes) in
     let place : o.next + j - o.range.start ≡ knows.count + j = omega (arith, exact) in
-    let enough : suc (knows.count + j) * old.map.atom ≤ (knows.count + piece.count) * old.map.atom = grind (arith, below) in
-    let both : (knows.count + piece.count) * old.map.atom ≡ length (plain lane ++ opened_piece old seals o bytes) = rw (long, size, piece_size) (grind arith) in
+    let enough : suc (knows.count + j) * old.map.atom ≤ (knows.count + piece.count) * old.map.atom =
+    grind (arith, below) in
+    let both : (knows.count + piece.count) * old.map.atom
+    ≡ length (plain lane ++ opened_piece old seals o bytes) =
+    rw (long, size, piece_size) (grind arith) in
     record {
       o = next;
       is = it.goes.lane_is.own;
       writes = rw it.ask it.writes;
       begun = rw range (omega (arith, exact));
       tried = rw (map, range, all, place) (rw (← both) enough);
-      value_is = rw (map, range, all, place) (sym (block_at-behind old.map.atom knows.count (plain lane) (opened_piece old seals o bytes) j size));
+      value_is =
+          rw (map, range, all, place)
+          (sym (block_at-behind old.map.atom knows.count (plain lane)
+          (opened_piece old seals o bytes) j size));
     }
 
 -- no other block is
-was_tried : {K : Type 0} (old new : State K) (seals : Seals) (plain : ℕ → List ℕ) (left : List Block) (lane k : ℕ) (o next : Open) (piece : Piece) (bytes : List ℕ) (b : ℕ) (value : List ℕ) →
-    TriesPiece old new seals plain left lane o next piece bytes → IsOutside o.next piece.count b → IsTriedBy new (now_of old seals plain lane bytes) k b value →
+was_tried : {K : Type 0} (old new : State K) (seals : Seals) (plain : ℕ → List ℕ)
+    (left : List Block) (lane k : ℕ) (o next : Open) (piece : Piece) (bytes : List ℕ) (b : ℕ)
+    (value : List ℕ) →
+    TriesPiece old new seals plain left lane o next piece bytes → IsOutside o.next piece.count b
+    → IsTriedBy new (now_of old seals plain lane bytes) k b value →
     (before : List ℕ) × IsTriedBy old plain k b before
-was_tried old new seals plain left lane k o next piece bytes b value it outside tried = elim (same_or_not k lane) [
-  | inl same ↦
-      let one : tried.o ≡ next = (let t = tried.is in let u = ap (λ n. open_at new.lanes n) same ∙ it.goes.lane_is.own in cc) in
-      let knows = it.logic.lanes lane o it.at in
-      let exact : o.range.start + knows.count ≡ o.next = knows.exact it.has.goes_on in
-      let size = knows.are.size in
-      let piece_size = (piece_blocks old.map seals o piece bytes it.lawful it.is_piece it.are).size in
-      let all : now_of old seals plain lane bytes k ≡ plain lane ++ opened_piece old seals o bytes = ap (λ n. now_of old seals plain lane bytes n) same ∙ now_is old seals plain lane o bytes it.at in
-      let long = length-append (plain lane) (opened_piece old seals o bytes) in
-      let both : length (plain lane ++ opened_piece old seals o bytes) ≡ (knows.count + piece.count) * old.map.atom = rw (long, size, piece_size) (grind arith) in
-      let begun : o.range.start ≤ b = rw (← it.range) (subst (λ p. p.range.start ≤ b) one tried.begun) in
-      let most : suc (b - o.range.start) * old.map.atom ≤ (knows.count + piece.count) * old.map.atom =
-      rw (← both, ← all, ← it.range) (subst (λ m. suc (b - next.range.start) * m.atom ≤ length (now_of old seals plain lane bytes k)) it.goes.map
-      (subst (λ p. suc (b - p.range.start) * new.map.atom ≤ length (now_of old seals plain lane bytes k)) one tried.tried)) in
-      let some = it.some in
-      let inside : b - o.range.start < knows.count + piece.count = grind (arith, most, some) in
-      let below : b < o.next = elim outside [
-        | inl less ↦ less
-        | inr more ↦ absurd (omega (arith, more, inside, begun, exact))
-      ] in
-      let count : suc (b - o.range.start) ≤ knows.count = omega (arith, below, exact, begun) in (
-        block_at old.map.atom (plain k) (b - o.range.start),
-        record {
-          o = o;
-          is = ap (λ n. open_at old.lanes n) same ∙ it.at;
-          writes = it.writes;
-          begun = begun;
-          tried = rw (same, size) (grind (arith, count));
-          value_is = refl;
-        },
+was_tried old new seals plain left lane k o next piece bytes b value it outside tried =
+    elim (same_or_not k lane) [
+      | inl same ↦
+          let one : tried.o ≡ next =
+          (let t = tried.is in let u =
+          ap (λ n. open_at new.lanes n) same ∙ it.goes.lane_is.own in cc) in
+          let knows = it.logic.lanes lane o it.at in
+          let exact : o.range.start + knows.count ≡ o.next = knows.exact it.has.goes_on in
+          let size = knows.are.size in
+          let piece_size =
+          (piece_blocks old.map seals o piece bytes it.lawful it.is_piece it.are).size in
+          let all : now_of old seals plain lane bytes k
+          ≡ plain lane ++ opened_piece old seals o bytes =
+          ap (λ n. now_of old seals plain lane bytes n) same
+          ∙ now_is old seals plain lane o bytes it.at in
+          let long = length-append (plain lane) (opened_piece old seals o bytes) in
+          let both : length (plain lane ++ opened_piece old seals o bytes)
+          ≡ (knows.count + piece.count) * old.map.atom =
+          rw (long, size, piece_size) (grind arith) in
+          let begun : o.range.start ≤ b =
+          rw (← it.range) (subst (λ p. p.range.start ≤ b) one tried.begun) in
+          let most : suc (b - o.range.start) * old.map.atom
+          ≤ (knows.count + piece.count) * old.map.atom =
+          rw (← both, ← all, ← it.range)
+          (subst (λ m. suc (b - next.range.start) * m.atom
+          ≤ length (now_of old seals plain lane bytes k)) it.goes.map
+          (subst (λ p. suc (b - p.range.start) * new.map.atom
+          ≤ length (now_of old seals plain lane bytes k)) one tried.tried)) in
+          let some = it.some in
+          let inside : b - o.range.start < knows.count + piece.count = grind (arith, most, some) in
+          let below : b < o.next = elim outside [
+            | inl less ↦ less
+            | inr more ↦ absurd (omega (arith, more, inside, begun, exact))
+          ] in
+          let count : suc (b - o.range.start) ≤ knows.count =
+          omega (arith, below, exact, begun) in (
+            block_at old.map.atom (plain k) (b - o.range.start),
+            record {
+              o = o;
+              is = ap (λ n. open_at old.lanes n) same ∙ it.at;
+              writes = it.writes;
+              begun = begun;
+              tried = rw (same, size) (grind (arith, count));
+              value_is = refl;
+            },
+          )
+      | inr other ↦ (
+        value,
+        tried_goes new (now_of old seals plain lane bytes) old plain k b value (sym it.goes.map)
+            (sym (it.goes.lane_is.others k other))
+            (sym (plain-other plain lane (plain lane ++ plain_piece seals old lane bytes) k other))
+            tried,
       )
-  | inr other ↦ (
-    value,
-    tried_goes new (now_of old seals plain lane bytes) old plain k b value (sym it.goes.map) (sym (it.goes.lane_is.others k other))
-        (sym (plain-other plain lane (plain lane ++ plain_piece seals old lane bytes) k other)) tried,
-  )
-]
+    ]
 
 -- a block is the piece's or not
-pub in_piece : (first count b : ℕ) → ((j : ℕ) × (j < count) × (b ≡ first + j)) ⊎ IsOutside first count b
+pub in_piece : (first count b : ℕ)
+    → ((j : ℕ) × (j < count) × (b ≡ first + j)) ⊎ IsOutside first count b
 in_piece first count b = elim (either (nat_lt b first)) [
   | inl before ↦ inr (inl (grind (arith, before)))
   | inr not_before ↦ elim (either (nat_lt b (first + count))) [
-    | inl within ↦ (let ge : first ≤ b = grind (arith, not_before) in let lt : b < first + count = grind (arith, within) in inl (b - first, omega (arith, ge, lt), omega (arith, ge)))
+    | inl within ↦
+        (let ge : first ≤ b = grind (arith, not_before) in let lt : b < first + count =
+        grind (arith, within) in inl (b - first, omega (arith, ge, lt), omega (arith, ge)))
     | inr past ↦ inr (inr (grind (arith, past)))
   ]
 ]
 
 -- what the piece's blocks are sealed to
-piece_sealed : {K : Type 0} (old new : State K) (seals : Seals) (plain : ℕ → List ℕ) (left : List Block) (lane : ℕ) (o next : Open) (piece : Piece) (bytes : List ℕ) (j : ℕ) →
+piece_sealed : {K : Type 0} (old new : State K) (seals : Seals) (plain : ℕ → List ℕ)
+    (left : List Block) (lane : ℕ) (o next : Open) (piece : Piece) (bytes : List ℕ) (j : ℕ) →
     TriesPiece old new seals plain left lane o next piece bytes → j < piece.count →
-    IsSealed old.map seals (o.next + j) (block_at old.map.atom (opened_piece old seals o bytes) j) (block_at old.map.atom bytes j)
+    IsSealed old.map seals (o.next + j) (block_at old.map.atom (opened_piece old seals o bytes) j)
+    (block_at old.map.atom bytes j)
 piece_sealed old new seals plain left lane o next piece bytes j it below =
     let atom = old.map.atom in
-    let blocks : AreBlocks atom piece.count bytes = record { size = it.are.size; are_bytes = it.are.are_bytes } in
-    let one : AreBlocks atom 1 (block_at atom bytes j) = one_block atom piece.count bytes j blocks below in
+    let blocks : AreBlocks atom piece.count bytes =
+    record { size = it.are.size; are_bytes = it.are.are_bytes } in
+    let one : AreBlocks atom 1 (block_at atom bytes j) =
+    one_block atom piece.count bytes j blocks below in
     let value = piece_block old.map seals o piece bytes j it.lawful it.is_piece it.are below in
     let side = side_in old.map (o.next + j) in (
-      one_block atom piece.count (opened_piece old seals o bytes) j (piece_blocks old.map seals o piece bytes it.lawful it.is_piece it.are) below,
-      sym (ap (λ v. seals.sealed side (o.next + j) v) value ∙ it.lawful.seals_opened side (o.next + j) (block_at atom bytes j) one),
+      one_block atom piece.count (opened_piece old seals o bytes) j
+          (piece_blocks old.map seals o piece bytes it.lawful it.is_piece it.are) below,
+      sym (ap (λ v. seals.sealed side (o.next + j) v) value
+          ∙ it.lawful.seals_opened side (o.next + j) (block_at atom bytes j) one),
     )
 
-still_allowed : {K : Type 0} (old new : State K) (seals : Seals) (plain : ℕ → List ℕ) (left : List Block) (lane : ℕ) (o next : Open) (piece : Piece) (bytes : List ℕ) (b : ℕ) (value : List ℕ) →
-    TriesPiece old new seals plain left lane o next piece bytes → IsAllowedAt old plain left b value → IsAllowedAt new (now_of old seals plain lane bytes) left b value
-still_allowed old new seals plain left lane o next piece bytes b value it (inl contains) = inl contains
+still_allowed : {K : Type 0} (old new : State K) (seals : Seals) (plain : ℕ → List ℕ)
+    (left : List Block) (lane : ℕ) (o next : Open) (piece : Piece) (bytes : List ℕ) (b : ℕ)
+    (value : List ℕ) →
+    TriesPiece old new seals plain left lane o next piece bytes → IsAllowedAt old plain left b value
+    → IsAllowedAt new (now_of old seals plain lane bytes) left b value
+still_allowed old new seals plain left lane o next piece bytes b value it (inl contains) =
+    inl contains
 still_allowed old new seals plain left lane o next piece bytes b value it (inr (k, tried)) =
     inr (k, still_tried old new seals plain left lane k o next piece bytes b value it tried)
 
 -- candidates after a piece that came to the disk, whether its write failed or not
-tried_candidates : {K : Type 0} (old new : State K) (seals : Seals) (plain : ℕ → List ℕ) (left : List Block) (lane : ℕ) (o next : Open) (piece : Piece) (bytes : List ℕ) (view after : View) →
-    TriesPiece old new seals plain left lane o next piece bytes → IsTried old.map.atom (place_of old.map piece) piece.count bytes view after → Shown old seals plain left view →
-    (b : ℕ) → b < old.map.blocks → (atom : List ℕ) → Contains (after.candidates (place_in old.map b)) atom →
-    (value : List ℕ) × IsAllowedAt new (now_of old seals plain lane bytes) left b value × IsSealed old.map seals b value atom
-tried_candidates old new seals plain left lane o next piece bytes view after it tried shown b below atom contains =
-    let was : Contains (view.candidates (place_in old.map b)) atom → (value : List ℕ) × IsAllowedAt new (now_of old seals plain lane bytes) left b value × IsSealed old.map seals b value atom =
-    λ before. (let (value, allowed, sealed) = shown.candidates b below atom before in
-    (value, still_allowed old new seals plain left lane o next piece bytes b value it allowed, sealed)) in
+tried_candidates : {K : Type 0} (old new : State K) (seals : Seals) (plain : ℕ → List ℕ)
+    (left : List Block) (lane : ℕ) (o next : Open) (piece : Piece) (bytes : List ℕ)
+    (view after : View) →
+    TriesPiece old new seals plain left lane o next piece bytes
+    → IsTried old.map.atom (place_of old.map piece) piece.count bytes view after
+    → Shown old seals plain left view →
+    (b : ℕ) → IsLive old b → (atom : List ℕ) → Contains (after.candidates (place_in old.map b)) atom
+    →
+    (value : List ℕ) × IsAllowedAt new (now_of old seals plain lane bytes) left b value
+    × IsSealed old.map seals b value atom
+tried_candidates old new seals plain left lane o next piece bytes view after it tried shown b below
+    atom contains =
+    let was : Contains (view.candidates (place_in old.map b)) atom
+    → (value : List ℕ) × IsAllowedAt new (now_of old seals plain lane bytes) left b value
+    × IsSealed old.map seals b value atom =
+    λ before. (let (value, allowed, sealed) = shown.candidates b below atom before in (
+      value,
+      still_allowed old new seals plain left lane o next piece bytes b value it allowed,
+      sealed,
+    )) in
     elim (in_piece o.next piece.count b) [
       | inl (j, lt, is) ↦
-          let place : place_in old.map b ≡ place_of old.map piece + j = ap (λ n. place_in old.map n) is ∙ piece_place old.map o piece j it.is_piece lt in
-          elim (tried.inside j lt atom (subst (λ p. Contains (after.candidates p) atom) place contains)) [
+          let place : place_in old.map b ≡ place_of old.map piece + j =
+          ap (λ n. place_in old.map n) is ∙ piece_place old.map o piece j it.is_piece lt in
+          elim (tried.inside j lt atom
+          (subst (λ p. Contains (after.candidates p) atom) place contains)) [
             | inl before ↦ was (subst (λ p. Contains (view.candidates p) atom) (sym place) before)
             | inr same ↦ (
               block_at old.map.atom (opened_piece old seals o bytes) j,
               inr (
                 lane,
-                subst (λ n. IsTriedBy new (now_of old seals plain lane bytes) lane n (block_at old.map.atom (opened_piece old seals o bytes) j)) (sym is)
+                subst (λ n. IsTriedBy new (now_of old seals plain lane bytes) lane n
+                    (block_at old.map.atom (opened_piece old seals o bytes) j)) (sym is)
                     (now_tried old new seals plain left lane o next piece bytes j it lt),
               ),
               rw (is, same) (piece_sealed old new seals plain left lane o next piece bytes j it lt),
             )
           ]
       | inr outside ↦ was (tried.outside (place_in old.map b)
-          (place_outside old.map o piece b it.apart it.is_piece (it.logic.sound.under_way lane o it.at).inside below outside) atom contains)
+          (place_outside old.map o piece b it.apart it.is_piece
+          (it.logic.sound.under_way lane o it.at).inside below.inside outside) atom contains)
     ]
 
 -- a write that is settled knows all its blocks, so it holds
-pub settled_holds : {K : Type 0} (state : State K) (plain : ℕ → List ℕ) (left : List Block) (lane b : ℕ) (o : Open) → LaneKnows state plain left lane o → o.settled ≡ true →
+pub settled_holds : {K : Type 0} (state : State K) (plain : ℕ → List ℕ) (left : List Block)
+    (lane b : ℕ) (o : Open) → LaneKnows state plain left lane o → o.settled ≡ true →
     o.range.start ≤ b → b < o.range.end → Holds state lane
 settled_holds state plain left lane b o knows settled from to =
     let kept = knows.kept settled in
@@ -244,65 +335,108 @@ settled_holds state plain left lane b o knows settled from to =
     knows.holds (omega (arith, kept, least, from, to))
 
 -- what a settled write of another lane leaves stays
-tried_settled : {K : Type 0} (old new : State K) (seals : Seals) (plain : ℕ → List ℕ) (left : List Block) (lane : ℕ) (o next : Open) (piece : Piece) (bytes : List ℕ) (view after : View) →
-    TriesPiece old new seals plain left lane o next piece bytes → IsTried old.map.atom (place_of old.map piece) piece.count bytes view after → Shown old seals plain left view →
-    (k : ℕ) (p : Open) → open_at new.lanes k ≡ Some p → IsForced p.ask → p.settled ≡ true → (b : ℕ) → p.range.start ≤ b → b < p.range.end → (atom : List ℕ) →
+tried_settled : {K : Type 0} (old new : State K) (seals : Seals) (plain : ℕ → List ℕ)
+    (left : List Block) (lane : ℕ) (o next : Open) (piece : Piece) (bytes : List ℕ)
+    (view after : View) →
+    TriesPiece old new seals plain left lane o next piece bytes
+    → IsTried old.map.atom (place_of old.map piece) piece.count bytes view after
+    → Shown old seals plain left view →
+    (k : ℕ) (p : Open) → open_at new.lanes k ≡ Some p → IsForced p.ask → p.settled ≡ true → (b : ℕ)
+    → p.range.start ≤ b → b < p.range.end → (atom : List ℕ) →
     Contains (after.candidates (place_in old.map b)) atom →
-    IsSealed old.map seals b (block_at old.map.atom (now_of old seals plain lane bytes k) (b - p.range.start)) atom
-tried_settled old new seals plain left lane o next piece bytes view after it tried shown k p is forced settled b from to atom contains = elim (same_or_not k lane) [
-  | inl same ↦
-      let one : p ≡ next = (let u = ap (λ n. open_at new.lanes n) same ∙ it.goes.lane_is.own in cc) in
-      let was : o.settled ≡ true = sym it.unsettled ∙ subst (λ q. q.settled ≡ true) one settled in
-      let kept = (it.logic.lanes lane o it.at).kept was in
-      let more = it.has.some in absurd (omega (arith, kept, more))
-  | inr other ↦
-      let was : open_at old.lanes k ≡ Some p = sym (it.goes.lane_is.others k other) ∙ is in
-      let under_way = it.logic.sound.under_way k p was in
-      let inside = under_way.inside in
-      let bound = (it.logic.sound.under_way lane o it.at) in
-      let begun = bound.begun in
-      let ends = it.is_piece.within in
-      let holds = settled_holds old plain left k b p (it.logic.lanes k p was) settled from to in
-      let outside : IsOutside o.next piece.count b = elim (in_piece o.next piece.count b) [
-        | inl (j, lt, same_b) ↦ absurd (held_apart old lane k b o p it.logic.sound (λ same. other (sym same)) it.at (writes_lock o.ask it.writes) it.holds
-            (omega (arith, same_b, begun)) (omega (arith, same_b, lt, ends)) was (forced_writes p.ask forced) holds from to)
-        | inr out ↦ out
-      ] in
-      rw (plain-other plain lane (plain lane ++ plain_piece seals old lane bytes) k other)
-      (shown.settled k p was forced settled b from to atom
-      (tried.outside (place_in old.map b) (place_outside old.map o piece b it.apart it.is_piece bound.inside (omega (arith, to, inside)) outside) atom contains))
-]
+    IsSealed old.map seals b
+    (block_at old.map.atom (now_of old seals plain lane bytes k) (b - p.range.start)) atom
+tried_settled old new seals plain left lane o next piece bytes view after it tried shown k p is
+    forced settled b from to atom contains = elim (same_or_not k lane) [
+      | inl same ↦
+          let one : p ≡ next =
+          (let u = ap (λ n. open_at new.lanes n) same ∙ it.goes.lane_is.own in cc) in
+          let was : o.settled ≡ true =
+          sym it.unsettled ∙ subst (λ q. q.settled ≡ true) one settled in
+          let kept = (it.logic.lanes lane o it.at).kept was in
+          let more = it.has.some in absurd (omega (arith, kept, more))
+      | inr other ↦
+          let was : open_at old.lanes k ≡ Some p = sym (it.goes.lane_is.others k other) ∙ is in
+          let under_way = it.logic.sound.under_way k p was in
+          let inside = under_way.inside in
+          let bound = (it.logic.sound.under_way lane o it.at) in
+          let begun = bound.begun in
+          let ends = it.is_piece.within in
+          let holds = settled_holds old plain left k b p (it.logic.lanes k p was) settled from to in
+          let outside : IsOutside o.next piece.count b = elim (in_piece o.next piece.count b) [
+            | inl (j, lt, same_b) ↦
+                absurd (held_apart old lane k b o p it.logic.sound (λ same. other (sym same)) it.at
+                (writes_lock o.ask it.writes) it.holds
+                (omega (arith, same_b, begun)) (omega (arith, same_b, lt, ends)) was
+                (forced_writes p.ask forced) holds from to)
+            | inr out ↦ out
+          ] in
+          rw (plain-other plain lane (plain lane ++ plain_piece seals old lane bytes) k other)
+          (shown.settled k p was forced settled b from to atom
+          (tried.outside (place_in old.map b)
+          (place_outside old.map o piece b it.apart it.is_piece bound.inside
+          (omega (arith, to, inside)) outside) atom contains))
+    ]
 
 -- what each block holds after a piece was written
-written_current : {K : Type 0} (old new : State K) (seals : Seals) (plain : ℕ → List ℕ) (left : List Block) (lane : ℕ) (o next : Open) (piece : Piece) (bytes : List ℕ) (view after : View) →
-    TriesPiece old new seals plain left lane o next piece bytes → IsWritten old.map.atom (place_of old.map piece) piece.count bytes view after → Shown old seals plain left view → old.broken ≡ false →
-    (b : ℕ) → b < old.map.blocks → (value : List ℕ) × IsNow new (now_of old seals plain lane bytes) left b value × IsSealed old.map seals b value (after.current (place_in old.map b))
-written_current old new seals plain left lane o next piece bytes view after it written shown was b below = elim (in_piece o.next piece.count b) [
-  | inl (j, lt, is) ↦
-      let place : place_in old.map b ≡ place_of old.map piece + j = ap (λ n. place_in old.map n) is ∙ piece_place old.map o piece j it.is_piece lt in (
-        block_at old.map.atom (opened_piece old seals o bytes) j,
-        inl (
-          lane,
-          subst (λ n. IsTriedBy new (now_of old seals plain lane bytes) lane n (block_at old.map.atom (opened_piece old seals o bytes) j)) (sym is)
-              (now_tried old new seals plain left lane o next piece bytes j it lt),
-        ),
-        rw (place, written.inside j lt) (subst (λ n. IsSealed old.map seals n (block_at old.map.atom (opened_piece old seals o bytes) j) (block_at old.map.atom bytes j)) (sym is)
-            (piece_sealed old new seals plain left lane o next piece bytes j it lt)),
-      )
-  | inr outside ↦
-      let (value, is_now, sealed) = shown.current was b below in
-      let away = place_outside old.map o piece b it.apart it.is_piece (it.logic.sound.under_way lane o it.at).inside below outside in
-      (value, still_now value outside is_now, rw (written.outside (place_in old.map b) away) sealed)
-]
+written_current : {K : Type 0} (old new : State K) (seals : Seals) (plain : ℕ → List ℕ)
+    (left : List Block) (lane : ℕ) (o next : Open) (piece : Piece) (bytes : List ℕ)
+    (view after : View) →
+    TriesPiece old new seals plain left lane o next piece bytes
+    → IsWritten old.map.atom (place_of old.map piece) piece.count bytes view after
+    → Shown old seals plain left view → old.broken ≡ false →
+    (b : ℕ) → IsLive old b
+    → (value : List ℕ) × IsNow new (now_of old seals plain lane bytes) left b value
+    × IsSealed old.map seals b value (after.current (place_in old.map b))
+written_current old new seals plain left lane o next piece bytes view after it written shown was b
+    below = elim (in_piece o.next piece.count b) [
+      | inl (j, lt, is) ↦
+          let place : place_in old.map b ≡ place_of old.map piece + j =
+          ap (λ n. place_in old.map n) is ∙ piece_place old.map o piece j it.is_piece lt in (
+            block_at old.map.atom (opened_piece old seals o bytes) j,
+            inl (
+              lane,
+              subst (λ n. IsTriedBy new (now_of old seals plain lane bytes) lane n
+                  (block_at old.map.atom (opened_piece old seals o bytes) j)) (sym is)
+                  (now_tried old new seals plain left lane o next piece bytes j it lt),
+            ),
+            rw (place, written.inside j lt)
+                (subst (λ n. IsSealed old.map seals n
+                (block_at old.map.atom (opened_piece old seals o bytes) j)
+                (block_at old.map.atom bytes j)) (sym is)
+                (piece_sealed old new seals plain left lane o next piece bytes j it lt)),
+          )
+      | inr outside ↦
+          let (value, is_now, sealed) = shown.current was b below in
+          let away =
+          place_outside old.map o piece b it.apart it.is_piece
+          (it.logic.sound.under_way lane o it.at).inside below.inside outside in (
+            value,
+            still_now value outside is_now,
+            rw (written.outside (place_in old.map b) away) sealed,
+          )
+    ]
   where
-    still_now : (value : List ℕ) → IsOutside o.next piece.count b → IsNow old plain left b value → IsNow new (now_of old seals plain lane bytes) left b value
-    still_now value outside (inl (k, tried)) = inl (k, still_tried old new seals plain left lane k o next piece bytes b value it tried)
-    still_now value outside (inr (none, is)) = inr (λ k other tried. (let (before, was_so) = was_tried old new seals plain left lane k o next piece bytes b other it outside tried in none k before was_so), is)
+    still_now : (value : List ℕ) → IsOutside o.next piece.count b → IsNow old plain left b value
+        → IsNow new (now_of old seals plain lane bytes) left b value
+    still_now value outside (inl (k, tried)) =
+        inl (k, still_tried old new seals plain left lane k o next piece bytes b value it tried)
+    still_now value outside (inr (none, is)) =
+        inr (
+          λ k other tried.
+              (let (before, was_so) =
+              was_tried old new seals plain left lane k o next piece bytes b other it outside
+              tried in none k before was_so),
+          is,
+        )
 
 -- what the lane knows
-knows_tried : {K : Type 0} (old new : State K) (seals : Seals) (plain : ℕ → List ℕ) (left : List Block) (lane : ℕ) (o next : Open) (piece : Piece) (bytes : List ℕ) →
-    TriesPiece old new seals plain left lane o next piece bytes → next.next ≤ o.next + piece.count → (next.failed ≡ false → next.next ≡ o.next + piece.count) →
-    (next.failed ≡ true → new.broken ≡ true) → LaneKnows new (now_of old seals plain lane bytes) left lane next
+knows_tried : {K : Type 0} (old new : State K) (seals : Seals) (plain : ℕ → List ℕ)
+    (left : List Block) (lane : ℕ) (o next : Open) (piece : Piece) (bytes : List ℕ) →
+    TriesPiece old new seals plain left lane o next piece bytes → next.next ≤ o.next + piece.count
+    → (next.failed ≡ false → next.next ≡ o.next + piece.count) →
+    (next.failed ≡ true → new.broken ≡ true)
+    → LaneKnows new (now_of old seals plain lane bytes) left lane next
 knows_tried old new seals plain left lane o next piece bytes it least exact_next breaks =
     let knows = it.logic.lanes lane o it.at in
     let map = it.goes.map in
@@ -312,56 +446,144 @@ knows_tried old new seals plain left lane o next piece bytes it least exact_next
     let ends = it.is_piece.within in
     record {
       count = knows.count + piece.count;
-      are = rw (map, all) (blocks_joined old.map.atom knows.count piece.count (plain lane) (opened_piece old seals o bytes) knows.are
+      are = rw (map, all)
+          (blocks_joined old.map.atom knows.count piece.count (plain lane)
+          (opened_piece old seals o bytes) knows.are
           (piece_blocks old.map seals o piece bytes it.lawful it.is_piece it.are));
       least = rw range (omega (arith, least, exact));
       most = rw range (omega (arith, exact, ends));
       exact = λ whole. (let e = exact_next whole in rw range (omega (arith, exact, e)));
       holds = λ any. rw it.goes.entries_are it.holds;
-      reads = λ reading k below. absurd (never_both o.ask (subst (λ a. IsRead a) it.ask reading) it.writes);
-      kept = λ settled. absurd (let kept = knows.kept (sym it.unsettled ∙ settled) in let more = it.has.some in omega (arith, kept, more));
+      reads = λ reading k below. absurd
+          (never_both o.ask (subst (λ a. IsRead a) it.ask reading) it.writes);
+      kept = λ settled. absurd
+          (let kept = knows.kept (sym it.unsettled ∙ settled) in let more =
+          it.has.some in omega (arith, kept, more));
       breaks = λ writes failed. breaks failed;
+      beside =
+          λ b from to of.
+          (it.live b (rw (← range) from)
+          (let last =
+          subst (λ r. b < r.start + (knows.count + piece.count)) range to in
+          omega (arith, last, exact, ends))).free (governed_back b (goes_stays it.goes) of);
     }
 
-pub logic_tried : {K : Type 0} (old new : State K) (seals : Seals) (plain : ℕ → List ℕ) (left : List Block) (lane : ℕ) (o next : Open) (piece : Piece) (bytes : List ℕ) →
-    (it : TriesPiece old new seals plain left lane o next piece bytes) → IsSound new → (it.is_broken ≡ false → old.broken ≡ false) → next.next ≤ o.next + piece.count →
-    (next.failed ≡ false → next.next ≡ o.next + piece.count) → (next.failed ≡ true → it.is_broken ≡ true) → Logic new (now_of old seals plain lane bytes) left
-logic_tried old new seals plain left lane o next piece bytes it sound unbroken least exact breaks = record {
-  sound = sound;
-  are = rw it.goes.map it.logic.are;
-  sure = λ whole b below. it.logic.sure (unbroken (sym it.goes.broken_is ∙ whole)) b (subst (λ m. b < m.blocks) it.goes.map below);
-  lanes = lanes_still old plain new (now_of old seals plain lane bytes) left lane (Some next) it.goes.map it.goes.lane_is
-      (plain-other plain lane (plain lane ++ plain_piece seals old lane bytes)) (λ k other held. rw it.goes.entries_are held)
-      (still_broken old new lane old.entries (Some next) it.is_broken it.goes unbroken)
-      (λ one same. let e : one ≡ next = cc in
-      rw e (knows_tried old new seals plain left lane o next piece bytes it least exact (λ failed. it.goes.broken_is ∙ breaks failed))) it.logic.lanes;
-}
+pub logic_tried : {K : Type 0} (old new : State K) (seals : Seals) (plain : ℕ → List ℕ)
+    (left : List Block) (lane : ℕ) (o next : Open) (piece : Piece) (bytes : List ℕ) →
+    (it : TriesPiece old new seals plain left lane o next piece bytes) → IsSound new
+    → (it.is_broken ≡ false → old.broken ≡ false) → next.next ≤ o.next + piece.count →
+    (next.failed ≡ false → next.next ≡ o.next + piece.count)
+    → (next.failed ≡ true → it.is_broken ≡ true)
+    → Logic new (now_of old seals plain lane bytes) left
+logic_tried old new seals plain left lane o next piece bytes it sound unbroken least exact breaks =
+    record {
+      sound = sound;
+      are = rw it.goes.map it.logic.are;
+      sure = λ whole b below. it.logic.sure (unbroken (sym it.goes.broken_is ∙ whole)) b
+          (subst (λ m. b < m.blocks) it.goes.map below);
+      lanes = lanes_still old plain new (now_of old seals plain lane bytes) left lane (Some next)
+          (goes_stays it.goes) it.goes.lane_is
+          (plain-other plain lane (plain lane ++ plain_piece seals old lane bytes))
+          (λ k other held. rw it.goes.entries_are held)
+          (still_broken old new lane old.entries (Some next) it.is_broken it.goes unbroken)
+          (λ one same. let e : one ≡ next = cc in
+          rw e (knows_tried old new seals plain left lane o next piece bytes it least exact
+          (λ failed. it.goes.broken_is ∙ breaks failed))) it.logic.lanes;
+    }
+
+-- the zone's areas lie apart from a piece
+piece_away : {K : Type 0} (old : State K) (seals : Seals) (plain : ℕ → List ℕ) (left : List Block)
+    (lane : ℕ) (o next : Open) (piece : Piece) (bytes : List ℕ) (work : Work) (new : State K) →
+    TriesPiece old new seals plain left lane o next piece bytes → old.work ≡ Some work →
+    (area : Area) → Reaches work.layout work.zone area → (i : ℕ) → i < area.count
+    → IsOutside (place_of old.map piece) piece.count (area.start + i)
+piece_away old seals plain left lane o next piece bytes work new it is area of i below =
+    elim (in_piece (place_of old.map piece) piece.count (area.start + i)) [
+      | inl (j, lt, same) ↦
+          let within = it.is_piece.within in
+          let begun = (it.logic.sound.under_way lane o it.at).begun in
+          let away =
+          (it.works work is).away (o.next + j)
+          (it.live (o.next + j) (omega (arith, begun)) (omega (arith, lt, within))) area of in
+          let place : place_in old.map (o.next + j) ≡ area.start + i =
+          piece_place old.map o piece j it.is_piece lt ∙ sym same in
+          absurd (elim away [
+            | inl before ↦ omega (arith, before, place)
+            | inr behind ↦ omega (arith, behind, place, below)
+          ])
+      | inr outside ↦ outside
+    ]
 
 -- a piece was written
-pub shown_written : {K : Type 0} (old new : State K) (seals : Seals) (plain : ℕ → List ℕ) (left : List Block) (lane : ℕ) (o next : Open) (piece : Piece) (bytes : List ℕ) (view after : View) →
-    TriesPiece old new seals plain left lane o next piece bytes → IsWritten old.map.atom (place_of old.map piece) piece.count bytes view after → old.broken ≡ false →
+pub shown_written : {K : Type 0} (old new : State K) (seals : Seals) (plain : ℕ → List ℕ)
+    (left : List Block) (lane : ℕ) (o next : Open) (piece : Piece) (bytes : List ℕ)
+    (view after : View) →
+    TriesPiece old new seals plain left lane o next piece bytes
+    → IsWritten old.map.atom (place_of old.map piece) piece.count bytes view after
+    → old.broken ≡ false →
     Shown old seals plain left view → Shown new seals (now_of old seals plain lane bytes) left after
 shown_written old new seals plain left lane o next piece bytes view after it written was shown =
     let map = it.goes.map in record {
-      current = λ whole b below. subst (λ m. (value : List ℕ) × IsNow new (now_of old seals plain lane bytes) left b value × IsSealed m seals b value (after.current (place_in m b))) (sym map)
-          (written_current old new seals plain left lane o next piece bytes view after it written shown was b (subst (λ m. b < m.blocks) map below));
-      candidates = λ b below atom contains. subst (λ m. (value : List ℕ) × IsAllowedAt new (now_of old seals plain lane bytes) left b value × IsSealed m seals b value atom) (sym map)
-          (tried_candidates old new seals plain left lane o next piece bytes view after it written.tried shown b
-          (subst (λ m. b < m.blocks) map below) atom (subst (λ m. Contains (after.candidates (place_in m b)) atom) map contains));
-      settled = λ k p is forced settled b from to atom contains. rw map (tried_settled old new seals plain left lane o next piece bytes view after it written.tried shown k p is forced settled b from to atom
+      current =
+          λ whole b below. subst
+          (λ m. (value : List ℕ) × IsNow new (now_of old seals plain lane bytes) left b value
+          × IsSealed m seals b value (after.current (place_in m b))) (sym map)
+          (written_current old new seals plain left lane o next piece bytes view after it written
+          shown was b (live_back b (goes_stays it.goes) below));
+      candidates =
+          λ b below atom contains. subst
+          (λ m. (value : List ℕ) × IsAllowedAt new (now_of old seals plain lane bytes) left b value
+          × IsSealed m seals b value atom) (sym map)
+          (tried_candidates old new seals plain left lane o next piece bytes view after it
+          written.tried shown b
+          (live_back b (goes_stays it.goes) below) atom
           (subst (λ m. Contains (after.candidates (place_in m b)) atom) map contains));
+      settled =
+          λ k p is forced settled b from to atom contains. rw map
+          (tried_settled old new seals plain left lane o next piece bytes view after it
+          written.tried shown k p is forced settled b from to atom
+          (subst (λ m. Contains (after.candidates (place_in m b)) atom) map contains));
+      zone = λ work is. let was_so : old.work ≡ Some work = sym it.goes.work ∙ is in
+          rw map (zone_whole old.map.atom work.layout work.zone (texts_of seals left work)
+          work.phase new.broken after
+          (zone_stays old.map.atom work.layout work.zone (texts_of seals left work) work.phase false
+          view after
+          (writes_beside old.map.atom (place_of old.map piece) piece.count bytes
+          (piece_away old seals plain left lane o next piece bytes work new it was_so) written)
+          (subst (λ b. ShowsZone old.map.atom work.layout work.zone (texts_of seals left work)
+          work.phase b view) was (shown.zone work was_so))));
     }
 
 -- a write of a piece failed
-pub shown_tried : {K : Type 0} (old new : State K) (seals : Seals) (plain : ℕ → List ℕ) (left : List Block) (lane : ℕ) (o next : Open) (piece : Piece) (bytes : List ℕ) (view after : View) →
-    TriesPiece old new seals plain left lane o next piece bytes → IsTried old.map.atom (place_of old.map piece) piece.count bytes view after → new.broken ≡ true →
+pub shown_tried : {K : Type 0} (old new : State K) (seals : Seals) (plain : ℕ → List ℕ)
+    (left : List Block) (lane : ℕ) (o next : Open) (piece : Piece) (bytes : List ℕ)
+    (view after : View) →
+    TriesPiece old new seals plain left lane o next piece bytes
+    → IsTried old.map.atom (place_of old.map piece) piece.count bytes view after → new.broken ≡ true
+    →
     Shown old seals plain left view → Shown new seals (now_of old seals plain lane bytes) left after
 shown_tried old new seals plain left lane o next piece bytes view after it tried broken shown =
     let map = it.goes.map in record {
       current = λ whole b below. absurd (cc);
-      candidates = λ b below atom contains. subst (λ m. (value : List ℕ) × IsAllowedAt new (now_of old seals plain lane bytes) left b value × IsSealed m seals b value atom) (sym map)
-          (tried_candidates old new seals plain left lane o next piece bytes view after it tried shown b
-          (subst (λ m. b < m.blocks) map below) atom (subst (λ m. Contains (after.candidates (place_in m b)) atom) map contains));
-      settled = λ k p is forced settled b from to atom contains. rw map (tried_settled old new seals plain left lane o next piece bytes view after it tried shown k p is forced settled b from to atom
+      candidates =
+          λ b below atom contains. subst
+          (λ m. (value : List ℕ) × IsAllowedAt new (now_of old seals plain lane bytes) left b value
+          × IsSealed m seals b value atom) (sym map)
+          (tried_candidates old new seals plain left lane o next piece bytes view after it tried
+          shown b
+          (live_back b (goes_stays it.goes) below) atom
           (subst (λ m. Contains (after.candidates (place_in m b)) atom) map contains));
+      settled =
+          λ k p is forced settled b from to atom contains. rw map
+          (tried_settled old new seals plain left lane o next piece bytes view after it tried shown
+          k p is forced settled b from to atom
+          (subst (λ m. Contains (after.candidates (place_in m b)) atom) map contains));
+      zone = λ work is. let was_so : old.work ≡ Some work = sym it.goes.work ∙ is in
+          rw (map, broken)
+          (zone_stays old.map.atom work.layout work.zone (texts_of seals left work) work.phase true
+          view after
+          (write_fails_beside old.map.atom (place_of old.map piece) piece.count bytes
+          (piece_away old seals plain left lane o next piece bytes work new it was_so) tried)
+          (subst (λ b. ShowsZone old.map.atom work.layout work.zone (texts_of seals left work)
+          work.phase b view) it.whole (shown.zone work was_so)));
     }

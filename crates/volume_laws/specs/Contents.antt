@@ -1,6 +1,7 @@
 -- What a volume holds in plain: the newest values of a plain disk's blocks, with the values of
 -- unfinished writes over them.
-use Rattle.std.specs.Prelude.{ℕ, zero, suc, ◌≡◌, ◌-◌, ◌*◌, ◌<◌, ◌≤◌, ◌⊎◌, List, [], ◌∷◌, length, Some, Contains, slice_index_or}
+use Rattle.std.specs.Prelude.{ℕ, zero, suc, ◌≡◌, ◌-◌, ◌*◌, ◌<◌, ◌≤◌, ◌⊎◌, List, [], ◌∷◌, length}
+use Rattle.std.specs.Prelude.{Some, Contains, slice_index_or}
 use Rattle.plain_disk.specs.Plain.{Block, values_of, settled, settled_blocks}
 use Rattle.sector_disk.specs.Cells.{Cell, IsImage}
 use Rattle.segment_map.specs.declared.map.Map.{Map}
@@ -8,7 +9,7 @@ use Rattle.volume_machine.specs.Asks.{IsWrite}
 use Rattle.volume_machine.specs.Pieces.{side_in, place_in}
 use Rattle.volume_machine.specs.Seals.{Seals}
 use Rattle.disk_views.specs.Parts.{AreBlocks, block_at, cell_in, value_in}
-use Rattle.volume_machine.specs.States.{State, open_at}
+use Rattle.volume_machine.specs.States.{State, open_at, IsLive}
 use Rattle.volume_machine.specs.declared.open.Open.{Open}
 use Rattle.base_terms.specs.Blocks.{blocks_of}
 
@@ -32,7 +33,8 @@ StandsFor map seals blocks bytes = (b : ℕ) → b < map.blocks →
     IsSealed map seals b (block_in blocks b).newest (block_at map.atom bytes (place_in map b))
 
 -- an unfinished write of this lane has tried this value for the block
-pub record IsTriedBy {K : Type 0} (state : State K) (plain : ℕ → List ℕ) (lane b : ℕ) (value : List ℕ) : Type 0 where
+pub record IsTriedBy {K : Type 0} (state : State K) (plain : ℕ → List ℕ) (lane b : ℕ)
+    (value : List ℕ) : Type 0 where
   pub o : Open
   pub is : open_at state.lanes lane ≡ Some o
   pub writes : IsWrite o.ask
@@ -44,32 +46,39 @@ pub record IsTriedBy {K : Type 0} (state : State K) (plain : ℕ → List ℕ) (
 abbrev pub IsNow : {K : Type 0} → State K → (ℕ → List ℕ) → List Block → ℕ → List ℕ → Type 0
 IsNow state plain blocks b value =
     ((lane : ℕ) × IsTriedBy state plain lane b value)
-    ⊎ (((lane : ℕ) (other : List ℕ) → IsTriedBy state plain lane b other → ⊥) × (value ≡ (block_in blocks b).newest))
+    ⊎ (((lane : ℕ) (other : List ℕ) → IsTriedBy state plain lane b other → ⊥)
+    × (value ≡ (block_in blocks b).newest))
 
--- the disk's current bytes stand for what each block holds
+-- the disk's current bytes stand for what each live block holds
 abbrev pub StandsNow : {K : Type 0} → State K → Seals → (ℕ → List ℕ) → List Block → List ℕ → Type 0
-StandsNow state seals plain blocks bytes = (b : ℕ) → b < state.map.blocks →
+StandsNow state seals plain blocks bytes = (b : ℕ) → IsLive state b →
     (value : List ℕ) × IsNow state plain blocks b value
     × IsSealed state.map seals b value (block_at state.map.atom bytes (place_in state.map b))
 
--- a value that a stop may leave of a block: one of its values, or one that an unfinished write tried
+-- a value that a stop may leave of a block: one of its values, or one that an unfinished write
+-- tried
 abbrev pub IsAllowedAt : {K : Type 0} → State K → (ℕ → List ℕ) → List Block → ℕ → List ℕ → Type 0
 IsAllowedAt state plain blocks b value =
-    Contains (values_of (block_in blocks b)) value ⊎ ((lane : ℕ) × IsTriedBy state plain lane b value)
+    Contains (values_of (block_in blocks b)) value
+    ⊎ ((lane : ℕ) × IsTriedBy state plain lane b value)
 
--- a stop that finds this table leaves a content that is allowed: each image stands for one
-abbrev pub StopsAllowed : {K : Type 0} → State K → Seals → (ℕ → List ℕ) → List Block → List Cell → Type 0
+-- a stop that finds this table leaves a content that is allowed: of each live block, each image
+-- stands for one
+abbrev pub StopsAllowed : {K : Type 0} → State K → Seals → (ℕ → List ℕ) → List Block → List Cell
+    → Type 0
 StopsAllowed state seals plain blocks cells = (image : List (List ℕ)) → IsImage cells image →
-    (b : ℕ) → b < state.map.blocks → (value : List ℕ) × IsAllowedAt state plain blocks b value
+    (b : ℕ) → IsLive state b → (value : List ℕ) × IsAllowedAt state plain blocks b value
     × IsSealed state.map seals b value (value_in image (place_in state.map b))
 
 -- each candidate of each block's atom is a value of the block, and the current one its newest
-pub record Covers (map : Map) (seals : Seals) (blocks : List Block) (cells : List Cell) : Type 0 where
-  pub candidates : (b : ℕ) → b < map.blocks → (atom : List ℕ) →
-      Contains (cell_in cells (place_in map b)).candidates atom →
-      (value : List ℕ) × Contains (values_of (block_in blocks b)) value × IsSealed map seals b value atom
-  pub current : (b : ℕ) → b < map.blocks →
-      IsSealed map seals b (block_in blocks b).newest (cell_in cells (place_in map b)).current
+pub record Covers (map : Map) (seals : Seals) (blocks : List Block) (cells : List Cell) : Type 0
+  where
+    pub candidates : (b : ℕ) → b < map.blocks → (atom : List ℕ) →
+        Contains (cell_in cells (place_in map b)).candidates atom →
+        (value : List ℕ) × Contains (values_of (block_in blocks b)) value
+        × IsSealed map seals b value atom
+    pub current : (b : ℕ) → b < map.blocks →
+        IsSealed map seals b (block_in blocks b).newest (cell_in cells (place_in map b)).current
 
 -- the plain disk's blocks that a whole disk begins with: each holds its atom's bytes for certain
 abbrev pub plain_blocks : {K : Type 0} → State K → List ℕ → List Block

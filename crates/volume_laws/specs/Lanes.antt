@@ -1,11 +1,14 @@
 -- Lanes of a run, each by its own calls.
-use Rattle.std.specs.Prelude.{ℕ, suc, ◌≡◌, ◌<◌, ◌==◌, true, if◌then◌else◌, List, [], ◌∷◌, ◌++◌, length, Some}
+use Rattle.std.specs.Prelude.{ℕ, suc, ◌≡◌, ◌<◌, ◌==◌, true, if◌then◌else◌, List, [], ◌∷◌, ◌++◌}
+use Rattle.std.specs.Prelude.{length, Some}
 use Rattle.segment_map.specs.declared.map.Map.{Map}
 use Rattle.volume_machine.specs.Alone.{Alone, AreMet, Call, alone_of, answers_of, idle_lane}
 use Rattle.volume_machine.specs.Answers.{Answered}
 use Rattle.volume_machine.specs.Asks.{has_lock}
 use Rattle.volume_machine.specs.Events.{lane_of}
-use Rattle.volume_machine.specs.Runs.{Happening, IsRun, answered_by, last_of, no_plain, plain_after, plain_in}
+use Rattle.volume_machine.specs.Pieces.{AgreeOn}
+use Rattle.volume_machine.specs.Runs.{Happening, IsRun, answered_by, last_of, no_plain, plain_after}
+use Rattle.volume_machine.specs.Runs.{plain_in}
 use Rattle.volume_machine.specs.Seals.{Seals}
 use Rattle.volume_machine.specs.States.{State, open_at}
 use Rattle.volume_machine.specs.Steps.{Holds, Step}
@@ -29,12 +32,14 @@ answered_under lane seals old plain (one ∷ rest) =
     (if lane_of one.event == lane then answered_by old one.event one.outcome plain else [])
     ++ answered_under lane seals one.after (plain_after seals old one.event one.outcome plain) rest
 
--- a lane is so by its own calls, in a state in which its operation has this much in plain
+-- A lane is so by its own calls, in a state in which its operation has this much in plain. What it
+-- was granted has the operation's blocks as the state has them.
 pub record IsLane {K : Type 0} (state : State K) (plain : ℕ → List ℕ) (lane : ℕ)
     (alone : Alone) : Type 0 where
   pub operation : open_at state.lanes lane ≡ alone.operation
   pub plain_is : plain lane ≡ alone.plain
-  pub map : (map : Map) → alone.granted ≡ Some map → map ≡ state.map
+  pub map : (map : Map) (o : Open) → alone.granted ≡ Some map → alone.operation ≡ Some o →
+      AgreeOn o.range map state.map
   pub holds : (map : Map) (o : Open) → alone.granted ≡ Some map → alone.operation ≡ Some o →
       has_lock o.ask ≡ true →
       Holds state lane

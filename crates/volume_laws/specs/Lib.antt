@@ -2,3 +2,5 @@ pub mod Contents
 pub mod Executing
 pub mod Lanes
 pub mod Promises
+pub mod Texts
+pub mod Standing

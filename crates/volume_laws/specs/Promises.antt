@@ -1,5 +1,6 @@
 -- What is promised of every run of events.
-use Rattle.std.specs.Prelude.{ℕ, ◌≡◌, ◌↔◌, Bool, true, false, ◌==◌, ◌||◌, if◌then◌else◌, List, [], ◌∷◌, replicate, Some, None}
+use Rattle.std.specs.Prelude.{length, ℕ, ◌≡◌, ◌*◌, ◌↔◌, Bool, true, false, ◌==◌, ◌||◌}
+use Rattle.std.specs.Prelude.{if◌then◌else◌, List, [], ◌∷◌, replicate, Some, None}
 use Rattle.base_terms.specs.Blocks.{lengths}
 use Rattle.base_terms.specs.ErrorNumbers.{device_error}
 use Rattle.plain_disk.specs.Plain.{Block, Exchange, AreSure, Legal}
@@ -10,16 +11,19 @@ use Rattle.volume_machine.specs.Asks.{wrong_ask}
 use Rattle.volume_laws.specs.Contents.{AreBlocksOf, StandsFor, StandsNow, StopsAllowed, Covers}
 use Rattle.volume_machine.specs.Beginnings.{IsFresh}
 use Rattle.volume_machine.specs.Effects.{breaks}
-use Rattle.volume_machine.specs.Events.{Event, admits, asks, settles, finishes, lane_of, Outcome, device, broken}
+use Rattle.volume_machine.specs.Events.{Event, admits, asks, settles, finishes, lane_of, Outcome}
+use Rattle.volume_machine.specs.Events.{device, broken}
 use Rattle.volume_machine.specs.Answers.{Answered, AreExchanges}
-use Rattle.volume_machine.specs.Runs.{Happening, IsRun, last_of, answered_by, answered_in, plain_in, no_plain}
+use Rattle.volume_machine.specs.Runs.{Happening, IsRun, last_of, answered_by, answered_in, plain_in}
+use Rattle.volume_machine.specs.Runs.{no_plain}
 use Rattle.volume_machine.specs.Seals.{Seals, AreLawful}
 use Rattle.volume_machine.specs.Sound.{IsSound, AreApart}
 use Rattle.volume_machine.specs.States.{State, open_at, size_of}
 use Rattle.volume_machine.specs.declared.open.Open.{Open}
 
 -- a volume from which runs start: no operation is under way, and its disk stands for these blocks
-pub record Starts {K : Type 0} (start : State K) (seals : Seals) (blocks : List Block) (bytes : List ℕ) : Type 0 where
+pub record Starts {K : Type 0} (start : State K) (seals : Seals) (blocks : List Block)
+    (bytes : List ℕ) : Type 0 where
   pub sound : IsSound start
   pub fresh : IsFresh start
   pub apart : AreApart start.map
@@ -31,16 +35,26 @@ pub record Starts {K : Type 0} (start : State K) (seals : Seals) (blocks : List 
 
 -- where the disk tells its tables, each image of it stands for values of these blocks too
 abbrev pub StartsCovered : {K : Type 0} → State K → Seals → List Block → Type 0
-StartsCovered start seals blocks = (told : Told) → start.disk.told ≡ Some told → Covers start.map seals blocks told.now
+StartsCovered start seals blocks =
+    (told : Told) → start.disk.told ≡ Some told → Covers start.map seals blocks told.now
 
 -- where the disk tells its tables, each atom holds its value for certain, and these are its bytes
 abbrev pub TellsSettled : {K : Type 0} → State K → List ℕ → Type 0
 TellsSettled start bytes = (told : Told) → start.disk.told ≡ Some told → AreSettled told.now
-    × (bytes ≡ content told.now) × (lengths (currents told.now) ≡ replicate start.disk.atoms start.map.atom)
+    × (bytes ≡ content told.now)
+    × (lengths (currents told.now) ≡ replicate start.disk.atoms start.map.atom)
+
+-- where the disk tells its bytes there are an atom's for each atom, and where it tells its tables a
+-- cell
+pub record TellsWhole {K : Type 0} (state : State K) : Type 0 where
+  pub bytes : (bytes : List ℕ) → state.disk.values ≡ Some bytes →
+      length bytes ≡ state.disk.atoms * state.map.atom
+  pub cells : (told : Told) → state.disk.told ≡ Some told → length told.now ≡ state.disk.atoms
 
 -- The operations of a run are those of one plain disk: their history is legal; while nothing has
--- failed the disk stands for the newest values with those of unfinished writes over them; and a stop
--- leaves what is allowed. A run may end anywhere, so this holds after each event.
+-- failed the disk stands for the newest values with those of unfinished writes over them; and a
+-- stop leaves what is allowed. A disk that told all its atoms tells them all while nothing has
+-- failed, and all its cells. A run may end anywhere, so this holds after each event.
 pub record IsServed {K : Type 0} (start : State K) (seals : Seals) (blocks : List Block)
     (run : List (Happening K)) (exchanges : List Exchange) : Type 0 where
   pub left : List Block
@@ -49,13 +63,19 @@ pub record IsServed {K : Type 0} (start : State K) (seals : Seals) (blocks : Lis
   pub values : (last_of start run).disk.values ≡ Some now
   pub stands : (last_of start run).broken ≡ false →
       StandsNow (last_of start run) seals (plain_in seals start no_plain run) left now
-  pub stops : StartsCovered start seals blocks → (told : Told) → (last_of start run).disk.told ≡ Some told →
+  pub size : TellsWhole start → (last_of start run).broken ≡ false →
+      length now ≡ (last_of start run).disk.atoms * (last_of start run).map.atom
+  pub cells : TellsWhole start → StartsCovered start seals blocks → (told : Told) →
+      (last_of start run).disk.told ≡ Some told → length told.now ≡ (last_of start run).disk.atoms
+  pub stops : StartsCovered start seals blocks → (told : Told)
+      → (last_of start run).disk.told ≡ Some told →
       StopsAllowed (last_of start run) seals (plain_in seals start no_plain run) left told.now
 
 abbrev pub ServesEachRun : {K : Type 0} → State K → Seals → Type 0
 ServesEachRun {K} start seals = (blocks : List Block) (bytes : List ℕ) (run : List (Happening K))
     (exchanges : List Exchange) → Starts start seals blocks bytes → IsRun start run →
-    AreExchanges (answered_in seals start no_plain run) exchanges → IsServed start seals blocks run exchanges
+    AreExchanges (answered_in seals start no_plain run) exchanges
+    → IsServed start seals blocks run exchanges
 
 -- the outcome is that the device failed, or that the volume was broken
 abbrev pub is_failure : Outcome → Bool
@@ -72,7 +92,8 @@ has_failed_by _ outcome before = before || is_failure outcome
 
 -- the same of any lane's
 abbrev pub fails : ℕ → Event → Outcome → Bool → Bool
-fails lane event outcome before = if lane_of event == lane then has_failed_by event outcome before else before
+fails lane event outcome before =
+    if lane_of event == lane then has_failed_by event outcome before else before
 
 unfoldable pub fails_in : {K : Type 0} → ℕ → Bool → List (Happening K) → Bool
 fails_in lane before [] = before
@@ -84,12 +105,15 @@ breaks_in before [] = before
 breaks_in before (one ∷ rest) = breaks_in (before || breaks one.event one.outcome) rest
 
 -- An operation has failed exactly where one of its events did; the volume is broken exactly where a
--- write or a sync failed; and sides, keys and places of all blocks stay.
+-- write or a sync failed; sides, keys and places of all blocks stay; and so does the zone at hand,
+-- if there is one.
 pub record GoesByEvents {K : Type 0} (start : State K) (run : List (Happening K)) : Type 0 where
-  pub fails : (lane : ℕ) (o : Open) → open_at (last_of start run).lanes lane ≡ Some o → o.failed ≡ fails_in lane false run
+  pub fails : (lane : ℕ) (o : Open) → open_at (last_of start run).lanes lane ≡ Some o
+      → o.failed ≡ fails_in lane false run
   pub breaks : (last_of start run).broken ≡ breaks_in start.broken run
   pub map : (last_of start run).map ≡ start.map
   pub keys : (last_of start run).keys ≡ start.keys
+  pub work : (last_of start run).work ≡ start.work
 
 -- whether the operation that an event answers has failed: at its admit, where the volume was found
 -- broken; at the settle of a flush, where that failed; at its finish, where one of its events since
@@ -100,9 +124,12 @@ has_failed start earlier (settles lane) outcome = is_failure outcome
 has_failed start earlier (finishes lane) outcome = fails_in lane false earlier
 has_failed start earlier _ outcome = false
 
--- an operation that isn't wrong and is answered by this event is answered 5 exactly where it has failed
-abbrev pub DeviceErrorsAreExact : {K : Type 0} → Seals → State K → List (Happening K) → Happening K → Type 0
+-- an operation that isn't wrong and is answered by this event is answered 5 exactly where it has
+-- failed
+abbrev pub DeviceErrorsAreExact : {K : Type 0} → Seals → State K → List (Happening K) → Happening K
+    → Type 0
 DeviceErrorsAreExact seals start earlier one = (answered : Answered) →
-    answered_by (last_of start earlier) one.event one.outcome (plain_in seals start no_plain earlier) ≡ answered ∷ [] →
+    answered_by (last_of start earlier) one.event one.outcome
+    (plain_in seals start no_plain earlier) ≡ answered ∷ [] →
     wrong_ask start.map.atom (size_of start.map) answered.ask ≡ None →
     (answered.reply ≡ Errno device_error) ↔ (has_failed start earlier one.event one.outcome ≡ true)

@@ -1,7 +1,12 @@
-//! What follows for every run of events. Each law is the contract of a function that does nothing. A
-//! proof above cites it by its call.
+//! What follows for every run of events. Each law is the contract of a function that does nothing.
+//! A proof above cites it by its call.
 
-ghost use Rattle.std.specs.Prelude.{◌≡◌, ◌≢◌, ◌<◌, ◌≤◌, ◌⊎◌, ◌%◌, ◌+◌, ◌*◌, ◌++◌, ◌∷◌, [], ℕ, List, length, Some};
+ghost use Rattle.std.specs.Prelude.{true, false};
+ghost use Rattle.std.specs.Prelude.{◌≡◌, ◌≢◌, ◌<◌, ◌≤◌, ◌⊎◌, ◌%◌, ◌+◌, ◌*◌, ◌++◌, ◌∷◌, [], ℕ, List};
+ghost use Rattle.std.specs.Prelude.{length, None, Some};
+ghost use Rattle.disk_areas.specs.Headers.{IsReader};
+ghost use Rattle.sector_disk.specs.Cells.{Cell};
+ghost use Rattle.volume_laws.specs.Standing.{Reading, Stands, StandsAllowed, StandsForNow};
 ghost use Rattle.cipher_laws.specs.Bytes.{AreBytes};
 ghost use Rattle.plain_disk.specs.Plain.{Block, Exchange};
 ghost use Rattle.sector_disk.specs.Geometry.{IsAtom};
@@ -11,30 +16,36 @@ ghost use Rattle.segment_map.specs.declared.map.Map.{Map};
 ghost use Rattle.volume_machine.specs.Alone.{MeetsAlone};
 ghost use Rattle.volume_machine.specs.Beginnings.{IsFresh};
 ghost use Rattle.volume_machine.specs.Events.{Event, Outcome, lane_of};
-ghost use Rattle.volume_laws.specs.Executing.{Executes, StopsAlong, TellsRun, ServesWithoutFaults, BreaksByFaults};
+ghost use Rattle.volume_laws.specs.Executing.{Executes, StopsAlong, TellsRun, ServesWithoutFaults};
+ghost use Rattle.volume_laws.specs.Executing.{BreaksByFaults};
 ghost use Rattle.volume_laws.specs.Lanes.{AreAlone, AreMetByLanes, AreSteps, alone_in};
-ghost use Rattle.volume_laws.specs.Promises.{Starts, StartsCovered, TellsSettled, ServesEachRun, GoesByEvents, DeviceErrorsAreExact};
+ghost use Rattle.volume_laws.specs.Promises.{Starts, StartsCovered, TellsSettled, ServesEachRun};
+ghost use Rattle.volume_laws.specs.Promises.{GoesByEvents, DeviceErrorsAreExact};
 ghost use Rattle.volume_machine.specs.Answers.{AreExchanges, Tagged, untagged};
 ghost use Rattle.volume_machine.specs.Runs.{Happening, IsRun, last_of, answered_in, no_plain};
 ghost use Rattle.volume_machine.specs.Beginnings.{ChangeNothing};
 ghost use Rattle.volume_machine.specs.Seals.{Seals, AreLawful, seals_of};
 ghost use Rattle.volume_machine.specs.Sound.{IsSound, AreApart};
-ghost use Rattle.volume_machine.specs.States.{State, IsClient, open_at};
+ghost use Rattle.volume_machine.specs.Asks.{has_lock};
+ghost use Rattle.volume_machine.specs.States.{State, IsClient, IsLive, open_at};
+ghost use Rattle.volume_machine.specs.Working.{Works};
+ghost use Rattle.volume_machine.specs.declared.open.Open.{Open};
 ghost use Rattle.volume_machine.specs.Steps.{Step, Meets, Holds};
 ghost use Rattle.volume_machine.specs.Beginnings.{IsWholeDisk};
 ghost use Rattle.disk_views.specs.Parts.{value_in};
-ghost use Rattle.volume_laws.specs.Contents.{IsSealed, StandsFor, block_in, opened_blocks, plain_blocks};
+ghost use Rattle.volume_laws.specs.Contents.{IsSealed, StandsFor, StandsNow, StopsAllowed};
+ghost use Rattle.volume_laws.specs.Contents.{block_in, opened_blocks, plain_blocks};
 ghost use Rattle.volume_machine.specs.Pieces.{place_in};
 ghost use Rattle.volume_machine.specs.declared.keys.Keys.{Keys};
 
 use cipher_laws::SectorCipher;
 
 /// The operations of every run of events, on whatever lanes and in whatever order, are those of one
-/// plain disk that was asked one history. While no write or sync has failed the disk's current bytes
-/// stand for the newest values, with the values of unfinished writes over them. Where the disk tells
-/// its tables, and each of its images stood for values of the blocks at the start, then wherever the
-/// run stops each image stands for a content in which each block holds its last flushed value, one
-/// written since, or one that an unfinished write has tried.
+/// plain disk that was asked one history. While no write or sync has failed the disk's current
+/// bytes stand for the newest values, with the values of unfinished writes over them. Where the
+/// disk tells its tables, and each of its images stood for values of the blocks at the start, then
+/// wherever the run stops each image stands for a content in which each block holds its last
+/// flushed value, one written since, or one that an unfinished write has tried.
 ///
 /// It speaks of a volume on which no operation is under way, whose blocks have places of their own,
 /// and whose disk tells its bytes and stands for the given blocks.
@@ -44,8 +55,8 @@ pub fn every_run_is_served<C: SectorCipher>()
 
 /// An operation has failed exactly where one of its events answered that the device failed or the
 /// volume is broken. A volume is broken exactly where a write or a sync failed in an earlier event.
-/// Sides, keys and places of all blocks stay. This holds at the end of a run, and along it: after
-/// each of its events.
+/// Sides, keys and places of all blocks stay, and so does the zone at hand, if there is one. This
+/// holds at the end of a run, and along it: after each of its events.
 pub fn failures_go_by_events<C: SectorCipher>()
     ensures at_the_end { (start : State (Keys C)) (run : List (Happening (Keys C))) →
         IsFresh start → IsRun start run → GoesByEvents start run }
@@ -53,38 +64,53 @@ pub fn failures_go_by_events<C: SectorCipher>()
         IsFresh start → IsRun start (earlier ++ later) → GoesByEvents start earlier }
 {}
 
-/// A read, a write or a flush that isn't wrong is answered 5 exactly where its admit found the volume
-/// broken, or one of its pieces or its settle answered that the device failed or the volume is broken.
-/// So it is for each event of a run that answers an operation.
+/// A read, a write or a flush that isn't wrong is answered 5 exactly where its admit found the
+/// volume broken, or one of its pieces or its settle answered that the device failed or the volume
+/// is broken. So it is for each event of a run that answers an operation.
 pub fn device_errors_are_exact<C: SectorCipher>()
     ensures { (start : State (Keys C)) (seals : Seals) (earlier later : List (Happening (Keys C)))
         (one : Happening (Keys C)) → IsFresh start → IsRun start (earlier ++ one ∷ later) →
         DeviceErrorsAreExact seals start earlier one }
 {}
 
-/// An event of one lane leaves every other lane's operation as it was, and what another lane holds it
-/// goes on to hold. So a call whose conditions are met is one whose conditions are met after the events
-/// of other lanes too.
+/// An event of one lane leaves every other lane's operation as it was, and what another lane holds
+/// it goes on to hold. So a call whose conditions are met is one whose conditions are met after the
+/// events of other lanes too.
 pub fn events_leave_other_lanes<C: SectorCipher>()
     ensures stays { (old new : State (Keys C)) (event : Event) (outcome : Outcome) (lane : ℕ) →
         Step old event outcome new → lane ≢ lane_of event →
         (open_at new.lanes lane ≡ open_at old.lanes lane) × (Holds old lane → Holds new lane) }
     ensures meets { (old new : State (Keys C)) (event next : Event) (outcome : Outcome) →
-        Step old event outcome new → lane_of next ≢ lane_of event → Meets old next → Meets new next }
+        Step old event outcome new → lane_of next ≢ lane_of event → Meets old next
+        → Meets new next }
 {}
 
-/// The keys of a volume whose sectors divide its blocks seal and open block by block, and each undoes
-/// the other.
+/// An event of a client leaves the zone at hand: it is held, and lies apart from all other blocks, as
+/// before. What a client's lane holds while nothing has failed is live, so its pieces lie beside the
+/// zone.
+pub fn events_leave_the_zone<C: SectorCipher>()
+    ensures stays { (old new : State (Keys C)) (event : Event) (outcome : Outcome) →
+        Meets old event → Step old event outcome new → Works old →
+        Works new × (new.work ≡ old.work) }
+    ensures live { (state : State (Keys C)) (lane : ℕ) (o : Open) → IsSound state → Works state →
+        state.broken ≡ false → open_at state.lanes lane ≡ Some o → has_lock o.ask ≡ true →
+        Holds state lane → IsClient state lane →
+        (b : ℕ) → o.range.start ≤ b → b < o.range.end → IsLive state b }
+{}
+
+/// The keys of a volume whose sectors divide its blocks seal and open block by block, and each
+/// undoes the other.
 pub fn keys_seal_lawfully<C: SectorCipher>()
     ensures { (keys : Keys C) (atom : ℕ) → IsAtom atom →
         atom % C.sector keys.old ≡ 0 → atom % C.sector keys.new ≡ 0 →
         AreLawful atom (seals_of C.sealed C.opened atom keys) }
 {}
 
-/// A lane's own calls tell what it is. Steps whose calls meet their conditions lane by lane, each by that
-/// lane's own calls alone, are a run; after it the operation of each lane, what it has in plain and what it
-/// was granted are those that its own calls tell, and under it was answered what they answer. So where the
-/// next call meets its conditions by its own lane's calls, it meets them in the state.
+/// A lane's own calls tell what it is. Steps whose calls meet their conditions lane by lane, each
+/// by that lane's own calls alone, are a run; after it the operation of each lane, what it has in
+/// plain and what it was granted are those that its own calls tell, and under it was answered what
+/// they answer. So where the next call meets its conditions by its own lane's calls, it meets them
+/// in the state.
 pub fn lanes_are_alone<C: SectorCipher>()
     ensures runs { (start : State (Keys C)) (seals : Seals) (run : List (Happening (Keys C))) →
         IsSound start → IsFresh start → AreSteps start run → AreMetByLanes start seals run →
@@ -92,7 +118,8 @@ pub fn lanes_are_alone<C: SectorCipher>()
     ensures next { (start : State (Keys C)) (seals : Seals) (run : List (Happening (Keys C)))
         (event : Event) → IsSound start → IsFresh start → AreSteps start run →
         AreMetByLanes start seals run → IsClient start (lane_of event) →
-        MeetsAlone (alone_in start seals (lane_of event) run) event → Meets (last_of start run) event }
+        MeetsAlone (alone_in start seals (lane_of event) run) event
+        → Meets (last_of start run) event }
     ensures more { (start : State (Keys C)) (seals : Seals) (run : List (Happening (Keys C)))
         (one : Happening (Keys C)) → AreMetByLanes start seals run →
         IsClient start (lane_of one.event) →
@@ -100,8 +127,8 @@ pub fn lanes_are_alone<C: SectorCipher>()
         AreMetByLanes start seals (run ++ one ∷ []) }
 {}
 
-/// Where nothing was executed nothing was done, and two executions, one after the other, are one. What was
-/// executed are the operations that were answered, whatever their sessions.
+/// Where nothing was executed nothing was done, and two executions, one after the other, are one.
+/// What was executed are the operations that were answered, whatever their sessions.
 pub fn executions_join<C: SectorCipher>()
     ensures none { (seals : Seals) (state : State (Keys C)) → Executes seals state state [] [] }
     ensures joined { (seals : Seals) (old middle new : State (Keys C))
@@ -140,27 +167,30 @@ pub fn runs_fail_by_faults<C: SectorCipher>()
         IsFresh start → IsRun start run → BreaksByFaults start run }
 {}
 
-/// Each block of a volume has a place of its own where its two segments don't meet. They may meet where
-/// a conversion forward moves each block to a place no later than its old one, and where one backward
-/// moves each to a place no earlier. With an open zone or without, since a zone is still in the old
-/// segment.
+/// Each block of a volume has a place of its own where its two segments don't meet. They may meet
+/// where a conversion forward moves each block to a place no later than its old one, and where one
+/// backward moves each to a place no earlier. With an open zone or without, since a zone is still
+/// in the old segment.
 pub fn maps_are_apart()
     ensures forward { (map : Map) → map.direction ≡ Forward →
-        (map.new_place ≤ map.old_place) ⊎ (map.old_place + map.blocks ≤ map.new_place) → AreApart map }
+        (map.new_place ≤ map.old_place) ⊎ (map.old_place + map.blocks ≤ map.new_place)
+        → AreApart map }
     ensures backward { (map : Map) → map.direction ≡ Backward →
-        (map.old_place ≤ map.new_place) ⊎ (map.new_place + map.blocks ≤ map.old_place) → AreApart map }
+        (map.old_place ≤ map.new_place) ⊎ (map.new_place + map.blocks ≤ map.old_place)
+        → AreApart map }
 {}
 
-/// Where each atom of a disk that tells its tables held its value for certain, each of its images stands
-/// for the blocks that its bytes stand for, under any map and any keys.
+/// Where each atom of a disk that tells its tables held its value for certain, each of its images
+/// stands for the blocks that its bytes stand for, under any map and any keys.
 pub fn settled_volumes_are_covered<C: SectorCipher>()
     ensures { (start : State (Keys C)) (seals : Seals) (blocks : List Block) (bytes : List ℕ) →
-        Starts start seals blocks bytes → TellsSettled start bytes → StartsCovered start seals blocks }
+        Starts start seals blocks bytes → TellsSettled start bytes
+        → StartsCovered start seals blocks }
 {}
 
 /// A volume of any map, with any keys that seal lawfully, stands for a plain disk: the one whose
-/// blocks hold for certain what its keys open of their atoms. So every volume that was made of a disk
-/// that tells its bytes is one from which runs start.
+/// blocks hold for certain what its keys open of their atoms. So every volume that was made of a
+/// disk that tells its bytes is one from which runs start.
 pub fn volumes_start<C: SectorCipher>()
     ensures { (start : State (Keys C)) (seals : Seals) (bytes : List ℕ) →
         IsSound start → IsFresh start → AreApart start.map → AreLawful start.map.atom seals →
@@ -180,9 +210,29 @@ pub fn contents_are_one()
         IsSealed map seals b other (value_in image (place_in map b)) → one ≡ other }
 {}
 
-/// The volume of a whole disk as it is stands for the plain disk that holds the disk's own atoms for
-/// certain. Where each atom of a disk that tells its tables held its value for certain, so does each
-/// image.
+/// An image of a volume stands for at most one content: one of a volume without a header by the
+/// volume's own map, one of a volume with a header by the header that the image has. What is said
+/// of live blocks one by one is, without a header, said of the whole: the current bytes stand for a
+/// content that the blocks hold now, and each image of the table for one that is allowed.
+pub fn images_stand<C: SectorCipher>()
+    ensures one { (reading : Reading) (state : State (Keys C)) (seals : Seals)
+        (image : ℕ → List ℕ) (one other : ℕ → List ℕ) → IsReader reading.reader →
+        AreLawful state.map.atom seals → Stands reading state seals image one →
+        Stands reading state seals image other →
+        (b : ℕ) → b < state.map.blocks → one b ≡ other b }
+    ensures now { (reading : Reading) (state : State (Keys C)) (seals : Seals)
+        (plain : ℕ → List ℕ) (blocks : List Block) (bytes : List ℕ) → state.work ≡ None →
+        StandsNow state seals plain blocks bytes →
+        StandsForNow reading state seals plain blocks bytes }
+    ensures stops { (reading : Reading) (state : State (Keys C)) (seals : Seals)
+        (plain : ℕ → List ℕ) (blocks : List Block) (cells : List Cell) → state.work ≡ None →
+        StopsAllowed state seals plain blocks cells →
+        StandsAllowed reading state seals plain blocks cells }
+{}
+
+/// The volume of a whole disk as it is stands for the plain disk that holds the disk's own atoms
+/// for certain. Where each atom of a disk that tells its tables held its value for certain, so does
+/// each image.
 pub fn plain_volumes_start<C: SectorCipher>()
     ensures starts { (start : State (Keys C)) (seals : Seals) (bytes : List ℕ) →
         IsSound start → IsFresh start → AreApart start.map →

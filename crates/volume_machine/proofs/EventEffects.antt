@@ -1,5 +1,7 @@
 -- What each event leaves.
-use Rattle.std.proofs.Common.{◌≡◌, inl, inr, ℕ, ◌+◌, ◌/◌, ◌||◌, Bool, true, false, if◌then◌else◌, List, [], ◌∷◌, ◌++◌, length, Option, Some, None, MatchOption, MatchBool, refl, sym, ◌∙◌, ap, arith}
+use Rattle.std.proofs.Common.{◌≡◌, inl, inr, ℕ, ◌+◌, ◌/◌, ◌||◌, Bool, true, false, if◌then◌else◌}
+use Rattle.std.proofs.Common.{List, [], ◌∷◌, ◌++◌, length, Option, Some, None, MatchOption}
+use Rattle.std.proofs.Common.{MatchBool, refl, sym, ◌∙◌, ap, arith}
 use Rattle.std.proofs.Math.Nat.{mul-div_cancel}
 use Rattle.block_range.specs.declared.BlockRange.{BlockRange}
 use Rattle.range_lock.specs.declared.Entry.{Entry}
@@ -13,11 +15,15 @@ use Rattle.segment_map.specs.declared.map.Map.{Map}
 use Rattle.segment_map.specs.declared.map.Piece.{Piece}
 use Rattle.volume_machine.specs.Alone.{passed, opened_as, open_after}
 use Rattle.volume_machine.specs.Asks.{has_lock, entry_of, wrong_ask, range_of}
-use Rattle.volume_machine.specs.Effects.{is_fault, breaks, entered, entries_after, Grows, DiskGoes, Effects}
-use Rattle.volume_machine.specs.Events.{Event, admits, asks, reads, writes, settles, finishes, lane_of, Outcome, held, waits, refused, got, done, device, broken}
+use Rattle.volume_machine.specs.Effects.{is_fault, breaks, entered, entries_after, Grows, DiskGoes}
+use Rattle.volume_machine.specs.Effects.{Effects}
+use Rattle.volume_machine.specs.Events.{Event, admits, asks, reads, writes, settles, finishes}
+use Rattle.volume_machine.specs.Events.{lane_of, Outcome, held, waits, refused, got, done, device}
+use Rattle.volume_machine.specs.Events.{broken}
 use Rattle.volume_machine.specs.Pieces.{IsPieceOf, ArePieceBytes, moved, failing, settling}
 use Rattle.volume_machine.specs.States.{State, open_at, size_of, begun}
-use Rattle.volume_machine.specs.Steps.{Step, Goes, IsAdmitted, TellsStanding, ReadStep, WriteStep, SettleStep, after_settle}
+use Rattle.volume_machine.specs.Steps.{Step, Goes, IsAdmitted, TellsStanding, ReadStep, WriteStep}
+use Rattle.volume_machine.specs.Steps.{SettleStep, after_settle}
 use Rattle.volume_machine.specs.declared.ask.Ask.{Ask}
 use Rattle.volume_machine.specs.declared.open.Open.{Open}
 use Rattle.volume_machine.proofs.Locking.{either}
@@ -136,6 +142,7 @@ module _ {K : Type 0} (old new : State K) where
     lane_is = rw (same, now) (record { count = refl; own = refl; others = λ k other. refl });
     broken_is = ap (λ s. s.broken) same ∙ or_false old.broken
         ∙ ap (λ b. old.broken || b) (sym whole);
+    work = ap (λ s. s.work) same;
     disk = rests_go (is_fault outcome) old.disk new.disk fine (ap (λ s. s.disk) same);
   }
 
@@ -157,6 +164,7 @@ module _ {K : Type 0} (old new : State K) where
       others = goes.lane_is.others;
     };
     broken_is = goes.broken_is ∙ broken_so;
+    work = goes.work;
     disk = disk;
   }
 

@@ -10,16 +10,22 @@ use Rattle.volume_machine.specs.declared.keys.Keys.{Keys}
 -- blocks are whole sectors where a block is
 pub whole-blocks : (count atom sector : ℕ) → atom % sector ≡ 0 → (count * atom) % sector ≡ 0
 whole-blocks count atom sector whole =
-    sym (mul-mod_second count atom sector) ∙ rw whole (let none : count * 0 ≡ 0 * sector = omega arith in rw none (mul-mod_left 0 sector))
+    sym (mul-mod_second count atom sector)
+    ∙ rw whole (let none : count * 0 ≡ 0 * sector = omega arith in rw none (mul-mod_left 0 sector))
 
-pub side-whole : {C : Type 0} (sector : C → ℕ) (keys : Keys C) (atom blocks len count : ℕ) (side : Side) → KeysFit sector keys atom blocks →
+pub side-whole : {C : Type 0} (sector : C → ℕ) (keys : Keys C) (atom blocks len count : ℕ)
+    (side : Side) → KeysFit sector keys atom blocks →
     len ≡ count * atom → len % sector (key_of keys side) ≡ 0
-side-whole sector keys atom blocks len count Old fit size = rw size (whole-blocks count atom (sector keys.old) fit.old_sector)
-side-whole sector keys atom blocks len count Zone fit size = rw size (whole-blocks count atom (sector keys.old) fit.old_sector)
-side-whole sector keys atom blocks len count New fit size = rw size (whole-blocks count atom (sector keys.new) fit.new_sector)
+side-whole sector keys atom blocks len count Old fit size =
+    rw size (whole-blocks count atom (sector keys.old) fit.old_sector)
+side-whole sector keys atom blocks len count Zone fit size =
+    rw size (whole-blocks count atom (sector keys.old) fit.old_sector)
+side-whole sector keys atom blocks len count New fit size =
+    rw size (whole-blocks count atom (sector keys.new) fit.new_sector)
 
 -- the numbers of fewer blocks fit too
-pub fewer-blocks : {C : Type 0} (sector : C → ℕ) (keys : Keys C) (atom blocks n : ℕ) → n ≤ blocks → KeysFit sector keys atom blocks → KeysFit sector keys atom n
+pub fewer-blocks : {C : Type 0} (sector : C → ℕ) (keys : Keys C) (atom blocks n : ℕ) → n ≤ blocks
+    → KeysFit sector keys atom blocks → KeysFit sector keys atom n
 fewer-blocks sector keys atom blocks n few fit =
     let less : n * (atom / 512) ≤ blocks * (atom / 512) = mul-le-mul_right (atom / 512) few in
     let old = fit.old_numbers in

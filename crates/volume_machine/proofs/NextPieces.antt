@@ -1,38 +1,49 @@
 -- The next piece of an operation: there is only one, and it lies on the disk.
-use Rattle.std.proofs.Common.{◌≡◌, inl, inr, ℕ, suc, ◌+◌, ◌*◌, ◌<◌, ◌≤◌, Some, sym, ◌∙◌, ap, arith}
-use Rattle.std.proofs.Math.Nat.{mul-mod_left, mul-le-mul_right}
+use Rattle.std.proofs.Common.{◌≡◌, inl, inr, ℕ, suc, ◌+◌, ◌*◌, ◌<◌, ◌≤◌, Some, refl, sym, ◌∙◌, ap}
+use Rattle.std.proofs.Common.{subst, arith}
+use Rattle.std.proofs.Math.Nat.{mul-le-mul_right}
 use Rattle.std.proofs.lemmas.Bool.{cases_lt}
 use Rattle.block_range.specs.declared.BlockRange.{BlockRange}
-use Rattle.sector_disk.specs.Geometry.{IsInDisk}
 use Rattle.segment_map.specs.declared.Side.{Side}
 use Rattle.segment_map.specs.declared.Side.TheVariants.{Old, New, Zone}
 use Rattle.segment_map.specs.declared.map.Map.{Map}
 use Rattle.segment_map.specs.declared.map.Piece.{Piece}
-use Rattle.segment_map.specs.Maps.{IsNextPiece, side_at, place_on, place_at}
-use Rattle.volume_machine.specs.Pieces.{IsPieceOf, place_of, size_of_piece}
+use Rattle.segment_map.specs.Maps.{IsNextPiece, side_at, place_on, place_at, most_bytes}
+use Rattle.volume_machine.specs.Pieces.{AgreeOn, IsPieceOf, place_of}
 use Rattle.volume_machine.specs.Sound.{MapFits}
 use Rattle.volume_machine.specs.declared.open.Open.{Open}
 
-first_side : (m : Map) (range : BlockRange) (piece : Piece) → IsNextPiece m range piece → side_at m range.start ≡ Some piece.side
-first_side m range piece is = (let here = is.one_side 0 is.some in let e : range.start + 0 ≡ range.start = omega arith in rw e at here)
+first_side : (m : Map) (range : BlockRange) (piece : Piece) → IsNextPiece m range piece
+    → side_at m range.start ≡ Some piece.side
+first_side m range piece is =
+    (let here = is.one_side 0 is.some in let e : range.start + 0 ≡ range.start =
+    omega arith in rw e at here)
 
 side_of : (one other : Side) → Some one ≡ Some other → one ≡ other
 side_of one other is = cc
 
-same_side : (m : Map) (range : BlockRange) (p q : Piece) → IsNextPiece m range p → IsNextPiece m range q → p.side ≡ q.side
-same_side m range p q is_p is_q = side_of p.side q.side (sym (first_side m range p is_p) ∙ first_side m range q is_q)
+same_side : (m : Map) (range : BlockRange) (p q : Piece) → IsNextPiece m range p
+    → IsNextPiece m range q → p.side ≡ q.side
+same_side m range p q is_p is_q =
+    side_of p.side q.side (sym (first_side m range p is_p) ∙ first_side m range q is_q)
 
-no_longer : (m : Map) (range : BlockRange) (p q : Piece) → IsNextPiece m range p → IsNextPiece m range q → p.count < q.count → ⊥
+no_longer : (m : Map) (range : BlockRange) (p q : Piece) → IsNextPiece m range p
+    → IsNextPiece m range q → p.count < q.count → ⊥
 no_longer m range p q is_p is_q less = elim is_p.longest [
   | inl ends ↦ (let within = is_q.within in omega (arith, ends, within, less))
   | inr goes_on ↦ elim goes_on [
-    | inl full ↦ (let more : suc p.count * m.atom ≤ q.count * m.atom = mul-le-mul_right m.atom (omega (arith, less)) in
+    | inl full ↦
+        (let more : suc p.count * m.atom ≤ q.count * m.atom =
+        mul-le-mul_right m.atom (omega (arith, less)) in
         let limit = is_q.limit in omega (arith, full, more, limit))
-    | inr turns ↦ turns (is_q.one_side p.count less ∙ ap (λ (s : Side). Some s) (sym (same_side m range p q is_p is_q)))
+    | inr turns ↦
+        turns (is_q.one_side p.count less
+        ∙ ap (λ (s : Side). Some s) (sym (same_side m range p q is_p is_q)))
   ]
 ]
 
-same_count : (m : Map) (range : BlockRange) (p q : Piece) → IsNextPiece m range p → IsNextPiece m range q → p.count ≡ q.count
+same_count : (m : Map) (range : BlockRange) (p q : Piece) → IsNextPiece m range p
+    → IsNextPiece m range q → p.count ≡ q.count
 same_count m range p q is_p is_q = elim (cases_lt p.count q.count) [
   | inl less ↦ absurd (no_longer m range p q is_p is_q less)
   | inr most ↦ elim (cases_lt q.count p.count) [
@@ -44,37 +55,68 @@ same_count m range p q is_p is_q = elim (cases_lt p.count q.count) [
 piece_by : (p q : Piece) → p.first ≡ q.first → p.count ≡ q.count → p.side ≡ q.side → p ≡ q
 piece_by p q first count side =
     let at : ℕ → ℕ → Side → Piece = λ f n s. record { first = f; count = n; side = s } in
-    ap (λ (f : ℕ). at f p.count p.side) first ∙ ap (λ (n : ℕ). at q.first n p.side) count ∙ ap (λ (s : Side). at q.first q.count s) side
+    ap (λ (f : ℕ). at f p.count p.side) first ∙ ap (λ (n : ℕ). at q.first n p.side) count
+    ∙ ap (λ (s : Side). at q.first q.count s) side
 
 -- there is one next piece
-pub next_is_one : (m : Map) (range : BlockRange) (p q : Piece) → IsNextPiece m range p → IsNextPiece m range q → p ≡ q
+pub next_is_one : (m : Map) (range : BlockRange) (p q : Piece) → IsNextPiece m range p
+    → IsNextPiece m range q → p ≡ q
 next_is_one m range p q is_p is_q =
-    piece_by p q (is_p.first ∙ sym is_q.first) (same_count m range p q is_p is_q) (same_side m range p q is_p is_q)
+    piece_by p q (is_p.first ∙ sym is_q.first) (same_count m range p q is_p is_q)
+    (same_side m range p q is_p is_q)
 
 -- the place of its first block is its own
-place_found : (m : Map) (block place : ℕ) (side : Side) → side_at m block ≡ Some side → place_at m block ≡ Some place → place ≡ place_on m block side
+place_found : (m : Map) (block place : ℕ) (side : Side) → side_at m block ≡ Some side
+    → place_at m block ≡ Some place → place ≡ place_on m block side
 place_found m block place side at is = (let found = rw at at is in cc)
 
-pub place-of : (m : Map) (o : Open) (piece : Piece) (place : ℕ) → IsPieceOf m o piece → place_at m piece.first ≡ Some place → place ≡ place_of m piece
+pub place-of : (m : Map) (o : Open) (piece : Piece) (place : ℕ) → IsPieceOf m o piece
+    → place_at m piece.first ≡ Some place → place ≡ place_of m piece
 place-of m o piece place next is =
     place_found m piece.first place piece.side (rw next.first (first_side m _ piece next)) is
 
 -- it lies on the disk
-pub on_disk : (map : Map) (atoms first count : ℕ) (side : Side) → MapFits map atoms → first + count ≤ map.blocks → place_on map first side + count ≤ atoms
-on_disk map atoms first count Old fits within = (let places = fits.old_places in omega (arith, places, within))
-on_disk map atoms first count Zone fits within = (let places = fits.old_places in omega (arith, places, within))
-on_disk map atoms first count New fits within = (let places = fits.new_places in omega (arith, places, within))
+pub on_disk : (map : Map) (atoms first count : ℕ) (side : Side) → MapFits map atoms
+    → first + count ≤ map.blocks → place_on map first side + count ≤ atoms
+on_disk map atoms first count Old fits within =
+    (let places = fits.old_places in omega (arith, places, within))
+on_disk map atoms first count Zone fits within =
+    (let places = fits.old_places in omega (arith, places, within))
+on_disk map atoms first count New fits within =
+    (let places = fits.new_places in omega (arith, places, within))
 
-in_bytes : (atom at n atoms : ℕ) → at + n ≤ atoms → at * atom + n * atom ≤ atoms * atom
-in_bytes atom at n atoms within = (let le : (at + n) * atom ≤ atoms * atom = mul-le-mul_right atom within in omega (arith, le))
+-- maps that have the blocks of a range alike
+pub agrees_itself : (range : BlockRange) (map : Map) → AgreeOn range map map
+agrees_itself range map =
+    record { atom = refl; sides = λ b from to. refl; places = λ b from to. refl }
 
-pub piece-on-disk : (map : Map) (atoms size place len : ℕ) (o : Open) (piece : Piece) → MapFits map atoms → IsPieceOf map o piece →
-    o.range.end ≤ map.blocks → map.atom ≡ size → place ≡ place_of map piece → len ≡ size_of_piece map piece → IsInDisk size atoms place len
-piece-on-disk map atoms size place len o piece fits next inside atom at long =
-    let first = next.first in
-    let within = next.within in
-    let on : place + piece.count ≤ atoms = rw at (on_disk map atoms piece.first piece.count piece.side fits (omega (arith, first, within, inside))) in
-    rw (← atom, long) (record {
-      whole = mul-mod_left piece.count map.atom;
-      within = in_bytes map.atom place piece.count atoms on;
-    })
+pub agrees_now : (range : BlockRange) (one other now : Map) → now ≡ other → AgreeOn range one other
+    → AgreeOn range one now
+agrees_now range one other now same agree = subst (λ m. AgreeOn range one m) (sym same) agree
+
+-- they have one next piece
+pub next_agrees : (one other : Map) (range all : BlockRange) (piece : Piece) → AgreeOn all one other
+    → all.start ≤ range.start → range.end ≤ all.end →
+    IsNextPiece one range piece → IsNextPiece other range piece
+next_agrees one other range all piece agree from to next = record {
+  first = next.first;
+  some = next.some;
+  within = next.within;
+  one_side =
+      λ k below. sym
+      (agree.sides (range.start + k) (omega (arith, from))
+      (let within = next.within in omega (arith, below, within, to))) ∙ next.one_side k below;
+  limit = subst (λ a. piece.count * a ≤ most_bytes) agree.atom next.limit;
+  longest = elim next.longest [
+    | inl ends ↦ inl ends
+    | inr (inl full) ↦ inr (inl (subst (λ a. most_bytes < suc piece.count * a) agree.atom full))
+    | inr (inr turns) ↦ elim (cases_lt (range.start + piece.count) range.end) [
+      | inl inside ↦
+          inr (inr
+          (λ same. turns
+          (agree.sides (range.start + piece.count) (omega (arith, from)) (omega (arith, inside, to))
+          ∙ same)))
+      | inr ends ↦ inl (let within = next.within in omega (arith, ends, within))
+    ]
+  ];
+}

@@ -1,14 +1,17 @@
 -- What a lane is by its own calls alone. Nothing here reads a state: all is computed from the
 -- lane's events and their outcomes, the bytes of a block, and the volume's seals.
-use Rattle.std.specs.Prelude.{ℕ, ◌≡◌, ◌+◌, ◌/◌, true, List, [], ◌∷◌, ◌++◌, length, Option, Some, None, option_map}
+use Rattle.std.specs.Prelude.{ℕ, ◌≡◌, ◌+◌, ◌/◌, true, List, [], ◌∷◌, ◌++◌, length, Option, Some}
+use Rattle.std.specs.Prelude.{None, option_map}
 use Rattle.segment_map.specs.declared.map.Map.{Map}
 use Rattle.volume_machine.specs.Answers.{Answered, answers}
 use Rattle.volume_machine.specs.Asks.{has_lock}
-use Rattle.volume_machine.specs.Events.{Event, admits, asks, reads, writes, settles, finishes, Outcome, held, waits, got, done, device, broken}
+use Rattle.volume_machine.specs.Events.{Event, admits, asks, reads, writes, settles, finishes}
+use Rattle.volume_machine.specs.Events.{Outcome, held, waits, got, done, device, broken}
 use Rattle.volume_machine.specs.Pieces.{side_in, failing, settling}
 use Rattle.volume_machine.specs.Seals.{Seals}
 use Rattle.volume_machine.specs.States.{begun}
-use Rattle.volume_machine.specs.Steps.{HasOpen, CanRead, CanWrite, CanSettle, CanFinish, after_settle}
+use Rattle.volume_machine.specs.Steps.{HasOpen, CanRead, CanWrite, CanSettle, CanFinish}
+use Rattle.volume_machine.specs.Steps.{after_settle}
 use Rattle.volume_machine.specs.declared.ask.Ask.{Ask}
 use Rattle.volume_machine.specs.declared.open.Open.{Open}
 

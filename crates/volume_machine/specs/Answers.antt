@@ -1,5 +1,6 @@
 -- Operations that were answered, and what they are to a plain disk.
-use Rattle.std.specs.Prelude.{ℕ, ◌≡◌, ◌==◌, if◌then◌else◌, List, [], ◌∷◌, length, take, Option, Some, None}
+use Rattle.std.specs.Prelude.{ℕ, ◌≡◌, ◌==◌, if◌then◌else◌, List, [], ◌∷◌, length, take, Option}
+use Rattle.std.specs.Prelude.{Some, None}
 use Rattle.base_terms.specs.ErrorNumbers.{device_error}
 use Rattle.plain_disk.specs.declared.operation.Op.{Op}
 use Rattle.plain_disk.specs.declared.operation.Op.TheVariants as Ops

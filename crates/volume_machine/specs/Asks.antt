@@ -1,5 +1,6 @@
 -- What operations ask for: their blocks, how they lock them, and which are wrong.
-use Rattle.std.specs.Prelude.{ℕ, ◌≡◌, ◌+◌, ◌/◌, ◌<◌, true, Bool, false, Option, Some, None, nat_lt, if◌then◌else◌}
+use Rattle.std.specs.Prelude.{ℕ, ◌≡◌, ◌+◌, ◌/◌, ◌<◌, true, Bool, false, Option, Some, None, nat_lt}
+use Rattle.std.specs.Prelude.{if◌then◌else◌}
 use Rattle.base_terms.specs.ErrorNumbers.{invalid, no_space}
 use Rattle.block_range.specs.declared.BlockRange.{BlockRange}
 use Rattle.plain_disk.specs.Operations.{wrong_range_of}
@@ -12,7 +13,8 @@ use Rattle.volume_machine.specs.declared.ask.Ask.TheVariants.{Read, Write, Flush
 -- the blocks that it reads or writes
 abbrev pub range_of : ℕ → Ask → BlockRange
 range_of atom (Read offset len) = record { start = offset / atom; end = offset / atom + len / atom }
-range_of atom (Write offset len fua) = record { start = offset / atom; end = offset / atom + len / atom }
+range_of atom (Write offset len fua) =
+    record { start = offset / atom; end = offset / atom + len / atom }
 range_of atom Flush = record { start = 0; end = 0 }
 
 -- a read has its blocks with others, a write for itself

@@ -8,11 +8,12 @@ use Rattle.segment_map.specs.declared.Side.{Side}
 use Rattle.segment_map.specs.declared.Side.TheVariants.{New}
 use Rattle.sector_disk.specs.Devices.{Device}
 
--- no lane has an operation, nothing is locked, and nothing has failed
+-- no lane has an operation, nothing is locked, nothing has failed, and no zone is at hand
 pub record IsFresh {K : Type 0} (state : State K) : Type 0 where
   pub lanes : (lane : ℕ) → open_at state.lanes lane ≡ None
   pub entries : state.entries ≡ []
   pub unbroken : state.broken ≡ false
+  pub rests : state.work ≡ None
 
 -- seals that leave each text as it is
 pub record ChangeNothing (seals : Seals) : Type 0 where
@@ -28,6 +29,7 @@ new_volume map keys lanes disk = record {
   entries = [];
   lanes = replicate lanes None;
   broken = false;
+  work = None;
   disk = disk;
 }
 

@@ -1,5 +1,6 @@
 -- What an event leaves: all but the disk is computed from the event and its outcome.
-use Rattle.std.specs.Prelude.{ℕ, ◌≡◌, ◌≤◌, ◌⊎◌, ◌||◌, Bool, true, false, if◌then◌else◌, List, [], ◌∷◌, ◌++◌, Option, Some}
+use Rattle.std.specs.Prelude.{ℕ, ◌≡◌, ◌≤◌, ◌⊎◌, ◌||◌, Bool, true, false, if◌then◌else◌, List, []}
+use Rattle.std.specs.Prelude.{◌∷◌, ◌++◌, Option, Some}
 use Rattle.base_terms.specs.Causes.{Rose}
 use Rattle.range_lock.specs.declared.Entry.{Entry}
 use Rattle.range_lock.specs.Locks.{without}
@@ -7,7 +8,8 @@ use Rattle.sector_disk.specs.Devices.{Device}
 use Rattle.sector_disk.specs.Steps.{Told, then_table}
 use Rattle.volume_machine.specs.Alone.{open_after}
 use Rattle.volume_machine.specs.Asks.{has_lock, entry_of}
-use Rattle.volume_machine.specs.Events.{Event, admits, writes, settles, finishes, lane_of, Outcome, refused, device}
+use Rattle.volume_machine.specs.Events.{Event, admits, writes, settles, finishes, lane_of, Outcome}
+use Rattle.volume_machine.specs.Events.{refused, device}
 use Rattle.volume_machine.specs.States.{State, open_at, LaneBecomes}
 use Rattle.volume_machine.specs.declared.ask.Ask.{Ask}
 
@@ -59,4 +61,5 @@ pub record Effects {K : Type 0} (event : Event) (outcome : Outcome)
   pub lane_is : LaneBecomes old.lanes new.lanes (lane_of event)
       (open_after old.map.atom event outcome (open_at old.lanes (lane_of event)))
   pub broken_is : new.broken ≡ (old.broken || breaks event outcome)
+  pub work : new.work ≡ old.work
   pub disk : DiskGoes (is_fault outcome) old.disk new.disk

@@ -11,3 +11,5 @@ pub mod Seals
 pub mod Sound
 pub mod States
 pub mod Steps
+pub mod Working
+pub mod Works

@@ -1,5 +1,5 @@
 -- The pieces of an operation under way: runs of blocks on one side, in order.
-use Rattle.std.specs.Prelude.{ℕ, ◌≡◌, ◌*◌, ◌+◌, true, List, length, Option, Some, None}
+use Rattle.std.specs.Prelude.{ℕ, ◌≡◌, ◌*◌, ◌+◌, ◌<◌, ◌≤◌, true, List, length, Option, Some, None}
 use Rattle.block_range.specs.declared.BlockRange.{BlockRange}
 use Rattle.cipher_laws.specs.Bytes.{AreBytes}
 use Rattle.segment_map.specs.declared.Side.{Side}
@@ -20,6 +20,12 @@ side_in map block = known_side (side_at map block)
 
 abbrev pub place_in : Map → ℕ → ℕ
 place_in map block = place_on map block (side_in map block)
+
+-- two maps have the blocks of a range alike: of one size, and each on its side, at its place
+pub record AgreeOn (range : BlockRange) (one other : Map) : Type 0 where
+  pub atom : one.atom ≡ other.atom
+  pub sides : (b : ℕ) → range.start ≤ b → b < range.end → side_at one b ≡ side_at other b
+  pub places : (b : ℕ) → range.start ≤ b → b < range.end → place_in one b ≡ place_in other b
 
 -- the blocks that are left of an operation
 abbrev pub rest_of : Open → BlockRange

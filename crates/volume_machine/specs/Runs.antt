@@ -2,7 +2,8 @@
 use Rattle.std.specs.Prelude.{ℕ, ◌==◌, if◌then◌else◌, List, [], ◌∷◌, ◌++◌}
 use Rattle.volume_machine.specs.Alone.{opened_by}
 use Rattle.volume_machine.specs.Answers.{Answered, answers}
-use Rattle.volume_machine.specs.Events.{Event, admits, reads, writes, lane_of, Outcome, got, done, device}
+use Rattle.volume_machine.specs.Events.{Event, admits, reads, writes, lane_of, Outcome, got, done}
+use Rattle.volume_machine.specs.Events.{device}
 use Rattle.volume_machine.specs.Seals.{Seals}
 use Rattle.volume_machine.specs.States.{State, open_at}
 use Rattle.volume_machine.specs.Steps.{Step, Meets}
@@ -16,7 +17,8 @@ pub record Happening (K : Type 0) : Type 0 where
 -- events one after the other, each of which meets its conditions
 unfoldable pub IsRun : {K : Type 0} → State K → List (Happening K) → Type 0
 IsRun old [] = Unit {0}
-IsRun old (one ∷ rest) = Meets old one.event × Step old one.event one.outcome one.after × IsRun one.after rest
+IsRun old (one ∷ rest) =
+    Meets old one.event × Step old one.event one.outcome one.after × IsRun one.after rest
 
 -- the state that they left
 unfoldable pub last_of : {K : Type 0} → State K → List (Happening K) → State K
@@ -34,18 +36,24 @@ with_plain plain lane now k = if k == lane then now else plain k
 
 -- after a read of a piece, and after a write that came to the disk, whether it failed or not
 abbrev pub after_read : {K : Type 0} → Seals → State K → ℕ → Outcome → (ℕ → List ℕ) → ℕ → List ℕ
-after_read seals old lane (got sealed) plain = with_plain plain lane (plain lane ++ plain_piece seals old lane sealed)
+after_read seals old lane (got sealed) plain =
+    with_plain plain lane (plain lane ++ plain_piece seals old lane sealed)
 after_read seals old lane _ plain = plain
 
-abbrev pub after_write : {K : Type 0} → Seals → State K → ℕ → List ℕ → Outcome → (ℕ → List ℕ) → ℕ → List ℕ
-after_write seals old lane sealed done plain = with_plain plain lane (plain lane ++ plain_piece seals old lane sealed)
-after_write seals old lane sealed device plain = with_plain plain lane (plain lane ++ plain_piece seals old lane sealed)
+abbrev pub after_write : {K : Type 0} → Seals → State K → ℕ → List ℕ → Outcome → (ℕ → List ℕ) → ℕ
+    → List ℕ
+after_write seals old lane sealed done plain =
+    with_plain plain lane (plain lane ++ plain_piece seals old lane sealed)
+after_write seals old lane sealed device plain =
+    with_plain plain lane (plain lane ++ plain_piece seals old lane sealed)
 after_write seals old lane sealed _ plain = plain
 
-unfoldable pub plain_after : {K : Type 0} → Seals → State K → Event → Outcome → (ℕ → List ℕ) → ℕ → List ℕ
+unfoldable pub plain_after : {K : Type 0} → Seals → State K → Event → Outcome → (ℕ → List ℕ) → ℕ
+    → List ℕ
 plain_after seals old (admits lane session ask) outcome plain = with_plain plain lane []
 plain_after seals old (reads lane len) outcome plain = after_read seals old lane outcome plain
-plain_after seals old (writes lane sealed) outcome plain = after_write seals old lane sealed outcome plain
+plain_after seals old (writes lane sealed) outcome plain =
+    after_write seals old lane sealed outcome plain
 plain_after seals old _ outcome plain = plain
 
 -- what an event of a run answers
@@ -54,15 +62,18 @@ answered_by old event outcome plain =
     answers event outcome (open_at old.lanes (lane_of event)) (plain (lane_of event))
 
 -- all operations that were answered in a run, in order, and the plain after it
-unfoldable pub answered_in : {K : Type 0} → Seals → State K → (ℕ → List ℕ) → List (Happening K) → List Answered
+unfoldable pub answered_in : {K : Type 0} → Seals → State K → (ℕ → List ℕ) → List (Happening K)
+    → List Answered
 answered_in seals old plain [] = []
 answered_in seals old plain (one ∷ rest) =
     answered_by old one.event one.outcome plain
     ++ answered_in seals one.after (plain_after seals old one.event one.outcome plain) rest
 
-unfoldable pub plain_in : {K : Type 0} → Seals → State K → (ℕ → List ℕ) → List (Happening K) → ℕ → List ℕ
+unfoldable pub plain_in : {K : Type 0} → Seals → State K → (ℕ → List ℕ) → List (Happening K) → ℕ
+    → List ℕ
 plain_in seals old plain [] = plain
-plain_in seals old plain (one ∷ rest) = plain_in seals one.after (plain_after seals old one.event one.outcome plain) rest
+plain_in seals old plain (one ∷ rest) =
+    plain_in seals one.after (plain_after seals old one.event one.outcome plain) rest
 
 abbrev pub no_plain : ℕ → List ℕ
 no_plain lane = []

@@ -27,7 +27,8 @@ pub record Seals : Type 0 where
   pub opened : Side → ℕ → List ℕ → List ℕ
 
 -- keys as seals of blocks of `atom` bytes, over what a key makes of sectors
-abbrev pub seals_of : {C : Type 0} → (C → ℕ → List ℕ → List ℕ) → (C → ℕ → List ℕ → List ℕ) → ℕ → Keys C → Seals
+abbrev pub seals_of : {C : Type 0} → (C → ℕ → List ℕ → List ℕ) → (C → ℕ → List ℕ → List ℕ) → ℕ
+    → Keys C → Seals
 seals_of seal unseal atom keys = record {
   sealed = λ side block bytes. seal (key_of keys side) (number_of keys atom side block) bytes;
   opened = λ side block bytes. unseal (key_of keys side) (number_of keys atom side block) bytes;
@@ -46,7 +47,8 @@ pub record AreLawful (atom : ℕ) (seals : Seals) : Type 0 where
   -- each block of a run is opened as it is by itself
   pub each_opened : (side : Side) (block count : ℕ) (bytes : List ℕ) → AreBlocks atom count bytes →
       (k : ℕ) → k < count →
-      block_at atom (seals.opened side block bytes) k ≡ seals.opened side (block + k) (block_at atom bytes k)
+      block_at atom (seals.opened side block bytes) k
+      ≡ seals.opened side (block + k) (block_at atom bytes k)
 
 -- the IV numbers of all blocks of a volume fit 64 bits, and sectors divide a block
 pub record KeysFit {C : Type 0} (sector : C → ℕ) (keys : Keys C) (atom blocks : ℕ) : Type 0 where

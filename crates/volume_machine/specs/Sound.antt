@@ -1,5 +1,6 @@
 -- What holds of a volume between any two events.
-use Rattle.std.specs.Prelude.{ℕ, ◌≡◌, suc, ◌+◌, ◌*◌, ◌<◌, ◌≤◌, ◌^◌, Bool, false, if◌then◌else◌, List, [], ◌∷◌, length, find, Option, Some, None}
+use Rattle.std.specs.Prelude.{ℕ, ◌≡◌, suc, ◌+◌, ◌*◌, ◌<◌, ◌≤◌, ◌^◌, Bool, false, if◌then◌else◌}
+use Rattle.std.specs.Prelude.{List, [], ◌∷◌, length, find, Option, Some, None}
 use Rattle.std.specs.List.{after_first}
 use Rattle.range_lock.specs.declared.Entry.{Entry}
 use Rattle.range_lock.specs.Locks.{is_of}
@@ -49,6 +50,7 @@ pub record IsSound {K : Type 0} (state : State K) : Type 0 where
   pub room : state.room ≡ length state.lanes
   pub some : 0 < length state.lanes
   pub count : length state.entries ≡ count_locks state.lanes
-  pub entries : (lane : ℕ) → find (is_of lane) state.entries ≡ entry_in state.map.atom lane (open_at state.lanes lane)
+  pub entries : (lane : ℕ)
+      → find (is_of lane) state.entries ≡ entry_in state.map.atom lane (open_at state.lanes lane)
   pub once : (lane : ℕ) → find (is_of lane) (after_first (is_of lane) state.entries) ≡ None
   pub under_way : (lane : ℕ) (o : Open) → open_at state.lanes lane ≡ Some o → IsUnderWay state.map o

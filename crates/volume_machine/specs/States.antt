@@ -1,14 +1,17 @@
 -- A volume between two events.
-use Rattle.std.specs.Prelude.{ℕ, suc, ◌≡◌, ◌<◌, false, List, Option, None, ◌≢◌, ◌*◌, Bool, length, slice_index_or}
+use Rattle.std.specs.Prelude.{ℕ, suc, ◌≡◌, ◌<◌, ◌≤◌, false, List, Option, None, ◌≢◌, ◌*◌, Bool}
+use Rattle.std.specs.Prelude.{length, slice_index_or, IsSomeAnd}
 use Rattle.range_lock.specs.declared.Entry.{Entry}
 use Rattle.segment_map.specs.declared.map.Map.{Map}
 use Rattle.volume_machine.specs.Asks.{range_of}
 use Rattle.volume_machine.specs.declared.ask.Ask.{Ask}
 use Rattle.volume_machine.specs.declared.open.Open.{Open}
+use Rattle.volume_machine.specs.Works.{Work}
 use Rattle.sector_disk.specs.Devices.{Device}
 
 -- the map of its blocks, the keys of its sides, the table of locks and its room, the open operation
--- of each lane, whether a write or a sync has failed, and its disk, whose atoms are the map's
+-- of each lane, whether a write or a sync has failed, the conversion's work, where there is a
+-- header, and its disk, whose atoms are the map's
 pub record State (K : Type 0) : Type 0 where
   pub map : Map
   pub keys : K
@@ -16,6 +19,7 @@ pub record State (K : Type 0) : Type 0 where
   pub entries : List Entry
   pub lanes : List (Option Open)
   pub broken : Bool
+  pub work : Option Work
   pub disk : Device
 
 -- the volume's bytes
@@ -40,6 +44,14 @@ begun atom session ask = record {
 -- a lane of clients: the last one is the conversion's own
 abbrev pub IsClient : {K : Type 0} → State K → ℕ → Type 0
 IsClient state lane = suc lane < length state.lanes
+
+-- the zone at hand governs a block: it knows it by its steps; every other block is live
+abbrev pub IsGoverned : {K : Type 0} → State K → ℕ → Type 0
+IsGoverned state b = IsSomeAnd state.work (λ work. (work.range.start ≤ b) × (b < work.range.end))
+
+pub record IsLive {K : Type 0} (state : State K) (b : ℕ) : Type 0 where
+  pub inside : b < state.map.blocks
+  pub free : IsGoverned state b → ⊥
 
 -- the lane's operation changed, and no other
 pub record LaneBecomes (old new : List (Option Open)) (lane : ℕ) (now : Option Open) : Type 0 where

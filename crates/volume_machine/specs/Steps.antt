@@ -1,5 +1,6 @@
 -- One event: what it asks of the state before, and what it leaves.
-use Rattle.std.specs.Prelude.{ℕ, ◌≡◌, ◌<◌, ◌⊎◌, Bool, true, false, List, [], ◌∷◌, ◌++◌, Option, Some, None, MatchOption, if◌then◌else◌, Result}
+use Rattle.std.specs.Prelude.{ℕ, ◌≡◌, ◌<◌, ◌⊎◌, Bool, true, false, List, [], ◌∷◌, ◌++◌, Option}
+use Rattle.std.specs.Prelude.{Some, None, MatchOption, if◌then◌else◌, Result}
 use Rattle.std.specs.Bool.{MatchBool}
 use Rattle.base_terms.specs.ErrorNumbers.{device_error}
 use Rattle.base_terms.specs.declared.failed.Failed.{Failed}
@@ -10,10 +11,14 @@ use Rattle.range_lock.specs.declared.Standing.TheVariants.{Held, Waiting}
 use Rattle.range_lock.specs.Locks.{IsStanding, IsStandingOf, without}
 use Rattle.segment_map.specs.declared.map.Map.{Map}
 use Rattle.segment_map.specs.declared.map.Piece.{Piece}
-use Rattle.volume_machine.specs.Asks.{IsRead, IsWrite, IsForced, range_of, has_lock, wrong_ask, entry_of}
+use Rattle.volume_machine.specs.Asks.{IsRead, IsWrite, IsForced, range_of, has_lock, wrong_ask}
+use Rattle.volume_machine.specs.Asks.{entry_of}
 use Rattle.sector_disk.specs.Devices.{ReadCall, WriteCall, SyncCall, succeeded, failed_call}
-use Rattle.volume_machine.specs.Events.{Event, admits, asks, reads, writes, settles, finishes, lane_of, Outcome, held, waits, refused, got, done, device, broken}
-use Rattle.volume_machine.specs.Pieces.{IsPieceOf, place_of, size_of_piece, ArePieceBytes, moved, failing, settling, IsComplete}
+use Rattle.volume_machine.specs.Events.{Event, admits, asks, reads, writes, settles, finishes}
+use Rattle.volume_machine.specs.Events.{lane_of, Outcome, held, waits, refused, got, done, device}
+use Rattle.volume_machine.specs.Events.{broken}
+use Rattle.volume_machine.specs.Pieces.{IsPieceOf, place_of, size_of_piece, ArePieceBytes, moved}
+use Rattle.volume_machine.specs.Pieces.{failing, settling, IsComplete}
 use Rattle.volume_machine.specs.States.{State, open_at, size_of, begun, IsClient, LaneBecomes}
 use Rattle.volume_machine.specs.declared.ask.Ask.{Ask}
 use Rattle.volume_machine.specs.declared.ask.Ask.TheVariants.{Flush}
@@ -44,6 +49,7 @@ pub record Goes {K : Type 0} (old new : State K) (lane : ℕ) (entries : List En
   pub entries_are : new.entries ≡ entries
   pub lane_is : LaneBecomes old.lanes new.lanes lane now
   pub broken_is : new.broken ≡ is_broken
+  pub work : new.work ≡ old.work
 
 -- no device call was made
 abbrev pub Rests : {K : Type 0} → State K → State K → Type 0

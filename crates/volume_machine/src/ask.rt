@@ -20,10 +20,10 @@ pub enum Ask {
 impl Ask {
     ghost use Rattle.volume_machine.specs.Asks.{range_of, kind_of, has_lock, wrong_ask};
 
-    /// The number with which it is refused on a volume of `size` bytes in blocks of `atom`: 22 for a
-    /// read of more than `MAX_READ` bytes, then 22 for an offset or length that isn't a multiple of
-    /// the block, then for a range past the end 22 for a read and 28 for a write. None of what isn't
-    /// wrong; a flush never is.
+    /// The number with which it is refused on a volume of `size` bytes in blocks of `atom`: 22 for
+    /// a read of more than `MAX_READ` bytes, then 22 for an offset or length that isn't a multiple
+    /// of the block, then for a range past the end 22 for a read and 28 for a write. None of what
+    /// isn't wrong; a flush never is.
     pub fn wrong(self, atom: u32, size: u64) -> Option<u32>
         requires { 0 < atom }
         ensures { result ≡ wrong_ask atom size self }

@@ -6,7 +6,8 @@ ghost use Rattle.segment_map.specs.Maps.{IsNextPiece};
 use block_range::BlockRange;
 use segment_map::{Map, Piece};
 
-/// The blocks of an operation, which lie in the volume, and the map that they have until its finish.
+/// The blocks of an operation, which lie in the volume, and the map that they have until its
+/// finish.
 #[derive(Clone, Copy, Debug, PartialEq, Eq)]
 pub struct Grant {
     /// The map of the volume.
@@ -17,8 +18,8 @@ pub struct Grant {
 }
 
 impl Grant {
-    /// The piece from block `at` on, which is a block of the range or its end: there is none exactly
-    /// at the end.
+    /// The piece from block `at` on, which is a block of the range or its end: there is none
+    /// exactly at the end.
     pub fn piece(&self, at: u64) -> Option<Piece>
         requires { at ≤ self.now.range.end }
         ensures { MatchOption result (at ≡ self.now.range.end)

@@ -6,8 +6,8 @@ ghost use Rattle.sector_disk.specs.Geometry.{IsAtom};
 use cipher_laws::SectorCipher;
 use segment_map::{Piece, Side};
 
-/// The keys of a volume: each side's cipher, and the IV number of the first 512 bytes of its segment.
-/// An open zone is the old segment's.
+/// The keys of a volume: each side's cipher, and the IV number of the first 512 bytes of its
+/// segment. An open zone is the old segment's.
 #[derive(Clone, Copy)]
 pub struct Keys<C> {
     pub old: C,

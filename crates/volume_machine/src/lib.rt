@@ -1,9 +1,9 @@
 //! A volume as a machine of events, without its code: its state between two events, what each event
-//! asks of it and leaves of it (`Meets` and `Step` of `specs/`), runs of events, and the operations that
-//! are answered in them. Beside these stand the types that the state is made of: what an operation asks
-//! for, an operation under way, the keys of the two sides, and a piece that is sealed for a write. The
-//! crate that has the disk in hand shows that each of its calls is a `Step`; the laws on runs are shown
-//! beside it from `Step` alone.
+//! asks of it and leaves of it (`Meets` and `Step` of `specs/`), runs of events, and the operations
+//! that are answered in them. Beside these stand the types that the state is made of: what an
+//! operation asks for, an operation under way, the keys of the two sides, and a piece that is
+//! sealed for a write. The crate that has the disk in hand shows that each of its calls is a
+//! `Step`; the laws on runs are shown beside it from `Step` alone.
 #![tactic(auto)]
 
 mod ask;

@@ -6,8 +6,8 @@ use crate::Ask;
 use block_range::BlockRange;
 use segment_map::Piece;
 
-/// The operation of a lane under way: the session that asked for it, its blocks, the first of them that
-/// no piece has covered yet, whether it was settled, and whether one of its events failed.
+/// The operation of a lane under way: the session that asked for it, its blocks, the first of them
+/// that no piece has covered yet, whether it was settled, and whether one of its events failed.
 #[derive(Clone, Copy, Debug, PartialEq, Eq)]
 pub struct Open {
     pub session: u64,

@@ -49,6 +49,7 @@ impl Plan {
     }
 
     /// The finish.
+    #[inline(always)]
     fn end(&mut self, now: Open) -> Next
         ensures next { result ≡ Nexts.Call Calls.Finish }
         ensures is { self.new ≡ record self.old { operation = now; stage = Stages.Ending } }
@@ -59,6 +60,7 @@ impl Plan {
     }
 
     /// The reply once the operation has finished.
+    #[inline(always)]
     pub(super) fn finished(&mut self) -> Next
         requires told { (seals : Seals) × IsTold seals self.old Answers.Done }
         requires stage { self.old.stage ≡ Stages.Ending }
@@ -81,6 +83,7 @@ impl Plan {
     }
 
     /// A reply, with the buffer that is left.
+    #[inline(always)]
     pub(super) fn reply(&mut self, reply: Reply) -> Next
         ensures next { result ≡ Nexts.Reply reply self.old.whole }
         ensures is { self.new ≡ record self.old { whole = [] } }

@@ -22,11 +22,12 @@ impl Plan {
     ghost use Rattle.volume_machine.specs.Seals.{KeysFit, Seals, seals_of};
     ghost use Rattle.lane_plan.specs.Plans.{Awaits, Goes, HasPlace, IsBack, IsBegun, IsOnly};
     ghost use Rattle.lane_plan.specs.Plans.{IsPart};
-    ghost use Rattle.lane_plan.specs.Plans.{IsTakenIn, IsTold, IsUnderWay, calls_left, place_in};
+    ghost use Rattle.lane_plan.specs.Plans.{IsTakenIn, IsTold, calls_left, place_in};
     ghost use Rattle.lane_plan.specs.declared.calls.Answer.TheVariants as Answers;
     ghost use Rattle.lane_plan.specs.declared.calls.Next.TheVariants as Nexts;
 
     /// The next call of an operation all of whose pieces so far were made.
+    #[inline(always)]
     pub(super) fn go_on<C: SectorCipher>(&mut self, keys: &Keys<C>, map: Map) -> Call
         requires fits { KeysFit C.sector keys.now self.old.shape.atom self.old.shape.blocks }
         requires back { (op : Op) × (alone : Alone) × IsBack self.old op alone map }
@@ -56,11 +57,11 @@ impl Plan {
     }
 
     /// The call after all pieces.
+    #[inline(always)]
     fn last_call(&mut self) -> Call
         requires all { self.old.operation.next ≡ self.old.operation.range.end }
         ensures awaits { (seals : Seals) (op : Op) (alone : Alone) (map : Map) →
-            IsUnderWay self.old.shape self.old.operation self.old.whole op alone map →
-            Awaits seals self.new op alone result }
+            IsBack self.old op alone map → Awaits seals self.new op alone result }
         ensures begun { IsBegun result }
         ensures fewer { calls_left self.new ≤ 1 }
         ensures shape { self.new.shape ≡ self.old.shape }
@@ -83,6 +84,7 @@ impl Plan {
     }
 
     /// The buffer of a piece: the whole one where it is all of the operation.
+    #[inline(always)]
     fn lent(&mut self, piece: Piece) -> Buffer
         requires { self.old.operation.range.start ≤ self.old.operation.range.end }
         ensures part { IsPart self.old.operation piece → (result ≡ self.old.part)
@@ -98,6 +100,7 @@ impl Plan {
     }
 
     /// The next piece of a body, which begins at byte `from` of it, sealed.
+    #[inline(always)]
     fn prepared<C: SectorCipher>(
         &mut self,
         keys: &Keys<C>,
@@ -129,6 +132,7 @@ impl Plan {
     }
 
     /// The buffer of a piece of a body, with its bytes at the front.
+    #[inline(always)]
     fn filled(&mut self, piece: Piece, from: usize, len: usize) -> Buffer
         requires order { self.old.operation.range.start ≤ self.old.operation.range.end }
         requires small { from + len < 2 ^ 63 }
@@ -159,6 +163,7 @@ impl Plan {
     }
 
     /// The next call once a piece was read.
+    #[inline(always)]
     pub(super) fn got<C: SectorCipher>(
         &mut self,
         keys: &Keys<C>,
@@ -187,6 +192,7 @@ impl Plan {
 
     /// Puts an opened piece behind those before it. One that is all of the operation lies where it
     /// is to.
+    #[inline(always)]
     fn take_in(&mut self, piece: Piece, buffer: Buffer, len: usize)
         requires order { self.old.operation.range.start ≤ self.old.operation.range.end }
         requires front { len ≤ length buffer }
@@ -207,6 +213,7 @@ impl Plan {
     }
 
     /// The next call once a piece was written.
+    #[inline(always)]
     pub(super) fn written<C: SectorCipher>(&mut self, keys: &Keys<C>, buffer: Buffer) -> Call
         requires fits { KeysFit C.sector keys.now self.old.shape.atom self.old.shape.blocks }
         requires told { IsTold (seals_of C.sealed C.opened self.old.shape.atom keys.now)
@@ -227,6 +234,7 @@ impl Plan {
     }
 
     /// Keeps the buffer of a piece that was written.
+    #[inline(always)]
     fn put_back(&mut self, piece: Piece, buffer: Buffer)
         requires { self.old.operation.range.start ≤ self.old.operation.range.end }
         ensures part { IsPart self.old.operation piece →

@@ -73,7 +73,8 @@ pub const USUAL: Case = Case {
     capacity: None,
 };
 
-pub const SESSIONS: &[Case] = &[
+/// However the bytes come, and however many go.
+pub const PIECES: &[Case] = &[
     Case {
         shows: "each request is answered however the bytes come",
         piece: 1,
@@ -105,6 +106,10 @@ pub const SESSIONS: &[Case] = &[
         calls: Some((4, 3)),
         ..USUAL
     },
+];
+
+/// A port without memory, and one that is spent.
+pub const PORTS: &[Case] = &[
     Case {
         shows: "a request without memory is answered so",
         left: &[GO],
@@ -129,6 +134,10 @@ pub const SESSIONS: &[Case] = &[
         put: &[GREETING, SIZE, BLOCK_SIZES, AGREED, WRITTEN],
         ..USUAL
     },
+];
+
+/// A sink that fails.
+pub const SINKS: &[Case] = &[
     Case {
         shows: "a session ends by a fault",
         room: 17,
@@ -201,6 +210,10 @@ pub const SESSIONS: &[Case] = &[
         put: &[GREETING],
         ..USUAL
     },
+];
+
+/// A source that fails.
+pub const SOURCES: &[Case] = &[
     Case {
         shows: "a session ends by a fault",
         room: 664,

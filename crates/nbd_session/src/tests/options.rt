@@ -11,7 +11,8 @@ use super::messages::{
 };
 use crate::Ending;
 
-pub const OPTIONS: &[Case] = &[
+/// How clients choose the export, or give up.
+pub const EXPORTS: &[Case] = &[
     Case {
         shows: "an export is chosen by its name",
         taken: &[FLAGS_WITH_ZEROES, EXPORT_NAME],
@@ -76,6 +77,10 @@ pub const OPTIONS: &[Case] = &[
         put: &[GREETING, ABORTED],
         ..USUAL
     },
+];
+
+/// GO that is refused.
+pub const REFUSED_NAMES: &[Case] = &[
     Case {
         shows: "an option is refused and the next one served",
         taken: &[FLAGS, GO_MALFORMED, EXPORT_NAME],
@@ -111,6 +116,10 @@ pub const OPTIONS: &[Case] = &[
         put: &[GREETING, GO_UNKNOWN, TOLD],
         ..USUAL
     },
+];
+
+/// Other options that are refused.
+pub const REFUSED_OPTIONS: &[Case] = &[
     Case {
         shows: "an option is refused and the next one served",
         taken: &[FLAGS, LIST, EXPORT_NAME],
@@ -146,6 +155,10 @@ pub const OPTIONS: &[Case] = &[
         put: &[GREETING, LONG_OPTION_UNSUPPORTED, TOLD],
         ..USUAL
     },
+];
+
+/// What is no option.
+pub const NO_OPTIONS: &[Case] = &[
     Case {
         shows: "an option that is none ends the session",
         taken: &[FLAGS, TOO_LONG_OPTION],

@@ -63,7 +63,8 @@ const USED: &[Part] = &[
     ("63", 1536),
 ];
 
-pub const REQUESTS: &[Case] = &[
+/// Requests of ranges that are refused, or have nothing to do.
+pub const REFUSED_RANGES: &[Case] = &[
     Case {
         taken: &[
             FLAGS,
@@ -113,6 +114,10 @@ pub const REQUESTS: &[Case] = &[
         put: &[GREETING, TOLD, READ_INVALID, FLUSHED],
         ..REFUSED
     },
+];
+
+/// Requests of other types and flags.
+pub const REFUSED_TYPES: &[Case] = &[
     Case {
         taken: &[FLAGS, EXPORT_NAME, UNKNOWN_TYPE, FLUSH, FLAGGED_DISCONNECT],
         put: &[GREETING, TOLD, READ_INVALID, FLUSHED],
@@ -145,6 +150,10 @@ pub const REQUESTS: &[Case] = &[
         put: &[GREETING, TOLD, WRITE_INVALID, FLUSHED],
         ..REFUSED
     },
+];
+
+/// What is no request.
+pub const NO_REQUESTS: &[Case] = &[
     Case {
         shows: "a message that is none ends the session",
         taken: &[FLAGS, EXPORT_NAME, TOO_LONG_WRITE],
@@ -161,6 +170,10 @@ pub const REQUESTS: &[Case] = &[
         put: &[GREETING, TOLD],
         ..USUAL
     },
+];
+
+/// Writes that are forced, or not.
+pub const FORCED: &[Case] = &[
     Case {
         shows: "a forced write is submitted so",
         taken: &[FLAGS, EXPORT_NAME, WRITE, BLOCK, FORCED_READ],
@@ -177,11 +190,13 @@ pub const REQUESTS: &[Case] = &[
         forced: true,
         ..USUAL
     },
-    Case {
-        shows: "a used buffer takes each body as it is",
-        taken: USING,
-        put: USED,
-        capacity: Some(2048),
-        ..USUAL
-    },
 ];
+
+/// Bodies of one length and another.
+pub const BUFFERS: &[Case] = &[Case {
+    shows: "a used buffer takes each body as it is",
+    taken: USING,
+    put: USED,
+    capacity: Some(2048),
+    ..USUAL
+}];

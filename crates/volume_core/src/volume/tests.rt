@@ -183,7 +183,8 @@ fn an_operation_is_judged_and_not_begun(rt: HostRuntime) -> Result<(), Fail> {
 }
 
 // The answers of two lanes on a disk whose device call of this number fails: lane 0 reads a block,
-// lane 1 writes it for certain, lane 0 flushes, and then lane 1 asks for a wrong write and for a block.
+// lane 1 writes it for certain, lane 0 flushes, and then lane 1 asks for a wrong write and for a
+// block.
 fn answers(alloc: Global, fails: u64) -> Result<[Answer; 11], Fail> {
     let mut volume = volume_of(MemDisk::new(alloc, 512, 16, 100, &[fails])?, alloc, 3)?;
     let kept = Ask::Write {

@@ -4,8 +4,11 @@ use Rattle.disk_areas.proofs.TextsHanded.{dated_step, dated_failed}
 use Rattle.disk_areas.proofs.laws.commits_keep_headers.Goals as goal
 
 pub returns-clause-gives : goal.returns-clause-gives
-returns-clause-gives c = λ atom atoms reader layout from to stage handed image broken view is_reader of_from of_to dated is genuine shows.
-    commit_gives atom atoms reader layout from to stage handed image is_reader of_from of_to dated is.laid is.whole is.takes genuine shows
+returns-clause-gives c =
+    λ atom atoms reader layout from to stage handed image broken view is_reader of_from of_to dated
+    is genuine shows.
+    commit_gives atom atoms reader layout from to stage handed image is_reader of_from of_to dated
+    is.laid is.whole is.takes genuine shows
 
 pub returns-clause-goes : goal.returns-clause-goes
 returns-clause-goes c = λ atom layout from to after stage old new apart shows. (
@@ -14,5 +17,7 @@ returns-clause-goes c = λ atom layout from to after stage old new apart shows. 
 )
 
 pub returns-clause-dated : goal.returns-clause-dated
-returns-clause-dated c = λ reader from to after stage handed of_to follows dated.
-    (dated_step reader from to after stage handed of_to follows dated, dated_failed reader from to stage handed of_to follows dated)
+returns-clause-dated c = λ reader from to after stage handed of_to follows dated. (
+  dated_step reader from to after stage handed of_to follows dated,
+  dated_failed reader from to stage handed of_to follows dated,
+)

@@ -1,10 +1,14 @@
-use Rattle.disk_areas.proofs.RepairSteps.{repair_gives, repair_writes, repair_write_fails, repair_synced, repair_sync_fails}
+use Rattle.disk_areas.proofs.RepairSteps.{repair_gives, repair_writes, repair_write_fails}
+use Rattle.disk_areas.proofs.RepairSteps.{repair_synced, repair_sync_fails}
 use Rattle.disk_areas.proofs.TextsHanded.{opening_past, repaired_past, past_dated}
 use Rattle.disk_areas.proofs.laws.repairs_keep_headers.Goals as goal
 
 pub returns-clause-gives : goal.returns-clause-gives
-returns-clause-gives c = λ atom atoms reader layout header bad handed image written broken view is_reader valid past is genuine shows.
-    repair_gives atom atoms reader layout header bad handed image is_reader valid past is.laid is.whole is.takes genuine shows
+returns-clause-gives c =
+    λ atom atoms reader layout header bad handed image written broken view is_reader valid past is
+    genuine shows.
+    repair_gives atom atoms reader layout header bad handed image is_reader valid past is.laid
+    is.whole is.takes genuine shows
 
 pub returns-clause-goes : goal.returns-clause-goes
 returns-clause-goes c = λ atom layout header to bad old new apart. (

@@ -13,9 +13,13 @@ loop-key-preserved c =
     let v = c.in-Some.value in
     let rest = c.next.new.self in
     let n = c.in-Some-decimal_number.number in
-    let is : number_of (string_bytes k) ≡ Some n = ap number_of (sym c.as_str.ensures.value) ∙ sym c.decimal_number.ensures ∙ c.in-Some-decimal_number.is in (
+    let is : number_of (string_bytes k) ≡ Some n =
+    ap number_of (sym c.as_str.ensures.value) ∙ sym c.decimal_number.ensures
+    ∙ c.in-Some-decimal_number.is in (
       tt,
       tt,
-      ap (λ r. numbered_from path (viewed r) (members_view rest)) c.in_ok-insert.ensures.entries ∙ numbered_more path es k v rest n is
-          ∙ ap (λ r. numbered_from path (viewed es) (members_view r)) (sym c.in-Some.ensures.steps) ∙ c.loop-key.invariant.2,
+      ap (λ r. numbered_from path (viewed r) (members_view rest)) c.in_ok-insert.ensures.entries
+          ∙ numbered_more path es k v rest n is
+          ∙ ap (λ r. numbered_from path (viewed es) (members_view r)) (sym c.in-Some.ensures.steps)
+          ∙ c.loop-key.invariant.2,
     )

@@ -10,9 +10,14 @@ returns-in-Err g c =
     let of = g.E.Entry.of c.args.terms.now in
     let path = c.args.path.now in
     let xs = c.loop-number.list.items in
-    let all : after xs (each_of of path ((c.in-Some.number, view c.in-Some.value) ∷ viewed c.next.new.self)) ≡ objects_in of path c.args.object =
-    ap (λ r. after xs (each_of of path (viewed r))) (sym c.in-Some.ensures.steps) ∙ c.loop-number.invariant.2 in
-    subst (Fails c.in-Err.e) all (each_fails of path xs (c.in-Some.number, view c.in-Some.value) (viewed c.next.new.self) c.in-Err.e c.in-Err.ensures)
+    let all : after xs
+    (each_of of path ((c.in-Some.number, view c.in-Some.value) ∷ viewed c.next.new.self))
+    ≡ objects_in of path c.args.object =
+    ap (λ r. after xs (each_of of path (viewed r))) (sym c.in-Some.ensures.steps)
+    ∙ c.loop-number.invariant.2 in
+    subst (Fails c.in-Err.e) all
+    (each_fails of path xs (c.in-Some.number, view c.in-Some.value) (viewed c.next.new.self)
+    c.in-Err.e c.in-Err.ensures)
 
 pub loop-number-preserved : goal.loop-number-preserved
 loop-number-preserved g c =
@@ -23,8 +28,10 @@ loop-number-preserved g c =
       tt,
       tt,
       ap (λ r. after r (each_of of path (viewed rest))) c.in_ok-push-in-Ok.ensures.items
-          ∙ each_more of path xs (c.in-Some.number, view c.in-Some.value) c.in-Ok.entry (viewed rest) c.in-Ok.ensures
-          ∙ ap (λ r. after xs (each_of of path (viewed r))) (sym c.in-Some.ensures.steps) ∙ c.loop-number.invariant.2,
+          ∙ each_more of path xs (c.in-Some.number, view c.in-Some.value) c.in-Ok.entry
+          (viewed rest) c.in-Ok.ensures
+          ∙ ap (λ r. after xs (each_of of path (viewed r))) (sym c.in-Some.ensures.steps)
+          ∙ c.loop-number.invariant.2,
     )
 
 pub returns : goal.returns
@@ -32,5 +39,6 @@ returns g c =
     let of = g.E.Entry.of c.args.terms.now in
     let path = c.args.path.now in
     let xs = c.loop-number.list.items in
-    sym c.loop-number.invariant.2 ∙ ap (λ r. after xs (each_of of path (viewed r))) c.in-None.ensures.steps.0
+    sym c.loop-number.invariant.2
+    ∙ ap (λ r. after xs (each_of of path (viewed r))) c.in-None.ensures.steps.0
     ∙ each_done of path xs ∙ ap Ok (sym c.new.ensures)

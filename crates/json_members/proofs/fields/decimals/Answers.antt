@@ -9,8 +9,12 @@ returns-in-Err c =
     let path = c.args.path.now in
     let vs = c.args.values.now in
     let i = c.loop-i.i in
-    let at = subst (λ v. Fails c.in-Err.e (decimal_item path i (view v))) c.index-values-i.is c.in-Err.ensures in
-    subst (Fails c.in-Err.e) c.loop-i.invariant (item_fails decimal_item path c.loop-i.found.items vs i c.index-values-i.result c.in-Err.e (omega arith) at)
+    let at =
+    subst (λ v. Fails c.in-Err.e (decimal_item path i (view v))) c.index-values-i.is
+    c.in-Err.ensures in
+    subst (Fails c.in-Err.e) c.loop-i.invariant
+    (item_fails decimal_item path c.loop-i.found.items vs i c.index-values-i.result c.in-Err.e
+    (omega arith) at)
 
 pub loop-i-preserved : goal.loop-i-preserved
 loop-i-preserved c =
@@ -18,9 +22,14 @@ loop-i-preserved c =
     let vs = c.args.values.now in
     let i = c.loop-i.i in
     let xs = c.loop-i.found.items in
-    ap (λ ys. after ys (each_item decimal_item path (i + 1) (items_view (drop (i + 1) vs)))) c.in_ok-push-in-Ok.ensures.items
-    ∙ item_more decimal_item path xs vs i c.index-values-i.result c.in-Ok.number (omega arith) (ap (λ v. decimal_item path i (view v)) (sym c.index-values-i.is) ∙ c.in-Ok.ensures)
+    ap (λ ys. after ys (each_item decimal_item path (i + 1) (items_view (drop (i + 1) vs))))
+    c.in_ok-push-in-Ok.ensures.items
+    ∙ item_more decimal_item path xs vs i c.index-values-i.result c.in-Ok.number (omega arith)
+    (ap (λ v. decimal_item path i (view v)) (sym c.index-values-i.is) ∙ c.in-Ok.ensures)
     ∙ c.loop-i.invariant
 
 pub returns : goal.returns
-returns c = sym c.loop-i.invariant ∙ items_done decimal_item c.args.path.now c.loop-i.found.items c.args.values.now c.loop-i.i c.loop-i-test.false
+returns c =
+    sym c.loop-i.invariant
+    ∙ items_done decimal_item c.args.path.now c.loop-i.found.items c.args.values.now c.loop-i.i
+    c.loop-i-test.false

@@ -6,4 +6,5 @@ use Rattle.json_members.proofs.fields.decimals.Given as goal
 
 abbrev pub invariant-loop-i : goal.invariant-loop-i
 invariant-loop-i l =
-    after l.found.items (each_item decimal_item l.path l.i (items_view (drop l.i l.values))) ≡ each_item decimal_item l.path 0 (items_view l.values)
+    after l.found.items (each_item decimal_item l.path l.i (items_view (drop l.i l.values)))
+    ≡ each_item decimal_item l.path 0 (items_view l.values)

@@ -12,14 +12,20 @@ loop-key-preserved c =
     let done = l.invariant.2.0 in
     let e : Entry = (c.in-Some.key.now, c.in-Some.member.now) in
     let left = c.next.new.self in
-    let all : c.args.members.now.entries ≡ done ++ e ∷ left = l.invariant.2.1 ∙ ap (λ es. done ++ es) c.in-Some.ensures.steps in
-    let last = put_last done e left (subst (λ es. IsStrictlySortedBy string_cmp (keys_of es)) all c.iter-key-items.ensures.ordered) in
+    let all : c.args.members.now.entries ≡ done ++ e ∷ left =
+    l.invariant.2.1 ∙ ap (λ es. done ++ es) c.in-Some.ensures.steps in
+    let last =
+    put_last done e left
+    (subst (λ es. IsStrictlySortedBy string_cmp (keys_of es)) all
+    c.iter-key-items.ensures.ordered) in
     let named : string_bytes c.in_ok-name.name ≡ string_bytes e.0 = c.in_ok-name.ensures.cases in (
       tt,
       tt,
       (
         done ++ e ∷ [],
         all ∙ sym (append_assoc done (e ∷ []) left),
-        ap members_view c.in_ok-insert.ensures.entries ∙ members_view-insert_entry l.copies.entries c.in_ok-name.name c.in_ok-clone.field-0 ∙ rw (named, c.in_ok-clone.ensures.cases, l.invariant.2.2) last,
+        ap members_view c.in_ok-insert.ensures.entries
+            ∙ members_view-insert_entry l.copies.entries c.in_ok-name.name c.in_ok-clone.field-0
+            ∙ rw (named, c.in_ok-clone.ensures.cases, l.invariant.2.2) last,
       ),
     )

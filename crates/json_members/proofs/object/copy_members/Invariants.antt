@@ -5,5 +5,7 @@ use Rattle.json_members.proofs.object.copy_members.Given as goal
 
 abbrev pub invariant-loop-key : goal.invariant-loop-key
 invariant-loop-key l =
-    (goal.iterator-loop-key).can_next l.key-iterator × (goal.iterator-loop-key).is_finite l.key-iterator
-    × ((done : List Entry) × (l.members.entries ≡ done ++ l.key-iterator) × (members_view l.copies.entries ≡ members_view done))
+    (goal.iterator-loop-key).can_next l.key-iterator
+    × (goal.iterator-loop-key).is_finite l.key-iterator
+    × ((done : List Entry) × (l.members.entries ≡ done ++ l.key-iterator)
+    × (members_view l.copies.entries ≡ members_view done))

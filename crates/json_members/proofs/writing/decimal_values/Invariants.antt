@@ -4,4 +4,5 @@ use Rattle.serde_json.specs.View.{view}
 use Rattle.json_members.proofs.writing.decimal_values.Given as goal
 
 abbrev pub invariant-loop-number : goal.invariant-loop-number
-invariant-loop-number l = map view l.values.items ≡ map (λ n. string (decimal n)) (take l.number-index l.numbers)
+invariant-loop-number l =
+    map view l.values.items ≡ map (λ n. string (decimal n)) (take l.number-index l.numbers)

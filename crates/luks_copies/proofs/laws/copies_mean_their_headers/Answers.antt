@@ -3,8 +3,10 @@ use Rattle.luks_copies.proofs.MeaningLemmas.{means_header, written_header}
 use Rattle.luks_copies.proofs.laws.copies_mean_their_headers.Goals as goal
 
 pub returns-clause-each : goal.returns-clause-each
-returns-clause-each c = λ place copy h is long. means_header c.copies_are_spelt.ensures place copy h is long
+returns-clause-each c =
+    λ place copy h is long. means_header c.copies_are_spelt.ensures place copy h is long
 
 pub returns-clause-both : goal.returns-clause-both
 returns-clause-both c = λ a b one two is_a is_b long_a long_b same agree.
-    written_header c.copies_are_spelt.ensures one.hdr_size a b one two refl same is_a is_b long_a long_b agree
+    written_header c.copies_are_spelt.ensures one.hdr_size a b one two refl same is_a is_b long_a
+    long_b agree

@@ -1,4 +1,6 @@
-use Rattle.luks_rules.proofs.PlainLemmas.{within, from_within, referred, from_referred, held, from_held, sectors, from_sectors, atoms, from_atoms, numbers, from_numbers}
+use Rattle.luks_rules.proofs.PlainLemmas.{within, from_within, referred, from_referred, held}
+use Rattle.luks_rules.proofs.PlainLemmas.{from_held, sectors, from_sectors, atoms, from_atoms}
+use Rattle.luks_rules.proofs.PlainLemmas.{numbers, from_numbers}
 use Rattle.luks_rules.proofs.laws.rules_are_plain.Goals as goal
 
 pub returns-clause-bounds : goal.returns-clause-bounds

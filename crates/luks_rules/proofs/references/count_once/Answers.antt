@@ -12,13 +12,20 @@ loop-number-preserved c = record {
   counted = λ n. elim c.if-branch.branch [
     | then-branch+in_ok-count_up w ↦
         ap (λ m. unwrap_or (map.get nat_cmp m n) 0) w.counts-is
-        ∙ counted_more c.args.numbers.now c.loop-number.number-index n (unwrap_or (map.get nat_cmp c.args.counts.now n) 0) (unwrap_or (map.get nat_cmp c.loop-number.counts n) 0) _
+        ∙ counted_more c.args.numbers.now c.loop-number.number-index n
+        (unwrap_or (map.get nat_cmp c.args.counts.now n) 0)
+        (unwrap_or (map.get nat_cmp c.loop-number.counts n) 0) _
         c.loop-number-test.true (c.loop-number.invariant.counted n)
-        (sym (c.loop-number.invariant.seen _) ∙ not-true _ (sym c.in_ok-insert.ensures.added ∙ w.if-branch.true)) (w.in_ok-count_up.ensures n)
+        (sym (c.loop-number.invariant.seen _)
+        ∙ not-true _ (sym c.in_ok-insert.ensures.added ∙ w.if-branch.true))
+        (w.in_ok-count_up.ensures n)
     | else-branch w ↦
         ap (λ m. unwrap_or (map.get nat_cmp m n) 0) w.counts-is
-        ∙ counted_again c.args.numbers.now c.loop-number.number-index n (unwrap_or (map.get nat_cmp c.args.counts.now n) 0) (unwrap_or (map.get nat_cmp c.loop-number.counts n) 0)
+        ∙ counted_again c.args.numbers.now c.loop-number.number-index n
+        (unwrap_or (map.get nat_cmp c.args.counts.now n) 0)
+        (unwrap_or (map.get nat_cmp c.loop-number.counts n) 0)
         c.loop-number-test.true (c.loop-number.invariant.counted n)
-        (sym (c.loop-number.invariant.seen _) ∙ not-false _ (sym c.in_ok-insert.ensures.added ∙ w.if-branch.false))
+        (sym (c.loop-number.invariant.seen _)
+        ∙ not-false _ (sym c.in_ok-insert.ensures.added ∙ w.if-branch.false))
   ];
 }

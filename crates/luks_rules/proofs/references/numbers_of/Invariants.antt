@@ -4,4 +4,5 @@ use Rattle.luks_rules.specs.References.{is_there}
 use Rattle.luks_rules.proofs.references.numbers_of.Given as goal
 
 abbrev pub invariant-loop-entry : goal.invariant-loop-entry
-invariant-loop-entry g l = (n : ℕ) → set.contains nat_cmp l.numbers n ≡ is_there (take l.entry-index l.entries) n
+invariant-loop-entry g l =
+    (n : ℕ) → set.contains nat_cmp l.numbers n ≡ is_there (take l.entry-index l.entries) n

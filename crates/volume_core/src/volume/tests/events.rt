@@ -37,7 +37,8 @@ pub(super) enum Answer {
 
 #[tactic(auto, unfolding(volume_machine::specs::Steps::Can))]
 pub(super) fn can_admit<D: Disk, C: SectorCipher + Copy>(volume: &Volume<D, C>, lane: u32) -> bool
-    ensures { (session : ℕ) (ask : Ask) → IsTrue result → Meets volume.now (admits lane session ask) }
+    ensures { (session : ℕ) (ask : Ask) → IsTrue result
+        → Meets volume.now (admits lane session ask) }
 {
     is_client(volume, lane) && open_in(volume, lane).is_none()
 }

@@ -15,9 +15,10 @@ use volume_machine::Ask;
 // How many blocks the disks have.
 const BLOCKS: u64 = 4;
 
-// The turns of each lane in an order. No plan has more events: an admit, a piece and a finish make a
-// read or a write, a settle is one more for a write that is to be kept for certain, and an admit and
-// a settle make a flush. A lane that waits asks again, and goes on in the same turn if it is held.
+// The turns of each lane in an order. No plan has more events: an admit, a piece and a finish make
+// a read or a write, a settle is one more for a write that is to be kept for certain, and an admit
+// and a settle make a flush. A lane that waits asks again, and goes on in the same turn if it is
+// held.
 const TURNS: u32 = 6;
 
 // The orders of so many turns of each of two lanes, 12 over 6 = 924, beside each of five plans.

@@ -7,7 +7,8 @@ use Rattle.volume_lane.proofs.LaneStart.{starts, told-first}
 use Rattle.volume_lane.proofs.executing.begin.Goals as goal
 
 pub admitted-answer-requires-clause-sound : goal.admitted-answer-requires-clause-sound
-admitted-answer-requires-clause-sound g c = (let (session, op, planned) = c.requires.plan in planned.sound)
+admitted-answer-requires-clause-sound g c =
+    (let (session, op, planned) = c.requires.plan in planned.sound)
 
 pub told-requires-clause-fits : goal.told-requires-clause-fits
 told-requires-clause-fits g c =
@@ -27,9 +28,12 @@ pub returns : goal.returns
 returns g c = λ session op planned.
     let step = rw c.first.ensures at c.admitted-answer.ensures.step in
     let keys = c.borrow_keys.ensures.is ∙ (stays c.args.volume.now _ _ _ step).1 in
-    starts (seals_of g.C.SectorCipher.sealed g.C.SectorCipher.opened c.args.volume.now.map.atom c.args.volume.now.keys)
-    c.args.volume.now _ c.args.plan.now c.told.new.self session op c.admitted-answer.result c.told.result planned
+    starts (seals_of g.C.SectorCipher.sealed g.C.SectorCipher.opened c.args.volume.now.map.atom
+    c.args.volume.now.keys)
+    c.args.volume.now _ c.args.plan.now c.told.new.self session op c.admitted-answer.result
+    c.told.result planned
     c.requires.idle c.requires.lanes step c.admitted-answer.ensures.may
     (subst (λ s. Goes s c.args.plan.now c.admitted-answer.result c.told.new.self c.told.result)
-    (seals-same g.C.SectorCipher.sealed g.C.SectorCipher.opened _ _ _ _ planned.atom keys) c.told.ensures.goes)
+    (seals-same g.C.SectorCipher.sealed g.C.SectorCipher.opened _ _ _ _ planned.atom keys)
+    c.told.ensures.goes)
     c.told.ensures.begun c.told.ensures.shape c.told.ensures.session

@@ -10,7 +10,8 @@ pub made-answer-requires-clause-meets : goal.made-answer-requires-clause-meets
 made-answer-requires-clause-meets g c =
     let (session, op, planned) = c.requires.plan in
     let way = rw c.in-Call.is at (c.calls.invariant session op planned) in
-    way-meets _ c.args.volume.now c.calls.volume c.calls.plan session op c.in-Call.call way c.requires.lanes
+    way-meets _ c.args.volume.now c.calls.volume c.calls.plan session op c.in-Call.call way
+    c.requires.lanes
 
 pub made-answer-requires-clause-made : goal.made-answer-requires-clause-made
 made-answer-requires-clause-made g c =
@@ -30,11 +31,15 @@ pub told-next-requires-clause-told : goal.told-next-requires-clause-told
 told-next-requires-clause-told g c =
     let (session, op, planned) = c.requires.plan in
     let way = rw c.in-Call.is at (c.calls.invariant session op planned) in
-    let keys = c.borrow_keys.ensures.is ∙ (stays c.calls.volume _ _ _ c.made-answer.ensures.step).1 ∙ way.course.keys in
+    let keys =
+    c.borrow_keys.ensures.is ∙ (stays c.calls.volume _ _ _ c.made-answer.ensures.step).1
+    ∙ way.course.keys in
     let atom = way.atom ∙ ap (λ (m : Map). m.atom) way.course.map in
     subst (λ s. IsTold s c.calls.plan c.made-answer.result)
     (sym (seals-same g.C.SectorCipher.sealed g.C.SectorCipher.opened _ _ _ _ atom keys))
-    (told-of (seals_of g.C.SectorCipher.sealed g.C.SectorCipher.opened c.args.volume.now.map.atom c.args.volume.now.keys)
+    (told-of
+    (seals_of g.C.SectorCipher.sealed g.C.SectorCipher.opened c.args.volume.now.map.atom
+    c.args.volume.now.keys)
     c.args.volume.now c.calls.volume c.calls.plan session op c.in-Call.call c.made-answer.result way
     (c.made-answer.ensures.may c.calls.plan))
 
@@ -42,18 +47,26 @@ pub calls-smaller : goal.calls-smaller
 calls-smaller g c =
     let (session, op, planned) = c.requires.plan in
     let way = rw c.in-Call.is at (c.calls.invariant session op planned) in
-    subst (λ n. left_of c.told-next.new.self c.told-next.result < left_of c.calls.plan n) (sym c.in-Call.is)
-    (left-falls c.calls.plan c.told-next.new.self c.in-Call.call c.made-answer.result c.told-next.result way.made
+    subst (λ n. left_of c.told-next.new.self c.told-next.result < left_of c.calls.plan n)
+    (sym c.in-Call.is)
+    (left-falls c.calls.plan c.told-next.new.self c.in-Call.call c.made-answer.result
+    c.told-next.result way.made
     (c.made-answer.ensures.may c.calls.plan) c.told-next.ensures.fewer)
 
 pub calls-preserved : goal.calls-preserved
 calls-preserved g c = λ session op planned.
     let way = rw c.in-Call.is at (c.calls.invariant session op planned) in
-    let keys = c.borrow_keys.ensures.is ∙ (stays c.calls.volume _ _ _ c.made-answer.ensures.step).1 ∙ way.course.keys in
+    let keys =
+    c.borrow_keys.ensures.is ∙ (stays c.calls.volume _ _ _ c.made-answer.ensures.step).1
+    ∙ way.course.keys in
     let atom = way.atom ∙ ap (λ (m : Map). m.atom) way.course.map in
-    goes-on (seals_of g.C.SectorCipher.sealed g.C.SectorCipher.opened c.args.volume.now.map.atom c.args.volume.now.keys)
-    c.args.volume.now c.calls.volume _ c.calls.plan c.told-next.new.self session op c.in-Call.call c.made-answer.result
-    c.told-next.result way c.requires.lanes c.made-answer.ensures.step (c.made-answer.ensures.may c.calls.plan)
+    goes-on (seals_of g.C.SectorCipher.sealed g.C.SectorCipher.opened c.args.volume.now.map.atom
+    c.args.volume.now.keys)
+    c.args.volume.now c.calls.volume _ c.calls.plan c.told-next.new.self session op c.in-Call.call
+    c.made-answer.result
+    c.told-next.result way c.requires.lanes c.made-answer.ensures.step
+    (c.made-answer.ensures.may c.calls.plan)
     (subst (λ s. Goes s c.calls.plan c.made-answer.result c.told-next.new.self c.told-next.result)
-    (seals-same g.C.SectorCipher.sealed g.C.SectorCipher.opened _ _ _ _ atom keys) c.told-next.ensures.goes)
+    (seals-same g.C.SectorCipher.sealed g.C.SectorCipher.opened _ _ _ _ atom keys)
+    c.told-next.ensures.goes)
     c.told-next.ensures.begun c.told-next.ensures.shape c.told-next.ensures.session

@@ -7,4 +7,5 @@ pub returns-clause-bytes : goal.returns-clause-bytes
 returns-clause-bytes c = one_content
 
 pub returns-clause-images : goal.returns-clause-images
-returns-clause-images c map seals image b one other = one_value map seals b one other (value_in image (place_in map b))
+returns-clause-images c map seals image b one other =
+    one_value map seals b one other (value_in image (place_in map b))

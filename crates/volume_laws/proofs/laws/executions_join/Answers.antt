@@ -9,4 +9,5 @@ pub returns-clause-joined : goal.returns-clause-joined
 returns-clause-joined c _ = executes_joined
 
 pub returns-clause-untagged : goal.returns-clause-untagged
-returns-clause-untagged c _ seals old new run history executed = tagged-exchanges _ history (executed.answers no_plain)
+returns-clause-untagged c _ seals old new run history executed =
+    tagged-exchanges _ history (executed.answers no_plain)

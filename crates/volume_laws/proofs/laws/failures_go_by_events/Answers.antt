@@ -6,4 +6,5 @@ pub returns-clause-at_the_end : goal.returns-clause-at_the_end
 returns-clause-at_the_end c _ = goes_by_events
 
 pub returns-clause-along : goal.returns-clause-along
-returns-clause-along c _ start earlier later fresh is = goes_by_events start earlier fresh (run-front start earlier later is)
+returns-clause-along c _ start earlier later fresh is =
+    goes_by_events start earlier fresh (run-front start earlier later is)

@@ -6,4 +6,5 @@ use Rattle.joined_disk.proofs.joined.JoinedDisk.with.Goals as goal
 pub returns-clause-tells : goal.returns-clause-tells
 returns-clause-tells g c = λ front told of_head of_main.
     ap joint_told c.of.ensures.joint
-    ∙ begun_tells (g.D.Disk.device c.args.head) (g.D.Disk.device c.args.main) front told of_head of_main
+    ∙ begun_tells (g.D.Disk.device c.args.head) (g.D.Disk.device c.args.main) front told of_head
+    of_main

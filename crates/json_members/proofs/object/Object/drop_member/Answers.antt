@@ -6,5 +6,6 @@ use Rattle.json_members.proofs.object.Object.drop_member.Goals as goal
 
 pub returns : goal.returns
 returns c =
-    ap members_view c.remove.ensures.entries ∙ removed c.args.name.now c.self.inside.map.entries c.len-ordered.ensures.ordered
+    ap members_view c.remove.ensures.entries
+    ∙ removed c.args.name.now c.self.inside.map.entries c.len-ordered.ensures.ordered
     ∙ ap (without c.args.name.now) c.self.view_is

@@ -6,5 +6,6 @@ use Rattle.json_members.proofs.object.Object.get.Goals as goal
 
 pub returns : goal.returns
 returns c =
-    view_of_ref c.get.result ∙ ap (option_map view) c.get.ensures.value ∙ view-lookup c.args.name.now c.self.inside.map.entries
+    view_of_ref c.get.result ∙ ap (option_map view) c.get.ensures.value
+    ∙ view-lookup c.args.name.now c.self.inside.map.entries
     ∙ ap (get_member c.args.name.now) c.self.view_is

@@ -1,13 +1,12 @@
 use Rattle.std.proofs.Common.{sym, ◌∙◌}
-use Rattle.lane_plan.proofs.PlanEnds.{goes-failed, ends-failed}
-use Rattle.lane_plan.proofs.PlanFewer.{fewer-failed}
+use Rattle.lane_plan.proofs.PlanEnds.{goes-failed, ends-failed, fewer-failed, some-settled}
 use Rattle.lane_plan.proofs.plan.Plan.failed.Goals as goal
 
 pub returns-in-Some-clause-goes : goal.returns-in-Some-clause-goes
 returns-in-Some-clause-goes c = λ seals answer fails.
     rw (c.end.ensures.next, c.end.ensures.is)
-    (goes-failed seals c.args.self.now _ answer fails
-    (rw c.failing.ensures at (sym c.after_settle.ensures ∙ c.in-Some.is)))
+    (goes-failed seals c.args.self.now _ answer fails (some-settled _ _ _
+    (rw c.failing.ensures at (sym c.after_settle.ensures ∙ c.in-Some.is))))
 
 pub returns-in-Some-clause-fewer : goal.returns-in-Some-clause-fewer
 returns-in-Some-clause-fewer c =

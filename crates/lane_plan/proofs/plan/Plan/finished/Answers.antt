@@ -1,11 +1,11 @@
-use Rattle.lane_plan.proofs.PlanEnds.{goes-done, goes-finished-failed, goes-read, has-content}
-use Rattle.lane_plan.proofs.PlanEnds.{no-read}
+use Rattle.std.proofs.Common.{refl}
+use Rattle.lane_plan.proofs.PlanEnds.{content-is, done-is, goes-finished, has-content}
 use Rattle.lane_plan.proofs.plan.Plan.finished.Goals as goal
 
 pub returns-then-self-clause-goes : goal.returns-then-self-clause-goes
-returns-then-self-clause-goes c = λ seals.
-    rw (c.reply.ensures.next, c.reply.ensures.is)
-    (goes-finished-failed seals c.args.self.now c.requires.stage c.if-self.true)
+returns-then-self-clause-goes c = λ seals. rw (c.reply.ensures.next, c.reply.ensures.is)
+    (goes-finished seals c.args.self.now _ _ _ c.requires.stage
+    (λ op alone ending. rw c.if-self.true refl))
 
 pub into_text-content-requires : goal.into_text-content-requires
 into_text-content-requires c =
@@ -22,11 +22,11 @@ returns-in-Read-clause-goes c = λ seals.
       c.new-in-Read.ensures,
       c.new.ensures.items,
     )
-    (goes-read seals c.args.self.now c.in-Read.offset c.in-Read.length c.requires.stage
-    c.if-self.false c.in-Read.is)
+    (goes-finished seals c.args.self.now _ _ _ c.requires.stage (λ op alone ending. content-is
+    c.args.self.now op alone c.in-Read.offset c.in-Read.length ending c.if-self.false c.in-Read.is))
 
 pub returns-in-Write-clause-goes : goal.returns-in-Write-clause-goes
 returns-in-Write-clause-goes c = λ seals.
     rw (c.reply-in-Write.ensures.next, c.reply-in-Write.ensures.is)
-    (goes-done seals c.args.self.now c.requires.stage c.if-self.false
-    (no-read c.args.self.now.operation.ask c.in-Write.is))
+    (goes-finished seals c.args.self.now _ _ _ c.requires.stage (λ op alone ending. done-is
+    c.args.self.now.operation alone.plain c.if-self.false c.in-Write.is))

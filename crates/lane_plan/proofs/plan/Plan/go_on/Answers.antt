@@ -1,22 +1,16 @@
 use Rattle.std.proofs.Common.{refl}
-use Rattle.volume_machine.specs.Seals.{seals_of}
-use Rattle.lane_plan.proofs.PlanFewer.{fewer-next}
-use Rattle.lane_plan.proofs.PlanPieces.{is-read, next-read}
-use Rattle.lane_plan.proofs.PlanWrites.{is-write, next-write}
+use Rattle.lane_plan.proofs.PlanCourse.{next-read}
+use Rattle.lane_plan.proofs.PlanMoves.{fewer-next}
+use Rattle.lane_plan.proofs.PlanCourse.{next-write}
 use Rattle.lane_plan.proofs.plan.Plan.go_on.Goals as goal
 
 pub returns-in-Read-clause-awaits : goal.returns-in-Read-clause-awaits
 returns-in-Read-clause-awaits g c = λ op alone back.
-    next-read (seals_of g.C.SectorCipher.sealed g.C.SectorCipher.opened c.args.self.now.shape.atom
-    c.args.keys.now) c.args.self.now c.lent.new.self op alone
-    c.args.map c.next_piece-piece.result c.lent.result _ back
-    (rw c.rest.ensures at c.next_piece-piece.ensures)
-    (is-read c.args.self.now.operation.ask c.in-Read.offset c.in-Read.length c.in-Read.is) refl
-    c.lent.ensures.part c.lent.ensures.whole
+    next-read back (rw c.rest.ensures at c.next_piece-piece.ensures) (rw c.in-Read.is tt) refl
+    c.lent.ensures.part c.lent.ensures.whole c.lent.ensures.same
 
 pub returns-in-Read-clause-fewer : goal.returns-in-Read-clause-fewer
-returns-in-Read-clause-fewer g c = fewer-next c.args.self.now c.lent.new.self c.args.map
-    c.next_piece-piece.result _ _ c.lent.ensures.same
+returns-in-Read-clause-fewer g c = fewer-next c.args.self.now c.lent.new.self c.lent.ensures.same
 
 pub returns-in-Write-clause-awaits : goal.returns-in-Write-clause-awaits
 returns-in-Write-clause-awaits g c = λ op alone back.
@@ -24,13 +18,12 @@ returns-in-Write-clause-awaits g c = λ op alone back.
     c.args.keys.now c.args.self.now c.prepared.new.self op alone c.args.map
     c.next_piece-piece.result c.prepared.result c.place_of-from.result _
     g.met.C.SectorCipher.unseal_undoes_seal c.requires.fits back
-    (rw c.rest.ensures at c.next_piece-piece.ensures)
-    (is-write c.args.self.now.operation.ask c.in-Write.offset c.in-Write.length c.in-Write.fua
-    c.in-Write.is) c.place_of-from.ensures refl
+    (rw c.rest.ensures at c.next_piece-piece.ensures) (rw c.in-Write.is tt)
+    c.place_of-from.ensures refl
     c.prepared.ensures.bytes c.prepared.ensures.length c.prepared.ensures.are_bytes
     c.prepared.ensures.plain c.prepared.ensures.room c.prepared.ensures.rest
     c.prepared.ensures.same
 
 pub returns-in-Write-clause-fewer : goal.returns-in-Write-clause-fewer
-returns-in-Write-clause-fewer g c = fewer-next c.args.self.now c.prepared.new.self c.args.map
-    c.next_piece-piece.result _ _ c.prepared.ensures.same
+returns-in-Write-clause-fewer g c = fewer-next c.args.self.now c.prepared.new.self
+    c.prepared.ensures.same

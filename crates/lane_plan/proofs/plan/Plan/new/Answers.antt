@@ -12,7 +12,7 @@ returns-clause-awaits c = λ seals alone none.
     let len : c.len_of-len.result ≡ bytes_of (ask_of c.args.op) = c.len_of-len.ensures
     ∙ ap (λ a. bytes_of a) c.ask_of-ask.ensures in
     let room : c.min.result ≡ part_of c.args.shape.atom (ask_of c.args.op) = search rules in
-    awaits-admit seals _ c.args.op alone c.args.session c.args.shape c.of-plan.result.whole
+    awaits-admit _ c.args.op c.args.session c.args.shape c.of-plan.result.whole
     c.of-plan.result.part c.len_of-len.result c.min.result none c.of-plan.ensures.session
     c.of-plan.ensures.asks c.of-plan.ensures.stage c.of-plan.ensures.shape c.requires proper
     c.of-plan.ensures.body len

@@ -2,6 +2,5 @@ use Rattle.lane_plan.proofs.PlanBegins.{awaits-refusal}
 use Rattle.lane_plan.proofs.plan.Plan.refused.Goals as goal
 
 pub returns-clause-awaits : goal.returns-clause-awaits
-returns-clause-awaits c = λ seals alone none.
-    awaits-refusal seals c.of.result c.args.op alone c.args.session none c.of.ensures.session
-    c.of.ensures.asks c.of.ensures.stage
+returns-clause-awaits c = λ seals alone none. awaits-refusal c.of.result c.args.op c.args.session
+    none c.of.ensures.session c.of.ensures.asks c.of.ensures.stage

@@ -1,6 +1,5 @@
 use Rattle.std.proofs.Common.{sym, ◌∙◌}
-use Rattle.lane_plan.proofs.PlanEnds.{goes-settled, ends-settled}
-use Rattle.lane_plan.proofs.PlanFewer.{fewer-settled}
+use Rattle.lane_plan.proofs.PlanEnds.{goes-settled, ends-settled, fewer-settled}
 use Rattle.lane_plan.proofs.plan.Plan.settled.Goals as goal
 
 pub returns-in-Some-clause-goes : goal.returns-in-Some-clause-goes

@@ -1,5 +1,5 @@
 use Rattle.base_terms.proofs.BlockLemmas.{blocks_of-replicate}
-use Rattle.plain_disk.proofs.StepFacts.{begins_settled}
+use Rattle.plain_disk.proofs.StepLemmas.{begins_settled}
 use Rattle.plain_disk.proofs.plain_disk.PlainDisk.new.Goals as goal
 
 pub returns-clause-zeros : goal.returns-clause-zeros

@@ -1,6 +1,6 @@
 use Rattle.std.proofs.Common.{length, arith}
-use Rattle.plain_disk.proofs.RangeFacts.{block_within}
-use Rattle.plain_disk.proofs.StepFacts.{block_read}
+use Rattle.plain_disk.proofs.RangeLemmas.{block_within}
+use Rattle.plain_disk.proofs.StepLemmas.{block_read}
 use Rattle.plain_disk.proofs.plain_disk.PlainDisk.newest.Goals as goal
 
 pub overflow_mul-from : goal.overflow_mul-from

@@ -1,5 +1,5 @@
 use Rattle.std.proofs.Common.{◌∙◌}
-use Rattle.plain_disk.proofs.StepFacts.{range_read}
+use Rattle.plain_disk.proofs.StepLemmas.{range_read}
 use Rattle.plain_disk.proofs.plain_disk.PlainDisk.read.Goals as goal
 
 pub returns : goal.returns

@@ -2,9 +2,9 @@ use Rattle.std.proofs.Common.{sym, subst}
 use Rattle.plain_disk.specs.Machine.{Steps}
 use Rattle.plain_disk.specs.declared.operation.Op.TheVariants.{Write, Flush}
 use Rattle.plain_disk.specs.declared.operation.Reply.TheVariants.{Done}
-use Rattle.plain_disk.proofs.StepFacts.{known_refusal, refusal_reply, refusal_steps}
-use Rattle.plain_disk.proofs.StepFacts.{proper_reply_is, read_replies, read_result_steps}
-use Rattle.plain_disk.proofs.StepFacts.{written_steps, flush_steps}
+use Rattle.plain_disk.proofs.StepLemmas.{known_refusal, refusal_reply, refusal_steps}
+use Rattle.plain_disk.proofs.StepLemmas.{proper_reply_is, read_replies, read_result_steps}
+use Rattle.plain_disk.proofs.StepLemmas.{written_steps, flush_steps}
 use Rattle.plain_disk.proofs.plain_disk.PlainDisk.step.Goals as goal
 
 pub returns-in-Some-clause-reply : goal.returns-in-Some-clause-reply

@@ -1,6 +1,6 @@
 use Rattle.std.proofs.Common.{◌≡◌, ◌*◌, length, sym, ap, ◌∙◌, subst, arith}
 use Rattle.base_terms.proofs.BlockLemmas.{length-blocks_of}
-use Rattle.plain_disk.proofs.StepFacts.{written_values}
+use Rattle.plain_disk.proofs.StepLemmas.{written_values}
 use Rattle.plain_disk.specs.Machine.{Machine}
 use Rattle.plain_disk.specs.Operations.{IsRange}
 use Rattle.plain_disk.proofs.plain_disk.PlainDisk.write.Goals as goal

@@ -1,101 +1,56 @@
-use Rattle.std.proofs.Common.{refl, ◌∙◌}
-use Rattle.volume_machine.specs.Events.{writes, done, device, broken}
-use Rattle.volume_core.proofs.CodePieceSteps.{writes-some, ends-inside, first-inside, write-bytes, piece-in-disk, write-done, write-device, write-broken}
-use Rattle.volume_core.proofs.CodeSteps.{runs-writes, volume-kept}
+use Rattle.std.proofs.Common.{refl}
+use Rattle.volume_machine.specs.Events.{writes}
+use Rattle.volume_machine.specs.Steps.{Can}
+use Rattle.volume_core.specs.Answers.{outcome_of_written}
+use Rattle.volume_core.proofs.CodePieceSteps.{can-write, write-step}
+use Rattle.volume_core.proofs.CodeSteps.{ends-inside, volume-kept}
 use Rattle.volume_core.proofs.volume.Volume.piece_write.Goals as goal
 
 pub open_of-open-requires : goal.open_of-open-requires
+unfolding Can
 open_of-open-requires g c =
-    let meets = rw (← c.self.view_is) at c.requires in
-    let (o, is, has) = runs-writes _ c.args.lane c.args.prepared.bytes meets in
+    let (o, is, can) = (rw (← c.self.view_is) at c.requires).can.0 in
     (o, rw c.deref.ensures.value is)
+
+pub write_next-written-requires-clause-inside : goal.write_next-written-requires-clause-inside
+write_next-written-requires-clause-inside g c =
+    let is = rw c.deref.ensures.value at c.open_of-open.ensures in
+    ends-inside _ c.args.lane c.self.invariant.sound _ is
+
+pub write_next-written-requires-clause-can : goal.write_next-written-requires-clause-can
+write_next-written-requires-clause-can g c =
+    let is = rw c.deref.ensures.value at c.open_of-open.ensures in
+    can-write _ c.args.lane _ c.args.prepared.bytes (rw (← c.self.view_is) at c.requires) is
 
 pub invariant_of-self : goal.invariant_of-self
 invariant_of-self g c =
     let is = rw c.deref.ensures.value at c.open_of-open.ensures in
-    volume-kept g.C.SectorCipher.sector _ _ _ _ (writes c.args.lane c.args.prepared.bytes) broken c.self.invariant (rw (← c.self.view_is) at c.requires)
-    (write-broken _ _ c.args.lane c.args.prepared.bytes c.open_of-open.result _ is c.if-self.true c.failing.ensures
-    (record { map = refl; keys = refl; room = refl; entries_are = refl; lane_is = c.set_lane.ensures; broken_is = c.if-self.true }) refl)
-    refl refl refl
+    volume-kept g.C.SectorCipher.sector _ _ (writes c.args.lane c.args.prepared.bytes)
+    (outcome_of_written c.write_next-written.result) c.self.invariant
+    (rw (← c.self.view_is) at c.requires)
+    (write-step _ _ c.args.lane _ _ c.args.prepared.bytes _ is
+    c.write_next-written.ensures.writes
+    (record {
+      map = refl;
+      keys = refl;
+      work = refl;
+      room = refl;
+      entries_are = refl;
+      lane_is = c.set_lane.ensures;
+      broken_is = c.write_next-written.ensures.breaks;
+    }))
 
-pub returns-then-self-clause-step : goal.returns-then-self-clause-step
-returns-then-self-clause-step g c =
+pub returns-clause-step : goal.returns-clause-step
+returns-clause-step g c =
     let is = rw c.deref.ensures.value at c.open_of-open.ensures in
-    rw (← c.self.view_is) (write-broken _ _ c.args.lane c.args.prepared.bytes c.open_of-open.result _ is c.if-self.true c.failing.ensures
-    (record { map = refl; keys = refl; room = refl; entries_are = refl; lane_is = c.set_lane.ensures; broken_is = c.if-self.true }) refl)
-
-pub next_piece-piece-requires-clause-some : goal.next_piece-piece-requires-clause-some
-next_piece-piece-requires-clause-some g c =
-    let is = rw c.deref.ensures.value at c.open_of-open.ensures in
-    rw c.rest.ensures (writes-some _ c.args.lane c.args.prepared.bytes c.open_of-open.result (rw (← c.self.view_is) at c.requires) is)
-
-pub next_piece-piece-requires-clause-within : goal.next_piece-piece-requires-clause-within
-next_piece-piece-requires-clause-within g c =
-    let is = rw c.deref.ensures.value at c.open_of-open.ensures in
-    rw c.rest.ensures (ends-inside _ c.args.lane c.open_of-open.result c.self.invariant.sound is)
-
-pub place-place-requires : goal.place-place-requires
-place-place-requires g c =
-    let is = rw c.deref.ensures.value at c.open_of-open.ensures in
-    let next = rw c.rest.ensures at c.next_piece-piece.ensures in
-    first-inside _ c.args.lane c.open_of-open.result c.next_piece-piece.result c.self.invariant.sound is next
-
-pub write-requires : goal.write-requires
-write-requires g c =
-    let is = rw c.deref.ensures.value at c.open_of-open.ensures in
-    let next = rw c.rest.ensures at c.next_piece-piece.ensures in
-    let are = write-bytes _ c.args.lane c.args.prepared.bytes c.open_of-open.result c.next_piece-piece.result (rw (← c.self.view_is) at c.requires) is next in
-    piece-in-disk _ c.args.lane c.place-place.result _ _ c.open_of-open.result c.next_piece-piece.result c.self.invariant.sound is next
-    c.place-place.ensures c.self.invariant.atom (rw c.as_slice.ensures are.size)
-
-pub invariant_of-self-in-Ok : goal.invariant_of-self-in-Ok
-invariant_of-self-in-Ok g c =
-    let is = rw c.deref.ensures.value at c.open_of-open.ensures in
-    let next = rw c.rest.ensures at c.next_piece-piece.ensures in
-    let meets = rw (← c.self.view_is) at c.requires in
-    let bytes = c.as_slice.ensures in
-    volume-kept g.C.SectorCipher.sector _ _ _ _ (writes c.args.lane c.args.prepared.bytes) done c.self.invariant meets
-    (write-done _ _ c.args.lane c.place-place.result _ c.args.prepared.bytes c.open_of-open.result _ c.next_piece-piece.result is c.if-self.false next
-    c.place-place.ensures c.self.invariant.atom (write-bytes _ c.args.lane c.args.prepared.bytes c.open_of-open.result c.next_piece-piece.result meets is next)
-    (rw bytes at c.in-Ok.ensures.call)
-    c.moved.ensures
-    (record { map = refl; keys = refl; room = refl; entries_are = refl; lane_is = c.set_lane-in-Ok.ensures; broken_is = c.if-self.false }))
-    c.in-Ok.ensures.call.size refl refl
-
-pub returns-in-Ok-clause-step : goal.returns-in-Ok-clause-step
-returns-in-Ok-clause-step g c =
-    let is = rw c.deref.ensures.value at c.open_of-open.ensures in
-    let next = rw c.rest.ensures at c.next_piece-piece.ensures in
-    let meets = rw (← c.self.view_is) at c.requires in
-    let bytes = c.as_slice.ensures in
-    rw (← c.self.view_is) (write-done _ _ c.args.lane c.place-place.result _ c.args.prepared.bytes c.open_of-open.result _ c.next_piece-piece.result is c.if-self.false next
-    c.place-place.ensures c.self.invariant.atom (write-bytes _ c.args.lane c.args.prepared.bytes c.open_of-open.result c.next_piece-piece.result meets is next)
-    (rw bytes at c.in-Ok.ensures.call)
-    c.moved.ensures
-    (record { map = refl; keys = refl; room = refl; entries_are = refl; lane_is = c.set_lane-in-Ok.ensures; broken_is = c.if-self.false }))
-
-pub invariant_of-self-in-Err : goal.invariant_of-self-in-Err
-invariant_of-self-in-Err g c =
-    let is = rw c.deref.ensures.value at c.open_of-open.ensures in
-    let next = rw c.rest.ensures at c.next_piece-piece.ensures in
-    let meets = rw (← c.self.view_is) at c.requires in
-    let bytes = c.as_slice.ensures in
-    volume-kept g.C.SectorCipher.sector _ _ _ _ (writes c.args.lane c.args.prepared.bytes) device c.self.invariant meets
-    (write-device _ _ c.args.lane c.place-place.result _ c.args.prepared.bytes c.open_of-open.result _ c.next_piece-piece.result is c.if-self.false next
-    c.place-place.ensures c.self.invariant.atom (write-bytes _ c.args.lane c.args.prepared.bytes c.open_of-open.result c.next_piece-piece.result meets is next)
-    (rw bytes at c.in-Err.ensures.call)
-    c.failing-in-Err.ensures
-    (record { map = refl; keys = refl; room = refl; entries_are = refl; lane_is = c.set_lane-in-Err.ensures; broken_is = refl }))
-    c.in-Err.ensures.call.size refl refl
-
-pub returns-in-Err-clause-step : goal.returns-in-Err-clause-step
-returns-in-Err-clause-step g c =
-    let is = rw c.deref.ensures.value at c.open_of-open.ensures in
-    let next = rw c.rest.ensures at c.next_piece-piece.ensures in
-    let meets = rw (← c.self.view_is) at c.requires in
-    let bytes = c.as_slice.ensures in
-    rw (← c.self.view_is) (write-device _ _ c.args.lane c.place-place.result _ c.args.prepared.bytes c.open_of-open.result _ c.next_piece-piece.result is c.if-self.false next
-    c.place-place.ensures c.self.invariant.atom (write-bytes _ c.args.lane c.args.prepared.bytes c.open_of-open.result c.next_piece-piece.result meets is next)
-    (rw bytes at c.in-Err.ensures.call)
-    c.failing-in-Err.ensures
-    (record { map = refl; keys = refl; room = refl; entries_are = refl; lane_is = c.set_lane-in-Err.ensures; broken_is = refl }))
+    rw (← c.self.view_is) (write-step _ _ c.args.lane _ _ c.args.prepared.bytes _ is
+    c.write_next-written.ensures.writes
+    (record {
+      map = refl;
+      keys = refl;
+      work = refl;
+      room = refl;
+      entries_are = refl;
+      lane_is = c.set_lane.ensures;
+      broken_is = c.write_next-written.ensures.breaks;
+    }))

@@ -1,0 +1,313 @@
+-- The next call of an operation all of whose pieces so far were made.
+use Rattle.std.proofs.Common.{◌≡◌, ◌⊎◌, inl, inr, ◌+◌, ◌-◌, ◌*◌, ◌<◌, ◌≤◌, ℕ, true, false, List, []}
+use Rattle.std.proofs.Common.{length, refl, sym, ◌∙◌, ap, subst, arith, ◌++◌, take, drop}
+use Rattle.std.proofs.Common.{length-append}
+use Rattle.std.proofs.lemmas.Bool.{cases_lt}
+use Rattle.std.proofs.lemmas.List.{nil_from_length, drop-append-le, length-drop, length-take-le}
+use Rattle.std.proofs.lemmas.List.{take-append-drop, take-append-le}
+use Rattle.plain_disk.specs.declared.operation.Op.{Op}
+use Rattle.plain_disk.specs.declared.operation.Op.TheVariants as Ops
+use Rattle.segment_map.specs.declared.map.Map.{Map}
+use Rattle.segment_map.specs.declared.map.Piece.{Piece}
+use Rattle.volume_machine.specs.Alone.{Alone}
+use Rattle.volume_machine.specs.Asks.{IsForced, IsRead, has_lock, IsWrite}
+use Rattle.volume_machine.specs.Pieces.{IsPieceOf}
+use Rattle.volume_machine.specs.Seals.{Seals, KeysFit, key_of, number_of, seals_of}
+use Rattle.volume_machine.specs.Steps.{CanSettle}
+use Rattle.volume_machine.specs.declared.ask.Ask.{Ask}
+use Rattle.volume_machine.specs.declared.ask.Ask.TheVariants.{Read, Write, Flush}
+use Rattle.volume_machine.specs.declared.open.Open.{Open}
+use Rattle.lane_plan.specs.Plans.{Awaits, reads, settles, finishes, HasPlain, IsBack, IsOnly}
+use Rattle.lane_plan.specs.Plans.{IsPart, IsUnderWay, Moves, MustSettle, bytes_of, writes, HasRest}
+use Rattle.lane_plan.specs.Plans.{IsSealed, place_in}
+use Rattle.lane_plan.specs.declared.calls.Call.TheVariants as Calls
+use Rattle.lane_plan.specs.declared.plan.Plan.{Plan}
+use Rattle.lane_plan.specs.declared.plan.Shape.{Shape}
+use Rattle.lane_plan.specs.declared.plan.Stage.TheVariants.{Moving, Settling, Ending}
+use Rattle.lane_plan.proofs.PlanSizes.{fits-part, rest-long, size-none, stays-within, total}
+use Rattle.std.proofs.Math.Seq.{take-add}
+use Rattle.cipher_laws.specs.Bytes.{AreBytes}
+use Rattle.cipher_laws.specs.Laws.{UndoesSectors}
+use Rattle.volume_machine.specs.Fronts.{Front}
+use Rattle.volume_machine.specs.declared.keys.Keys.{Keys}
+use Rattle.volume_machine.proofs.KeyLemmas.{side-whole}
+use Rattle.lane_plan.specs.Calls.{ask_of}
+
+-- no byte was read or written yet
+pub none-yet : (whole : List ℕ) (op : Op) → HasPlain whole op []
+none-yet whole (Ops.Read offset len) = refl
+none-yet whole (Ops.Write offset body fua) = refl
+none-yet whole Ops.Flush = refl
+
+-- with all pieces an operation has all its bytes
+pub all-bytes : {shape : Shape} {o : Open} {op : Op} {alone : Alone} {map : Map} →
+    IsUnderWay shape o op alone map → (o.range.end - o.range.start) * shape.atom ≡ bytes_of o.ask
+all-bytes {shape} {o} course =
+    rw course.range_is (total shape.atom (shape.blocks * shape.atom) o.ask course.proper)
+
+pub whole-size : {shape : Shape} {o : Open} {op : Op} {alone : Alone} {map : Map} →
+    IsUnderWay shape o op alone map → o.next ≡ o.range.end → length alone.plain ≡ bytes_of o.ask
+whole-size {shape} {o} course ends =
+    course.size ∙ ap (λ k. (k - o.range.start) * shape.atom) ends ∙ all-bytes course
+
+-- after all pieces comes the settle, or the finish
+can-settle : (o : Open) (ask : Ask) → o.ask ≡ ask → MustSettle ask → o.next ≡ o.range.end →
+    o.failed ≡ false → o.settled ≡ false → CanSettle o
+can-settle o (Read offset len) is must ends unfailed unsettled = absurd must
+can-settle o (Write offset len fua) is must ends unfailed unsettled =
+    inr (subst (λ a. IsForced a) (sym is) must, ends, unfailed, unsettled)
+can-settle o Flush is must ends unfailed unsettled = inl is
+
+not-forced : (ask : Ask) → (MustSettle ask → ⊥) → IsForced ask → ⊥
+not-forced (Write offset len fua) free forced = free forced
+not-forced _ free forced = forced
+
+locks-unsettled : (ask : Ask) → (MustSettle ask → ⊥) → has_lock ask ≡ true
+locks-unsettled Flush free = absurd (free tt)
+locks-unsettled _ free = refl
+
+pub last-settles : {seals : Seals} {plan : Plan} {op : Op} {alone : Alone} {map : Map} →
+    IsBack plan op alone map → MustSettle plan.operation.ask →
+    plan.operation.next ≡ plan.operation.range.end →
+    Awaits seals (record plan { stage = Settling }) op alone Calls.Settle
+last-settles {plan} {map} back must ends =
+    settles map refl back.course back.plain (can-settle plan.operation plan.operation.ask refl must
+    ends back.course.unfailed back.course.unsettled) ends
+
+pub last-finishes : {seals : Seals} {plan : Plan} {op : Op} {alone : Alone} {map : Map} →
+    IsBack plan op alone map → (MustSettle plan.operation.ask → ⊥) →
+    plan.operation.next ≡ plan.operation.range.end →
+    Awaits seals (record plan { stage = Ending }) op alone Calls.Finish
+last-finishes {plan} {map} back free ends = finishes refl (record {
+  operation = back.course.operation;
+  map = map;
+  granted = back.course.granted;
+  asks = back.course.asks;
+  can = record {
+    locks = locks-unsettled plan.operation.ask free;
+    ends = inr (record {
+      pieces = ends;
+      kept = λ forced. absurd (not-forced plan.operation.ask free forced);
+    });
+  };
+  plain = back.plain;
+  total = λ unfailed. whole-size back.course ends;
+})
+
+-- a piece is all of the operation, or a part
+pub only-or-part : {shape : Shape} {o : Open} {op : Op} {alone : Alone} {map : Map} {piece : Piece}
+    →
+    IsUnderWay shape o op alone map → IsPieceOf map o piece → IsOnly o piece ⊎ IsPart o piece
+only-or-part {o} {piece} course next =
+    let within = next.within in
+    let starts = course.starts in
+    elim (cases_lt piece.count (o.range.end - o.range.start)) [
+      | inl less ↦ inr (λ same. omega (arith, same, less))
+      | inr most ↦ inl (omega (arith, most, within, starts))
+    ]
+
+-- before an only piece there are no bytes
+pub none-before : {shape : Shape} {o : Open} {op : Op} {alone : Alone} {map : Map} {piece : Piece} →
+    IsUnderWay shape o op alone map → IsPieceOf map o piece → IsOnly o piece → alone.plain ≡ []
+none-before {shape} {o} {alone} course next only =
+    let within = next.within in
+    let some = next.some in
+    let starts = course.starts in
+    let e : o.next ≡ o.range.start = omega (arith, within, some, starts, only) in
+    nil_from_length alone.plain (course.size ∙ ap (λ k. (k - o.range.start) * shape.atom) e
+    ∙ sym (size-none o.range.start shape.atom))
+
+pub some-left : (o : Open) {map : Map} {piece : Piece} → IsPieceOf map o piece
+    → o.next < o.range.end
+some-left o next = (let some = next.some in let within = next.within in
+    omega (arith, some, within))
+
+-- it is made in the buffer that it is given
+pub moves-on : {plan : Plan} {op : Op} {alone : Alone} {map : Map} {piece : Piece} (room : ℕ)
+    (whole part : List ℕ) → IsBack plan op alone map → IsPieceOf map plan.operation piece →
+    HasPlain whole op alone.plain →
+    (IsPart plan.operation piece → (room ≡ length plan.part) × (whole ≡ plan.whole)) →
+    Moves (record plan { stage = Moving map piece; whole = whole; part = part }) op alone map piece
+    room
+moves-on {plan} room whole part back next plain kept = record {
+  stage = refl;
+  course = back.course;
+  next = next;
+  plain = plain;
+  rest = λ other. (let same = (kept other).1 in
+      rw same (back.rest (some-left plan.operation next)));
+  part = λ other. (let same = (kept other).0 in
+      rw same (back.part (some-left plan.operation next)));
+}
+
+-- and fits there
+fits-in : {plan : Plan} {op : Op} {alone : Alone} {map : Map} {piece : Piece} (buffer : List ℕ) →
+    IsBack plan op alone map → IsPieceOf map plan.operation piece →
+    (IsPart plan.operation piece → buffer ≡ plan.part) →
+    (IsOnly plan.operation piece → buffer ≡ plan.whole) →
+    piece.count * plan.shape.atom ≤ length buffer
+fits-in {plan} {op} {map} {piece} buffer back next part only =
+    let left = some-left plan.operation next in
+    let bytes = all-bytes back.course in
+    elim (only-or-part back.course next) [
+      | inl all ↦ (let is = only all in let long = rest-long plan.whole op (back.rest left) in
+          let asks = ap (λ a. bytes_of a) back.course.asks in
+          rw (is, all) (omega (arith, bytes, long, asks)))
+      | inr other ↦ (let is = part other in
+          let fits = fits-part map plan.operation piece plan.shape.atom next back.course.atom
+          back.course.starts bytes other in
+          let room = back.part left in rw is (omega (arith, fits, room)))
+    ]
+
+pub next-read : {seals : Seals} {plan new : Plan} {op : Op} {alone : Alone} {map : Map}
+    {piece : Piece} {buffer : List ℕ} {len : ℕ} → IsBack plan op alone map →
+    IsPieceOf map plan.operation piece → IsRead plan.operation.ask →
+    len ≡ piece.count * plan.shape.atom →
+    (IsPart plan.operation piece → (buffer ≡ plan.part)
+    × (new ≡ record plan { stage = Moving map piece; part = [] })) →
+    (IsOnly plan.operation piece → (buffer ≡ plan.whole)
+    × (new ≡ record plan { stage = Moving map piece; whole = [] })) →
+    new ≡ record plan { stage = Moving map piece; whole = new.whole; part = new.part } →
+    Awaits seals new op alone (Calls.Read buffer len)
+next-read {seals} {plan} {new} {op} {alone} {map} {piece} {buffer} {len} back next reading size part
+    only is =
+    let same = λ (other : IsPart plan.operation piece). ap (λ (p : Plan). p.whole) (part other).1 in
+    let plain : HasPlain new.whole op alone.plain = elim (only-or-part back.course next) [
+      | inl all ↦ (let none = none-before back.course next all in rw none (none-yet new.whole op))
+      | inr other ↦ (let whole = same other in rw whole back.plain)
+    ] in
+    subst (λ (p : Plan). Awaits seals p op alone (Calls.Read buffer len)) (sym is)
+    (reads map piece buffer len (moves-on (length buffer) new.whole new.part back next plain
+    (λ other. (ap (λ xs. length xs) (part other).0, same other))) reading size
+    (rw size (fits-in buffer back next (λ other. (part other).0) (λ all. (only all).0))))
+
+-- the bytes before a piece and its own are among the operation's
+pub ends-within : {shape : Shape} {o : Open} {op : Op} {alone : Alone} {map : Map} {piece : Piece} →
+    IsUnderWay shape o op alone map → IsPieceOf map o piece →
+    (piece.first - o.range.start) * shape.atom + piece.count * shape.atom ≤ bytes_of o.ask
+ends-within {shape} {o} {piece} course next =
+    let most = stays-within o.range.start o.next piece.count o.range.end shape.atom course.starts
+    next.within in
+    let all = all-bytes course in
+    let first = next.first in
+    rw first (omega (arith, most, all))
+
+-- a part of the front of a buffer is a part of the text there
+part-of-front : (body whole : List ℕ) (from len : ℕ) → take (length body) whole ≡ body →
+    from + len ≤ length body → take len (drop from whole) ≡ take len (drop from body)
+part-of-front body whole from len front within =
+    let parts : whole ≡ body ++ drop (length body) whole =
+    sym (take-append-drop (length body) whole) ∙ ap (λ xs. xs ++ drop (length body) whole) front in
+    let long : len ≤ length (drop from body) =
+    (let d = length-drop from body in omega (arith, d, within)) in
+    ap (λ xs. take len (drop from xs)) parts ∙ ap (λ xs. take len xs)
+    (drop-append-le from body (drop (length body) whole) (omega (arith, within)))
+    ∙ take-append-le len (drop from body) (drop (length body) whole) long
+
+front-and-part : (body plain : List ℕ) (from len : ℕ) → take (length plain) body ≡ plain →
+    from ≡ length plain → from + len ≤ length body →
+    take (length (plain ++ take len (drop from body))) body ≡ plain ++ take len (drop from body)
+front-and-part body plain from len front is within =
+    let d = length-drop from body in
+    let size : length (take len (drop from body)) ≡ len =
+    length-take-le len (drop from body) (omega (arith, d, within)) in
+    let sum : length (plain ++ take len (drop from body)) ≡ from + len =
+    length-append plain (take len (drop from body)) ∙ (omega (arith, is, size)) in
+    ap (λ k. take k body) sum ∙ take-add from len body
+    ∙ ap (λ xs. xs ++ take len (drop from body)) (ap (λ k. take k body) is ∙ front)
+
+-- the next bytes of the body stand behind those before them
+next-of-body : (whole : List ℕ) (op : Op) (plain : List ℕ) (from len : ℕ) → IsWrite (ask_of op) →
+    HasRest whole op → HasPlain whole op plain →
+    from ≡ length plain → from + len ≤ bytes_of (ask_of op) →
+    HasPlain whole op (plain ++ take len (drop from whole))
+next-of-body whole (Ops.Write offset body fua) plain from len writing rest so_far is within =
+    rw (part-of-front body whole from len rest within)
+    (front-and-part body plain from len so_far is within)
+next-of-body whole _ plain from len writing rest so_far is within = absurd writing
+
+-- what was tried of a body doesn't lie in the buffer
+pub of-body : (whole other : List ℕ) (op : Op) (plain : List ℕ) → IsWrite (ask_of op) →
+    HasPlain whole op plain → HasPlain other op plain
+of-body whole other (Ops.Write offset body fua) plain writing so_far = so_far
+of-body whole other _ plain writing so_far = absurd writing
+
+-- the front of the whole buffer, where a piece is all of the operation
+pub front-only : (o : Open) (piece : Piece) (whole : List ℕ) (from len : ℕ) →
+    (from ≡ 0) ⊎ IsPart o piece → IsOnly o piece → take len whole ≡ take len (drop from whole)
+front-only o piece whole from len (inl none) only = rw none refl
+front-only o piece whole from len (inr part) only = absurd (part only)
+
+-- the next piece of the body, as it was sealed
+sealed-piece : {C : Type 0} (sector : C → ℕ) (seal unseal : C → ℕ → List ℕ → List ℕ)
+    (keys : Keys C) (plan : Plan) (op : Op) (alone : Alone) (map : Map) (piece : Piece)
+    (from len : ℕ) (sealed : List ℕ) →
+    ((c : C) → UndoesSectors (sector c) (unseal c) (seal c)) →
+    KeysFit sector keys plan.shape.atom plan.shape.blocks →
+    IsBack plan op alone map → IsPieceOf map plan.operation piece → IsWrite (ask_of op) →
+    from ≡ place_in plan piece → len ≡ piece.count * plan.shape.atom →
+    AreBytes (take len (drop from plan.whole)) →
+    sealed ≡ (seals_of seal unseal plan.shape.atom keys).sealed piece.side piece.first
+    (take len (drop from plan.whole)) → length sealed ≡ len → AreBytes sealed →
+    IsSealed (seals_of seal unseal plan.shape.atom keys) plan.shape.atom plan.whole op alone.plain
+    piece sealed
+sealed-piece sector seal unseal keys plan op alone map piece from len sealed undoes fit back next
+    writing from_is len_is bytes made size are =
+    let course = back.course in
+    let rest = back.rest (some-left plan.operation next) in
+    let ends = ends-within course next in
+    let asks = ap (λ a. bytes_of a) course.asks in
+    let long = rest-long plan.whole op rest in
+    let within : from + len ≤ bytes_of (ask_of op) = omega (arith, ends, asks, from_is, len_is) in
+    let d = length-drop from plan.whole in
+    let part : length (take len (drop from plan.whole)) ≡ len =
+    length-take-le len (drop from plan.whole) (omega (arith, d, long, within)) in
+    let opened = ap (λ xs. (seals_of seal unseal plan.shape.atom keys).opened piece.side piece.first
+    xs) made ∙ undoes (key_of keys piece.side)
+    (number_of keys plan.shape.atom piece.side piece.first) (take len (drop from plan.whole))
+    (record {
+      whole = side-whole sector keys plan.shape.atom plan.shape.blocks _ piece.count piece.side fit
+          (part ∙ len_is);
+      are_bytes = bytes;
+    }) in
+    record {
+      size = size ∙ len_is;
+      are_bytes = are;
+      opened_size = ap (λ xs. length xs) opened ∙ part ∙ len_is;
+      so_far = subst (λ xs. HasPlain plan.whole op (alone.plain ++ xs)) (sym opened)
+          (next-of-body plan.whole op alone.plain from len writing rest back.plain
+          (from_is ∙ ap (λ k. (k - plan.operation.range.start) * plan.shape.atom) next.first
+          ∙ sym course.size) within);
+    }
+
+-- the write of it
+pub next-write : {C : Type 0} (sector : C → ℕ) (seal unseal : C → ℕ → List ℕ → List ℕ)
+    (keys : Keys C) (plan new : Plan) (op : Op) (alone : Alone) (map : Map)
+    (piece : Piece) (prepared : Front) (from len : ℕ) →
+    ((c : C) → UndoesSectors (sector c) (unseal c) (seal c)) →
+    KeysFit sector keys plan.shape.atom plan.shape.blocks →
+    IsBack plan op alone map → IsPieceOf map plan.operation piece → IsWrite plan.operation.ask →
+    from ≡ place_in plan piece → len ≡ piece.count * plan.shape.atom →
+    prepared.bytes ≡ (seals_of seal unseal plan.shape.atom keys).sealed piece.side piece.first
+    (take len (drop from plan.whole)) →
+    length prepared.bytes ≡ len → AreBytes prepared.bytes →
+    AreBytes (take len (drop from plan.whole)) →
+    (IsPart plan.operation piece → prepared.room ≡ length plan.part) →
+    (IsPart plan.operation piece → new.whole ≡ plan.whole) →
+    new ≡ record plan { stage = Moving map piece; whole = new.whole; part = new.part } →
+    Awaits (seals_of seal unseal plan.shape.atom keys) new op alone (Calls.Write prepared)
+next-write sector seal unseal keys plan new op alone map piece prepared from len undoes fit back
+    next writing from_is len_is made size are bytes room rest is =
+    let writing_op = subst (λ a. IsWrite a) back.course.asks writing in
+    let it = sealed-piece sector seal unseal keys plan op alone map piece from len prepared.bytes
+    undoes fit back next writing_op from_is len_is bytes made size are in
+    subst (λ (p : Plan). Awaits (seals_of seal unseal plan.shape.atom keys) p op alone
+    (Calls.Write prepared)) (sym is)
+    (writes map piece prepared (moves-on prepared.room new.whole new.part back next
+    (of-body plan.whole new.whole op alone.plain writing_op back.plain)
+    (λ other. (room other, rest other))) writing (record {
+      size = it.size;
+      are_bytes = it.are_bytes;
+      opened_size = it.opened_size;
+      so_far = of-body plan.whole new.whole op _ writing_op it.so_far;
+    }))

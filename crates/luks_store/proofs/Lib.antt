@@ -1,0 +1,15 @@
+pub mod PageLemmas
+pub mod DiskLemmas
+pub mod CopyLemmas
+pub mod UsedLemmas
+pub mod GivenLemmas
+pub mod PlaceLemmas
+pub mod UsesLemmas
+pub mod TextLemmas
+pub mod PlainTextLemmas
+pub mod CommitLemmas
+pub mod RoomLemmas
+pub mod LoadLemmas
+pub mod RepairLemmas
+pub mod StoredLemmas
+pub mod JudgeLemmas

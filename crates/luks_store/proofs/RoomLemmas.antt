@@ -1,0 +1,44 @@
+-- Lemmas on the room for both copies: metadata that break no rule leave it.
+use Rattle.std.proofs.Common.{◌≡◌, ℕ, ◌+◌, ◌*◌, ◌<◌, ◌≤◌, max, List, [], ◌∷◌, Bool, true, false}
+use Rattle.std.proofs.Common.{refl, arith}
+use Rattle.std.specs.List.{All, sum_by}
+use Rattle.std.proofs.lemmas.List.Elements.{All-head}
+use Rattle.disk_sizes.specs.declared.Sizes.{Sizes}
+use Rattle.luks_json.specs.declared.config.Config.{Config}
+use Rattle.luks_json.specs.declared.meta.Parts.{Parts}
+use Rattle.luks_json.specs.declared.segment.Segment.{Segment}
+use Rattle.luks_rules.specs.Areas.{areas_end, header_bytes, main_bytes}
+use Rattle.luks_rules.specs.Segments.{bytes_of, in_progress, live_bytes}
+use Rattle.luks_rules.specs.States.{IsSound}
+
+-- in front of a segment
+before : (c : Config) (sizes : Sizes) (progress : Bool) (segments : List (ℕ × Segment))
+    → 0 < sizes.atom
+    → All (λ (s : ℕ × Segment). areas_end c ≤ s.1.offset) segments
+    → All (λ (s : ℕ × Segment). s.1.offset + bytes_of sizes s.1 ≤ main_bytes sizes) segments
+    → sizes.atom ≤ sum_by (λ (s : ℕ × Segment). live_bytes progress sizes s.1) segments
+    → areas_end c ≤ main_bytes sizes
+before c sizes progress [] some behind on_disk block = absurd (omega (arith, some, block))
+before c sizes progress (s ∷ ss) some behind on_disk block =
+    let here = All-head (λ (s : ℕ × Segment). areas_end c ≤ s.1.offset) s ss behind in
+    let there =
+    All-head (λ (s : ℕ × Segment). s.1.offset + bytes_of sizes s.1 ≤ main_bytes sizes) s ss
+    on_disk in
+    omega (arith, here, there)
+
+room-by : (m : Parts) (sizes : Sizes) (size : ℕ) (b : Bool) → sizes.detached ≡ b → IsSound m sizes
+    → m.config.json_size + 4096 ≡ size
+    → 2 * size ≤ max (header_bytes sizes) (main_bytes sizes)
+room-by m sizes size true detached sound is = let end =
+    sound.within.detached detached in omega (arith, end, is)
+room-by m sizes size false attached sound is =
+    let end =
+    before m.config sizes (in_progress m.config) m.segments sound.atom
+    (sound.within.attached attached)
+    sound.segments.on_disk sound.segments.block in
+    omega (arith, end, is)
+
+pub room-of : (m : Parts) (sizes : Sizes) (size : ℕ) → IsSound m sizes
+    → m.config.json_size + 4096 ≡ size
+    → 2 * size ≤ max (header_bytes sizes) (main_bytes sizes)
+room-of m sizes size sound is = room-by m sizes size sizes.detached refl sound is

@@ -1,0 +1,124 @@
+-- Commits and repairs of a header that was loaded.
+use Rattle.std.specs.Prelude.{◌≡◌, ◌≢◌, ℕ, ◌+◌, ◌*◌, ◌/◌, ◌<◌, ◌≤◌, max, List, length, replicate}
+use Rattle.std.specs.Prelude.{Ok, IsOk}
+use Rattle.disk_areas.specs.Commits.{Follows}
+use Rattle.disk_areas.specs.Headers.{Header, IsHeader}
+use Rattle.disk_sizes.specs.declared.Sizes.{Sizes}
+use Rattle.luks_bin.specs.Copies.{copy_of, text_of}
+use Rattle.luks_bin.specs.Shares.{Agree}
+use Rattle.luks_bin.specs.declared.header.BinHeader.{BinHeader}
+use Rattle.luks_copies.specs.Meanings.{header_of, header_reader, meaning_of}
+use Rattle.luks_copies.specs.Steps.{IsRefusal}
+use Rattle.luks_copies.specs.Held.{primary_of, secondary_of, size_in_bytes, copy_in, place_in}
+use Rattle.luks_copies.specs.Held.{repair_stage_in}
+use Rattle.luks_copies.specs.declared.commit.CommitError.{CommitError}
+use Rattle.luks_copies.specs.declared.commit.CommitError.TheVariants.{Memory}
+use Rattle.luks_copies.specs.declared.repair.Repair.{Repair}
+use Rattle.luks_copies.specs.declared.repair.RepairStage.TheVariants.{Broken}
+use Rattle.luks_json.specs.Metas.{data_of, meta_from}
+use Rattle.luks_json.specs.declared.meta.Parts.{Parts}
+use Rattle.luks_rules.specs.Areas.{header_bytes, main_bytes}
+use Rattle.luks_store.specs.Loads.{judged}
+use Rattle.luks_store.specs.Found.{IsWholeAt}
+use Rattle.luks_store.specs.declared.commit.Prepared.{Prepared}
+use Rattle.luks_store.specs.declared.copies.Copies.{Copies}
+use Rattle.luks_store.specs.declared.copies.CopyState.TheVariants.{Good}
+use Rattle.luks_store.specs.declared.loaded.Stored.{Stored}
+use Rattle.sector_disk.specs.Devices.{Device}
+use Rattle.sector_disk.specs.Geometry.{IsAtom, IsInDisk}
+use Rattle.serde_json.specs.Written.{compact_text}
+
+-- the text of metadata
+abbrev pub text_for : Parts → List ℕ
+text_for meta = compact_text (data_of meta)
+
+-- The header that comes before the first one of a volume: it stands on no disk.
+abbrev pub header_before : List ℕ → List ℕ → Parts → BinHeader
+header_before uuid salt meta = record {
+  hdr_size = meta.config.json_size + 4096;
+  seqid = 0;
+  label = replicate 48 0;
+  salt = salt;
+  uuid = uuid;
+  subsystem = replicate 48 0;
+  hdr_offset = 0;
+}
+
+-- why a commit isn't made; want of memory says nothing
+abbrev pub IsRefused : BinHeader → List ℕ → CommitError → Type 0
+IsRefused header json Memory = Unit {0}
+IsRefused header json error = IsRefusal header json error
+
+-- the copies that a commit leaves
+abbrev pub committed : Prepared → Copies
+committed p = record {
+  used = record { header = p.header; bytes = primary_of p.copies };
+  primary = record { state = Good; salt = p.header.salt };
+  secondary = record { state = Good; salt = p.second_salt };
+}
+
+-- Both copies are whole, of one number, mean the same, hold metadata that break no rule, and lie in
+-- front of what these sizes leave room for.
+pub record IsPrepared (p : Prepared) : Type 0 where
+  pub first : IsWholeAt 0 (record { header = p.header; bytes = primary_of p.copies })
+  pub second : IsWholeAt p.header.hdr_size (record {
+    header = record p.header { salt = p.second_salt; hdr_offset = p.header.hdr_size };
+    bytes = secondary_of p.copies;
+  })
+  pub same : meaning_of (primary_of p.copies) ≡ meaning_of (secondary_of p.copies)
+  pub size : size_in_bytes p.copies ≡ p.header.hdr_size
+  pub atom : 0 < p.sizes.atom
+  pub held : IsOk (judged p.sizes (committed p))
+  pub room : 2 * p.header.hdr_size ≤ max (header_bytes p.sizes) (main_bytes p.sizes)
+
+-- The commit that follows a header, of these metadata.
+pub record IsNext (stored : Stored) (parts : Parts) (p : Prepared) : Type 0 where
+  pub header : p.header ≡ record stored.copies.used.header {
+    seqid = stored.copies.used.header.seqid + 1;
+    salt = stored.copies.primary.salt;
+    hdr_offset = 0;
+  }
+  pub second_salt : p.second_salt ≡ stored.copies.secondary.salt
+  pub sizes : p.sizes ≡ stored.valid.sizes
+  pub meta : meta_from p.header.hdr_size (text_of (primary_of p.copies)) ≡ Ok parts
+  pub whole : IsHeader header_reader (header_of (primary_of p.copies) (secondary_of p.copies))
+  pub follows : Follows header_reader (meaning_of stored.copies.used.bytes)
+      (meaning_of (primary_of p.copies))
+
+-- a disk of these sizes, in which other disks may be joined
+pub record HasSizes (sizes : Sizes) (device : Device) : Type 0 where
+  pub atom : sizes.atom ≡ device.size
+  pub header : sizes.header_atoms ≤ device.atoms
+  pub main : sizes.main_atoms ≤ device.atoms
+
+-- ---- a repair
+-- both places hold the header
+pub record AreGood (copies : Copies) : Type 0 where
+  pub primary : copies.primary.state ≡ Good
+  pub secondary : copies.secondary.state ≡ Good
+
+-- A repair that writes the copy that is used, but for magic, salt, hdr_offset and checksum, to the
+-- other place, under that place's salt; and the header that both copies are then.
+pub record IsRepairOf (copies : Copies) (place : ℕ) (salt : List ℕ) (header : Header (List ℕ))
+    (repair : Repair) : Type 0 where
+  pub begun : repair_stage_in repair ≡ Broken
+  pub at : place_in repair ≡ place
+  pub copy : copy_of place (copy_in repair)
+      ≡ Ok (record copies.used.header { hdr_offset = place; salt = salt })
+  pub size : length (copy_in repair) ≡ copies.used.header.hdr_size
+  pub shared : Agree (copy_in repair) copies.used.bytes
+  pub whole : IsHeader header_reader header
+
+-- of the primary, where it isn't good, else of the secondary
+abbrev pub Repairs : Copies → Repair → Type 0
+Repairs copies repair =
+    (copies.primary.state ≢ Good
+    → IsRepairOf copies 0 copies.primary.salt (header_of (copy_in repair) copies.used.bytes) repair)
+    × (copies.primary.state ≡ Good → (copies.secondary.state ≢ Good)
+    × IsRepairOf copies copies.used.header.hdr_size copies.secondary.salt
+    (header_of copies.used.bytes (copy_in repair)) repair)
+
+-- what it writes lies on each disk of these sizes
+abbrev pub FitsDisks : Sizes → Repair → Type 0
+FitsDisks sizes repair = (device : Device) → HasSizes sizes device → IsAtom device.size
+    → IsInDisk device.size device.atoms (place_in repair / device.size) (length (copy_in repair))

@@ -1,0 +1,6 @@
+pub mod Devices
+pub mod Found
+pub mod Used
+pub mod Loads
+pub mod Promises
+pub mod Commits

@@ -1,0 +1,42 @@
+-- What is promised of the copies that are used.
+use Rattle.std.specs.Prelude.{◌≡◌, ℕ, List, drop, None, Ok, Err}
+use Rattle.disk_areas.specs.Headers.{found, Gives}
+use Rattle.luks_bin.specs.Copies.{copy_of}
+use Rattle.luks_bin.specs.declared.header.BinFault.{BinFault}
+use Rattle.luks_copies.specs.Meanings.{header_reader, meaning_of}
+use Rattle.luks_store.specs.Found.{IsWholeAt}
+use Rattle.luks_store.specs.Loads.{objects_in, stored_in, IsStored}
+use Rattle.luks_store.specs.Used.{copies_in, nearest, no_header}
+use Rattle.luks_store.specs.declared.copies.Copies.{Copies}
+use Rattle.luks_store.specs.declared.copies.HeaderCopy.{HeaderCopy}
+use Rattle.luks_store.specs.declared.loaded.Stored.{Stored}
+
+-- The copy that is used means the header that the bytes have.
+abbrev pub UsedIsGiven : Type 0
+UsedIsGiven = (bytes : List ℕ) (copies : Copies) → copies_in bytes ≡ Ok copies
+    → Gives header_reader bytes (meaning_of copies.used.bytes)
+
+-- Where they have one it is used.
+abbrev pub GivenIsUsed : Type 0
+GivenIsUsed = (bytes m : List ℕ) → Gives header_reader bytes m
+    → (copies : Copies) × (copies_in bytes ≡ Ok copies) × (meaning_of copies.used.bytes ≡ m)
+
+-- Where no copy is valid none stands at any place, and these are the faults at 0 and at the nearest
+-- place of a secondary.
+abbrev pub NoneStands : Type 0
+NoneStands =
+    (bytes : List ℕ) (primary secondary : BinFault)
+    → copies_in bytes ≡ Err (no_header primary secondary)
+    → ((place : ℕ) → found header_reader bytes place ≡ None) × (copy_of 0 bytes ≡ Err primary)
+    × (copy_of nearest (drop nearest bytes) ≡ Err secondary)
+
+-- Copies that mean the same hold the same metadata.
+abbrev pub MetaByMeaning : Type 0
+MetaByMeaning = (a b : HeaderCopy) (at in_place : ℕ) → IsWholeAt at a → IsWholeAt in_place b
+    → meaning_of a.bytes ≡ meaning_of b.bytes → objects_in a ≡ objects_in b
+
+-- Bytes that have the header of what was loaded, or of what a commit leaves, hold its metadata.
+abbrev pub LoadsByMeaning : Type 0
+LoadsByMeaning = (bytes : List ℕ) (stored : Stored) → IsStored stored
+    → Gives header_reader bytes (meaning_of stored.copies.used.bytes)
+    → (now : Stored) × (stored_in stored.valid.sizes bytes ≡ Ok now) × (now.valid ≡ stored.valid)

@@ -1,0 +1,29 @@
+// Laws of the copies that are used, with nothing to run.
+
+ghost use Rattle.luks_store.specs.Promises.{GivenIsUsed, LoadsByMeaning, MetaByMeaning, NoneStands};
+ghost use Rattle.luks_store.specs.Promises.{UsedIsGiven};
+
+use luks_bin::copies_are_spelt;
+use luks_copies::copies_mean_what_they_share;
+
+/// The copy that is used means the header that the disk's bytes have, as `disk_areas` speaks of it,
+/// and where they have one it is used: so its laws on commits, repairs and stops hold of what is
+/// loaded.
+pub fn used_copies_are_headers()
+    ensures used { UsedIsGiven }
+    ensures given { GivenIsUsed }
+    ensures none { NoneStands }
+{
+    copies_are_spelt();
+}
+
+/// Copies that mean the same hold the same metadata, and so bytes that have a header hold its
+/// metadata: each image that a stop leaves of a commit is loaded as the header from before or as
+/// the next one.
+pub fn metadata_go_by_meaning()
+    ensures copies { MetaByMeaning }
+    ensures loads { LoadsByMeaning }
+{
+    copies_are_spelt();
+    copies_mean_what_they_share();
+}

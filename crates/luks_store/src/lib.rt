@@ -1,0 +1,27 @@
+//! The header of a LUKS2 volume as a disk keeps it (LUKS2 On-Disk Format Specification 1.1, section
+//! 2): which of its two copies is used, and the metadata in it, read, judged, and committed.
+//!
+//! The layer above may rely on `stored_in`: the header that a disk's bytes hold, or why they hold
+//! none. [`load`] answers exactly that and writes nothing. A [`Commit`] leads both copies to the
+//! next metadata, and [`Commit::next`] is what is loaded then; a repair writes the copy that is
+//! older or lacks. What a stop leaves during either is said by `disk_areas`, and
+//! [`used_copies_are_headers`] says that its headers are those that are loaded.
+#![tactic(auto)]
+
+mod commit;
+mod copies;
+mod fault;
+mod laws;
+mod loaded;
+mod reading;
+mod repair;
+#[cfg(test)]
+mod tests;
+mod used;
+
+pub use commit::{Commit, Prepared};
+pub use copies::{Copies, CopyPlace, CopyState, HeaderCopy};
+pub use fault::StoreFault;
+pub use laws::{metadata_go_by_meaning, used_copies_are_headers};
+pub use loaded::{Loaded, Stored, load};
+pub use luks_copies::{CommitError, Repair};
