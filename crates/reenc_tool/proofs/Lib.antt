@@ -5,4 +5,3 @@ mod RoundLemmas
 mod RunLemmas
 mod TextLemmas
 mod TurnLemmas
-mod WordLemmas

@@ -1,8 +1,8 @@
 -- A command of its parts.
-use Rattle.std.proofs.Common.{◌≡◌, ℕ, ◌*◌, ◌-◌, ◌^◌, ◌<◌, ◌≤◌, ◌⊎◌, ⊎_elim, le_trans, Bool, true}
+use Rattle.std.proofs.Common.{◌≡◌, ℕ, ◌+◌, ◌*◌, ◌-◌, ◌^◌, ◌<◌, ◌≤◌, ◌⊎◌, ⊎_elim, le_trans, Bool, true}
 use Rattle.std.proofs.Common.{false, inl, inr, zero, suc, List, [], ◌∷◌, ◌++◌, length}
 use Rattle.std.proofs.Common.{slice_index_or, replicate, Option, Some, None, ap, ◌∙◌, refl, sym}
-use Rattle.std.proofs.Common.{subst, arith}
+use Rattle.std.proofs.Common.{subst, arith, suc-mul}
 use Rattle.base_terms.specs.Blocks.{lengths}
 use Rattle.base_terms.specs.Causes.{Rose}
 use Rattle.bays.specs.Bays.{AreBounded, Holdings, IsShare, LeavesAll, LeavesOtherDisks}
@@ -33,9 +33,11 @@ use Rattle.reenc_tool.specs.declared.serving.Standing.{Standing}
 use Rattle.reenc_tool.specs.declared.serving.Standing.TheVariants.{Live, Ended, Failed}
 use Rattle.reenc_tool.specs.Lanes.{IsServed, Served, StandsBy, failed_bit, failed_in}
 use Rattle.reenc_tool.specs.Sessions.{Played, AreSessions, NumbersRise, tagged_of}
-use Rattle.reenc_tool.specs.Promise.{IsPlainVolume, LeavesRest, MayStop, Outcome, PlainKeys, Ran}
-use Rattle.reenc_tool.specs.Promise.{StoodStill, cause_of, unserved}
-use Rattle.reenc_tool.specs.Words.{Serve}
+use Rattle.reenc_tool.specs.Outcomes.{Outcome, unserved}
+use Rattle.reenc_tool.specs.Promise.{IsPlainVolume, LeavesRest, MayStop, PlainKeys, Ran}
+use Rattle.reenc_tool.specs.Promise.{StoodStill, cause_of}
+use Rattle.luks_store.specs.declared.fault.StoreFault.{StoreFault}
+use Rattle.command_line.specs.Commands.{Serving}
 use Rattle.reenc_tool.proofs.HistoryLemmas.{each_of, known_of, untagged-tagged_of}
 use Rattle.reenc_tool.proofs.AskingLemmas.{sessions_unspent}
 use Rattle.reenc_tool.proofs.TextLemmas.{not_rose}
@@ -238,7 +240,7 @@ module _ {D L : Type 0} (device : D → Device) (state : L → LinkState) (disk 
       }
 
 -- what a command left that asked for a disk, and then perhaps for links
-pub leaves_rest : {D : Type 0} (serve : Serve) (old mid new : Holdings D) →
+pub leaves_rest : {D : Type 0} (serve : Serving) (old mid new : Holdings D) →
     LeavesOtherDisks serve.disk old mid →
     LeavesOtherClients serve.address mid new → LeavesRest serve old new
 leaves_rest serve old mid new first then = record {
@@ -247,7 +249,7 @@ leaves_rest serve old mid new first then = record {
   clients = λ other differ. then.clients other differ ∙ ap (λ inputs. inputs other) first.clients;
 }
 
-pub leaves_all : {D : Type 0} (serve : Serve) (old new : Holdings D) → LeavesAll old new →
+pub leaves_all : {D : Type 0} (serve : Serving) (old new : Holdings D) → LeavesAll old new →
     LeavesRest serve old new
 leaves_all serve old new leaves = record {
   disks = λ other differ. ap (λ shelf. shelf other) leaves.disks;
@@ -256,33 +258,50 @@ leaves_all serve old new leaves = record {
 }
 
 -- a link's share of the sessions is no more than these
-share_few : (sessions k count : ℕ) → IsShare 4 sessions k count → count ≤ sessions
-share_few sessions k zero below = omega arith
-share_few sessions k (suc n) below = omega (arith, below n (omega arith))
+share_few : (workers sessions k count : ℕ) → 0 < workers → IsShare workers sessions k count →
+    count ≤ sessions
+share_few workers sessions k zero some below = omega arith
+share_few workers sessions k (suc n) some below =
+    let last : k + workers * n < sessions = below n (omega arith) in
+    let step : n ≤ workers * n = le_mul workers n some in omega arith
+  where
+    le_mul : (w n : ℕ) → 0 < w → n ≤ w * n
+    le_mul zero n some = absurd (omega arith)
+    le_mul (suc w) n some = omega (arith, suc-mul w n)
 
 -- links that a bay gave for so many sessions have no more of them each
-pub links_few : {L : Type 0} (state : L → LinkState) (sessions : ℕ) (links : List L) →
-    AreBounded state 4 sessions links → length links ≡ 4 → sessions ≤ 65535 →
+pub links_few : {L : Type 0} (state : L → LinkState) (workers sessions : ℕ) (links : List L) →
+    AreBounded state workers sessions links → 0 < workers → length links ≡ workers →
+    sessions ≤ 65535 →
     (k : ℕ) (link : L) → k < length links → (state (slice_index_or links k link)).bound ≤ 65535
-links_few state sessions links bounded count few k link inside =
-    le_trans (share_few sessions k _ (bounded k link (omega arith))) few
+links_few state workers sessions links bounded some count few k link inside =
+    le_trans (share_few workers sessions k _ some (bounded k link (omega (arith, count)))) few
 
 -- what is handed back without a session, by its links
 abbrev pub unserved_of : {D L : Type 0} → Cause → Option D → List L → Outcome D L
 unserved_of cause disk links = unserved cause disk links
 
-abbrev pub handed_back : {D L : Type 0} → Cause → Bool → Option D → List L →
+abbrev pub handed_back : {D L : Type 0} → Cause → Option StoreFault → Bool → Option D → List L →
     List (List SessionEnd) → Outcome D L
-handed_back cause memory disk links ends =
-    record { cause = cause; memory = memory; disk = disk; links = links; ends = ends }
+handed_back cause fault memory disk links ends = record {
+  cause = cause;
+  fault = fault;
+  memory = memory;
+  disk = disk;
+  links = links;
+  ends = ends;
+}
 
 -- what is handed back is the same where each part is
-pub same_outcome : {D L : Type 0} (cause : Cause) (memory memory' : Bool) (disk disk' : Option D)
-    (links links' : List L) (ends ends' : List (List SessionEnd)) → memory ≡ memory' →
-    disk ≡ disk' → links ≡ links' → ends ≡ ends' →
-    handed_back cause memory disk links ends ≡ handed_back cause memory' disk' links' ends'
-same_outcome {D} {L} cause memory memory' disk disk' links links' ends ends' m a b c =
-    ap (λ (w : Bool). handed_back cause w disk links ends) m
-    ∙ ap (λ (d : Option D). handed_back cause memory' d links ends) a
-    ∙ ap (λ (l : List L). handed_back cause memory' disk' l ends) b
-    ∙ ap (λ (e : List (List SessionEnd)). handed_back cause memory' disk' links' e) c
+pub same_outcome : {D L : Type 0} (cause : Cause) (fault fault' : Option StoreFault)
+    (memory memory' : Bool) (disk disk' : Option D)
+    (links links' : List L) (ends ends' : List (List SessionEnd)) → fault ≡ fault' →
+    memory ≡ memory' → disk ≡ disk' → links ≡ links' → ends ≡ ends' →
+    handed_back cause fault memory disk links ends
+    ≡ handed_back cause fault' memory' disk' links' ends'
+same_outcome {D} {L} cause fault fault' memory memory' disk disk' links links' ends ends' f m a b c =
+    ap (λ (w : Option StoreFault). handed_back cause w memory disk links ends) f
+    ∙ ap (λ (w : Bool). handed_back cause fault' w disk links ends) m
+    ∙ ap (λ (d : Option D). handed_back cause fault' memory' d links ends) a
+    ∙ ap (λ (l : List L). handed_back cause fault' memory' disk' l ends) b
+    ∙ ap (λ (e : List (List SessionEnd)). handed_back cause fault' memory' disk' links' e) c

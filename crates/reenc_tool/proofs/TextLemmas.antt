@@ -6,9 +6,10 @@ use Rattle.base_terms.specs.declared.failed.Failed.{Failed}
 use Rattle.base_terms.specs.Causes.{Rose}
 use Rattle.io_edge.specs.Outlet.{Outlet, PutsPiece}
 use Rattle.reenc_tool.specs.declared.ended.Cause.{Cause}
-use Rattle.reenc_tool.specs.declared.ended.Cause.TheVariants.{Fine, Usage, Device, NoFit, Link}
+use Rattle.reenc_tool.specs.declared.ended.Cause.TheVariants.{Fine, Usage, Device, NoHeader}
+use Rattle.reenc_tool.specs.declared.ended.Cause.TheVariants.{Header, Foreign, NoFit, Link}
 use Rattle.reenc_tool.specs.declared.ended.Cause.TheVariants.{Output, Memory}
-use Rattle.reenc_tool.specs.Texts.{Prints, fault_line, line_of}
+use Rattle.reenc_tool.specs.Texts.{Prints, fault_line, text_of}
 
 -- a count that stood still below its last value didn't rise
 pub not_rose : (before now : ℕ) → now ≡ before → now < 2 ^ 64 - 1 → Rose before now → ⊥
@@ -46,12 +47,15 @@ prints-failed s s' line e puts rose = record {
   out = λ stood low. absurd (not_rose s.faults s'.faults stood low rose);
 }
 
-pub line_of-fault : (cause after : Cause) (count : ℕ) → cause ≢ Fine →
-    fault_line cause ≡ line_of cause after count
-line_of-fault Fine after count other = absurd (other refl)
-line_of-fault Usage after count other = refl
-line_of-fault (Device device) after count other = refl
-line_of-fault (NoFit what number limit) after count other = refl
-line_of-fault (Link failed) after count other = refl
-line_of-fault Output after count other = refl
-line_of-fault Memory after count other = refl
+pub text_of-fault : (cause after : Cause) (text : List ℕ) → cause ≢ Fine →
+    fault_line cause ≡ text_of cause after text
+text_of-fault Fine after text other = absurd (other refl)
+text_of-fault Usage after text other = refl
+text_of-fault (Device device) after text other = refl
+text_of-fault NoHeader after text other = refl
+text_of-fault Header after text other = refl
+text_of-fault Foreign after text other = refl
+text_of-fault (NoFit what number limit) after text other = refl
+text_of-fault (Link failed) after text other = refl
+text_of-fault Output after text other = refl
+text_of-fault Memory after text other = refl

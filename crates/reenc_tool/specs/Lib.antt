@@ -1,9 +1,10 @@
 pub mod Asking
 pub mod Ending
 pub mod Lanes
+pub mod Outcomes
 pub mod Sessions
+pub mod Showing
 pub mod Ports
 pub mod Promise
 pub mod Status
 pub mod Texts
-pub mod Words

@@ -38,7 +38,9 @@ use Rattle.reenc_tool.specs.declared.ended.Ended.{Ended}
 use Rattle.reenc_tool.specs.declared.ended.Fit.TheVariants.{Blocks}
 use Rattle.reenc_tool.specs.Lanes.{Served}
 use Rattle.reenc_tool.specs.Sessions.{Played, AreSessions, HasEach, IsOfSessions, NumbersRise, operations_of}
-use Rattle.reenc_tool.specs.Words.{Serve, IsServe, NotServe}
+use Rattle.reenc_tool.specs.Showing.{HasShown}
+use Rattle.reenc_tool.specs.Outcomes.{AsksDisk, HasNoDisk, Outcome, cause_of_fault, unserved}
+use Rattle.command_line.specs.Commands.{Serving, Showing, asked, serves, shows}
 
 -- the keys of a volume that changes nothing: contexts of ciphers over AES
 abbrev pub PlainKeys : Type 0
@@ -92,29 +94,6 @@ StoodStill {L} state olds news = (k : ℕ) (link : L) → k < length olds →
     ((state (slice_index_or news k link)).faults ≡ (state (slice_index_or olds k link)).faults)
     × ((state (slice_index_or news k link)).faults < 2 ^ 64 - 1)
 
--- what a command hands back: its cause, whether memory was wanted for a session's end, its disk and
--- its links, with the ends of each link's sessions
-pub record Outcome (D L : Type 0) : Type 0 where
-  pub cause : Cause
-  pub memory : Bool
-  pub disk : Option D
-  pub links : List L
-  pub ends : List (List SessionEnd)
-
-abbrev pub outcome_of : {D L : Type 0} → Ended D L → Outcome D L
-outcome_of ended = record {
-  cause = ended.cause;
-  memory = ended.memory;
-  disk = ended.disk;
-  links = ended.links.items;
-  ends = map (λ list. list.items) ended.sessions.items;
-}
-
--- what a command hands back that served no session
-abbrev pub unserved : {D L : Type 0} → Cause → Option D → List L → Outcome D L
-unserved cause disk links =
-    record { cause = cause; memory = false; disk = disk; links = links; ends = [] }
-
 -- Sessions were served on a disk that was handed in, over these links. What the clients were put
 -- are the answers of one plain disk that was asked their operations in one history.
 pub record Ran {D L : Type 0} (device : D → DiskState) (state : L → LinkState) (disk : D)
@@ -164,25 +143,16 @@ pub record Ran {D L : Type 0} (device : D → DiskState) (state : L → LinkStat
       AreServed start.map.atom (size_of start.map) (untagged operations)
       × (outcome.cause ≡ (if outcome.memory then Memory else Fine))
 
--- Four links, as a bay gives them: each has its share of the inputs ahead, where the bay tells
--- them,
--- and no more connections to come than its share of the sessions.
+-- Links as a bay gives them, one for each worker: each has its share of the inputs ahead, where the
+-- bay tells them, and no more connections to come than its share of the sessions.
 pub record AreGiven {L : Type 0} (state : L → LinkState) (inputs : Option (List Script))
-    (sessions : ℕ) (links : List L) : Type 0 where
-  pub workers : length links ≡ 4
-  pub fresh : AreFresh state inputs 4 sessions links
-  pub few : AreBounded state 4 sessions links
+    (workers sessions : ℕ) (links : List L) : Type 0 where
+  pub count : length links ≡ workers
+  pub fresh : AreFresh state inputs workers sessions links
+  pub few : AreBounded state workers sessions links
 
--- the cause of a command that was given nothing: what it asked for failed, or memory was wanted
-abbrev pub cause_of_fault : Failing → BayFault → Cause
-cause_of_fault failing BayFaults.Failed = Device failing
-cause_of_fault failing BayFaults.Memory = Memory
-
--- what asking a bay for a disk, and for links, does: from the bay before by what was asked for and
--- answered to the bay after
-abbrev pub AsksDisk : Type 0 → Type 0 → Type 1
-AsksDisk B D = B → List ℕ → ℕ → Result D BayFault → B → Type 0
-
+-- what asking a bay for links does: from the bay before by what was asked for and answered to the
+-- bay after
 abbrev pub AsksLinks : Type 0 → Type 0 → Type 1
 AsksLinks B L = B → List ℕ → ℕ → ℕ → Result (List L) BayFault → B → Type 0
 
@@ -197,11 +167,11 @@ pub record HasNoBlock {B D L : Type 0} (device : D → DiskState) (disk : D) (be
 -- rose
 -- where it failed, and stands where memory was wanted.
 pub record HasNoLinks {B D L : Type 0} (device : D → DiskState) (holdings : B → Holdings D)
-    (asks_links : AsksLinks B L) (serve : Serve) (disk : D) (between new : B)
+    (asks_links : AsksLinks B L) (serve : Serving) (disk : D) (between new : B)
     (outcome : Outcome D L) : Type 0 where
   pub blocks : 0 < (device disk).atoms
   pub fault : BayFault
-  pub asked : asks_links between serve.address 4 serve.sessions (Err fault) new
+  pub asked : asks_links between serve.address serve.workers serve.sessions (Err fault) new
   pub count : FaultCounts fault (holdings between).faults (holdings new).faults
   pub outcome_is : outcome ≡ unserved (cause_of_fault Listening fault) (Some disk) []
 
@@ -209,18 +179,19 @@ pub record HasNoLinks {B D L : Type 0} (device : D → DiskState) (holdings : B 
 -- over
 -- them; or memory was wanted before the first, and disk and links are handed back as they were.
 pub record HasLinks {B D L : Type 0} (device : D → DiskState) (state : L → LinkState)
-    (holdings : B → Holdings D) (asks_links : AsksLinks B L) (serve : Serve) (disk : D)
+    (holdings : B → Holdings D) (asks_links : AsksLinks B L) (serve : Serving) (disk : D)
     (between new : B) (outcome : Outcome D L) : Type 0 where
   pub blocks : 0 < (device disk).atoms
   pub begun : List L
-  pub asked : asks_links between serve.address 4 serve.sessions (Ok begun) new
+  pub asked : asks_links between serve.address serve.workers serve.sessions (Ok begun) new
   pub stood : (holdings new).faults ≡ (holdings between).faults
-  pub given : AreGiven state ((holdings between).inputs serve.address) serve.sessions begun
+  pub given : AreGiven state ((holdings between).inputs serve.address) serve.workers serve.sessions
+      begun
   pub ended : Ran device state disk begun outcome ⊎ (outcome ≡ unserved Memory (Some disk) begun)
 
 -- what came of the disk that a bay gave
 abbrev pub Serves : {B D L : Type 0} → (D → DiskState) → (L → LinkState) → (B → Holdings D) →
-    AsksLinks B L → Serve → D → B → B → Outcome D L → Type 0
+    AsksLinks B L → Serving → D → B → B → Outcome D L → Type 0
 Serves device state holdings asks_links serve disk between new outcome =
     HasNoBlock device disk between new outcome
     ⊎ (HasNoLinks device holdings asks_links serve disk between new outcome
@@ -231,7 +202,7 @@ Serves device state holdings asks_links serve disk between new outcome =
 -- gave it: it is the one on its shelf, which all else left.
 pub record HasDisk {B D L : Type 0} (device : D → DiskState) (state : L → LinkState)
     (holdings : B → Holdings D) (asks_disk : AsksDisk B D) (asks_links : AsksLinks B L)
-    (serve : Serve) (old new : B) (outcome : Outcome D L) : Type 0 where
+    (serve : Serving) (old new : B) (outcome : Outcome D L) : Type 0 where
   pub disk : D
   pub between : B
   pub asked : asks_disk old serve.disk serve.atom (Ok disk) between
@@ -241,32 +212,32 @@ pub record HasDisk {B D L : Type 0} (device : D → DiskState) (state : L → Li
   pub leaves : LeavesOtherDisks serve.disk (holdings old) (holdings between)
   pub ended : Serves device state holdings asks_links serve disk between new outcome
 
--- It was asked once for that disk and gave none, and lost nothing. Its count of faults rose where
--- it
--- failed, and stands where memory was wanted.
-pub record HasNoDisk {B D L : Type 0} (holdings : B → Holdings D) (asks_disk : AsksDisk B D)
-    (serve : Serve) (old new : B) (outcome : Outcome D L) : Type 0 where
-  pub fault : BayFault
-  pub asked : asks_disk old serve.disk serve.atom (Err fault) new
-  pub leaves : LeavesAll (holdings old) (holdings new)
-  pub count : FaultCounts fault (holdings old).faults (holdings new).faults
-  pub outcome_is : outcome ≡ unserved (cause_of_fault Opening fault) None []
-
 -- a command leaves all of a bay but the disk and the clients that it asked for
-pub record LeavesRest {D : Type 0} (serve : Serve) (old new : Holdings D) : Type 0 where
+pub record LeavesRest {D : Type 0} (serve : Serving) (old new : Holdings D) : Type 0 where
   pub disks : (other : List ℕ) → other ≢ serve.disk → new.shelf other ≡ old.shelf other
   pub keys : new.keyring ≡ old.keyring
   pub clients : (other : List ℕ) → other ≢ serve.address → new.inputs other ≡ old.inputs other
 
--- a command did what its words ask for, or stopped before it had a disk
-abbrev pub Came : {B D L : Type 0} → (D → DiskState) → (L → LinkState) → (B → Holdings D) →
-    AsksDisk B D → AsksLinks B L → List (List ℕ) → B → B → Outcome D L → Type 0
-Came device state holdings asks_disk asks_links words old new outcome =
-    (NotServe words × (outcome ≡ unserved Usage None []) × (new ≡ old))
-    ⊎ ((serve : Serve) × IsServe words serve × LeavesRest serve (holdings old) (holdings new)
+-- What a command did whose words were read, or not: it was told to serve or to show, which its report
+-- belongs to; or nothing was asked of the bay, since the words ask for nothing or memory was wanted.
+abbrev pub Serviced : {B D L : Type 0} → (D → DiskState) → (L → LinkState) → (B → Holdings D) →
+    AsksDisk B D → AsksLinks B L → Serving → B → B → Outcome D L → Option (List ℕ) → Type 0
+Serviced device state holdings asks_disk asks_links serve old new outcome report =
+    (report ≡ None) × LeavesRest serve (holdings old) (holdings new)
     × (HasDisk device state holdings asks_disk asks_links serve old new outcome
-    ⊎ HasNoDisk holdings asks_disk serve old new outcome))
+    ⊎ HasNoDisk holdings asks_disk serve.disk serve.atom old new outcome)
 
--- `serve` on a plain disk has no disk of headers, and no pass
+abbrev pub Came : {B D L : Type 0} → (D → DiskState) → (L → LinkState) → (B → Holdings D) →
+    AsksDisk B D → AsksDisk B D → AsksLinks B L → List (List ℕ) → B → B → Outcome D L →
+    Option (List ℕ) → Type 0
+Came device state holdings asks_disk asks_reading asks_links words old new outcome report =
+    ((asked words ≡ None) × (outcome ≡ unserved Usage None []) × (new ≡ old) × (report ≡ None))
+    ⊎ ((outcome ≡ unserved Memory None []) × (new ≡ old) × (report ≡ None))
+    ⊎ ((serve : Serving) × (asked words ≡ Some (serves serve))
+    × Serviced device state holdings asks_disk asks_links serve old new outcome report)
+    ⊎ ((show : Showing) × (asked words ≡ Some (shows show))
+    × HasShown device holdings asks_reading show old new outcome report)
+
+-- no command has a disk of headers yet, nor a pass
 abbrev pub HasNoOther : {D P : Type 0} → Option D → Option P → Option P → Type 0
 HasNoOther header pass demo = (header ≡ None) × (pass ≡ None) × (demo ≡ None)

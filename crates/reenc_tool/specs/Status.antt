@@ -1,14 +1,36 @@
 -- The exit statuses of a command.
 use Rattle.std.specs.Prelude.{ℕ}
 use Rattle.reenc_tool.specs.declared.ended.Cause.{Cause}
-use Rattle.reenc_tool.specs.declared.ended.Cause.TheVariants.{Fine, Usage, Device, NoFit, Link}
+use Rattle.reenc_tool.specs.declared.ended.Cause.TheVariants.{Fine, Usage, Device, NoHeader}
+use Rattle.reenc_tool.specs.declared.ended.Cause.TheVariants.{Header, Foreign, NoFit, Link}
 use Rattle.reenc_tool.specs.declared.ended.Cause.TheVariants.{Output, Memory}
+use Rattle.reenc_tool.specs.declared.ended.Failing.TheVariants.{Reading}
+use Rattle.luks_rules.specs.declared.fault.RuleFault.{RuleFault}
+use Rattle.luks_rules.specs.declared.fault.RuleFault.TheVariants as rules
+use Rattle.luks_store.specs.declared.fault.StoreFault.{StoreFault}
+use Rattle.luks_store.specs.declared.fault.StoreFault.TheVariants as faults
 
 abbrev pub status_of : Cause → ℕ
 status_of Fine = 0
 status_of Usage = 1
 status_of (Device device) = 2
+status_of NoHeader = 3
+status_of Header = 4
+status_of Foreign = 7
 status_of (NoFit what number limit) = 8
 status_of (Link failed) = 10
 status_of Output = 11
 status_of Memory = 13
+
+-- the cause of a command whose header wasn't read: another program's header has one of its own
+abbrev pub cause_of_rule : RuleFault → Cause
+cause_of_rule (rules.Foreign text) = Foreign
+cause_of_rule _ = Header
+
+abbrev pub cause_of_store : StoreFault → Cause
+cause_of_store faults.Memory = Memory
+cause_of_store faults.Device = Device Reading
+cause_of_store (faults.NoHeader primary secondary) = NoHeader
+cause_of_store (faults.CopiesDiffer seqid place) = Header
+cause_of_store (faults.Json fault) = Header
+cause_of_store (faults.Rule rule) = cause_of_rule rule

@@ -1,10 +1,11 @@
--- The line that a command prints.
+-- The text that a command prints.
 use Rattle.std.specs.Prelude.{ℕ, ◌≡◌, ◌+◌, ◌-◌, ◌^◌, ◌<◌, min, List, [], ◌∷◌, ◌++◌, take, fold}
-use Rattle.std.specs.Prelude.{codes, Option, Some}
+use Rattle.std.specs.Prelude.{codes, Option, Some, None}
 use Rattle.std.specs.Fmt.{decimal}
 use Rattle.io_edge.specs.Outlet.{Outlet}
 use Rattle.reenc_tool.specs.declared.ended.Cause.{Cause}
-use Rattle.reenc_tool.specs.declared.ended.Cause.TheVariants.{Fine, Usage, Device, NoFit, Link}
+use Rattle.reenc_tool.specs.declared.ended.Cause.TheVariants.{Fine, Usage, Device, NoHeader}
+use Rattle.reenc_tool.specs.declared.ended.Cause.TheVariants.{Header, Foreign, NoFit, Link}
 use Rattle.reenc_tool.specs.declared.ended.Cause.TheVariants.{Output, Memory}
 
 -- how many sessions lists hold, up to the last value of 64 bits
@@ -19,29 +20,32 @@ abbrev pub fault_line : Cause → List ℕ
 fault_line Fine = []
 fault_line Usage = codes "fault 1 Usage" ++ 10 ∷ []
 fault_line (Device device) = codes "fault 2 Device" ++ 10 ∷ []
+fault_line NoHeader = codes "fault 3 NoHeader" ++ 10 ∷ []
+fault_line Header = codes "fault 4 Header" ++ 10 ∷ []
+fault_line Foreign = codes "fault 7 Foreign" ++ 10 ∷ []
 fault_line (NoFit what number limit) = codes "fault 8 NoFit" ++ 10 ∷ []
 fault_line (Link failed) = codes "fault 10 Link" ++ 10 ∷ []
 fault_line Output = []
 fault_line Memory = codes "fault 13 Memory" ++ 10 ∷ []
 
--- the line of a command whose cause was fine, by its cause after the line: where memory was wanted
--- for
--- it, and else the line that was to be
-abbrev pub line_when_fine : Cause → ℕ → List ℕ
-line_when_fine Memory count = fault_line Memory
-line_when_fine _ count = served_line count
+-- what a command says that did what it was asked: a report of its own, or how many sessions it
+-- served
+abbrev pub said : Option (List ℕ) → ℕ → List ℕ
+said (Some report) count = report
+said None count = served_line count
 
--- the line of a command, by its cause before and after
-abbrev pub line_of : Cause → Cause → ℕ → List ℕ
-line_of Fine after count = line_when_fine after count
-line_of Usage after count = fault_line Usage
-line_of (Device device) after count = fault_line (Device device)
-line_of (NoFit what number limit) after count = fault_line (NoFit what number limit)
-line_of (Link failed) after count = fault_line (Link failed)
-line_of Output after count = fault_line Output
-line_of Memory after count = fault_line Memory
+-- the text of a command whose cause was fine, by its cause after the text: where memory was wanted
+-- for it, and else the text that was to be
+abbrev pub text_when_fine : Cause → List ℕ → List ℕ
+text_when_fine Memory text = fault_line Memory
+text_when_fine _ text = text
 
--- a front of the line was put; where the sink didn't fail all of it was, and has gone out
+-- the text of a command, by its cause before and after
+abbrev pub text_of : Cause → Cause → List ℕ → List ℕ
+text_of Fine after text = text_when_fine after text
+text_of cause after text = fault_line cause
+
+-- a front of the text was put; where the sink didn't fail all of it was, and has gone out
 pub record Prints (old new : Outlet) (line : List ℕ) : Type 0 where
   pub front : (had : List ℕ) → old.had ≡ Some had → (k : ℕ) × (new.had ≡ Some (had ++ take k line))
   pub whole : (had : List ℕ) → old.had ≡ Some had → new.faults ≡ old.faults →

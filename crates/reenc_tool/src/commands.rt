@@ -1,21 +1,22 @@
 ghost use Rattle.std.specs.Prelude.{◌≡◌, ◌<◌, ◌≤◌, ◌⊎◌, ℕ, List, [], length, map, slice_index_or};
-ghost use Rattle.std.specs.Prelude.{string_bytes, vec_len, Some, None, false, IfOk};
+ghost use Rattle.std.specs.Prelude.{string_bytes, vec_len, Option, Some, None, IfOk, option_map};
 ghost use Rattle.bays.specs.Bays.{LeavesOtherClients};
-ghost use Rattle.reenc_tool.specs.Promise.{Came, HasNoOther, Outcome, Ran, Serves, cause_of};
-ghost use Rattle.reenc_tool.specs.Promise.{cause_of_fault, outcome_of, unserved};
+ghost use Rattle.command_line.specs.Commands.{IsServing, asked, serving};
+ghost use Rattle.reenc_tool.specs.Promise.{Came, HasNoOther, Ran, Serves, Serviced, cause_of};
+ghost use Rattle.reenc_tool.specs.Outcomes.{Outcome, cause_of_fault, outcome_of, unserved};
 ghost use Rattle.reenc_tool.specs.Ending.{EndsAs};
 ghost use Rattle.reenc_tool.specs.Status.{status_of};
-ghost use Rattle.reenc_tool.specs.Texts.{Prints, line_of, sessions_in};
-ghost use Rattle.reenc_tool.specs.Words.{NotServe};
+ghost use Rattle.reenc_tool.specs.Texts.{Prints, said, sessions_in, text_of};
 ghost use Rattle.reenc_tool.specs.declared.ended.Cause.{Cause};
 
 use crate::ended::{Cause, Ended, Failing, Fit};
 use crate::port::VolumePort;
 use crate::serving::{Trouble, serve_links};
+use crate::showing::show;
 use crate::text::{count_sessions, print};
-use crate::words::{Command, read_words};
 use base_terms::Buffer;
 use bays::{Bay, BayFault, Link};
+use command_line::{Command, Refusal, Serve, read_words};
 use io_edge::{Gate, Seeds, Sink};
 use nbd_session::SessionEnd;
 use sector_cipher::Context;
@@ -30,16 +31,14 @@ use volume_laws::{
     tables_are_of_events,
 };
 
-/// How many links serve a command.
-const WORKERS: u32 = 4;
-
 /// How many lanes the volume has: the one that executes the sessions' operations, and the
 /// conversion's own.
 const LANES: u32 = 2;
 
 /// Serves sessions over links on a disk that has a block, and hands both back.
 fn serve_disk<D: Disk, L: Link>(alloc: Global, disk: D, mut links: Vec<L>) -> Ended<D, L>
-    requires count { length links.items ≡ 4 }
+    requires some { 0 < length links.items }
+    requires few { length links.items ≤ 16 }
     requires bound { (k : ℕ) (link : L) → k < length links.items →
         (L.state (slice_index_or links.items k link)).bound ≤ 65535 }
     ensures status { result.status ≡ status_of result.cause }
@@ -77,6 +76,7 @@ fn serve_disk<D: Disk, L: Link>(alloc: Global, disk: D, mut links: Vec<L>) -> En
     Ended {
         status: cause.status(),
         cause,
+        fault: None,
         memory: trouble.memory,
         disk: Some(volume.into_disk()),
         header: None,
@@ -104,7 +104,7 @@ fn cause(broken: bool, trouble: Trouble) -> Cause
 }
 
 /// The cause of a command to which the bay gave nothing.
-fn cause_by(failing: Failing, fault: BayFault) -> Cause
+pub fn cause_by(failing: Failing, fault: BayFault) -> Cause
     ensures { result ≡ cause_of_fault failing fault }
 {
     match fault {
@@ -127,7 +127,7 @@ fn empty_lists(alloc: Global, count: usize) -> Result<Vec<Vec<SessionEnd>>, Allo
 }
 
 /// Ends without a session, and hands back the disk and the links that the bay gave.
-fn unserved<D, L>(alloc: Global, cause: Cause, disk: Option<D>, links: Vec<L>) -> Ended<D, L>
+pub fn unserved<D, L>(alloc: Global, cause: Cause, disk: Option<D>, links: Vec<L>) -> Ended<D, L>
     ensures status { result.status ≡ status_of cause }
     ensures other { HasNoOther result.header result.pass result.demo }
     ensures outcome { outcome_of result ≡ unserved cause disk links.items }
@@ -135,6 +135,7 @@ fn unserved<D, L>(alloc: Global, cause: Cause, disk: Option<D>, links: Vec<L>) -
     Ended {
         status: cause.status(),
         cause,
+        fault: None,
         memory: false,
         disk,
         header: None,
@@ -150,20 +151,14 @@ fn serve_plain<B: Bay>(
     alloc: Global,
     bay: &mut B,
     disk: B::Disk,
-    command: &Command<'_>,
+    words: &Serve<'_>,
 ) -> Ended<B::Disk, B::Link>
-    requires { command.now.sessions ≤ 65535 }
+    requires { IsServing (serving words.now) }
     ensures status { result.status ≡ status_of result.cause }
     ensures other { HasNoOther result.header result.pass result.demo }
-    ensures leaves { LeavesOtherClients command.now.address.now (B.holdings bay.old)
+    ensures leaves { LeavesOtherClients words.now.address.now (B.holdings bay.old)
         (B.holdings bay.new) }
-    ensures ended { Serves B.Disk.device B.Link.state B.holdings B.asks_links
-        (record {
-          disk = command.now.disk.now;
-          atom = command.now.atom;
-          address = command.now.address.now;
-          sessions = command.now.sessions;
-        })
+    ensures ended { Serves B.Disk.device B.Link.state B.holdings B.asks_links (serving words.now)
         disk bay.old bay.new (outcome_of result) }
 {
     if disk.atoms() == 0 {
@@ -174,7 +169,7 @@ fn serve_plain<B: Bay>(
         };
         return unserved(alloc, cause, Some(disk), Vec::new(alloc));
     }
-    match bay.links(alloc, command.address, WORKERS, command.sessions) {
+    match bay.links(alloc, words.address, words.workers, words.sessions) {
         Ok(links) => serve_disk(alloc, disk, links),
         Err(fault) => {
             let cause = cause_by(Failing::Listening, fault);
@@ -183,19 +178,16 @@ fn serve_plain<B: Bay>(
     }
 }
 
-/// Executes the command that the words ask for.
-fn execute<B: Bay>(alloc: Global, words: &[String], bay: &mut B) -> Ended<B::Disk, B::Link>
+/// Asks the bay for a disk, and serves sessions on it.
+fn serve<B: Bay>(alloc: Global, bay: &mut B, words: &Serve<'_>) -> Ended<B::Disk, B::Link>
+    requires { IsServing (serving words.now) }
     ensures status { result.status ≡ status_of result.cause }
     ensures other { HasNoOther result.header result.pass result.demo }
-    ensures came { Came B.Disk.device B.Link.state B.holdings B.asks_disk B.asks_links
-        (map string_bytes words.now) bay.old bay.new (outcome_of result) }
-    ensures unasked { NotServe (map string_bytes words.now) → bay.new ≡ bay.old }
+    ensures serviced { Serviced B.Disk.device B.Link.state B.holdings B.asks_disk B.asks_links
+        (serving words.now) bay.old bay.new (outcome_of result) None }
 {
-    let Some(command) = read_words(words) else {
-        return unserved(alloc, Cause::Usage, None, Vec::new(alloc));
-    };
-    match bay.disk(alloc, command.disk, command.atom) {
-        Ok(disk) => serve_plain(alloc, bay, disk, &command),
+    match bay.disk(alloc, words.disk, words.atom) {
+        Ok(disk) => serve_plain(alloc, bay, disk, words),
         Err(fault) => {
             let cause = cause_by(Failing::Opening, fault);
             unserved(alloc, cause, None, Vec::new(alloc))
@@ -203,18 +195,40 @@ fn execute<B: Bay>(alloc: Global, words: &[String], bay: &mut B) -> Ended<B::Dis
     }
 }
 
-/// Runs the command that the words behind the program's name ask for, and prints one line: `served
-/// S sessions`, or `fault N NAME` with the status and the cause. The words are `serve DISK --plain
-/// --atom 512|4096 --listen ADDRESS --sessions n`, in this order, with n from 1 to 65535.
+/// Executes the command that the words ask for, and gives its report, where it has one.
+fn execute<B: Bay>(
+    alloc: Global,
+    words: &[String],
+    bay: &mut B,
+) -> (Ended<B::Disk, B::Link>, Option<String>)
+    ensures status { result.0.status ≡ status_of result.0.cause }
+    ensures other { HasNoOther result.0.header result.0.pass result.0.demo }
+    ensures came { Came B.Disk.device B.Link.state B.holdings B.asks_disk B.asks_reading
+        B.asks_links (map string_bytes words.now) bay.old bay.new (outcome_of result.0)
+        (option_map (λ text. string_bytes text) result.1) }
+    ensures unasked { asked (map string_bytes words.now) ≡ None → bay.new ≡ bay.old }
+{
+    match read_words(alloc, words) {
+        Ok(Command::Serve(words)) => (serve(alloc, bay, &words), None),
+        Ok(Command::Status(words)) => show(alloc, bay, &words),
+        Err(Refusal::Usage) => (unserved(alloc, Cause::Usage, None, Vec::new(alloc)), None),
+        Err(Refusal::Memory) => (unserved(alloc, Cause::Memory, None, Vec::new(alloc)), None),
+    }
+}
+
+/// Runs the command that the words behind the program's name ask for, and prints what it says: of
+/// `serve` on a plain disk `served S sessions`, of `status` what the header of a disk says, and of
+/// one that is refused `fault N NAME` with the status and the cause. `docs/CLI.md` has the words.
 ///
-/// What holds at the end is `Came` of `specs/`, before the line is printed: where sessions were
+/// What holds at the end is `Came` of `specs/`, before the text is printed. Where sessions were
 /// served they are sessions of the protocol over the bytes that the links' connections gave, and
 /// their operations are one legal history of the plain disk that was handed in. The disk's tables
 /// are those of the operations' device calls, and wherever the run stops the disk holds what that
-/// history allows. Each cause has its reason. The bay is asked once for the disk, then once for
-/// four links, and for nothing else. The line changes the cause only where all was fine: to
-/// `Output` where it can't be put and pushed out, to `Memory` where memory is wanted for it. Words
-/// that ask for nothing leave the bay as it was. The seeds aren't drawn from.
+/// history allows. Of a header all lines are told, or why there is none; the disk is read alone.
+/// Each cause has its reason. The bay is asked once for the disk, and for clients once for the
+/// links, and for nothing else. The text changes the cause only where all was fine: to `Output` where
+/// it can't be put and pushed out, to `Memory` where memory is wanted for it. Words that ask for
+/// nothing leave the bay as it was. The seeds aren't drawn from.
 pub fn run<W: Threads + Wait + Sync, B: Bay, R: Seeds, O: Sink, G: Gate>(
     _rt: &W,
     alloc: Global,
@@ -226,20 +240,22 @@ pub fn run<W: Threads + Wait + Sync, B: Bay, R: Seeds, O: Sink, G: Gate>(
 ) -> Ended<B::Disk, B::Link>
     ensures status { result.status ≡ status_of result.cause }
     ensures other { HasNoOther result.header result.pass result.demo }
-    ensures run { (cause : Cause)
+    ensures run { (cause : Cause) × (report : Option (List ℕ))
         × EndsAs cause (O.outlet out.old).faults (O.outlet out.new).faults result.cause
-        × Came B.Disk.device B.Link.state B.holdings B.asks_disk B.asks_links
+        × Came B.Disk.device B.Link.state B.holdings B.asks_disk B.asks_reading B.asks_links
         (map string_bytes words.now) bay.old bay.new (record (outcome_of result) { cause = cause })
-        × Prints (O.outlet out.old) (O.outlet out.new)
-        (line_of cause result.cause (sessions_in (λ list. vec_len list) result.sessions.items)) }
-    ensures unasked { NotServe (map string_bytes words.now) → bay.new ≡ bay.old }
+        report
+        × Prints (O.outlet out.old) (O.outlet out.new) (text_of cause result.cause
+        (said report (sessions_in (λ list. vec_len list) result.sessions.items))) }
+    ensures unasked { asked (map string_bytes words.now) ≡ None → bay.new ≡ bay.old }
     ensures seeds { _seeds.new ≡ _seeds.old }
 {
-    let ended = execute(alloc, words, bay);
+    let (ended, report) = execute(alloc, words, bay);
     let cause = print(
         alloc,
         out,
         ended.cause,
+        &report,
         count_sessions(ended.sessions.as_slice()),
     );
     ended.ending_by(cause)

@@ -1,7 +1,9 @@
 ghost use Rattle.std.specs.Prelude.{◌≡◌, ◌≢◌, true, false};
-ghost use Rattle.reenc_tool.specs.Status.{status_of};
+ghost use Rattle.reenc_tool.specs.Status.{cause_of_store, status_of};
 ghost use Rattle.reenc_tool.specs.Texts.{fault_line};
 
+use luks_rules::RuleFault;
+use luks_store::StoreFault;
 use nbd_session::SessionEnd;
 
 /// Why a command ended as it did. Where several causes hold, it is the first in the order of the
@@ -15,6 +17,13 @@ pub enum Cause {
     Usage,
     /// This failed, which ended the command: status 2.
     Device(Failing),
+    /// The disk has no valid copy of a header: status 3.
+    NoHeader,
+    /// The copies of the header differ, its text has a fault, or its objects break a rule: status
+    /// 4.
+    Header,
+    /// The header is another program's: status 7.
+    Foreign,
     /// Something doesn't fit: the counted number is beyond its limit. Status 8.
     NoFit { what: Fit, number: u64, limit: u64 },
     /// So many links failed: status 10.
@@ -32,6 +41,8 @@ pub enum Failing {
     Opening,
     /// The bay gave no links.
     Listening,
+    /// A read of the disk failed.
+    Reading,
     /// A write or a sync of the disk failed.
     Writing,
 }
@@ -52,6 +63,21 @@ impl Cause {
         matches!(self, Cause::Fine)
     }
 
+    /// The cause of a command whose header wasn't read.
+    pub(crate) fn of_store(fault: &StoreFault) -> Cause
+        ensures { result ≡ cause_of_store fault.now }
+    {
+        match fault {
+            StoreFault::Memory => Cause::Memory,
+            StoreFault::Device => Cause::Device(Failing::Reading),
+            StoreFault::NoHeader { .. } => Cause::NoHeader,
+            StoreFault::Rule(RuleFault::Foreign(_)) => Cause::Foreign,
+            StoreFault::CopiesDiffer { .. } | StoreFault::Json(_) | StoreFault::Rule(_) => {
+                Cause::Header
+            }
+        }
+    }
+
     /// The exit status.
     pub fn status(self) -> u8
         ensures { result ≡ status_of self }
@@ -60,6 +86,9 @@ impl Cause {
             Cause::Fine => 0,
             Cause::Usage => 1,
             Cause::Device(_) => 2,
+            Cause::NoHeader => 3,
+            Cause::Header => 4,
+            Cause::Foreign => 7,
             Cause::NoFit { .. } => 8,
             Cause::Link { .. } => 10,
             Cause::Output => 11,
@@ -75,6 +104,9 @@ impl Cause {
             Cause::Fine | Cause::Output => "",
             Cause::Usage => "fault 1 Usage\n",
             Cause::Device(_) => "fault 2 Device\n",
+            Cause::NoHeader => "fault 3 NoHeader\n",
+            Cause::Header => "fault 4 Header\n",
+            Cause::Foreign => "fault 7 Foreign\n",
             Cause::NoFit { .. } => "fault 8 NoFit\n",
             Cause::Link { .. } => "fault 10 Link\n",
             Cause::Memory => "fault 13 Memory\n",
@@ -92,6 +124,8 @@ pub struct Ended<D, L> {
     /// The exit status, which the cause determines.
     pub status: u8,
     pub cause: Cause,
+    /// Why no header was read, where that is the cause.
+    pub fault: Option<StoreFault>,
     /// Whether memory was wanted for a session's end: then clients may have been left, of each
     /// link.
     pub memory: bool,
@@ -112,6 +146,7 @@ impl<D, L> Ended<D, L> {
     pub fn ending_by(self, cause: Cause) -> Ended<D, L>
         ensures status { result.status ≡ status_of cause }
         ensures cause { result.cause ≡ cause }
+        ensures fault { result.fault ≡ self.fault }
         ensures memory { result.memory ≡ self.memory }
         ensures disk { result.disk ≡ self.disk }
         ensures sessions { result.sessions ≡ self.sessions }
@@ -121,6 +156,7 @@ impl<D, L> Ended<D, L> {
         ensures demo { result.demo ≡ self.demo }
     {
         let Ended {
+            fault,
             memory,
             disk,
             header,
@@ -133,6 +169,7 @@ impl<D, L> Ended<D, L> {
         Ended {
             status: cause.status(),
             cause,
+            fault,
             memory,
             disk,
             header,

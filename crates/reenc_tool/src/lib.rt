@@ -9,12 +9,15 @@ mod connection;
 mod ended;
 mod port;
 mod serving;
+mod showing;
 #[cfg(test)]
 mod tests;
 mod text;
-mod words;
 
 pub use bays::{Bay, BayFault, Link};
 pub use commands::run;
+pub use command_line::explain_words;
 pub use ended::{Cause, Ended, Failing, Fit, Pass};
+pub use header_report::FaultText;
+pub use luks_store::StoreFault;
 pub use nbd_session::{Ending, SessionEnd};

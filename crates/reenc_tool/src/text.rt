@@ -1,7 +1,8 @@
-ghost use Rattle.std.specs.Prelude.{◌≡◌, ◌++◌, ℕ, vec_len, IfOk, string_bytes};
+ghost use Rattle.std.specs.Prelude.{◌≡◌, ◌++◌, ℕ, vec_len, IfOk, option_map, string_bytes};
 ghost use Rattle.base_terms.specs.Causes.{HasCause};
 ghost use Rattle.reenc_tool.specs.Ending.{EndsAs};
-ghost use Rattle.reenc_tool.specs.Texts.{Prints, line_of, served_line, sessions_in};
+ghost use Rattle.reenc_tool.specs.Texts.{Prints, said, served_line, sessions_in, text_of};
+ghost use Rattle.reenc_tool.specs.declared.ended.Cause.{Cause};
 
 use crate::ended::Cause;
 use base_terms::Failed;
@@ -18,31 +19,50 @@ pub fn count_sessions(lists: &[Vec<SessionEnd>]) -> usize
         .fold(0usize, |count, list| count.saturating_add(list.len()))
 }
 
-/// Prints the line of a command that ended so, and says how it ends: where all was fine and the
-/// line can't be put and pushed out, by `Output`; where memory is wanted for it, by `Memory`.
-pub fn print<O: Sink>(alloc: Global, out: &mut O, cause: Cause, sessions: usize) -> Cause
+/// Prints what a command says that ended so, and says how it ends: where all was fine and the text
+/// can't be put and pushed out, by `Output`; where memory is wanted for it, by `Memory`. What is
+/// said where all was fine is the report, or, where there is none, how many sessions were served.
+pub fn print<O: Sink>(
+    alloc: Global,
+    out: &mut O,
+    cause: Cause,
+    report: &Option<String>,
+    sessions: usize,
+) -> Cause
     ensures cause { EndsAs cause (O.outlet out.old).faults (O.outlet out.new).faults result }
-    ensures line { Prints (O.outlet out.old) (O.outlet out.new) (line_of cause result sessions) }
+    ensures text { Prints (O.outlet out.old) (O.outlet out.new)
+        (text_of cause result (said (option_map (λ text. string_bytes text) report.now) sessions)) }
 {
     if !cause.is_fine() {
-        let _ = put_line(out, cause.line().as_bytes());
+        let _ = put_text(out, cause.line());
         return cause;
     }
+    if let Some(report) = report {
+        return put_report(out, report.as_str());
+    }
     let Ok(line) = served_text(alloc, sessions) else {
-        let _ = put_line(out, Cause::Memory.line().as_bytes());
+        let _ = put_text(out, Cause::Memory.line());
         return Cause::Memory;
     };
-    match put_line(out, line.as_bytes()) {
+    put_report(out, line.as_str())
+}
+
+/// Prints the text of a command that did what it was asked.
+fn put_report<O: Sink>(out: &mut O, text: &str) -> Cause
+    ensures cause { EndsAs Cause.Fine (O.outlet out.old).faults (O.outlet out.new).faults result }
+    ensures text { Prints (O.outlet out.old) (O.outlet out.new) (text_of Cause.Fine result text.now) }
+{
+    match put_text(out, text) {
         Ok(()) => Cause::Fine,
         Err(_) => Cause::Output,
     }
 }
 
-fn put_line<O: Sink>(out: &mut O, line: &[u8]) -> Result<(), Failed>
-    ensures line { Prints (O.outlet out.old) (O.outlet out.new) line.now }
+fn put_text<O: Sink>(out: &mut O, text: &str) -> Result<(), Failed>
+    ensures text { Prints (O.outlet out.old) (O.outlet out.new) text.now }
     ensures cause { HasCause (O.outlet out.old).faults (O.outlet out.new).faults result }
 {
-    match out.put(line) {
+    match out.put(text.as_bytes()) {
         Ok(()) => out.push_out(),
         Err(failed) => Err(failed),
     }

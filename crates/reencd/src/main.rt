@@ -18,7 +18,7 @@ use host_bay::HostBay;
 use io_edge::{OpenGate, OsSeeds, Seeds, Sink, StdSink};
 use network::Network;
 use notices::explain;
-use reenc_tool::{Cause, run};
+use reenc_tool::{Cause, StoreFault, run};
 use std::alloc::Global;
 use std::env;
 use std::io::{ErrorKind, Stderr};
@@ -37,7 +37,7 @@ fn main(rt: HostRuntime) -> ExitCode {
     };
     let mut bay = HostBay::new(rt, rt.stdin(), rt.stdout(), rt.stderr());
     let mut seeds = OsSeeds::new(rt);
-    let cause = command(
+    let (cause, fault) = command(
         &rt,
         rt.alloc(),
         words.as_slice(),
@@ -45,11 +45,12 @@ fn main(rt: HostRuntime) -> ExitCode {
         &mut seeds,
         &mut out,
     );
-    explain(rt.stderr(), cause);
+    explain(rt.alloc(), rt.stderr(), words.as_slice(), cause, &fault);
     ExitCode::from(cause.status())
 }
 
-/// Runs the command of the words over the machine's bay, and tells why it ended as it did.
+/// Runs the command of the words over the machine's bay, and gives why it ended as it did, and why no
+/// header was read.
 fn command<W: Threads + Wait + Sync, R: FileSystem + Network + Drop, S: Seeds, O: Sink>(
     rt: &W,
     alloc: Global,
@@ -57,9 +58,9 @@ fn command<W: Threads + Wait + Sync, R: FileSystem + Network + Drop, S: Seeds, O
     bay: &mut HostBay<R>,
     seeds: &mut S,
     out: &mut O,
-) -> Cause {
+) -> (Cause, Option<StoreFault>) {
     let ended = run(rt, alloc, words, bay, seeds, out, &OpenGate);
-    ended.cause
+    (ended.cause, ended.fault)
 }
 
 /// Ends before any word was seen: a word that isn't text is a faulty command line.
@@ -70,6 +71,8 @@ fn ended_early(rt: &impl Print, errors: Stderr, kind: ErrorKind) -> ExitCode {
         Cause::Usage
     };
     let _ = rt.print(cause.line());
-    explain(errors, cause);
+    if let Cause::Usage = cause {
+        let _ = eprintln!(errors; "reencd: a word isn't UTF-8");
+    }
     ExitCode::from(cause.status())
 }

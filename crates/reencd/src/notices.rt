@@ -1,11 +1,7 @@
 use crate::network::Listener;
-use reenc_tool::{Cause, Fit};
+use reenc_tool::{Cause, FaultText, Fit, StoreFault, explain_words};
 use std::alloc::Global;
 use std::io::{self, Stderr};
-
-/// How the program is called.
-const USAGE: &str =
-    "usage: reencd serve DISK --plain --atom 512|4096 --listen HOST:PORT|stdio --sessions N";
 
 /// Says in one line on standard error what the system refused and why, as `reencd: disk.img: No
 /// such file or directory`. Where that line can't be put, nobody is told.
@@ -31,23 +27,39 @@ pub fn announce(errors: Stderr, listener: &impl Listener) {
     }
 }
 
-/// Says in one line on standard error what was wrong with the words of a command, or with its disk.
-/// What the system refused was told when it did.
-pub fn explain(errors: Stderr, cause: Cause) {
-    if let Some(reason) = reason_of(cause) {
-        let _ = eprintln!(errors; "reencd: {reason}");
-    }
-}
-
-/// What was wrong, where nothing else has told it.
-fn reason_of(cause: Cause) -> Option<&'static str> {
+/// Says on standard error what was wrong with the words of a command, with its disk, or with the
+/// header on it. What the system refused was told when it did.
+pub fn explain(
+    alloc: Global,
+    errors: Stderr,
+    words: &[String],
+    cause: Cause,
+    fault: &Option<StoreFault>,
+) {
     match cause {
-        Cause::Usage => Some(USAGE),
+        Cause::Usage => explain_usage(alloc, errors, words),
         Cause::NoFit {
             what: Fit::Blocks,
             ..
-        } => Some("the disk is smaller than one block"),
-        Cause::Fine | Cause::Device(_) | Cause::Link { .. } | Cause::Output | Cause::Memory => None,
+        } => {
+            let _ = eprintln!(errors; "reencd: the disk is smaller than one block");
+        }
+        Cause::NoHeader | Cause::Header | Cause::Foreign => explain_header(errors, fault),
+        Cause::Fine | Cause::Device(_) | Cause::Link { .. } | Cause::Output | Cause::Memory => {}
+    }
+}
+
+/// Says what was wrong with the words, or the help that they ask for.
+fn explain_usage(alloc: Global, errors: Stderr, words: &[String]) {
+    if let Ok(Some(text)) = explain_words(alloc, words) {
+        let _ = eprint!(errors; "{}", text.as_str());
+    }
+}
+
+/// Says in one line what is wrong with a header.
+fn explain_header(errors: Stderr, fault: &Option<StoreFault>) {
+    if let Some(fault) = fault {
+        let _ = eprintln!(errors; "reencd: header: {}", FaultText(fault));
     }
 }
 

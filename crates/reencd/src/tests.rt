@@ -128,7 +128,7 @@ fn command(
     let mut bay = bay_of(rt);
     let mut seeds = OsSeeds::new(rt);
     let mut out = ListSink::new(rt.alloc(), 100, &[])?;
-    let cause = super::command(threads, rt.alloc(), &list, &mut bay, &mut seeds, &mut out);
+    let (cause, _) = super::command(threads, rt.alloc(), &list, &mut bay, &mut seeds, &mut out);
     Ok((cause.status(), out))
 }
 

@@ -1,36 +1,38 @@
-use Rattle.std.proofs.Common.{ℕ, ◌∙◌, map, ap, sym, subst}
+use Rattle.std.proofs.Common.{ℕ, List, Option, ◌∙◌, map, ap, sym, subst, option_map}
 use Rattle.std.specs.Prelude.{string_bytes, vec_len}
 use Rattle.reenc_tool.specs.declared.ended.Cause.{Cause}
 use Rattle.reenc_tool.specs.Ending.{EndsAs}
-use Rattle.reenc_tool.specs.Promise.{Came, Outcome, outcome_of}
-use Rattle.reenc_tool.specs.Texts.{Prints, line_of, sessions_in}
+use Rattle.reenc_tool.specs.Outcomes.{Outcome, outcome_of}
+use Rattle.reenc_tool.specs.Promise.{Came}
+use Rattle.reenc_tool.specs.Texts.{Prints, said, sessions_in, text_of}
 use Rattle.reenc_tool.proofs.RunLemmas.{same_outcome}
 use Rattle.reenc_tool.proofs.commands.run.Goals as goal
 
 pub returns-clause-run : goal.returns-clause-run
 returns-clause-run g c =
-    let ended = c.execute-ended.result in
+    let ended = c.execute-ended.result.0 in
+    let report = option_map (λ text. string_bytes text) c.execute-ended.result.1 in
     let before = g.O.Sink.outlet c.args.out.now in
     let after = g.O.Sink.outlet c.print-cause.new.out in
     let is = c.ending_by.ensures in
     let sessions = ap (λ lists. lists.items) is.sessions in (
       ended.cause,
+      report,
       subst (λ (cause : Cause). EndsAs ended.cause before.faults after.faults cause) (sym is.cause)
           c.print-cause.ensures.cause,
       subst (λ (o : Outcome _ _). Came g.B.Disk.Disk.device g.B.Link.Link.state g.B.Bay.holdings
-          g.B.Bay.asks_disk g.B.Bay.asks_links (map string_bytes c.args.words.now) c.args.bay.now
-          c.execute-ended.new.bay o)
-          (same_outcome ended.cause _ _ _ _ _ _ _ _ (sym is.memory) (sym is.disk)
-          (ap (λ links. links.items) (sym is.links))
+          g.B.Bay.asks_disk g.B.Bay.asks_reading g.B.Bay.asks_links
+          (map string_bytes c.args.words.now) c.args.bay.now c.execute-ended.new.bay o report)
+          (same_outcome ended.cause _ _ _ _ _ _ _ _ _ _ (sym is.fault) (sym is.memory)
+          (sym is.disk) (ap (λ links. links.items) (sym is.links))
           (ap (λ ends. map (λ list. list.items) ends.items) (sym is.sessions)))
           c.execute-ended.ensures.came,
-      subst (λ (cause : Cause). Prints before after
-          (line_of ended.cause cause
-          (sessions_in (λ list. vec_len list) c.ending_by.result.sessions.items)))
+      subst (λ (cause : Cause). Prints before after (text_of ended.cause cause
+          (said report (sessions_in (λ list. vec_len list) c.ending_by.result.sessions.items))))
           (sym is.cause)
           (subst (λ (count : ℕ).
-          Prints before after (line_of ended.cause c.print-cause.result count))
+          Prints before after (text_of ended.cause c.print-cause.result (said report count)))
           (c.count_sessions.ensures
           ∙ ap (sessions_in (λ list. vec_len list)) (c.as_slice.ensures.value ∙ sym sessions))
-          c.print-cause.ensures.line),
+          c.print-cause.ensures.text),
     )

@@ -16,7 +16,7 @@ returns-clause-ended g c =
     let fits = c.keys-keys.ensures.fits in
     let atom_is = made.map.atom in
     inl (ran_of g.D.Disk.device g.L.Link.state c.args.disk c.into_disk.result c.args.links.items
-    (some_element c.args.links.items 0 (omega (arith, c.requires.count))) _ start _ final did.run
+    (some_element c.args.links.items 0 c.requires.some) _ start _ final did.run
     c.serve_links-trouble.result.failed s.0 _ _
     (record {
       served = c.every_run_is_served.ensures start _;

@@ -1,12 +1,13 @@
 use Rattle.std.proofs.Common.{ap, ◌∙◌, arith, inl, inr, Some, []}
-use Rattle.reenc_tool.specs.Promise.{unserved}
+use Rattle.reenc_tool.specs.Outcomes.{unserved}
 use Rattle.reenc_tool.proofs.RunLemmas.{links_few, unserved_of}
 use Rattle.reenc_tool.proofs.commands.serve_plain.Goals as goal
 
 pub serve_disk-requires-clause-bound : goal.serve_disk-requires-clause-bound
 serve_disk-requires-clause-bound g c =
-    links_few g.B.Link.Link.state c.args.command.now.sessions c.in-Ok.links.items
-    c.in-Ok.ensures.bound c.in-Ok.ensures.count c.requires
+    links_few g.B.Link.Link.state c.args.words.now.workers c.args.words.now.sessions
+    c.in-Ok.links.items c.in-Ok.ensures.bound c.requires.some_worker c.in-Ok.ensures.count
+    c.requires.sessions
 
 pub returns-in-Ok-clause-ended : goal.returns-in-Ok-clause-ended
 returns-in-Ok-clause-ended g c = inr (inr (record {
@@ -15,7 +16,7 @@ returns-in-Ok-clause-ended g c = inr (inr (record {
   asked = c.in-Ok.ensures.asked;
   stood = c.in-Ok.ensures.cause;
   given = record {
-    workers = c.in-Ok.ensures.count;
+    count = c.in-Ok.ensures.count;
     fresh = c.in-Ok.ensures.fresh;
     few = c.in-Ok.ensures.bound;
   };

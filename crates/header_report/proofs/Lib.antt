@@ -1,0 +1,2 @@
+pub mod ExamineLemmas
+pub mod LineLemmas

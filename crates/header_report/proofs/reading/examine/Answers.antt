@@ -1,0 +1,62 @@
+use Rattle.std.proofs.Common.{◌≡◌, ◌∙◌, ◌+◌, ◌*◌, ◌≤◌, ℕ, [], List, Option, Some, length, ap, sym}
+use Rattle.std.proofs.Common.{subst, arith, IfOk}
+use Rattle.disk_sizes.specs.declared.Sizes.{Sizes}
+use Rattle.joined_disk.specs.Counts.{joint_in, sizes_of}
+use Rattle.joined_disk.specs.Joined.{Joint, in_front, joined_disk}
+use Rattle.luks_store.specs.Devices.{device_of}
+use Rattle.luks_store.specs.declared.loaded.Stored.{Stored}
+use Rattle.sector_disk.specs.Devices.{Device}
+use Rattle.header_report.specs.Examinations.{sizes_alone}
+use Rattle.header_report.proofs.ExamineLemmas.{alone_sizes, alone_values, answers_alone, tells_by}
+use Rattle.header_report.proofs.reading.examine.Goals as goal
+
+pub returns-clause-told : goal.returns-clause-told
+returns-clause-told g c =
+    let device = g.D.Disk.device c.args.disk in
+    let disk = g.met.D.Disk.geometry c.args.disk in
+    let long : (all : List ℕ) → device.values ≡ Some all → length all ≡ device.atoms * device.size =
+    λ all is. g.met.D.Disk.whole c.args.disk all is in
+    let joint = c.alone-joined.ensures.joint in
+    let atom : (sizes_of c.alone-joined.result).atom ≡ device.size =
+    ap (λ (s : Sizes). s.atom) (sym c.sizes-sizes.ensures.is) ∙ c.sizes-sizes.ensures.atom
+    ∙ ap (λ (j : Joint). (joined_disk j).size) joint in
+    let sizes =
+    alone_sizes c.alone-joined.result device disk joint c.alone-joined.ensures.head atom in
+    tells_by device c.load_settled-loaded.result _
+    (answers_alone device (sizes_of c.alone-joined.result) (device_of c.alone-joined.result).values
+    c.load_settled-loaded.result sizes long
+    (λ all is. ap (λ (j : Joint). (joined_disk j).values) joint
+    ∙ alone_values device all disk is (long all is))
+    c.load_settled-loaded.ensures.held)
+    (subst (λ (s : Sizes). IfOk c.load_settled-loaded.result (λ stored. stored.valid.sizes ≡ s))
+    sizes
+    c.load_settled-loaded.ensures.sized) c.told.ensures
+
+pub returns-clause-read : goal.returns-clause-read
+returns-clause-read g c =
+    let device = g.D.Disk.device c.args.disk in
+    let joint = c.alone-joined.ensures.joint in
+    let after = c.load_settled-loaded.new.disk in
+    let kept = c.load_settled-loaded.ensures.kept in
+    let main = c.parts-head.ensures.main in
+    let none = sym c.parts-head.ensures.head ∙ c.in-None.is in
+    record {
+      holds = record {
+        size = ap (λ d. (g.D.Disk.device d).size) main ∙ kept.main.size
+            ∙ ap (λ (j : Joint). j.main.size) joint;
+        atoms = ap (λ d. (g.D.Disk.device d).atoms) main ∙ kept.main.atoms
+            ∙ ap (λ (j : Joint). j.main.atoms) joint;
+        values =
+            ap (λ d. (g.D.Disk.device d).values) main ∙ kept.main.values
+            ∙ ap (λ (j : Joint). j.main.values) joint;
+      };
+      later =
+          let before : (device_of c.alone-joined.result).faults ≡ 0 + device.faults =
+          ap (λ (j : Joint). (joined_disk j).faults) joint in
+          let front : (in_front g.D.Disk.device after.atom after.head).faults ≡ 0 =
+          ap (λ h. (in_front g.D.Disk.device after.atom h).faults) none in
+          let back : (g.D.Disk.device c.parts-head.result.1).faults
+          ≡ (g.D.Disk.device after.main).faults =
+          ap (λ d. (g.D.Disk.device d).faults) main in
+          omega (arith, kept.later, before, front, back);
+    }

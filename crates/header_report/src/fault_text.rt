@@ -1,0 +1,74 @@
+use luks_bin::BinFault;
+use luks_store::StoreFault;
+use std::fmt;
+
+/// Why a header isn't read, as it is told to people: one line, without its line feed.
+#[derive(Clone, Copy, Debug)]
+pub struct FaultText<'a>(pub &'a StoreFault);
+
+impl fmt::Display for FaultText<'_> {
+    fn fmt<W: fmt::Write>(&self, f: &mut fmt::Formatter<W>) -> fmt::Result {
+        match self.0 {
+            StoreFault::Memory => write!(f, "out of memory"),
+            StoreFault::Device => write!(f, "a read failed"),
+            StoreFault::NoHeader { primary, secondary } => {
+                let primary = CopyFault(primary);
+                let secondary = CopyFault(secondary);
+                write!(f, "primary: {primary}; secondary: {secondary}")
+            }
+            StoreFault::CopiesDiffer { seqid, place } => {
+                write!(
+                    f,
+                    "CopiesDiffer: both have seqid {seqid}, and differ at byte {place}"
+                )
+            }
+            StoreFault::Json(fault) => write!(f, "{fault}"),
+            StoreFault::Rule(fault) => write!(f, "{fault}"),
+        }
+    }
+}
+
+/// What is wrong with a copy.
+#[derive(Clone, Copy)]
+struct CopyFault<'a>(&'a BinFault);
+
+impl fmt::Display for CopyFault<'_> {
+    fn fmt<W: fmt::Write>(&self, f: &mut fmt::Formatter<W>) -> fmt::Result {
+        match self.0 {
+            BinFault::Magic => write!(f, "Magic"),
+            BinFault::Version(version) => write!(f, "Version {version}"),
+            BinFault::Size(size) => write!(f, "Size {size}"),
+            BinFault::Place(place) => write!(f, "Place {place}"),
+            BinFault::Algorithm => write!(f, "Algorithm"),
+            BinFault::Checksum { stored, computed } => {
+                let stored = Digits(sum_in(stored));
+                let computed = Digits(computed);
+                write!(f, "Checksum (stored {stored}, computed {computed})")
+            }
+            BinFault::Text(place) => write!(f, "Text without a NUL at byte {place}"),
+        }
+    }
+}
+
+/// The field of a checksum without the zeros that stand behind its 32 bytes, where there are none
+/// but zeros.
+fn sum_in(field: &[u8; 64]) -> &[u8] {
+    if field[32..].iter().all(|byte| *byte == 0) {
+        &field[..32]
+    } else {
+        field
+    }
+}
+
+/// Bytes in hexadecimal.
+#[derive(Clone, Copy)]
+struct Digits<'a>(&'a [u8]);
+
+impl fmt::Display for Digits<'_> {
+    fn fmt<W: fmt::Write>(&self, f: &mut fmt::Formatter<W>) -> fmt::Result {
+        for byte in self.0 {
+            write!(f, "{byte:02x}")?;
+        }
+        Ok(())
+    }
+}

@@ -1,0 +1,63 @@
+-- What a command hands back, and how it asks for its disk.
+use Rattle.std.specs.Prelude.{ℕ, ◌≡◌, Bool, false, List, [], map, Option, Some, None, Result, Err}
+use Rattle.bays.specs.Bays.{FaultCounts, Holdings, LeavesAll}
+use Rattle.bays.specs.declared.bay.BayFault.{BayFault}
+use Rattle.bays.specs.declared.bay.BayFault.TheVariants as BayFaults
+use Rattle.luks_store.specs.declared.fault.StoreFault.{StoreFault}
+use Rattle.nbd_session.specs.declared.ending.SessionEnd.{SessionEnd}
+use Rattle.reenc_tool.specs.declared.ended.Cause.{Cause}
+use Rattle.reenc_tool.specs.declared.ended.Cause.TheVariants.{Device, Memory}
+use Rattle.reenc_tool.specs.declared.ended.Ended.{Ended}
+use Rattle.reenc_tool.specs.declared.ended.Failing.{Failing}
+use Rattle.reenc_tool.specs.declared.ended.Failing.TheVariants.{Opening}
+
+-- what a command hands back: its cause, and why no header was read; whether memory was wanted for a
+-- session's end; its disk and its links, with the ends of each link's sessions
+pub record Outcome (D L : Type 0) : Type 0 where
+  pub cause : Cause
+  pub fault : Option StoreFault
+  pub memory : Bool
+  pub disk : Option D
+  pub links : List L
+  pub ends : List (List SessionEnd)
+
+abbrev pub outcome_of : {D L : Type 0} → Ended D L → Outcome D L
+outcome_of ended = record {
+  cause = ended.cause;
+  fault = ended.fault;
+  memory = ended.memory;
+  disk = ended.disk;
+  links = ended.links.items;
+  ends = map (λ list. list.items) ended.sessions.items;
+}
+
+-- what a command hands back that served no session
+abbrev pub unserved : {D L : Type 0} → Cause → Option D → List L → Outcome D L
+unserved cause disk links = record {
+  cause = cause;
+  fault = None;
+  memory = false;
+  disk = disk;
+  links = links;
+  ends = [];
+}
+
+-- what asking a bay for a disk does: from the bay before by what was asked for and answered to the
+-- bay after
+abbrev pub AsksDisk : Type 0 → Type 0 → Type 1
+AsksDisk B D = B → List ℕ → ℕ → Result D BayFault → B → Type 0
+
+-- the cause of a command that was given nothing: what it asked for failed, or memory was wanted
+abbrev pub cause_of_fault : Failing → BayFault → Cause
+cause_of_fault failing BayFaults.Failed = Device failing
+cause_of_fault failing BayFaults.Memory = Memory
+
+-- The bay was asked once for that disk and gave none, and lost nothing. Its count of faults rose
+-- where it failed, and stands where memory was wanted.
+pub record HasNoDisk {B D L : Type 0} (holdings : B → Holdings D) (asks : AsksDisk B D)
+    (name : List ℕ) (atom : ℕ) (old new : B) (outcome : Outcome D L) : Type 0 where
+  pub fault : BayFault
+  pub asked : asks old name atom (Err fault) new
+  pub leaves : LeavesAll (holdings old) (holdings new)
+  pub count : FaultCounts fault (holdings old).faults (holdings new).faults
+  pub outcome_is : outcome ≡ unserved (cause_of_fault Opening fault) None []

@@ -1,0 +1,69 @@
+ghost use Rattle.std.specs.Prelude.{◌≡◌, [], option_map, string_bytes};
+ghost use Rattle.command_line.specs.Commands.{IsAtomSize, showing};
+ghost use Rattle.header_report.specs.Examinations.{seen};
+ghost use Rattle.reenc_tool.specs.Outcomes.{Outcome, outcome_of};
+ghost use Rattle.reenc_tool.specs.Promise.{HasNoOther};
+ghost use Rattle.reenc_tool.specs.Showing.{HasShown, report_in, shown};
+ghost use Rattle.reenc_tool.specs.Status.{status_of};
+
+use crate::commands::{cause_by, unserved};
+use crate::ended::{Cause, Ended, Failing};
+use bays::Bay;
+use command_line::Status;
+use header_report::{Examined, examine};
+use luks_store::StoreFault;
+use std::alloc::Global;
+
+/// Ends a command that read the header of a disk, and gives what it says.
+fn shown<D, L>(
+    alloc: Global,
+    disk: D,
+    told: Result<String, StoreFault>,
+) -> (Ended<D, L>, Option<String>)
+    ensures status { result.0.status ≡ status_of result.0.cause }
+    ensures other { HasNoOther result.0.header result.0.pass result.0.demo }
+    ensures outcome { outcome_of result.0 ≡ shown disk (seen told) }
+    ensures report { option_map (λ text. string_bytes text) result.1 ≡ report_in (seen told) }
+{
+    let (cause, fault, report) = match told {
+        Ok(text) => (Cause::Fine, None, Some(text)),
+        Err(fault) => (Cause::of_store(&fault), Some(fault), None),
+    };
+    let ended = Ended {
+        status: cause.status(),
+        cause,
+        fault,
+        memory: false,
+        disk: Some(disk),
+        header: None,
+        pass: None,
+        demo: None,
+        sessions: Vec::new(alloc),
+        links: Vec::new(alloc),
+    };
+    (ended, report)
+}
+
+/// Asks the bay for a disk to be read alone, and gives what its header says.
+pub fn show<B: Bay>(
+    alloc: Global,
+    bay: &mut B,
+    words: &Status<'_>,
+) -> (Ended<B::Disk, B::Link>, Option<String>)
+    requires { IsAtomSize words.now.atom }
+    ensures status { result.0.status ≡ status_of result.0.cause }
+    ensures other { HasNoOther result.0.header result.0.pass result.0.demo }
+    ensures shown { HasShown B.Disk.device B.holdings B.asks_reading (showing words.now) bay.old
+        bay.new (outcome_of result.0) (option_map (λ text. string_bytes text) result.1) }
+{
+    match bay.disk_to_read(alloc, words.disk, words.atom) {
+        Ok(opened) => {
+            let Examined { disk, told } = examine(alloc, opened);
+            shown(alloc, disk, told)
+        }
+        Err(fault) => {
+            let cause = cause_by(Failing::Opening, fault);
+            (unserved(alloc, cause, None, Vec::new(alloc)), None)
+        }
+    }
+}
