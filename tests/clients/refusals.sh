@@ -15,15 +15,30 @@ plain() {
     echo "serve $1 --plain --atom 512 --listen $2 --sessions 1"
 }
 
-usage="reencd: usage: reencd serve DISK --plain --atom 512|4096 --listen HOST:PORT|stdio --sessions N"
+# These words are a faulty command line, and standard error says so.
+explains() {
+    reason=$1
+    shift
+    "$reencd" "$@" >out 2>err </dev/null
+    expect "$*" "$? $(cat out)" "1 fault 1 Usage"
+    grep -q -- "$reason" err || fail "it doesn't say '$reason': $(cat err)"
+}
+
 truncate -s 1M disk.img
 truncate -s 511 small.img
 mkdir folder
 # shellcheck disable=SC2046
 {
-    refuses 1 "fault 1 Usage" "$usage"
-    refuses 1 "fault 1 Usage" "$usage" serve
-    refuses 1 "fault 1 Usage" "$usage" --help
+    explains "Usage: reencd <COMMAND>"
+    explains "Usage: reencd <COMMAND>" --help
+    explains "error: the following required arguments were not provided" serve
+    explains "--listen <ADDRESS>" serve --help
+    explains "error: unrecognized subcommand 'open'" open
+    explains "error: unexpected argument '--size' found" status disk.img --size 1
+    explains "error: the argument '--plain' cannot be used multiple times" $(plain disk.img stdio) --plain
+    explains "error: --atom takes 512 or 4096" status disk.img --atom 1024
+    explains "error: --workers takes a number from 1 to 16" $(plain disk.img stdio) --workers 17
+    explains "error: this command is not built yet" resume disk.img --key-file key
     refuses 2 "fault 2 Device" "reencd: missing.img: No such file or directory" $(plain missing.img stdio)
     refuses 2 "fault 2 Device" "reencd: folder: Is a directory" $(plain folder stdio)
     refuses 8 "fault 8 NoFit" "reencd: the disk is smaller than one block" $(plain small.img stdio)
@@ -36,7 +51,7 @@ mkdir folder
     refuses 2 "fault 2 Device" "reencd: 127.0.0.1:$port: Address already in use" $(plain other.img "127.0.0.1:$port")
 }
 "$reencd" serve $'\377' >out 2>err </dev/null
-expect "a word that isn't UTF-8" "$? $(cat out) $(cat err)" "1 fault 1 Usage $usage"
+expect "a word that isn't UTF-8" "$? $(cat out) $(cat err)" "1 fault 1 Usage reencd: a word isn't UTF-8"
 if [ "$(id -u)" != 0 ]; then
     chmod 0 other.img
     # shellcheck disable=SC2046

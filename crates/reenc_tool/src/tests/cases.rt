@@ -326,8 +326,8 @@ pub const TALKERS: &[Case] = &[
     },
 ];
 
-/// The counts of sessions.
-pub const COUNTS: &[Case] = &[
+/// Words in other orders, with defaults, and at the bounds of their values.
+pub const WORDS: &[Case] = &[
     Case {
         shows: "a count of sessions is 1 to 65535",
         words: "serve x --plain --atom 512 --listen A --sessions 65535",
@@ -337,6 +337,35 @@ pub const COUNTS: &[Case] = &[
         shows: "a count of sessions is 1 to 65535",
         words: "serve x --plain --atom 512 --listen A --sessions 00000000000000000001",
         ..FINE
+    },
+    Case {
+        shows: "words come in any order, and those with a default may be left out",
+        words: "serve --listen A --atom=512 --no-worker x --workers 1 --plain",
+        ..FINE
+    },
+    Case {
+        shows: "a disk is had in atoms of 4096 bytes where no size is said",
+        words: "serve x --plain --listen A",
+        ..NO_DISK
+    },
+    Case {
+        shows: "a name that is empty is no disk's",
+        words: "serve  --plain --listen A",
+        ..NO_DISK
+    },
+    Case {
+        shows: "a disk of zeros has no header",
+        words: "status x --atom 512",
+        status: 3,
+        cause: Cause::NoHeader,
+        line: "fault 3 NoHeader\n",
+        has_disk: true,
+        ..NO_DISK
+    },
+    Case {
+        shows: "a bay that gives no disk is told of a status too",
+        words: "status y --atom 512",
+        ..NO_DISK
     },
 ];
 
@@ -635,17 +664,33 @@ pub const REFUSED: &[&str] = &[
     " ",
     "x --plain --atom 512 --listen A --sessions 1",
     "open x --plain --atom 512 --listen A --sessions 1",
-    "serve  --plain --atom 512 --listen A --sessions 1",
     "serve -x --plain --atom 512 --listen A --sessions 1",
     "serve x --plain --atom 1024 --listen A --sessions 1",
     "serve x --plain --atom 0512 --listen A --sessions 1",
     "serve x --plain --atom 512 --listen -A --sessions 1",
-    "serve x --plain --atom 512 --listen  --sessions 1",
     "serve x --plain --atom 512 --listen A --sessions 0",
     "serve x --plain --atom 512 --listen A --sessions 65536",
     "serve x --plain --atom 512 --listen A --sessions +1",
     "serve x --plain --atom 512 --listen A --sessions 000000000000000000001",
     "serve x --plain --atom 512 --listen A --sessions",
-    "serve x --plain --listen A --atom 512 --sessions 1",
+    "serve x --plain --atom 512 --atom 512 --listen A --sessions 1",
+    "serve x y --plain --atom 512 --listen A --sessions 1",
+    "serve x --atom 512 --listen A --sessions 1",
+    "serve x --plain --key-file k --atom 512 --listen A --sessions 1",
+    "serve x --key-file k --atom 512 --listen A --sessions 1",
+    "serve x --plain --header h --atom 512 --listen A --sessions 1",
+    "serve x --plain --atom 512 --sessions 1",
+    "serve x --plain --atom 512 --listen A --workers 0",
+    "serve x --plain --atom 512 --listen A --workers 17",
+    "serve --help",
+    "status",
+    "status x y",
+    "status x --plain",
+    "status x --header h",
+    "format x --key-file k",
+    "init x --key-file k",
+    "resume x --key-file k",
+    "demo --seed 5 --blocks 64 --workers 4",
+    "help",
     "serve x --plain --atom 512 --listen A --sessions 1 1",
 ];
