@@ -15,8 +15,8 @@ mod tests;
 mod text;
 
 pub use bays::{Bay, BayFault, Link};
-pub use commands::run;
 pub use command_line::explain_words;
+pub use commands::run;
 pub use ended::{Cause, Ended, Failing, Fit, Pass};
 pub use header_report::FaultText;
 pub use luks_store::StoreFault;

@@ -207,12 +207,7 @@ impl<R: FileSystem + Network + Drop> Bay for HostBay<R> {
     }
 
     /// The disk on the file of that name, opened for reading alone and not locked.
-    fn disk_to_read(
-        &mut self,
-        alloc: Global,
-        name: &str,
-        atom: u32,
-    ) -> Result<Self::Disk, BayFault>
+    fn disk_to_read(&mut self, alloc: Global, name: &str, atom: u32) -> Result<Self::Disk, BayFault>
         requires { IsAtom atom }
         ensures atom { IfOk result (λ disk. disk.atom ≡ atom) }
         ensures opened { IfOk result (λ disk. (len : ℕ)
