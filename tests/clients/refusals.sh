@@ -59,4 +59,4 @@ if [ "$(id -u)" != 0 ]; then
 fi
 stop TERM
 "$reencd" serve disk.img --plain --atom 512 --listen stdio --sessions 1 </dev/null >/dev/full 2>err
-expect "output that is full" "$? $(cat err)" "11 "
+expect "output that is full" "$? $(cat err)" "11 reencd: failed calls of standard output: 1"

@@ -10,7 +10,7 @@ use Rattle.nbd_session.specs.declared.ending.SessionEnd.{SessionEnd}
 use Rattle.nbd_session.specs.declared.export.Export.{Export}
 use Rattle.reenc_tool.specs.declared.serving.Standing.{Standing}
 use Rattle.reenc_tool.specs.declared.serving.Standing.TheVariants.{Live}
-use Rattle.reenc_tool.specs.Lanes.{HasLive, Lane, Lanes, Served, failed_in}
+use Rattle.reenc_tool.specs.Lanes.{AreFaultsOfFirst, HasLive, Lane, Lanes, Served, failed_in}
 use Rattle.reenc_tool.specs.Sessions.{Played, AreNumbered, AreOfLinks, AreSessions, IsOneOf}
 use Rattle.reenc_tool.specs.Sessions.{NumbersBelow, NumbersRise, numbered, of_link}
 use Rattle.reenc_tool.proofs.AskingLemmas.{goes_none}
@@ -169,15 +169,15 @@ live-set (other ∷ standings) (suc k) standing is = live-set standings k standi
 -- what holds of links after some turns
 pub served_of : {L E : Type 0} (state : L → LinkState) (items : E → List SessionEnd)
     (turned : ℕ → ℕ)
-    (olds news : List L) (ends : List E) (standings : List Standing) (n failed : ℕ) (memory : Bool)
-    (all : List Played) →
+    (olds news : List L) (ends : List E) (standings : List Standing) (n failed faults : ℕ)
+    (memory : Bool) (all : List Played) →
     n ≡ length olds → Lanes state items turned olds news ends standings all →
     (memory ≡ false → (k : ℕ) → k < length olds → slice_index_or standings k Live ≢ Live) →
     (memory ≡ true → HasLive (length olds) standings) →
-    failed ≡ failed_in (take n standings) → AreOfLinks (length olds) all →
-    Served state olds news (map items ends) failed memory all
-served_of state items turned olds news ends standings n failed memory all same lanes to_the_end
-    short failed_is none_other = record {
+    failed ≡ failed_in (take n standings) → AreFaultsOfFirst state news (take n standings) faults →
+    AreOfLinks (length olds) all → Served state olds news (map items ends) failed faults memory all
+served_of state items turned olds news ends standings n failed faults memory all same lanes
+    to_the_end short failed_is faults_are none_other = record {
       standings = take n standings;
       links = lanes.links;
       lists = length-map ends items ∙ lanes.lists;
@@ -195,6 +195,7 @@ served_of state items turned olds news ends standings n failed memory all same l
           let live = short wanted in
           (live.0, live.1, get_or-take n standings live.0 Live (omega (arith, same, live.1)) ∙ live.2);
       failed_is = failed_is;
+      faults_are = faults_are;
       none_other = none_other;
     }
 

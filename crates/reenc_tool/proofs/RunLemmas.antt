@@ -56,10 +56,10 @@ none_or_one (Failed ∷ rest) = inr (0, omega arith, refl)
 
 -- where no link's count of faults moved, none failed
 no_link_failed : {L : Type 0} (state : L → LinkState) (olds news : List L)
-    (ends : List (List SessionEnd)) (failed : ℕ) (memory : Bool)
-    (all : List Played) → Served state olds news ends failed memory all → (link : L) →
+    (ends : List (List SessionEnd)) (failed faults : ℕ) (memory : Bool)
+    (all : List Played) → Served state olds news ends failed faults memory all → (link : L) →
     StoodStill state olds news → failed ≡ 0
-no_link_failed state olds news ends failed memory all served link stood =
+no_link_failed state olds news ends failed faults memory all served link stood =
     served.failed_is
     ∙ ⊎_elim (λ none. none)
     (λ one.
@@ -172,7 +172,7 @@ module _ {D L : Type 0} (device : D → Device) (state : L → LinkState) (disk 
     (begun : List L) (link : L) (outcome : Outcome D L)
     (start : State PlainKeys) (seals : Seals) (final : State PlainKeys)
     (run : List (Happening PlainKeys)) where
-  pub ran_of : (failed : ℕ) (played : List Played) (size atom : ℕ) {may_spend : Type 0} →
+  pub ran_of : (failed faults : ℕ) (played : List Played) (size atom : ℕ) {may_spend : Type 0} →
       VolumeLaws start seals run →
       IsPlainVolume (device disk) seals start → AreLawful start.map.atom seals →
       DiskTells (device disk) →
@@ -180,12 +180,12 @@ module _ {D L : Type 0} (device : D → Device) (state : L → LinkState) (disk 
       size ≡ size_of start.map → atom ≡ start.map.atom →
       (may_spend → ⊥) → AreSessions (record { number = 0; size = size; atom = atom }) may_spend
       played → NumbersRise 0 played →
-      Served state begun outcome.links outcome.ends failed outcome.memory played →
+      Served state begun outcome.links outcome.ends failed faults outcome.memory played →
       outcome.disk ≡ Some back → device back ≡ final.disk →
       (device back).size ≡ (device disk).size →
-      outcome.cause ≡ cause_of final.broken failed outcome.memory →
+      outcome.cause ≡ cause_of final.broken final.disk.faults failed faults outcome.memory →
       Ran device state disk begun outcome
-  ran_of failed played size atom laws volume lawful tells did idle size_same atom_same never
+  ran_of failed faults played size atom laws volume lawful tells did idle size_same atom_same never
       sessions rise served is_back back_is same_size cause_is =
       let own = tells_start (device disk) seals start volume tells in
       let starts : (bytes : List ℕ) → start.disk.values ≡ Some bytes →
@@ -198,6 +198,7 @@ module _ {D L : Type 0} (device : D → Device) (state : L → LinkState) (disk 
         final = final;
         run = run;
         failed = failed;
+        faults = faults;
         played = played;
         volume = volume;
         sessions = subst (λ (a : ℕ).
@@ -231,11 +232,12 @@ module _ {D L : Type 0} (device : D → Device) (state : L → LinkState) (disk 
             (untagged (tagged_of played)) (laws.answers final (tagged_of played) did)
             (ap (λ s. s.disk.faults) did.last ∙ stood) (omega (arith, stood, low)) in
             let unbroken = ap (λ s. s.broken) (sym did.last) ∙ fine.1 in
-            let calm = no_link_failed state begun outcome.links outcome.ends failed outcome.memory
-            played served link links_stood in (
+            let calm = no_link_failed state begun outcome.links outcome.ends failed faults
+            outcome.memory played served link links_stood in (
               fine.0,
-              cause_is ∙ ap (λ b. cause_of b failed outcome.memory) unbroken
-                  ∙ ap (λ f. cause_of false f outcome.memory) calm,
+              cause_is
+                  ∙ ap (λ b. cause_of b final.disk.faults failed faults outcome.memory) unbroken
+                  ∙ ap (λ f. cause_of false final.disk.faults f faults outcome.memory) calm,
             );
       }
 

@@ -50,12 +50,12 @@ prints-failed s s' line e puts rose = record {
 pub text_of-fault : (cause after : Cause) (text : List ℕ) → cause ≢ Fine →
     fault_line cause ≡ text_of cause after text
 text_of-fault Fine after text other = absurd (other refl)
-text_of-fault Usage after text other = refl
-text_of-fault (Device device) after text other = refl
+text_of-fault (Usage words) after text other = refl
+text_of-fault (Device failing faults) after text other = refl
 text_of-fault NoHeader after text other = refl
 text_of-fault Header after text other = refl
 text_of-fault Foreign after text other = refl
 text_of-fault (NoFit what number limit) after text other = refl
-text_of-fault (Link failed) after text other = refl
-text_of-fault Output after text other = refl
+text_of-fault (Link failed faults) after text other = refl
+text_of-fault (Output faults) after text other = refl
 text_of-fault Memory after text other = refl

@@ -60,6 +60,16 @@ abbrev pub failed_in : List Standing → ℕ
 failed_in standings =
     fold (λ count standing. min (count + failed_bit standing) (2 ^ 32 - 1)) 0 standings
 
+-- the link of the number `k` failed, and none before it
+pub record IsFirstFailed (standings : List Standing) (k : ℕ) : Type 0 where
+  pub here : slice_index_or standings k Live ≡ Failed
+  pub before : (j : ℕ) → j < k → slice_index_or standings j Live ≢ Failed
+
+-- so many calls of the first link failed that did
+abbrev pub AreFaultsOfFirst : {L : Type 0} → (L → LinkState) → List L → List Standing → ℕ → Type 0
+AreFaultsOfFirst {L} state links standings faults = (k : ℕ) (link : L) →
+    IsFirstFailed standings k → faults ≡ (state (slice_index_or links k link)).faults
+
 -- one of the first so many links is live
 abbrev pub HasLive : ℕ → List Standing → Type 0
 HasLive links standings = (k : ℕ) × (k < links) × (slice_index_or standings k Live ≡ Live)
@@ -71,7 +81,7 @@ HasLive links standings = (k : ℕ) × (k < links) × (slice_index_or standings 
 -- of them is live; and every session is one of these links'.
 pub record Served {L : Type 0} (state : L → LinkState) (olds news : List L)
     (ends : List (List SessionEnd))
-    (failed : ℕ) (memory : Bool) (all : List Played) : Type 0 where
+    (failed faults : ℕ) (memory : Bool) (all : List Played) : Type 0 where
   pub standings : List Standing
   pub links : length news ≡ length olds
   pub lists : length ends ≡ length olds
@@ -84,6 +94,7 @@ pub record Served {L : Type 0} (state : L → LinkState) (olds news : List L)
       slice_index_or standings k Live ≢ Live
   pub short : memory ≡ true → HasLive (length olds) standings
   pub failed_is : failed ≡ failed_in standings
+  pub faults_are : AreFaultsOfFirst state news standings faults
   pub none_other : AreOfLinks (length olds) all
 
 -- what a turn does to a link that was live

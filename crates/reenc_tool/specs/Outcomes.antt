@@ -47,17 +47,19 @@ unserved cause disk links = record {
 abbrev pub AsksDisk : Type 0 → Type 0 → Type 1
 AsksDisk B D = B → List ℕ → ℕ → Result D BayFault → B → Type 0
 
--- the cause of a command that was given nothing: what it asked for failed, or memory was wanted
-abbrev pub cause_of_fault : Failing → BayFault → Cause
-cause_of_fault failing BayFaults.Failed = Device failing
-cause_of_fault failing BayFaults.Memory = Memory
+-- the cause of a command that was given nothing: what it asked for failed, which the bay counted, or
+-- memory was wanted
+abbrev pub cause_of_fault : Failing → BayFault → ℕ → Cause
+cause_of_fault failing BayFaults.Failed faults = Device failing faults
+cause_of_fault failing BayFaults.Memory faults = Memory
 
 -- The bay was asked once for that disk and gave none, and lost nothing. Its count of faults rose
--- where it failed, and stands where memory was wanted.
+-- where it failed, which the cause keeps, and stands where memory was wanted.
 pub record HasNoDisk {B D L : Type 0} (holdings : B → Holdings D) (asks : AsksDisk B D)
     (name : List ℕ) (atom : ℕ) (old new : B) (outcome : Outcome D L) : Type 0 where
   pub fault : BayFault
   pub asked : asks old name atom (Err fault) new
   pub leaves : LeavesAll (holdings old) (holdings new)
   pub count : FaultCounts fault (holdings old).faults (holdings new).faults
-  pub outcome_is : outcome ≡ unserved (cause_of_fault Opening fault) None []
+  pub outcome_is : outcome
+      ≡ unserved (cause_of_fault Opening fault (holdings new).faults) None []

@@ -1,7 +1,7 @@
 -- What a command did.
 use Rattle.std.specs.Prelude.{ℕ, ◌≡◌, ◌≢◌, ◌-◌, ◌^◌, ◌<◌, ◌≤◌, ◌⊎◌, ◌==◌, Bool, true, false}
 use Rattle.std.specs.Prelude.{if◌then◌else◌, List, [], ◌∷◌, ◌++◌, length, map, slice_index_or}
-use Rattle.std.specs.Prelude.{Option, Some, None, Result, Ok, Err}
+use Rattle.std.specs.Prelude.{Option, Some, None, Result, Ok, Err, string_bytes}
 use Rattle.base_terms.specs.Causes.{Rose}
 use Rattle.bays.specs.declared.bay.BayFault.{BayFault}
 use Rattle.bays.specs.declared.bay.BayFault.TheVariants as BayFaults
@@ -58,11 +58,12 @@ pub record IsPlainVolume (device : DiskState) (seals : Seals) (start : State Pla
   pub apart : AreApart start.map
   pub nothing : ChangeNothing seals
 
--- the cause of the end of sessions: the volume is broken, so many links failed, memory was wanted
-abbrev pub cause_of : Bool → ℕ → Bool → Cause
-cause_of broken failed memory =
-    if broken then Device Writing
-    else (if failed == 0 then (if memory then Memory else Fine) else Link failed)
+-- the cause of the end of sessions: the volume is broken, and so many calls of its disk failed; so
+-- many links failed, and so many calls of the first of them; memory was wanted
+abbrev pub cause_of : Bool → ℕ → ℕ → ℕ → Bool → Cause
+cause_of broken disk_faults failed link_faults memory =
+    if broken then Device Writing disk_faults
+    else (if failed == 0 then (if memory then Memory else Fine) else Link failed link_faults)
 
 -- Where the disk told its bytes and tables, and each atom held its value for certain, a stop after
 -- each event leaves only contents that the plain disk allows there, in every block, since no zone is at
@@ -104,6 +105,7 @@ pub record Ran {D L : Type 0} (device : D → DiskState) (state : L → LinkStat
   pub final : State PlainKeys
   pub run : List (Happening PlainKeys)
   pub failed : ℕ
+  pub faults : ℕ
   pub played : List Played
   -- the volume of the disk, and the sessions and links that tell of its operations; no session ends
   -- since the port is spent
@@ -111,7 +113,7 @@ pub record Ran {D L : Type 0} (device : D → DiskState) (state : L → LinkStat
   pub sessions : AreSessions
       (record { number = 0; size = size_of start.map; atom = start.map.atom }) ⊥ played
   pub rise : NumbersRise 0 played
-  pub served : Served state begun outcome.links outcome.ends failed outcome.memory played
+  pub served : Served state begun outcome.links outcome.ends failed faults outcome.memory played
   -- the run of events that executed the operations, each of which makes at most one call of the
   -- disk, and the disk, which is handed back as they left it
   pub operations : List Tagged
@@ -131,8 +133,10 @@ pub record Ran {D L : Type 0} (device : D → DiskState) (state : L → LinkStat
       left
   -- stops: wherever the run stops, the disk holds what this history allows there
   pub stops : MayStop start seals run (untagged operations)
-  -- the cause, and when it may come
-  pub cause_is : outcome.cause ≡ cause_of final.broken failed outcome.memory
+  -- the cause, with the counts of the disk and of the first link that failed as they are at the end,
+  -- and when it may come
+  pub cause_is : outcome.cause
+      ≡ cause_of final.broken final.disk.faults failed faults outcome.memory
   pub broke : final.broken ≡ true → Rose start.disk.faults final.disk.faults
   -- error 5, and when an operation has failed and the volume is broken
   pub errors : ErrorsAreExact start seals run
@@ -164,8 +168,7 @@ pub record HasNoBlock {B D L : Type 0} (device : D → DiskState) (disk : D) (be
   pub outcome_is : outcome ≡ unserved (NoFit Blocks 0 1) (Some disk) []
 
 -- The disk has a block, and the bay was asked once for links and gave none. Its count of faults
--- rose
--- where it failed, and stands where memory was wanted.
+-- rose where it failed, which the cause keeps, and stands where memory was wanted.
 pub record HasNoLinks {B D L : Type 0} (device : D → DiskState) (holdings : B → Holdings D)
     (asks_links : AsksLinks B L) (serve : Serving) (disk : D) (between new : B)
     (outcome : Outcome D L) : Type 0 where
@@ -173,7 +176,8 @@ pub record HasNoLinks {B D L : Type 0} (device : D → DiskState) (holdings : B 
   pub fault : BayFault
   pub asked : asks_links between serve.address serve.workers serve.sessions (Err fault) new
   pub count : FaultCounts fault (holdings between).faults (holdings new).faults
-  pub outcome_is : outcome ≡ unserved (cause_of_fault Listening fault) (Some disk) []
+  pub outcome_is : outcome
+      ≡ unserved (cause_of_fault Listening fault (holdings new).faults) (Some disk) []
 
 -- The disk has a block, and the bay was asked once for links and gave them. Sessions were served
 -- over
@@ -218,6 +222,11 @@ pub record LeavesRest {D : Type 0} (serve : Serving) (old new : Holdings D) : Ty
   pub keys : new.keyring ≡ old.keyring
   pub clients : (other : List ℕ) → other ≢ serve.address → new.inputs other ≡ old.inputs other
 
+-- the cause keeps the words that ask for nothing
+abbrev pub KeepsWords : List (List ℕ) → Cause → Type 0
+KeepsWords words (Usage kept) = map string_bytes kept.now ≡ words
+KeepsWords words _ = ⊥
+
 -- What a command did whose words were read, or not: it was told to serve or to show, which its report
 -- belongs to; or nothing was asked of the bay, since the words ask for nothing or memory was wanted.
 abbrev pub Serviced : {B D L : Type 0} → (D → DiskState) → (L → LinkState) → (B → Holdings D) →
@@ -231,7 +240,8 @@ abbrev pub Came : {B D L : Type 0} → (D → DiskState) → (L → LinkState) �
     AsksDisk B D → AsksDisk B D → AsksLinks B L → List (List ℕ) → B → B → Outcome D L →
     Option (List ℕ) → Type 0
 Came device state holdings asks_disk asks_reading asks_links words old new outcome report =
-    ((asked words ≡ None) × (outcome ≡ unserved Usage None []) × (new ≡ old) × (report ≡ None))
+    ((asked words ≡ None) × KeepsWords words outcome.cause
+    × (outcome ≡ unserved outcome.cause None []) × (new ≡ old) × (report ≡ None))
     ⊎ ((outcome ≡ unserved Memory None []) × (new ≡ old) × (report ≡ None))
     ⊎ ((serve : Serving) × (asked words ≡ Some (serves serve))
     × Serviced device state holdings asks_disk asks_links serve old new outcome report)

@@ -12,9 +12,9 @@ use Rattle.reenc_tool.specs.declared.ended.Cause.TheVariants.{Fine}
 use Rattle.reenc_tool.specs.Outcomes.{AsksDisk, HasNoDisk, Outcome}
 use Rattle.reenc_tool.specs.Status.{cause_of_store}
 
--- what a command hands back that read a header, and what it says
-abbrev pub shown : {D L : Type 0} → D → Result (List ℕ) StoreFault → Outcome D L
-shown disk (Ok text) = record {
+-- what a command hands back that read a header, and what it says; of the disk so many calls failed
+abbrev pub shown : {D L : Type 0} → D → ℕ → Result (List ℕ) StoreFault → Outcome D L
+shown disk faults (Ok text) = record {
   cause = Fine;
   fault = None;
   memory = false;
@@ -22,8 +22,8 @@ shown disk (Ok text) = record {
   links = [];
   ends = [];
 }
-shown disk (Err fault) = record {
-  cause = cause_of_store fault;
+shown disk faults (Err fault) = record {
+  cause = cause_of_store fault faults;
   fault = Some fault;
   memory = false;
   disk = Some disk;
@@ -44,7 +44,7 @@ pub record IsShown {D L : Type 0} (device : D → DiskState) (disk : D) (outcome
   pub tells : Tells (device disk) told
   pub read : IsReadAlone (device disk) (device back)
   pub cause : IfErr told (λ fault. HasCause (device disk) (device back) fault)
-  pub outcome_is : outcome ≡ shown back told
+  pub outcome_is : outcome ≡ shown back (device back).faults told
   pub report_is : report ≡ report_in told
 
 -- The bay was asked once for the disk that the words name, to be read alone, and gave it: it is the one

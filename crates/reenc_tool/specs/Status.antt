@@ -12,14 +12,14 @@ use Rattle.luks_store.specs.declared.fault.StoreFault.TheVariants as faults
 
 abbrev pub status_of : Cause → ℕ
 status_of Fine = 0
-status_of Usage = 1
-status_of (Device device) = 2
+status_of (Usage words) = 1
+status_of (Device failing faults) = 2
 status_of NoHeader = 3
 status_of Header = 4
 status_of Foreign = 7
 status_of (NoFit what number limit) = 8
-status_of (Link failed) = 10
-status_of Output = 11
+status_of (Link failed faults) = 10
+status_of (Output faults) = 11
 status_of Memory = 13
 
 -- the cause of a command whose header wasn't read: another program's header has one of its own
@@ -27,10 +27,11 @@ abbrev pub cause_of_rule : RuleFault → Cause
 cause_of_rule (rules.Foreign text) = Foreign
 cause_of_rule _ = Header
 
-abbrev pub cause_of_store : StoreFault → Cause
-cause_of_store faults.Memory = Memory
-cause_of_store faults.Device = Device Reading
-cause_of_store (faults.NoHeader primary secondary) = NoHeader
-cause_of_store (faults.CopiesDiffer seqid place) = Header
-cause_of_store (faults.Json fault) = Header
-cause_of_store (faults.Rule rule) = cause_of_rule rule
+-- of a disk so many calls failed
+abbrev pub cause_of_store : StoreFault → ℕ → Cause
+cause_of_store faults.Memory count = Memory
+cause_of_store faults.Device count = Device Reading count
+cause_of_store (faults.NoHeader primary secondary) count = NoHeader
+cause_of_store (faults.CopiesDiffer seqid place) count = Header
+cause_of_store (faults.Json fault) count = Header
+cause_of_store (faults.Rule rule) count = cause_of_rule rule

@@ -18,14 +18,14 @@ served_line count = codes "served " ++ (decimal count ++ (codes " sessions" ++ 1
 -- a refusal's line; a command that did what it was asked has none
 abbrev pub fault_line : Cause → List ℕ
 fault_line Fine = []
-fault_line Usage = codes "fault 1 Usage" ++ 10 ∷ []
-fault_line (Device device) = codes "fault 2 Device" ++ 10 ∷ []
+fault_line (Usage words) = codes "fault 1 Usage" ++ 10 ∷ []
+fault_line (Device failing faults) = codes "fault 2 Device" ++ 10 ∷ []
 fault_line NoHeader = codes "fault 3 NoHeader" ++ 10 ∷ []
 fault_line Header = codes "fault 4 Header" ++ 10 ∷ []
 fault_line Foreign = codes "fault 7 Foreign" ++ 10 ∷ []
 fault_line (NoFit what number limit) = codes "fault 8 NoFit" ++ 10 ∷ []
-fault_line (Link failed) = codes "fault 10 Link" ++ 10 ∷ []
-fault_line Output = []
+fault_line (Link failed faults) = codes "fault 10 Link" ++ 10 ∷ []
+fault_line (Output faults) = []
 fault_line Memory = codes "fault 13 Memory" ++ 10 ∷ []
 
 -- what a command says that did what it was asked: a report of its own, or how many sessions it

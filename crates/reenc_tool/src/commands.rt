@@ -36,7 +36,7 @@ use volume_laws::{
 const LANES: u32 = 2;
 
 /// Serves sessions over links on a disk that has a block, and hands both back.
-fn serve_disk<D: Disk, L: Link>(alloc: Global, disk: D, mut links: Vec<L>) -> Ended<D, L>
+fn serve_disk<'w, D: Disk, L: Link>(alloc: Global, disk: D, mut links: Vec<L>) -> Ended<'w, D, L>
     requires some { 0 < length links.items }
     requires few { length links.items ≤ 16 }
     requires bound { (k : ℕ) (link : L) → k < length links.items →
@@ -72,13 +72,15 @@ fn serve_disk<D: Disk, L: Link>(alloc: Global, disk: D, mut links: Vec<L>) -> En
     };
     let trouble = serve_links(alloc, &mut links, &mut sessions, &mut port, size, atom);
     let VolumePort { volume, .. } = port;
-    let cause = cause(volume.progress().broken, trouble);
+    let broken = volume.progress().broken;
+    let disk = volume.into_disk();
+    let cause = cause(broken, disk.faults(), trouble);
     Ended {
         status: cause.status(),
         cause,
         fault: None,
         memory: trouble.memory,
-        disk: Some(volume.into_disk()),
+        disk: Some(disk),
         header: None,
         pass: None,
         demo: None,
@@ -87,14 +89,19 @@ fn serve_disk<D: Disk, L: Link>(alloc: Global, disk: D, mut links: Vec<L>) -> En
     }
 }
 
-fn cause(broken: bool, trouble: Trouble) -> Cause
-    ensures { result ≡ cause_of broken trouble.failed trouble.memory }
+/// The cause of the end of sessions over a disk of which so many calls failed.
+fn cause<'w>(broken: bool, faults: u64, trouble: Trouble) -> Cause<'w>
+    ensures { result ≡ cause_of broken faults trouble.failed trouble.faults trouble.memory }
 {
     if broken {
-        Cause::Device(Failing::Writing)
+        Cause::Device {
+            failing: Failing::Writing,
+            faults,
+        }
     } else if trouble.failed != 0 {
         Cause::Link {
             failed: trouble.failed,
+            faults: trouble.faults,
         }
     } else if trouble.memory {
         Cause::Memory
@@ -103,12 +110,12 @@ fn cause(broken: bool, trouble: Trouble) -> Cause
     }
 }
 
-/// The cause of a command to which the bay gave nothing.
-pub fn cause_by(failing: Failing, fault: BayFault) -> Cause
-    ensures { result ≡ cause_of_fault failing fault }
+/// The cause of a command to which a bay gave nothing of which so many calls failed.
+pub fn cause_by<'w>(failing: Failing, fault: BayFault, faults: u64) -> Cause<'w>
+    ensures { result ≡ cause_of_fault failing fault faults }
 {
     match fault {
-        BayFault::Failed => Cause::Device(failing),
+        BayFault::Failed => Cause::Device { failing, faults },
         BayFault::Memory => Cause::Memory,
     }
 }
@@ -127,10 +134,15 @@ fn empty_lists(alloc: Global, count: usize) -> Result<Vec<Vec<SessionEnd>>, Allo
 }
 
 /// Ends without a session, and hands back the disk and the links that the bay gave.
-pub fn unserved<D, L>(alloc: Global, cause: Cause, disk: Option<D>, links: Vec<L>) -> Ended<D, L>
-    ensures status { result.status ≡ status_of cause }
+pub fn unserved<'w, D, L>(
+    alloc: Global,
+    cause: Cause<'w>,
+    disk: Option<D>,
+    links: Vec<L>,
+) -> Ended<'w, D, L>
+    ensures status { result.status ≡ status_of cause.entry }
     ensures other { HasNoOther result.header result.pass result.demo }
-    ensures outcome { outcome_of result ≡ unserved cause disk links.items }
+    ensures outcome { outcome_of result ≡ unserved cause.entry disk links.items }
 {
     Ended {
         status: cause.status(),
@@ -147,12 +159,12 @@ pub fn unserved<D, L>(alloc: Global, cause: Cause, disk: Option<D>, links: Vec<L
 }
 
 /// Asks the bay for its links and serves sessions on a disk that it gave.
-fn serve_plain<B: Bay>(
+fn serve_plain<'w, B: Bay>(
     alloc: Global,
     bay: &mut B,
     disk: B::Disk,
     words: &Serve<'_>,
-) -> Ended<B::Disk, B::Link>
+) -> Ended<'w, B::Disk, B::Link>
     requires { IsServing (serving words.now) }
     ensures status { result.status ≡ status_of result.cause }
     ensures other { HasNoOther result.header result.pass result.demo }
@@ -172,14 +184,14 @@ fn serve_plain<B: Bay>(
     match bay.links(alloc, words.address, words.workers, words.sessions) {
         Ok(links) => serve_disk(alloc, disk, links),
         Err(fault) => {
-            let cause = cause_by(Failing::Listening, fault);
+            let cause = cause_by(Failing::Listening, fault, bay.faults());
             unserved(alloc, cause, Some(disk), Vec::new(alloc))
         }
     }
 }
 
 /// Asks the bay for a disk, and serves sessions on it.
-fn serve<B: Bay>(alloc: Global, bay: &mut B, words: &Serve<'_>) -> Ended<B::Disk, B::Link>
+fn serve<'w, B: Bay>(alloc: Global, bay: &mut B, words: &Serve<'_>) -> Ended<'w, B::Disk, B::Link>
     requires { IsServing (serving words.now) }
     ensures status { result.status ≡ status_of result.cause }
     ensures other { HasNoOther result.header result.pass result.demo }
@@ -189,18 +201,18 @@ fn serve<B: Bay>(alloc: Global, bay: &mut B, words: &Serve<'_>) -> Ended<B::Disk
     match bay.disk(alloc, words.disk, words.atom) {
         Ok(disk) => serve_plain(alloc, bay, disk, words),
         Err(fault) => {
-            let cause = cause_by(Failing::Opening, fault);
+            let cause = cause_by(Failing::Opening, fault, bay.faults());
             unserved(alloc, cause, None, Vec::new(alloc))
         }
     }
 }
 
 /// Executes the command that the words ask for, and gives its report, where it has one.
-fn execute<B: Bay>(
+fn execute<'w, B: Bay>(
     alloc: Global,
-    words: &[String],
+    words: &'w [String],
     bay: &mut B,
-) -> (Ended<B::Disk, B::Link>, Option<String>)
+) -> (Ended<'w, B::Disk, B::Link>, Option<String>)
     ensures status { result.0.status ≡ status_of result.0.cause }
     ensures other { HasNoOther result.0.header result.0.pass result.0.demo }
     ensures came { Came B.Disk.device B.Link.state B.holdings B.asks_disk B.asks_reading
@@ -208,11 +220,19 @@ fn execute<B: Bay>(
         (option_map (λ text. string_bytes text) result.1) }
     ensures unasked { asked (map string_bytes words.now) ≡ None → bay.new ≡ bay.old }
 {
-    match read_words(alloc, words) {
-        Ok(Command::Serve(words)) => (serve(alloc, bay, &words), None),
-        Ok(Command::Status(words)) => show(alloc, bay, &words),
-        Err(Refusal::Usage) => (unserved(alloc, Cause::Usage, None, Vec::new(alloc)), None),
-        Err(Refusal::Memory) => (unserved(alloc, Cause::Memory, None, Vec::new(alloc)), None),
+    let command = match read_words(alloc, words) {
+        Ok(command) => command,
+        Err(Refusal::Usage) => {
+            let cause = Cause::Usage { words };
+            return (unserved(alloc, cause, None, Vec::new(alloc)), None);
+        }
+        Err(Refusal::Memory) => {
+            return (unserved(alloc, Cause::Memory, None, Vec::new(alloc)), None);
+        }
+    };
+    match command {
+        Command::Serve(words) => (serve(alloc, bay, &words), None),
+        Command::Status(words) => show(alloc, bay, &words),
     }
 }
 
@@ -229,15 +249,15 @@ fn execute<B: Bay>(
 /// links, and for nothing else. The text changes the cause only where all was fine: to `Output` where
 /// it can't be put and pushed out, to `Memory` where memory is wanted for it. Words that ask for
 /// nothing leave the bay as it was. The seeds aren't drawn from.
-pub fn run<W: Threads + Wait + Sync, B: Bay, R: Seeds, O: Sink, G: Gate>(
+pub fn run<'w, W: Threads + Wait + Sync, B: Bay, R: Seeds, O: Sink, G: Gate>(
     _rt: &W,
     alloc: Global,
-    words: &[String],
+    words: &'w [String],
     bay: &mut B,
     _seeds: &mut R,
     out: &mut O,
     _gate: &G,
-) -> Ended<B::Disk, B::Link>
+) -> Ended<'w, B::Disk, B::Link>
     ensures status { result.status ≡ status_of result.cause }
     ensures other { HasNoOther result.header result.pass result.demo }
     ensures run { (cause : Cause) × (report : Option (List ℕ))

@@ -1,7 +1,8 @@
 ghost use Rattle.std.specs.Prelude.{◌≡◌, ◌<◌, ◌≤◌, ◌+◌, ◌*◌, ◌^◌, ◌-◌, ℕ, false, true, List, []};
 ghost use Rattle.std.specs.Prelude.{◌++◌, fold, length, map, min, slice_index_or};
 ghost use Rattle.nbd_session.specs.declared.ending.SessionEnd.{SessionEnd};
-ghost use Rattle.reenc_tool.specs.Lanes.{HasLive, Lanes, Served, TurnIs, failed_bit, failed_in};
+ghost use Rattle.reenc_tool.specs.Lanes.{AreFaultsOfFirst, HasLive, Lanes, Served, TurnIs};
+ghost use Rattle.reenc_tool.specs.Lanes.{failed_bit, failed_in};
 ghost use Rattle.reenc_tool.specs.Sessions.{Played, AreOfLinks, AreSessions, NumbersBelow};
 ghost use Rattle.reenc_tool.specs.Sessions.{NumbersRise, tagged_of};
 
@@ -40,10 +41,12 @@ impl Standing {
     }
 }
 
-/// How many links failed, and whether memory was wanted for a session's end.
+/// How many links failed and how many calls of the first of them, and whether memory was wanted for
+/// a session's end.
 #[derive(Clone, Copy, Debug)]
 pub struct Trouble {
     pub failed: u32,
+    pub faults: u64,
     pub memory: bool,
 }
 
@@ -150,7 +153,7 @@ pub fn serve_links<L: Link, P: SharedPort>(
         ((spent : P) × P.is_spent spent) played
         × NumbersRise 0 played
         × Served L.state links.old.items links.new.items (map (λ list. list.items) ends.new.items)
-        result.failed result.memory played }
+        result.failed result.faults result.memory played }
 {
     let count = links.len();
     let mut standings = [Standing::Live; MAX_LINKS];
@@ -158,18 +161,38 @@ pub fn serve_links<L: Link, P: SharedPort>(
     for round in 0..MAX_ROUNDS {
         let first = Export { number, size, atom };
         if serve_round(alloc, links, ends, &mut standings, port, &first) {
-            return trouble_of(&standings[..count], true);
+            return trouble_of(links.as_slice(), &standings[..count], true);
         }
         number += count as u64;
     }
-    trouble_of(&standings[..count], false)
+    trouble_of(links.as_slice(), &standings[..count], false)
 }
 
-fn trouble_of(standings: &[Standing], memory: bool) -> Trouble
-    ensures { result ≡ record { failed = failed_in standings.now; memory = memory } }
+fn trouble_of<L: Link>(links: &[L], standings: &[Standing], memory: bool) -> Trouble
+    requires { length standings.now ≤ length links.now }
+    ensures failed { result.failed ≡ failed_in standings.now }
+    ensures faults { AreFaultsOfFirst L.state links.now standings.now result.faults }
+    ensures memory { result.memory ≡ memory }
 {
     let failed = standings.iter().fold(0u32, |count, standing| {
         count.saturating_add(standing.failed_bit())
     });
-    Trouble { failed, memory }
+    Trouble {
+        failed,
+        faults: faults_of_first(links, standings),
+        memory,
+    }
+}
+
+/// How many calls of the first link failed that stands so; none where none does.
+fn faults_of_first<L: Link>(links: &[L], standings: &[Standing]) -> u64
+    requires { length standings.now ≤ length links.now }
+    ensures { AreFaultsOfFirst L.state links.now standings.now result }
+{
+    for k in 0..standings.len() {
+        if let Standing::Failed = standings[k] {
+            return links[k].faults();
+        }
+    }
+    0
 }

@@ -12,22 +12,23 @@ use bays::Bay;
 use command_line::Status;
 use header_report::{Examined, examine};
 use luks_store::StoreFault;
+use sector_disk::Disk;
 use std::alloc::Global;
 
 /// Ends a command that read the header of a disk, and gives what it says.
-fn shown<D, L>(
+fn shown<'w, D: Disk, L>(
     alloc: Global,
     disk: D,
     told: Result<String, StoreFault>,
-) -> (Ended<D, L>, Option<String>)
+) -> (Ended<'w, D, L>, Option<String>)
     ensures status { result.0.status ≡ status_of result.0.cause }
     ensures other { HasNoOther result.0.header result.0.pass result.0.demo }
-    ensures outcome { outcome_of result.0 ≡ shown disk (seen told) }
+    ensures outcome { outcome_of result.0 ≡ shown disk (D.device disk).faults (seen told) }
     ensures report { option_map (λ text. string_bytes text) result.1 ≡ report_in (seen told) }
 {
     let (cause, fault, report) = match told {
         Ok(text) => (Cause::Fine, None, Some(text)),
-        Err(fault) => (Cause::of_store(&fault), Some(fault), None),
+        Err(fault) => (Cause::of_store(&fault, disk.faults()), Some(fault), None),
     };
     let ended = Ended {
         status: cause.status(),
@@ -45,11 +46,11 @@ fn shown<D, L>(
 }
 
 /// Asks the bay for a disk to be read alone, and gives what its header says.
-pub fn show<B: Bay>(
+pub fn show<'w, B: Bay>(
     alloc: Global,
     bay: &mut B,
     words: &Status<'_>,
-) -> (Ended<B::Disk, B::Link>, Option<String>)
+) -> (Ended<'w, B::Disk, B::Link>, Option<String>)
     requires { IsAtomSize words.now.atom }
     ensures status { result.0.status ≡ status_of result.0.cause }
     ensures other { HasNoOther result.0.header result.0.pass result.0.demo }
@@ -62,7 +63,7 @@ pub fn show<B: Bay>(
             shown(alloc, disk, told)
         }
         Err(fault) => {
-            let cause = cause_by(Failing::Opening, fault);
+            let cause = cause_by(Failing::Opening, fault, bay.faults());
             (unserved(alloc, cause, None, Vec::new(alloc)), None)
         }
     }

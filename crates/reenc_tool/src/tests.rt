@@ -69,13 +69,24 @@ fn bay_around(
     Ok(MemBay::new(alloc, disks, Vec::new(alloc), address, scripts, lists))
 }
 
+/// The words of a command.
+fn words_of(alloc: Global, words: &str) -> Result<Vec<String>, Fail> {
+    let mut list = Vec::new(alloc);
+    if !words.is_empty() {
+        for word in words.split(' ') {
+            list.push(String::from_str(alloc, word)?)?;
+        }
+    }
+    Ok(list)
+}
+
 /// Runs the command of these words, and gives what came of it and the text that it printed.
-fn command(
+fn command<'w>(
     rt: &(impl Abort + Threads + Wait + Sync),
     alloc: Global,
-    words: &str,
+    words: &'w [String],
     outside: &Outside,
-) -> Result<(Ended<MemDisk, MemLink>, ListSink), Fail> {
+) -> Result<(Ended<'w, MemDisk, MemLink>, ListSink), Fail> {
     let mut bay = bay_of(rt, alloc, outside)?;
     let mut out = ListSink::new(alloc, outside.line, outside.line_fails)?;
     let ended = run_in(rt, alloc, words, &mut bay, &mut out)?;
@@ -83,30 +94,28 @@ fn command(
 }
 
 /// Runs the command of these words in a bay.
-fn run_in(
+fn run_in<'w>(
     rt: &(impl Threads + Wait + Sync),
     alloc: Global,
-    words: &str,
+    words: &'w [String],
     bay: &mut MemBay,
     out: &mut ListSink,
-) -> Result<Ended<MemDisk, MemLink>, Fail> {
-    let mut list = Vec::new(alloc);
-    if !words.is_empty() {
-        for word in words.split(' ') {
-            list.push(String::from_str(alloc, word)?)?;
-        }
-    }
+) -> Result<Ended<'w, MemDisk, MemLink>, Fail> {
     let mut seeds = FixedSeeds::new(alloc, &[0], &[])?;
-    Ok(run(rt, alloc, &list, bay, &mut seeds, out, &OpenGate))
+    Ok(run(rt, alloc, words, bay, &mut seeds, out, &OpenGate))
 }
 
 /// How a session of a link ended, by its place there.
-fn end_of(ended: &Ended<MemDisk, MemLink>, link: usize, place: usize) -> Option<SessionEnd> {
+fn end_of(ended: &Ended<'_, MemDisk, MemLink>, link: usize, place: usize) -> Option<SessionEnd> {
     ended.sessions.get(link)?.get(place).copied()
 }
 
 /// What the client of a link's session was put.
-fn put_of(ended: &Ended<MemDisk, MemLink>, link: usize, place: usize) -> Option<&[u8]> {
+fn put_of<'e>(
+    ended: &'e Ended<'_, MemDisk, MemLink>,
+    link: usize,
+    place: usize,
+) -> Option<&'e [u8]> {
     Some(ended.links.get(link)?.handed().get(place)?.1.as_slice())
 }
 
@@ -122,7 +131,7 @@ fn end(number: u64, ending: Ending, taken: u64, put: u64) -> Option<SessionEnd> 
 /// Whether a session ended as it must, and its client was put exactly its text.
 fn is_served(
     alloc: Global,
-    ended: &Ended<MemDisk, MemLink>,
+    ended: &Ended<'_, MemDisk, MemLink>,
     session: &Session,
 ) -> Result<bool, Fail> {
     let Session {
@@ -143,7 +152,7 @@ fn is_served(
 /// Whether these sessions were served, and no others.
 fn are_served(
     alloc: Global,
-    ended: &Ended<MemDisk, MemLink>,
+    ended: &Ended<'_, MemDisk, MemLink>,
     sessions: &[Session],
 ) -> Result<bool, Fail> {
     for session in sessions {
@@ -164,7 +173,8 @@ fn is_met(
     alloc: Global,
     case: &Case,
 ) -> Result<bool, Fail> {
-    let (ended, out) = command(rt, alloc, case.words, &case.outside)?;
+    let words = words_of(alloc, case.words)?;
+    let (ended, out) = command(rt, alloc, &words, &case.outside)?;
     let atoms = match &ended.disk {
         Some(disk) => Some(disk.atoms()),
         None => None,
@@ -176,7 +186,7 @@ fn is_met(
     };
     Ok(
         ended.status == case.status
-            && ended.cause == case.cause
+            && ended.cause == case.reason.cause(&words)
             && !ended.memory
             && out.as_slice() == case.line.as_bytes()
             && atoms == wanted

@@ -22,16 +22,17 @@ pub fn count_sessions(lists: &[Vec<SessionEnd>]) -> usize
 /// Prints what a command says that ended so, and says how it ends: where all was fine and the text
 /// can't be put and pushed out, by `Output`; where memory is wanted for it, by `Memory`. What is
 /// said where all was fine is the report, or, where there is none, how many sessions were served.
-pub fn print<O: Sink>(
+pub fn print<'w, O: Sink>(
     alloc: Global,
     out: &mut O,
-    cause: Cause,
+    cause: Cause<'w>,
     report: &Option<String>,
     sessions: usize,
-) -> Cause
-    ensures cause { EndsAs cause (O.outlet out.old).faults (O.outlet out.new).faults result }
+) -> Cause<'w>
+    ensures cause { EndsAs cause.entry (O.outlet out.old).faults (O.outlet out.new).faults result }
     ensures text { Prints (O.outlet out.old) (O.outlet out.new)
-        (text_of cause result (said (option_map (λ text. string_bytes text) report.now) sessions)) }
+        (text_of cause.entry result
+        (said (option_map (λ text. string_bytes text) report.now) sessions)) }
 {
     if !cause.is_fine() {
         let _ = put_text(out, cause.line());
@@ -48,13 +49,15 @@ pub fn print<O: Sink>(
 }
 
 /// Prints the text of a command that did what it was asked.
-fn put_report<O: Sink>(out: &mut O, text: &str) -> Cause
+fn put_report<'w, O: Sink>(out: &mut O, text: &str) -> Cause<'w>
     ensures cause { EndsAs Cause.Fine (O.outlet out.old).faults (O.outlet out.new).faults result }
     ensures text { Prints (O.outlet out.old) (O.outlet out.new) (text_of Cause.Fine result text.now) }
 {
     match put_text(out, text) {
         Ok(()) => Cause::Fine,
-        Err(_) => Cause::Output,
+        Err(_) => Cause::Output {
+            faults: out.faults(),
+        },
     }
 }
 

@@ -45,20 +45,20 @@ fn main(rt: HostRuntime) -> ExitCode {
         &mut seeds,
         &mut out,
     );
-    explain(rt.alloc(), rt.stderr(), words.as_slice(), cause, &fault);
+    explain(rt.alloc(), rt.stderr(), cause, &fault);
     ExitCode::from(cause.status())
 }
 
 /// Runs the command of the words over the machine's bay, and gives why it ended as it did, and why no
 /// header was read.
-fn command<W: Threads + Wait + Sync, R: FileSystem + Network + Drop, S: Seeds, O: Sink>(
+fn command<'w, W: Threads + Wait + Sync, R: FileSystem + Network + Drop, S: Seeds, O: Sink>(
     rt: &W,
     alloc: Global,
-    words: &[String],
+    words: &'w [String],
     bay: &mut HostBay<R>,
     seeds: &mut S,
     out: &mut O,
-) -> (Cause, Option<StoreFault>) {
+) -> (Cause<'w>, Option<StoreFault>) {
     let ended = run(rt, alloc, words, bay, seeds, out, &OpenGate);
     (ended.cause, ended.fault)
 }
@@ -68,10 +68,10 @@ fn ended_early(rt: &impl Print, errors: Stderr, kind: ErrorKind) -> ExitCode {
     let cause = if kind == ErrorKind::OutOfMemory {
         Cause::Memory
     } else {
-        Cause::Usage
+        Cause::Usage { words: &[] }
     };
     let _ = rt.print(cause.line());
-    if let Cause::Usage = cause {
+    if let Cause::Usage { .. } = cause {
         let _ = eprintln!(errors; "reencd: a word isn't UTF-8");
     }
     ExitCode::from(cause.status())

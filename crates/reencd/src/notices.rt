@@ -1,5 +1,5 @@
 use crate::network::Listener;
-use reenc_tool::{Cause, FaultText, Fit, StoreFault, explain_words};
+use reenc_tool::{Cause, Failing, FaultText, Fit, StoreFault, explain_words};
 use std::alloc::Global;
 use std::io::{self, Stderr};
 
@@ -28,16 +28,10 @@ pub fn announce(errors: Stderr, listener: &impl Listener) {
 }
 
 /// Says on standard error what was wrong with the words of a command, with its disk, or with the
-/// header on it. What the system refused was told when it did.
-pub fn explain(
-    alloc: Global,
-    errors: Stderr,
-    words: &[String],
-    cause: Cause,
-    fault: &Option<StoreFault>,
-) {
+/// header on it, and how many calls failed. What the system refused was told when it did.
+pub fn explain(alloc: Global, errors: Stderr, cause: Cause<'_>, fault: &Option<StoreFault>) {
     match cause {
-        Cause::Usage => explain_usage(alloc, errors, words),
+        Cause::Usage { words } => explain_usage(alloc, errors, words),
         Cause::NoFit {
             what: Fit::Blocks,
             ..
@@ -45,7 +39,21 @@ pub fn explain(
             let _ = eprintln!(errors; "reencd: the disk is smaller than one block");
         }
         Cause::NoHeader | Cause::Header | Cause::Foreign => explain_header(errors, fault),
-        Cause::Fine | Cause::Device(_) | Cause::Link { .. } | Cause::Output | Cause::Memory => {}
+        Cause::Device {
+            failing: Failing::Reading | Failing::Writing,
+            faults,
+        } => {
+            let _ = eprintln!(errors; "reencd: failed calls of the disk: {faults}");
+        }
+        Cause::Link { failed, faults } => {
+            let _ = eprintln!(errors;
+                "reencd: failed links: {failed}; failed calls of the first: {faults}"
+            );
+        }
+        Cause::Output { faults } => {
+            let _ = eprintln!(errors; "reencd: failed calls of standard output: {faults}");
+        }
+        Cause::Fine | Cause::Device { .. } | Cause::Memory => {}
     }
 }
 

@@ -21,7 +21,41 @@ pub struct Session {
     pub answers: &'static [Part],
 }
 
-/// A command: what it shows, its words and what it meets; and its status, its cause, the line that
+/// Why a command is to end as it does: its cause, but for the words that it keeps.
+#[derive(Clone, Copy)]
+pub enum Reason {
+    Fine,
+    Usage,
+    /// What failed, and how many calls.
+    Device(Failing, u64),
+    NoHeader,
+    NoBlock,
+    /// How many links failed, and how many calls of the first of them.
+    Link(u32, u64),
+    /// How many calls of the output failed.
+    Output(u64),
+}
+
+impl Reason {
+    /// The cause of a command of these words.
+    pub fn cause(self, words: &[String]) -> Cause<'_> {
+        match self {
+            Reason::Fine => Cause::Fine,
+            Reason::Usage => Cause::Usage { words },
+            Reason::Device(failing, faults) => Cause::Device { failing, faults },
+            Reason::NoHeader => Cause::NoHeader,
+            Reason::NoBlock => Cause::NoFit {
+                what: Fit::Blocks,
+                number: 0,
+                limit: 1,
+            },
+            Reason::Link(failed, faults) => Cause::Link { failed, faults },
+            Reason::Output(faults) => Cause::Output { faults },
+        }
+    }
+}
+
+/// A command: what it shows, its words and what it meets; and its status, its reason, the line that
 /// it prints, whether it has a disk to hand back, and its sessions.
 #[derive(Clone, Copy)]
 pub struct Case {
@@ -29,7 +63,7 @@ pub struct Case {
     pub words: &'static str,
     pub outside: Outside,
     pub status: u8,
-    pub cause: Cause,
+    pub reason: Reason,
     pub line: &'static str,
     pub has_disk: bool,
     pub sessions: &'static [Session],
@@ -73,7 +107,7 @@ const FINE: Case = Case {
     words: "serve x --plain --atom 512 --listen A --sessions 1",
     outside: SMALL,
     status: 0,
-    cause: Cause::Fine,
+    reason: Reason::Fine,
     line: "served 1 sessions\n",
     has_disk: true,
     sessions: &[FIRST],
@@ -83,7 +117,7 @@ const FINE: Case = Case {
 pub const USAGE: Case = Case {
     shows: "other words are refused",
     status: 1,
-    cause: Cause::Usage,
+    reason: Reason::Usage,
     line: "fault 1 Usage\n",
     has_disk: false,
     sessions: &[],
@@ -94,7 +128,7 @@ pub const USAGE: Case = Case {
 const NO_DISK: Case = Case {
     shows: "a bay that gives no disk is told",
     status: 2,
-    cause: Cause::Device(Failing::Opening),
+    reason: Reason::Device(Failing::Opening, 1),
     line: "fault 2 Device\n",
     has_disk: false,
     sessions: &[],
@@ -104,7 +138,7 @@ const NO_DISK: Case = Case {
 /// The bay gives no links.
 const NO_LINKS: Case = Case {
     shows: "a bay that gives no links is told",
-    cause: Cause::Device(Failing::Listening),
+    reason: Reason::Device(Failing::Listening, 1),
     has_disk: true,
     ..NO_DISK
 };
@@ -117,7 +151,7 @@ const NO_LINK: Case = Case {
         ..SMALL
     },
     status: 10,
-    cause: Cause::Link { failed: 1 },
+    reason: Reason::Link(1, 1),
     line: "fault 10 Link\n",
     ..FINE
 };
@@ -126,7 +160,7 @@ const NO_LINK: Case = Case {
 const NO_OUTPUT: Case = Case {
     shows: "a failure of the output is told",
     status: 11,
-    cause: Cause::Output,
+    reason: Reason::Output(1),
     line: "",
     ..FINE
 };
@@ -357,7 +391,7 @@ pub const WORDS: &[Case] = &[
         shows: "a disk of zeros has no header",
         words: "status x --atom 512",
         status: 3,
-        cause: Cause::NoHeader,
+        reason: Reason::NoHeader,
         line: "fault 3 NoHeader\n",
         has_disk: true,
         ..NO_DISK
@@ -405,11 +439,7 @@ pub const BAYS: &[Case] = &[
             ..SMALL
         },
         status: 8,
-        cause: Cause::NoFit {
-            what: Fit::Blocks,
-            number: 0,
-            limit: 1,
-        },
+        reason: Reason::NoBlock,
         line: "fault 8 NoFit\n",
         ..NO_LINKS
     },
@@ -513,7 +543,7 @@ pub const DISKS: &[Case] = &[
             ..FIRST
         }],
         status: 2,
-        cause: Cause::Device(Failing::Writing),
+        reason: Reason::Device(Failing::Writing, 1),
         line: "fault 2 Device\n",
         ..FINE
     },
@@ -545,7 +575,7 @@ pub const DISKS: &[Case] = &[
     Case {
         shows: "a fault of the disk is answered and told at the end",
         outside: Outside {
-            disk_fails: &[2],
+            disk_fails: &[1, 2],
             clients: &[AGAIN],
             ..SMALL
         },
@@ -557,8 +587,7 @@ pub const DISKS: &[Case] = &[
                 BLOCK_SIZES,
                 AGREED,
                 WRITTEN,
-                HAS_READ,
-                BLOCK,
+                NOT_READ,
                 NOT_FLUSHED,
                 NOT_READ,
                 NOT_FLUSHED,
@@ -566,7 +595,7 @@ pub const DISKS: &[Case] = &[
             ..FIRST
         }],
         status: 2,
-        cause: Cause::Device(Failing::Writing),
+        reason: Reason::Device(Failing::Writing, 2),
         line: "fault 2 Device\n",
         ..FINE
     },

@@ -1,7 +1,7 @@
 // A long walk: a client's requests as they are drawn, and what a plain disk answers them.
 
 use super::messages::{AGREED_ON, AGREED_ON_WIDE, DISCONNECT, GO, HELLO, Part, bytes_of};
-use super::{bay_around, end, end_of, put_of, run_in};
+use super::{bay_around, end, end_of, put_of, run_in, words_of};
 use crate::port::VolumePort;
 use crate::{Cause, Ended, Ending};
 use base_terms::{Buffer, Bytes};
@@ -254,14 +254,15 @@ fn holds(alloc: Global, disk: MemDisk, plain: &PlainDisk) -> Result<bool, Fail> 
     Ok(true)
 }
 
-/// Runs the command for one client, who sends what was walked.
-fn run_walk(
+/// Runs the command of these words for one client, who sends what was walked.
+fn run_walk<'w>(
     rt: &(impl Abort + Threads + Wait + Sync),
     alloc: Global,
+    words: &'w [String],
     atom: u32,
     walk: &Walk,
     piece: usize,
-) -> Result<Ended<MemDisk, MemLink>, Fail> {
+) -> Result<Ended<'w, MemDisk, MemLink>, Fail> {
     assert!(rt; (atom == 512 || atom == 4096) && piece > 0);
     let disk = MemDisk::new(alloc, atom, ATOMS, ROOM, &[])?;
     let mut scripts = Vec::new(alloc);
@@ -271,8 +272,7 @@ fn run_walk(
     ))?;
     let mut bay = bay_around(alloc, disk, scripts, &[])?;
     let mut out = ListSink::new(alloc, 100, &[])?;
-    let words = format!(in alloc; "serve x --plain --atom {atom} --listen A --sessions 1")?;
-    run_in(rt, alloc, words.as_str(), &mut bay, &mut out)
+    run_in(rt, alloc, words, &mut bay, &mut out)
 }
 
 #[test]
@@ -286,7 +286,11 @@ fn a_long_walk_is_answered_as_by_a_plain_disk(rt: HostRuntime) -> Result<(), Fai
         (4096, AGREED_ON_WIDE, 4096),
     ] {
         let walk = walk_of(&rt, rt.alloc(), atom, answers, piece as u64)?;
-        let ended = run_walk(&rt, rt.alloc(), atom, &walk, piece)?;
+        let words = format!(in rt.alloc();
+            "serve x --plain --atom {atom} --listen A --sessions 1"
+        )?;
+        let words = words_of(rt.alloc(), words.as_str())?;
+        let ended = run_walk(&rt, rt.alloc(), &words, atom, &walk, piece)?;
         let (taken, put) = (walk.sent.len() as u64, walk.wanted.len() as u64);
         assert_eq!(rt;
             end_of(&ended, 0, 0),

@@ -1,6 +1,7 @@
 use Rattle.std.proofs.Common.{ap, ◌∙◌, inl, inr, None, [], refl}
 use Rattle.command_line.specs.Commands.{serving}
-use Rattle.reenc_tool.specs.Outcomes.{unserved}
+use Rattle.reenc_tool.specs.declared.ended.Failing.TheVariants.{Opening}
+use Rattle.reenc_tool.specs.Outcomes.{cause_of_fault, unserved}
 use Rattle.reenc_tool.proofs.RunLemmas.{leaves_all, leaves_rest, unserved_of}
 use Rattle.reenc_tool.proofs.commands.serve.Goals as goal
 
@@ -35,6 +36,8 @@ returns-in-Err-clause-serviced g c = (
     count = c.in-Err.ensures.cause;
     outcome_is = c.unserved.ensures.outcome
         ∙ ap (unserved_of _ _) c.new.ensures.items
-        ∙ ap (λ cause. unserved cause None []) c.cause_by-cause.ensures;
+        ∙ ap (λ cause. unserved cause None [])
+        (c.cause_by-cause.ensures
+        ∙ ap (cause_of_fault Opening c.in-Err.fault) c.faults.ensures);
   }),
 )

@@ -9,15 +9,16 @@ use Rattle.reenc_tool.proofs.commands.serve_disk.Goals as goal
 pub returns-clause-ended : goal.returns-clause-ended
 returns-clause-ended g c =
     let s = c.serve_links-trouble.ensures in
+    let trouble = c.serve_links-trouble.result in
     let start = c.in-Ok-plain.volume in
     let made = c.in-Ok-plain.ensures in
     let final = c.serve_links-trouble.new.port.volume in
     let did = s.1 in
     let fits = c.keys-keys.ensures.fits in
     let atom_is = made.map.atom in
-    inl (ran_of g.D.Disk.device g.L.Link.state c.args.disk c.into_disk.result c.args.links.items
+    inl (ran_of g.D.Disk.device g.L.Link.state c.args.disk c.into_disk-disk.result c.args.links.items
     (some_element c.args.links.items 0 c.requires.some) _ start _ final did.run
-    c.serve_links-trouble.result.failed s.0 _ _
+    trouble.failed trouble.faults s.0 _ _
     (record {
       served = c.every_run_is_served.ensures start _;
       answers = λ final operations did.
@@ -56,8 +57,10 @@ returns-clause-ended g c =
     ∙ ap (λ a. start.map.blocks * a)
     (c.from.ensures ∙ ap (λ p. p.atom) c.progress-blocks.ensures))
     (ap (λ p. p.atom) c.progress-blocks.ensures)
-    (λ spent. spent.1) s.2 s.3 s.4 refl c.into_disk.ensures.disk
-    (c.into_disk.ensures.size ∙ ap (λ m. m.atom) did.map_is ∙ atom_is)
+    (λ spent. spent.1) s.2 s.3 s.4 refl c.into_disk-disk.ensures.disk
+    (c.into_disk-disk.ensures.size ∙ ap (λ m. m.atom) did.map_is ∙ atom_is)
     (c.cause-cause.ensures
-    ∙ ap (λ p. cause_of p.broken c.serve_links-trouble.result.failed
-    c.serve_links-trouble.result.memory) c.progress.ensures))
+    ∙ ap (λ p. cause_of p.broken c.faults.result trouble.failed trouble.faults trouble.memory)
+    c.progress-broken.ensures
+    ∙ ap (λ n. cause_of final.broken n trouble.failed trouble.faults trouble.memory)
+    (c.faults.ensures ∙ ap (λ d. d.faults) c.into_disk-disk.ensures.disk)))

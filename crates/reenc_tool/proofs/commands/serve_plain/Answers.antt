@@ -1,5 +1,6 @@
 use Rattle.std.proofs.Common.{ap, ◌∙◌, arith, inl, inr, Some, []}
-use Rattle.reenc_tool.specs.Outcomes.{unserved}
+use Rattle.reenc_tool.specs.declared.ended.Failing.TheVariants.{Listening}
+use Rattle.reenc_tool.specs.Outcomes.{cause_of_fault, unserved}
 use Rattle.reenc_tool.proofs.RunLemmas.{links_few, unserved_of}
 use Rattle.reenc_tool.proofs.commands.serve_plain.Goals as goal
 
@@ -31,5 +32,7 @@ returns-in-Err-clause-ended g c = inr (inl (record {
   count = c.in-Err.ensures.cause;
   outcome_is = c.unserved-in-Err.ensures.outcome
       ∙ ap (unserved_of _ _) c.new-in-Err.ensures.items
-      ∙ ap (λ cause. unserved cause (Some c.args.disk) []) c.cause_by-cause.ensures;
+      ∙ ap (λ cause. unserved cause (Some c.args.disk) [])
+      (c.cause_by-cause.ensures
+      ∙ ap (cause_of_fault Listening c.in-Err.fault) c.faults.ensures);
 }))

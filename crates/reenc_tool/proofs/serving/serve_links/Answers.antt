@@ -1,8 +1,10 @@
-use Rattle.std.proofs.Common.{◌+◌, ◌∙◌, true, List, [], ◌++◌, length, refl, sym, subst, arith}
+use Rattle.std.proofs.Common.{◌+◌, ◌∙◌, true, List, [], ◌++◌, length, take, ap, refl, sym, subst}
+use Rattle.std.proofs.Common.{arith}
 use Rattle.std.proofs.Math.Nat.{mul-suc}
-use Rattle.std.proofs.lemmas.List.{get_or-replicate}
+use Rattle.std.proofs.lemmas.List.{get_or-replicate, length-take}
 use Rattle.volume_machine.specs.Answers.{Tagged}
 use Rattle.reenc_tool.specs.declared.serving.Standing.TheVariants.{Live}
+use Rattle.reenc_tool.specs.Lanes.{AreFaultsOfFirst}
 use Rattle.reenc_tool.specs.Sessions.{NumbersBelow, NumbersRise, tagged_of}
 use Rattle.reenc_tool.proofs.AskingLemmas.{tagged_of-none, sessions_none}
 use Rattle.reenc_tool.proofs.LaneLemmas.{tagged_of-append, AreSessions-append}
@@ -33,6 +35,19 @@ loop-round-init g c = record {
   );
 }
 
+pub trouble_of-requires : goal.trouble_of-requires
+trouble_of-requires g c =
+    let old = c.loop-round.invariant.played in
+    let after = c.serve_round.ensures.6 c.args.links.now.items c.loop-round.round old.0
+    c.loop-round.invariant.rounds old.6 in
+    omega (
+      arith,
+      c.len-count.ensures,
+      after.1.links,
+      ap length c.as_slice.ensures.value,
+      length-take c.len-count.result c.serve_round.new.standings,
+    )
+
 pub returns-then-serve_round : goal.returns-then-serve_round
 returns-then-serve_round g c =
     let old = c.loop-round.invariant.played in
@@ -48,12 +63,15 @@ returns-then-serve_round g c =
       AreSessions-append _ _ old.0 new.0 old.2
           (sessions_numbered _ _ c.loop-round.number new.0 new.2),
       NumbersRise-append 0 c.loop-round.number old.0 new.0 (omega arith) old.3 old.4 new.3,
-      rw c.trouble_of.ensures
-          (served_of _ _ after.0 c.args.links.now.items _ _ _ _ _ _ _
+      rw (c.trouble_of.ensures.failed, c.trouble_of.ensures.memory)
+          (served_of _ _ after.0 c.args.links.now.items _ _ _ _ _ _ _ _
           (omega (arith, c.len-count.ensures)) after.1 (λ calm. absurd (cc))
           (λ wanted.
           let live = new.7 c.if-serve_round.true in
           (live.0, omega (arith, live.1, c.loop-round.invariant.links), live.2)) refl
+          (subst (λ news. AreFaultsOfFirst g.L.Link.state news
+          (take c.len-count.result c.serve_round.new.standings) c.trouble_of.result.faults)
+          c.as_slice.ensures.value c.trouble_of.ensures.faults)
           (AreOfLinks-append _ old.0 new.0 old.5 (rw (← c.loop-round.invariant.links) new.5))),
     )
 
@@ -103,9 +121,12 @@ returns g c =
       old.1,
       old.2,
       old.3,
-      rw c.trouble_of-2.ensures
-          (served_of _ _ (λ _. c.loop-round.round) c.args.links.now.items _ _ _ _ _ _ _
+      rw (c.trouble_of-2.ensures.failed, c.trouble_of-2.ensures.memory)
+          (served_of _ _ (λ _. c.loop-round.round) c.args.links.now.items _ _ _ _ _ _ _ _
           (omega (arith, c.len-count.ensures)) old.6
           (λ calm. lanes_done _ _ (λ _. c.loop-round.round) c.args.links.now.items _ _ _ _ old.6
-          (λ k inside. omega arith) c.requires.bound) (λ wanted. absurd (cc)) refl old.5),
+          (λ k inside. omega arith) c.requires.bound) (λ wanted. absurd (cc)) refl
+          (subst (λ news. AreFaultsOfFirst g.L.Link.state news
+          (take c.len-count.result c.loop-round.standings) c.trouble_of-2.result.faults)
+          c.as_slice-2.ensures.value c.trouble_of-2.ensures.faults) old.5),
     )
