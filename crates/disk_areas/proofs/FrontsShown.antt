@@ -8,7 +8,7 @@ use Rattle.disk_areas.proofs.HeadersGiven.{some_none}
 use Rattle.disk_areas.specs.Areas.{Area, AreApart, Image, IsOf, IsWhole, content_of, text_from}
 use Rattle.disk_areas.specs.Commits.{Stage, begun, first_written, first_kept, second_written}
 use Rattle.disk_areas.specs.Commits.{CommitCall, CommitFails, WritesCopy, TriesCopy}
-use Rattle.disk_areas.specs.Fronts.{BeginsNone, HidesNone, ShowsNone, FrontsStay}
+use Rattle.disk_areas.specs.Fronts.{FrontsBegin, BeginsNone, HidesNone, ShowsNone, FrontsStay}
 use Rattle.disk_areas.specs.Fronts.{FrontsGive}
 use Rattle.disk_areas.specs.Headers.{Copy, primary, secondary, Reader, Layout, Header, text_of}
 use Rattle.disk_areas.specs.Headers.{found}
@@ -39,6 +39,13 @@ tried_none : {M : Type 0} (reader : Reader M) (atom : ℕ) (layout : Layout) (te
 tried_none reader atom layout text old new hides shows step =
     whole_failed atom text old new layout.first _ _ _ (BeginsNone reader atom) hides
     (λ i value below it. it) step shows
+
+pub fronts_begin : FrontsBegin
+fronts_begin = λ reader atom layout from to broken view hides shows.
+    weaker layout.first (IsOf atom (text_of from primary)) (IsOf atom (text_of from primary))
+    (BeginsNone reader atom) (BeginsNone reader atom)
+    (λ i value below is. subst (BeginsNone reader atom i) (sym is) (hides i below))
+    (λ i value below is. subst (BeginsNone reader atom i) (sym is) (hides i below)) shows.first
 
 -- ---- each call
 copy_none : {M : Type 0} (reader : Reader M) (atom : ℕ) (layout : Layout) (to : Header M)

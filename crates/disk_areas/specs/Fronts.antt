@@ -3,7 +3,8 @@
 -- copy begins with it, whatever stands behind it.
 use Rattle.std.specs.Prelude.{ℕ, ◌≡◌, ◌*◌, ◌%◌, ◌<◌, Bool, true, false, List, ◌++◌, Some, None}
 use Rattle.disk_areas.specs.Areas.{Area, AreApart, Image, Shows, content_of}
-use Rattle.disk_areas.specs.Commits.{Stage, CommitCall, CommitFails, WritesCopy, TriesCopy}
+use Rattle.disk_areas.specs.Commits.{Stage, begun, ShowsCommit, CommitCall, CommitFails}
+use Rattle.disk_areas.specs.Commits.{WritesCopy, TriesCopy}
 use Rattle.disk_areas.specs.Headers.{Copy, primary, Reader, HasNoneBelow, Layout, Header, text_of}
 use Rattle.disk_areas.specs.Promises.{IsImageOf}
 use Rattle.disk_views.specs.Parts.{block_at}
@@ -43,6 +44,15 @@ FrontsStay =
     → HidesNone reader atom layout.first (text_of to primary)
     → ShowsNone reader atom layout false old
     → FrontsKept reader atom layout to old new
+
+-- They begin so, where both copies hold a header whose primary hides none.
+abbrev pub FrontsBegin : Type 0
+FrontsBegin =
+    (reader : Reader (List ℕ)) (atom : ℕ) (layout : Layout) (from to : Header (List ℕ))
+    (broken : Bool) (view : View)
+    → HidesNone reader atom layout.first (text_of from primary)
+    → ShowsCommit atom layout from to begun broken view
+    → ShowsNone reader atom layout broken view
 
 -- And then no image has a copy in front of the secondary but the primary: copies stand at whole
 -- atoms.

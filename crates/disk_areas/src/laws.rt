@@ -2,7 +2,7 @@
 
 ghost use Rattle.std.specs.Prelude.{ℕ, List};
 ghost use Rattle.disk_areas.specs.Firsts.{FirstGoes};
-ghost use Rattle.disk_areas.specs.Fronts.{FrontsGive, FrontsStay};
+ghost use Rattle.disk_areas.specs.Fronts.{FrontsBegin, FrontsGive, FrontsStay};
 ghost use Rattle.disk_areas.specs.Headers.{Header, Layout};
 ghost use Rattle.disk_areas.specs.Promises.{CommitDated, CommitGives, CommitGoes, HeaderIsOne};
 ghost use Rattle.disk_areas.specs.Promises.{ImageTaken, OpeningDated, RepairDated, RepairGives};
@@ -54,6 +54,7 @@ pub fn first_headers_are_kept()
 /// commits and repairs write there, each image that a stop leaves has no copy in front of the
 /// secondary but the primary, however their writes are torn.
 pub fn fronts_are_kept()
+    ensures begin { FrontsBegin }
     ensures stay { FrontsStay }
     ensures give { FrontsGive }
 {}
