@@ -1,7 +1,7 @@
 pub mod FieldLemmas
 mod HandshakeLemmas
-mod InfoReplyLemmas
 pub mod OptionLemmas
 mod OptionReplyLemmas
+mod PartLemmas
 pub mod RequestLemmas
 mod SimpleReplyLemmas

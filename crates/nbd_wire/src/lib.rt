@@ -11,10 +11,13 @@
 mod exports;
 mod fields;
 mod handshake;
+mod info_data;
 mod info_replies;
+mod list_replies;
 mod magic;
 mod option_replies;
 mod options;
+mod parts;
 mod replies;
 mod requests;
 mod spelling;
@@ -23,7 +26,9 @@ mod tests;
 
 pub use exports::{BlockSizes, ExportData, TransmissionFlags};
 pub use handshake::{ClientFlags, Greeting, HandshakeFlags};
+pub use info_data::info_name;
 pub use info_replies::InfoReplies;
+pub use list_replies::ListReplies;
 pub use magic::{
     BadMagic, GREETING_MAGIC, OPTION_MAGIC, OPTION_REPLY_MAGIC, REQUEST_MAGIC, SIMPLE_REPLY_MAGIC,
 };
