@@ -8,7 +8,7 @@ ghost use Rattle.nbd_stream.specs.Traffic.{reach};
 use base_terms::{Buffer, Bytes};
 use io_edge::Source;
 use nbd_stream::{Data, Ending, take_data, take_head};
-use nbd_wire::{OptionHead, OptionType, ReplyType, info_name};
+use nbd_wire::{InfoData, OptionHead, OptionType, ReplyType};
 use std::alloc::Global;
 
 /// The most bytes of data that an option may have.
@@ -137,9 +137,9 @@ fn judge_list(body: &[u8]) -> Verdict
 fn judge_info(body: &[u8], granted: Verdict) -> Verdict
     ensures { result ≡ verdict_on_info granted (info_name body.now) }
 {
-    match info_name(body) {
+    match InfoData::read(body) {
         None => Verdict::Refuse(ReplyType::Invalid),
-        Some(name) => judge_name(name, granted),
+        Some(data) => judge_name(data.name, granted),
     }
 }
 

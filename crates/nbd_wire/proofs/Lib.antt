@@ -1,5 +1,8 @@
+mod ExportLemmas
 pub mod FieldLemmas
 mod HandshakeLemmas
+mod InfoDataLemmas
+mod NameLemmas
 pub mod OptionLemmas
 mod OptionReplyLemmas
 mod PartLemmas

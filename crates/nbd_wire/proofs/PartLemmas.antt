@@ -31,18 +31,21 @@ replies-joined a b c d e p q r s t lp lq lr ls lt le ep eq er es et =
     let five = front-more d e (((p ++ q) ++ r) ++ s) t 66 86 (omega arith) four et in
     sym (take_all 86 e (omega arith)) ∙ five ∙ simp (append_assoc, append-nil)
 
-names-joined : (a b c d p q r s : List ℕ) (n : ℕ) → length p ≡ 20 → length q ≡ 4 → length r ≡ n
-    → length s ≡ 20 → length d ≡ 44 + n → take (0 + length p) a ≡ p
-    → take (20 + length q) b ≡ take 20 a ++ q → take (24 + length r) c ≡ take 24 b ++ r
-    → take (24 + n + length s) d ≡ take (24 + n) c ++ s
-    → d ≡ p ++ ((q ++ (r ++ [])) ++ (s ++ []))
-names-joined a b c d p q r s n lp lq lr ls ld ep eq er es =
-    let size : 20 ≡ 0 + length p = omega arith in
-    let one : take 20 a ≡ p = ap (λ n. take n a) size ∙ ep in
-    let two = front-more a b p q 20 24 (omega arith) one eq in
-    let three = front-more b c (p ++ q) r 24 (24 + n) (omega arith) two er in
-    let four = front-more c d ((p ++ q) ++ r) s (24 + n) (44 + n) (omega arith) three es in
-    sym (take_all (44 + n) d (omega arith)) ∙ four ∙ simp (append_assoc, append-nil)
+pub four-joined : (a b c d p q r s : List ℕ) (i j k l : ℕ) → length p ≡ i → i + length q ≡ j
+    → j + length r ≡ k → k + length s ≡ l → length d ≡ l → take (0 + length p) a ≡ p
+    → take (i + length q) b ≡ take i a ++ q → take (j + length r) c ≡ take j b ++ r
+    → take (k + length s) d ≡ take k c ++ s → d ≡ ((p ++ q) ++ r) ++ s
+four-joined a b c d p q r s i j k l lp lq lr ls ld ep eq er es =
+    let size : i ≡ 0 + length p = omega (arith, lp) in
+    let one : take i a ≡ p = ap (λ n. take n a) size ∙ ep in
+    let two = front-more a b p q i j lq one eq in
+    let three = front-more b c (p ++ q) r j k lr two er in
+    let four = front-more c d ((p ++ q) ++ r) s k l ls three es in
+    sym (take_all l d (omega (arith, ld))) ∙ four
+
+names-joined : (p q r s : List ℕ) →
+    ((p ++ q) ++ r) ++ s ≡ p ++ ((q ++ (r ++ [])) ++ (s ++ []))
+names-joined p q r s = simp (append_assoc, append-nil)
 
 -- the head, length and name of a reply to LIST, and the acknowledgement
 pub list-written : (a b c d p q name s : List ℕ) (m k : ℕ) → length p ≡ 20 → length q ≡ 4
@@ -54,7 +57,8 @@ pub list-written : (a b c d p q name s : List ℕ) (m k : ℕ) → length p ≡ 
     → s ≡ option_reply_text (reply_head Options.List Ack 0) → d ≡ list_replies_text name
 unfolding list_replies_text name_text u32_text
 list-written a b c d p q name s m k lp lq ls ld ep eq er es p_is m_is q_is k_is s_is =
-    names-joined a b c d p q name s (length name) lp lq refl ls ld ep eq er es
+    four-joined a b c d p q name s 20 24 (24 + length name) (44 + length name) lp
+    (omega (arith, lq)) refl (omega (arith, ls)) ld ep eq er es ∙ names-joined p q name s
     ∙ ap (λ t. t ++ ((q ++ (name ++ [])) ++ (s ++ [])))
     (p_is ∙ ap (λ n. option_reply_text (reply_head Options.List Server n)) m_is)
     ∙ ap (λ t. option_reply_text (reply_head Options.List Server (4 + length name))

@@ -1,8 +1,9 @@
-ghost use Rattle.std.specs.Prelude.{◌≡◌, ◌+◌, ◌<◌, ◌^◌, length};
+ghost use Rattle.std.specs.Prelude.{◌≡◌, ◌+◌, ◌<◌, ◌^◌, ℕ, List, length, IfSome, MatchOption};
 ghost use Rattle.nbd_wire.specs.InfoReplies.{reply_head};
-ghost use Rattle.nbd_wire.specs.ListReplies.{list_replies_text};
+ghost use Rattle.nbd_wire.specs.ListReplies.{list_replies_text, name_text};
 ghost use Rattle.nbd_wire.specs.OptionReplies.{option_reply_text};
 
+use crate::fields::u32_at;
 use crate::parts::put;
 use crate::{OptionReplyHead, OptionType, ReplyType};
 
@@ -40,4 +41,22 @@ fn head(reply: ReplyType, length: u32) -> [u8; 20]
         length,
     }
     .write()
+}
+
+/// The name that the data of a reply to LIST spells ("NBD_REP_SERVER"): a u32 length, and the name.
+/// None where the data isn't exactly this.
+pub fn listed_name(bytes: &[u8]) -> Option<&[u8]>
+    ensures taken { IfSome result
+        (λ name. (length name.now < 2 ^ 32) × (name_text name.now ≡ bytes.now)) }
+    ensures only { (name : List ℕ) → length name < 2 ^ 32 → name_text name ≡ bytes.now
+        → MatchOption result ⊥ (λ found. found.now ≡ name) }
+{
+    if bytes.len() < 4 {
+        return None;
+    }
+    let length = u32_at(bytes, 0) as usize;
+    if bytes.len() != 4 + length {
+        return None;
+    }
+    Some(&bytes[4..])
 }
