@@ -65,7 +65,7 @@ pub returns-clause-cause : goal.returns-clause-cause
 returns-clause-cause g c =
     let after = c.load_settled-loaded.new.disk in
     let none = sym c.parts-head.ensures.head ∙ c.in-None.is in
-    cause-told _ (device_of after) (g.D.Disk.device c.args.disk)
+    cause-told (device_of c.alone-joined.result) (device_of after) (g.D.Disk.device c.args.disk)
     (g.D.Disk.device c.parts-head.result.1) c.load_settled-loaded.result _
     (ap (λ (j : Joint). (joined_disk j).faults) c.alone-joined.ensures.joint)
     (ap₂ both_faults (ap (λ h. (in_front g.D.Disk.device after.atom h).faults) none)
