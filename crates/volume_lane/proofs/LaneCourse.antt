@@ -95,7 +95,8 @@ one-more {K} seals old mid now run alone answered event outcome course own meets
     λ plain. subst (λ k. IsLane mid (plain_in seals old plain run) k alone) (sym own)
     (course.lane plain) in
     let met : Meets mid event =
-    meets_by mid (plain_in seals old no_plain run) event alone course.sound (here no_plain) client meets in
+    meets_by mid (plain_in seals old no_plain run) event alone course.sound (here no_plain) client
+    meets in
     let one : Happening K = record { event = event; outcome = outcome; after = now } in
     let after = alone_after mid.map.atom seals alone event outcome in
     record {

@@ -338,9 +338,11 @@ one-left : {K : Type 0} (seals : Seals) (old now : State K) (plan : Plan) (sessi
 one-left seals old now plan session op (Calls.Admit asker ask) way few = absurd way.made
 one-left seals old now plan session op Calls.Ask way few = absurd way.made
 one-left seals old now plan session op (Calls.Read buffer len) way few =
-    (let more = (way-fits seals old now plan session op _ way).1 in absurd (omega (arith, more, few)))
+    let more = (way-fits seals old now plan session op _ way).1 in
+    absurd (omega (arith, more, few))
 one-left seals old now plan session op (Calls.Write prepared) way few =
-    (let more = (way-fits seals old now plan session op _ way).1 in absurd (omega (arith, more, few)))
+    let more = (way-fits seals old now plan session op _ way).1 in
+    absurd (omega (arith, more, few))
 one-left seals old now plan session op Calls.Settle way few =
     (let left = way-fits seals old now plan session op _ way in absurd (omega (arith, left, few)))
 one-left seals old now plan session op Calls.Finish way few = refl
