@@ -1,6 +1,8 @@
 -- Lemmas on commits of a header that was loaded.
-use Rattle.std.proofs.Common.{◌≡◌, ℕ, ◌+◌, ◌*◌, ◌%◌, ◌≤◌, Bool, true, false, List, [], ◌++◌, length, take, Some}
-use Rattle.std.proofs.Common.{◌<◌, inl, None, Result, Ok, Err, IsOk, IfOk, is_ok, refl, sym, ◌∙◌, ap, subst}
+use Rattle.std.proofs.Common.{◌≡◌, ℕ, ◌+◌, ◌*◌, ◌%◌, ◌≤◌, Bool, true, false, List, [], ◌++◌, length}
+use Rattle.std.proofs.Common.{take, Some}
+use Rattle.std.proofs.Common.{◌<◌, inl, None, Result, Ok, Err, IsOk, IfOk, is_ok, refl, sym, ◌∙◌}
+use Rattle.std.proofs.Common.{ap, subst}
 use Rattle.std.proofs.Common.{arith, length-append}
 use Rattle.std.proofs.Math.Nat.{mul-le-mul_right}
 use Rattle.std.proofs.lemmas.List.{append-nil, take_all, take_at, drop_at}

@@ -198,7 +198,7 @@ impl Commit {
     }
 
     /// What both copies are: a law, with nothing to run. They lie on each disk of the sizes for
-    /// which the metadata were judged, and once they stand there a header is loaded that holds them.
+    /// which the metadata were judged, and a header that is stored follows from them.
     pub fn is_prepared(&self)
         ensures prepared { IsPrepared self.now }
         ensures fit { CopiesFit self.now }

@@ -7,8 +7,8 @@ use luks_bin::copies_are_spelt;
 use luks_copies::copies_mean_what_they_share;
 
 /// The copy that is used means the header that the disk's bytes have, as `disk_areas` speaks of it,
-/// and where they have one it is used; it stands on the disk as it was read: so its laws on commits, repairs and stops hold of what is
-/// loaded.
+/// and where they have one it is used; it stands on the disk as it was read. So its laws on
+/// commits, repairs and stops hold of what is loaded.
 pub fn used_copies_are_headers()
     ensures used { UsedIsGiven }
     ensures stands { UsedStands }

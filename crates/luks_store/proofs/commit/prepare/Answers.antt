@@ -56,4 +56,7 @@ pub returns-in-Ok-new-clause-bytes : goal.returns-in-Ok-new-clause-bytes
 returns-in-Ok-new-clause-bytes c =
     let made = c.in-Ok-new.ensures in
     let text = c.as_slice.ensures ∙ c.in-Ok.ensures.text in
-    record { first = made.first_bytes ∙ ap (written _) text; second = made.second_bytes ∙ ap (written _) text }
+    record {
+      first = made.first_bytes ∙ ap (written _) text;
+      second = made.second_bytes ∙ ap (written _) text;
+    }
