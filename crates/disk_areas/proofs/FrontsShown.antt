@@ -1,6 +1,7 @@
 -- Lemmas on copies that would be found in front of the secondary.
 use Rattle.std.proofs.Common.{◌≡◌, ℕ, zero, suc, ◌+◌, ◌-◌, ◌*◌, ◌/◌, ◌%◌, ◌<◌, ◌≤◌, true, false}
-use Rattle.std.proofs.Common.{List, ◌++◌, drop, Option, Some, None, refl, sym, ◌∙◌, ap, subst, arith}
+use Rattle.std.proofs.Common.{List, ◌++◌, drop, Option, Some, None, refl, sym, ◌∙◌, ap, subst}
+use Rattle.std.proofs.Common.{arith}
 use Rattle.std.specs.Prelude.{Contains}
 use Rattle.std.proofs.Math.Nat.{lt_of_mul-lt-mul_right}
 use Rattle.std.proofs.lemmas.List.{append-nil}

@@ -1,6 +1,7 @@
 -- Lemmas on copies that would be found within another.
 use Rattle.std.proofs.Common.{◌≡◌, inl, inr, ℕ, zero, suc, ◌+◌, ◌-◌, ◌*◌, ◌%◌, ◌<◌, ◌≤◌, ◌==◌, ◌||◌}
-use Rattle.std.proofs.Common.{List, [], ◌∷◌, ◌++◌, length, take, drop, Option, Some, None, Bool, true}
+use Rattle.std.proofs.Common.{List, [], ◌∷◌, ◌++◌, length, take, drop, Option, Some, None, Bool}
+use Rattle.std.proofs.Common.{true}
 use Rattle.std.proofs.Common.{false, cond, refl, sym, ◌∙◌, ap, subst, arith, length-drop}
 use Rattle.std.specs.List.{list_all, list_any}
 use Rattle.std.specs.Str.{bytes_eq}
@@ -101,12 +102,15 @@ found-magic text place within is =
 any-place : (text : List ℕ) (place : ℕ) (xs : List ℕ) → has_magic text place ≡ true
     → list_any (λ x. x == place) xs ≡ true → list_any (has_magic text) xs ≡ true
 any-place text place [] is held = cc
-any-place text place (x ∷ xs) is held = elim (or_cases (x == place) (list_any (λ y. y == place) xs) held) [
-  | inl same ↦
-      ap (λ b. b || list_any (has_magic text) xs) (ap (has_magic text) (eqb-true x place same) ∙ is)
-  | inr later ↦
-      ap (λ b. has_magic text x || b) (any-place text place xs is later) ∙ or-true (has_magic text x)
-]
+any-place text place (x ∷ xs) is held =
+    elim (or_cases (x == place) (list_any (λ y. y == place) xs) held) [
+      | inl same ↦
+          ap (λ b. b || list_any (has_magic text) xs)
+          (ap (has_magic text) (eqb-true x place same) ∙ is)
+      | inr later ↦
+          ap (λ b. has_magic text x || b) (any-place text place xs is later)
+          ∙ or-true (has_magic text x)
+    ]
 
 hides : (text : List ℕ) (place : ℕ) → has_magic text place ≡ true → is_size place ≡ true
     → hides_copy text ≡ true

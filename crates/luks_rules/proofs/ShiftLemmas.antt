@@ -12,7 +12,8 @@ use Rattle.luks_rules.specs.declared.shape.Progress.{Progress}
 some : (n : ℕ) → eqb n 0 ≡ false → 0 < n
 some n h = grind arith
 
-between : (direction : Direction) (shift old new : ℕ) → not (is_shifted direction shift old new) ≡ false
+between : (direction : Direction) (shift old new : ℕ)
+    → not (is_shifted direction shift old new) ≡ false
     → IsBetween direction shift old new
 between Forward shift old new h = sym (eqb-true old (new + shift) (not-false _ h))
 between Backward shift old new h = sym (eqb-true new (old + shift) (not-false _ h))
@@ -35,7 +36,8 @@ shift-from : (direction : Direction) (resilience : Resilience) (old new : ℕ)
 shift-from direction Journal old new h = refl
 shift-from direction (Checksum n) old new h = refl
 shift-from direction (Datashift shift) old new h =
-    or_from _ _ (ne_eqb _ _ (λ z. absurd (omega (arith, h.0, z)))) (is-between direction shift old new h.1)
+    or_from _ _ (ne_eqb _ _ (λ z. absurd (omega (arith, h.0, z))))
+    (is-between direction shift old new h.1)
 
 pub has-shift : (p : Progress) → breaks_shift (Some p) ≡ false
     → HasShift p.conversion.direction p.conversion.resilience p.old.offset p.new.offset
@@ -44,4 +46,5 @@ has-shift p h = shift-of p.conversion.direction p.conversion.resilience p.old.of
 pub from-shift : (p : Progress)
     → HasShift p.conversion.direction p.conversion.resilience p.old.offset p.new.offset
     → breaks_shift (Some p) ≡ false
-from-shift p h = shift-from p.conversion.direction p.conversion.resilience p.old.offset p.new.offset h
+from-shift p h =
+    shift-from p.conversion.direction p.conversion.resilience p.old.offset p.new.offset h

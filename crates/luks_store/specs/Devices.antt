@@ -1,13 +1,13 @@
 -- What reads leave of a disk, and which of its bytes are the header's disk.
 use Rattle.std.specs.Prelude.{ℕ, ◌≡◌, ◌≤◌, ◌%◌, ◌==◌, ◌&&◌, nat_lt, Bool, List, ◌++◌, take, Option}
-use Rattle.std.specs.Prelude.{Some}
+use Rattle.std.specs.Prelude.{Some, if◌then◌else◌}
 use Rattle.std.specs.List.{All, list_all}
 use Rattle.base_terms.specs.Causes.{Rose}
 use Rattle.disk_sizes.specs.declared.Sizes.{Sizes}
 use Rattle.joined_disk.specs.Counts.{joint_in}
 use Rattle.joined_disk.specs.Joined.{Joint, joined_disk}
 use Rattle.joined_disk.specs.declared.joined.JoinedDisk.{JoinedDisk}
-use Rattle.luks_rules.specs.Areas.{header_bytes}
+use Rattle.luks_rules.specs.Areas.{header_bytes, main_bytes}
 use Rattle.luks_store.specs.declared.fault.ReadFault.{ReadFault}
 use Rattle.luks_store.specs.declared.fault.ReadFault.TheVariants.{Memory, Device}
 use Rattle.luks_store.specs.declared.fault.StoreFault.{StoreFault}
@@ -24,6 +24,10 @@ device_of disk = joined_disk (joint_in disk)
 -- the bytes of the disk on which the header lies, of all that a disk of two has
 abbrev pub front_of : Sizes → List ℕ → List ℕ
 front_of sizes all = take (header_bytes sizes) all
+
+-- the bytes of the disk on which both copies of the header lie: a disk of its own, or the main one
+abbrev pub header_room : Sizes → ℕ
+header_room sizes = if sizes.detached then header_bytes sizes else main_bytes sizes
 
 -- the tables after some more calls, none of which changed what the atoms hold
 pub record IsRead (before now : Told) : Type 0 where
