@@ -4,7 +4,7 @@ use Rattle.lane_plan.specs.Plans.{Goes}
 use Rattle.volume_machine.specs.Seals.{seals_of}
 use Rattle.volume_lane.proofs.LaneNext.{seals-same, stays}
 use Rattle.volume_lane.proofs.LaneStart.{starts, told-first}
-use Rattle.volume_lane.proofs.executing.begin.Goals as goal
+use Rattle.volume_lane.proofs.steps.begin.Goals as goal
 
 pub admitted-answer-requires-clause-sound : goal.admitted-answer-requires-clause-sound
 admitted-answer-requires-clause-sound g c =
