@@ -103,10 +103,12 @@ client.opt_info()
 client.opt_abort()
 print("abort behind info")
 
-client = connected()
+client = nbd.NBD()
 client.set_handshake_flags(0)
-client.opt_go()
+client.connect_tcp("127.0.0.1", sys.argv[-1])
+assert client.get_protocol() == "newstyle" and client.get_size() == 64 << 20
 client.shutdown()
+print("an export by its name alone")
 PYTHON
 served 3
 
