@@ -96,4 +96,8 @@ pub trait Bay {
             (λ links. AreBounded Self.Link.state workers sessions links.items) }
         ensures leaves { AfterLinks address.now (holdings self.old) (holdings self.new) result }
         ensures cause { HasBayCause (holdings self.old).faults (holdings self.new).faults result };
+
+    /// How many calls failed.
+    fn faults(&self) -> u64
+        ensures { result ≡ (holdings self.now).faults };
 }

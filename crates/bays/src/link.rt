@@ -30,4 +30,8 @@ pub trait Link {
         ensures bound { (state self.new).bound ≡ (state self.old).bound }
         ensures lent { (state self.new).lent + 1 ≡ (state self.old).lent }
         ensures faults { (state self.new).faults ≡ (state self.old).faults };
+
+    /// How many calls failed.
+    fn faults(&self) -> u64
+        ensures { result ≡ (state self.now).faults };
 }

@@ -293,4 +293,8 @@ impl Bay for MemBay {
             Err(_) => Err(BayFault::Memory),
         }
     }
+
+    fn faults(&self) -> u64 {
+        self.plan.faults()
+    }
 }

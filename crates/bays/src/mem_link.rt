@@ -137,4 +137,8 @@ impl Link for MemLink {
         self.handed.push_reserved((source, sink));
         self.lent -= 1;
     }
+
+    fn faults(&self) -> u64 {
+        self.plan.faults()
+    }
 }

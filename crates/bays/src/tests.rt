@@ -52,6 +52,7 @@ fn a_disk_is_given_once_by_its_name_and_atom(rt: HostRuntime) -> Result<(), Fail
         Some(BayFault::Failed),
         "given out"
     );
+    assert_eq!(rt; bay.faults(), 4);
     Ok(())
 }
 
@@ -136,5 +137,6 @@ fn links_end_at_their_sessions_and_fail_by_their_own_lists(rt: HostRuntime) -> R
     ] {
         assert_eq!(rt; echo(&mut links[0]), answer);
     }
+    assert_eq!(rt; (bay.faults(), links[0].faults()), (1, 1));
     Ok(())
 }

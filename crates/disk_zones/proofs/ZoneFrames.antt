@@ -9,7 +9,7 @@ use Rattle.disk_areas.proofs.AreasShown.{weaker, unchanged, synced, thinned, els
 use Rattle.disk_areas.proofs.AreasShown.{failed_elsewhere}
 use Rattle.disk_views.proofs.TableEntries.{none_contained}
 use Rattle.disk_views.specs.Views.{View, IsUnchanged, IsThinned}
-use Rattle.disk_zones.specs.Calls.{CallBeside, reads, syncs, writes_beside, read_fails}
+use Rattle.disk_zones.specs.Calls.{CallBeside, reads, syncs, writes_beside}
 use Rattle.disk_zones.specs.Calls.{sync_fails_beside, write_fails_beside}
 use Rattle.disk_zones.specs.Promises.{sharp}
 use Rattle.disk_zones.specs.Zones.{Resilience, Hotzone, Texts, Phase, saving, opening, writing}
@@ -137,9 +137,6 @@ zone_stays atom layout zone texts phase _ old new (writes_beside size at n text 
     each_area atom layout zone texts phase false false old new
     (λ area Now Left of held shown. elsewhere size at n text old new area Now Left (far area of)
     call shown) shows
-zone_stays atom layout zone texts phase _ old new (read_fails call) shows =
-    zone_whole atom layout zone texts phase true new
-    (zone_unchanged atom layout zone texts phase false old new call shows)
 zone_stays atom layout zone texts phase _ old new (sync_fails_beside call) shows =
     each_area atom layout zone texts phase false true old new
     (λ area Now Left of held shown. thinned old new area Now Left call shown) shows

@@ -1,8 +1,10 @@
 -- The device calls of a zone, those that others make beside it, and how it begins and ends.
-use Rattle.std.specs.Prelude.{ℕ, ◌≡◌, ◌≢◌, ◌+◌, ◌<◌, ◌≤◌, Bool, false, true, List, Contains}
+use Rattle.std.specs.Prelude.{ℕ, ◌≡◌, ◌≢◌, ◌+◌, ◌-◌, ◌<◌, ◌≤◌, Bool, false, true, List}
+use Rattle.std.specs.Prelude.{Contains}
 use Rattle.disk_areas.specs.Areas.{Area}
-use Rattle.disk_areas.specs.Commits.{Stage, begun, second_written, ShowsCommit, CommitCall}
-use Rattle.disk_areas.specs.Commits.{CommitFails, next_stage, failed_stage}
+use Rattle.disk_areas.specs.Commits.{Stage, begun, first_written, first_kept, second_written}
+use Rattle.disk_areas.specs.Commits.{ShowsCommit, CommitCall, CommitFails, next_stage}
+use Rattle.disk_areas.specs.Commits.{failed_stage}
 use Rattle.disk_areas.specs.Headers.{Layout, Header}
 use Rattle.disk_views.specs.Parts.{block_at}
 use Rattle.disk_views.specs.Views.{View, IsOutside, IsUnchanged, IsTried, IsWritten, IsSynced}
@@ -10,9 +12,11 @@ use Rattle.disk_views.specs.Views.{IsThinned}
 use Rattle.disk_zones.specs.Zones.{Hotzone, Texts, Phase, saving, opening, writing, mending, moving}
 use Rattle.disk_zones.specs.Zones.{shifting, turning, as_new, all, ShowsAtoms, Reaches}
 
--- of an area's atoms the `more` from the `n`-th on are written, each as it is to be
+-- by one device call the next part of an area's atoms is written, the `more` from the `n`-th on,
+-- each as it is to be
 pub record WritesPart (atom : ℕ) (area : Area) (values : ℕ → List ℕ) (n more : ℕ)
     (old new : View) : Type 0 where
+  pub some : 0 < more
   pub within : n + more ≤ area.count
   pub text : List ℕ
   pub each : (k : ℕ) → k < more → block_at atom text k ≡ values (n + k)
@@ -21,6 +25,7 @@ pub record WritesPart (atom : ℕ) (area : Area) (values : ℕ → List ℕ) (n 
 -- such a write that failed
 pub record TriesPart (atom : ℕ) (area : Area) (values : ℕ → List ℕ) (n more : ℕ)
     (old new : View) : Type 0 where
+  pub some : 0 < more
   pub within : n + more ≤ area.count
   pub text : List ℕ
   pub each : (k : ℕ) → k < more → block_at atom text k ≡ values (n + k)
@@ -85,14 +90,30 @@ LiesBeside layout zone at n =
 
 pub data CallBeside {M : Type 0} (layout : Layout) (zone : Hotzone M)
     (old new : View) : (broken : Bool) → Type 0 where
+  -- a read leaves all as it was, also one that failed
   reads : IsUnchanged old new → CallBeside layout zone old new false
   syncs : IsSynced old new → CallBeside layout zone old new false
   writes_beside : (atom at n : ℕ) (text : List ℕ) → LiesBeside layout zone at n
       → IsWritten atom at n text old new → CallBeside layout zone old new false
-  read_fails : IsUnchanged old new → CallBeside layout zone old new true
   sync_fails_beside : IsThinned old new → CallBeside layout zone old new true
   write_fails_beside : (atom at n : ℕ) (text : List ℕ) → LiesBeside layout zone at n
       → IsTried atom at n text old new → CallBeside layout zone old new true
+
+-- ---- how many calls a zone has still to make at most, before the last one of its last commit
+abbrev pub stage_left : Stage → ℕ
+stage_left begun = 3
+stage_left first_written = 2
+stage_left first_kept = 1
+stage_left second_written = 0
+
+unfoldable pub calls_left : {M : Type 0} → Hotzone M → Phase → ℕ
+calls_left zone (saving n) = zone.store.count - n + (zone.own.count + 9)
+calls_left zone (opening stage) = stage_left stage + (zone.own.count + 5)
+calls_left zone (writing n) = zone.own.count - n + 4
+calls_left zone (mending n) = zone.own.count - n + 4
+calls_left zone (moving stage) = stage_left stage
+calls_left zone (shifting n) = zone.target.count - n + 4
+calls_left zone (turning stage) = stage_left stage
 
 -- ---- the phase that a zone begins with, and what stands when it ended
 abbrev pub IsFirst : Phase → Type 0

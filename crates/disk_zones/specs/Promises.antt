@@ -8,7 +8,7 @@ use Rattle.disk_areas.specs.Headers.{Reader, IsReader, Layout, IsLaidOut, Gives,
 use Rattle.disk_views.specs.Parts.{value_in}
 use Rattle.disk_views.specs.Views.{View, view_of_cells, IsSynced}
 use Rattle.disk_zones.specs.Calls.{ZoneCall, ZoneFault, CallBeside, IsFirst, IsLast, new_area}
-use Rattle.disk_zones.specs.Calls.{ShowsMoved, IsSettled}
+use Rattle.disk_zones.specs.Calls.{ShowsMoved, IsSettled, calls_left}
 use Rattle.disk_zones.specs.Standing.{Hash, IsKept, IsPhaseOf, TellsDigest, Stands, HasSides}
 use Rattle.disk_zones.specs.Standing.{HasHeaders, IsZoneImage, IsWithin}
 use Rattle.disk_zones.specs.Zones.{Hotzone, Texts, Phase, mending, Is, found_by, from_of, to_of}
@@ -76,6 +76,13 @@ ZoneGoes =
     → ShowsZone atom layout zone texts next false new)
     × (ZoneFault atom layout zone texts old new phase next
     → ShowsZone atom layout zone texts next true new)
+
+-- Each call that is done brings the zone nearer to its end.
+abbrev pub ZoneComesNearer : Type 0
+ZoneComesNearer =
+    (atom : ℕ) (layout : Layout) (zone : Hotzone (List ℕ)) (texts : Texts) (phase next : Phase)
+    (old new : View) → ZoneCall atom layout zone texts old new phase next
+    → calls_left zone next < calls_left zone phase
 
 abbrev pub ZoneEnds : Type 0
 ZoneEnds =

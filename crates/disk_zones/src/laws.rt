@@ -1,6 +1,7 @@
 // Laws of zones, with nothing to run.
 
-ghost use Rattle.disk_zones.specs.Promises.{AtomJudged, ZoneBegins, ZoneEnds, ZoneGoes};
+ghost use Rattle.disk_zones.specs.Promises.{AtomJudged, ZoneBegins, ZoneComesNearer};
+ghost use Rattle.disk_zones.specs.Promises.{ZoneEnds, ZoneGoes};
 ghost use Rattle.disk_zones.specs.Promises.{ZoneImageTaken, ZoneIsNow, ZoneIsSame, ZoneResumes};
 ghost use Rattle.disk_zones.specs.Promises.{ZoneStands, ZoneStays};
 
@@ -14,10 +15,12 @@ pub fn zones_keep_contents()
 {}
 
 /// A zone begins with a sync; each of its device calls leads from what is known to what is known,
-/// also one that failed; and its last one ends it with the next header.
+/// also one that failed; and its last one ends it with the next header. Each that is done brings it
+/// nearer to its end: none writes no atom.
 pub fn zones_go_by_calls()
     ensures begins { ZoneBegins }
     ensures goes { ZoneGoes }
+    ensures nearer { ZoneComesNearer }
     ensures ends { ZoneEnds }
 {}
 

@@ -147,4 +147,8 @@ impl<F: PositionedFile> Disk for FileDisk<F> {
     fn mark(&mut self, _number: u64)
         ensures nothing { self.new ≡ self.old }
     {}
+
+    fn faults(&self) -> u64 {
+        self.faults
+    }
 }

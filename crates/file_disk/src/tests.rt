@@ -133,11 +133,12 @@ impl PositionedFile for Refusing {
 
 #[test]
 fn what_the_file_refuses_fails(rt: HostRuntime) {
-    for (refuses, answer) in [(true, Err(Failed)), (false, Ok(()))] {
+    for (refuses, answer, faults) in [(true, Err(Failed), 3), (false, Ok(()), 0)] {
         let mut disk = FileDisk::new(Refusing { refuses }, 1024, 512);
         let mut buf = [0; 512];
         assert_eq!(rt; disk.read(1, &mut buf), answer);
         assert_eq!(rt; disk.write(0, &buf), answer);
         assert_eq!(rt; disk.sync(), answer);
+        assert_eq!(rt; disk.faults(), faults);
     }
 }

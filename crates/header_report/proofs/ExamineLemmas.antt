@@ -9,7 +9,8 @@ use Rattle.std.proofs.lemmas.List.{length-take-le}
 use Rattle.base_terms.specs.Causes.{Rose}
 use Rattle.disk_sizes.specs.declared.Sizes.{Sizes}
 use Rattle.joined_disk.specs.Counts.{has_head, joint_in, sizes_of}
-use Rattle.joined_disk.specs.Joined.{Joint, begun_joint, both_values, joined_disk, nothing}
+use Rattle.joined_disk.specs.Joined.{Joint, begun_joint, both_faults, both_values, joined_disk}
+use Rattle.joined_disk.specs.Joined.{nothing}
 use Rattle.joined_disk.specs.Joined.{used_atoms}
 use Rattle.joined_disk.specs.declared.joined.JoinedDisk.{JoinedDisk}
 use Rattle.luks_rules.specs.Areas.{header_bytes}
@@ -34,6 +35,7 @@ kept-twice old mid new first second = record {
     size = second.main.size ∙ first.main.size;
     atoms = second.main.atoms ∙ first.main.atoms;
     values = second.main.values ∙ first.main.values;
+    later = omega (arith, first.main.later, second.main.later);
   };
 }
 
@@ -47,6 +49,30 @@ cause-later old mid new (faults.NoHeader p s) later cause = tt
 cause-later old mid new (faults.CopiesDiffer s p) later cause = tt
 cause-later old mid new (faults.Json f) later cause = tt
 cause-later old mid new (faults.Rule f) later cause = tt
+
+-- behind no head the main disk's count alone decides
+cause-alone : (old new main main' : Device) (fault : StoreFault) →
+    old.faults ≡ both_faults 0 main.faults → new.faults ≡ both_faults 0 main'.faults →
+    HasCause old new fault → HasCause main main' fault
+cause-alone old new main main' faults.Memory was is cause = tt
+cause-alone old new main main' faults.Device was is (inl risen) = inl (omega (arith, risen, was, is))
+cause-alone old new main main' faults.Device was is (inr last) = inr (omega (arith, last, is))
+cause-alone old new main main' (faults.NoHeader p s) was is cause = tt
+cause-alone old new main main' (faults.CopiesDiffer s p) was is cause = tt
+cause-alone old new main main' (faults.Json f) was is cause = tt
+cause-alone old new main main' (faults.Rule f) was is cause = tt
+
+-- so does the cause of what is told
+pub cause-told : (old new main main' : Device) (loaded : Result Stored StoreFault)
+    (told : Result (List ℕ) StoreFault) → old.faults ≡ both_faults 0 main.faults →
+    new.faults ≡ both_faults 0 main'.faults → IfErr loaded (λ fault. HasCause old new fault) →
+    Explains loaded told → IfErr told (λ fault. HasCause main main' fault)
+cause-told old new main main' (Ok stored) (Ok text) was is cause same = tt
+cause-told old new main main' (Ok stored) (Err fault) was is cause same =
+    subst (λ (f : StoreFault). HasCause main main' f) (sym same) tt
+cause-told old new main main' (Err fault) told was is cause same =
+    subst (λ (t : Result (List ℕ) StoreFault). IfErr t (λ f. HasCause main main' f)) (sym same)
+    (cause-alone old new main main' fault was is cause)
 
 -- all atoms of a disk are used
 pub all_used : (size atoms : ℕ) → IsDisk size atoms → used_atoms size 0 atoms ≡ atoms

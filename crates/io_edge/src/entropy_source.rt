@@ -42,4 +42,8 @@ impl<R: EntropySource> Seeds for Counted<R> {
     {
         answered(self.inner.draw(buf), &mut self.faults)
     }
+
+    fn faults(&self) -> u64 {
+        self.faults
+    }
 }

@@ -53,6 +53,10 @@ impl<R: InputStream> Source for Counted<R> {
     {
         answered(read_uninterrupted(&mut self.inner, buf), &mut self.faults)
     }
+
+    fn faults(&self) -> u64 {
+        self.faults
+    }
 }
 
 /// One read, made again as long as a signal interrupts it.

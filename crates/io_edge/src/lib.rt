@@ -1,12 +1,13 @@
 //! The edge of the server: where bytes come from and go to, where seeds are drawn, and where a
 //! thread may be held. A source tells what is left of its input and a sink what it was put, so far
 //! as they are objects in memory; real streams tell nothing of content. A sink tells what it holds
-//! back, which is nothing once it was pushed out. Each object counts its faults, and a call answers
-//! `Failed` only where that count rose in the call. The layer above may rely on these clauses for
-//! every implementation, and on nothing else. The objects in memory fail exactly at the calls that
-//! their plans name, and where a piece passes the room of a sink; such a call changes nothing but
-//! the counts of its plan. The real ones stand on streams and devices of the system: each call says
-//! by their relations which of their calls were made and what these answered.
+//! back, which is nothing once it was pushed out. Each object counts its faults and says how many
+//! there were, and a call answers `Failed` only where that count rose in the call. The layer above
+//! may rely on these clauses for every implementation, and on nothing else. The objects in memory
+//! fail exactly at the calls that their plans name, and where a piece passes the room of a sink;
+//! such a call changes nothing but the counts of its plan. The real ones stand on streams and
+//! devices of the system: each call says by their relations which of their calls were made and what
+//! these answered.
 #![tactic(auto)]
 
 mod calls;

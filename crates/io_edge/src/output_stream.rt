@@ -77,4 +77,8 @@ impl<W: OutputStream> Sink for Counted<W> {
     {
         answered(self.inner.flush(), &mut self.faults)
     }
+
+    fn faults(&self) -> u64 {
+        self.faults
+    }
 }

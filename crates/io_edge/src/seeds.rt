@@ -20,6 +20,10 @@ pub trait Seeds {
     fn fill(&mut self, buf: &mut [u8]) -> Result<(), Failed>
         ensures told { Draws (supply self.old) (supply self.new) buf.new result }
         ensures cause { HasCause (supply self.old).faults (supply self.new).faults result };
+
+    /// How many calls failed.
+    fn faults(&self) -> u64
+        ensures { result ≡ (supply self.now).faults };
 }
 
 /// Bytes in memory, given in order again and again.
@@ -76,6 +80,10 @@ impl Seeds for FixedSeeds {
         }
         self.at = fill_round(self.bytes.as_slice(), self.at, buf);
         Ok(())
+    }
+
+    fn faults(&self) -> u64 {
+        self.plan.faults()
     }
 }
 

@@ -31,6 +31,10 @@ pub trait Sink: Drop {
         ensures out { OnOk result ((outlet self.new).held_back ≡ []) }
         ensures holds { IsRear (outlet self.new).held_back (outlet self.old).held_back }
         ensures cause { HasCause (outlet self.old).faults (outlet self.new).faults result };
+
+    /// How many calls failed.
+    fn faults(&self) -> u64
+        ensures { result ≡ (outlet self.now).faults };
 }
 
 /// A text in memory, which has room for so many bytes. What it is put it holds back until it is
@@ -140,6 +144,10 @@ impl Sink for ListSink {
         self.out = self.bytes.len();
         Ok(())
     }
+
+    fn faults(&self) -> u64 {
+        self.plan.faults()
+    }
 }
 
 /// A sink that drops what it gets. It never fails, holds nothing back and tells nothing.
@@ -162,5 +170,9 @@ impl Sink for VoidSink {
         ensures holds { IsRear [] [] }
     {
         Ok(())
+    }
+
+    fn faults(&self) -> u64 {
+        0
     }
 }

@@ -22,6 +22,10 @@ pub trait Source: Drop {
         ensures told { TakesLeft (intake self.old) (intake self.new) buf.old buf.new result }
         ensures given { GaveMore (intake self.old) (intake self.new) buf.new result }
         ensures cause { HasCause (intake self.old).faults (intake self.new).faults result };
+
+    /// How many calls failed.
+    fn faults(&self) -> u64
+        ensures { result ≡ (intake self.now).faults };
 }
 
 /// A text in memory, given in pieces.
@@ -96,5 +100,9 @@ impl Source for ListSource {
         buf[..n].copy_from_slice(&self.bytes[self.at..self.at + n]);
         self.at += n;
         Ok(n)
+    }
+
+    fn faults(&self) -> u64 {
+        self.plan.faults()
     }
 }

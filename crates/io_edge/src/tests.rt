@@ -39,6 +39,7 @@ fn a_list_source_gives_pieces_and_fails_in_mid_stream(rt: HostRuntime) -> Result
         assert_eq!(rt; source.take(&mut buf), answer);
         assert_eq!(rt; buf, front);
     }
+    assert_eq!(rt; source.faults(), 1);
     Ok(())
 }
 
@@ -54,6 +55,7 @@ fn a_list_sink_fails_by_number_and_past_its_room(rt: HostRuntime) -> Result<(), 
     assert_eq!(rt; sink.put(b"de"), Ok(()));
     assert_eq!(rt; sink.held_back(), b"de".as_slice());
     assert_eq!(rt; sink.as_slice(), b"abcde".as_slice());
+    assert_eq!(rt; sink.faults(), 3);
     Ok(())
 }
 
@@ -69,6 +71,7 @@ fn fixed_seeds_go_round_and_on_after_a_failure(rt: HostRuntime) -> Result<(), Fa
         assert_eq!(rt; seeds.fill(&mut buf), answer);
         assert_eq!(rt; buf, drawn);
     }
+    assert_eq!(rt; seeds.faults(), 1);
     Ok(())
 }
 
@@ -76,6 +79,7 @@ fn fixed_seeds_go_round_and_on_after_a_failure(rt: HostRuntime) -> Result<(), Fa
 fn what_never_fails_answers_ok(rt: HostRuntime) {
     assert_eq!(rt; VoidSink.put(b"abc"), Ok(()));
     assert_eq!(rt; VoidSink.push_out(), Ok(()));
+    assert_eq!(rt; VoidSink.faults(), 0);
     OpenGate.pause(Place::Work);
 }
 
@@ -139,6 +143,7 @@ fn a_source_reads_again_after_a_signal_and_fails_as_its_reader(rt: HostRuntime) 
     assert_eq!(rt; buf, *b"xx");
     assert_eq!(rt; source.take(&mut buf), Err(Failed));
     assert_eq!(rt; source.take(&mut buf), Ok(2), "the reader goes on");
+    assert_eq!(rt; source.faults(), 1);
 }
 
 /// A text in memory of at most `room` bytes, of which each call takes at most `most`; a signal
@@ -254,6 +259,7 @@ fn a_sink_fails_where_its_stream_takes_nothing_or_cannot_flush(
     assert_eq!(rt; sink.put(b"gh"), Ok(()), "it is held back");
     assert_eq!(rt; sink.push_out(), Err(Failed), "nothing is taken");
     assert_eq!(rt; sink.put(b""), Ok(()), "a piece that is empty");
+    assert_eq!(rt; sink.faults(), 2);
     Ok(())
 }
 
@@ -275,5 +281,7 @@ fn the_system_draws_seeds_or_fails(rt: HostRuntime) {
     assert_eq!(rt; seeds.fill(&mut second), Ok(()));
     assert_ne!(rt; first, second);
     assert_ne!(rt; &first[268..], [0; 32].as_slice(), "also past 256 bytes");
-    assert_eq!(rt; OsSeeds::new(NoEntropy).fill(&mut first), Err(Failed));
+    let mut none = OsSeeds::new(NoEntropy);
+    assert_eq!(rt; none.fill(&mut first), Err(Failed));
+    assert_eq!(rt; (seeds.faults(), none.faults()), (0, 1));
 }

@@ -1,12 +1,14 @@
 -- Lemmas on a call on two joined disks: it does to them as one what a call does to a disk.
 use Rattle.std.proofs.Common.{◌≡◌, ℕ, ◌+◌, ◌-◌, ◌^◌, ◌||◌, Bool, true, false, List, [], map, min}
 use Rattle.std.proofs.Common.{Option, Some, None, Result, Ok, Err, refl, sym, ◌∙◌, ap, ap₂, subst}
-use Rattle.std.proofs.Common.{inl, inr, arith}
+use Rattle.std.proofs.Common.{◌<◌, ◌≤◌, ◌⊎◌, inl, inr, arith}
+use Rattle.std.proofs.lemmas.Bool.{cases_lt}
 use Rattle.base_terms.specs.declared.failed.Failed.{Failed}
 use Rattle.base_terms.specs.Causes.{HasCause, Rose}
 use Rattle.sector_disk.specs.Cells.{Cell, synced, IsThinned, AreHeld}
 use Rattle.sector_disk.specs.Devices.{Device, SyncCall, marked}
-use Rattle.joined_disk.specs.Joined.{Joint, Follows, both_tables, joint_told, joined_disk}
+use Rattle.joined_disk.specs.Joined.{Joint, Follows, both_faults, both_tables, joint_told}
+use Rattle.joined_disk.specs.Joined.{joined_disk}
 use Rattle.joined_disk.specs.JoinedCalls.{BothSynced}
 use Rattle.joined_disk.specs.JoinedLaws.{ShowsDisk}
 use Rattle.sector_disk.specs.Steps.{Told, remarked, IsMoved, MovesOrNot}
@@ -54,31 +56,41 @@ is_call of_head of_main Head Main old new joins head main = record {
   main_follows = joins.main_follows;
 }
 
+-- where one more of both failed their count rose, or stands at its last value
+rose_both : (head main head' main' : ℕ) → head + main < head' + main'
+    → Rose (both_faults head main) (both_faults head' main')
+rose_both head main head' main' more = by (cases_lt (head + main) (2 ^ 64 - 1))
+  where
+    by : (head + main < 2 ^ 64 - 1) ⊎ (2 ^ 64 - 1 ≤ head + main)
+        → Rose (both_faults head main) (both_faults head' main')
+    by (inl low) = inl (omega (arith, more, low))
+    by (inr full) = inr (omega (arith, more, full))
+
 -- causes of both
 pub cause_left : {T : Type 0} (head head' main main' : ℕ) (result : Result T Failed)
     → HasCause head head' result → main' ≡ main
-    → HasCause (head + main) (head' + main') result
+    → HasCause (both_faults head main) (both_faults head' main') result
 cause_left head head' main main' result cause same = record {
   later = omega (arith, cause.later, same);
   failed = λ is. rose_left (cause.failed is);
-  held = λ is. ap₂ (λ a b. a + b) (cause.held is) same;
+  held = λ is. ap₂ (λ a b. both_faults a b) (cause.held is) same;
 }
   where
-    rose_left : Rose head head' → Rose (head + main) (head' + main')
-    rose_left (inl more) = inl (omega (arith, more, same))
+    rose_left : Rose head head' → Rose (both_faults head main) (both_faults head' main')
+    rose_left (inl more) = rose_both head main head' main' (omega (arith, more, same))
     rose_left (inr most) = inr (omega (arith, most))
 
 pub cause_right : {T : Type 0} (head head' main main' : ℕ) (result : Result T Failed)
     → HasCause main main' result → head' ≡ head
-    → HasCause (head + main) (head' + main') result
+    → HasCause (both_faults head main) (both_faults head' main') result
 cause_right head head' main main' result cause same = record {
   later = omega (arith, cause.later, same);
   failed = λ is. rose_right (cause.failed is);
-  held = λ is. ap₂ (λ a b. a + b) same (cause.held is);
+  held = λ is. ap₂ (λ a b. both_faults a b) same (cause.held is);
 }
   where
-    rose_right : Rose main main' → Rose (head + main) (head' + main')
-    rose_right (inl more) = inl (omega (arith, more, same))
+    rose_right : Rose main main' → Rose (both_faults head main) (both_faults head' main')
+    rose_right (inl more) = rose_both head main head' main' (omega (arith, more, same))
     rose_right (inr most) = inr (omega (arith, most))
 
 -- a disk of which the sizes and the bytes stayed

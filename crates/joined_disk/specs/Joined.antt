@@ -118,6 +118,10 @@ abbrev pub both_values : ℕ → Option (List ℕ) → Option (List ℕ) → Opt
 both_values len (Some head) (Some main) = Some (head ++ take len main)
 both_values len _ _ = None
 
+-- the faults of both, whose count stands still at its last value
+abbrev pub both_faults : ℕ → ℕ → ℕ
+both_faults head main = min (head + main) (2 ^ 64 - 1)
+
 -- what a disk of two shows: the atoms of the head, and behind them those of the main disk that are
 -- used
 abbrev pub joined_disk : Joint → Device
@@ -126,7 +130,7 @@ joined_disk joint = record {
   atoms = joint.head.atoms + joint.used;
   values = both_values (joint.used * joint.main.size) joint.head.values joint.main.values;
   told = joint_told joint;
-  faults = joint.head.faults + joint.main.faults;
+  faults = both_faults joint.head.faults joint.main.faults;
 }
 
 -- of disks that are joined now

@@ -24,7 +24,7 @@ use std::snapshot::Snapshot;
 /// it; a call on both disks marks both alike, and the head is called first. So the tables of both
 /// disks stand in one order, also once they are apart again. It keeps no marks of its own, and once
 /// its count stands at `2^64 - 1` it tells its tables no more. After a call on the head that failed
-/// the main disk isn't called.
+/// the main disk isn't called. Its faults are those of both, whose count stands still at `2^64 - 1`.
 #[derive(Drop)]
 pub struct JoinedDisk<D: Disk> {
     head: Option<D>,
@@ -287,4 +287,12 @@ impl<D: Disk> Disk for JoinedDisk<D> {
         ensures same { joint_in self.new ≡ joint_in self.old }
         ensures sizes { sizes_of self.new ≡ sizes_of self.old }
     {}
+
+    fn faults(&self) -> u64 {
+        let of_head = match &self.head {
+            Some(head) => head.faults(),
+            None => 0,
+        };
+        of_head.saturating_add(self.main.faults())
+    }
 }

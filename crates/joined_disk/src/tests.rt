@@ -43,39 +43,53 @@ fn last_bytes(disk: &mut JoinedDisk<MemDisk>) -> Result<[u8; 5], Failed>
     Ok([buf[511], buf[1023], buf[1535], buf[2047], buf[2559]])
 }
 
-/// Whether a write over the seam, a sync and a read of all succeed, and what a further read finds.
+/// Whether a write over the seam, a sync and a read of all succeed, how many of these failed, and
+/// what a further read finds.
 fn outcomes(
     alloc: Global,
     head_fails: &[u64],
     main_fails: &[u64],
-) -> Result<([bool; 3], [u8; 5]), Fail> {
+) -> Result<([bool; 3], u64, [u8; 5]), Fail> {
     let mut disk = two_and_three(alloc, head_fails, main_fails)?;
     let written = write_over_the_seam(&mut disk).is_ok();
     let synced = disk.sync().is_ok();
     let read = last_bytes(&mut disk).is_ok();
-    Ok(([written, synced, read], last_bytes(&mut disk)?))
+    let faults = disk.faults();
+    Ok(([written, synced, read], faults, last_bytes(&mut disk)?))
 }
 
 #[test]
 fn a_fault_of_either_disk_at_each_call_is_the_calls(rt: HostRuntime) -> Result<(), Fail> {
     let alloc = rt.alloc();
     let sevens = [0, 7, 7, 0, 0];
-    assert_eq!(rt; outcomes(alloc, &[], &[])?, ([true, true, true], sevens));
+    assert_eq!(rt; outcomes(alloc, &[], &[])?, ([true, true, true], 0, sevens));
     assert_eq!(rt;
         outcomes(alloc, &[0], &[])?,
-        ([false, true, true], [0, 0, 0, 0, 0])
+        ([false, true, true], 1, [0, 0, 0, 0, 0])
     );
-    assert_eq!(rt; outcomes(alloc, &[1], &[])?, ([true, false, true], sevens));
-    assert_eq!(rt; outcomes(alloc, &[2], &[])?, ([true, true, false], sevens));
+    assert_eq!(rt;
+        outcomes(alloc, &[1], &[])?,
+        ([true, false, true], 1, sevens)
+    );
+    assert_eq!(rt;
+        outcomes(alloc, &[2], &[])?,
+        ([true, true, false], 1, sevens)
+    );
     assert_eq!(rt;
         outcomes(alloc, &[], &[0])?,
-        ([false, true, true], [0, 7, 0, 0, 0])
+        ([false, true, true], 1, [0, 7, 0, 0, 0])
     );
-    assert_eq!(rt; outcomes(alloc, &[], &[1])?, ([true, false, true], sevens));
-    assert_eq!(rt; outcomes(alloc, &[], &[2])?, ([true, true, false], sevens));
+    assert_eq!(rt;
+        outcomes(alloc, &[], &[1])?,
+        ([true, false, true], 1, sevens)
+    );
+    assert_eq!(rt;
+        outcomes(alloc, &[], &[2])?,
+        ([true, true, false], 1, sevens)
+    );
     assert_eq!(rt;
         outcomes(alloc, &[1], &[1])?,
-        ([true, false, false], sevens)
+        ([true, false, false], 2, sevens)
     );
     Ok(())
 }

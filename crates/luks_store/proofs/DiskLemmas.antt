@@ -69,7 +69,7 @@ told-since old new (Err failed) (inr tells) now is = let (before, was, moved) =
     tells now is in (before, was, read-moved before now moved)
 
 keeps-none : (d : disk_type) → KeepsBytes d d
-keeps-none d = record { size = refl; atoms = refl; values = refl }
+keeps-none d = record { size = refl; atoms = refl; values = refl; later = omega arith }
 
 keeps-same : (old new : disk_type) → new ≡ old → KeepsBytes old new
 keeps-same old new same = subst (KeepsBytes old) (sym same) (keeps-none old)
@@ -78,13 +78,19 @@ keeps-marked : (size at number : ℕ) (bytes : List ℕ) (old new : disk_type)
     (result : Result (Unit {0}) Failed)
     → ReadCall size at bytes (marked old number) new result → KeepsBytes old new
 keeps-marked size at number bytes old new result call =
-    record { size = call.size; atoms = call.atoms; values = call.values }
+    record {
+      size = call.size;
+      atoms = call.atoms;
+      values = call.values;
+      later = call.cause.later;
+    }
 
 keeps-joined : (a b c : disk_type) → KeepsBytes a b → KeepsBytes b c → KeepsBytes a c
 keeps-joined a b c first later = record {
   size = later.size ∙ first.size;
   atoms = later.atoms ∙ first.atoms;
   values = later.values ∙ first.values;
+  later = (let one = first.later in let two = later.later in omega (arith, one, two));
 }
 
 -- a read of two joined disks leaves what each of them holds

@@ -33,11 +33,12 @@ pub record IsRead (before now : Told) : Type 0 where
   pub past : now.past ≡ before.past ++ more
   pub same : All (λ table. table.1 ≡ before.now) more
 
--- what one disk holds stands
+-- what one disk holds stands, and its count of faults doesn't fall
 pub record KeepsBytes (old new : disk_type) : Type 0 where
   pub size : new.size ≡ old.size
   pub atoms : new.atoms ≡ old.atoms
   pub values : new.values ≡ old.values
+  pub later : old.faults ≤ new.faults
 
 -- Nothing was written to two joined disks: what both hold as one is as before, and so is each table
 -- that they tell since; and what each of them holds.

@@ -67,6 +67,10 @@ impl Sink for Door {
         self.out = self.inner.as_slice().len();
         self.inner.push_out()
     }
+
+    fn faults(&self) -> u64 {
+        self.inner.faults()
+    }
 }
 
 fn end(ending: Ending, taken: usize, put: usize) -> SessionEnd {

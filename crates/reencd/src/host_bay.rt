@@ -273,4 +273,8 @@ impl<R: FileSystem + Network + Drop> Bay for HostBay<R> {
             Err(error) => Err(self.refused(alloc, address, &error)),
         }
     }
+
+    fn faults(&self) -> u64 {
+        self.faults
+    }
 }

@@ -158,4 +158,8 @@ impl<R: Network> Link for HostLink<R> {
     {
         self.lent -= 1;
     }
+
+    fn faults(&self) -> u64 {
+        self.faults
+    }
 }

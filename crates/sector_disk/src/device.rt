@@ -47,6 +47,10 @@ pub trait Disk {
     fn mark(&mut self, number: u64)
         ensures marked { device self.new ≡ marked (device self.old) number };
 
+    /// How many device calls failed.
+    fn faults(&self) -> u64
+        ensures { result ≡ (device self.now).faults };
+
     // What holds of each disk.
 
     /// Its sizes are those of a disk.

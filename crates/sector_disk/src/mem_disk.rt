@@ -305,4 +305,8 @@ impl Disk for MemDisk {
     {
         self.mark = number;
     }
+
+    fn faults(&self) -> u64 {
+        self.plan.faults()
+    }
 }

@@ -83,4 +83,8 @@ impl Disk for RamDisk {
     }
 
     fn mark(&mut self, _number: u64) {}
+
+    fn faults(&self) -> u64 {
+        0
+    }
 }

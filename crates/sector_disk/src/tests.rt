@@ -151,6 +151,7 @@ fn fails_by_number_after_the_stop_and_for_want_of_room(rt: HostRuntime) -> Resul
     disk.stop_after(4);
     assert!(rt; disk.sync().is_ok());
     assert!(rt; disk.sync().is_err(), "after four calls");
+    assert_eq!(rt; disk.faults(), 2);
     let mut disk = four_atoms(alloc, 6, &[])?;
     assert!(rt; write_three(&mut disk, 1).is_ok());
     assert!(rt;
@@ -176,6 +177,7 @@ fn a_disk_that_never_fails_reads_what_was_written(rt: HostRuntime) -> Result<(),
     disk.mark(1);
     let mut buf = [7; 12288];
     disk.read(0, &mut buf)?;
+    assert_eq!(rt; disk.faults(), 0);
     assert_eq!(rt;
         [
             buf[0], buf[4095], buf[4096], buf[8191], buf[8192], buf[12287]

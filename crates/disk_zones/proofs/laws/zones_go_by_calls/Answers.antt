@@ -1,5 +1,6 @@
 use Rattle.disk_zones.proofs.ZoneCalls.{zone_begins, zone_goes, zone_ends}
 use Rattle.disk_zones.proofs.ZoneFaults.{zone_fails}
+use Rattle.disk_zones.proofs.ZoneEnd.{zone_nearer}
 use Rattle.disk_zones.proofs.laws.zones_go_by_calls.Goals as goal
 
 pub returns-clause-begins : goal.returns-clause-begins
@@ -15,3 +16,8 @@ returns-clause-goes c = λ atom layout zone texts phase next old new apart shows
 pub returns-clause-ends : goal.returns-clause-ends
 returns-clause-ends c =
     λ atom layout zone texts phase old new. zone_ends atom layout zone texts phase old new
+
+pub returns-clause-nearer : goal.returns-clause-nearer
+returns-clause-nearer c =
+    λ atom layout zone texts phase next old new. zone_nearer atom layout zone texts phase next old
+    new

@@ -1,13 +1,14 @@
-use Rattle.std.proofs.Common.{◌≡◌, ◌∙◌, ◌+◌, ◌*◌, ◌≤◌, ℕ, [], List, Option, Some, length, ap, sym}
+use Rattle.std.proofs.Common.{◌≡◌, ◌∙◌, ◌*◌, ◌≤◌, ℕ, List, Some, length, ap, ap₂, sym}
 use Rattle.std.proofs.Common.{subst, arith, IfOk}
 use Rattle.disk_sizes.specs.declared.Sizes.{Sizes}
 use Rattle.joined_disk.specs.Counts.{joint_in, sizes_of}
-use Rattle.joined_disk.specs.Joined.{Joint, in_front, joined_disk}
+use Rattle.joined_disk.specs.Joined.{Joint, both_faults, in_front, joined_disk}
 use Rattle.luks_store.specs.Devices.{device_of}
 use Rattle.luks_store.specs.declared.loaded.Stored.{Stored}
 use Rattle.sector_disk.specs.Devices.{Device}
 use Rattle.header_report.specs.Examinations.{sizes_alone}
-use Rattle.header_report.proofs.ExamineLemmas.{alone_sizes, alone_values, answers_alone, tells_by}
+use Rattle.header_report.proofs.ExamineLemmas.{alone_sizes, alone_values, answers_alone}
+use Rattle.header_report.proofs.ExamineLemmas.{cause-told, tells_by}
 use Rattle.header_report.proofs.reading.examine.Goals as goal
 
 pub returns-clause-told : goal.returns-clause-told
@@ -39,7 +40,13 @@ returns-clause-read g c =
     let after = c.load_settled-loaded.new.disk in
     let kept = c.load_settled-loaded.ensures.kept in
     let main = c.parts-head.ensures.main in
-    let none = sym c.parts-head.ensures.head ∙ c.in-None.is in
+    let later : device.faults ≤ (g.D.Disk.device c.parts-head.result.1).faults =
+    omega (
+      arith,
+      kept.main.later,
+      ap (λ (j : Joint). j.main.faults) joint,
+      ap (λ d. (g.D.Disk.device d).faults) main,
+    ) in
     record {
       holds = record {
         size = ap (λ d. (g.D.Disk.device d).size) main ∙ kept.main.size
@@ -49,14 +56,18 @@ returns-clause-read g c =
         values =
             ap (λ d. (g.D.Disk.device d).values) main ∙ kept.main.values
             ∙ ap (λ (j : Joint). j.main.values) joint;
+        later = later;
       };
-      later =
-          let before : (device_of c.alone-joined.result).faults ≡ 0 + device.faults =
-          ap (λ (j : Joint). (joined_disk j).faults) joint in
-          let front : (in_front g.D.Disk.device after.atom after.head).faults ≡ 0 =
-          ap (λ h. (in_front g.D.Disk.device after.atom h).faults) none in
-          let back : (g.D.Disk.device c.parts-head.result.1).faults
-          ≡ (g.D.Disk.device after.main).faults =
-          ap (λ d. (g.D.Disk.device d).faults) main in
-          omega (arith, kept.later, before, front, back);
+      later = later;
     }
+
+pub returns-clause-cause : goal.returns-clause-cause
+returns-clause-cause g c =
+    let after = c.load_settled-loaded.new.disk in
+    let none = sym c.parts-head.ensures.head ∙ c.in-None.is in
+    cause-told _ (device_of after) (g.D.Disk.device c.args.disk)
+    (g.D.Disk.device c.parts-head.result.1) c.load_settled-loaded.result _
+    (ap (λ (j : Joint). (joined_disk j).faults) c.alone-joined.ensures.joint)
+    (ap₂ both_faults (ap (λ h. (in_front g.D.Disk.device after.atom h).faults) none)
+    (ap (λ d. (g.D.Disk.device d).faults) (sym c.parts-head.ensures.main)))
+    c.load_settled-loaded.ensures.cause c.told.ensures
