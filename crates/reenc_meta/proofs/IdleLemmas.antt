@@ -1,8 +1,8 @@
 -- The placement of a volume of which nothing is being converted is right.
 use Rattle.std.proofs.Common.{◌≡◌, ℕ, ◌+◌, ◌*◌, ◌/◌, ◌%◌, ◌^◌, ◌-◌, ◌<◌, ◌≤◌, List, [], ◌∷◌, map}
 use Rattle.std.proofs.Common.{true}
-use Rattle.std.proofs.Common.{Option, Some, None, refl, ap, subst, sym, ◌∙◌, arith}
-use Rattle.std.proofs.Math.Nat.{le_trans, mul-le-mul_right}
+use Rattle.std.proofs.Common.{Option, Some, None, Bool, false, refl, ap, subst, sym, ◌∙◌, arith}
+use Rattle.std.proofs.Math.Nat.{mul-le-mul_right}
 use Rattle.std.specs.List.{AllByRecursion}
 use Rattle.std.specs.Option.{IfSome}
 use Rattle.disk_sizes.specs.declared.Sizes.{Sizes}
@@ -15,7 +15,7 @@ use Rattle.luks_json.specs.declared.segment.Segment.{Segment}
 use Rattle.luks_rules.specs.Areas.{areas_end, main_bytes}
 use Rattle.luks_rules.specs.Extents.{extent_of}
 use Rattle.luks_rules.specs.Idles.{idle_of}
-use Rattle.luks_rules.specs.Plain.{LieWithin}
+use Rattle.luks_rules.specs.Segments.{in_progress}
 use Rattle.luks_rules.specs.States.{IsIdle, IsSound}
 use Rattle.luks_rules.specs.declared.extents.Extent.{Extent}
 use Rattle.luks_rules.specs.declared.idle.Idle.{Idle}
@@ -130,3 +130,21 @@ same_by sizes (Some v) p q is also =
 pub same_placement : (m : Parts) (sizes : Sizes) (p q : Placement) → IsPlacementOf m sizes p
     → IsPlacementOf m sizes q → AreOne p q
 same_placement m sizes p q is also = same_by sizes (idle_of m sizes) p q is also
+
+-- ---- by the header
+idle_by : (m : Parts) (sizes : Sizes) (v : Idle) → IsSound m sizes → idle_of m sizes ≡ Some v
+    → (b : Bool) → in_progress m.config ≡ b → IsIdle m sizes v
+idle_by m sizes v sound is true busy =
+    let none = (sound.busy busy).0 in
+    absurd (let e : Some v ≡ None = sym is ∙ none in cc)
+idle_by m sizes v sound is false idle =
+    let found = (sound.idle idle).1 in
+    let same : found.0 ≡ v = (let e : Some found.0 ≡ Some v = sym found.1 ∙ is in cc) in
+    subst (λ (w : Idle). IsIdle m sizes w) same found.2
+
+pub placed_right : (m : Parts) (sizes : Sizes) (v : Idle) (p : Placement)
+    → IsDisk sizes.atom (all_atoms sizes) → IsMeta m → IsSound m sizes → idle_of m sizes ≡ Some v
+    → IsIdlePlacement sizes v p → IsRightFor m sizes p
+placed_right m sizes v p disk right sound is placed =
+    idle_right m sizes v p disk right sound
+    (idle_by m sizes v sound is (in_progress m.config) refl) placed

@@ -2,11 +2,11 @@
 use Rattle.std.proofs.Common.{◌≡◌, ℕ, zero, suc, ◌+◌, ◌-◌, ◌*◌, ◌/◌, ◌%◌, ◌<◌, ◌≤◌, List, ◌++◌}
 use Rattle.std.proofs.Common.{Bool}
 use Rattle.std.proofs.Common.{true, false, replicate, Some, slice_get, refl, ap, arith, inl, inr}
-use Rattle.std.proofs.Common.{if◌then◌else◌, subst, sym, ◌∙◌}
+use Rattle.std.proofs.Common.{if◌then◌else◌, subst, sym, ◌∙◌, ◌^◌}
 use Rattle.std.proofs.Math.Nat.{div-add-mod, div-mul-le_self, le_of_mul-le-mul_right, le_trans}
 use Rattle.std.proofs.Math.Nat.{mul-le-mul_right, mul_comm}
 use Rattle.reenc_meta.specs.Places.{AreAllNew}
-use Rattle.sector_disk.specs.Geometry.{IsAtom}
+use Rattle.sector_disk.specs.Geometry.{IsAtom, IsDisk}
 use Rattle.segment_map.specs.Maps.{side_at}
 use Rattle.segment_map.specs.declared.Direction.TheVariants.{Forward}
 use Rattle.segment_map.specs.declared.Side.{Side}
@@ -40,7 +40,10 @@ new_apart map new =
 -- ---- in bytes
 times_next : (n atom : ℕ) → 0 < n → n * atom ≡ (n - 1) * atom + atom
 times_next zero atom some = absurd (omega (arith, some))
-times_next (suc n) atom some = omega arith
+times_next (suc n) atom some =
+    let long : suc n * atom ≡ n * atom + atom = grind arith in
+    let same : suc n - 1 ≡ n = omega arith in
+    long ∙ ap (λ k. k * atom + atom) (sym same)
 
 -- each of some blocks ends below this byte, so they all do
 pub all_end_below : (offset blocks atom end : ℕ) → 0 < blocks
@@ -83,3 +86,14 @@ behind false header end offset atom b whole attached apart =
 pub units_of_blocks : (blocks atom : ℕ) → IsAtom atom → blocks * atom / 512 ≡ blocks * (atom / 512)
 units_of_blocks blocks atom (inl is) = rw is (omega arith)
 units_of_blocks blocks atom (inr is) = rw is (omega arith)
+
+-- a disk has few atoms
+pub few_atoms : (atom atoms : ℕ) → IsDisk atom atoms → atoms < 2 ^ 63
+few_atoms atom atoms disk = elim disk.known [
+  | inl is ↦
+      (let fits : atoms * 512 < 2 ^ 63 = subst (λ n. atoms * n < 2 ^ 63) is disk.fits in
+      omega (arith, fits))
+  | inr is ↦
+      (let fits : atoms * 4096 < 2 ^ 63 = subst (λ n. atoms * n < 2 ^ 63) is disk.fits in
+      omega (arith, fits))
+]

@@ -67,6 +67,7 @@ pub fn place_idle(valid: &Valid) -> Option<Placement>
     ensures none { IsNone result → in_progress valid.now.meta.config ≡ true }
 {
     valid.is_sound();
+    let _parts = valid.meta().parts();
     let sizes = valid.sizes();
     match valid.idle() {
         Some(idle) => Some(place_segment(&sizes, &idle)),
