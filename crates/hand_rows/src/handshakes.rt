@@ -77,8 +77,8 @@ fn talk_of(alloc: Global, messages: &[Message]) -> Result<Talk> {
     Ok(Talk { sent, put })
 }
 
-/// What differs where the bytes of a row come in pieces, with others behind them unless the row says
-/// that the input ends.
+/// What differs where the bytes of a row come in pieces, with others behind them unless the row
+/// says that the input ends.
 fn in_pieces(alloc: Global, row: &Row, all: &Talk) -> Result<Option<String>> {
     let wanted = Wanted {
         outcome: row.outcome.as_str(),

@@ -1,7 +1,8 @@
-//! Rows on the handshake of a session, each with its outcome, in `data/options.rows`. A line is a row,
-//! with a tab between two columns; a line that is empty or begins with `#` is none. The first column
-//! is what `negotiate` gives; then come in turn a message of the client and what it is answered. Both
-//! are words of `data/words`, where each has its bytes in hexadecimal, and `WORD*N` is a word N times.
+//! Rows on the handshake of a session, each with its outcome, in `data/options.rows`. A line is a
+//! row, with a tab between two columns; a line that is empty or begins with `#` is none. The first
+//! column is what `negotiate` gives; then come in turn a message of the client and what it is
+//! answered. Both are words of `data/words`, where each has its bytes in hexadecimal, and `WORD*N`
+//! is a word N times.
 //!
 //! The greeting is put before the first message. What follows a row's messages isn't taken, unless
 //! the row says that the input ends. Each row is tried with bytes that come one, seven and many at

@@ -16,7 +16,8 @@ info-once a b ia ib e =
     let type = u16-first _ _ _ _ (omega arith) (omega arith) e in
     let size = u64-first _ _ _ _ ia.size ib.size type.1 in
     let flags = u16-first _ _ _ _ ia.flags ib.flags size.1 in
-    let same : ◌≡◌ {A = ExportData} (record { size = a.size; flags = record { bits = a.flags.bits } })
+    let same : ◌≡◌ {A = ExportData}
+    (record { size = a.size; flags = record { bits = a.flags.bits } })
     (record { size = b.size; flags = record { bits = b.flags.bits } }) = cc in
     same
 

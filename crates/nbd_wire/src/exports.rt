@@ -60,7 +60,8 @@ pub struct ExportData {
 }
 
 impl ExportData {
-    /// The export that the answer to EXPORT_NAME spells, the zeros left out; each ten bytes spell one.
+    /// The export that the answer to EXPORT_NAME spells, the zeros left out; each ten bytes spell
+    /// one.
     pub fn read(bytes: &[u8; 10]) -> ExportData
         ensures taken { IsExport result }
         ensures text { export_text result ≡ bytes.now }

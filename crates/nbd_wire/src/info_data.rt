@@ -13,8 +13,8 @@ pub struct InfoData<'a> {
 }
 
 impl<'a> InfoData<'a> {
-    /// The data that these bytes spell: a u32 length, the name, a u16 count, and so many types. None
-    /// where they aren't exactly this.
+    /// The data that these bytes spell: a u32 length, the name, a u16 count, and so many types.
+    /// None where they aren't exactly this.
     pub fn read(bytes: &'a [u8]) -> Option<InfoData<'a>>
         ensures name { MatchOption result (info_name bytes.now ≡ None)
             (λ asked. info_name bytes.now ≡ Some asked.name.now) }
@@ -36,7 +36,8 @@ impl<'a> InfoData<'a> {
     /// Writes the data over a buffer of just its length.
     pub fn write(&self, bytes: &mut [u8])
         requires asked { IsInfoData self.now.name.now self.now.types.now }
-        requires room { length bytes.old ≡ 6 + length self.now.name.now + length self.now.types.now }
+        requires room { length bytes.old
+            ≡ 6 + length self.now.name.now + length self.now.types.now }
         ensures { bytes.new ≡ info_data_text self.now.name.now self.now.types.now }
     {
         let length = self.name.len();
