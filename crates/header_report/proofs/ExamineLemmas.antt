@@ -36,7 +36,8 @@ cause-alone : (old new main main' : Device) (fault : StoreFault) →
     old.faults ≡ both_faults 0 main.faults → new.faults ≡ both_faults 0 main'.faults →
     HasCause old new fault → HasCause main main' fault
 cause-alone old new main main' faults.Memory was is cause = tt
-cause-alone old new main main' faults.Device was is (inl risen) = inl (omega (arith, risen, was, is))
+cause-alone old new main main' faults.Device was is (inl risen) =
+    inl (omega (arith, risen, was, is))
 cause-alone old new main main' faults.Device was is (inr last) = inr (omega (arith, last, is))
 cause-alone old new main main' (faults.NoHeader p s) was is cause = tt
 cause-alone old new main main' (faults.CopiesDiffer s p) was is cause = tt
