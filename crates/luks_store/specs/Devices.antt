@@ -37,15 +37,18 @@ pub record IsRead (before now : Told) : Type 0 where
   pub past : now.past ≡ before.past ++ more
   pub same : All (λ table. table.1 ≡ before.now) more
 
--- what one disk holds stands, and its count of faults doesn't fall
+-- What one disk holds stands, and so does each table that it tells since: its calls were reads
+-- alone. It may have been marked between them. Its count of faults doesn't fall.
 pub record KeepsBytes (old new : disk_type) : Type 0 where
   pub size : new.size ≡ old.size
   pub atoms : new.atoms ≡ old.atoms
   pub values : new.values ≡ old.values
   pub later : old.faults ≤ new.faults
+  pub told : (now : Told) → new.told ≡ Some now
+      → (before : Told) × (old.told ≡ Some before) × IsRead (record before { mark = now.mark }) now
 
 -- Nothing was written to two joined disks: what both hold as one is as before, and so is each table
--- that they tell since; and what each of them holds.
+-- that they tell since; and what each of them holds and tells.
 pub record IsUnwritten (old new : Joint) : Type 0 where
   pub size : (joined_disk new).size ≡ (joined_disk old).size
   pub atoms : (joined_disk new).atoms ≡ (joined_disk old).atoms
