@@ -52,6 +52,66 @@ h.shutdown()
 PYTHON
 served 1
 
+# the options of a handshake, which the client asks one by one
+serve "$room/disk.img" 512 3
+"$python" -m nbd -c - "$port" <<'PYTHON' || fail "libnbd's options"
+import errno
+import sys
+
+
+def refused(error_number, call, *words):
+    try:
+        call(*words)
+    except nbd.Error as error:
+        assert error.errnum == error_number, error
+        print(call.__name__, *words, "is refused by", errno.errorcode[error.errnum])
+    else:
+        raise AssertionError("it is granted")
+
+
+def connected():
+    handle = nbd.NBD()
+    handle.set_opt_mode(True)
+    handle.set_request_structured_replies(False)
+    handle.connect_tcp("127.0.0.1", sys.argv[-1])
+    assert handle.get_protocol() == "newstyle-fixed"
+    return handle
+
+
+client = connected()
+names = []
+assert client.opt_list(lambda name, description: names.append((name, description))) == 1
+assert names == [("volume", "")], names
+for name in ["", "volume"]:
+    client.set_export_name(name)
+    client.opt_info()
+    assert client.get_size() == 64 << 20 and client.get_block_size(nbd.SIZE_PREFERRED) == 4096
+client.set_export_name("other")
+refused(errno.ENOENT, client.opt_info)
+refused(errno.ENOENT, client.opt_go)
+client.set_export_name("x" * 4096)
+refused(errno.ENOENT, client.opt_info)
+refused(errno.ENOTSUP, client.opt_starttls)
+client.set_export_name("volume")
+client.opt_go()
+assert client.pread(512, 0) == bytes(range(256)) * 2
+client.shutdown()
+print("list, info, refusals and go in one handshake")
+
+client = connected()
+client.opt_info()
+client.opt_abort()
+print("abort behind info")
+
+client = nbd.NBD()
+client.set_handshake_flags(0)
+client.connect_tcp("127.0.0.1", sys.argv[-1])
+assert client.get_protocol() == "newstyle" and client.get_size() == 64 << 20
+client.shutdown()
+print("an export by its name alone")
+PYTHON
+served 3
+
 REENCD=$reencd DISK=$room/disk.img "$python" -m nbd -c - <<'PYTHON' || fail "libnbd over standard input and output"
 import os
 

@@ -53,8 +53,10 @@ pub trait Bay {
         ensures leaves { AfterDisk name.now (holdings self.old) (holdings self.new) result }
         ensures cause { HasBayCause (holdings self.old).faults (holdings self.new).faults result };
 
-    /// The same disk, opened to be read alone: it is had also while another program has it locked,
-    /// and the machine refuses to write to it. All else in the bay stands.
+    /// The same disk, to be read alone. It is asked for without the lock, so that it is had also
+    /// while another program has it locked, which may then write it between two reads. All else in
+    /// the bay stands. No clause keeps a disk that was had so from being written: that the machine
+    /// refuses it is argued.
     fn disk_to_read(&mut self, alloc: Global, name: &str, atom: u32) -> Result<Self::Disk, BayFault>
         requires { IsAtom atom }
         ensures asked { asks_reading self.old name.now atom result self.new }

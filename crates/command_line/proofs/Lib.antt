@@ -1,4 +1,9 @@
 pub mod ItemLemmas
+pub mod LeafLemmas
 pub mod MatchLemmas
+pub mod PieceLemmas
+pub mod PlainLemmas
 pub mod ProductLemmas
+pub mod RowLemmas
+pub mod TakenLemmas
 pub mod ValueLemmas

@@ -1,5 +1,5 @@
 -- Decimal digits as a number.
-use Rattle.std.proofs.Common.{◌≡◌, ◌+◌, ◌-◌, ◌*◌, ◌^◌, ◌<◌, ◌≤◌, ℕ, List, length, Bool, true, false}
+use Rattle.std.proofs.Common.{◌≡◌, ◌+◌, ◌-◌, ◌*◌, ◌^◌, ◌<◌, ◌≤◌, ℕ, length, Bool, true, false}
 use Rattle.std.proofs.Common.{cond, fold, rules, refl, arith, Some, None, [], ◌∷◌, inl, inr}
 use Rattle.std.proofs.lemmas.Bool.{cases_lt, leb-true, le-leb}
 use Rattle.std.proofs.lemmas.Str.Parse.{IsNumeralModel, numerals_by_fold, parse_digits}

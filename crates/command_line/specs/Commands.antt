@@ -55,6 +55,7 @@ pub record IsServing (words : Serving) : Type 0 where
   pub atom : IsAtomSize words.atom
   pub some_worker : 0 < words.workers
   pub workers : words.workers ≤ 16
+  pub some_session : 0 < words.sessions
   pub sessions : words.sessions ≤ 65535
 
 abbrev pub IsBounded : Asked → Type 0

@@ -1,5 +1,5 @@
 -- The words of a command as the arguments of `clap` that they are.
-use Rattle.std.specs.Prelude.{ℕ, Bool, true, false, List, [], ◌++◌, Some, codes}
+use Rattle.std.specs.Prelude.{Bool, true, List, [], Some, codes}
 use Rattle.clap.specs.Walk.{Rule, Text}
 use Rattle.clap.specs.Simple.{App, Shape, new_rule, new_shape}
 use Rattle.clap.specs.declared.builder.action.ArgAction.TheVariants.{Set, SetTrue}

@@ -1,5 +1,5 @@
 -- The commands, and the words of each.
-use Rattle.std.specs.Prelude.{Bool, true, false, List, [], ◌∷◌, codes}
+use Rattle.std.specs.Prelude.{true, false, List, [], ◌∷◌, codes}
 use Rattle.clap.specs.Walk.{Rule}
 use Rattle.clap.specs.Simple.{App, Shape, new_shape}
 use Rattle.command_line.specs.Items.{disk_rule, flag_rule, leaf_app, leaf_shape, option_rule}

@@ -1,5 +1,5 @@
 ghost use Rattle.std.specs.Prelude.{◌≡◌, ◌≢◌, map, string_bytes, IfOk, IfErr, MatchResult};
-ghost use Rattle.std.specs.Prelude.{None, Some, []};
+ghost use Rattle.std.specs.Prelude.{None, Some, [], is_none, is_some};
 ghost use Rattle.clap.specs.Words.{fault_of, found_of, kind_of, rows_of, subcommand_of};
 ghost use Rattle.clap.specs.Words.{subcommand_rows_of};
 ghost use Rattle.clap.specs.declared.error.kind.ErrorKind.TheVariants.{OutOfMemory};
@@ -132,45 +132,72 @@ fn read_command<'a>(name: &str, matches: &ArgMatches<'a>) -> Result<Command<'a>,
     Err(Refused("this command is not built yet"))
 }
 
+/// Why no command was read, with what a person is told.
+#[derive(Drop)]
+enum Reason {
+    Memory,
+    /// What `clap` found wrong, or the help that was asked for.
+    Words(Error),
+    /// What is wrong with the values.
+    Values(&'static str),
+}
+
+/// What the words of a command line ask for, or why they ask for nothing.
+#[tactic(auto, unfolding(crate::specs::Commands::asked))]
+fn read<'a>(alloc: Global, words: &'a [String]) -> Result<Command<'a>, Reason>
+    ensures asked { MatchResult result
+        (λ command. asked (map string_bytes words.now) ≡ Some (asked_by command))
+        (λ reason. reason ≢ Reason.Memory → asked (map string_bytes words.now) ≡ None) }
+    ensures bounded { IfOk result (λ command. IsBounded (asked_by command)) }
+{
+    let matches = match matches_of(alloc, words) {
+        Ok(matches) => matches,
+        Err(error) if error.kind() == ErrorKind::OutOfMemory => return Err(Reason::Memory),
+        Err(error) => return Err(Reason::Words(error)),
+    };
+    let Some((name, found)) = matches.subcommand() else {
+        return Err(Reason::Values("no command is named"));
+    };
+    match read_command(name, found) {
+        Ok(command) => Ok(command),
+        Err(Refused(reason)) => Err(Reason::Values(reason)),
+    }
+}
+
 /// What the words of a command line ask for.
 ///
 /// # Errors
 ///
 /// `Usage` exactly where they ask for nothing, or for what isn't built yet; or `Memory`.
-#[tactic(auto, unfolding(crate::specs::Commands::asked))]
 pub fn read_words(alloc: Global, words: &[String]) -> Result<Command<'_>, Refusal>
     ensures asked { MatchResult result
         (λ command. asked (map string_bytes words.now) ≡ Some (asked_by command))
         (λ refusal. refusal ≡ Refusal.Usage → asked (map string_bytes words.now) ≡ None) }
     ensures bounded { IfOk result (λ command. IsBounded (asked_by command)) }
 {
-    let matches = match matches_of(alloc, words) {
-        Ok(matches) => matches,
-        Err(error) if error.kind() == ErrorKind::OutOfMemory => return Err(Refusal::Memory),
-        Err(_) => return Err(Refusal::Usage),
-    };
-    let Some((name, found)) = matches.subcommand() else {
-        return Err(Refusal::Usage);
-    };
-    match read_command(name, found) {
+    match read(alloc, words) {
         Ok(command) => Ok(command),
+        Err(Reason::Memory) => Err(Refusal::Memory),
         Err(_) => Err(Refusal::Usage),
     }
 }
 
 /// What to tell a person whose words were refused: help that they asked for, or what is wrong with
-/// them. None where they are taken.
-pub fn explain_words(alloc: Global, words: &[String]) -> Result<Option<String>, AllocError> {
-    let matches = match matches_of(alloc, words) {
-        Ok(matches) => matches,
-        Err(error) => return Ok(Some(error.to_string(alloc)?)),
-    };
-    let Some((name, found)) = matches.subcommand() else {
-        return Ok(None);
-    };
-    match read_command(name, found) {
+/// them, in the texts of `clap`. There is a text exactly where the words ask for nothing. They are
+/// read once more for it, so that a command that is run carries no text.
+///
+/// # Errors
+///
+/// Memory was wanted.
+pub fn explain_words(alloc: Global, words: &[String]) -> Result<Option<String>, AllocError>
+    ensures { IfOk result
+        (λ text. is_none text ≡ is_some (asked (map string_bytes words.now))) }
+{
+    match read(alloc, words) {
         Ok(_) => Ok(None),
-        Err(Refused(reason)) => {
+        Err(Reason::Memory) => Err(AllocError),
+        Err(Reason::Words(error)) => Ok(Some(error.to_string(alloc)?)),
+        Err(Reason::Values(reason)) => {
             let error = product(alloc)?.error(ErrorKind::ValueValidation, reason)?;
             Ok(Some(error.to_string(alloc)?))
         }

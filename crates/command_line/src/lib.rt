@@ -2,12 +2,15 @@
 //! value that it has, or that they ask for nothing. The layer above may rely on one definition of
 //! what words ask for, `asked`: where `clap` takes them, the values that it finds, each of its form
 //! and in its range, and the defaults of those that aren't given. Words that ask for nothing are
-//! explained to a person by the texts of `clap`.
+//! explained to a person by the texts of `clap`. Plain words are never refused: what they ask for
+//! is what they say, by [`plain_words_are_taken`].
 #![tactic(auto)]
 
 mod command;
 mod item;
+mod laws;
 mod product;
 mod values;
 
 pub use command::{Command, Refusal, Serve, Status, explain_words, read_words};
+pub use laws::plain_words_are_taken;

@@ -1,6 +1,8 @@
 pub mod AreaTexts
 pub mod AreasShown
 pub mod CommitSteps
+pub mod FirstSteps
+pub mod FrontsShown
 pub mod HeadersGiven
 pub mod ImagesTaken
 pub mod RepairSteps

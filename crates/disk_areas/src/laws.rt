@@ -1,5 +1,9 @@
 // Laws of headers, with nothing to run.
 
+ghost use Rattle.std.specs.Prelude.{ℕ, List};
+ghost use Rattle.disk_areas.specs.Firsts.{FirstGoes};
+ghost use Rattle.disk_areas.specs.Fronts.{FrontsBegin, FrontsGive, FrontsStay};
+ghost use Rattle.disk_areas.specs.Headers.{Header, Layout};
 ghost use Rattle.disk_areas.specs.Promises.{CommitDated, CommitGives, CommitGoes, HeaderIsOne};
 ghost use Rattle.disk_areas.specs.Promises.{ImageTaken, OpeningDated, RepairDated, RepairGives};
 ghost use Rattle.disk_areas.specs.Promises.{RepairGoes};
@@ -37,4 +41,20 @@ pub fn repairs_keep_headers()
 /// that is found then are what its header is read from.
 pub fn images_are_taken()
     ensures { ImageTaken }
+{}
+
+/// The calls of a volume's first commit, before which nothing is known of the disk, leave both
+/// copies with its header for certain.
+pub fn first_headers_are_kept()
+    ensures { (atom : ℕ) (layout : Layout) (to : Header (List ℕ)) (after : Header (List ℕ))
+        → FirstGoes atom layout to after }
+{}
+
+/// Where no copy begins with an atom of the primary, but with its first, nor with one of what
+/// commits and repairs write there, each image that a stop leaves has no copy in front of the
+/// secondary but the primary, however their writes are torn.
+pub fn fronts_are_kept()
+    ensures begin { FrontsBegin }
+    ensures stay { FrontsStay }
+    ensures give { FrontsGive }
 {}

@@ -14,6 +14,6 @@
 mod laws;
 
 pub use laws::{
-    commits_keep_headers, disks_have_one_header, images_are_taken, openings_are_dated,
-    repairs_keep_headers,
+    commits_keep_headers, disks_have_one_header, first_headers_are_kept, fronts_are_kept,
+    images_are_taken, openings_are_dated, repairs_keep_headers,
 };

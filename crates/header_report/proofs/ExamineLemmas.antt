@@ -1,20 +1,16 @@
 -- A disk alone as a disk of a header and a volume, and what reading it leaves.
-use Rattle.std.proofs.Common.{◌≡◌, ◌∙◌, ◌+◌, ◌-◌, ◌*◌, ◌/◌, ◌^◌, ◌<◌, ◌≤◌, ◌⊎◌, [], ◌++◌, ℕ, List}
+use Rattle.std.proofs.Common.{◌≡◌, ◌∙◌, ◌*◌, ◌^◌, ◌<◌, ◌≤◌, [], ℕ, List}
 use Rattle.std.proofs.Common.{length, take}
-use Rattle.std.proofs.Common.{Bool, true, false, Option, Some, None, Result, Ok, Err, ap, ap₂, refl}
+use Rattle.std.proofs.Common.{Bool, false, Option, Some, Result, Ok, Err, ap}
 use Rattle.std.proofs.Common.{sym, subst}
-use Rattle.std.proofs.Common.{inl, inr, min, arith, is_some, if◌then◌else◌, IfErr, IfOk, take_all}
-use Rattle.std.proofs.lemmas.Bool.{cases_lt}
-use Rattle.std.proofs.lemmas.List.{length-take-le}
-use Rattle.base_terms.specs.Causes.{Rose}
+use Rattle.std.proofs.Common.{inl, inr, arith, if◌then◌else◌, IfErr, IfOk, take_all}
 use Rattle.disk_sizes.specs.declared.Sizes.{Sizes}
 use Rattle.joined_disk.specs.Counts.{has_head, joint_in, sizes_of}
 use Rattle.joined_disk.specs.Joined.{Joint, begun_joint, both_faults, both_values, joined_disk}
 use Rattle.joined_disk.specs.Joined.{nothing}
 use Rattle.joined_disk.specs.Joined.{used_atoms}
 use Rattle.joined_disk.specs.declared.joined.JoinedDisk.{JoinedDisk}
-use Rattle.luks_rules.specs.Areas.{header_bytes}
-use Rattle.luks_store.specs.Devices.{IsUnwritten, front_of}
+use Rattle.luks_store.specs.Devices.{front_of}
 use Rattle.luks_store.specs.Loads.{Answers, HasCause, Says, stored_in}
 use Rattle.luks_store.specs.declared.fault.StoreFault.{StoreFault}
 use Rattle.luks_store.specs.declared.fault.StoreFault.TheVariants as faults
@@ -22,22 +18,7 @@ use Rattle.luks_store.specs.declared.loaded.Stored.{Stored}
 use Rattle.sector_disk.specs.Devices.{Device}
 use Rattle.sector_disk.specs.Geometry.{IsAtom, IsDisk}
 use Rattle.sector_disk.specs.declared.device.Disk.{Ghosts}
-use Rattle.header_report.specs.Examinations.{Explains, IsKept, IsReadAlone, Tells, sizes_alone}
-
-pub kept-once : (old new : Joint) → IsUnwritten old new → IsKept old new
-kept-once old new is = record { values = is.values; later = is.later; main = is.main }
-
-pub kept-twice : (old mid new : Joint) → IsUnwritten old mid → IsUnwritten mid new → IsKept old new
-kept-twice old mid new first second = record {
-  values = second.values ∙ first.values;
-  later = omega (arith, first.later, second.later);
-  main = record {
-    size = second.main.size ∙ first.main.size;
-    atoms = second.main.atoms ∙ first.main.atoms;
-    values = second.main.values ∙ first.main.values;
-    later = omega (arith, first.main.later, second.main.later);
-  };
-}
+use Rattle.header_report.specs.Examinations.{Explains, Tells, sizes_alone}
 
 -- a fault of a later read has its cause from the start on
 pub cause-later : (old mid new : Device) (fault : StoreFault) → old.faults ≤ mid.faults →
@@ -55,7 +36,8 @@ cause-alone : (old new main main' : Device) (fault : StoreFault) →
     old.faults ≡ both_faults 0 main.faults → new.faults ≡ both_faults 0 main'.faults →
     HasCause old new fault → HasCause main main' fault
 cause-alone old new main main' faults.Memory was is cause = tt
-cause-alone old new main main' faults.Device was is (inl risen) = inl (omega (arith, risen, was, is))
+cause-alone old new main main' faults.Device was is (inl risen) =
+    inl (omega (arith, risen, was, is))
 cause-alone old new main main' faults.Device was is (inr last) = inr (omega (arith, last, is))
 cause-alone old new main main' (faults.NoHeader p s) was is cause = tt
 cause-alone old new main main' (faults.CopiesDiffer s p) was is cause = tt

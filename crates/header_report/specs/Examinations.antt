@@ -1,10 +1,9 @@
 -- What reading the header of a disk tells, and what it leaves of the disk.
-use Rattle.std.specs.Prelude.{ℕ, ◌≡◌, ◌≤◌, false, List, length, take, Some, Result, Ok, Err}
-use Rattle.std.specs.Prelude.{Option, string_bytes}
+use Rattle.std.specs.Prelude.{ℕ, ◌≡◌, ◌≤◌, false, List, Some, Result, Ok, Err}
+use Rattle.std.specs.Prelude.{string_bytes}
 use Rattle.disk_sizes.specs.declared.Sizes.{Sizes}
 use Rattle.sector_disk.specs.Devices.{Device}
 use Rattle.std.specs.declared.string.String.{String}
-use Rattle.joined_disk.specs.Joined.{Joint, joined_disk}
 use Rattle.luks_store.specs.Devices.{KeepsBytes}
 use Rattle.luks_store.specs.Loads.{Says, stored_in}
 use Rattle.luks_store.specs.declared.fault.StoreFault.{StoreFault}
@@ -45,13 +44,7 @@ abbrev pub Tells : Device → Result (List ℕ) StoreFault → Type 0
 Tells device (Ok text) = TellsAll device text
 Tells device (Err fault) = TellsFault device fault
 
--- two disks joined that were read alone show what they showed, and the main disk holds what it held
-pub record IsKept (old new : Joint) : Type 0 where
-  pub values : (joined_disk new).values ≡ (joined_disk old).values
-  pub later : (joined_disk old).faults ≤ (joined_disk new).faults
-  pub main : KeepsBytes old.main new.main
-
--- a disk that was read alone holds what it held
+-- A disk that was read alone holds what it held, and tells tables of reads alone since.
 pub record IsReadAlone (old new : Device) : Type 0 where
   pub holds : KeepsBytes old new
   pub later : old.faults ≤ new.faults

@@ -1,17 +1,15 @@
 -- What is told of a header, line by line.
-use Rattle.std.specs.Prelude.{ℕ, ◌+◌, ◌==◌, List, [], ◌∷◌, ◌++◌, length, map, codes, decimal}
+use Rattle.std.specs.Prelude.{ℕ, ◌+◌, ◌==◌, List, [], ◌∷◌, ◌++◌, map, codes, decimal}
 use Rattle.std.specs.Prelude.{slice_index, take}
 use Rattle.std.specs.Prelude.{if◌then◌else◌, Option, Some, None, option_map, unwrap_or}
 use Rattle.std.specs.Str.{bytes_eq}
 use Rattle.uuid.specs.Text.{hyphenated_text, lower, parsed}
-use Rattle.luks_bin.specs.declared.header.BinHeader.{BinHeader}
 use Rattle.luks_json.specs.Names.{cipher_name}
 use Rattle.luks_json.specs.Reencrypts.{area_type_name, direction_name, mode_name}
 use Rattle.luks_json.specs.declared.keyslot.Derivation.{Derivation}
 use Rattle.luks_json.specs.declared.keyslot.Derivation.TheVariants as derivations
 use Rattle.luks_json.specs.declared.keyslot.Keyslot.{Keyslot}
 use Rattle.luks_json.specs.declared.keyslot.Keyslot.TheVariants as keyslots
-use Rattle.luks_json.specs.declared.meta.Parts.{Parts}
 use Rattle.luks_json.specs.declared.reencrypt.Direction.{Direction}
 use Rattle.luks_json.specs.declared.reencrypt.Direction.TheVariants.{Forward, Backward}
 use Rattle.luks_json.specs.declared.segment.Encryption.{Encryption}

@@ -1,8 +1,8 @@
 ghost use Rattle.std.specs.Prelude.{◌≡◌, ℕ, List, Some, IfOk, IfErr};
 ghost use Rattle.joined_disk.specs.Counts.{joint_in, sizes_of};
-ghost use Rattle.luks_store.specs.Devices.{device_of, front_of};
+ghost use Rattle.luks_store.specs.Devices.{device_of, front_of, IsUnwritten};
 ghost use Rattle.luks_store.specs.Loads.{Answers, HasCause, stored_in};
-ghost use Rattle.header_report.specs.Examinations.{Explains, IsKept, IsReadAlone, Tells, seen};
+ghost use Rattle.header_report.specs.Examinations.{Explains, IsReadAlone, Tells, seen};
 
 use crate::text::report;
 use joined_disk::JoinedDisk;
@@ -31,7 +31,7 @@ fn load_settled<D: Disk>(alloc: Global, disk: &mut JoinedDisk<D>) -> Result<Load
     ensures held { (all : List ℕ) → (device_of disk.old).values ≡ Some all → Answers result
         (stored_in (sizes_of disk.old) (front_of (sizes_of disk.old) all)) }
     ensures sized { IfOk result (λ loaded. loaded.valid.sizes ≡ sizes_of disk.old) }
-    ensures kept { IsKept (joint_in disk.old) (joint_in disk.new) }
+    ensures unwritten { IsUnwritten (joint_in disk.old) (joint_in disk.new) }
     ensures sizes { sizes_of disk.new ≡ sizes_of disk.old }
     ensures cause { IfErr result
         (λ fault. HasCause (device_of disk.old) (device_of disk.new) fault) }

@@ -3,7 +3,6 @@ ghost use Rattle.base_terms.specs.Causes.{HasCause};
 ghost use Rattle.io_edge.specs.Faults.{Counts};
 
 use base_terms::Failed;
-use std::io;
 
 /// A stream or a device of the system, with the count of its calls that failed.
 #[derive(Drop)]
@@ -23,7 +22,7 @@ impl<T: Drop> Counted<T> {
 }
 
 /// What the system answered, of which a failure is counted, up to the last value of the count.
-pub fn answered<T>(done: io::Result<T>, faults: &mut u64) -> Result<T, Failed>
+pub fn answered<T, E: Drop>(done: Result<T, E>, faults: &mut u64) -> Result<T, Failed>
     ensures same { is_ok result ≡ is_ok done }
     ensures value { MatchResult done (λ value. result ≡ Ok value) (λ _. IsErr result) }
     ensures cause { HasCause faults.old faults.new result }

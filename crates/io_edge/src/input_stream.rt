@@ -6,10 +6,9 @@ ghost use Rattle.base_terms.specs.Causes.{HasCause};
 ghost use Rattle.io_edge.specs.Calls.{ReadsOn};
 ghost use Rattle.io_edge.specs.Faults.{Counts};
 
-use crate::calls::is_interrupted;
 use crate::{Counted, Source, answered};
 use base_terms::Failed;
-use std::io::{self, Read};
+use std::io::{self, ErrorKind, Read};
 
 /// A stream of the system that bytes are read from. What a read does is a matter of the stream.
 pub trait InputStream: Drop {
@@ -59,16 +58,26 @@ impl<R: InputStream> Source for Counted<R> {
     }
 }
 
-/// One read, made again as long as a signal interrupts it.
-fn read_uninterrupted<R: InputStream>(reader: &mut R, buf: &mut [u8]) -> io::Result<usize>
+/// One read, made again as long as a signal interrupts it. The error is let go where it comes, so
+/// that no answer is moved.
+fn read_uninterrupted<R: InputStream>(reader: &mut R, buf: &mut [u8]) -> Result<usize, Failed>
     ensures within { IfOk result (λ n. n ≤ length buf.new) }
-    ensures reads { ReadsOn R.reads reader.old buf.new result reader.new }
+    ensures reads { MatchResult result
+        (λ n. ReadsOn R.reads reader.old buf.new (Ok n) reader.new)
+        (λ _. (error : Error) × ReadsOn R.reads reader.old buf.new (Err error) reader.new) }
 {
     for _ in 0..u64::MAX {
-        let answer = reader.read_some(buf);
-        if !is_interrupted(&answer) {
-            return answer;
+        match reader.read_some(buf) {
+            Ok(n) => return Ok(n),
+            Err(error) => {
+                if error.kind() != ErrorKind::Interrupted {
+                    return Err(Failed);
+                }
+            }
         }
     }
-    reader.read_some(buf)
+    match reader.read_some(buf) {
+        Ok(n) => Ok(n),
+        Err(_) => Err(Failed),
+    }
 }

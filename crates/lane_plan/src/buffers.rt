@@ -1,13 +1,13 @@
 // Bytes at the front of buffers.
 
-ghost use Rattle.std.specs.Prelude.{◌≡◌, ◌+◌, ◌*◌, ◌≤◌, ◌++◌, [], length, take};
+ghost use Rattle.std.specs.Prelude.{◌≡◌, ◌+◌, ◌*◌, ◌≤◌, ◌++◌, [], length, take, max, IfOk};
 ghost use Rattle.sector_disk.specs.Geometry.{IsAtom};
 ghost use Rattle.volume_machine.specs.Seals.{KeysFit, seals_of};
 
 use base_terms::Buffer;
 use cipher_laws::SectorCipher;
 use segment_map::Piece;
-use std::alloc::Global;
+use std::alloc::{AllocError, Global};
 use std::mem;
 use volume_machine::Keys;
 
@@ -18,6 +18,20 @@ pub(crate) fn taken(alloc: Global, buffer: &mut Buffer) -> Buffer
     ensures left { buffer.new ≡ [] }
 {
     mem::replace(buffer, Buffer::empty(alloc))
+}
+
+/// Makes a buffer at least so long.
+#[inline(always)]
+pub(crate) fn grown(buffer: Buffer, len: usize) -> Result<Buffer, AllocError>
+    ensures long { IfOk result (λ longer. length longer ≡ max (length buffer) len) }
+    ensures front { IfOk result (λ longer. take (length buffer) longer ≡ buffer) }
+{
+    if len <= buffer.len() {
+        return Ok(buffer);
+    }
+    let mut longer = buffer;
+    longer.grow(len)?;
+    Ok(longer)
 }
 
 /// Puts bytes in place of as many of a buffer's own from `at` on.

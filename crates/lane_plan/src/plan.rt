@@ -1,12 +1,14 @@
 // The plan of an operation.
 
-ghost use Rattle.std.specs.Prelude.{◌≡◌, length};
+ghost use Rattle.std.specs.Prelude.{◌≡◌, ℕ, Bool, List, length, take};
+ghost use Rattle.plain_disk.specs.declared.operation.Op.TheVariants as Ops;
 ghost use Rattle.lane_plan.specs.Calls.{ask_of};
 ghost use Rattle.lane_plan.specs.Plans.{bytes_of};
 
 mod ends;
 mod pieces;
 
+use crate::buffers::grown;
 use crate::{Answer, Call, Next};
 use base_terms::{Buffer, Bytes};
 use block_range::BlockRange;
@@ -100,16 +102,16 @@ impl Plan {
         if ask.wrong(atom, blocks * u64::from(atom)).is_some() {
             return Ok(Plan::refused(alloc, session, op, spare, part, shape));
         }
-        let mut plan = Plan::of(alloc, session, op, spare, part, shape, Stage::Beginning);
         let len = len_of(ask);
-        plan.whole.grow(len)?;
-        plan.part
-            .grow(len.saturating_sub(atom as usize).min(MOST_BYTES))?;
-        Ok(plan)
+        let room = len.saturating_sub(atom as usize).min(MOST_BYTES);
+        let whole = grown(whole_of(op, spare), len)?;
+        let part = grown(part, room)?;
+        Ok(Plan::of(alloc, session, ask, whole, part, shape, Stage::Beginning))
     }
 
     /// The plan of an operation that will be refused: it is wrong, or the volume is known to be
     /// broken. It takes no memory.
+    #[inline(always)]
     pub fn refused(
         alloc: Global,
         session: u64,
@@ -124,7 +126,9 @@ impl Plan {
         ensures shape { shape_of result ≡ shape }
         ensures session { session_of result ≡ session }
     {
-        Plan::of(alloc, session, op, spare, part, shape, Stage::Refusing)
+        let ask = ask_of(&op);
+        let whole = whole_of(op, spare);
+        Plan::of(alloc, session, ask, whole, part, shape, Stage::Refusing)
     }
 
     /// A plan at its first stage.
@@ -132,24 +136,19 @@ impl Plan {
     fn of(
         alloc: Global,
         session: u64,
-        op: Op,
-        spare: Bytes,
+        ask: Ask,
+        whole: Buffer,
         part: Buffer,
         shape: Shape,
         stage: Stage,
     ) -> Plan
-        ensures asks { result.operation.ask ≡ ask_of op }
+        ensures asks { result.operation.ask ≡ ask }
         ensures session { result.operation.session ≡ session }
         ensures shape { result.shape ≡ shape }
         ensures stage { result.stage ≡ stage }
-        ensures body { (offset : ℕ) (body : List ℕ) (fua : Bool) → op ≡ Ops.Write offset body fua →
-            take (length body) result.whole ≡ body }
+        ensures whole { result.whole ≡ whole }
+        ensures part { result.part ≡ part }
     {
-        let ask = ask_of(&op);
-        let whole = match op {
-            Op::Write { body, .. } => body.into_buffer(),
-            Op::Read { .. } | Op::Flush => spare.into_buffer(),
-        };
         Plan {
             alloc,
             shape,
@@ -213,6 +212,18 @@ impl Plan {
     {
         let Plan { part, .. } = self;
         part
+    }
+}
+
+/// The buffer of an operation: that of its body, or the spare one for its content.
+#[inline(always)]
+fn whole_of(op: Op, spare: Bytes) -> Buffer
+    ensures { (offset : ℕ) (body : List ℕ) (fua : Bool) → op ≡ Ops.Write offset body fua →
+        take (length body) result ≡ body }
+{
+    match op {
+        Op::Write { body, .. } => body.into_buffer(),
+        Op::Read { .. } | Op::Flush => spare.into_buffer(),
     }
 }
 

@@ -1,4 +1,5 @@
 pub mod Copies
 pub mod Fields
+pub mod Hidden
 pub mod Shares
 pub mod Writing

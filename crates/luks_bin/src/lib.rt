@@ -16,6 +16,7 @@ mod areas;
 mod comparing;
 mod fields;
 mod header;
+mod hidden;
 mod laws;
 mod reading;
 #[cfg(test)]
@@ -25,6 +26,7 @@ mod writing;
 pub use areas::json_text;
 pub use comparing::first_difference;
 pub use header::{BinFault, BinHeader, HEADER_SIZES, is_header_size};
+pub use hidden::hides_copy;
 pub use laws::{copies_are_spelt, copies_are_their_fronts, sizes_are_told_by_heads};
 pub use reading::{read_copy, read_size};
 pub use writing::{move_copy, write_copy};

@@ -44,7 +44,7 @@ unfolding seqid_in u64_in
 seqid_is copy long = ap (from_be_bytes w64) (field_in_meaning 10 copy (omega arith) long)
 
 -- ---- copies that are read
-abbrev Spelt : Type 0
+abbrev pub Spelt : Type 0
 Spelt = (place : ℕ) (bytes : List ℕ) (h : BinHeader)
     → (copy_of place bytes ≡ Ok h) ↔ BeginsWithCopy place bytes h
 
@@ -83,7 +83,7 @@ read_of spelt place bytes meaning (Ok h) is means = (
 )
 read_of spelt place bytes meaning (Err fault) is means = absurd (cc)
 
-read_at : Spelt → (place : ℕ) (bytes meaning : List ℕ) → meaning_at place bytes ≡ Some meaning
+pub read_at : Spelt → (place : ℕ) (bytes meaning : List ℕ) → meaning_at place bytes ≡ Some meaning
     → (h : BinHeader) × IsReadFrom place bytes meaning h
 unfolding meaning_at
 read_at spelt place bytes meaning is =

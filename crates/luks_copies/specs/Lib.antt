@@ -1,4 +1,5 @@
 pub mod Held
+pub mod Hidden
 pub mod Meanings
 pub mod Promises
 pub mod Seen

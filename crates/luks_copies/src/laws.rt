@@ -1,6 +1,7 @@
 // Laws of copies, with nothing to run.
 
 ghost use Rattle.disk_areas.specs.Headers.{IsReader};
+ghost use Rattle.luks_copies.specs.Hidden.{HideNone, StandAtAtoms};
 ghost use Rattle.luks_copies.specs.Meanings.{header_reader};
 ghost use Rattle.luks_copies.specs.Promises.{AreOneHeader, MeanTheSame, MeanTheirHeaders};
 ghost use Rattle.luks_copies.specs.Seen.{CallsAreSeen, RepairsAreSeen};
@@ -37,3 +38,13 @@ pub fn calls_are_seen()
     ensures commits { CallsAreSeen }
     ensures repairs { RepairsAreSeen }
 {}
+
+/// Copies stand at whole atoms, and no copy begins with an atom of a text in which no magic stands,
+/// but with its first: so the laws on what is found in front of the secondary hold of copies that
+/// `luks_bin::hides_copy` has tested.
+pub fn copies_are_told_by_their_fronts()
+    ensures places { StandAtAtoms }
+    ensures hidden { HideNone }
+{
+    copies_are_spelt();
+}

@@ -15,7 +15,8 @@ mod repair;
 
 pub use commit::{Commit, CommitError, Stage};
 pub use laws::{
-    calls_are_seen, copies_are_read, copies_mean_their_headers, copies_mean_what_they_share,
+    calls_are_seen, copies_are_read, copies_are_told_by_their_fronts, copies_mean_their_headers,
+    copies_mean_what_they_share,
 };
 pub use repair::{Repair, RepairStage};
 

@@ -11,5 +11,6 @@ pub mod PlanLemmas
 pub mod RuleLemmas
 pub mod ShapeLemmas
 pub mod ShareLemmas
+pub mod ShiftLemmas
 pub mod SoundLemmas
 pub mod ValidLemmas

@@ -39,6 +39,7 @@ use Rattle.luks_rules.proofs.PlaceLemmas.{on_disk}
 use Rattle.luks_rules.proofs.RuleLemmas.{by_groups}
 use Rattle.luks_rules.proofs.ShapeLemmas.{shaped, some_of}
 use Rattle.luks_rules.proofs.ShareLemmas.{overlaps}
+use Rattle.luks_rules.proofs.ShiftLemmas.{has-shift}
 
 -- ---- no fault is found
 none_parts : (a b : Option RuleFault) → first_or a b ≡ None → (a ≡ None) × (b ≡ None)
@@ -120,7 +121,7 @@ busy_by m sizes h short far hold placed e =
           new = wholes.1;
           room = some_room _ room.0;
           zone = ltb-false _ _ room.1;
-          shift = subst (λ o. breaks_shift o ≡ false) t.1 far;
+          shift = has-shift t.0 (subst (λ o. breaks_shift o ≡ false) t.1 far);
           places = on_disk m sizes t.0 s.0 hold.on_disk s.1.segments s.1.state;
         },
       ),

@@ -28,6 +28,7 @@ use Rattle.luks_rules.proofs.PlainLemmas.{from_within, from_referred, from_held,
 use Rattle.luks_rules.proofs.PlainLemmas.{from_atoms, from_numbers}
 use Rattle.luks_rules.proofs.RuleLemmas.{by_groups}
 use Rattle.luks_rules.proofs.ShareLemmas.{shared}
+use Rattle.luks_rules.proofs.ShiftLemmas.{from-shift}
 
 -- ---- no rule is broken
 none_or : (a b : Option RuleFault) → a ≡ None → b ≡ None → first_or a b ≡ None
@@ -68,7 +69,7 @@ conversion m sizes is true e =
     (kept faults.ResilTooSmall _ _
     (ap (breaks_capacity sizes.atom) p.1.1
     ∙ or_from _ _ (ne_eqb _ _ (λ z. absurd (omega (arith, c.room, z)))) (le-ltb _ _ c.zone))
-    (kept faults.ShiftRoom _ None (ap breaks_shift p.1.1 ∙ c.shift) refl))
+    (kept faults.ShiftRoom _ None (ap breaks_shift p.1.1 ∙ from-shift p.1.0 c.shift) refl))
 conversion m sizes is false e =
     let p = is.idle e in
     kept faults.ReencryptShape _ _

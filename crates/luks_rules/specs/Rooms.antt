@@ -1,5 +1,6 @@
 -- Room for a zone, and for a shift.
-use Rattle.std.specs.Prelude.{ℕ, ◌+◌, ◌/◌, ◌==◌, ◌||◌, not, nat_lt, Bool, false, Option, Some, None}
+use Rattle.std.specs.Prelude.{◌≡◌, ℕ, ◌+◌, ◌/◌, ◌<◌, ◌==◌, ◌||◌, not, nat_lt, Bool, false, Option}
+use Rattle.std.specs.Prelude.{Some, None}
 use Rattle.luks_json.specs.declared.reencrypt.Direction.{Direction}
 use Rattle.luks_json.specs.declared.reencrypt.Direction.TheVariants.{Forward, Backward}
 use Rattle.luks_json.specs.declared.reencrypt.Resilience.{Resilience}
@@ -38,3 +39,15 @@ abbrev pub breaks_shift : Option Progress → Bool
 breaks_shift None = false
 breaks_shift (Some p) =
     lacks_shift p.conversion.direction p.conversion.resilience p.old.offset p.new.offset
+
+-- ---- in plain words
+-- Where blocks are shifted the new segment begins so many bytes in front of the old one, or, where
+-- the conversion goes backward, behind it; there is a shift at all.
+abbrev pub IsBetween : Direction → ℕ → ℕ → ℕ → Type 0
+IsBetween Forward shift old new = new + shift ≡ old
+IsBetween Backward shift old new = old + shift ≡ new
+
+abbrev pub HasShift : Direction → Resilience → ℕ → ℕ → Type 0
+HasShift direction Journal old new = Unit {0}
+HasShift direction (Checksum n) old new = Unit {0}
+HasShift direction (Datashift shift) old new = (0 < shift) × IsBetween direction shift old new

@@ -15,7 +15,7 @@ use Rattle.luks_rules.specs.Plain.{AreReferred, HaveNumbers, HaveWholeAtoms, Hav
 use Rattle.luks_rules.specs.Plain.{HoldVolume, IsWholeSize, LieWithin}
 use Rattle.luks_rules.specs.Plans.{blocks_in, place_at}
 use Rattle.luks_rules.specs.References.{is_there, lists, times_listed, value_at}
-use Rattle.luks_rules.specs.Rooms.{breaks_shift, capacity}
+use Rattle.luks_rules.specs.Rooms.{capacity, HasShift}
 use Rattle.luks_rules.specs.Segments.{bytes_by, in_progress, whole_blocks}
 use Rattle.luks_rules.specs.Shapes.{are_numbered, are_wholes, fits, progress_of}
 use Rattle.luks_rules.specs.declared.conversions.Conversion.{Conversion}
@@ -87,7 +87,7 @@ pub record IsConverting (m : Parts) (sizes : Sizes) (p : Progress) (live : List 
     pub new : IsPlaced m sizes p.new
     pub room : 0 < capacity sizes.atom p
     pub zone : p.plan.zone ≤ capacity sizes.atom p
-    pub shift : breaks_shift (Some p) ≡ false
+    pub shift : HasShift p.conversion.direction p.conversion.resilience p.old.offset p.new.offset
     pub places : (b : ℕ) → b < blocks_in p.plan
         → place_at sizes.atom p.conversion.direction p.old p.new p.plan b + sizes.atom
         ≤ main_bytes sizes

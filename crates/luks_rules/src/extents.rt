@@ -32,7 +32,8 @@ pub struct Extent {
     /// None where it is linear.
     pub encryption: Option<Encryption>,
     pub mark: Mark,
-    /// The number of the first digest that lists it.
+    /// The number of the first digest that lists it: of a crypt segment its one digest. A linear
+    /// one has none in a conversion, and else may have one, which says nothing of it.
     pub digest: Option<u64>,
 }
 

@@ -9,7 +9,8 @@ use luks_json::{Digest, Parts, Segment};
 /// A volume of which nothing is being converted.
 #[derive(Clone, Copy, Debug, PartialEq, Eq)]
 pub struct Idle {
-    /// Its one segment.
+    /// Its one segment. Whether it is encrypted is told by its `encryption` alone: also a linear
+    /// segment may be listed by a digest, which then says nothing of it.
     pub segment: Extent,
     /// How many blocks of one atom it has. Block `b` lies `b` atoms behind the segment's begin.
     pub blocks: u64,

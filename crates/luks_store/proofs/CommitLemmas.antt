@@ -1,6 +1,8 @@
 -- Lemmas on commits of a header that was loaded.
-use Rattle.std.proofs.Common.{◌≡◌, ℕ, ◌+◌, ◌*◌, ◌%◌, ◌≤◌, max, List, [], ◌++◌, length, take, Some}
-use Rattle.std.proofs.Common.{None, Result, Ok, Err, IsOk, IfOk, is_ok, refl, sym, ◌∙◌, ap, subst}
+use Rattle.std.proofs.Common.{◌≡◌, ℕ, ◌+◌, ◌*◌, ◌%◌, ◌≤◌, Bool, true, false, List, [], ◌++◌, length}
+use Rattle.std.proofs.Common.{take, Some}
+use Rattle.std.proofs.Common.{◌<◌, inl, None, Result, Ok, Err, IsOk, IfOk, is_ok, refl, sym, ◌∙◌}
+use Rattle.std.proofs.Common.{ap, subst}
 use Rattle.std.proofs.Common.{arith, length-append}
 use Rattle.std.proofs.Math.Nat.{mul-le-mul_right}
 use Rattle.std.proofs.lemmas.List.{append-nil, take_all, take_at, drop_at}
@@ -23,11 +25,15 @@ use Rattle.luks_json.specs.Metas.{meta_from}
 use Rattle.luks_json.specs.declared.meta.Parts.{Parts}
 use Rattle.luks_rules.specs.Rules.{first_fault}
 use Rattle.luks_store.proofs.JudgeLemmas.{judged-ok}
-use Rattle.luks_store.proofs.PageLemmas.{page-atoms, page-place}
-use Rattle.luks_store.specs.Commits.{HasSizes, IsNext}
+use Rattle.luks_store.proofs.PageLemmas.{page-atoms, page-place, size-pages}
+use Rattle.luks_store.proofs.StoredLemmas.{is-valid}
+use Rattle.luks_store.specs.Commits.{committed, text_for, CopiesFit, HasSizes, HoldsText}
+use Rattle.luks_store.specs.Commits.{IsNext, IsNextStored, IsPrepared}
+use Rattle.luks_store.specs.Devices.{header_room}
 use Rattle.luks_store.specs.Found.{copy_at, copy_from, IsWholeAt}
 use Rattle.luks_store.specs.Loads.{judged, stored_in, IsStored}
-use Rattle.luks_store.specs.Used.{beside, copies_by, copies_in, kept, newer_of}
+use Rattle.luks_store.specs.Used.{beside, copies_by, copies_in, kept, newer_of, AreCopies}
+use Rattle.luks_store.specs.Used.{Refusal}
 use Rattle.luks_store.specs.declared.copies.Copies.{Copies}
 use Rattle.luks_store.specs.declared.copies.CopyState.TheVariants.{Good}
 use Rattle.luks_store.specs.declared.copies.HeaderCopy.{HeaderCopy}
@@ -124,30 +130,67 @@ unfolding stored_in
 stored-by sizes bytes copies stored used is = rw used is
 
 -- ---- both copies lie on the disk
+room-by : (sizes : Sizes) (b : Bool) (most : ℕ) → sizes.detached ≡ b → header_bytes sizes ≤ most
+    → main_bytes sizes ≤ most → header_room sizes ≤ most
+room-by sizes true most is header main = rw is header
+room-by sizes false most is header main = rw is main
+
 pub fits-disk : (sizes : Sizes) (device : Device) (size : ℕ) (first second : List ℕ)
     → HasSizes sizes device → IsAtom device.size
     → size % 4096 ≡ 0 → length first ≡ size → length second ≡ size
-    → 2 * size ≤ max (header_bytes sizes) (main_bytes sizes)
+    → 2 * size ≤ header_room sizes
     → FitDisk first second size device
 fits-disk sizes device size first second has known page one two room =
     let header : header_bytes sizes ≤ device.atoms * device.size =
     rw has.atom (mul-le-mul_right device.size has.header) in
     let main : main_bytes sizes ≤ device.atoms * device.size =
     rw has.atom (mul-le-mul_right device.size has.main) in
+    let all = room-by sizes sizes.detached (device.atoms * device.size) refl header main in
     let at = page-place device.size size known page in
     record {
       first = record {
         whole =
             ap (λ n. n % device.size) one ∙ page-atoms device.size size known page;
-        within = omega (arith, header, main, room, one);
+        within = omega (arith, all, room, one);
       };
       second =
           record {
             whole =
                 ap (λ n. n % device.size) two ∙ page-atoms device.size size known page;
-            within = omega (arith, header, main, room, two, at);
+            within = omega (arith, all, room, two, at);
           };
     }
+
+pub copies-fit : (p : Prepared) → IsPrepared p → CopiesFit p
+copies-fit p is device has known =
+    fits-disk p.sizes device p.header.hdr_size (primary_of p.copies) (secondary_of p.copies) has
+    known (size-pages p.header.hdr_size is.first.whole.one_of_nine) is.first.whole.whole
+    is.second.whole.whole is.room
+
+-- ---- what is loaded once both copies stand there
+stored-from : (p : Prepared) (r : Result Stored Refusal) → IsPrepared p
+    → judged p.sizes (committed p) ≡ r → IsOk r → (next : Stored) × IsNextStored p next
+stored-from p (Ok next) is same held =
+    let valid = is-valid p.sizes (committed p) next same in
+    let copies = valid.same_copies in
+    let sizes = valid.same_sizes in (
+      next,
+      record {
+        copies = sym copies;
+        sizes = sym sizes;
+        stored = record {
+          copies = subst AreCopies copies
+              (record { whole = is.first.whole; stands = inl (refl, is.first.here) });
+          atom = subst (λ (s : Sizes). 0 < s.atom) sizes is.atom;
+          held = subst (λ (s : Sizes). judged s next.copies ≡ Ok next) sizes
+              (subst (λ (c : Copies). judged p.sizes c ≡ Ok next) copies same);
+        };
+      },
+    )
+stored-from p (Err refusal) is same held = let e : false ≡ true = held in absurd cc
+
+pub next-stored : (p : Prepared) → IsPrepared p → (next : Stored) × IsNextStored p next
+next-stored p is = stored-from p (judged p.sizes (committed p)) is refl is.held
 
 -- the metadata whose text was written are held by what is written
 pub is-held : (sizes : Sizes) (copies : Copies) (meta : Parts) (text : List ℕ)
@@ -177,15 +220,16 @@ pub next-of : (stored : Stored) (meta : Parts) (h : BinHeader) (one two : List �
     → sizes ≡ stored.valid.sizes
     → IfOk r (λ p. p.header ≡ record h { seqid = h.seqid + 1; salt = one; hdr_offset = 0 })
     → IfOk r (λ p. p.second_salt ≡ two) → IfOk r (λ p. p.sizes ≡ sizes)
+    → IfOk r (HoldsText (text_for meta))
     → IfOk r (λ p. meta_from h.hdr_size (text_of (primary_of p.copies)) ≡ Ok meta)
     → IfOk r (λ p. IsHeader header_reader (header_of (primary_of p.copies) (secondary_of p.copies)))
     → IfOk r (λ p. seqid_in (meaning_of (primary_of p.copies)) ≡ h.seqid + 1)
     → IfOk r (λ p. size_in (meaning_of (primary_of p.copies)) ≡ h.hdr_size)
     → IfOk r (λ p. IsNext stored meta p)
-next-of stored meta h one two sizes (Err error) is same first second judged header salt sized text
-    whole number size = tt
-next-of stored meta h one two sizes (Ok p) is same first second judged header salt sized text whole
-    number size =
+next-of stored meta h one two sizes (Err error) is same first second judged header salt sized bytes
+    text whole number size = tt
+next-of stored meta h one two sizes (Ok p) is same first second judged header salt sized bytes text
+    whole number size =
     let used = stored.copies.used in
     let own : IsWholeAt used.header.hdr_offset used =
     record { whole = is.copies.whole; here = refl } in
@@ -199,6 +243,7 @@ next-of stored meta h one two sizes (Ok p) is same first second judged header sa
           first;
       second_salt = salt ∙ second;
       sizes = sized ∙ judged;
+      bytes = bytes;
       meta = ap (λ n. meta_from n (text_of (primary_of p.copies)))
           (ap (λ (x : BinHeader). x.hdr_size) header) ∙ text;
       whole = whole;

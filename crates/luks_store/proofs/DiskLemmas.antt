@@ -1,6 +1,8 @@
 -- Lemmas on what reads leave of a disk.
 use Rattle.std.proofs.Common.{◌≡◌, inl, inr, ℕ, ◌*◌, ◌/◌, ◌%◌, List, [], ◌∷◌, ◌++◌, length, take}
-use Rattle.std.proofs.Common.{drop, Option, Some, Result, Ok, Err, IsOk, IfErr, refl, sym, ◌∙◌, ap}
+use Rattle.std.proofs.Common.{drop, Option, Some, None, Result, Ok, Err, IsOk, IfErr, refl, sym}
+use Rattle.std.proofs.Common.{◌∙◌, ap}
+use Rattle.std.specs.Prelude.{option_map}
 use Rattle.std.proofs.Common.{subst, arith, append_assoc}
 use Rattle.std.specs.List.{All}
 use Rattle.std.proofs.lemmas.List.{append-nil}
@@ -18,7 +20,7 @@ use Rattle.sector_disk.specs.Geometry.{IsAtom}
 use Rattle.sector_disk.specs.Cells.{Cell}
 use Rattle.sector_disk.specs.Devices.{ReadCall, marked}
 use Rattle.sector_disk.specs.Devices.{Device as disk_type}
-use Rattle.sector_disk.specs.Steps.{Told, IsKept, IsMoved, TellsRead}
+use Rattle.sector_disk.specs.Steps.{Told, IsKept, IsMoved, TellsRead, remarked}
 
 read-none : (t : Told) → IsRead t t
 read-none t =
@@ -68,8 +70,43 @@ told-since old new (Err failed) (inl same) now is = (now, sym same ∙ is, read-
 told-since old new (Err failed) (inr tells) now is = let (before, was, moved) =
     tells now is in (before, was, read-moved before now moved)
 
+-- the same, but for a mark
+abbrev TellsMarked : Option Told → Option Told → Type 0
+TellsMarked old new = (now : Told) → new ≡ Some now
+    → (before : Told) × (old ≡ Some before) × IsRead (record before { mark = now.mark }) now
+
+read-marked : (before now : Told) (mark : Option ℕ) → IsRead (record before { mark = mark }) now
+    → (other : Option ℕ) → IsRead (record before { mark = other }) (record now { mark = other })
+read-marked before now mark is other = record {
+  cells = is.cells;
+  mark = refl;
+  more = is.more;
+  past = is.past;
+  same = is.same;
+}
+
+marked-since : (number : ℕ) (old new : Option Told)
+    → TellsSince
+    (option_map {T = Told} (λ told. record told { mark = remarked told.mark number }) old) new
+    → TellsMarked old new
+marked-since number None new tells now is = let (before, was, reads) = tells now is in absurd cc
+marked-since number (Some old) new tells now is =
+    let (before, was, reads) = tells now is in
+    let same : record old { mark = remarked old.mark number } ≡ before = cc in (
+      old,
+      refl,
+      read-marked old now (remarked old.mark number)
+          (subst (λ (t : Told). IsRead t now) (sym same) reads) now.mark,
+    )
+
 keeps-none : (d : disk_type) → KeepsBytes d d
-keeps-none d = record { size = refl; atoms = refl; values = refl; later = omega arith }
+keeps-none d = record {
+  size = refl;
+  atoms = refl;
+  values = refl;
+  told = λ now is. (now, is, read-none now);
+  later = omega arith;
+}
 
 keeps-same : (old new : disk_type) → new ≡ old → KeepsBytes old new
 keeps-same old new same = subst (KeepsBytes old) (sym same) (keeps-none old)
@@ -77,13 +114,14 @@ keeps-same old new same = subst (KeepsBytes old) (sym same) (keeps-none old)
 keeps-marked : (size at number : ℕ) (bytes : List ℕ) (old new : disk_type)
     (result : Result (Unit {0}) Failed)
     → ReadCall size at bytes (marked old number) new result → KeepsBytes old new
-keeps-marked size at number bytes old new result call =
-    record {
-      size = call.size;
-      atoms = call.atoms;
-      values = call.values;
-      later = call.cause.later;
-    }
+keeps-marked size at number bytes old new result call = record {
+  size = call.size;
+  atoms = call.atoms;
+  values = call.values;
+  later = call.cause.later;
+  told = marked-since number old.told new.told
+      (told-since (marked old number).told new.told result call.told);
+}
 
 keeps-joined : (a b c : disk_type) → KeepsBytes a b → KeepsBytes b c → KeepsBytes a c
 keeps-joined a b c first later = record {
@@ -91,6 +129,14 @@ keeps-joined a b c first later = record {
   atoms = later.atoms ∙ first.atoms;
   values = later.values ∙ first.values;
   later = (let one = first.later in let two = later.later in omega (arith, one, two));
+  told = λ now is.
+      (let (mid, of_mid, reads) = later.told now is in
+      let (before, was, earlier) = first.told mid of_mid in (
+        before,
+        was,
+        read-joined (record before { mark = now.mark }) (record mid { mark = now.mark }) now
+            (read-marked before mid mid.mark earlier now.mark) reads,
+      ));
 }
 
 -- a read of two joined disks leaves what each of them holds

@@ -73,6 +73,21 @@ pub copy-whole : Spelt → (place : ℕ) (bytes : List ℕ) (copy : HeaderCopy)
 unfolding copy_from
 copy-whole spelt place bytes copy is = whole-by spelt place bytes copy (copy_of place bytes) refl is
 
+-- it is the bytes from there on, as many as it has
+cut-by : (bytes : List ℕ) (copy : HeaderCopy) (r : Result BinHeader BinFault)
+    → (r >>= λ header. Ok (record { header = header; bytes = take header.hdr_size bytes }))
+    ≡ Ok copy
+    → take copy.header.hdr_size bytes ≡ copy.bytes
+cut-by bytes copy (Ok h) is =
+    let e : ◌≡◌ {A = HeaderCopy} (record { header = h; bytes = take h.hdr_size bytes }) copy = cc in
+    subst (λ (c : HeaderCopy). take c.header.hdr_size bytes ≡ c.bytes) e refl
+cut-by bytes copy (Err fault) is = absurd cc
+
+pub copy-cut : (place : ℕ) (bytes : List ℕ) (copy : HeaderCopy) → copy_from place bytes ≡ Ok copy
+    → take copy.header.hdr_size bytes ≡ copy.bytes
+unfolding copy_from
+copy-cut place bytes copy is = cut-by bytes copy (copy_of place bytes) is
+
 -- ---- the numbers in a meaning
 long : (place : ℕ) (copy : HeaderCopy) → IsWholeAt place copy → 104 ≤ length copy.bytes
 long place copy is = let least = size-least copy.header.hdr_size is.whole.one_of_nine in let whole =

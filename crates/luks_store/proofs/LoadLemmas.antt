@@ -1,5 +1,6 @@
 -- Lemmas on headers that are loaded by what they mean.
-use Rattle.std.proofs.Common.{◌≡◌, ℕ, List, drop, Option, Some, None, Result, Ok, Err, refl, sym}
+use Rattle.std.proofs.Common.{◌≡◌, ℕ, List, take, drop, Option, Some, None, Result, Ok, Err, refl}
+use Rattle.std.proofs.Common.{sym}
 use Rattle.std.proofs.Common.{◌∙◌, ap, subst}
 use Rattle.disk_sizes.specs.declared.Sizes.{Sizes}
 use Rattle.luks_bin.specs.declared.header.BinFault.{BinFault}
@@ -10,58 +11,63 @@ use Rattle.luks_rules.specs.Rules.{first_fault}
 use Rattle.luks_rules.specs.declared.fault.RuleFault.{RuleFault}
 use Rattle.luks_store.proofs.CopyLemmas.{Spelt}
 use Rattle.luks_store.proofs.GivenLemmas.{Newer, is_first, is_second, are_same, are_other}
-use Rattle.luks_store.proofs.GivenLemmas.{copy-whole, newer, ok-is}
+use Rattle.luks_store.proofs.GivenLemmas.{copy-cut, copy-whole, newer, ok-is}
 use Rattle.luks_store.proofs.PlaceLemmas.{alone, first-is, places}
 use Rattle.luks_store.proofs.TextLemmas.{meta-same}
 use Rattle.luks_store.proofs.UsesLemmas.{given-used}
 use Rattle.luks_store.specs.Found.{copy_at, IsWholeAt}
 use Rattle.luks_store.specs.Loads.{judged, objects_in, stored_in, unless, ◌>>=◌}
-use Rattle.luks_store.specs.Promises.{LoadsByMeaning}
+use Rattle.luks_store.specs.Promises.{LoadsByMeaning, UsedStands}
 use Rattle.luks_store.specs.Used.{beside, copies_by, copies_in, nearest, newer_of, rule, Refusal}
 use Rattle.luks_store.specs.declared.copies.Copies.{Copies}
 use Rattle.luks_store.specs.declared.copies.HeaderCopy.{HeaderCopy}
 use Rattle.luks_store.specs.declared.loaded.Stored.{Stored}
 
--- ---- the copy that is used is whole
-abbrev WholeUsed : Copies → Type 0
-WholeUsed copies = (place : ℕ) × IsWholeAt place copies.used
+-- ---- the copy that is used stands at some place
+abbrev StandsUsed : List ℕ → Copies → Type 0
+StandsUsed bytes copies = (place : ℕ) × (copy_at place bytes ≡ Ok copies.used)
 
-whole-newer : (first second : HeaderCopy) (copies : Copies) → IsWholeAt 0 first
-    → IsWholeAt first.header.hdr_size second
-    → Newer first second → newer_of first second ≡ Ok copies → WholeUsed copies
-whole-newer first second copies one two (is_first less is) used =
-    subst WholeUsed (ok-is _ _ (sym is ∙ used)) (0, one)
-whole-newer first second copies one two (is_second less is) used =
-    subst WholeUsed (ok-is _ _ (sym is ∙ used)) (first.header.hdr_size, two)
-whole-newer first second copies one two (are_same equal same is) used =
-    subst WholeUsed (ok-is _ _ (sym is ∙ used)) (0, one)
-whole-newer first second copies one two (are_other equal other is) used = absurd cc
+stands-newer : (bytes : List ℕ) (first second : HeaderCopy) (copies : Copies)
+    → copy_at 0 bytes ≡ Ok first → copy_at first.header.hdr_size bytes ≡ Ok second
+    → Newer first second → newer_of first second ≡ Ok copies → StandsUsed bytes copies
+stands-newer bytes first second copies one two (is_first less is) used =
+    subst (StandsUsed bytes) (ok-is _ _ (sym is ∙ used)) (0, one)
+stands-newer bytes first second copies one two (is_second less is) used =
+    subst (StandsUsed bytes) (ok-is _ _ (sym is ∙ used)) (first.header.hdr_size, two)
+stands-newer bytes first second copies one two (are_same equal same is) used =
+    subst (StandsUsed bytes) (ok-is _ _ (sym is ∙ used)) (0, one)
+stands-newer bytes first second copies one two (are_other equal other is) used = absurd cc
 
-whole-beside : Spelt → (bytes : List ℕ) (first : HeaderCopy) (copies : Copies) → IsWholeAt 0 first
-    → (r : Result HeaderCopy BinFault)
-    → copy_at first.header.hdr_size bytes ≡ r → beside first r ≡ Ok copies → WholeUsed copies
-whole-beside spelt bytes first copies one (Ok second) at used =
-    whole-newer first second copies one
-    (copy-whole spelt first.header.hdr_size (drop first.header.hdr_size bytes) second at)
-    (newer first second) used
-whole-beside spelt bytes first copies one (Err fault) at used =
-    subst WholeUsed (ok-is _ _ used) (0, one)
+stands-beside : (bytes : List ℕ) (first : HeaderCopy) (copies : Copies)
+    → copy_at 0 bytes ≡ Ok first → (r : Result HeaderCopy BinFault)
+    → copy_at first.header.hdr_size bytes ≡ r → beside first r ≡ Ok copies
+    → StandsUsed bytes copies
+stands-beside bytes first copies one (Ok second) at used =
+    stands-newer bytes first second copies one at (newer first second) used
+stands-beside bytes first copies one (Err fault) at used =
+    subst (StandsUsed bytes) (ok-is _ _ used) (0, one)
 
-whole-by : Spelt → (bytes : List ℕ) (copies : Copies) (r : Result HeaderCopy BinFault)
+stands-by : Spelt → (bytes : List ℕ) (copies : Copies) (r : Result HeaderCopy BinFault)
     → copy_at 0 bytes ≡ r
-    → copies_by bytes r ≡ Ok copies → WholeUsed copies
-whole-by spelt bytes copies (Ok first) at used =
-    whole-beside spelt bytes first copies (copy-whole spelt 0 (drop 0 bytes) first at)
-    (copy_at first.header.hdr_size bytes) refl used
-whole-by spelt bytes copies (Err fault) at used =
+    → copies_by bytes r ≡ Ok copies → StandsUsed bytes copies
+stands-by spelt bytes copies (Ok first) at used =
+    stands-beside bytes first copies at (copy_at first.header.hdr_size bytes) refl used
+stands-by spelt bytes copies (Err fault) at used =
     let (copy, found, same) = alone bytes fault copies (copy_at nearest bytes) refl used in
-    subst WholeUsed (sym same)
-    (copy.header.hdr_size, (first-is spelt places bytes copy refl refl found).whole)
+    subst (StandsUsed bytes) (sym same)
+    (copy.header.hdr_size, (first-is spelt places bytes copy refl refl found).at)
 
-whole-used : Spelt → (bytes : List ℕ) (copies : Copies) → copies_in bytes ≡ Ok copies
-    → WholeUsed copies
+stands-used : Spelt → (bytes : List ℕ) (copies : Copies) → copies_in bytes ≡ Ok copies
+    → StandsUsed bytes copies
 unfolding copies_in
-whole-used spelt bytes copies used = whole-by spelt bytes copies (copy_at 0 bytes) refl used
+stands-used spelt bytes copies used = stands-by spelt bytes copies (copy_at 0 bytes) refl used
+
+pub used-stands : Spelt → UsedStands
+used-stands spelt = λ bytes copies used.
+    let (place, at) = stands-used spelt bytes copies used in
+    let here = (copy-whole spelt place (drop place bytes) copies.used at).here in
+    subst (λ n. take copies.used.header.hdr_size (drop n bytes) ≡ copies.used.bytes) (sym here)
+    (copy-cut place (drop place bytes) copies.used at)
 
 -- ---- the same objects are judged alike
 judged-by : (sizes : Sizes) (a b : Copies) (stored : Stored) (meta : Parts) (o : Option RuleFault)
@@ -108,7 +114,8 @@ pub loads-meaning : Spelt → MeanTheSame → LoadsByMeaning
 loads-meaning spelt mean = λ bytes stored is gives.
     let (copies, used, means) =
     given-used spelt bytes (meaning_of stored.copies.used.bytes) gives in
-    let (place, whole) = whole-used spelt bytes copies used in
+    let (place, at) = stands-used spelt bytes copies used in
+    let whole = copy-whole spelt place (drop place bytes) copies.used at in
     let own : IsWholeAt stored.copies.used.header.hdr_offset stored.copies.used =
     record { whole = is.copies.whole; here = refl } in
     let same = meta-same mean stored.copies.used copies.used _ place own whole (sym means) in (

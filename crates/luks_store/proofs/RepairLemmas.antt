@@ -1,6 +1,6 @@
 -- Lemmas on the repair of a header that was loaded.
 use Rattle.std.proofs.Common.{ap, ◌≡◌, ◌≢◌, ◌⊎◌, inl, inr, ℕ, length, Ok, refl, sym, ◌∙◌, subst}
-use Rattle.std.proofs.Common.{arith, ◌*◌, ◌/◌, ◌≤◌, max}
+use Rattle.std.proofs.Common.{arith, ◌*◌, ◌/◌, ◌≤◌}
 use Rattle.std.proofs.lemmas.List.{take_all}
 use Rattle.disk_areas.specs.Headers.{IsHeader}
 use Rattle.luks_bin.specs.Copies.{copy_of, IsCopy}
@@ -12,10 +12,10 @@ use Rattle.luks_copies.specs.declared.repair.Repair.{Repair}
 use Rattle.luks_copies.specs.declared.repair.RepairStage.TheVariants.{Broken}
 use Rattle.luks_store.proofs.CopyLemmas.{Spelt}
 use Rattle.disk_sizes.specs.declared.Sizes.{Sizes}
-use Rattle.luks_rules.specs.Areas.{header_bytes, main_bytes}
 use Rattle.luks_store.proofs.CommitLemmas.{fits-disk}
 use Rattle.luks_store.proofs.PageLemmas.{size-pages}
 use Rattle.luks_store.specs.Commits.{FitsDisks, Repairs}
+use Rattle.luks_store.specs.Devices.{header_room}
 use Rattle.sector_disk.specs.Geometry.{IsInDisk}
 use Rattle.luks_store.specs.Used.{AreCopies}
 use Rattle.luks_store.specs.declared.copies.Copies.{Copies}
@@ -115,7 +115,7 @@ second-repaired spelt copies repair are good bad begun at size shared valid whol
 
 -- ---- it lies on the disk
 pub first-fits : (sizes : Sizes) (copies : Copies) (repair : Repair) → AreCopies copies
-    → 2 * copies.used.header.hdr_size ≤ max (header_bytes sizes) (main_bytes sizes)
+    → 2 * copies.used.header.hdr_size ≤ header_room sizes
     → place_in repair ≡ 0 → length (copy_in repair) ≡ length copies.used.bytes
     → FitsDisks sizes repair
 first-fits sizes copies repair are room at size device has known =
@@ -131,7 +131,7 @@ first-fits sizes copies repair are room at size device has known =
     (sym (ap (λ place. place / device.size) at ∙ some)) fits.first
 
 pub second-fits : (sizes : Sizes) (copies : Copies) (repair : Repair) → AreCopies copies
-    → 2 * copies.used.header.hdr_size ≤ max (header_bytes sizes) (main_bytes sizes)
+    → 2 * copies.used.header.hdr_size ≤ header_room sizes
     → place_in repair ≡ copies.used.header.hdr_size
     → length (copy_in repair) ≡ length copies.used.bytes → FitsDisks sizes repair
 second-fits sizes copies repair are room at size device has known =

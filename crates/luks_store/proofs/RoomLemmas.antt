@@ -1,5 +1,5 @@
 -- Lemmas on the room for both copies: metadata that break no rule leave it.
-use Rattle.std.proofs.Common.{◌≡◌, ℕ, ◌+◌, ◌*◌, ◌<◌, ◌≤◌, max, List, [], ◌∷◌, Bool, true, false}
+use Rattle.std.proofs.Common.{◌≡◌, ℕ, ◌+◌, ◌*◌, ◌<◌, ◌≤◌, List, [], ◌∷◌, Bool, true, false}
 use Rattle.std.proofs.Common.{refl, arith}
 use Rattle.std.specs.List.{All, sum_by}
 use Rattle.std.proofs.lemmas.List.Elements.{All-head}
@@ -10,6 +10,7 @@ use Rattle.luks_json.specs.declared.segment.Segment.{Segment}
 use Rattle.luks_rules.specs.Areas.{areas_end, header_bytes, main_bytes}
 use Rattle.luks_rules.specs.Segments.{bytes_of, in_progress, live_bytes}
 use Rattle.luks_rules.specs.States.{IsSound}
+use Rattle.luks_store.specs.Devices.{header_room}
 
 -- in front of a segment
 before : (c : Config) (sizes : Sizes) (progress : Bool) (segments : List (ℕ × Segment))
@@ -28,17 +29,17 @@ before c sizes progress (s ∷ ss) some behind on_disk block =
 
 room-by : (m : Parts) (sizes : Sizes) (size : ℕ) (b : Bool) → sizes.detached ≡ b → IsSound m sizes
     → m.config.json_size + 4096 ≡ size
-    → 2 * size ≤ max (header_bytes sizes) (main_bytes sizes)
+    → 2 * size ≤ header_room sizes
 room-by m sizes size true detached sound is = let end =
-    sound.within.detached detached in omega (arith, end, is)
+    sound.within.detached detached in rw detached (omega (arith, end, is))
 room-by m sizes size false attached sound is =
     let end =
     before m.config sizes (in_progress m.config) m.segments sound.atom
     (sound.within.attached attached)
     sound.segments.on_disk sound.segments.block in
-    omega (arith, end, is)
+    rw attached (omega (arith, end, is))
 
 pub room-of : (m : Parts) (sizes : Sizes) (size : ℕ) → IsSound m sizes
     → m.config.json_size + 4096 ≡ size
-    → 2 * size ≤ max (header_bytes sizes) (main_bytes sizes)
+    → 2 * size ≤ header_room sizes
 room-of m sizes size sound is = room-by m sizes size sizes.detached refl sound is

@@ -1,6 +1,6 @@
 -- Lemmas on what is known of a header that was loaded: its metadata break no rule, and have its
 -- size.
-use Rattle.std.proofs.Common.{◌≡◌, ℕ, ◌+◌, ◌-◌, ◌*◌, ◌≤◌, max, List, Option, Some, None, Bool, true}
+use Rattle.std.proofs.Common.{◌≡◌, ℕ, ◌+◌, ◌-◌, ◌*◌, ◌≤◌, List, Option, Some, None, Bool, true}
 use Rattle.std.proofs.Common.{false, if◌then◌else◌, Result, Ok, Err, refl, sym, ◌∙◌, ap, subst}
 use Rattle.std.proofs.Common.{arith}
 use Rattle.std.specs.Prelude.{codes}
@@ -26,10 +26,10 @@ use Rattle.luks_json.specs.declared.config.Config.{Config}
 use Rattle.luks_json.specs.declared.meta.Parts.{Parts}
 use Rattle.json_members.specs.Entries.{IsRising}
 use Rattle.luks_rules.proofs.SoundLemmas.{sound}
-use Rattle.luks_rules.specs.Areas.{header_bytes, main_bytes}
 use Rattle.luks_store.proofs.RoomLemmas.{room-of}
 use Rattle.luks_rules.specs.Rules.{first_fault}
 use Rattle.luks_rules.specs.declared.fault.RuleFault.{RuleFault}
+use Rattle.luks_store.specs.Devices.{header_room}
 use Rattle.luks_store.specs.Loads.{because, judged, unless, IsStored, ◌>>=◌}
 use Rattle.luks_store.specs.Used.{rule, text}
 use Rattle.luks_store.specs.declared.copies.Copies.{Copies}
@@ -86,8 +86,10 @@ unfolding meta_from
 text-sized n bytes = either n (is_utf8 bytes) _ _ (read-sized n (read bytes))
 
 -- ---- what was judged
-record IsValid (sizes : Sizes) (copies : Copies) (stored : Stored)
+pub record IsValid (sizes : Sizes) (copies : Copies) (stored : Stored)
     (r : Result Parts JsonFault) : Type 0 where
+  pub same_copies : copies ≡ stored.copies
+  pub same_sizes : sizes ≡ stored.valid.sizes
   pub read : r ≡ Ok stored.valid.meta
   pub rules : first_fault stored.valid.meta stored.valid.sizes ≡ None
 
@@ -101,6 +103,8 @@ valid-by sizes copies stored meta None none is =
     let e : ◌≡◌ {A = Stored}
     (record { copies = copies; valid = record { meta = meta; sizes = sizes } }) stored =
     cc in record {
+      same_copies = ap (λ (s : Stored). s.copies) e;
+      same_sizes = ap (λ (s : Stored). s.valid.sizes) e;
       read = ap (λ (s : Stored). Ok s.valid.meta) e;
       rules = subst (λ (s : Stored). first_fault s.valid.meta s.valid.sizes ≡ None) e none;
     }
@@ -116,7 +120,7 @@ valid-from sizes copies stored (Ok meta) is =
     valid-by sizes copies stored meta (first_fault meta sizes) refl is
 valid-from sizes copies stored (Err fault) is = absurd cc
 
-is-valid : (sizes : Sizes) (copies : Copies) (stored : Stored) → judged sizes copies ≡ Ok stored
+pub is-valid : (sizes : Sizes) (copies : Copies) (stored : Stored) → judged sizes copies ≡ Ok stored
     → IsValid sizes copies stored
     (meta_from copies.used.header.hdr_size (text_of copies.used.bytes))
 unfolding judged
@@ -138,7 +142,7 @@ size-kept stored is =
 
 pub room-kept : (stored : Stored) → IsStored stored → IsRising stored.valid.meta.digests
     → 2 * stored.copies.used.header.hdr_size
-    ≤ max (header_bytes stored.valid.sizes) (main_bytes stored.valid.sizes)
+    ≤ header_room stored.valid.sizes
 room-kept stored is rising =
     let valid = stored.valid in
     room-of valid.meta valid.sizes stored.copies.used.header.hdr_size

@@ -1,5 +1,5 @@
 -- Commits and repairs of a header that was loaded.
-use Rattle.std.specs.Prelude.{◌≡◌, ◌≢◌, ℕ, ◌+◌, ◌*◌, ◌/◌, ◌<◌, ◌≤◌, max, List, length, replicate}
+use Rattle.std.specs.Prelude.{◌≡◌, ◌≢◌, ℕ, ◌+◌, ◌*◌, ◌/◌, ◌<◌, ◌≤◌, List, length, replicate}
 use Rattle.std.specs.Prelude.{Ok, IsOk}
 use Rattle.disk_areas.specs.Commits.{Follows}
 use Rattle.disk_areas.specs.Headers.{Header, IsHeader}
@@ -8,7 +8,7 @@ use Rattle.luks_bin.specs.Copies.{copy_of, text_of}
 use Rattle.luks_bin.specs.Shares.{Agree}
 use Rattle.luks_bin.specs.declared.header.BinHeader.{BinHeader}
 use Rattle.luks_copies.specs.Meanings.{header_of, header_reader, meaning_of}
-use Rattle.luks_copies.specs.Steps.{IsRefusal}
+use Rattle.luks_copies.specs.Steps.{FitDisk, IsRefusal}
 use Rattle.luks_copies.specs.Held.{primary_of, secondary_of, size_in_bytes, copy_in, place_in}
 use Rattle.luks_copies.specs.Held.{repair_stage_in}
 use Rattle.luks_copies.specs.declared.commit.CommitError.{CommitError}
@@ -17,8 +17,9 @@ use Rattle.luks_copies.specs.declared.repair.Repair.{Repair}
 use Rattle.luks_copies.specs.declared.repair.RepairStage.TheVariants.{Broken}
 use Rattle.luks_json.specs.Metas.{data_of, meta_from}
 use Rattle.luks_json.specs.declared.meta.Parts.{Parts}
-use Rattle.luks_rules.specs.Areas.{header_bytes, main_bytes}
-use Rattle.luks_store.specs.Loads.{judged}
+use Rattle.luks_bin.specs.Writing.{written}
+use Rattle.luks_store.specs.Devices.{header_room}
+use Rattle.luks_store.specs.Loads.{judged, IsStored}
 use Rattle.luks_store.specs.Found.{IsWholeAt}
 use Rattle.luks_store.specs.declared.commit.Prepared.{Prepared}
 use Rattle.luks_store.specs.declared.copies.Copies.{Copies}
@@ -57,19 +58,29 @@ committed p = record {
   secondary = record { state = Good; salt = p.second_salt };
 }
 
--- Both copies are whole, of one number, mean the same, hold metadata that break no rule, and lie in
--- front of what these sizes leave room for.
+-- the binary header of its secondary
+abbrev pub second_header : Prepared → BinHeader
+second_header p = record p.header { salt = p.second_salt; hdr_offset = p.header.hdr_size }
+
+-- Both copies are, byte for byte, what is written of their headers with this text: zeros stand
+-- behind it.
+pub record HoldsText (text : List ℕ) (p : Prepared) : Type 0 where
+  pub first : primary_of p.copies ≡ written p.header text
+  pub second : secondary_of p.copies ≡ written (second_header p) text
+
+-- Both copies are whole, of one number, mean the same, hold metadata that break no rule, and have
+-- room on the header's disk.
 pub record IsPrepared (p : Prepared) : Type 0 where
   pub first : IsWholeAt 0 (record { header = p.header; bytes = primary_of p.copies })
   pub second : IsWholeAt p.header.hdr_size (record {
-    header = record p.header { salt = p.second_salt; hdr_offset = p.header.hdr_size };
+    header = second_header p;
     bytes = secondary_of p.copies;
   })
   pub same : meaning_of (primary_of p.copies) ≡ meaning_of (secondary_of p.copies)
   pub size : size_in_bytes p.copies ≡ p.header.hdr_size
   pub atom : 0 < p.sizes.atom
   pub held : IsOk (judged p.sizes (committed p))
-  pub room : 2 * p.header.hdr_size ≤ max (header_bytes p.sizes) (main_bytes p.sizes)
+  pub room : 2 * p.header.hdr_size ≤ header_room p.sizes
 
 -- The commit that follows a header, of these metadata.
 pub record IsNext (stored : Stored) (parts : Parts) (p : Prepared) : Type 0 where
@@ -80,6 +91,7 @@ pub record IsNext (stored : Stored) (parts : Parts) (p : Prepared) : Type 0 wher
   }
   pub second_salt : p.second_salt ≡ stored.copies.secondary.salt
   pub sizes : p.sizes ≡ stored.valid.sizes
+  pub bytes : HoldsText (text_for parts) p
   pub meta : meta_from p.header.hdr_size (text_of (primary_of p.copies)) ≡ Ok parts
   pub whole : IsHeader header_reader (header_of (primary_of p.copies) (secondary_of p.copies))
   pub follows : Follows header_reader (meaning_of stored.copies.used.bytes)
@@ -90,6 +102,17 @@ pub record HasSizes (sizes : Sizes) (device : Device) : Type 0 where
   pub atom : sizes.atom ≡ device.size
   pub header : sizes.header_atoms ≤ device.atoms
   pub main : sizes.main_atoms ≤ device.atoms
+
+-- both copies lie on each disk of these sizes
+abbrev pub CopiesFit : Prepared → Type 0
+CopiesFit p = (device : Device) → HasSizes p.sizes device → IsAtom device.size
+    → FitDisk (primary_of p.copies) (secondary_of p.copies) p.header.hdr_size device
+
+-- The header that is loaded once both copies stand on a disk.
+pub record IsNextStored (p : Prepared) (next : Stored) : Type 0 where
+  pub copies : next.copies ≡ committed p
+  pub sizes : next.valid.sizes ≡ p.sizes
+  pub stored : IsStored next
 
 -- ---- a repair
 -- both places hold the header

@@ -1,13 +1,13 @@
 -- What reads leave of a disk, and which of its bytes are the header's disk.
 use Rattle.std.specs.Prelude.{ℕ, ◌≡◌, ◌≤◌, ◌%◌, ◌==◌, ◌&&◌, nat_lt, Bool, List, ◌++◌, take, Option}
-use Rattle.std.specs.Prelude.{Some}
+use Rattle.std.specs.Prelude.{Some, if◌then◌else◌}
 use Rattle.std.specs.List.{All, list_all}
 use Rattle.base_terms.specs.Causes.{Rose}
 use Rattle.disk_sizes.specs.declared.Sizes.{Sizes}
 use Rattle.joined_disk.specs.Counts.{joint_in}
 use Rattle.joined_disk.specs.Joined.{Joint, joined_disk}
 use Rattle.joined_disk.specs.declared.joined.JoinedDisk.{JoinedDisk}
-use Rattle.luks_rules.specs.Areas.{header_bytes}
+use Rattle.luks_rules.specs.Areas.{header_bytes, main_bytes}
 use Rattle.luks_store.specs.declared.fault.ReadFault.{ReadFault}
 use Rattle.luks_store.specs.declared.fault.ReadFault.TheVariants.{Memory, Device}
 use Rattle.luks_store.specs.declared.fault.StoreFault.{StoreFault}
@@ -25,6 +25,10 @@ device_of disk = joined_disk (joint_in disk)
 abbrev pub front_of : Sizes → List ℕ → List ℕ
 front_of sizes all = take (header_bytes sizes) all
 
+-- the bytes of the disk on which both copies of the header lie: a disk of its own, or the main one
+abbrev pub header_room : Sizes → ℕ
+header_room sizes = if sizes.detached then header_bytes sizes else main_bytes sizes
+
 -- the tables after some more calls, none of which changed what the atoms hold
 pub record IsRead (before now : Told) : Type 0 where
   pub cells : now.now ≡ before.now
@@ -33,15 +37,18 @@ pub record IsRead (before now : Told) : Type 0 where
   pub past : now.past ≡ before.past ++ more
   pub same : All (λ table. table.1 ≡ before.now) more
 
--- what one disk holds stands, and its count of faults doesn't fall
+-- What one disk holds stands, and so does each table that it tells since: its calls were reads
+-- alone. It may have been marked between them. Its count of faults doesn't fall.
 pub record KeepsBytes (old new : disk_type) : Type 0 where
   pub size : new.size ≡ old.size
   pub atoms : new.atoms ≡ old.atoms
   pub values : new.values ≡ old.values
   pub later : old.faults ≤ new.faults
+  pub told : (now : Told) → new.told ≡ Some now
+      → (before : Told) × (old.told ≡ Some before) × IsRead (record before { mark = now.mark }) now
 
 -- Nothing was written to two joined disks: what both hold as one is as before, and so is each table
--- that they tell since; and what each of them holds.
+-- that they tell since; and what each of them holds and tells.
 pub record IsUnwritten (old new : Joint) : Type 0 where
   pub size : (joined_disk new).size ≡ (joined_disk old).size
   pub atoms : (joined_disk new).atoms ≡ (joined_disk old).atoms

@@ -1,5 +1,5 @@
 -- What is promised of the copies that are used.
-use Rattle.std.specs.Prelude.{◌≡◌, ℕ, List, drop, None, Ok, Err}
+use Rattle.std.specs.Prelude.{◌≡◌, ℕ, List, take, drop, None, Ok, Err}
 use Rattle.disk_areas.specs.Headers.{found, Gives}
 use Rattle.luks_bin.specs.Copies.{copy_of}
 use Rattle.luks_bin.specs.declared.header.BinFault.{BinFault}
@@ -15,6 +15,12 @@ use Rattle.luks_store.specs.declared.loaded.Stored.{Stored}
 abbrev pub UsedIsGiven : Type 0
 UsedIsGiven = (bytes : List ℕ) (copies : Copies) → copies_in bytes ≡ Ok copies
     → Gives header_reader bytes (meaning_of copies.used.bytes)
+
+-- It stands where it says, byte for byte.
+abbrev pub UsedStands : Type 0
+UsedStands = (bytes : List ℕ) (copies : Copies) → copies_in bytes ≡ Ok copies
+    → take copies.used.header.hdr_size (drop copies.used.header.hdr_offset bytes)
+    ≡ copies.used.bytes
 
 -- Where they have one it is used.
 abbrev pub GivenIsUsed : Type 0

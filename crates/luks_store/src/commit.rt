@@ -14,8 +14,8 @@ ghost use Rattle.luks_copies.specs.Held.{primary_of, secondary_of, size_in_bytes
 ghost use Rattle.luks_copies.specs.declared.commit.Stage.TheVariants.{Begun, Ended};
 ghost use Rattle.luks_json.specs.Metas.{meta_from};
 ghost use Rattle.luks_rules.specs.Rules.{first_fault};
-ghost use Rattle.luks_store.specs.Commits.{committed, header_before, text_for, HasSizes, IsNext};
-ghost use Rattle.luks_store.specs.Commits.{IsRefused};
+ghost use Rattle.luks_store.specs.Commits.{committed, header_before, text_for, HasSizes};
+ghost use Rattle.luks_store.specs.Commits.{HoldsText, IsNext, IsRefused};
 ghost use Rattle.luks_store.specs.Loads.{stored_in};
 
 use crate::copies::{Copies, CopyPlace, CopyState, HeaderCopy};
@@ -86,6 +86,7 @@ fn prepare(
     }) }
     ensures second_salt { IfOk result (λ commit. commit.second_salt ≡ second_salt.now) }
     ensures sizes { IfOk result (λ commit. commit.sizes ≡ sizes) }
+    ensures bytes { IfOk result (HoldsText (text_for meta.now)) }
     ensures meta { IfOk result (λ commit.
         meta_from header.now.hdr_size (text_of (primary_of commit.copies)) ≡ Ok meta.now) }
     ensures whole { IfOk result (λ commit.
@@ -124,6 +125,10 @@ fn prepare(
 }
 
 impl Commit {
+    ghost use Rattle.luks_bin.specs.Hidden.{hides_copy};
+    ghost use Rattle.luks_store.specs.Commits.{CopiesFit, IsNextStored, IsPrepared};
+    ghost use Rattle.luks_store.specs.declared.loaded.Stored.{Stored as stored_type};
+
     /// A commit of these metadata, which break no rule for the sizes of the header's disk, after a
     /// header that was loaded: under the next number, with its other fields, and each place with
     /// its own salt. There is none, `SeqEnd`, exactly where the number is `2^64 - 1`, else none,
@@ -173,6 +178,7 @@ impl Commit {
             commit.header ≡ record (header_before uuid first_salt.now meta.now) { seqid = 1 }) }
         ensures second_salt { IfOk result (λ commit. commit.second_salt ≡ second_salt.now) }
         ensures sizes { IfOk result (λ commit. commit.sizes ≡ sizes) }
+        ensures bytes { IfOk result (HoldsText (text_for meta.now)) }
         ensures meta { IfOk result (λ commit.
             meta_from commit.header.hdr_size (text_of (primary_of commit.copies)) ≡ Ok meta.now) }
         ensures whole { IfOk result (λ commit.
@@ -189,6 +195,23 @@ impl Commit {
             hdr_offset: 0,
         };
         prepare(alloc, &before, first_salt, second_salt, meta, sizes)
+    }
+
+    /// What both copies are: a law, with nothing to run. They lie on each disk of the sizes for
+    /// which the metadata were judged, and a header that is stored follows from them.
+    pub fn is_prepared(&self)
+        ensures prepared { IsPrepared self.now }
+        ensures fit { CopiesFit self.now }
+        ensures stored { (next : stored_type) × IsNextStored self.now next }
+    {
+        let _prepared = &self.prepared;
+    }
+
+    /// Whether the magic of a secondary stands within the primary, where one could be found.
+    pub fn hides_copy(&self) -> bool
+        ensures { result ≡ hides_copy (primary_of self.now.copies) }
+    {
+        luks_bin::hides_copy(self.prepared.copies.first())
     }
 
     /// Whether no device call may follow: all are made, or one has failed.

@@ -1,16 +1,17 @@
 // Laws of the copies that are used, with nothing to run.
 
 ghost use Rattle.luks_store.specs.Promises.{GivenIsUsed, LoadsByMeaning, MetaByMeaning, NoneStands};
-ghost use Rattle.luks_store.specs.Promises.{UsedIsGiven};
+ghost use Rattle.luks_store.specs.Promises.{UsedIsGiven, UsedStands};
 
 use luks_bin::copies_are_spelt;
 use luks_copies::copies_mean_what_they_share;
 
 /// The copy that is used means the header that the disk's bytes have, as `disk_areas` speaks of it,
-/// and where they have one it is used: so its laws on commits, repairs and stops hold of what is
-/// loaded.
+/// and where they have one it is used; it stands on the disk as it was read. So its laws on
+/// commits, repairs and stops hold of what is loaded.
 pub fn used_copies_are_headers()
     ensures used { UsedIsGiven }
+    ensures stands { UsedStands }
     ensures given { GivenIsUsed }
     ensures none { NoneStands }
 {

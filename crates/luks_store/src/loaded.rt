@@ -97,22 +97,32 @@ pub fn load<D: Disk>(alloc: Global, disk: &mut JoinedDisk<D>) -> Result<Loaded, 
 }
 
 impl Loaded {
-    ghost use Rattle.std.specs.Prelude.{◌+◌, ◌*◌, ◌≤◌, max, None};
-    ghost use Rattle.luks_rules.specs.Areas.{header_bytes, main_bytes};
+    ghost use Rattle.std.specs.Prelude.{◌+◌, ◌*◌, ◌≤◌, None};
+    ghost use Rattle.luks_bin.specs.Hidden.{hides_copy};
     ghost use Rattle.luks_rules.specs.Rules.{first_fault};
+    ghost use Rattle.luks_store.specs.Devices.{header_room};
     ghost use Rattle.luks_store.specs.Loads.{IsStored};
 
     /// What the disk held: a law, with nothing to run. The metadata break no rule for these sizes,
-    /// and state the size of the copy that is used, of which the disk has room for two.
+    /// and state the size of the copy that is used, of which the header's disk has room for two.
     pub fn is_stored(&self)
         ensures stored { IsStored self.now }
         ensures rules { first_fault self.now.valid.meta self.now.valid.sizes ≡ None }
         ensures size { self.now.valid.meta.config.json_size + 4096
             ≡ self.now.copies.used.header.hdr_size }
         ensures room { 2 * self.now.copies.used.header.hdr_size
-            ≤ max (header_bytes self.now.valid.sizes) (main_bytes self.now.valid.sizes) }
+            ≤ header_room self.now.valid.sizes }
     {
         let _parts = self.stored.valid.meta().parts();
+    }
+
+    /// Whether the magic of a secondary stands within the copy that is used, where one could be
+    /// found. Where none does, no image that a stop leaves of a commit or a repair has a copy in
+    /// front of the secondary but the primary.
+    pub fn hides_copy(&self) -> bool
+        ensures { result ≡ hides_copy self.now.copies.used.bytes }
+    {
+        luks_bin::hides_copy(self.stored.copies.used.bytes.as_slice())
     }
 
     /// The binary header of the copy that is used.

@@ -8,17 +8,18 @@ use Rattle.std.proofs.lemmas.Nat.{from_be_bytes-to_be_bytes_2, from_be_bytes-to_
 use Rattle.std.proofs.lemmas.Nat.{from_be_bytes-to_be_bytes_8}
 use Rattle.std.specs.Int.{w16, w32, w64, from_be_bytes}
 use Rattle.plain_disk.specs.declared.operation.Op.{Op}
-use Rattle.nbd_session.specs.declared.ending.Ending.{Ending}
-use Rattle.nbd_session.specs.declared.ending.Ending.TheVariants.{Disconnected, Closed, Truncated}
-use Rattle.nbd_session.specs.declared.ending.Ending.TheVariants.{BadMagic, TooLong, TooMany}
-use Rattle.nbd_session.specs.declared.ending.Ending.TheVariants.{PortSpent, ReadFault, WriteFault}
-use Rattle.nbd_session.specs.declared.ending.Ending.TheVariants.{Memory}
-use Rattle.nbd_session.specs.Grammar.{EndsRequests, IsCount}
-use Rattle.nbd_session.specs.Reading.{Asked, IsByInput}
+use Rattle.nbd_stream.specs.declared.ending.Ending.{Ending}
+use Rattle.nbd_stream.specs.declared.ending.Ending.TheVariants.{Disconnected, Closed, Truncated}
+use Rattle.nbd_stream.specs.declared.ending.Ending.TheVariants.{BadMagic, TooLong, TooMany}
+use Rattle.nbd_stream.specs.declared.ending.Ending.TheVariants.{PortSpent, ReadFault, WriteFault}
+use Rattle.nbd_stream.specs.declared.ending.Ending.TheVariants.{Memory}
+use Rattle.nbd_stream.specs.Endings.{IsByInput, IsCount}
+use Rattle.nbd_session.specs.Grammar.{EndsRequests}
+use Rattle.nbd_session.specs.Reading.{Asked}
 use Rattle.nbd_session.specs.Requests.{ending_of, data_length, operation_of, IsMessage}
 use Rattle.nbd_session.specs.Requests.{IsCutRequest, IsLastHead}
-use Rattle.nbd_session.proofs.StreamLemmas.{Decision, asks, stops}
-use Rattle.nbd_session.proofs.DecidedOptions.{cut_of, cut-none, cut-some}
+use Rattle.nbd_stream.proofs.StreamLemmas.{Decision, asks, stops}
+use Rattle.nbd_hand.proofs.DecidedOptions.{cut_of, cut-none, cut-some}
 use Rattle.nbd_wire.specs.declared.requests.CommandType.{CommandType}
 use Rattle.nbd_wire.specs.declared.requests.RequestHead.{RequestHead}
 use Rattle.nbd_wire.specs.Fields.{u16_text, u32_text, u64_text}

@@ -5,19 +5,22 @@ use Rattle.std.proofs.Common.{append_assoc, append-nil, length-append, ⊎_elim}
 use Rattle.std.proofs.lemmas.Bool.{lt-ltb, le-ltb}
 use Rattle.std.proofs.lemmas.Nat.{from_be_bytes-to_be_bytes_4}
 use Rattle.std.specs.Int.{w32, from_be_bytes}
-use Rattle.nbd_session.specs.declared.ending.Ending.{Ending}
-use Rattle.nbd_session.specs.declared.ending.Ending.TheVariants.{Closed, Truncated, BadFlags}
-use Rattle.nbd_session.specs.declared.ending.Ending.TheVariants.{ReadFault}
-use Rattle.nbd_session.specs.declared.options.ClientOption.{ClientOption}
-use Rattle.nbd_session.specs.declared.options.Course.{Course}
-use Rattle.nbd_session.specs.declared.options.Course.TheVariants.{Begins, Ends}
-use Rattle.nbd_session.specs.Grammar.{StopsFlags, SpellsOptions, AreOptions, AreRequests}
-use Rattle.nbd_session.specs.Reading.{Asked, asked_of, IsByInput, Reads, AreOneReading, ReadsOnce}
-use Rattle.nbd_session.specs.Session.{Stage, greeted, negotiating, served, Log, HasFlags, IsInput}
+use Rattle.nbd_stream.specs.declared.ending.Ending.{Ending}
+use Rattle.nbd_stream.specs.declared.ending.Ending.TheVariants.{Closed, Truncated, BadFlags}
+use Rattle.nbd_stream.specs.declared.ending.Ending.TheVariants.{ReadFault}
+use Rattle.nbd_hand.specs.declared.options.ClientOption.{ClientOption}
+use Rattle.nbd_hand.specs.declared.options.Course.{Course}
+use Rattle.nbd_hand.specs.declared.options.Course.TheVariants.{Begins, Ends}
+use Rattle.nbd_stream.specs.Endings.{IsByInput}
+use Rattle.nbd_hand.specs.Grammar.{StopsFlags, SpellsOptions, AreOptions}
+use Rattle.nbd_hand.specs.Handshakes.{Stage, greeted, negotiating, served, HasFlags}
+use Rattle.nbd_session.specs.Grammar.{AreRequests}
+use Rattle.nbd_session.specs.Reading.{Asked, asked_of, Reads, AreOneReading, ReadsOnce}
+use Rattle.nbd_session.specs.Session.{Log, IsInput, handshake_of}
 use Rattle.nbd_session.specs.Turns.{Turn, Spells}
-use Rattle.nbd_session.proofs.StreamLemmas.{split, Spelled, Tail, tail-once}
-use Rattle.nbd_session.proofs.DecidedOptions as Options
-use Rattle.nbd_session.proofs.DecidedOptions.{End, cut_of, cut-none, cut-some, ByInput}
+use Rattle.nbd_stream.proofs.StreamLemmas.{split, Spelled, Tail, tail-once}
+use Rattle.nbd_hand.proofs.DecidedOptions as Options
+use Rattle.nbd_hand.proofs.DecidedOptions.{End, cut_of, cut-none, cut-some, ByInput}
 use Rattle.nbd_session.proofs.DecidedRequests as Requests
 use Rattle.nbd_wire.specs.Fields.{u32_text}
 use Rattle.nbd_wire.proofs.FieldLemmas.{u32-first}
@@ -187,7 +190,7 @@ requests-once turns turns' ending ending' taken taken' all a b =
     ending' taken taken' all a b
 
 -- an input behind the client's flags
-behind-flags : (log : Log) (rest behind input : List ℕ) → HasFlags log rest →
+behind-flags : (log : Log) (rest behind input : List ℕ) → HasFlags (handshake_of log) rest →
     input ≡ log.taken ++ behind → input ≡ u32_text log.flags ++ (rest ++ behind)
 behind-flags log rest behind input has parts = parts ∙ ap (λ t. t ++ behind) has.parts
     ∙ append_assoc (u32_text log.flags) rest behind

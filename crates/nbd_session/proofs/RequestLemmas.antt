@@ -5,22 +5,22 @@ use Rattle.std.proofs.Common.{append-nil, length-append}
 use Rattle.plain_disk.specs.declared.operation.Op.{Op}
 use Rattle.plain_disk.specs.declared.operation.Reply.TheVariants.{Errno}
 use Rattle.io_edge.specs.Outlet.{Outlet}
-use Rattle.nbd_session.specs.declared.ending.Ending.{Ending}
-use Rattle.nbd_session.specs.declared.ending.Ending.TheVariants.{TooMany, PortSpent, WriteFault}
+use Rattle.nbd_stream.specs.declared.ending.Ending.{Ending}
+use Rattle.nbd_stream.specs.declared.ending.Ending.TheVariants.{TooMany, PortSpent, WriteFault}
 use Rattle.nbd_session.specs.declared.requests.Next.TheVariants.{Ask, Stop}
-use Rattle.nbd_session.specs.Grammar.{StopsRequests, EndsRequests, IsCount, RequestsEnd}
-use Rattle.nbd_session.specs.Moments.{Moment, Talks}
-use Rattle.nbd_session.specs.Putting.{Replies}
-use Rattle.nbd_session.specs.Replies.{reply_text}
+use Rattle.nbd_stream.specs.Endings.{IsCount}
+use Rattle.nbd_session.specs.Grammar.{StopsRequests, EndsRequests, RequestsEnd}
+use Rattle.nbd_stream.specs.Moments.{Moment, Talks}
+use Rattle.nbd_session.specs.Replies.{reply_text, Replies}
 use Rattle.nbd_session.specs.Requests.{IsMessage, IsRefusal}
 use Rattle.nbd_session.specs.Serving.{Serves}
 use Rattle.nbd_session.specs.Taking.{NextIs}
-use Rattle.nbd_session.specs.Traffic.{Reach, Takes}
+use Rattle.nbd_stream.specs.Traffic.{Reach, Takes}
 use Rattle.nbd_session.specs.Turns.{Turn, Spells, IsAnswered, exchange_of, exchanges_of, replies_to}
-use Rattle.nbd_session.proofs.MomentLemmas.{with_sink}
-use Rattle.nbd_session.proofs.TalkLemmas.{talks-none, talks-took, talks-stopped, talks-put}
-use Rattle.nbd_session.proofs.TalkLemmas.{talks-unput, talks-more, talks-answered, talks-on}
-use Rattle.nbd_session.proofs.TalkLemmas.{talks-enough}
+use Rattle.nbd_stream.proofs.MomentLemmas.{with_sink}
+use Rattle.nbd_stream.proofs.TalkLemmas.{talks-none, talks-took, talks-stopped, talks-put}
+use Rattle.nbd_stream.proofs.TalkLemmas.{talks-unput, talks-more, talks-answered, talks-on}
+use Rattle.nbd_stream.proofs.TalkLemmas.{talks-enough}
 
 Spells-append : (xs ys : List Turn) (a b : List ℕ) → Spells xs a → Spells ys b →
     Spells (xs ++ ys) (a ++ b)

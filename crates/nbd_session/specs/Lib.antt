@@ -1,17 +1,9 @@
-pub mod Counts
-pub mod Exports
 pub mod Grammar
-pub mod Moments
-pub mod Negotiation
-pub mod Numbers
-pub mod Options
 pub mod Ports
-pub mod Putting
 pub mod Reading
 pub mod Replies
 pub mod Requests
 pub mod Serving
 pub mod Session
 pub mod Taking
-pub mod Traffic
 pub mod Turns

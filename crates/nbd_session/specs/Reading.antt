@@ -1,9 +1,8 @@
 -- An input is read in one way.
 use Rattle.std.specs.Prelude.{ℕ, ◌≡◌, true, List, [], ◌++◌, map, Option}
 use Rattle.plain_disk.specs.declared.operation.Op.{Op}
-use Rattle.nbd_session.specs.declared.ending.Ending.{Ending}
-use Rattle.nbd_session.specs.declared.ending.Ending.TheVariants.{PortSpent, ReadFault, WriteFault}
-use Rattle.nbd_session.specs.declared.ending.Ending.TheVariants.{Memory}
+use Rattle.nbd_stream.specs.declared.ending.Ending.{Ending}
+use Rattle.nbd_stream.specs.Endings.{IsByInput}
 use Rattle.nbd_session.specs.Session.{Log, IsInput}
 use Rattle.nbd_session.specs.Turns.{Turn}
 
@@ -15,14 +14,6 @@ pub record Asked : Type 0 where
 -- what was asked of a session
 unfoldable pub asked_of : List Turn → List Asked
 asked_of turns = map (λ turn. record { cookie = turn.cookie; asked = turn.asked }) turns
-
--- an ending that the input brings, and no fault, no want of memory and no port
-abbrev pub IsByInput : Ending → Type 0
-IsByInput PortSpent = ⊥
-IsByInput ReadFault = ⊥
-IsByInput WriteFault = ⊥
-IsByInput Memory = ⊥
-IsByInput _ = Unit {0}
 
 -- a session with this log and this ending takes its bytes from the front of an input
 pub record Reads (log : Log) (ending : Ending) (input : List ℕ) : Type 0 where

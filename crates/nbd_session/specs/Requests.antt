@@ -4,8 +4,8 @@ use Rattle.std.specs.Prelude.{Option, Some, None}
 use Rattle.base_terms.specs.ErrorNumbers.{invalid, no_memory}
 use Rattle.plain_disk.specs.declared.operation.Op.{Op}
 use Rattle.plain_disk.specs.declared.operation.Op.TheVariants as Ops
-use Rattle.nbd_session.specs.declared.ending.Ending.{Ending}
-use Rattle.nbd_session.specs.declared.ending.Ending.TheVariants.{Disconnected, TooLong}
+use Rattle.nbd_stream.specs.declared.ending.Ending.{Ending}
+use Rattle.nbd_stream.specs.declared.ending.Ending.TheVariants.{Disconnected, TooLong}
 use Rattle.nbd_wire.specs.declared.requests.CommandType.{CommandType}
 use Rattle.nbd_wire.specs.declared.requests.CommandType.TheVariants.{Read, Write, Disc, Flush}
 use Rattle.nbd_wire.specs.declared.requests.RequestHead.{RequestHead}

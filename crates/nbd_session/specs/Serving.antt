@@ -1,8 +1,8 @@
 -- The requests of a session, one after the other.
 use Rattle.std.specs.Prelude.{ℕ, ◌+◌, Bool, List, length, Option}
-use Rattle.nbd_session.specs.declared.ending.Ending.{Ending}
+use Rattle.nbd_stream.specs.declared.ending.Ending.{Ending}
 use Rattle.nbd_session.specs.Grammar.{AreRequests}
-use Rattle.nbd_session.specs.Moments.{Moment, Talks}
+use Rattle.nbd_stream.specs.Moments.{Moment, Talks}
 use Rattle.nbd_session.specs.Turns.{Turn, replies_to}
 
 -- From one moment to another these requests were taken and answered, behind `n` earlier ones; None

@@ -1,9 +1,8 @@
 //! A session with one client by the NBD protocol ("Fixed newstyle negotiation" and "Transmission"
-//! of its document), as a function of the bytes that the client sends. After the greeting the
-//! client agrees on the one export, `volume`, by EXPORT_NAME or GO; other options are refused.
-//! Then it asks for reads, writes and flushes, each of which is submitted to a port and answered
-//! by a simple reply; a request of another type or with an unknown flag is answered 22 here. Every
-//! input has its ending.
+//! of its document), as a function of the bytes that the client sends. After the handshake of
+//! `nbd_hand` the client asks for reads, writes and flushes, each of which is submitted to a port
+//! and answered by a simple reply; a request of another type or with an unknown flag is answered 22
+//! here. Every input has its ending.
 //!
 //! The layer above may rely on three clauses of `serve_session`. The bytes that were put are the
 //! answers to the bytes that were taken and the port's replies, however the bytes came in pieces,
@@ -15,23 +14,17 @@
 #![tactic(auto)]
 
 mod ending;
-mod export;
-mod filling;
-mod info_data;
-mod negotiation;
-mod options;
 mod port;
 mod reading;
 mod replies;
 mod requests;
 mod session;
-mod taking;
-mod tally;
 #[cfg(test)]
 mod tests;
 
-pub use ending::{Ending, SessionEnd};
-pub use export::Export;
+pub use ending::SessionEnd;
+pub use nbd_hand::Export;
+pub use nbd_stream::Ending;
 pub use port::{Port, Submitted};
 pub use reading::reading_is_unique;
 pub use session::serve_session;

@@ -1,38 +1,12 @@
 ghost use Rattle.std.specs.Prelude.{◌≡◌, ℕ, List, OnOk};
-ghost use Rattle.nbd_session.specs.Putting.{IsOut, Puts};
+ghost use Rattle.nbd_stream.specs.Putting.{IsOut, Puts};
 ghost use Rattle.nbd_session.specs.Replies.{reply_text, errno_of, data_of};
 
 use base_terms::Failed;
 use io_edge::Sink;
+use nbd_stream::{put_message, put_piece};
 use nbd_wire::SimpleReplyHead;
 use plain_disk::Reply;
-
-/// Puts one piece, and counts its bytes where it was put whole.
-fn put_piece<K: Sink>(sink: &mut K, bytes: &[u8], put: &mut u64) -> Result<(), Failed>
-    ensures { (whole : List ℕ) × (front : List ℕ)
-        × Puts (K.outlet sink.old) (K.outlet sink.new) put.old put.new bytes.now result whole
-        front }
-{
-    let before = *put;
-    match sink.put(bytes) {
-        Ok(()) => {
-            *put = before.saturating_add(bytes.len() as u64);
-            Ok(())
-        }
-        Err(failed) => Err(failed),
-    }
-}
-
-/// Puts one piece as `put_piece` does, and lets it go out.
-pub fn put_message<K: Sink>(sink: &mut K, bytes: &[u8], put: &mut u64) -> Result<(), Failed>
-    ensures out { OnOk result (IsOut (K.outlet sink.new)) }
-    ensures puts { (whole : List ℕ) × (front : List ℕ)
-        × Puts (K.outlet sink.old) (K.outlet sink.new) put.old put.new bytes.now result whole
-        front }
-{
-    put_piece(sink, bytes, put)?;
-    sink.push_out()
-}
 
 /// Puts a simple reply, its head and the data of a read behind it as a second piece, and lets it go
 /// out.

@@ -1,14 +1,12 @@
 ghost use Rattle.std.specs.Prelude.{◌≡◌, ◌<◌, ◌≤◌, ◌+◌, ◌^◌, ℕ, Bool, List, length, None};
 ghost use Rattle.nbd_session.specs.Requests.{ending_of, data_length, operation_of, IsRefusal};
 ghost use Rattle.nbd_session.specs.Taking.{BehindHead, NextIs};
-ghost use Rattle.nbd_session.specs.Traffic.{reach};
+ghost use Rattle.nbd_stream.specs.Traffic.{reach};
 ghost use Rattle.nbd_wire.specs.Requests.{IsRequestHead};
 
-use crate::Ending;
-use crate::filling::Filled;
-use crate::taking::{Data, take_data, take_head, take_past};
 use base_terms::{Buffer, Bytes, INVALID, NO_MEMORY};
 use io_edge::Source;
+use nbd_stream::{Data, Ending, Filled, take_data, take_head, take_past};
 use nbd_wire::{CommandFlags, CommandType, RequestHead};
 use plain_disk::{MAX_READ, Op};
 use std::alloc::Global;

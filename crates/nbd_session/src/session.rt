@@ -1,20 +1,20 @@
 ghost use Rattle.std.specs.Prelude.{◌≡◌, ◌<◌, ◌≤◌, ◌^◌, ◌+◌, ◌⊎◌, ℕ, Bool, List, length, Some};
 ghost use Rattle.std.specs.Prelude.{None};
-ghost use Rattle.nbd_session.specs.Moments.{moment};
-ghost use Rattle.nbd_session.specs.Putting.{IsOut, Replies};
-ghost use Rattle.nbd_session.specs.Replies.{reply_text};
+ghost use Rattle.nbd_stream.specs.Moments.{moment};
+ghost use Rattle.nbd_stream.specs.Putting.{IsOut};
+ghost use Rattle.nbd_session.specs.Replies.{reply_text, Replies};
 ghost use Rattle.nbd_session.specs.Serving.{Serves};
 ghost use Rattle.nbd_session.specs.Session.{IsSession, Log};
 ghost use Rattle.nbd_session.specs.Turns.{Turn, exchanges_of};
-ghost use Rattle.nbd_session.specs.declared.ending.Ending.{Ending};
+ghost use Rattle.nbd_stream.specs.declared.ending.Ending.{Ending};
 
-use crate::negotiation::negotiate;
 use crate::replies::put_reply;
 use crate::requests::{Next, next_request};
-use crate::tally::Tally;
 use crate::{Ending, Export, Port, SessionEnd, Submitted};
 use base_terms::{Buffer, Bytes, NO_MEMORY};
 use io_edge::{Sink, Source};
+use nbd_hand::negotiate;
+use nbd_stream::Tally;
 use plain_disk::Reply;
 use std::alloc::Global;
 use std::mem;
@@ -55,7 +55,7 @@ pub fn serve_session<S: Source, K: Sink, P: Port>(
 {
     let mut tally = Tally { taken: 0, put: 0 };
     let ending = match negotiate(alloc, source, sink, export, &mut tally) {
-        Ok(()) => serve_requests(alloc, source, sink, port, &mut tally),
+        Ok(_) => serve_requests(alloc, source, sink, port, &mut tally),
         Err(ending) => ending,
     };
     end_of(export, ending, tally)

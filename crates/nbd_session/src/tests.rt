@@ -3,13 +3,11 @@ ghost use Rattle.io_edge.specs.Memory.{outlet_of};
 mod blocks;
 mod cases;
 mod messages;
-mod options;
 mod requests;
 
 use self::blocks::Blocks;
 use self::cases::{CLIENT, Case, PIECES, PORTS, SERVER, SINKS, SOURCES};
-use self::messages::{FLAGS, GO, LIST, bytes_of};
-use self::options::{EXPORTS, NO_OPTIONS, REFUSED_NAMES, REFUSED_OPTIONS};
+use self::messages::bytes_of;
 use self::requests::{BUFFERS, FORCED, NO_REQUESTS, REFUSED_RANGES, REFUSED_TYPES};
 use crate::{Ending, Export, SessionEnd, serve_session};
 use base_terms::Failed;
@@ -141,30 +139,6 @@ fn a_session_ends_by_a_source_that_fails(rt: HostRuntime) -> Result<(), Fail> {
 }
 
 #[test]
-fn an_export_is_chosen_by_its_name(rt: HostRuntime) -> Result<(), Fail> {
-    assert_eq!(rt; first_unmet(rt.alloc(), EXPORTS)?, None);
-    Ok(())
-}
-
-#[test]
-fn a_name_is_refused_and_the_next_option_served(rt: HostRuntime) -> Result<(), Fail> {
-    assert_eq!(rt; first_unmet(rt.alloc(), REFUSED_NAMES)?, None);
-    Ok(())
-}
-
-#[test]
-fn an_option_is_refused_and_the_next_one_served(rt: HostRuntime) -> Result<(), Fail> {
-    assert_eq!(rt; first_unmet(rt.alloc(), REFUSED_OPTIONS)?, None);
-    Ok(())
-}
-
-#[test]
-fn an_option_that_is_none_ends_the_session(rt: HostRuntime) -> Result<(), Fail> {
-    assert_eq!(rt; first_unmet(rt.alloc(), NO_OPTIONS)?, None);
-    Ok(())
-}
-
-#[test]
 fn a_range_is_refused_and_the_next_request_served(rt: HostRuntime) -> Result<(), Fail> {
     assert_eq!(rt; first_unmet(rt.alloc(), REFUSED_RANGES)?, None);
     Ok(())
@@ -229,22 +203,5 @@ fn a_session_cut_short_ends_within_its_message(rt: HostRuntime) -> Result<(), Fa
     for length in 0..650usize {
         assert!(rt; is_cut(rt.alloc(), length)?, "{length}");
     }
-    Ok(())
-}
-
-/// What a client sends that chooses the export behind the most options.
-fn most_options(alloc: Global) -> Result<Vec<u8>, Fail> {
-    bytes_of(alloc, &[FLAGS, (LIST.0, 65536), GO])
-}
-
-#[test]
-fn a_session_has_its_most_options(rt: HostRuntime) -> Result<(), Fail> {
-    let sent = most_options(rt.alloc())?;
-    let mut source = ListSource::new(rt.alloc(), &sent, 65536, &[])?;
-    let mut sink = ListSink::new(rt.alloc(), 18 + 20 * 65536, &[])?;
-    let mut port = Blocks::new(true, 99);
-    let ended = serve_session(rt.alloc(), &mut source, &mut sink, &mut port, &EXPORT);
-    let wanted = end(Ending::TooMany(65536), 4 + 16 * 65536, 18 + 20 * 65536);
-    assert_eq!(rt; ended, wanted);
     Ok(())
 }

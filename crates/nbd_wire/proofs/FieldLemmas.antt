@@ -64,7 +64,7 @@ part-bytes bytes at len fits i =
           (lit< tt)
     ]
 
-part-length : (bytes : List ℕ) (at len : ℕ) → at + len ≤ length bytes
+pub part-length : (bytes : List ℕ) (at len : ℕ) → at + len ≤ length bytes
     → length (slice_range bytes at (at + len)) ≡ len
 part-length bytes at len room = simp (length-take, length-drop) (omega arith)
 
@@ -74,7 +74,7 @@ byte-behind : (bytes : List ℕ) (at next : ℕ) → at < length bytes → next 
 byte-behind bytes at next here e =
     drop-cons bytes at 0 here ∙ ap (λ n. get_or bytes at 0 ∷ drop n bytes) (sym e)
 
-part-two : (bytes : List ℕ) (at : ℕ) → at + 2 ≤ length bytes →
+pub part-two : (bytes : List ℕ) (at : ℕ) → at + 2 ≤ length bytes →
     slice_range bytes at (at + 2) ≡ get_or bytes at 0 ∷ get_or bytes (at + 1) 0 ∷ []
 part-two bytes at room =
     let size : at + 2 - at ≡ 2 = omega arith in
@@ -155,6 +155,12 @@ u64-there bytes at n room fits e =
     (e ∙ ap (from_be_bytes w64) (sym (part-eight bytes at room)))
 
 -- a number at the front of a message is the one that was read there
+pub u16-front : (m n : ℕ) (rest bytes : List ℕ) → m < 2 ^ 16 → n < 2 ^ 16
+    → u16_text m ++ rest ≡ bytes → u16_text n ≡ slice_range bytes 0 2 → n ≡ m
+u16-front m n rest bytes hm hn e here =
+    (u16-first n m (drop 2 bytes) rest hn hm
+    (field-behind bytes (u16_text n) (drop 2 bytes) 0 2 (omega arith) here refl ∙ sym e)).0
+
 pub u32-front : (m n : ℕ) (rest bytes : List ℕ) → m < 2 ^ 32 → n < 2 ^ 32
     → u32_text m ++ rest ≡ bytes → u32_text n ≡ slice_range bytes 0 4 → n ≡ m
 u32-front m n rest bytes hm hn e here =
@@ -170,3 +176,12 @@ u64-front m n rest bytes hm hn e here =
 -- nothing is behind a message
 pub nothing-behind : (bytes : List ℕ) (n : ℕ) → length bytes ≡ n → [] ≡ drop n bytes
 nothing-behind bytes n e = sym (drop_all n bytes (omega arith))
+
+-- how long a field is
+pub u16-length : (n : ℕ) → length (u16_text n) ≡ 2
+unfolding u16_text
+u16-length n = refl
+
+pub u32-length : (n : ℕ) → length (u32_text n) ≡ 4
+unfolding u32_text
+u32-length n = refl

@@ -1,7 +1,10 @@
+mod ExportLemmas
 pub mod FieldLemmas
 mod HandshakeLemmas
-mod InfoReplyLemmas
+mod InfoDataLemmas
+mod NameLemmas
 pub mod OptionLemmas
 mod OptionReplyLemmas
+mod PartLemmas
 pub mod RequestLemmas
 mod SimpleReplyLemmas

@@ -1,7 +1,9 @@
 pub mod Exports
 pub mod Fields
 pub mod Handshake
+pub mod InfoData
 pub mod InfoReplies
+pub mod ListReplies
 pub mod Magic
 pub mod OptionReplies
 pub mod Options

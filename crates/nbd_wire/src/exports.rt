@@ -1,6 +1,15 @@
-ghost use Rattle.std.specs.Prelude.{◌≡◌, ◌++◌, replicate};
+ghost use Rattle.std.specs.Prelude.{◌≡◌, ◌++◌, replicate, IfSome, Some};
 ghost use Rattle.std.specs.Int.RustNames.{bit_or};
-ghost use Rattle.nbd_wire.specs.Exports.{export_text, export_info_text, block_size_text};
+ghost use Rattle.nbd_wire.specs.Exports.{IsExport, IsBlockSizes, export_text, export_info_text};
+ghost use Rattle.nbd_wire.specs.Exports.{block_size_text};
+
+use crate::fields::{u16_at, u32_at, u64_at};
+
+/// The information type of an export ("NBD_INFO_EXPORT").
+const INFO_EXPORT: u16 = 0;
+
+/// That of the sizes of its blocks ("NBD_INFO_BLOCK_SIZE").
+const INFO_BLOCK_SIZE: u16 = 3;
 
 /// The set of an export's flags ("Transmission flags").
 #[derive(Clone, Copy, Debug, PartialEq, Eq)]
@@ -51,6 +60,20 @@ pub struct ExportData {
 }
 
 impl ExportData {
+    /// The export that the answer to EXPORT_NAME spells, the zeros left out; each ten bytes spell
+    /// one.
+    pub fn read(bytes: &[u8; 10]) -> ExportData
+        ensures taken { IsExport result }
+        ensures text { export_text result ≡ bytes.now }
+    {
+        ExportData {
+            size: u64_at(bytes, 0),
+            flags: TransmissionFlags {
+                bits: u16_at(bytes, 8),
+            },
+        }
+    }
+
     /// The answer to EXPORT_NAME where both sides agreed to leave out the zeros.
     #[tactic(auto, unfolding(crate::specs::Exports::export_text, crate::specs::Fields::u16_text, crate::specs::Fields::u64_text))]
     pub fn write(self) -> [u8; 10]
@@ -68,6 +91,24 @@ impl ExportData {
         let mut bytes = [0; 134];
         bytes[..10].copy_from_slice(&self.write());
         bytes
+    }
+
+    /// The export that the data of an INFO reply spells. None where it is of another type.
+    pub fn read_info(bytes: &[u8; 12]) -> Option<ExportData>
+        ensures taken { IfSome result
+            (λ export. IsExport export × (export_info_text export ≡ bytes.now)) }
+        ensures only { (export : ExportData) → IsExport export → export_info_text export ≡ bytes.now
+            → result ≡ Some export }
+    {
+        if u16_at(bytes, 0) != INFO_EXPORT {
+            return None;
+        }
+        Some(ExportData {
+            size: u64_at(bytes, 2),
+            flags: TransmissionFlags {
+                bits: u16_at(bytes, 10),
+            },
+        })
     }
 
     /// The data of an INFO reply that says the same ("NBD_INFO_EXPORT").
@@ -93,6 +134,23 @@ pub struct BlockSizes {
 }
 
 impl BlockSizes {
+    /// The sizes that the data of an INFO reply spells. None where it is of another type.
+    pub fn read_info(bytes: &[u8; 14]) -> Option<BlockSizes>
+        ensures taken { IfSome result
+            (λ blocks. IsBlockSizes blocks × (block_size_text blocks ≡ bytes.now)) }
+        ensures only { (blocks : BlockSizes) → IsBlockSizes blocks
+            → block_size_text blocks ≡ bytes.now → result ≡ Some blocks }
+    {
+        if u16_at(bytes, 0) != INFO_BLOCK_SIZE {
+            return None;
+        }
+        Some(BlockSizes {
+            minimum: u32_at(bytes, 2),
+            preferred: u32_at(bytes, 6),
+            maximum: u32_at(bytes, 10),
+        })
+    }
+
     /// The data of an INFO reply that says them ("NBD_INFO_BLOCK_SIZE").
     #[tactic(auto, unfolding(crate::specs::Exports::block_size_text, crate::specs::Fields::u16_text, crate::specs::Fields::u32_text))]
     pub fn write_info(self) -> [u8; 14]

@@ -1,7 +1,8 @@
-ghost use Rattle.std.specs.Prelude.{◌≡◌, ◌+◌, ◌≤◌, ◌++◌, length, take};
+ghost use Rattle.std.specs.Prelude.{◌≡◌};
 ghost use Rattle.nbd_wire.specs.InfoReplies.{info_replies_text, reply_head};
 ghost use Rattle.nbd_wire.specs.OptionReplies.{option_reply_text};
 
+use crate::parts::put;
 use crate::{BlockSizes, ExportData, OptionReplyHead, OptionType, ReplyType};
 
 /// The answer to INFO or GO where the export is there: a reply that tells the export, one that
@@ -39,12 +40,4 @@ impl InfoReplies {
         }
         .write()
     }
-}
-
-/// Puts a part of a text behind the first `at` bytes.
-fn put(bytes: &mut [u8], at: usize, part: &[u8])
-    requires { at + length part.now ≤ length bytes.old }
-    ensures { take (at + length part.now) bytes.new ≡ take at bytes.old ++ part.now }
-{
-    bytes[at..at + part.len()].copy_from_slice(part);
 }

@@ -1,7 +1,7 @@
 use crate::{
     BadMagic, BlockSizes, ClientFlags, CommandFlags, CommandType, ExportData, Greeting,
-    HandshakeFlags, InfoReplies, OptionHead, OptionReplyHead, OptionType, ReplyType, RequestHead,
-    SimpleReplyHead, TransmissionFlags,
+    HandshakeFlags, InfoData, InfoReplies, ListReplies, OptionHead, OptionReplyHead, OptionType,
+    ReplyType, RequestHead, SimpleReplyHead, TransmissionFlags, listed_name,
 };
 use std::test::Fail;
 
@@ -14,6 +14,13 @@ const GO_REPLIES: &[u8; 86] = b"\0\x03\xe8\x89\x04\x55\x65\xa9\0\0\0\x07\0\0\0\x
     \0\x03\xe8\x89\x04\x55\x65\xa9\0\0\0\x07\0\0\0\x03\0\0\0\x0e\
     \0\x03\0\0\x02\0\0\0\x10\0\x02\0\0\0\
     \0\x03\xe8\x89\x04\x55\x65\xa9\0\0\0\x07\0\0\0\x01\0\0\0\0";
+
+const LIST_REPLIES: &[u8; 50] = b"\0\x03\xe8\x89\x04\x55\x65\xa9\0\0\0\x03\0\0\0\x02\0\0\0\x0a\
+    \0\0\0\x06volume\
+    \0\x03\xe8\x89\x04\x55\x65\xa9\0\0\0\x03\0\0\0\x01\0\0\0\0";
+
+/// What INFO and GO ask of `volume`: the sizes of its blocks, and its name.
+const ASKED: &[u8; 16] = b"\0\0\0\x06volume\0\x02\0\x03\0\x01";
 
 const UNSUP: &[u8; 20] = b"\0\x03\xe8\x89\x04\x55\x65\xa9\0\0\0\x05\x80\0\0\x01\0\0\0\0";
 
@@ -94,9 +101,56 @@ fn an_option_is_read_and_answered(rt: HostRuntime) -> Result<(), Fail> {
 }
 
 #[test]
+fn an_export_is_listed_by_its_name(rt: HostRuntime) -> Result<(), Fail> {
+    let mut replies = [0; 50];
+    ListReplies { name: b"volume" }.write(&mut replies);
+    assert_eq!(rt; replies, *LIST_REPLIES);
+    assert_eq!(rt; listed_name(&replies[20..30]), Some(b"volume".as_slice()));
+    assert_eq!(rt; listed_name(&replies[20..29]), None);
+    assert_eq!(rt; listed_name(&replies[20..31]), None);
+    assert_eq!(rt; listed_name(&replies[..3]), None);
+    Ok(())
+}
+
+#[test]
+fn an_export_is_asked_about(rt: HostRuntime) -> Result<(), Fail> {
+    let mut bytes = [0; 16];
+    let asked = InfoData {
+        name: b"volume",
+        types: &[0, 3, 0, 1],
+    };
+    asked.write(&mut bytes);
+    assert_eq!(rt; bytes, *ASKED);
+    match InfoData::read(ASKED) {
+        Some(read) => {
+            assert_eq!(rt; read.name, asked.name);
+            assert_eq!(rt; read.types, asked.types);
+        }
+        None => assert!(rt; false),
+    }
+    assert!(rt; InfoData::read(&ASKED[..15]).is_none());
+    assert!(rt; InfoData::read(&ASKED[..5]).is_none());
+    Ok(())
+}
+
+#[test]
 fn an_export_is_told_with_and_without_zeroes(rt: HostRuntime) -> Result<(), Fail> {
     let told = [0, 0, 0, 0, 0, 0, 0x20, 0, 1, 0x0d];
     assert_eq!(rt; export().write(), told);
+    assert_eq!(rt; ExportData::read(&told), export());
+    let mut info = export().write_info();
+    assert_eq!(rt; ExportData::read_info(&info), Some(export()));
+    info[1] = 1;
+    assert_eq!(rt; ExportData::read_info(&info), None);
+    let blocks = BlockSizes {
+        minimum: 512,
+        preferred: 4096,
+        maximum: 33_554_432,
+    };
+    let mut info = blocks.write_info();
+    assert_eq!(rt; BlockSizes::read_info(&info), Some(blocks));
+    info[1] = 0;
+    assert_eq!(rt; BlockSizes::read_info(&info), None);
     let mut padded = [0; 134];
     padded[..10].copy_from_slice(&told);
     assert_eq!(rt; export().write_with_zeroes(), padded);

@@ -4,11 +4,11 @@ use Rattle.std.proofs.Common.{append-nil}
 use Rattle.io_edge.specs.Intake.{Intake}
 use Rattle.io_edge.specs.Outlet.{Outlet}
 use Rattle.bays.specs.Stories.{Script, Handed, LinkState, Story, Begins, TakesBack}
-use Rattle.nbd_session.specs.declared.ending.Ending.TheVariants.{PortSpent, WriteFault}
+use Rattle.nbd_stream.specs.declared.ending.Ending.TheVariants.{PortSpent, WriteFault}
 use Rattle.nbd_session.specs.declared.ending.SessionEnd.{SessionEnd}
-use Rattle.nbd_session.specs.declared.export.Export.{Export}
-use Rattle.nbd_session.specs.Moments.{Traffic, moment}
-use Rattle.nbd_session.specs.Putting.{IsOut}
+use Rattle.nbd_hand.specs.declared.export.Export.{Export}
+use Rattle.nbd_stream.specs.Moments.{Traffic, moment}
+use Rattle.nbd_stream.specs.Putting.{IsOut}
 use Rattle.nbd_session.specs.Session.{Log, IsSession}
 use Rattle.nbd_session.specs.Turns.{exchanges_of}
 use Rattle.reenc_tool.specs.Sessions.{Played, IsPlayed, AreSessions, Goes, Plays, numbered}

@@ -11,7 +11,7 @@ use Rattle.std.proofs.lemmas.Bool.Decides.{eqb_tells}
 use Rattle.base_terms.specs.Causes.{Rose}
 use Rattle.bays.specs.Stories.{HasNoneAhead, LinkState, Story}
 use Rattle.nbd_session.specs.declared.ending.SessionEnd.{SessionEnd}
-use Rattle.nbd_session.specs.declared.export.Export.{Export}
+use Rattle.nbd_hand.specs.declared.export.Export.{Export}
 use Rattle.nbd_session.specs.Turns.{exchanges_of}
 use Rattle.reenc_tool.specs.declared.serving.Standing.{Standing}
 use Rattle.reenc_tool.specs.declared.serving.Standing.TheVariants.{Live, Ended, Failed}

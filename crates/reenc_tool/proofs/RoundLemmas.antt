@@ -7,7 +7,7 @@ use Rattle.std.proofs.lemmas.Bool.Decides.{nat_tests}
 use Rattle.std.proofs.lemmas.List.{get_or-map, length-map, length-take, get_or-take}
 use Rattle.bays.specs.Stories.{LinkState}
 use Rattle.nbd_session.specs.declared.ending.SessionEnd.{SessionEnd}
-use Rattle.nbd_session.specs.declared.export.Export.{Export}
+use Rattle.nbd_hand.specs.declared.export.Export.{Export}
 use Rattle.reenc_tool.specs.declared.serving.Standing.{Standing}
 use Rattle.reenc_tool.specs.declared.serving.Standing.TheVariants.{Live}
 use Rattle.reenc_tool.specs.Lanes.{AreFaultsOfFirst, HasLive, Lane, Lanes, Served, failed_in}

@@ -3,7 +3,7 @@ use Rattle.std.proofs.Common.{◌≡◌, ◌≢◌, ◌+◌, ◌≤◌, ℕ, inl
 use Rattle.std.proofs.Common.{ap, refl, sym, append-nil, arith}
 use Rattle.bays.specs.Stories.{LinkState}
 use Rattle.nbd_session.specs.declared.ending.SessionEnd.{SessionEnd}
-use Rattle.nbd_session.specs.declared.export.Export.{Export}
+use Rattle.nbd_hand.specs.declared.export.Export.{Export}
 use Rattle.reenc_tool.specs.declared.connection.Asked.{Asked}
 use Rattle.reenc_tool.specs.declared.connection.Asked.TheVariants as Answers
 use Rattle.reenc_tool.specs.declared.serving.Standing.{Standing}

@@ -3,7 +3,7 @@ use Rattle.std.specs.Prelude.{ℕ, ◌≡◌, ◌+◌, ◌≤◌, List, [], ◌�
 use Rattle.base_terms.specs.Causes.{Rose}
 use Rattle.bays.specs.Stories.{HasNoneAhead, LinkState}
 use Rattle.nbd_session.specs.declared.ending.SessionEnd.{SessionEnd}
-use Rattle.nbd_session.specs.declared.export.Export.{Export}
+use Rattle.nbd_hand.specs.declared.export.Export.{Export}
 use Rattle.reenc_tool.specs.declared.connection.Asked.{Asked}
 use Rattle.reenc_tool.specs.declared.connection.Asked.TheVariants.{Served, Ended, Failed, Memory}
 use Rattle.reenc_tool.specs.Sessions.{Played, AreSessions, Goes}

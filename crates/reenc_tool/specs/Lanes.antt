@@ -4,7 +4,7 @@ use Rattle.std.specs.Prelude.{[], ◌++◌, fold, map, length, slice_index_or}
 use Rattle.base_terms.specs.Causes.{Rose}
 use Rattle.bays.specs.Stories.{HasNoneAhead, LinkState}
 use Rattle.nbd_session.specs.declared.ending.SessionEnd.{SessionEnd}
-use Rattle.nbd_session.specs.declared.export.Export.{Export}
+use Rattle.nbd_hand.specs.declared.export.Export.{Export}
 use Rattle.reenc_tool.specs.declared.serving.Standing.{Standing}
 use Rattle.reenc_tool.specs.declared.serving.Standing.TheVariants.{Live, Ended, Failed}
 use Rattle.reenc_tool.specs.Sessions.{Played, AreNumbered, AreOfLinks, AreSessions, Goes, IsOneOf}

@@ -2,11 +2,11 @@
 use Rattle.std.specs.Prelude.{ℕ, ◌≡◌, ◌+◌, ◌<◌, ◌≤◌, ◌⊎◌, suc, ◌==◌, if◌then◌else◌, List, [], ◌∷◌, map}
 use Rattle.std.specs.Prelude.{◌++◌, Some}
 use Rattle.bays.specs.Stories.{Script, Handed, LinkState, Story}
-use Rattle.nbd_session.specs.declared.ending.Ending.TheVariants.{PortSpent, WriteFault}
+use Rattle.nbd_stream.specs.declared.ending.Ending.TheVariants.{PortSpent, WriteFault}
 use Rattle.nbd_session.specs.declared.ending.SessionEnd.{SessionEnd}
-use Rattle.nbd_session.specs.declared.export.Export.{Export}
-use Rattle.nbd_session.specs.Moments.{Moment, moment}
-use Rattle.nbd_session.specs.Putting.{IsOut}
+use Rattle.nbd_hand.specs.declared.export.Export.{Export}
+use Rattle.nbd_stream.specs.Moments.{Moment, moment}
+use Rattle.nbd_stream.specs.Putting.{IsOut}
 use Rattle.nbd_session.specs.Session.{Log, IsSession}
 use Rattle.nbd_session.specs.Turns.{exchanges_of}
 use Rattle.plain_disk.specs.Plain.{Exchange}

@@ -2,7 +2,11 @@
 use Rattle.std.proofs.Common.{◌≡◌, ℕ, zero, suc, ◌<◌, ◌≤◌, Bool, true, false, Option, Some, None}
 use Rattle.std.proofs.Common.{List, [], ◌∷◌, length, refl, ◌∙◌, arith}
 use Rattle.range_lock.specs.declared.Entry.{Entry}
-use Rattle.range_lock.specs.Locks.{has_entry}
+use Rattle.std.specs.List.{before_first}
+use Rattle.std.proofs.lemmas.List.Elements.{All-contains}
+use Rattle.range_lock.specs.declared.Standing.TheVariants.{Held, Waiting}
+use Rattle.range_lock.specs.Locks.{Conflicts, IsStandingOf, has_entry, is_of}
+use Rattle.volume_machine.proofs.Locking.{holds-by}
 use Rattle.volume_machine.specs.Asks.{has_lock, entry_of}
 use Rattle.volume_machine.specs.Events.{Event, Outcome}
 use Rattle.volume_machine.specs.Sound.{IsSound}
@@ -44,6 +48,21 @@ module _ {K : Type 0} (state : State K) (lane : ℕ) (sound : IsSound state) whe
   -- an operation ends within the volume
   pub ends-inside : (o : Open) → open_at state.lanes lane ≡ Some o → o.range.end ≤ state.map.blocks
   ends-inside o is = (sound.under_way lane o is).inside
+
+-- an entry that waits isn't held, and a lane without one holds nothing
+pub waits-unheld : (lane other : ℕ) (entries : List Entry)
+    → IsStandingOf lane entries (Waiting other) → IsStandingOf lane entries Held → ⊥
+waits-unheld lane other entries waits holds =
+    let by = holds-by lane entries holds in
+    let (e, is) = rw by.is at waits in
+    All-contains (λ x. Conflicts x by.entry → ⊥) (before_first (is_of lane) entries) e by.free
+    is.0 is.1
+
+pub none-unheld : (lane : ℕ) (entries : List Entry) → has_entry lane entries ≡ false
+    → IsStandingOf lane entries Held → ⊥
+none-unheld lane entries none holds =
+    let by = holds-by lane entries holds in
+    let some = has-entry lane entries by.entry by.is in cc
 
 -- a step leaves a volume
 pub volume-kept : {C : Type 0} (sector : C → ℕ) (old new : State (Keys C)) (event : Event)

@@ -1,5 +1,5 @@
 -- A volume as its state: what it shows, what it keeps, and how it begins.
-use Rattle.std.specs.Prelude.{ℕ, ◌≡◌, Bool, List, Option, None}
+use Rattle.std.specs.Prelude.{ℕ, ◌≡◌, ◌<◌, Bool, List, [], Option, None, replicate}
 use Rattle.range_lock.specs.Locks.{Locks}
 use Rattle.segment_map.specs.declared.map.Map.{Map}
 use Rattle.volume_machine.specs.Seals.{KeysFit}
@@ -27,3 +27,9 @@ pub record IsVolume {C : Type 0} (sector : C → ℕ) (state : State (Keys C)) :
   pub atom : state.map.atom ≡ state.disk.size
   pub sound : IsSound state
   pub keys : KeysFit sector state.keys state.map.atom state.map.blocks
+
+-- lanes, as many as the table has room for: none has an operation, and nothing is locked
+pub record AreUnused (table : Locks) (lanes : List (Option Open)) : Type 0 where
+  pub some : 0 < table.room
+  pub none : table.entries ≡ []
+  pub idle : lanes ≡ replicate table.room None

@@ -9,8 +9,10 @@
 
 mod answers;
 mod calls;
+mod lanes;
 mod volume;
 
 pub use answers::{Admitted, Asked, PieceRead, PieceWritten, Progress, Settled};
+pub use lanes::Lanes;
 pub use volume::Volume;
 pub use volume_machine::Grant;

@@ -1,7 +1,7 @@
 // A volume: its disk, its map and keys, and the operations under way on it.
 
-ghost use Rattle.std.specs.Prelude.{◌≡◌, ◌<◌, ◌≤◌, false, [], length, take, ℕ, None, replicate};
-ghost use Rattle.std.specs.Prelude.{IfOk, IfErr, OnOk};
+ghost use Rattle.std.specs.Prelude.{◌≡◌, ◌<◌, ◌≤◌, ◌↔◌, false, [], length, take, ℕ, None, IfOk};
+ghost use Rattle.std.specs.Prelude.{IfErr, OnOk, IsTrue, replicate};
 ghost use Rattle.volume_core.specs.Answers.{outcome_of_admitted, outcome_of_asked, outcome_of_read};
 ghost use Rattle.volume_core.specs.Answers.{outcome_of_written, outcome_of_settled, buffer_of_read};
 ghost use Rattle.volume_core.specs.Answers.{buffer_of_written, KeepsBuffer, is_idle};
@@ -14,11 +14,13 @@ ghost use Rattle.volume_machine.specs.Events.{refused};
 ghost use Rattle.volume_machine.specs.Beginnings.{ChangeNothing};
 ghost use Rattle.volume_machine.specs.Seals.{KeysFit, seals_of};
 ghost use Rattle.volume_machine.specs.Sound.{AreApart, IsSound, MapFits};
-ghost use Rattle.volume_machine.specs.Steps.{IsReadyFor, Step, Meets};
+ghost use Rattle.volume_machine.specs.States.{IsClient, open_at};
+ghost use Rattle.volume_machine.specs.Steps.{Holds, IsReadyFor, Meets, Step};
 ghost use Rattle.volume_machine.specs.Beginnings.{IsWholeDisk, new_volume};
 
 use crate::answers::{Admitted, Asked, PieceRead, PieceWritten, Progress, Settled};
 use crate::calls::{read_next, sync_all, write_next};
+use crate::lanes::Lanes;
 use base_terms::{Buffer, DEVICE_ERROR};
 use block_range::BlockRange;
 use cipher_laws::SectorCipher;
@@ -99,11 +101,8 @@ impl<D: Disk> Volume<D, Context> {
 }
 
 impl<D: Disk, C: SectorCipher + Copy> Volume<D, C> {
-    /// The volume of this map with the keys of its sides, and with so many lanes. The blocks of the
-    /// map have the size of the disk's atoms, and their places lie on the disk; the sectors of both
-    /// keys divide a block, and the IV numbers of all blocks fit 64 bits. What is promised of runs
-    /// of events asks besides that no two blocks have the same place. Where there is no memory the
-    /// disk is handed back.
+    /// The volume of this map with the keys of its sides, and with so many lanes, as by `opened`.
+    /// Where there is no memory the disk is handed back.
     pub fn of(
         alloc: Global,
         disk: D,
@@ -114,6 +113,7 @@ impl<D: Disk, C: SectorCipher + Copy> Volume<D, C> {
         requires lanes { 0 < lanes }
         requires atom { map.atom ≡ (D.device disk).size }
         requires map { MapFits map (D.device disk).atoms }
+        requires zone { map.zone ≡ 0 }
         requires keys { KeysFit C.sector keys map.atom map.blocks }
         ensures volume { IfOk result (λ volume. volume ≡ new_volume map keys lanes
             (D.device disk)) }
@@ -121,16 +121,35 @@ impl<D: Disk, C: SectorCipher + Copy> Volume<D, C> {
         ensures sound { IfOk result IsSound }
         ensures refused { IfErr result (λ same. same ≡ disk) }
     {
-        match no_operations(alloc, lanes as usize) {
-            Ok((table, lanes)) => Ok(Volume {
-                disk,
-                map,
-                keys,
-                table,
-                lanes,
-                broken: false,
-            }),
+        match Lanes::new(alloc, lanes) {
+            Ok(lanes) => Ok(Volume::opened(disk, map, keys, lanes)),
             Err(AllocError) => Err(disk),
+        }
+    }
+
+    /// The volume of this map with the keys of its sides, and with lanes whose room was taken
+    /// before: it takes no memory. The blocks of the map have the size of the disk's atoms, and
+    /// their places lie on the disk; the sectors of both keys divide a block, and the IV numbers of
+    /// all blocks fit 64 bits. No zone is open: of one that was being converted when its disk was
+    /// left nobody knows yet which atoms are old, so a recovery comes first. What is promised of
+    /// runs of events asks besides that no two blocks have the same place.
+    pub fn opened(disk: D, map: Map, keys: Keys<C>, lanes: Lanes) -> Volume<D, C>
+        requires atom { map.atom ≡ (D.device disk).size }
+        requires map { MapFits map (D.device disk).atoms }
+        requires zone { map.zone ≡ 0 }
+        requires keys { KeysFit C.sector keys map.atom map.blocks }
+        ensures volume { result ≡ new_volume map keys lanes (D.device disk) }
+        ensures fresh { IsFresh result }
+        ensures sound { IsSound result }
+    {
+        let (table, lanes) = lanes.into_parts();
+        Volume {
+            disk,
+            map,
+            keys,
+            table,
+            lanes,
+            broken: false,
         }
     }
 
@@ -186,6 +205,36 @@ impl<D: Disk, C: SectorCipher + Copy> Volume<D, C> {
         ensures fits { KeysFit C.sector result.now self.now.map.atom self.now.map.blocks }
     {
         &self.keys
+    }
+
+    /// Whether a lane is one of clients: the last lane is the conversion's own.
+    pub fn is_client(&self, lane: u32) -> bool
+        ensures { IsTrue result ↔ IsClient self.now lane }
+    {
+        (lane as usize) + 1 < self.lanes.len()
+    }
+
+    /// The operation that a lane has under way.
+    pub fn operation(&self, lane: u32) -> Option<Open>
+        ensures { result ≡ open_at self.now.lanes lane }
+    {
+        match self.lanes.get(lane as usize) {
+            Some(operation) => *operation,
+            None => None,
+        }
+    }
+
+    /// Whether the operation of a lane holds its blocks.
+    pub fn is_held(&self, lane: u32) -> bool
+        ensures { IsTrue result ↔ Holds self.now lane }
+    {
+        if !self.table.has_entry(lane) {
+            return false;
+        }
+        match self.table.ask(lane) {
+            Standing::Held => true,
+            Standing::Waiting(_) => false,
+        }
     }
 
     /// The disk.
@@ -328,18 +377,6 @@ impl<D: Disk, C: SectorCipher + Copy> Volume<D, C> {
         self.table.leave(lane);
         set_lane(&mut self.lanes, lane, None);
     }
-}
-
-// A table of locks without an entry, and lanes without an operation, as many as the table has room
-// for.
-fn no_operations(alloc: Global, lanes: usize) -> Result<(Table, Vec<Option<Open>>), AllocError>
-    ensures room { IfOk result (λ made. made.0.room ≡ lanes) }
-    ensures entries { IfOk result (λ made. made.0.entries ≡ []) }
-    ensures lanes { IfOk result (λ made. made.1.items ≡ replicate lanes None) }
-{
-    let table = Table::with_room(alloc, lanes)?;
-    let lanes = vec![in alloc; None; lanes]?;
-    Ok((table, lanes))
 }
 
 // Where an operation stands that has just begun: behind all others where it locks its blocks.

@@ -81,20 +81,22 @@ pub one-more : {K : Type 0} (seals : Seals) (old mid now : State K) (run : List 
     (alone : Alone)
     (answered : List Answered) (event : Event) (outcome : Outcome)
     → IsCourse seals old mid run alone answered →
-    lane_of event ≡ 0 → 1 < length old.lanes → MeetsAlone alone event → Step mid event outcome now →
+    lane_of event ≡ 0 → MeetsAlone alone event → Step mid event outcome now →
     IsCourse seals old now (run ++ record { event = event; outcome = outcome; after = now } ∷ [])
     (alone_after mid.map.atom seals alone event outcome)
     (answered ++ answered_alone alone event outcome)
-one-more {K} seals old mid now run alone answered event outcome course own some meets step =
+one-more {K} seals old mid now run alone answered event outcome course own meets step =
     let goes = event_effects mid now event outcome step in
     let count = course.count in
+    let some = course.some in
     let client : IsClient mid (lane_of event) = omega (arith, own, count, some) in
     let here : (plain : ℕ → List ℕ)
     → IsLane mid (plain_in seals old plain run) (lane_of event) alone =
     λ plain. subst (λ k. IsLane mid (plain_in seals old plain run) k alone) (sym own)
     (course.lane plain) in
     let met : Meets mid event =
-    meets_by mid (plain_in seals old no_plain run) event alone course.sound (here no_plain) client meets in
+    meets_by mid (plain_in seals old no_plain run) event alone course.sound (here no_plain) client
+    meets in
     let one : Happening K = record { event = event; outcome = outcome; after = now } in
     let after = alone_after mid.map.atom seals alone event outcome in
     record {
@@ -116,6 +118,7 @@ one-more {K} seals old mid now run alone answered event outcome course own some 
       sound = sound_kept mid now event outcome course.sound met step;
       map = goes.map ∙ course.map;
       keys = goes.keys ∙ course.keys;
+      some = some;
       count = goes.lane_is.count ∙ course.count;
     }
 
@@ -167,5 +170,6 @@ first-one seals old now session ask outcome sound idle some step =
       sound = sound_kept old now event outcome sound met step;
       map = goes.map;
       keys = goes.keys;
+      some = some;
       count = goes.lane_is.count;
     }

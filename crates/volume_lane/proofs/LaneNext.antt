@@ -4,7 +4,14 @@ use Rattle.std.proofs.Common.{Some, None, refl, sym, ◌∙◌, ap, subst, inl, 
 use Rattle.plain_disk.specs.declared.operation.Op.{Op}
 use Rattle.plain_disk.specs.declared.operation.Reply.{Reply}
 use Rattle.segment_map.specs.declared.map.Map.{Map}
-use Rattle.lane_plan.specs.Calls.{event_of, outcome_of}
+use Rattle.lane_plan.specs.Calls.{ask_of, event_of, outcome_of}
+use Rattle.lane_plan.specs.Plans.{Moves, calls_left, left_at}
+use Rattle.lane_plan.specs.declared.plan.Stage.{Stage}
+use Rattle.lane_plan.proofs.PlanCourse.{some-left}
+use Rattle.segment_map.specs.declared.map.Piece.{Piece}
+use Rattle.plain_disk.specs.declared.operation.Op.TheVariants as Ops
+use Rattle.volume_machine.specs.Asks.{IsRead, IsWrite}
+use Rattle.volume_machine.specs.Fronts.{Front}
 use Rattle.lane_plan.specs.Plans.{Awaits, refuses, begins, asks, reads, writes, settles, finishes}
 use Rattle.lane_plan.specs.Plans.{Follows, Goes, HasBegun, IsAnswered, IsBegun, IsFewer, IsTold}
 use Rattle.lane_plan.specs.Plans.{IsWaiting, MayAnswer, session_of, shape_of}
@@ -29,7 +36,8 @@ use Rattle.volume_machine.specs.States.{IsIdle, State, open_at}
 use Rattle.volume_machine.specs.Steps.{Meets, Step}
 use Rattle.volume_machine.specs.declared.open.Open.{Open}
 use Rattle.volume_lane.specs.Calling.{IsMade}
-use Rattle.volume_lane.specs.Course.{HasExecuted, IsAt, IsCourse, IsOnTheWay, left_of}
+use Rattle.volume_lane.specs.Course.{HasExecuted, IsAt, IsCourse, IsEndingCall, IsLast}
+use Rattle.volume_lane.specs.Course.{IsOnTheWay, left_of}
 use Rattle.volume_lane.proofs.LaneCourse.{one-more}
 
 lane-is : (lane : ℕ) (call : Call) → lane_of (event_of lane call) ≡ lane
@@ -154,19 +162,18 @@ comes seals old now run alone map answered plan session op (Nexts.Reply reply sp
 -- so it goes on from call to call
 pub goes-on : {K : Type 0} (seals : Seals) (old mid now : State K) (plan new : Plan) (session : ℕ)
     (op : Op) (call : Call)
-    (answer : Answer) (next : Next) → IsOnTheWay seals old mid plan session op call
-    → 1 < length old.lanes →
+    (answer : Answer) (next : Next) → IsOnTheWay seals old mid plan session op call →
     Step mid (event_of 0 call) (outcome_of answer) now → MayAnswer plan call answer
     → Goes seals plan answer new next →
     HasBegun next → shape_of new ≡ shape_of plan → session_of new ≡ session_of plan →
     IsAt seals old now new session op next
 unfolding Goes
-goes-on {K} seals old mid now plan new session op call answer next way some step may goes begun
+goes-on {K} seals old mid now plan new session op call answer next way step may goes begun
     shape session_is =
     let event = event_of 0 call in
     let outcome = outcome_of answer in
     let course =
-    one-more seals old mid now way.run way.alone [] event outcome way.course (lane-is 0 call) some
+    one-more seals old mid now way.run way.alone [] event outcome way.course (lane-is 0 call)
     way.meets step in
     let follows = subst (λ a. Follows seals new op (alone_after a seals way.alone event outcome)
     (answered_alone way.alone event outcome) next) way.atom
@@ -185,11 +192,11 @@ goes-on {K} seals old mid now plan new session op call answer next way some step
 -- what its call asks of the volume, and what the plan is told
 pub way-meets : {K : Type 0} (seals : Seals) (old mid : State K) (plan : Plan) (session : ℕ)
     (op : Op) (call : Call) →
-    IsOnTheWay seals old mid plan session op call → 1 < length old.lanes
-    → Meets mid (event_of 0 call)
-way-meets seals old mid plan session op call way some =
+    IsOnTheWay seals old mid plan session op call → Meets mid (event_of 0 call)
+way-meets seals old mid plan session op call way =
     let own = lane-is 0 call in
     let count = way.course.count in
+    let some = way.course.some in
     meets_by mid (plain_in seals old no_plain way.run) (event_of 0 call) way.alone way.course.sound
     (subst (λ k. IsLane mid (plain_in seals old no_plain way.run) k way.alone) (sym own)
     (way.course.lane no_plain))
@@ -244,3 +251,116 @@ left-falls plan new call answer next made may fewer = elim fewer [
   | inl waits ↦ absurd (not-waiting plan call answer made may waits)
   | inr less ↦ left-after plan new call next less
 ]
+
+-- what a call says of its operation, and of the calls that are left
+abbrev FitsCall : Op → ℕ → Call → Type 0
+FitsCall op left (Calls.Read buffer len) = IsRead (ask_of op) × (1 < left)
+FitsCall op left (Calls.Write prepared) = IsWrite (ask_of op) × (1 < left)
+FitsCall op left Calls.Settle = left ≡ 1
+FitsCall op left Calls.Finish = left ≡ 0
+FitsCall op left _ = ⊥
+
+piece-left : (plan : Plan) {op : Op} {alone : Alone} {map : Map} {piece : Piece} {room : ℕ} →
+    Moves plan op alone map piece room → 1 < calls_left plan
+unfolding calls_left
+piece-left plan moves =
+    let left = ap (λ s. left_at plan.shape.atom plan.operation s) moves.stage in
+    let some = some-left plan.operation moves.next in omega (arith, left, some)
+
+stage-left : (plan : Plan) (stage : Stage) → plan.stage ≡ stage →
+    calls_left plan ≡ left_at plan.shape.atom plan.operation stage
+unfolding calls_left
+stage-left plan stage is = ap (λ s. left_at plan.shape.atom plan.operation s) is
+
+fits-call : (seals : Seals) (plan : Plan) (op : Op) (alone : Alone) (call : Call) →
+    Awaits seals plan op alone call → IsMade call → FitsCall op (calls_left plan) call
+fits-call seals plan op alone _ (refuses stage asked none) made = made
+fits-call seals plan op alone _ (begins stage supplied none) made = made
+fits-call seals plan op alone _ (asks stage supplied is ungranted none has) made = made
+fits-call seals plan op alone _ (reads map piece buffer len moves reading size within) made =
+    (subst (λ a. IsRead a) moves.course.asks reading, piece-left plan moves)
+fits-call seals plan op alone _ (writes map piece prepared moves writing sealed) made =
+    (subst (λ a. IsWrite a) moves.course.asks writing, piece-left plan moves)
+fits-call seals plan op alone _ (settles map stage course plain can ends) made =
+    stage-left plan _ stage
+fits-call seals plan op alone _ (finishes stage ending) made = stage-left plan _ stage
+
+way-fits : {K : Type 0} (seals : Seals) (old now : State K) (plan : Plan) (session : ℕ) (op : Op)
+    (call : Call) → IsOnTheWay seals old now plan session op call →
+    FitsCall op (calls_left plan) call
+way-fits seals old now plan session op call way =
+    fits-call seals plan op way.alone call way.awaits way.made
+
+-- pieces of one operation are all read or all written
+other-kind : (op : Op) → IsRead (ask_of op) → IsWrite (ask_of op) → ⊥
+other-kind (Ops.Read offset len) reading writing = writing
+other-kind (Ops.Write offset body fua) reading writing = reading
+other-kind Ops.Flush reading writing = reading
+
+pub no-write : {K : Type 0} (seals : Seals) (old mid now : State K) (plan new : Plan) (session : ℕ)
+    (op : Op) (buffer : List ℕ) (len : ℕ) (call : Call) →
+    IsOnTheWay seals old mid plan session op (Calls.Read buffer len) →
+    IsOnTheWay seals old now new session op call →
+    (prepared : Front) → call ≡ Calls.Write prepared → ⊥
+no-write seals old mid now plan new session op buffer len call before way prepared is =
+    other-kind op (way-fits seals old mid plan session op _ before).0
+    (way-fits seals old now new session op (Calls.Write prepared) (rw is at way)).0
+
+pub no-read : {K : Type 0} (seals : Seals) (old mid now : State K) (plan new : Plan) (session : ℕ)
+    (op : Op) (prepared : Front) (call : Call) →
+    IsOnTheWay seals old mid plan session op (Calls.Write prepared) →
+    IsOnTheWay seals old now new session op call →
+    (buffer : List ℕ) (len : ℕ) → call ≡ Calls.Read buffer len → ⊥
+no-read seals old mid now plan new session op prepared call before way buffer len is =
+    other-kind op
+    (way-fits seals old now new session op (Calls.Read buffer len) (rw is at way)).0
+    (way-fits seals old mid plan session op _ before).0
+
+-- behind the pieces comes the settle or the finish
+pub behind-pieces : {K : Type 0} (seals : Seals) (old now : State K) (plan : Plan) (session : ℕ)
+    (op : Op) (call : Call) → IsOnTheWay seals old now plan session op call →
+    ((buffer : List ℕ) (len : ℕ) → call ≡ Calls.Read buffer len → ⊥) →
+    ((prepared : Front) → call ≡ Calls.Write prepared → ⊥) → IsEndingCall call
+behind-pieces seals old now plan session op (Calls.Admit asker ask) way no_reads no_writes =
+    way.made
+behind-pieces seals old now plan session op Calls.Ask way no_reads no_writes = way.made
+behind-pieces seals old now plan session op (Calls.Read buffer len) way no_reads no_writes =
+    no_reads buffer len refl
+behind-pieces seals old now plan session op (Calls.Write prepared) way no_reads no_writes =
+    no_writes prepared refl
+behind-pieces seals old now plan session op Calls.Settle way no_reads no_writes = tt
+behind-pieces seals old now plan session op Calls.Finish way no_reads no_writes = tt
+
+-- behind the settle the finish or the reply, and behind the finish the reply
+one-left : {K : Type 0} (seals : Seals) (old now : State K) (plan : Plan) (session : ℕ)
+    (op : Op) (call : Call) → IsOnTheWay seals old now plan session op call →
+    calls_left plan < 1 → call ≡ Calls.Finish
+one-left seals old now plan session op (Calls.Admit asker ask) way few = absurd way.made
+one-left seals old now plan session op Calls.Ask way few = absurd way.made
+one-left seals old now plan session op (Calls.Read buffer len) way few =
+    let more = (way-fits seals old now plan session op _ way).1 in
+    absurd (omega (arith, more, few))
+one-left seals old now plan session op (Calls.Write prepared) way few =
+    let more = (way-fits seals old now plan session op _ way).1 in
+    absurd (omega (arith, more, few))
+one-left seals old now plan session op Calls.Settle way few =
+    (let left = way-fits seals old now plan session op _ way in absurd (omega (arith, left, few)))
+one-left seals old now plan session op Calls.Finish way few = refl
+
+pub behind-settle : {K : Type 0} (seals : Seals) (old mid now : State K) (plan new : Plan)
+    (session : ℕ) (op : Op) (next : Next) →
+    IsOnTheWay seals old mid plan session op Calls.Settle →
+    IsAt seals old now new session op next →
+    left_of new next < left_of plan (Nexts.Call Calls.Settle) → IsLast next
+behind-settle seals old mid now plan new session op (Nexts.Call call) before way fewer =
+    let left = way-fits seals old mid plan session op Calls.Settle before in
+    one-left seals old now new session op call way (omega (arith, left, fewer))
+behind-settle seals old mid now plan new session op (Nexts.Reply reply spare) before way fewer = tt
+
+pub behind-finish : {K : Type 0} (seals : Seals) (old mid : State K) (plan new : Plan)
+    (session : ℕ) (op : Op) (call : Call) →
+    IsOnTheWay seals old mid plan session op Calls.Finish →
+    left_of new (Nexts.Call call) < left_of plan (Nexts.Call Calls.Finish) → ⊥
+behind-finish seals old mid plan new session op call before fewer =
+    (let left = way-fits seals old mid plan session op Calls.Finish before in
+    omega (arith, left, fewer))

@@ -1,6 +1,6 @@
 -- An operation on the first lane of a volume, with none on any other, and the run that its calls
 -- are.
-use Rattle.std.specs.Prelude.{ℕ, suc, ◌≡◌, ◌≢◌, List, [], ◌∷◌, length, Some, None}
+use Rattle.std.specs.Prelude.{ℕ, suc, ◌≡◌, ◌≢◌, ◌<◌, List, [], ◌∷◌, length, Some, None}
 use Rattle.plain_disk.specs.declared.operation.Op.{Op}
 use Rattle.plain_disk.specs.declared.operation.Reply.{Reply}
 use Rattle.segment_map.specs.declared.map.Map.{Map}
@@ -48,6 +48,7 @@ pub record IsCourse {K : Type 0} (seals : Seals) (old now : State K) (run : List
   pub sound : IsSound now
   pub map : now.map ≡ old.map
   pub keys : now.keys ≡ old.keys
+  pub some : 1 < length old.lanes
   pub count : length now.lanes ≡ length old.lanes
 
 -- an operation of a session was executed and answered so
@@ -87,3 +88,17 @@ IsAt seals old now plan session op (Nexts.Reply reply spare) =
 abbrev pub left_of : Plan → Next → ℕ
 left_of plan (Nexts.Call call) = suc (calls_left plan)
 left_of plan (Nexts.Reply reply spare) = 0
+
+-- what comes behind all pieces, and behind the settle
+abbrev pub IsEndingCall : Call → Type 0
+IsEndingCall Calls.Settle = Unit {0}
+IsEndingCall Calls.Finish = Unit {0}
+IsEndingCall _ = ⊥
+
+abbrev pub IsBehindPieces : Next → Type 0
+IsBehindPieces (Nexts.Call call) = IsEndingCall call
+IsBehindPieces (Nexts.Reply reply spare) = Unit {0}
+
+abbrev pub IsLast : Next → Type 0
+IsLast (Nexts.Call call) = call ≡ Calls.Finish
+IsLast (Nexts.Reply reply spare) = Unit {0}

@@ -9,12 +9,12 @@ ghost use Rattle.volume_machine.specs.Seals.{seals_of};
 ghost use Rattle.volume_machine.specs.States.{IsIdle};
 ghost use Rattle.volume_machine.specs.Steps.{IsReadyFor};
 ghost use Rattle.volume_machine.specs.declared.keys.Keys.{Keys};
-ghost use Rattle.volume_lane.specs.Course.{HasExecuted, IsAt, IsPlanFor};
+ghost use Rattle.volume_lane.specs.Course.{HasExecuted, IsPlanFor};
 
-use crate::calling::{admitted, made};
+use crate::steps::{finish, make_pieces, settle};
 use base_terms::{Buffer, Bytes};
 use cipher_laws::SectorCipher;
-use lane_plan::{Next, Plan, Shape};
+use lane_plan::{Plan, Shape};
 use plain_disk::{Op, Reply};
 use sector_disk::Disk;
 use segment_map::Map;
@@ -37,6 +37,7 @@ use volume_core::Volume;
 ///
 /// With the reply comes a buffer for another use, where the volume still has one: that of a write's
 /// body, or the spare one. Else an empty one comes.
+#[inline(always)]
 pub fn execute<D: Disk, C: SectorCipher + Copy>(
     alloc: Global,
     volume: &mut Volume<D, C>,
@@ -101,27 +102,7 @@ fn carry_out<D: Disk, C: SectorCipher + Copy>(
         HasExecuted (seals_of C.sealed C.opened volume.old.map.atom volume.old.keys)
         volume.old volume.new session op result.0 }
 {
-    let mut next = begin(volume, plan);
-    'calls: loop {
-        let call = match next {
-            Next::Call(call) => call,
-            Next::Reply(reply, spare) => return (reply, spare),
-        };
-        let answer = made(volume, call);
-        next = plan.told(volume.borrow_keys(), answer);
-    }
-}
-
-/// Begins the operation of a plan.
-#[inline(always)]
-fn begin<D: Disk, C: SectorCipher + Copy>(volume: &mut Volume<D, C>, plan: &mut Plan) -> Next
-    requires lanes { 1 < length volume.old.lanes }
-    requires idle { IsIdle volume.old }
-    requires plan { (session : ℕ) × (op : Op) × IsPlanFor volume.old plan.old session op }
-    ensures { (session : ℕ) (op : Op) → IsPlanFor volume.old plan.old session op →
-        IsAt (seals_of C.sealed C.opened volume.old.map.atom volume.old.keys)
-        volume.old volume.new plan.new session op result }
-{
-    let answer = admitted(volume, plan.first());
-    plan.told(volume.borrow_keys(), answer)
+    let behind = make_pieces(volume, plan);
+    let last = settle(volume, plan, behind);
+    finish(volume, plan, last)
 }

@@ -6,6 +6,7 @@
 
 mod calling;
 mod executing;
+mod steps;
 
 pub use executing::execute;
 

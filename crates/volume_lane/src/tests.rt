@@ -50,19 +50,20 @@ fn plain<D: Disk + Drop>(alloc: Global, disk: D) -> Result<Idle<D>, AllocError> 
     }
 }
 
-/// The map of a volume of 3 MiB in conversion, whose boundary is near its middle.
-fn half_way(is_large: bool, direction: Direction, zone: u64) -> Map
+/// The map of a volume of 3 MiB in conversion, whose boundary is so many blocks past its middle.
+fn half_way(is_large: bool, direction: Direction, past: u64) -> Map
     ensures fits { MapFits result (result.blocks * 2) }
     ensures small { result.blocks * result.atom ≤ 3145728 }
     ensures few { result.blocks ≤ 6144 }
+    ensures closed { result.zone ≡ 0 }
 {
     if is_large {
         return Map {
             atom: 4096,
             blocks: 768,
-            boundary: 387,
+            boundary: 387 + past.min(300),
             direction,
-            zone: zone.min(300),
+            zone: 0,
             old_place: 768,
             new_place: 0,
         };
@@ -70,9 +71,9 @@ fn half_way(is_large: bool, direction: Direction, zone: u64) -> Map
     Map {
         atom: 512,
         blocks: 6144,
-        boundary: 3075,
+        boundary: 3075 + past.min(3000),
         direction,
-        zone: zone.min(3000),
+        zone: 0,
         old_place: 6144,
         new_place: 0,
     }
@@ -83,6 +84,7 @@ fn converted(alloc: Global, map: Map) -> Result<Idle<RamDisk>, Fail>
     requires fits { MapFits map (map.blocks * 2) }
     requires small { map.blocks * map.atom ≤ 3145728 }
     requires few { map.blocks ≤ 6144 }
+    requires closed { map.zone ≡ 0 }
 {
     let mut both = [0x11u8; 32];
     both[16..].copy_from_slice(&[0x22; 16]);
@@ -194,15 +196,15 @@ fn differs_from_a_plain_disk(
     alloc: Global,
     is_large: bool,
     direction: Direction,
-    zone: u64,
+    past: u64,
 ) -> Result<Option<u32>, Fail> {
-    let map = half_way(is_large, direction, zone);
+    let map = half_way(is_large, direction, past);
     let Map { atom, blocks, .. } = map;
     let mut volume = converted(alloc, map)?;
     let mut plain = PlainDisk::new(alloc, atom, blocks)?;
     volume.execute(alloc, write(alloc, 0, 3 * MIB, 0, false)?)?;
     let mut numbers = Numbers {
-        state: u64::from(atom).wrapping_add(zone),
+        state: u64::from(atom).wrapping_add(past),
     };
     for turn in 0..TURNS {
         let (op, same) = operation(alloc, &mut numbers, u64::from(atom), blocks)?;
@@ -223,14 +225,14 @@ fn differs_from_a_plain_disk(
 
 #[test]
 fn operations_are_those_of_one_plain_disk(rt: HostRuntime) -> Result<(), Fail> {
-    for (is_large, direction, zone) in [
+    for (is_large, direction, past) in [
         (false, Direction::Forward, 0),
         (false, Direction::Backward, 700),
         (true, Direction::Forward, 5),
         (true, Direction::Backward, 0),
     ] {
-        let found = differs_from_a_plain_disk(rt.alloc(), is_large, direction, zone)?;
-        assert_eq!(rt; found, None, "zone of {zone}");
+        let found = differs_from_a_plain_disk(rt.alloc(), is_large, direction, past)?;
+        assert_eq!(rt; found, None, "{past} past the middle");
     }
     Ok(())
 }

@@ -133,9 +133,6 @@ pub tried-keeps : (block : Block) (value other : List ℕ) → Contains (values_
     → Contains (values_of (tried block value)) other
 tried-keeps block value other has = Contains-append_left (values_of block) (value ∷ []) other has
 
-pub flushed_contained : (block : Block) → Contains (values_of (flushed block)) block.newest
-flushed_contained block = Contains-push [] block.newest
-
 pub written_for_good_contained : (block : Block) (value : List ℕ)
     → Contains (values_of (written_for_good block value)) value
 written_for_good_contained block value = Contains-push [] value

@@ -1,6 +1,7 @@
 -- Pieces that are read, and reads that are answered: what holds between events goes on to hold.
 use Rattle.std.proofs.Common.{◌≡◌, ◌≢◌, inl, inr, ℕ, ◌+◌, ◌-◌, ◌<◌, ◌≤◌, Bool, true, false, List}
 use Rattle.std.proofs.Common.{◌++◌, Option, Some, refl, sym, ◌∙◌, ap, subst, arith}
+use Rattle.std.proofs.lemmas.Bool.{cases_lt}
 use Rattle.plain_disk.specs.Plain.{Block}
 use Rattle.range_lock.specs.declared.Entry.{Entry}
 use Rattle.range_lock.specs.declared.Kind.TheVariants.{Alone}
@@ -208,13 +209,11 @@ knows_read old new seals plain left view lane o bytes lawful some logic shown li
       exact = λ whole. omega (arith, exact, first);
       holds = λ any. rw is.goes.entries_are holds;
       reads = λ reading k below. rw (map, all)
-          (elim (either (Rattle.std.specs.Prelude.nat_lt k knows.count)) [
-            | inl earlier ↦
-                let lt : k < knows.count = grind (arith, earlier) in
+          (elim (cases_lt k knows.count) [
+            | inl lt ↦
                 rw (block_at-front old.map.atom knows.count (plain lane) opened k lt
                 (let size = knows.are.size in omega (arith, size))) (knows.reads reads k lt)
-            | inr later ↦
-                let ge : knows.count ≤ k = grind (arith, later) in
+            | inr ge ↦
                 let j : ℕ = k - knows.count in
                 let place : k ≡ knows.count + j = omega (arith, ge) in
                 let lt : j < piece.count = omega (arith, below, ge) in

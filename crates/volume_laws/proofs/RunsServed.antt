@@ -139,9 +139,6 @@ event_served seals old new plain left (finishes lane) outcome exchanges here mee
     (subst (λ x. AreExchanges (by_finish x (plain lane)) exchanges) at are)
 
 -- exchanges of two lists of answers, one after the other
-record Parted (one rest : List Exchange) (all : List Exchange) : Type 0 where
-  whole : all ≡ one ++ rest
-
 pub split_exchanges : (xs ys : List _) (exchanges : List Exchange)
     → AreExchanges (xs ++ ys) exchanges →
     (first : List Exchange) × (rest : List Exchange) × (exchanges ≡ first ++ rest)

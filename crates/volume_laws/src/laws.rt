@@ -12,6 +12,7 @@ ghost use Rattle.plain_disk.specs.Plain.{Block, Exchange};
 ghost use Rattle.sector_disk.specs.Geometry.{IsAtom};
 ghost use Rattle.sector_disk.specs.Steps.{Told};
 ghost use Rattle.segment_map.specs.declared.Direction.TheVariants.{Forward, Backward};
+ghost use Rattle.segment_map.specs.declared.Side.TheVariants.{Zone};
 ghost use Rattle.segment_map.specs.declared.map.Map.{Map};
 ghost use Rattle.volume_machine.specs.Alone.{MeetsAlone};
 ghost use Rattle.volume_machine.specs.Beginnings.{IsFresh};
@@ -35,7 +36,7 @@ ghost use Rattle.volume_machine.specs.Beginnings.{IsWholeDisk};
 ghost use Rattle.disk_views.specs.Parts.{value_in};
 ghost use Rattle.volume_laws.specs.Contents.{IsSealed, StandsFor, StandsNow, StopsAllowed};
 ghost use Rattle.volume_laws.specs.Contents.{block_in, opened_blocks, plain_blocks};
-ghost use Rattle.volume_machine.specs.Pieces.{place_in};
+ghost use Rattle.volume_machine.specs.Pieces.{place_in, side_in};
 ghost use Rattle.volume_machine.specs.declared.keys.Keys.{Keys};
 
 use cipher_laws::SectorCipher;
@@ -87,7 +88,7 @@ pub fn events_leave_other_lanes<C: SectorCipher>()
 
 /// An event of a client leaves the zone at hand: it is held, and lies apart from all other blocks,
 /// as before. What a client's lane holds while nothing has failed is live, so its pieces lie beside
-/// the zone.
+/// the zone; and a live block is on the old side or on the new one, never in an open zone.
 pub fn events_leave_the_zone<C: SectorCipher>()
     ensures stays { (old new : State (Keys C)) (event : Event) (outcome : Outcome) →
         Meets old event → Step old event outcome new → Works old →
@@ -96,6 +97,8 @@ pub fn events_leave_the_zone<C: SectorCipher>()
         state.broken ≡ false → open_at state.lanes lane ≡ Some o → has_lock o.ask ≡ true →
         Holds state lane → IsClient state lane →
         (b : ℕ) → o.range.start ≤ b → b < o.range.end → IsLive state b }
+    ensures sides { (state : State (Keys C)) (b : ℕ) → IsSound state → IsLive state b →
+        side_in state.map b ≢ Zone }
 {}
 
 /// The keys of a volume whose sectors divide its blocks seal and open block by block, and each
@@ -188,9 +191,11 @@ pub fn settled_volumes_are_covered<C: SectorCipher>()
         → StartsCovered start seals blocks }
 {}
 
-/// A volume of any map, with any keys that seal lawfully, stands for a plain disk: the one whose
-/// blocks hold for certain what its keys open of their atoms. So every volume that was made of a
-/// disk that tells its bytes is one from which runs start.
+/// A volume that was just made stands for a plain disk, the one whose blocks hold for certain what
+/// its keys open of their atoms, and is one from which runs start. That each block has a place of
+/// its own, that the keys seal lawfully, and that the disk tells an atom's bytes for each atom are
+/// premises. The content is told by the keys: with other keys it is another one, and which keys are
+/// the right ones isn't said here.
 pub fn volumes_start<C: SectorCipher>()
     ensures { (start : State (Keys C)) (seals : Seals) (bytes : List ℕ) →
         IsSound start → IsFresh start → AreApart start.map → AreLawful start.map.atom seals →

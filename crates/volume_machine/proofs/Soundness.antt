@@ -228,6 +228,7 @@ sound_goes old new lane now is_broken sound goes atoms same_entry same_count und
         | inl same ↦ under_way o (sym lanes.own ∙ ap (λ n. open_at new.lanes n) (sym same) ∙ is)
         | inr other ↦ sound.under_way k o (sym (lanes.others k other) ∙ is)
       ]);
+      zoned = rw (map, goes.work) sound.zoned;
     }
 
 -- an operation that keeps what it asked for
@@ -307,6 +308,7 @@ sound_locked old new lane session ask sound has free proper entries goes rests =
             rw now (begins old.map session ask sound.fits.known proper))
         | inr other ↦ sound.under_way k o (sym (lanes.others k other) ∙ is)
       ]);
+      zoned = rw (map, goes.work) sound.zoned;
     }
 
 -- an operation that left
@@ -345,6 +347,7 @@ sound_left old new lane o sound is has goes rests =
             absurd (let at = sym lanes.own ∙ ap (λ n. open_at new.lanes n) (sym same) ∙ is in cc)
         | inr other ↦ sound.under_way k o (sym (lanes.others k other) ∙ is)
       ]);
+      zoned = rw (map, goes.work) sound.zoned;
     }
 
 sound_admitted : {K : Type 0} (old new : State K) (lane session : ℕ) (ask : Ask) (outcome : Outcome)

@@ -5,10 +5,11 @@ use Rattle.std.specs.List.{after_first}
 use Rattle.range_lock.specs.declared.Entry.{Entry}
 use Rattle.range_lock.specs.Locks.{is_of}
 use Rattle.sector_disk.specs.Geometry.{IsAtom}
+use Rattle.segment_map.specs.declared.Side.TheVariants.{Zone}
 use Rattle.segment_map.specs.declared.map.Map.{Map}
 use Rattle.volume_machine.specs.Asks.{range_of, has_lock, entry_of, wrong_ask}
-use Rattle.volume_machine.specs.Pieces.{place_in}
-use Rattle.volume_machine.specs.States.{State, open_at, size_of}
+use Rattle.volume_machine.specs.Pieces.{place_in, side_in}
+use Rattle.volume_machine.specs.States.{State, open_at, size_of, IsGoverned}
 use Rattle.volume_machine.specs.declared.open.Open.{Open}
 
 -- the map fits a disk of so many atoms: its blocks are the disk's atoms, and lie on it
@@ -44,7 +45,8 @@ pub record IsUnderWay (map : Map) (o : Open) : Type 0 where
   pub within : o.next ≤ o.range.end
   pub inside : o.range.end ≤ map.blocks
 
--- the table has the entry of each lane's operation and no other, and room for all lanes'
+-- the table has the entry of each lane's operation and no other, and room for all lanes'; a block
+-- of an open zone is one of the zone at hand
 pub record IsSound {K : Type 0} (state : State K) : Type 0 where
   pub fits : MapFits state.map state.disk.atoms
   pub room : state.room ≡ length state.lanes
@@ -54,3 +56,4 @@ pub record IsSound {K : Type 0} (state : State K) : Type 0 where
       → find (is_of lane) state.entries ≡ entry_in state.map.atom lane (open_at state.lanes lane)
   pub once : (lane : ℕ) → find (is_of lane) (after_first (is_of lane) state.entries) ≡ None
   pub under_way : (lane : ℕ) (o : Open) → open_at state.lanes lane ≡ Some o → IsUnderWay state.map o
+  pub zoned : (b : ℕ) → side_in state.map b ≡ Zone → IsGoverned state b

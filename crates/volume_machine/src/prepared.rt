@@ -33,6 +33,7 @@ impl Model for Prepared {
 impl Prepared {
     /// Seals the bytes of a piece where they lie, at the front of a buffer, with the keys of its
     /// volume, whose blocks have `atom` bytes. It takes no memory.
+    #[inline(always)]
     pub fn seal<C: SectorCipher>(
         keys: &Keys<C>,
         atom: u32,
@@ -74,6 +75,7 @@ impl Prepared {
 }
 
 /// Seals the bytes of a piece at the front of others.
+#[inline(always)]
 fn seal_front<C: SectorCipher>(
     keys: &Keys<C>,
     atom: u32,

@@ -17,6 +17,7 @@ impl Plan {
     ghost use Rattle.lane_plan.specs.declared.plan.Stage.TheVariants as Stages;
 
     /// What comes next once the settle is done.
+    #[inline(always)]
     pub(super) fn settled(&mut self) -> Next
         requires { self.old.stage ≡ Stages.Settling }
         ensures goes { (seals : Seals) → Goes seals self.old Answers.Done self.new result }
@@ -32,6 +33,7 @@ impl Plan {
     }
 
     /// What comes next once a call failed.
+    #[inline(always)]
     pub(super) fn failed(&mut self) -> Next
         requires { (seals : Seals) × (answer : _) × IsFailure answer
             × IsTold seals self.old answer }

@@ -1,8 +1,7 @@
-use Rattle.std.proofs.Common.{◌≡◌, ◌∙◌, [], true, ap, sym, subst, map}
-use Rattle.std.specs.Prelude.{IfOk, IfErr, Result, string_bytes}
-use Rattle.clap.specs.Words.{FailsBy, app_of, fault_of, is_simple_and_free, subcommand_of}
+use Rattle.std.proofs.Common.{◌≡◌, true, subst, map}
+use Rattle.std.specs.Prelude.{string_bytes}
+use Rattle.clap.specs.Words.{FailsBy, app_of, fault_of, is_simple_and_free}
 use Rattle.clap.specs.Simple.{App}
-use Rattle.command_line.specs.Product.{product}
 use Rattle.command_line.proofs.MatchLemmas.{found, refused, simple, taken}
 use Rattle.command_line.proofs.command.matches_of.Goals as goal
 

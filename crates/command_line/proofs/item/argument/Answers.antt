@@ -1,8 +1,7 @@
-use Rattle.std.proofs.Common.{◌≡◌, ap, sym, ◌∙◌, refl, true}
+use Rattle.std.proofs.Common.{ap, true}
 use Rattle.std.specs.Prelude.{Some}
 use Rattle.clap.specs.Walk.{Rule}
 use Rattle.clap.specs.declared.builder.action.ArgAction.TheVariants.{Set, SetTrue}
-use Rattle.command_line.specs.Items.{disk_rule, option_rule, flag_rule, rule_for}
 use Rattle.command_line.proofs.item.argument.Goals as goal
 
 pub returns-in-Disk-clause-rule : goal.returns-in-Disk-clause-rule

@@ -1,4 +1,4 @@
-use Rattle.std.proofs.Common.{rules, ◌≡◌, ap, ap₂, ◌∙◌, false, ◌||◌}
+use Rattle.std.proofs.Common.{rules, ap₂, ◌∙◌, ◌||◌}
 use Rattle.command_line.proofs.ItemLemmas.{leaf_more}
 use Rattle.command_line.proofs.item.leaf.Goals as goal
 

@@ -1,4 +1,4 @@
-use Rattle.std.proofs.Common.{◌≡◌, ◌<◌, ◌≤◌, ◌∙◌, sym, ap, subst, ℕ, arith, Some}
+use Rattle.std.proofs.Common.{◌<◌, ◌≤◌, ◌∙◌, sym, ap, arith, Some}
 use Rattle.command_line.specs.Values.{number_of}
 use Rattle.command_line.proofs.ValueLemmas.{above, below, inside, same, too_large}
 use Rattle.command_line.proofs.values.number_within.Goals as goal

@@ -1,12 +1,9 @@
 use Rattle.std.proofs.Common.{◌≡◌, ◌∙◌, ◌*◌, ◌≤◌, ℕ, List, Some, length, ap, ap₂, sym}
 use Rattle.std.proofs.Common.{subst, arith, IfOk}
 use Rattle.disk_sizes.specs.declared.Sizes.{Sizes}
-use Rattle.joined_disk.specs.Counts.{joint_in, sizes_of}
+use Rattle.joined_disk.specs.Counts.{sizes_of}
 use Rattle.joined_disk.specs.Joined.{Joint, both_faults, in_front, joined_disk}
 use Rattle.luks_store.specs.Devices.{device_of}
-use Rattle.luks_store.specs.declared.loaded.Stored.{Stored}
-use Rattle.sector_disk.specs.Devices.{Device}
-use Rattle.header_report.specs.Examinations.{sizes_alone}
 use Rattle.header_report.proofs.ExamineLemmas.{alone_sizes, alone_values, answers_alone}
 use Rattle.header_report.proofs.ExamineLemmas.{cause-told, tells_by}
 use Rattle.header_report.proofs.reading.examine.Goals as goal
@@ -38,7 +35,7 @@ returns-clause-read g c =
     let device = g.D.Disk.device c.args.disk in
     let joint = c.alone-joined.ensures.joint in
     let after = c.load_settled-loaded.new.disk in
-    let kept = c.load_settled-loaded.ensures.kept in
+    let kept = c.load_settled-loaded.ensures.unwritten in
     let main = c.parts-head.ensures.main in
     let later : device.faults ≤ (g.D.Disk.device c.parts-head.result.1).faults =
     omega (
@@ -57,6 +54,10 @@ returns-clause-read g c =
             ap (λ d. (g.D.Disk.device d).values) main ∙ kept.main.values
             ∙ ap (λ (j : Joint). j.main.values) joint;
         later = later;
+        told = λ now is.
+            (let (before, was, reads) =
+            kept.main.told now (sym (ap (λ d. (g.D.Disk.device d).told) main) ∙ is) in
+            (before, sym (ap (λ (j : Joint). j.main.told) joint) ∙ was, reads));
       };
       later = later;
     }

@@ -1,4 +1,4 @@
-use Rattle.std.proofs.Common.{◌≡◌, ◌∙◌, ◌++◌, ap, rules, string_bytes}
+use Rattle.std.proofs.Common.{◌∙◌, ◌++◌, ap, rules, string_bytes}
 use Rattle.header_report.specs.Reports.{slot_line}
 use Rattle.header_report.proofs.LineLemmas.{none_yet, slots_more}
 use Rattle.header_report.proofs.text.add_slots.Goals as goal

@@ -1,4 +1,4 @@
-use Rattle.std.proofs.Common.{◌≡◌, ◌∙◌, None, refl, sym}
+use Rattle.std.proofs.Common.{refl}
 use Rattle.header_report.specs.Reports.{text_of_lines}
 use Rattle.header_report.proofs.LineLemmas.{made_as}
 use Rattle.header_report.proofs.text.volume_text.Goals as goal

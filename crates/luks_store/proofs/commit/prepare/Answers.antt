@@ -1,4 +1,5 @@
 use Rattle.std.proofs.Common.{◌+◌, ◌∙◌, ap}
+use Rattle.luks_bin.specs.Writing.{written}
 use Rattle.luks_bin.specs.declared.header.BinHeader.{BinHeader}
 use Rattle.luks_json.specs.Metas.{data_of, meta_from}
 use Rattle.luks_rules.proofs.SoundLemmas.{sound}
@@ -49,4 +50,13 @@ invariant_of-result c =
       room = room-of c.args.meta.now c.args.sizes size
           (sound c.args.meta.now c.args.sizes c.requires.atom rising c.requires.rules)
           c.requires.size;
+    }
+
+pub returns-in-Ok-new-clause-bytes : goal.returns-in-Ok-new-clause-bytes
+returns-in-Ok-new-clause-bytes c =
+    let made = c.in-Ok-new.ensures in
+    let text = c.as_slice.ensures ∙ c.in-Ok.ensures.text in
+    record {
+      first = made.first_bytes ∙ ap (written _) text;
+      second = made.second_bytes ∙ ap (written _) text;
     }

@@ -1,6 +1,7 @@
 use Rattle.std.proofs.Common.{sym, ◌∙◌}
 use Rattle.std.proofs.lemmas.Bool.{eqb-true}
-use Rattle.nbd_session.proofs.ReplyLemmas.{puts-more, puts-less, puts-as, reply-parts, reply-bare}
+use Rattle.nbd_stream.proofs.PutLemmas.{puts-more, puts-less, puts-as}
+use Rattle.nbd_session.proofs.ReplyLemmas.{reply-parts, reply-bare}
 use Rattle.nbd_session.proofs.replies.put_reply.Goals as goal
 
 pub returns-then-is_empty-clause-puts : goal.returns-then-is_empty-clause-puts

@@ -1,6 +1,7 @@
 use Rattle.std.proofs.Common.{arith}
-use Rattle.nbd_session.proofs.HeadLemmas.{behind-asks, behind-refuses, behind-cut, behind-fault}
-use Rattle.nbd_session.proofs.HeadLemmas.{data-as, flags-refused, memory-refused}
+use Rattle.nbd_stream.proofs.HeadLemmas.{data-as}
+use Rattle.nbd_session.proofs.TakenLemmas.{behind-asks, behind-refuses, behind-cut, behind-fault}
+use Rattle.nbd_session.proofs.TakenLemmas.{flags-refused, memory-refused}
 use Rattle.nbd_session.proofs.requests.behind_head.Goals as goal
 
 pub refuse-requires-clause-refused : goal.refuse-requires-clause-refused

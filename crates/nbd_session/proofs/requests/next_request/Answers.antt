@@ -1,5 +1,6 @@
 use Rattle.std.proofs.Common.{sym}
-use Rattle.nbd_session.proofs.HeadLemmas.{head-taken, next-joined, next-last}
+use Rattle.nbd_stream.proofs.HeadLemmas.{head-taken}
+use Rattle.nbd_session.proofs.TakenLemmas.{next-joined, next-last}
 use Rattle.nbd_session.proofs.requests.next_request.Goals as goal
 
 pub returns-in-None : goal.returns-in-None

@@ -1,5 +1,6 @@
 use Rattle.std.proofs.Common.{arith}
-use Rattle.nbd_session.proofs.HeadLemmas.{behind-cut, behind-fault, behind-dropped, dropped-as}
+use Rattle.nbd_stream.proofs.HeadLemmas.{dropped-as}
+use Rattle.nbd_session.proofs.TakenLemmas.{behind-cut, behind-fault, behind-dropped}
 use Rattle.nbd_session.proofs.requests.refuse.Goals as goal
 
 pub returns-in-Whole : goal.returns-in-Whole

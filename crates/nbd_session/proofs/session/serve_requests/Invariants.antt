@@ -1,6 +1,6 @@
 use Rattle.std.proofs.Common.{◌≡◌, ℕ, List, [], length, None, false}
-use Rattle.nbd_session.specs.Moments.{moment}
-use Rattle.nbd_session.specs.Putting.{IsOut}
+use Rattle.nbd_stream.specs.Moments.{moment}
+use Rattle.nbd_stream.specs.Putting.{IsOut}
 use Rattle.nbd_session.specs.Serving.{Serves}
 use Rattle.nbd_session.specs.Turns.{Turn, exchanges_of}
 use Rattle.nbd_session.proofs.session.serve_requests.Given as goal

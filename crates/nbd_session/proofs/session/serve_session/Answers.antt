@@ -1,11 +1,11 @@
-use Rattle.std.proofs.Common.{List, refl, sym, subst, ◌∙◌, ap, inl, inr, ⊎_elim}
+use Rattle.std.proofs.Common.{List, refl, sym, subst, inl, inr, ⊎_elim}
 use Rattle.plain_disk.specs.Plain.{Exchange}
-use Rattle.nbd_session.specs.declared.ending.Ending.{Ending}
-use Rattle.nbd_session.specs.Session.{IsUnserved}
-use Rattle.nbd_session.specs.Turns.{exchanges_of}
-use Rattle.nbd_session.proofs.NegotiationLemmas.{unserved-unspent}
+use Rattle.nbd_stream.specs.declared.ending.Ending.{Ending}
+use Rattle.nbd_hand.specs.Handshakes.{IsUnserved}
+use Rattle.nbd_hand.proofs.NegotiationLemmas.{unserved-unspent}
 use Rattle.nbd_session.proofs.RequestLemmas.{exchanges_of-none}
-use Rattle.nbd_session.proofs.SessionLemmas.{session-early, session-served, served-log}
+use Rattle.nbd_session.proofs.SessionLemmas.{session-early, session-served, early-log}
+use Rattle.nbd_session.proofs.SessionLemmas.{served-log}
 use Rattle.nbd_session.proofs.session.serve_session.Goals as goal
 use Rattle.nbd_session.proofs.session.serve_session.Goals.{in-Ok, in-Err}
 
@@ -17,17 +17,17 @@ returns-clause-session g c = rw c.end_of.ensures.is (elim c.match-negotiate.bran
       rw (w.source-is, w.sink-is, w.port-is, w.tally-is, w.ending-is) (
         served-log n.0 s.0 s.1 s.2 s.3 s.4,
         s.5,
-        session-served c.args.export.now _ _ _ w.serve_requests-ending.result n.0 s.0 s.1 s.2 s.3
-            s.4 refl refl
+        session-served c.args.export.now _ _ _ w.in-Ok.field-0 w.serve_requests-ending.result n.0
+            s.0 s.1 s.2 s.3 s.4 refl refl
             (rw w.tally-is at c.end_of.ensures.taken_fits)
             (rw w.tally-is at c.end_of.ensures.put_fits) n.1 s.6,
       )
   | in-Err w ↦
       let n = w.in-Err.ensures.negotiates in
       rw (w.source-is, w.sink-is, w.port-is, w.tally-is, w.ending-is) (
-        n.0,
+        early-log n.0,
         subst (λ (done : List Exchange). g.P.Port.did c.args.port.now c.args.port.now done)
-            (sym (ap exchanges_of n.1.none_asked ∙ exchanges_of-none))
+            (sym exchanges_of-none)
             (g.met.P.Port.did_none c.args.port.now),
         session-early c.args.export.now _ _ w.in-Err.ending n.0 refl refl
             (rw w.tally-is at c.end_of.ensures.taken_fits)

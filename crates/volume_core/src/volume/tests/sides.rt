@@ -24,6 +24,7 @@ fn eight_blocks(atom: u32, direction: Direction, zone: u64) -> Map
     requires zone { zone ≤ 4 }
     ensures atom { result.atom ≡ atom }
     ensures blocks { result.blocks ≡ 8 }
+    ensures zone { result.zone ≡ zone }
     ensures fits { MapFits result 16 }
 {
     Map {
@@ -44,6 +45,7 @@ fn half_converted(
     keys: Keys<Context>,
 ) -> Result<Volume<RamDisk, Context>, Fail>
     requires map { MapFits map 16 }
+    requires zone { map.zone ≡ 0 }
     requires keys { KeysFit ⟦<Context as SectorCipher>⟧.sector keys map.atom map.blocks }
 {
     match Volume::of(alloc, RamDisk::new(alloc, map.atom, 16)?, map, keys, 2) {
@@ -76,7 +78,7 @@ fn xts_keys(old_tweak: u64, new_tweak: u64, sector: u32) -> Result<Keys<Context>
 }
 
 #[test]
-fn pieces_of_a_write_end_at_the_boundary(rt: HostRuntime) -> Result<(), Fail> {
+fn pieces_end_at_the_boundary_and_at_a_zone(rt: HostRuntime) -> Result<(), Fail> {
     let cases = [
         (Direction::Forward, 0, Side::New, Side::Old),
         (Direction::Backward, 0, Side::Old, Side::New),
@@ -84,13 +86,10 @@ fn pieces_of_a_write_end_at_the_boundary(rt: HostRuntime) -> Result<(), Fail> {
         (Direction::Backward, 4, Side::Zone, Side::New),
     ];
     for (direction, zone, first, second) in cases {
-        let keys = xts_keys(0, 0, 512)?;
-        let mut volume = half_converted(rt.alloc(), eight_blocks(512, direction, zone), keys)?;
-        assert!(rt; can_admit(&volume, 0));
-        let Admitted::Held(grant) = volume.admit(0, 0, write_of(2, 4)) else {
-            panic!(rt; "not held");
+        let grant = Grant {
+            map: eight_blocks(512, direction, zone),
+            range: BlockRange { start: 2, end: 6 },
         };
-        assert_eq!(rt; grant.range, BlockRange { start: 2, end: 6 });
         let pieces = [(2, first), (4, second)];
         for (start, side) in pieces {
             let piece = Piece {
@@ -101,6 +100,21 @@ fn pieces_of_a_write_end_at_the_boundary(rt: HostRuntime) -> Result<(), Fail> {
             assert_eq!(rt; piece_of(grant, start), Some(piece));
         }
         assert_eq!(rt; piece_of(grant, 6), None);
+    }
+    Ok(())
+}
+
+#[test]
+fn a_write_across_the_boundary_is_read_again(rt: HostRuntime) -> Result<(), Fail> {
+    for direction in [Direction::Forward, Direction::Backward] {
+        let map = eight_blocks(512, direction, 0);
+        let mut volume = half_converted(rt.alloc(), map, xts_keys(0, 0, 512)?)?;
+        assert!(rt; can_admit(&volume, 0));
+        let Admitted::Held(grant) = volume.admit(0, 0, write_of(2, 4)) else {
+            panic!(rt; "not held");
+        };
+        assert_eq!(rt; grant.map, map);
+        assert_eq!(rt; grant.range, BlockRange { start: 2, end: 6 });
         assert_eq!(rt; write(&mut volume, rt.alloc(), 0, 5)?, Answer::Done);
         assert_eq!(rt; write(&mut volume, rt.alloc(), 0, 6)?, Answer::Done);
         assert_eq!(rt; finish(&mut volume, 0), Answer::Done);

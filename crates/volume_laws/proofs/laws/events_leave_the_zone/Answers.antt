@@ -12,3 +12,6 @@ returns-clause-stays c _ = λ old new event outcome meets step works. (
 pub returns-clause-live : goal.returns-clause-live
 returns-clause-live c _ = λ state lane o sound works whole at has holds client.
     client_live state lane o sound works whole at has holds client
+
+pub returns-clause-sides : goal.returns-clause-sides
+returns-clause-sides c _ = λ state b sound live is. live.free (sound.zoned b is)

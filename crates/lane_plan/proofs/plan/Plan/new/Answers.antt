@@ -11,9 +11,11 @@ returns-clause-awaits c = λ seals alone none.
     (ask_of c.args.op) ≡ None = search rules in
     let len : c.len_of-len.result ≡ bytes_of (ask_of c.args.op) = c.len_of-len.ensures
     ∙ ap (λ a. bytes_of a) c.ask_of-ask.ensures in
-    let room : c.min.result ≡ part_of c.args.shape.atom (ask_of c.args.op) = search rules in
-    awaits-admit _ c.args.op c.args.session c.args.shape c.of-plan.result.whole
-    c.of-plan.result.part c.len_of-len.result c.min.result none c.of-plan.ensures.session
-    c.of-plan.ensures.asks c.of-plan.ensures.stage c.of-plan.ensures.shape c.requires proper
-    c.of-plan.ensures.body len
-    c.in_ok-grow.ensures.long c.in_ok-grow.ensures.front c.in_ok-grow-2.ensures.long room
+    let room : c.min-room.result ≡ part_of c.args.shape.atom (ask_of c.args.op) = search rules in
+    awaits-admit _ c.args.op c.args.session c.args.shape c.whole_of.result c.args.part
+    c.len_of-len.result c.min-room.result none c.of.ensures.session
+    (c.of.ensures.asks ∙ c.ask_of-ask.ensures) c.of.ensures.stage c.of.ensures.shape c.requires
+    proper c.whole_of.ensures len
+    (rw c.of.ensures.whole c.in_ok-whole.ensures.long)
+    (rw c.of.ensures.whole c.in_ok-whole.ensures.front)
+    (rw c.of.ensures.part c.in_ok-part.ensures.long) room

@@ -17,4 +17,5 @@ returns-clause-next c =
     c.is_stored.ensures.stored c.header.ensures (ap (λ (p : CopyPlace). p.salt) c.primary.ensures)
     (ap (λ (p : CopyPlace). p.salt) c.secondary.ensures)
     (c.sizes.ensures.sizes ∙ ap (λ (v : Checked). v.sizes) c.valid.ensures)
-    made.header made.second_salt made.sizes made.meta made.whole made.number made.same_size
+    made.header made.second_salt made.sizes made.bytes made.meta made.whole made.number
+    made.same_size

@@ -1,7 +1,6 @@
 use Rattle.std.proofs.Common.{sym, subst}
 use Rattle.luks_copies.specs.Steps.{FitDisk}
-use Rattle.luks_store.proofs.CommitLemmas.{fits-disk}
-use Rattle.luks_store.proofs.PageLemmas.{size-pages}
+use Rattle.luks_store.proofs.CommitLemmas.{copies-fit}
 use Rattle.luks_store.specs.Commits.{HasSizes}
 use Rattle.luks_store.specs.declared.commit.Prepared.{Prepared}
 use Rattle.luks_store.proofs.commit.Commit.step.Goals as goal
@@ -14,7 +13,4 @@ step-requires-clause-fits g c =
     let has =
     subst (λ (q : Prepared). HasSizes q.sizes device) (sym c.self.view_is) c.requires.sizes in
     subst (λ size. FitDisk p.copies.first p.copies.second size device) (sym is.size)
-    (fits-disk p.sizes device p.header.hdr_size p.copies.first p.copies.second has
-    (g.met.D.Disk.geometry c.args.disk.now).known
-    (size-pages p.header.hdr_size is.first.whole.one_of_nine) is.first.whole.whole
-    is.second.whole.whole is.room)
+    (copies-fit p is device has (g.met.D.Disk.geometry c.args.disk.now).known)

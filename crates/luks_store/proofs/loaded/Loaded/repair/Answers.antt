@@ -1,8 +1,8 @@
-use Rattle.std.proofs.Common.{◌≤◌, length, refl, sym, subst, ◌*◌, max}
+use Rattle.std.proofs.Common.{◌≤◌, length, refl, sym, subst, ◌*◌}
 use Rattle.luks_store.proofs.CopyLemmas.{long_enough}
 use Rattle.luks_store.proofs.RepairLemmas.{first-fits, first-repaired, second-fits, second-repaired}
 use Rattle.luks_store.specs.Commits.{FitsDisks, Repairs}
-use Rattle.luks_rules.specs.Areas.{header_bytes, main_bytes}
+use Rattle.luks_store.specs.Devices.{header_room}
 use Rattle.luks_store.specs.declared.loaded.Stored.{Stored}
 use Rattle.luks_store.proofs.loaded.Loaded.repair.Goals as goal
 
@@ -45,7 +45,7 @@ returns-then-not-is_good-clause-fits c =
     subst (λ (s : Stored). FitsDisks s.valid.sizes c.in_ok-repair.repair) c.self.view_is
     (first-fits stored.valid.sizes stored.copies c.in_ok-repair.repair c.self.invariant.copies
     (subst (λ (s : Stored). 2 * s.copies.used.header.hdr_size
-    ≤ max (header_bytes s.valid.sizes) (main_bytes s.valid.sizes))
+    ≤ header_room s.valid.sizes)
     (sym c.self.view_is) c.is_stored.ensures.room) made.place
     (rw c.as_slice-used.ensures at made.size))
 
@@ -56,6 +56,6 @@ returns-then-not-is_good-2-clause-fits c =
     subst (λ (s : Stored). FitsDisks s.valid.sizes c.in_ok-repair-2.repair) c.self.view_is
     (second-fits stored.valid.sizes stored.copies c.in_ok-repair-2.repair c.self.invariant.copies
     (subst (λ (s : Stored). 2 * s.copies.used.header.hdr_size
-    ≤ max (header_bytes s.valid.sizes) (main_bytes s.valid.sizes))
+    ≤ header_room s.valid.sizes)
     (sym c.self.view_is) c.is_stored.ensures.room) made.place
     (rw c.as_slice-used.ensures at made.size))

@@ -1,6 +1,6 @@
 use Rattle.std.proofs.Common.{arith}
 use Rattle.nbd_wire.specs.InfoReplies.{info_replies_text}
-use Rattle.nbd_wire.proofs.InfoReplyLemmas.{replies-joined}
+use Rattle.nbd_wire.proofs.PartLemmas.{replies-joined}
 use Rattle.nbd_wire.proofs.info_replies.InfoReplies.write.Goals as goal
 
 pub returns : goal.returns

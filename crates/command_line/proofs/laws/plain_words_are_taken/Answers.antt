@@ -1,0 +1,8 @@
+use Rattle.command_line.proofs.TakenLemmas.{serve_taken, status_taken}
+use Rattle.command_line.proofs.laws.plain_words_are_taken.Goals as goal
+
+pub returns-clause-serve : goal.returns-clause-serve
+returns-clause-serve c = serve_taken
+
+pub returns-clause-status : goal.returns-clause-status
+returns-clause-status c = status_taken

@@ -1,0 +1,97 @@
+-- Plain words: a command's disk and its options, each in words of its own.
+use Rattle.std.specs.Prelude.{◌≡◌, ◌≢◌, ◌⊎◌, false, List, [], ◌∷◌, ◌++◌, codes, find}
+use Rattle.std.specs.Prelude.{Option, Some, option_map}
+use Rattle.std.specs.List.{list_any}
+use Rattle.std.specs.Str.{bytes_eq}
+use Rattle.clap.specs.Walk.{Text}
+use Rattle.command_line.specs.Commands.{Asked, Serving, Showing, serves, shows}
+use Rattle.command_line.specs.Values.{atom_or_default, number_or}
+
+-- a word that can be no option: it isn't empty, and doesn't begin with a hyphen (45)
+abbrev pub IsPlain : Text → Type 0
+IsPlain [] = ⊥
+IsPlain (byte ∷ rest) = byte ≢ 45
+
+-- what may stand behind a command's name: its disk, an option with its value, or one without
+pub data Piece : Type 0 where
+  disk : Text → Piece
+  valued : Text → Text → Piece
+  flag : Text → Piece
+
+abbrev pub name_of : Piece → Text
+name_of (disk word) = codes "disk"
+name_of (valued name value) = name
+name_of (flag name) = name
+
+-- the value of a piece; an option without one is `true`
+abbrev pub value_of : Piece → Text
+value_of (disk word) = word
+value_of (valued name value) = value
+value_of (flag name) = codes "true"
+
+-- the words of a piece: `DISK`, `--NAME VALUE` or `--NAME`
+abbrev pub spelt : Piece → List Text
+spelt (disk word) = word ∷ []
+spelt (valued name value) = (45 ∷ 45 ∷ name) ∷ value ∷ []
+spelt (flag name) = (45 ∷ 45 ∷ name) ∷ []
+
+unfoldable pub all_spelt : List Piece → List Text
+all_spelt [] = []
+all_spelt (piece ∷ pieces) = spelt piece ++ all_spelt pieces
+
+-- the value that stands behind a name, if one does
+abbrev pub value_in : Text → List Piece → Option Text
+value_in name pieces =
+    option_map value_of (find (λ piece. bytes_eq (name_of piece) name) pieces)
+
+-- no name stands twice
+unfoldable pub AreOnce : List Piece → Type 0
+AreOnce [] = Unit {0}
+AreOnce (piece ∷ pieces) =
+    (list_any (λ other. bytes_eq (name_of piece) (name_of other)) pieces ≡ false) × AreOnce pieces
+
+-- what of these words a plain `serve` may have, and a `status`
+abbrev pub IsServePiece : Piece → Type 0
+IsServePiece (disk word) = IsPlain word
+IsServePiece (valued name value) = IsPlain value × ((name ≡ codes "atom") ⊎ (name ≡ codes "listen")
+    ⊎ (name ≡ codes "workers") ⊎ (name ≡ codes "sessions"))
+IsServePiece (flag name) = (name ≡ codes "plain") ⊎ (name ≡ codes "no-worker")
+
+abbrev pub IsStatusPiece : Piece → Type 0
+IsStatusPiece (disk word) = IsPlain word
+IsStatusPiece (valued name value) = IsPlain value × (name ≡ codes "atom")
+IsStatusPiece (flag name) = ⊥
+
+unfoldable pub AllPieces : (Piece → Type 0) → List Piece → Type 0
+AllPieces Is [] = Unit {0}
+AllPieces Is (piece ∷ pieces) = Is piece × AllPieces Is pieces
+
+-- The pieces of a `serve` on a plain disk, in any order: DISK, `--plain` and `--listen` are there,
+-- and no piece is twice. The atom is 512 or 4096, or left out; the workers are 1 to 16, and the
+-- sessions 1 to 65535, or left out.
+pub record IsServe (pieces : List Piece) (words : Serving) : Type 0 where
+  pub known : AllPieces IsServePiece pieces
+  pub once : AreOnce pieces
+  pub disk_is : value_in (codes "disk") pieces ≡ Some words.disk
+  pub plain_is : value_in (codes "plain") pieces ≡ Some (codes "true")
+  pub address_is : value_in (codes "listen") pieces ≡ Some words.address
+  pub atom_is : atom_or_default (value_in (codes "atom") pieces) ≡ Some words.atom
+  pub workers_are : number_or 4 1 16 (value_in (codes "workers") pieces) ≡ Some words.workers
+  pub sessions_are :
+      number_or 65535 1 65535 (value_in (codes "sessions") pieces) ≡ Some words.sessions
+
+-- the pieces of a `status`, in any order: DISK is there, and the atom may be
+pub record IsStatus (pieces : List Piece) (words : Showing) : Type 0 where
+  pub known : AllPieces IsStatusPiece pieces
+  pub once : AreOnce pieces
+  pub disk_is : value_in (codes "disk") pieces ≡ Some words.disk
+  pub atom_is : atom_or_default (value_in (codes "atom") pieces) ≡ Some words.atom
+
+-- plain words are never refused: what they ask for is what their pieces say
+abbrev pub TakesServe : (List Text → Option Asked) → Type 0
+TakesServe asked = (pieces : List Piece) (words : Serving) → IsServe pieces words →
+    asked (codes "serve" ∷ all_spelt pieces) ≡ Some (serves words)
+
+abbrev pub TakesStatus : (List Text → Option Asked) → Type 0
+TakesStatus asked = (pieces : List Piece) (words : Showing) → IsStatus pieces words →
+    asked (codes "status" ∷ all_spelt pieces) ≡ Some (shows words)

@@ -1,0 +1,9 @@
+pub mod DiskLemmas
+pub mod SlotLemmas
+pub mod ReadyLemmas
+pub mod UnlockLemmas
+pub mod ReadLemmas
+pub mod GapLemmas
+pub mod GapSteps
+pub mod AreaLemmas
+pub mod NewSlotLemmas

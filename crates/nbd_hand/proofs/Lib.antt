@@ -1,0 +1,5 @@
+pub mod DecidedOptions
+mod NameLemmas
+pub mod NegotiationLemmas
+mod OptionLemmas
+mod TakenLemmas

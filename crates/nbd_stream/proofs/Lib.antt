@@ -1,0 +1,7 @@
+pub mod HeadLemmas
+pub mod MomentLemmas
+pub mod PutLemmas
+pub mod StreamLemmas
+mod TakeLemmas
+pub mod TalkLemmas
+pub mod TrafficLemmas
