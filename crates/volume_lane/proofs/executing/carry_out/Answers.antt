@@ -7,9 +7,13 @@ settle-last-requires-clause-at g c =
 
 pub finish-requires-clause-at : goal.finish-requires-clause-at
 finish-requires-clause-at g c =
-    let (session, op, planned) = c.requires.plan in
-    (c.args.volume.now, session, op, c.settle-last.ensures.at c.args.volume.now session op
-    (c.make_pieces-behind.ensures.at session op planned))
+    let (session, op, planned) = c.requires.plan in (
+      c.args.volume.now,
+      session,
+      op,
+      c.settle-last.ensures.at c.args.volume.now session op
+          (c.make_pieces-behind.ensures.at session op planned),
+    )
 
 pub returns : goal.returns
 returns g c = λ session op planned.
