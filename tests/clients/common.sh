@@ -46,6 +46,8 @@ expect() {
 # Starts a server of DISK in atoms of ATOM bytes for so many SESSIONS on a free port. Its process is
 # $server, its port $port, and what it prints is in $room/stdout and $room/stderr.
 serve() {
+    : >"$room/stdout"
+    : >"$room/stderr"
     "${tracer[@]}" "$reencd" serve "$1" --plain --atom "$2" --listen 127.0.0.1:0 --sessions "$3" \
         >"$room/stdout" 2>"$room/stderr" </dev/null &
     server=$!
