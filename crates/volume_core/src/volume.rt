@@ -392,6 +392,3 @@ fn lock(table: &mut Table, lane: u32, range: BlockRange, ask: Ask) -> Standing
     }
     table.enter(lane, range, ask.kind())
 }
-
-#[cfg(test)]
-mod tests;

@@ -1,15 +1,13 @@
 // Two lanes in every order of their events, beside one plain disk.
 
-use super::events::{
-    Answer, admit, ask, finish, read_bytes, read_of, settle, volume_of, write, write_of,
-};
-use crate::Volume;
+use crate::events::{Answer, admit, ask, finish, read_bytes, settle, write};
+use anyhow::{Result, anyhow};
 use base_terms::Bytes;
 use plain_disk::{Op, PlainDisk, Reply};
 use sector_cipher::Context;
 use sector_disk::{Disk, RamDisk};
 use std::alloc::{AllocError, Global};
-use std::test::Fail;
+use volume_core::Volume;
 use volume_machine::Ask;
 
 // How many blocks the disks have.
@@ -21,8 +19,21 @@ const BLOCKS: u64 = 4;
 // held.
 const TURNS: u32 = 6;
 
-// The orders of so many turns of each of two lanes, 12 over 6 = 924, beside each of five plans.
-const ORDERS: u32 = 5 * 924;
+/// A write of blocks of 512 bytes, and a read of them.
+fn write_of(block: u64, blocks: u64) -> Ask {
+    Ask::Write {
+        offset: block % 65536 * 512,
+        length: blocks % 65536 * 512,
+        fua: false,
+    }
+}
+
+fn read_of(block: u64, blocks: u32) -> Ask {
+    Ask::Read {
+        offset: block % 65536 * 512,
+        length: blocks % 65536 * 512,
+    }
+}
 
 // What lanes do, on four blocks: one operation after the other.
 fn plans() -> [[Ask; 2]; 5] {
@@ -81,18 +92,18 @@ impl Lane {
         alloc: Global,
         volume: &mut Volume<RamDisk, Context>,
         plain: &mut PlainDisk,
-    ) -> Result<bool, AllocError> {
+    ) -> std::result::Result<bool, AllocError> {
         let ended = self.ended;
         let Some((asked, byte)) = self.plan.get(ended).copied() else {
             return Ok(true);
         };
-        if self.next == Event::Ask && ask(volume, self.number) == Answer::Held {
+        if self.next == Event::Ask && is_held(volume, self.number) {
             self.next = Event::Piece;
         }
         let event = self.next;
         self.next = match self.answer(alloc, volume, asked, byte)? {
-            Answer::Held if asked == Ask::Flush => Event::Settle,
-            Answer::Held => Event::Piece,
+            Answer::Held(..) if asked == Ask::Flush => Event::Settle,
+            Answer::Held(..) => Event::Piece,
             Answer::Waiting(_) => Event::Ask,
             Answer::Done if event == Event::Piece && is_kept(asked) => Event::Settle,
             Answer::Done if event == Event::Piece => Event::Finish,
@@ -113,7 +124,7 @@ impl Lane {
         volume: &mut Volume<RamDisk, Context>,
         asked: Ask,
         byte: u8,
-    ) -> Result<Answer, AllocError> {
+    ) -> std::result::Result<Answer, AllocError> {
         let lane = self.number;
         match (self.next, asked) {
             (Event::Admit, _) => {
@@ -151,6 +162,13 @@ impl Lane {
     }
 }
 
+fn is_held(volume: &Volume<RamDisk, Context>, lane: u32) -> bool {
+    match ask(volume, lane) {
+        Answer::Held(..) => true,
+        _ => false,
+    }
+}
+
 fn is_kept(ask: Ask) -> bool {
     match ask {
         Ask::Write { fua, .. } => fua,
@@ -159,7 +177,7 @@ fn is_kept(ask: Ask) -> bool {
 }
 
 // What an operation is to the plain disk.
-fn op_of(alloc: Global, ask: Ask, byte: u8) -> Result<Op, AllocError> {
+fn op_of(alloc: Global, ask: Ask, byte: u8) -> std::result::Result<Op, AllocError> {
     Ok(match ask {
         Ask::Read { offset, length } => Op::Read { offset, length },
         Ask::Write {
@@ -177,12 +195,17 @@ fn op_of(alloc: Global, ask: Ask, byte: u8) -> Result<Op, AllocError> {
 
 // Whether two lanes that take their turns in this order, and then one after the other, have the
 // replies of one plain disk, end, and leave on the disk what the plain disk holds.
-fn is_served(alloc: Global, one: [Ask; 2], other: [Ask; 2], order: u32) -> Result<bool, Fail> {
-    let mut volume = volume_of(RamDisk::new(alloc, 512, BLOCKS)?, alloc, 3)?;
+fn is_served(alloc: Global, one: [Ask; 2], other: [Ask; 2], order: u32) -> Result<bool> {
+    let Ok(mut volume) = Volume::plain(alloc, RamDisk::new(alloc, 512, BLOCKS)?, 3) else {
+        return Err(anyhow!("no memory for a volume"));
+    };
     let mut plain = PlainDisk::new(alloc, 512, BLOCKS)?;
     let mut first = Lane::new(0, one, [1, 2]);
     let mut second = Lane::new(1, other, [3, 4]);
     for turn in 0..6 * TURNS {
+        if first.is_done() && second.is_done() {
+            break;
+        }
         let is_second = if turn < 2 * TURNS {
             (order >> turn) % 2 == 1
         } else {
@@ -206,18 +229,24 @@ fn is_served(alloc: Global, one: [Ask; 2], other: [Ask; 2], order: u32) -> Resul
 }
 
 // Whether an atom of the disk is the newest value of the plain disk's block.
-fn holds_the_newest(disk: &mut RamDisk, plain: &PlainDisk, block: u64) -> Result<bool, Fail> {
+fn holds_the_newest(disk: &mut RamDisk, plain: &PlainDisk, block: u64) -> Result<bool> {
     if disk.atom() != 512 || block >= disk.atoms() || block >= plain.blocks() {
         return Ok(false);
     }
     let mut atom = [0u8; 512];
-    disk.read(block, &mut atom)?;
+    if disk.read(block, &mut atom).is_err() {
+        return Ok(false);
+    }
     Ok(atom.as_slice() == plain.newest(block))
 }
 
-// How many orders are served where the first lane has this plan, and the second each of them. The
-// bits of an order tell, from the lowest on, which turns are the second lane's.
-fn orders_served(alloc: Global, one: [Ask; 2]) -> Result<u32, Fail> {
+/// How many orders are served where the first lane has the plan of this number, and the second each
+/// of them. The bits of an order tell, from the lowest on, which turns are the second lane's. There
+/// are 12 over 6 = 924 orders of six turns of each of two lanes, beside each of five plans.
+pub(crate) fn orders_served(alloc: Global, plan: usize) -> Result<u32> {
+    let Some(one) = plans().get(plan).copied() else {
+        return Err(anyhow!("no such plan"));
+    };
     let mut count = 0u32;
     for other in plans() {
         for order in 0..1u32 << (2 * TURNS) {
@@ -227,34 +256,4 @@ fn orders_served(alloc: Global, one: [Ask; 2]) -> Result<u32, Fail> {
         }
     }
     Ok(count)
-}
-
-#[test]
-fn a_write_then_a_read_is_served_in_every_order(rt: HostRuntime) -> Result<(), Fail> {
-    assert_eq!(rt; orders_served(rt.alloc(), plans()[0])?, ORDERS);
-    Ok(())
-}
-
-#[test]
-fn a_kept_write_then_a_flush_is_served_in_every_order(rt: HostRuntime) -> Result<(), Fail> {
-    assert_eq!(rt; orders_served(rt.alloc(), plans()[1])?, ORDERS);
-    Ok(())
-}
-
-#[test]
-fn a_read_then_a_write_is_served_in_every_order(rt: HostRuntime) -> Result<(), Fail> {
-    assert_eq!(rt; orders_served(rt.alloc(), plans()[2])?, ORDERS);
-    Ok(())
-}
-
-#[test]
-fn a_flush_then_a_read_is_served_in_every_order(rt: HostRuntime) -> Result<(), Fail> {
-    assert_eq!(rt; orders_served(rt.alloc(), plans()[3])?, ORDERS);
-    Ok(())
-}
-
-#[test]
-fn a_refused_write_then_a_read_is_served_in_every_order(rt: HostRuntime) -> Result<(), Fail> {
-    assert_eq!(rt; orders_served(rt.alloc(), plans()[4])?, ORDERS);
-    Ok(())
 }

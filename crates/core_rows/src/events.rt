@@ -7,23 +7,22 @@ ghost use Rattle.volume_machine.specs.States.{IsClient, open_at};
 ghost use Rattle.volume_machine.specs.Steps.{Meets, Holds, HasPiece};
 ghost use Rattle.volume_machine.specs.declared.ask.Ask.{Ask};
 
-use crate::Volume;
-use crate::answers::{Admitted, Asked, PieceRead, PieceWritten, Settled};
 use base_terms::{Buffer, Bytes};
 use cipher_laws::SectorCipher;
-use range_lock::Standing;
-use sector_cipher::Context;
-use sector_disk::{Disk, RamDisk};
-use segment_map::Piece;
+use sector_disk::Disk;
+use segment_map::{Map, Piece};
 use std::alloc::{AllocError, Global};
-use std::test::Fail;
+use volume_core::{Admitted, Asked, Grant, PieceRead, PieceWritten, Settled, Volume};
 use volume_machine::{Ask, Open, Prepared};
 
-// What an operation, or one of its events, was answered. `Got` has the first and the last byte, in
-// plain; `Unmet` says that the call's conditions aren't met.
+/// What an operation, or one of its events, was answered. `Held` has the blocks, from the first to
+/// the one after the last; `Astray` says that they were granted with another map than the
+/// volume's; `Got` has the first and the last byte, in plain; `Unmet` says that the call's
+/// conditions aren't met.
 #[derive(Clone, Copy, Debug, PartialEq, Eq)]
-pub(super) enum Answer {
-    Held,
+pub(crate) enum Answer {
+    Held(u64, u64),
+    Astray,
     Waiting(u32),
     Refused(u32),
     Got(u8, u8),
@@ -36,46 +35,25 @@ pub(super) enum Answer {
 // What a lane's call asks of the volume.
 
 #[tactic(auto, unfolding(volume_machine::specs::Steps::Can))]
-pub(super) fn can_admit<D: Disk, C: SectorCipher + Copy>(volume: &Volume<D, C>, lane: u32) -> bool
+pub(crate) fn can_admit<D: Disk, C: SectorCipher + Copy>(volume: &Volume<D, C>, lane: u32) -> bool
     ensures { (session : ℕ) (ask : Ask) → IsTrue result
         → Meets volume.now (admits lane session ask) }
 {
-    is_client(volume, lane) && open_in(volume, lane).is_none()
+    volume.is_client(lane) && volume.operation(lane).is_none()
 }
 
-fn is_client<D: Disk, C: SectorCipher + Copy>(volume: &Volume<D, C>, lane: u32) -> bool
-    ensures { IsTrue result → IsClient volume.now lane }
-{
-    (lane as usize) + 1 < volume.lanes.len()
-}
-
-fn open_in<D: Disk, C: SectorCipher + Copy>(volume: &Volume<D, C>, lane: u32) -> Option<Open>
-    ensures { result ≡ open_at volume.now.lanes lane }
-{
-    match volume.lanes.get(lane as usize) {
-        Some(open) => *open,
-        None => None,
-    }
-}
-
-// The operation of a lane of clients.
+/// The operation of a lane of clients.
 fn client_open<D: Disk, C: SectorCipher + Copy>(volume: &Volume<D, C>, lane: u32) -> Option<Open>
     ensures is { IfSome result (λ o. open_at volume.now.lanes lane ≡ Some o) }
     ensures client { OnSome result (IsClient volume.now lane) }
 {
-    if !is_client(volume, lane) {
+    if !volume.is_client(lane) {
         return None;
     }
-    open_in(volume, lane)
+    volume.operation(lane)
 }
 
-fn is_held<D: Disk, C: SectorCipher + Copy>(volume: &Volume<D, C>, lane: u32) -> bool
-    ensures { IsTrue result → Holds volume.now lane }
-{
-    volume.table.has_entry(lane) && volume.table.ask(lane) == Standing::Held
-}
-
-// The operation of a lane that holds its blocks, with its next piece.
+/// The operation of a lane that holds its blocks, with its next piece.
 fn next_piece<D: Disk, C: SectorCipher + Copy>(
     volume: &Volume<D, C>,
     lane: u32,
@@ -90,13 +68,13 @@ fn next_piece<D: Disk, C: SectorCipher + Copy>(
     let Some(open) = client_open(volume, lane) else {
         return None;
     };
-    if open.failed || open.next >= open.range.end || open.range.end > volume.map.blocks {
+    if open.failed || open.next >= open.range.end || open.range.end > volume.map().blocks {
         return None;
     }
-    if !is_held(volume, lane) {
+    if !volume.is_held(lane) {
         return None;
     }
-    Some((open, volume.map.next_piece(open.rest())))
+    Some((open, volume.map().next_piece(open.rest())))
 }
 
 #[tactic(auto, unfolding(volume_machine::specs::Steps::Can))]
@@ -122,7 +100,7 @@ fn can_finish<D: Disk, C: SectorCipher + Copy>(volume: &Volume<D, C>, lane: u32)
     let Some(open) = client_open(volume, lane) else {
         return false;
     };
-    if !is_held(volume, lane) {
+    if !volume.is_held(lane) {
         return false;
     }
     match open.ask {
@@ -137,7 +115,15 @@ fn can_finish<D: Disk, C: SectorCipher + Copy>(volume: &Volume<D, C>, lane: u32)
 
 // The events of a lane.
 
-pub(super) fn admit<D: Disk, C: SectorCipher + Copy>(
+/// The blocks of a grant by a volume of this map.
+fn held(grant: Grant, map: Map) -> Answer {
+    if grant.map != map {
+        return Answer::Astray;
+    }
+    Answer::Held(grant.range.start, grant.range.end)
+}
+
+pub(crate) fn admit<D: Disk, C: SectorCipher + Copy>(
     volume: &mut Volume<D, C>,
     lane: u32,
     ask: Ask,
@@ -146,25 +132,25 @@ pub(super) fn admit<D: Disk, C: SectorCipher + Copy>(
         return Answer::Unmet;
     }
     match volume.admit(lane, u64::from(lane), ask) {
-        Admitted::Held(_) => Answer::Held,
+        Admitted::Held(grant) => held(grant, volume.map()),
         Admitted::Waiting(other) => Answer::Waiting(other),
         Admitted::Refused(number) => Answer::Refused(number),
     }
 }
 
 #[tactic(auto, unfolding(volume_machine::specs::Steps::Can))]
-pub(super) fn ask<D: Disk, C: SectorCipher + Copy>(volume: &Volume<D, C>, lane: u32) -> Answer {
+pub(crate) fn ask<D: Disk, C: SectorCipher + Copy>(volume: &Volume<D, C>, lane: u32) -> Answer {
     match client_open(volume, lane) {
         Some(open) if open.ask.has_lock() => {}
         _ => return Answer::Unmet,
     }
     match volume.ask(lane) {
-        Asked::Held(_) => Answer::Held,
+        Asked::Held(grant) => held(grant, volume.map()),
         Asked::Waiting(other) => Answer::Waiting(other),
     }
 }
 
-// The first and the last of some bytes.
+/// The first and the last of some bytes.
 fn ends(bytes: &[u8]) -> Answer {
     match (bytes.first(), bytes.last()) {
         (Some(first), Some(last)) => Answer::Got(*first, *last),
@@ -172,7 +158,7 @@ fn ends(bytes: &[u8]) -> Answer {
     }
 }
 
-pub(super) fn read<D: Disk, C: SectorCipher + Copy>(
+pub(crate) fn read<D: Disk, C: SectorCipher + Copy>(
     volume: &mut Volume<D, C>,
     alloc: Global,
     lane: u32,
@@ -183,9 +169,9 @@ pub(super) fn read<D: Disk, C: SectorCipher + Copy>(
     }
 }
 
-// All bytes of a piece, in plain, or what was answered in their place.
+/// All bytes of a piece, in plain, or what was answered in their place.
 #[tactic(auto, unfolding(volume_machine::specs::Steps::Can))]
-pub(super) fn read_bytes<D: Disk, C: SectorCipher + Copy>(
+pub(crate) fn read_bytes<D: Disk, C: SectorCipher + Copy>(
     volume: &mut Volume<D, C>,
     alloc: Global,
     lane: u32,
@@ -213,7 +199,7 @@ pub(super) fn read_bytes<D: Disk, C: SectorCipher + Copy>(
 }
 
 #[tactic(auto, unfolding(volume_machine::specs::Steps::Can))]
-pub(super) fn write<D: Disk, C: SectorCipher + Copy>(
+pub(crate) fn write<D: Disk, C: SectorCipher + Copy>(
     volume: &mut Volume<D, C>,
     alloc: Global,
     lane: u32,
@@ -237,7 +223,7 @@ pub(super) fn write<D: Disk, C: SectorCipher + Copy>(
     }
 }
 
-pub(super) fn settle<D: Disk, C: SectorCipher + Copy>(
+pub(crate) fn settle<D: Disk, C: SectorCipher + Copy>(
     volume: &mut Volume<D, C>,
     lane: u32,
 ) -> Answer {
@@ -251,7 +237,7 @@ pub(super) fn settle<D: Disk, C: SectorCipher + Copy>(
     }
 }
 
-pub(super) fn finish<D: Disk, C: SectorCipher + Copy>(
+pub(crate) fn finish<D: Disk, C: SectorCipher + Copy>(
     volume: &mut Volume<D, C>,
     lane: u32,
 ) -> Answer {
@@ -260,38 +246,4 @@ pub(super) fn finish<D: Disk, C: SectorCipher + Copy>(
     }
     volume.finish(lane);
     Answer::Done
-}
-
-pub(super) fn write_of(block: u64, blocks: u64) -> Ask {
-    Ask::Write {
-        offset: block % 65536 * 512,
-        length: blocks % 65536 * 512,
-        fua: false,
-    }
-}
-
-pub(super) fn read_of(block: u64, blocks: u32) -> Ask {
-    Ask::Read {
-        offset: block % 65536 * 512,
-        length: blocks % 65536 * 512,
-    }
-}
-
-pub(super) fn small(alloc: Global, lanes: u32) -> Result<Volume<RamDisk, Context>, Fail>
-    requires { 0 < lanes }
-{
-    volume_of(RamDisk::new(alloc, 512, 16)?, alloc, lanes)
-}
-
-pub(super) fn volume_of<D: Disk + Drop>(
-    disk: D,
-    alloc: Global,
-    lanes: u32,
-) -> Result<Volume<D, Context>, Fail>
-    requires { 0 < lanes }
-{
-    match Volume::plain(alloc, disk, lanes) {
-        Ok(volume) => Ok(volume),
-        Err(_) => Err(AllocError)?,
-    }
 }
