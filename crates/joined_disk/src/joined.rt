@@ -1,7 +1,7 @@
 // Two disks as one.
 
 ghost use Rattle.std.specs.Prelude.{◌≡◌, ℕ, ◌+◌, ◌*◌, ◌^◌, ◌<◌, ◌≤◌, List, ◌++◌, [], length, take};
-ghost use Rattle.std.specs.Prelude.{None, Some, false, true, is_some};
+ghost use Rattle.std.specs.Prelude.{None, Some, false, true, is_some, if◌then◌else◌};
 ghost use Rattle.joined_disk.specs.Joined.{Follows, nothing, in_front, joint_of, joint_told};
 ghost use Rattle.joined_disk.specs.Joined.{joined_disk, begun_joint, used_atoms, with_marks};
 ghost use Rattle.joined_disk.specs.JoinedLaws.{Follows-prop};
@@ -127,14 +127,17 @@ impl<D: Disk> JoinedDisk<D> {
         self.head.is_some()
     }
 
-    /// The sizes that a header on it is judged by. Neither the header's disk nor the main disk has
-    /// more atoms than both.
+    /// The sizes that a header on it is judged by. The atoms of the main disk, and before them those
+    /// of a header's disk that is one of its own, are all that there are.
     pub fn sizes(&self) -> Sizes
         ensures is { result ≡ sizes_of self.now }
         ensures atom { result.atom ≡ (joined_disk (joint_in self.now)).size }
         ensures known { IsAtom result.atom }
         ensures header { result.header_atoms ≤ (joined_disk (joint_in self.now)).atoms }
         ensures main { result.main_atoms ≤ (joined_disk (joint_in self.now)).atoms }
+        ensures all { (if result.detached then result.header_atoms else 0) + result.main_atoms
+            ≡ (joined_disk (joint_in self.now)).atoms }
+        ensures alone { result.detached ≡ false → result.header_atoms ≡ result.main_atoms }
         ensures fits { (joined_disk (joint_in self.now)).atoms * result.atom < 2 ^ 63 }
         ensures whole { (all : List ℕ) → (joined_disk (joint_in self.now)).values ≡ Some all →
             length all ≡ (joined_disk (joint_in self.now)).atoms * result.atom }
