@@ -1,22 +1,26 @@
 -- Lemmas on copies that would be found in front of the secondary.
 use Rattle.std.proofs.Common.{◌≡◌, ℕ, zero, suc, ◌+◌, ◌-◌, ◌*◌, ◌/◌, ◌%◌, ◌<◌, ◌≤◌, true, false}
-use Rattle.std.proofs.Common.{List, ◌++◌, drop, Option, Some, None, refl, sym, ◌∙◌, ap, subst}
+use Rattle.std.proofs.Common.{Bool, List, ◌++◌, drop, Option, Some, None, refl, sym, ◌∙◌, ap, subst}
 use Rattle.std.proofs.Common.{arith}
 use Rattle.std.specs.Prelude.{Contains}
 use Rattle.std.proofs.Math.Nat.{lt_of_mul-lt-mul_right}
 use Rattle.std.proofs.lemmas.List.{append-nil}
 use Rattle.disk_areas.proofs.HeadersGiven.{some_none}
-use Rattle.disk_areas.specs.Areas.{Area, AreApart, Image, IsOf, IsWhole, content_of, text_from}
+use Rattle.disk_areas.specs.Areas.{Area, AreApart, Image, IsOf, IsWhole, Shows, content_of}
+use Rattle.disk_areas.specs.Areas.{text_from}
 use Rattle.disk_areas.specs.Commits.{Stage, begun, first_written, first_kept, second_written}
 use Rattle.disk_areas.specs.Commits.{CommitCall, CommitFails, WritesCopy, TriesCopy}
 use Rattle.disk_areas.specs.Fronts.{FrontsBegin, BeginsNone, HidesNone, ShowsNone, FrontsStay}
-use Rattle.disk_areas.specs.Fronts.{FrontsGive}
+use Rattle.disk_areas.specs.Fronts.{FrontsGive, FrontsBeginAnyhow, FrontsBeginRepair}
+use Rattle.disk_areas.specs.Fronts.{FrontsStayBeside}
+use Rattle.disk_areas.specs.Fronts.{CallElsewhere, reads, syncs, writes_elsewhere, sync_fails}
+use Rattle.disk_areas.specs.Fronts.{write_fails_elsewhere}
 use Rattle.disk_areas.specs.Headers.{Copy, primary, secondary, Reader, Layout, Header, text_of}
 use Rattle.disk_areas.specs.Headers.{found}
 use Rattle.disk_views.specs.Views.{View, IsTried, IsWritten}
 use Rattle.disk_areas.proofs.AreaTexts.{area_at}
 use Rattle.disk_areas.proofs.AreasShown.{synced, thinned, whole_failed, whole_written, beside}
-use Rattle.disk_areas.proofs.AreasShown.{failed_beside, weaker}
+use Rattle.disk_areas.proofs.AreasShown.{failed_beside, unchanged, weaker}
 
 -- ---- what is written to the primary hides none
 written_none : {M : Type 0} (reader : Reader M) (atom : ℕ) (layout : Layout) (text : List ℕ)
@@ -41,12 +45,29 @@ tried_none reader atom layout text old new hides shows step =
     whole_failed atom text old new layout.first _ _ _ (BeginsNone reader atom) hides
     (λ i value below it. it) step shows
 
-pub fronts_begin : FrontsBegin
-fronts_begin = λ reader atom layout from to broken view hides shows.
-    weaker layout.first (IsOf atom (text_of from primary)) (IsOf atom (text_of from primary))
+-- a primary that is certain to stand, and hides none
+standing_none : {M : Type 0} {broken : Bool} {view : View} (reader : Reader M) (atom : ℕ)
+    (layout : Layout) (text : List ℕ)
+    → HidesNone reader atom layout.first text
+    → Shows layout.first (IsOf atom text) (IsOf atom text) broken view
+    → ShowsNone reader atom layout broken view
+standing_none reader atom layout text hides shows =
+    weaker layout.first (IsOf atom text) (IsOf atom text)
     (BeginsNone reader atom) (BeginsNone reader atom)
     (λ i value below is. subst (BeginsNone reader atom i) (sym is) (hides i below))
-    (λ i value below is. subst (BeginsNone reader atom i) (sym is) (hides i below)) shows.first
+    (λ i value below is. subst (BeginsNone reader atom i) (sym is) (hides i below)) shows
+
+pub fronts_begin : FrontsBegin
+fronts_begin = λ reader atom layout from to broken view hides shows.
+    standing_none reader atom layout (text_of from primary) hides shows.first
+
+pub fronts_begin_anyhow : FrontsBeginAnyhow
+fronts_begin_anyhow = λ reader atom layout text broken view hides shows.
+    standing_none reader atom layout text hides shows
+
+pub fronts_begin_repair : FrontsBeginRepair
+fronts_begin_repair = λ reader atom layout header written broken view hides shows.
+    standing_none reader atom layout (text_of header primary) hides shows.good
 
 -- ---- each call
 copy_none : {M : Type 0} (reader : Reader M) (atom : ℕ) (layout : Layout) (to : Header M)
@@ -92,6 +113,28 @@ fronts_stay = λ reader atom layout to old new apart hides shows. record {
   commit = λ stage. call_none reader atom layout to stage old new apart hides shows;
   repair = λ bad. copy_none reader atom layout to bad old new apart hides shows;
 }
+
+-- ---- a call of somebody else's
+elsewhere_none : {M : Type 0} (reader : Reader M) (atom : ℕ) (layout : Layout) (failed : Bool)
+    (old new : View)
+    → CallElsewhere atom layout old new failed → ShowsNone reader atom layout false old
+    → ShowsNone reader atom layout failed new
+elsewhere_none reader atom layout _ old new (reads step) shows =
+    unchanged old new layout.first _ _ step shows
+elsewhere_none reader atom layout _ old new (syncs step) shows =
+    synced old new layout.first _ _ step shows
+elsewhere_none reader atom layout _ old new (writes_elsewhere area text apart step) shows =
+    beside atom area.start 0 area.count text old new layout.first area _ _ apart (omega arith)
+    (omega arith) step shows
+elsewhere_none reader atom layout _ old new (sync_fails step) shows =
+    thinned old new layout.first _ _ step shows
+elsewhere_none reader atom layout _ old new (write_fails_elsewhere area text apart step) shows =
+    failed_beside atom area.start 0 area.count text old new layout.first area _ _ _ apart
+    (omega arith) (omega arith) step shows
+
+pub fronts_stay_beside : FrontsStayBeside
+fronts_stay_beside = λ reader atom layout failed old new call shows.
+    elsewhere_none reader atom layout failed old new call shows
 
 -- ---- an image
 none-or : {M : Type 0} (o : Option M) → ((m : M) → o ≡ Some m → ⊥) → o ≡ None

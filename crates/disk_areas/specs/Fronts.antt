@@ -2,13 +2,14 @@
 -- are torn. A copy is told by its front, so it is asked of each atom of the primary's area that no
 -- copy begins with it, whatever stands behind it.
 use Rattle.std.specs.Prelude.{ℕ, ◌≡◌, ◌*◌, ◌%◌, ◌<◌, Bool, true, false, List, ◌++◌, Some, None}
-use Rattle.disk_areas.specs.Areas.{Area, AreApart, Image, Shows, content_of}
+use Rattle.disk_areas.specs.Areas.{Area, AreApart, Image, IsOf, Shows, content_of}
 use Rattle.disk_areas.specs.Commits.{Stage, begun, ShowsCommit, CommitCall, CommitFails}
-use Rattle.disk_areas.specs.Commits.{WritesCopy, TriesCopy}
-use Rattle.disk_areas.specs.Headers.{Copy, primary, Reader, HasNoneBelow, Layout, Header, text_of}
+use Rattle.disk_areas.specs.Commits.{WritesCopy, TriesCopy, ShowsRepair}
+use Rattle.disk_areas.specs.Headers.{Copy, primary, secondary, Reader, HasNoneBelow, Layout, Header}
+use Rattle.disk_areas.specs.Headers.{text_of}
 use Rattle.disk_areas.specs.Promises.{IsImageOf}
 use Rattle.disk_views.specs.Parts.{block_at}
-use Rattle.disk_views.specs.Views.{View}
+use Rattle.disk_views.specs.Views.{View, IsUnchanged, IsWritten, IsTried, IsSynced, IsThinned}
 
 -- no copy begins with this atom of a disk, but at its front
 abbrev pub BeginsNone : {M : Type 0} → Reader M → ℕ → ℕ → List ℕ → Type 0
@@ -45,6 +46,25 @@ FrontsStay =
     → ShowsNone reader atom layout false old
     → FrontsKept reader atom layout to old new
 
+-- A device call of anybody's that leaves the primary's area alone, and whether it failed.
+pub data CallElsewhere (atom : ℕ) (layout : Layout) (old new : View) : Bool → Type 0 where
+  -- a read leaves all as it was, also one that failed
+  reads : IsUnchanged old new → CallElsewhere atom layout old new false
+  syncs : IsSynced old new → CallElsewhere atom layout old new false
+  writes_elsewhere : (area : Area) (text : List ℕ) → AreApart layout.first area
+      → IsWritten atom area.start area.count text old new
+      → CallElsewhere atom layout old new false
+  sync_fails : IsThinned old new → CallElsewhere atom layout old new true
+  write_fails_elsewhere : (area : Area) (text : List ℕ) → AreApart layout.first area
+      → IsTried atom area.start area.count text old new → CallElsewhere atom layout old new true
+
+-- It keeps it so as well, whatever was being committed or repaired.
+abbrev pub FrontsStayBeside : Type 0
+FrontsStayBeside =
+    (reader : Reader (List ℕ)) (atom : ℕ) (layout : Layout) (failed : Bool) (old new : View)
+    → CallElsewhere atom layout old new failed → ShowsNone reader atom layout false old
+    → ShowsNone reader atom layout failed new
+
 -- They begin so, where both copies hold a header whose primary hides none.
 abbrev pub FrontsBegin : Type 0
 FrontsBegin =
@@ -52,6 +72,25 @@ FrontsBegin =
     (broken : Bool) (view : View)
     → HidesNone reader atom layout.first (text_of from primary)
     → ShowsCommit atom layout from to begun broken view
+    → ShowsNone reader atom layout broken view
+
+-- So does a repair of the secondary, beside a primary that hides none.
+abbrev pub FrontsBeginRepair : Type 0
+FrontsBeginRepair =
+    (reader : Reader (List ℕ)) (atom : ℕ) (layout : Layout) (header : Header (List ℕ))
+    (written broken : Bool) (view : View)
+    → HidesNone reader atom layout.first (text_of header primary)
+    → ShowsRepair atom layout header secondary written broken view
+    → ShowsNone reader atom layout broken view
+
+-- So does whatever is done beside a text that stands in the primary's area for certain, and hides
+-- none: one that is older, or no copy.
+abbrev pub FrontsBeginAnyhow : Type 0
+FrontsBeginAnyhow =
+    (reader : Reader (List ℕ)) (atom : ℕ) (layout : Layout) (text : List ℕ) (broken : Bool)
+    (view : View)
+    → HidesNone reader atom layout.first text
+    → Shows layout.first (IsOf atom text) (IsOf atom text) broken view
     → ShowsNone reader atom layout broken view
 
 -- And then no image has a copy in front of the secondary but the primary: copies stand at whole

@@ -2,7 +2,8 @@
 
 ghost use Rattle.std.specs.Prelude.{ℕ, List};
 ghost use Rattle.disk_areas.specs.Firsts.{FirstGoes};
-ghost use Rattle.disk_areas.specs.Fronts.{FrontsBegin, FrontsGive, FrontsStay};
+ghost use Rattle.disk_areas.specs.Fronts.{FrontsBegin, FrontsBeginAnyhow, FrontsBeginRepair};
+ghost use Rattle.disk_areas.specs.Fronts.{FrontsGive, FrontsStay, FrontsStayBeside};
 ghost use Rattle.disk_areas.specs.Headers.{Header, Layout};
 ghost use Rattle.disk_areas.specs.Promises.{CommitDated, CommitGives, CommitGoes, HeaderIsOne};
 ghost use Rattle.disk_areas.specs.Promises.{ImageTaken, OpeningDated, RepairDated, RepairGives};
@@ -52,9 +53,14 @@ pub fn first_headers_are_kept()
 
 /// Where no copy begins with an atom of the primary, but with its first, nor with one of what
 /// commits and repairs write there, each image that a stop leaves has no copy in front of the
-/// secondary but the primary, however their writes are torn.
+/// secondary but the primary, however their writes are torn, and whatever others call the disk for
+/// outside the primary. It is so at the beginning where what stands in the primary's place hides
+/// none: of a commit, of a repair of the secondary, and of whatever is done beside any such text.
 pub fn fronts_are_kept()
     ensures begin { FrontsBegin }
+    ensures begin_repair { FrontsBeginRepair }
+    ensures begin_anyhow { FrontsBeginAnyhow }
     ensures stay { FrontsStay }
+    ensures beside { FrontsStayBeside }
     ensures give { FrontsGive }
 {}

@@ -1,5 +1,6 @@
 pub mod AreaLemmas
 pub mod FieldLemmas
+pub mod HiddenLemmas
 pub mod PieceLemmas
 pub mod ReadLemmas
 pub mod WriteLemmas

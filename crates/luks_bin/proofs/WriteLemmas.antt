@@ -118,7 +118,7 @@ field-own place salt copy is h =
       stays 256 8 (omega arith) ∙ field-nth 2 pieces copy (omega arith) refl within,
     )
 
-length-moved : (place : ℕ) (salt copy : List ℕ) → length salt ≡ 64 → 4096 ≤ length copy
+pub length-moved : (place : ℕ) (salt copy : List ℕ) → length salt ≡ 64 → 4096 ≤ length copy
     → length (moved place salt copy) ≡ length copy
 unfolding moved
 length-moved place salt copy is h =
@@ -134,7 +134,7 @@ csum-moved place salt copy is h =
     length-paste_all (own_pieces place salt) copy (own-within place salt copy is h) in
     csum-summed (paste_all (own_pieces place salt) copy) (omega arith)
 
-back-moved : (place : ℕ) (salt copy : List ℕ) → length salt ≡ 64 → 4096 ≤ length copy
+pub back-moved : (place : ℕ) (salt copy : List ℕ) → length salt ≡ 64 → 4096 ≤ length copy
     → drop 512 (moved place salt copy) ≡ drop 512 copy
 unfolding moved
 back-moved place salt copy is h =
@@ -375,7 +375,7 @@ written-back h json is right fits =
     right.place in
     spells h.hdr_offset _ h (begins _ h copy)
 
-length-common : (h : BinHeader) (json : List ℕ) → IsShaped h → IsWritable h
+pub length-common : (h : BinHeader) (json : List ℕ) → IsShaped h → IsWritable h
     → FitsArea h.hdr_size json → 4096 ≤ length (common h json)
 length-common h json is right fits =
     let has : HasCommon (common h json) h = common-has h json is right fits in
@@ -410,7 +410,7 @@ drop-pasted old at bytes h =
     ∙ drop_at (take at old) (bytes ++ drop (at + length bytes) old) at
     (length-take-le at old (omega arith))
 
-drop-common : (h : BinHeader) (json : List ℕ) → IsShaped h → 16384 ≤ h.hdr_size
+pub drop-common : (h : BinHeader) (json : List ℕ) → IsShaped h → 16384 ≤ h.hdr_size
     → 4096 + length json < h.hdr_size
     → drop 4096 (common h json) ≡ json ++ replicate (h.hdr_size - (4096 + length json)) 0
 unfolding common

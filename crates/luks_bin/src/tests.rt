@@ -239,3 +239,23 @@ fn a_header_by_cryptsetup_is_read(rt: HostRuntime) -> Result<(), Fail> {
     assert_eq!(rt; text_if_whole(&copy), REAL_TEXT);
     Ok(())
 }
+
+#[test]
+fn a_magic_is_found_at_the_places_of_a_secondary_alone(rt: HostRuntime) -> Result<(), Fail> {
+    let alloc = rt.alloc();
+    for (at, magic, hides) in [
+        (16384, b"SKUL\xba\xbe", true),
+        (32768, b"SKUL\xba\xbe", true),
+        (20480, b"SKUL\xba\xbe", false),
+        (0, b"SKUL\xba\xbe", false),
+        (16384, b"LUKS\xba\xbe", false),
+        (16384, b"SKUL\xba\xbf", false),
+    ] {
+        let mut copy = zeros(alloc, 32774)?;
+        put_if_within(&mut copy, at, magic.as_slice());
+        assert_eq!(rt; hides_copy(&copy), hides);
+    }
+    let short = zeros(alloc, 16389)?;
+    assert!(rt; !hides_copy(&short));
+    Ok(())
+}

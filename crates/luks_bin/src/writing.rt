@@ -1,5 +1,8 @@
-ghost use Rattle.std.specs.Prelude.{◌≡◌, ◌⊎◌, ◌≤◌, ◌<◌, ◌+◌, ◌^◌, ℕ, length, replicate, Ok};
+ghost use Rattle.std.specs.Prelude.{◌≡◌, ◌⊎◌, ◌≤◌, ◌<◌, ◌+◌, ◌^◌, ℕ, length, replicate, true};
+ghost use Rattle.std.specs.Prelude.{false, Ok};
+ghost use Rattle.std.specs.Str.{is_utf8};
 ghost use Rattle.luks_bin.specs.Copies.{copy_of, text_of, sum_of, sum_field, IsCopy};
+ghost use Rattle.luks_bin.specs.Hidden.{hides_copy};
 ghost use Rattle.luks_bin.specs.Shares.{Agree};
 ghost use Rattle.luks_bin.specs.Writing.{paste_all, common_pieces, own_pieces, common, summed};
 ghost use Rattle.luks_bin.specs.Writing.{moved, written, IsWritable, FitsArea};
@@ -45,7 +48,7 @@ pub(crate) fn put_sum(copy: &mut [u8])
 
 /// Makes of a whole copy the one that stands at another place, with the salt given: magic, salt,
 /// hdr_offset and checksum are put, all else stays. The place is the byte of the disk, 0 for the
-/// primary.
+/// primary. It hides a copy exactly where the copy did that was moved.
 #[tactic(auto, unfolding(crate::specs::Writing::moved))]
 pub fn move_copy(copy: &mut [u8], place: u64, salt: &[u8; 64])
     requires { 4096 ≤ length copy.old }
@@ -56,6 +59,7 @@ pub fn move_copy(copy: &mut [u8], place: u64, salt: &[u8; 64])
         → copy_of place copy.new ≡ Ok (record h { hdr_offset = place; salt = salt.now }) }
     ensures text { text_of copy.new ≡ text_of copy.old }
     ensures shared { Agree copy.new copy.old }
+    ensures hidden { hides_copy copy.new ≡ hides_copy copy.old }
 {
     put_own(place, salt, copy);
     put_sum(copy);
@@ -69,7 +73,7 @@ fn seqid_fits(header: &BinHeader)
 }
 
 /// Writes the copy of a header with this JSON text into a buffer of its size: zeros stand behind
-/// the text and in the padding.
+/// the text and in the padding. A text that is UTF-8 hides no copy: no magic is part of one.
 #[tactic(auto, unfolding(crate::specs::Writing::written, crate::specs::Writing::common))]
 pub fn write_copy(header: &BinHeader, json: &[u8], buf: &mut [u8])
     requires right { IsWritable header.now }
@@ -79,6 +83,7 @@ pub fn write_copy(header: &BinHeader, json: &[u8], buf: &mut [u8])
     ensures back { copy_of header.now.hdr_offset buf.new ≡ Ok header.now }
     ensures text { text_of buf.new ≡ json.now }
     ensures shared { Agree buf.new (common header.now json.now) }
+    ensures hidden { is_utf8 json.now ≡ true → hides_copy buf.new ≡ false }
 {
     seqid_fits(header);
     buf.fill(0);

@@ -2,6 +2,8 @@ use Rattle.std.proofs.Common.{◌≡◌, List, ℕ, sym, subst, ◌∙◌, ap}
 use Rattle.luks_bin.specs.Copies.{copy_of, text_of}
 use Rattle.luks_bin.specs.Shares.{Agree}
 use Rattle.luks_bin.specs.Writing.{moved, summed}
+use Rattle.luks_bin.specs.Hidden.{hides_copy}
+use Rattle.luks_bin.proofs.HiddenLemmas.{moved-hides}
 use Rattle.luks_bin.proofs.WriteLemmas.{moved-back, text-moved, agree-moved}
 use Rattle.luks_bin.proofs.writing.move_copy.Goals as goal
 
@@ -25,3 +27,8 @@ pub returns-clause-shared : goal.returns-clause-shared
 returns-clause-shared c =
     subst (λ (w : List ℕ). Agree w c.args.copy.now) (sym (now c))
     (agree-moved c.args.place c.args.salt.now c.args.copy.now c.told-salt c.requires)
+
+pub returns-clause-hidden : goal.returns-clause-hidden
+returns-clause-hidden c =
+    ap hides_copy (now c)
+    ∙ moved-hides c.args.place c.args.salt.now c.args.copy.now c.told-salt c.requires

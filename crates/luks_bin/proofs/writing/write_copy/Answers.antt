@@ -1,6 +1,8 @@
 use Rattle.std.proofs.Common.{◌≡◌, replicate, ◌∙◌, ap, arith}
 use Rattle.luks_bin.specs.Copies.{copy_of, text_of}
 use Rattle.luks_bin.specs.Writing.{moved, common, common_pieces, paste_all, written}
+use Rattle.luks_bin.specs.Hidden.{hides_copy}
+use Rattle.luks_bin.proofs.HiddenLemmas.{written-hides}
 use Rattle.luks_bin.proofs.WriteLemmas.{IsShaped, written-back, written-text}
 use Rattle.luks_bin.proofs.writing.write_copy.Goals as goal
 
@@ -35,3 +37,8 @@ pub returns-clause-text : goal.returns-clause-text
 returns-clause-text c =
     ap text_of (now c)
     ∙ written-text c.args.header.now c.args.json.now (shaped c) c.requires.right c.requires.text
+
+pub returns-clause-hidden : goal.returns-clause-hidden
+returns-clause-hidden c = λ utf8.
+    ap hides_copy (now c)
+    ∙ written-hides c.args.header.now c.args.json.now (shaped c) c.requires.right c.requires.text utf8
