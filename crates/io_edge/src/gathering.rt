@@ -47,6 +47,7 @@ impl<W: WritePair> GatheringWriter<W> {
     pub fn new(alloc: Global, capacity: usize, writer: W) -> io::Result<GatheringWriter<W>>
         ensures writer { IfOk result (λ g. g.writer ≡ writer) }
         ensures holds_nothing { IfOk result (λ g. g.held.items ≡ []) }
+        ensures room { IfOk result (λ g. vec_capacity g.held ≡ capacity) }
         ensures err { IfErr result (λ e. error_kind e ≡ ErrorKind.OutOfMemory) }
     {
         let held = Vec::with_capacity(alloc, capacity)?;

@@ -232,12 +232,6 @@ pub of-body : (whole other : List ℕ) (op : Op) (plain : List ℕ) → IsWrite 
 of-body whole other (Ops.Write offset body fua) plain writing so_far = so_far
 of-body whole other _ plain writing so_far = absurd writing
 
--- the front of the whole buffer, where a piece is all of the operation
-pub front-only : (o : Open) (piece : Piece) (whole : List ℕ) (from len : ℕ) →
-    (from ≡ 0) ⊎ IsPart o piece → IsOnly o piece → take len whole ≡ take len (drop from whole)
-front-only o piece whole from len (inl none) only = rw none refl
-front-only o piece whole from len (inr part) only = absurd (part only)
-
 -- the next piece of the body, as it was sealed
 sealed-piece : {C : Type 0} (sector : C → ℕ) (seal unseal : C → ℕ → List ℕ → List ℕ)
     (keys : Keys C) (plan : Plan) (op : Op) (alone : Alone) (map : Map) (piece : Piece)

@@ -63,9 +63,21 @@ bytes_of (Read offset len) = len
 bytes_of (Write offset len fua) = len
 bytes_of Flush = 0
 
+-- and how many of them come in its content
+abbrev pub content_of : Ask → ℕ
+content_of (Read offset len) = len
+content_of (Write offset len fua) = 0
+content_of Flush = 0
+
 -- the longest piece that an operation may have besides others
 abbrev pub part_of : ℕ → Ask → ℕ
 part_of atom ask = min (bytes_of ask - atom) 1048576
+
+-- both buffers are long enough for an operation: the spare one for its content, the other for its
+-- pieces
+pub record HasRoom (atom : ℕ) (ask : Ask) (spare part : List ℕ) : Type 0 where
+  pub content : content_of ask ≤ length spare
+  pub pieces : part_of atom ask ≤ length part
 
 -- what of an operation stands in its buffer: the bytes that were read
 abbrev pub HasPlain : List ℕ → Op → List ℕ → Type 0

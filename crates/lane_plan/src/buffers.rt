@@ -1,6 +1,7 @@
 // Bytes at the front of buffers.
 
-ghost use Rattle.std.specs.Prelude.{◌≡◌, ◌+◌, ◌*◌, ◌≤◌, ◌++◌, [], length, take, max, IfOk};
+ghost use Rattle.std.specs.Prelude.{◌≡◌, ◌+◌, ◌*◌, ◌<◌, ◌≤◌, ◌++◌, [], length, take, max, IfOk};
+ghost use Rattle.std.specs.Prelude.{OnErr};
 ghost use Rattle.sector_disk.specs.Geometry.{IsAtom};
 ghost use Rattle.volume_machine.specs.Seals.{KeysFit, seals_of};
 
@@ -25,6 +26,7 @@ pub(crate) fn taken(alloc: Global, buffer: &mut Buffer) -> Buffer
 pub(crate) fn grown(buffer: Buffer, len: usize) -> Result<Buffer, AllocError>
     ensures long { IfOk result (λ longer. length longer ≡ max (length buffer) len) }
     ensures front { IfOk result (λ longer. take (length buffer) longer ≡ buffer) }
+    ensures memory { OnErr result (length buffer < len) }
 {
     if len <= buffer.len() {
         return Ok(buffer);

@@ -1,9 +1,9 @@
 // The plan of an operation.
 
-ghost use Rattle.std.specs.Prelude.{◌≡◌, ℕ, Bool, List, length, take};
+ghost use Rattle.std.specs.Prelude.{◌≡◌, ◌<◌, ℕ, Bool, List, length, take};
 ghost use Rattle.plain_disk.specs.declared.operation.Op.TheVariants as Ops;
 ghost use Rattle.lane_plan.specs.Calls.{ask_of};
-ghost use Rattle.lane_plan.specs.Plans.{bytes_of};
+ghost use Rattle.lane_plan.specs.Plans.{bytes_of, content_of};
 
 mod ends;
 mod pieces;
@@ -68,7 +68,7 @@ impl Plan {
     ghost use Rattle.volume_machine.specs.Seals.{KeysFit, Seals, seals_of};
     ghost use Rattle.lane_plan.specs.Calls.{ask_of};
     ghost use Rattle.lane_plan.specs.Plans.{Awaits, Goes, HasBegun, IsFewer, IsShape, IsTold};
-    ghost use Rattle.lane_plan.specs.Plans.{IsWaiting, WillBeRefused, first_call, part_in};
+    ghost use Rattle.lane_plan.specs.Plans.{HasRoom, IsWaiting, WillBeRefused, first_call, part_in};
     ghost use Rattle.lane_plan.specs.Plans.{session_of};
     ghost use Rattle.lane_plan.specs.Plans.{shape_of};
     ghost use Rattle.lane_plan.specs.declared.calls.Call.TheVariants as Calls;
@@ -76,7 +76,8 @@ impl Plan {
     /// The plan of an operation on a volume of this shape, with all the memory that it needs. A
     /// read's content comes in the spare buffer, made long enough; an operation of more than a
     /// block has a buffer of at most 1 MiB besides, for pieces that aren't all of it. A wrong
-    /// operation has none, and neither has a flush.
+    /// operation has none, and neither has a flush. Memory is wanted only where one of the two
+    /// buffers isn't long enough.
     #[inline(always)]
     pub fn new(
         alloc: Global,
@@ -96,6 +97,7 @@ impl Plan {
         ensures session { IfOk result (λ plan. session_of plan ≡ session) }
         ensures memory { OnErr result
             (wrong_ask shape.atom (shape.blocks * shape.atom) (ask_of op) ≡ None) }
+        ensures short { OnErr result (HasRoom shape.atom (ask_of op) spare part → ⊥) }
     {
         let ask = ask_of(&op);
         let Shape { atom, blocks } = shape;
@@ -218,8 +220,9 @@ impl Plan {
 /// The buffer of an operation: that of its body, or the spare one for its content.
 #[inline(always)]
 fn whole_of(op: Op, spare: Bytes) -> Buffer
-    ensures { (offset : ℕ) (body : List ℕ) (fua : Bool) → op ≡ Ops.Write offset body fua →
+    ensures body { (offset : ℕ) (body : List ℕ) (fua : Bool) → op ≡ Ops.Write offset body fua →
         take (length body) result ≡ body }
+    ensures short { length result < bytes_of (ask_of op) → length spare < content_of (ask_of op) }
 {
     match op {
         Op::Write { body, .. } => body.into_buffer(),

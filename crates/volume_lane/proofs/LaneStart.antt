@@ -185,11 +185,6 @@ starts seals old now plan new session op Answers.Device next planned idle some s
 starts seals old now plan new session op Answers.Broken next planned idle some step answers goes
     begun shape session_is = absurd answers
 
--- the first call is an admit
-pub first-admits : (plan : Plan) (session : ℕ) (ask : Ask)
-    → first_call plan ≡ Calls.Admit session ask → IsAdmit (first_call plan)
-first-admits plan session ask is = tt
-
 pub is-admit : (call : Call) → IsAdmit call
     → ((session : ℕ) (ask : Ask) → call ≡ Calls.Admit session ask → ⊥) → ⊥
 is-admit (Calls.Admit session ask) is other = other session ask refl

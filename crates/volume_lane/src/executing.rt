@@ -2,6 +2,7 @@
 
 ghost use Rattle.std.specs.Prelude.{ℕ, ◌≡◌, ◌<◌, List, [], ◌∷◌, length, IfOk, OnErr};
 ghost use Rattle.lane_plan.specs.Calls.{ask_of};
+ghost use Rattle.lane_plan.specs.Plans.{HasRoom};
 ghost use Rattle.plain_disk.specs.declared.operation.Op.{Op};
 ghost use Rattle.volume_laws.specs.Executing.{Executes};
 ghost use Rattle.volume_machine.specs.Runs.{Happening};
@@ -60,6 +61,8 @@ pub fn execute<D: Disk, C: SectorCipher + Copy>(
     ensures lanes { length volume.new.lanes ≡ length volume.old.lanes }
     ensures err { OnErr result (volume.new ≡ volume.old) }
     ensures memory { OnErr result (IsReadyFor volume.old (ask_of op)) }
+    ensures short { OnErr result
+        (HasRoom volume.old.map.atom (ask_of op) spare part.old → ⊥) }
 {
     let pieces = mem::replace(part, Buffer::empty(alloc));
     let mut plan = plan_for(alloc, volume, session, op, spare, pieces)?;
@@ -80,6 +83,7 @@ fn plan_for<D: Disk, C: SectorCipher + Copy>(
 ) -> Result<Plan, AllocError>
     ensures plan { IfOk result (λ plan. IsPlanFor volume.now plan session op) }
     ensures memory { OnErr result (IsReadyFor volume.now (ask_of op)) }
+    ensures short { OnErr result (HasRoom volume.now.map.atom (ask_of op) spare part → ⊥) }
 {
     let Map { atom, blocks, .. } = volume.map();
     let shape = Shape { atom, blocks };

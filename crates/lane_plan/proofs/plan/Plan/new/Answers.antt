@@ -15,7 +15,7 @@ returns-clause-awaits c = λ seals alone none.
     awaits-admit _ c.args.op c.args.session c.args.shape c.whole_of.result c.args.part
     c.len_of-len.result c.min-room.result none c.of.ensures.session
     (c.of.ensures.asks ∙ c.ask_of-ask.ensures) c.of.ensures.stage c.of.ensures.shape c.requires
-    proper c.whole_of.ensures len
+    proper c.whole_of.ensures.body len
     (rw c.of.ensures.whole c.in_ok-whole.ensures.long)
     (rw c.of.ensures.whole c.in_ok-whole.ensures.front)
     (rw c.of.ensures.part c.in_ok-part.ensures.long) room
