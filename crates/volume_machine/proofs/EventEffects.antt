@@ -3,13 +3,14 @@ use Rattle.std.proofs.Common.{◌≡◌, inl, inr, ℕ, ◌+◌, ◌/◌, ◌||�
 use Rattle.std.proofs.Common.{List, [], ◌∷◌, ◌++◌, length, Option, Some, None, MatchOption}
 use Rattle.std.proofs.Common.{MatchBool, refl, sym, ◌∙◌, ap, arith}
 use Rattle.std.proofs.Math.Nat.{mul-div_cancel}
+use Rattle.base_terms.specs.Causes.{HasCause}
 use Rattle.block_range.specs.declared.BlockRange.{BlockRange}
 use Rattle.range_lock.specs.declared.Entry.{Entry}
 use Rattle.range_lock.specs.declared.Standing.{Standing}
 use Rattle.range_lock.specs.declared.Standing.TheVariants.{Held}
 use Rattle.range_lock.specs.Locks.{IsStanding, IsStandingOf, without}
 use Rattle.sector_disk.specs.Cells.{Cell}
-use Rattle.sector_disk.specs.Devices.{Device, ReadCall, WriteCall, SyncCall, succeeded, failed_call}
+use Rattle.sector_disk.specs.Devices.{Device, succeeded, failed_call}
 use Rattle.sector_disk.specs.Steps.{Told, Moves, MovesOrNot}
 use Rattle.segment_map.specs.declared.map.Map.{Map}
 use Rattle.segment_map.specs.declared.map.Piece.{Piece}
@@ -52,62 +53,27 @@ rests_go failed old new fine same = record {
   tables = grows_same old.told new.told (ap (λ d. d.told) same);
 }
 
-read_goes : (atom at : ℕ) (bytes : List ℕ) (old new : Device) →
-    ReadCall atom at bytes old new succeeded → DiskGoes false old new
-read_goes atom at bytes old new call = record {
-  size = call.size;
-  atoms = call.atoms;
-  later = call.cause.later;
+-- a call that succeeded, and one that failed
+call_goes : (S : List Cell → List Cell → Type 0) (old new : Device) → new.size ≡ old.size →
+    new.atoms ≡ old.atoms → HasCause old.faults new.faults succeeded → Moves S old.told new.told →
+    DiskGoes false old new
+call_goes S old new size atoms cause told = record {
+  size = size;
+  atoms = atoms;
+  later = cause.later;
   rose = λ rose. absurd (cc);
-  tables = grows_moved _ old.told new.told call.told;
+  tables = grows_moved S old.told new.told told;
 }
 
-read_fails : (atom at : ℕ) (bytes : List ℕ) (old new : Device) →
-    ReadCall atom at bytes old new failed_call → DiskGoes true old new
-read_fails atom at bytes old new call = record {
-  size = call.size;
-  atoms = call.atoms;
-  later = call.cause.later;
-  rose = λ rose. call.cause.failed refl;
-  tables = grows_or_not _ old.told new.told call.told;
-}
-
-write_goes : (atom at : ℕ) (bytes : List ℕ) (old new : Device) →
-    WriteCall atom at bytes old new succeeded → DiskGoes false old new
-write_goes atom at bytes old new call = record {
-  size = call.size;
-  atoms = call.atoms;
-  later = call.cause.later;
-  rose = λ rose. absurd (cc);
-  tables = grows_moved _ old.told new.told call.told;
-}
-
-write_fails : (atom at : ℕ) (bytes : List ℕ) (old new : Device) →
-    WriteCall atom at bytes old new failed_call → DiskGoes true old new
-write_fails atom at bytes old new call = record {
-  size = call.size;
-  atoms = call.atoms;
-  later = call.cause.later;
-  rose = λ rose. call.cause.failed refl;
-  tables = grows_or_not _ old.told new.told call.told;
-}
-
-sync_goes : (old new : Device) → SyncCall old new succeeded → DiskGoes false old new
-sync_goes old new call = record {
-  size = call.size;
-  atoms = call.atoms;
-  later = call.cause.later;
-  rose = λ rose. absurd (cc);
-  tables = grows_moved _ old.told new.told call.told;
-}
-
-sync_fails : (old new : Device) → SyncCall old new failed_call → DiskGoes true old new
-sync_fails old new call = record {
-  size = call.size;
-  atoms = call.atoms;
-  later = call.cause.later;
-  rose = λ rose. call.cause.failed refl;
-  tables = grows_or_not _ old.told new.told call.told;
+call_fails : (S : List Cell → List Cell → Type 0) (old new : Device) → new.size ≡ old.size →
+    new.atoms ≡ old.atoms → HasCause old.faults new.faults failed_call →
+    MovesOrNot S old.told new.told → DiskGoes true old new
+call_fails S old new size atoms cause told = record {
+  size = size;
+  atoms = atoms;
+  later = cause.later;
+  rose = λ rose. cause.failed refl;
+  tables = grows_or_not S old.told new.told told;
 }
 
 -- a piece that was made moves its operation on by its blocks
@@ -244,12 +210,12 @@ module _ {K : Type 0} (old new : State K) where
       (ap (λ x. Some x) (sym (passed-moved old.map o step.piece bytes step.next step.are))
       ∙ on_open _ o (open_after old.map.atom (reads lane len) (got bytes)) at)
       (sym step.was ∙ or_false old.broken)
-      (read_goes old.map.atom _ bytes old.disk new.disk step.call)
+      (let it = step.call in call_goes _ old.disk new.disk it.size it.atoms it.cause it.told)
   read_effects lane len o device at step =
       goes_effects (reads lane len) device old.entries (Some (failing o)) false step.goes refl
       (on_open _ o (open_after old.map.atom (reads lane len) device) at)
       (sym step.was ∙ or_false old.broken)
-      (read_fails old.map.atom _ step.bytes old.disk new.disk step.call)
+      (let it = step.call in call_fails _ old.disk new.disk it.size it.atoms it.cause it.told)
   read_effects lane len o broken at step =
       goes_effects (reads lane len) broken old.entries (Some (failing o)) true step.goes refl
       (on_open _ o (open_after old.map.atom (reads lane len) broken) at)
@@ -265,11 +231,12 @@ module _ {K : Type 0} (old new : State K) where
       (ap (λ x. Some x) (sym (passed-moved old.map o step.piece bytes step.next step.are))
       ∙ on_open _ o (open_after old.map.atom (writes lane bytes) done) at)
       (sym step.was ∙ or_false old.broken)
-      (write_goes old.map.atom _ bytes old.disk new.disk step.call)
+      (let it = step.call in call_goes _ old.disk new.disk it.size it.atoms it.cause it.told)
   write_effects lane o bytes device at step =
       goes_effects (writes lane bytes) device old.entries (Some (failing o)) true step.goes refl
       (on_open _ o (open_after old.map.atom (writes lane bytes) device) at)
-      (or_true old.broken) (write_fails old.map.atom _ bytes old.disk new.disk step.call)
+      (or_true old.broken)
+      (let it = step.call in call_fails _ old.disk new.disk it.size it.atoms it.cause it.told)
   write_effects lane o bytes broken at step =
       goes_effects (writes lane bytes) broken old.entries (Some (failing o)) true step.goes refl
       (on_open _ o (open_after old.map.atom (writes lane bytes) broken) at)
@@ -282,12 +249,14 @@ module _ {K : Type 0} (old new : State K) where
       goes_effects (settles lane) done old.entries
       (after_settle o (settling o)) false step.goes refl
       (on_open _ o (open_after old.map.atom (settles lane) done) at)
-      (sym step.was ∙ or_false old.broken) (sync_goes old.disk new.disk step.call)
+      (sym step.was ∙ or_false old.broken)
+      (let it = step.call in call_goes _ old.disk new.disk it.size it.atoms it.cause it.told)
   settle_effects lane o device at step =
       goes_effects (settles lane) device old.entries
       (after_settle o (failing o)) true step.goes refl
       (on_open _ o (open_after old.map.atom (settles lane) device) at)
-      (or_true old.broken) (sync_fails old.disk new.disk step.call)
+      (or_true old.broken)
+      (let it = step.call in call_fails _ old.disk new.disk it.size it.atoms it.cause it.told)
   settle_effects lane o broken at step =
       goes_effects (settles lane) broken old.entries
       (after_settle o (failing o)) true step.goes refl

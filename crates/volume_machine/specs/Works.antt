@@ -6,8 +6,8 @@ use Rattle.disk_zones.specs.Zones.{Hotzone, Phase}
 
 -- Where the header's copies lie; the zone, how far it has come, and its blocks; and the atoms that
 -- were saved of them. From the zone's first sync on, when what its blocks hold is certain, until
--- its header says that they are new, its blocks are known by its steps. Between two zones this is a
--- zone without blocks.
+-- its header says that they are new, its blocks are known by its steps. So it is after a fault that
+-- broke the volume, when no step of it is left. Between two zones this is a zone without blocks.
 pub record Work : Type 0 where
   pub layout : Layout
   pub zone : Hotzone (List ℕ)
