@@ -1,9 +1,11 @@
 // A commit of a header: both copies, and how far their writing is.
 
-ghost use Rattle.std.specs.Prelude.{◌≡◌, ◌≢◌, ◌↔◌, ◌+◌, ◌≤◌, true, length, Ok, IfOk, IsTrue};
-ghost use Rattle.std.specs.Prelude.{MatchResult};
+ghost use Rattle.std.specs.Prelude.{◌≡◌, ◌≢◌, ◌↔◌, ◌+◌, ◌≤◌, true, false, length, Ok, IfOk};
+ghost use Rattle.std.specs.Prelude.{IsTrue, MatchResult};
+ghost use Rattle.std.specs.Str.{is_utf8};
 ghost use Rattle.disk_areas.specs.Headers.{IsHeader};
 ghost use Rattle.luks_bin.specs.Copies.{copy_of, holds_nul, text_of};
+ghost use Rattle.luks_bin.specs.Hidden.{hides_copy};
 ghost use Rattle.luks_bin.specs.Shares.{Agree};
 ghost use Rattle.luks_bin.specs.Writing.{common, written, FitsArea, IsWritable};
 ghost use Rattle.luks_copies.specs.Meanings.{header_of, header_reader, meaning_of, seqid_in};
@@ -67,6 +69,7 @@ fn copy_with(alloc: Global, header: &BinHeader, json: &[u8]) -> Result<Bytes, Al
     ensures back { IfOk result (λ copy. copy_of header.now.hdr_offset copy ≡ Ok header.now) }
     ensures text { IfOk result (λ copy. text_of copy ≡ json.now) }
     ensures shared { IfOk result (λ copy. Agree copy (common header.now json.now)) }
+    ensures hidden { IfOk result (λ copy. is_utf8 json.now ≡ true → hides_copy copy ≡ false) }
 {
     let mut copy = zeros(alloc, header.hdr_size as usize)?;
     write_copy(header, json, &mut copy);
@@ -78,10 +81,10 @@ impl Commit {
 
     /// A commit of this text under the next number, with the loaded header's other fields and the
     /// salts of the primary and the secondary. The text has no NUL; behind it, and in the padding,
-    /// stand zeros. There is none, `SeqEnd`, exactly where the number is `2^64 - 1`, else none,
-    /// `JsonFull`, exactly where the text is longer than its area less one byte. The first commit
-    /// of a new header is made of one with the number 0, which stands on no disk, and has the
-    /// number 1.
+    /// stand zeros, so that the primary hides no copy where the text is UTF-8. There is none,
+    /// `SeqEnd`, exactly where the number is `2^64 - 1`, else none, `JsonFull`, exactly where the
+    /// text is longer than its area less one byte. The first commit of a new header is made of one
+    /// with the number 0, which stands on no disk, and has the number 1.
     #[tactic(auto, using(crate::proofs::MeaningLemmas::least_size))]
     pub fn new(
         alloc: Global,
@@ -121,6 +124,8 @@ impl Commit {
         ensures first_size { IfOk result (λ commit. length commit.first ≡ header.now.hdr_size) }
         ensures second_size { IfOk result (λ commit. length commit.second ≡ header.now.hdr_size) }
         ensures text { IfOk result (λ commit. text_of commit.first ≡ json.now) }
+        ensures hidden { IfOk result
+            (λ commit. is_utf8 json.now ≡ true → hides_copy commit.first ≡ false) }
     {
         if header.seqid == u64::MAX {
             return Err(CommitError::SeqEnd);
@@ -273,6 +278,8 @@ fn both_copies(
     ensures first_size { IfOk result (λ copies. length copies.0 ≡ header.now.hdr_size) }
     ensures second_size { IfOk result (λ copies. length copies.1 ≡ header.now.hdr_size) }
     ensures text { IfOk result (λ copies. text_of copies.0 ≡ json.now) }
+    ensures hidden { IfOk result
+        (λ copies. is_utf8 json.now ≡ true → hides_copy copies.0 ≡ false) }
 {
     copies_are_spelt();
     let primary = BinHeader {

@@ -3,6 +3,7 @@
 ghost use Rattle.std.specs.Prelude.{◌≡◌, ◌≢◌, ◌↔◌, ◌⊎◌, ◌/◌, ◌≤◌, ℕ, length, Ok, IfOk, IsTrue};
 ghost use Rattle.disk_areas.specs.Headers.{IsHeader};
 ghost use Rattle.luks_bin.specs.Copies.{copy_of, text_of};
+ghost use Rattle.luks_bin.specs.Hidden.{hides_copy};
 ghost use Rattle.luks_bin.specs.Shares.{Agree};
 ghost use Rattle.luks_bin.specs.Writing.{moved};
 ghost use Rattle.luks_bin.specs.declared.header.BinHeader.{BinHeader};
@@ -47,6 +48,7 @@ fn copy_for(alloc: Global, used: &[u8], place: u64, salt: &[u8; 64]) -> Result<B
     ensures valid { IfOk result (λ copy. (from : ℕ) (h : BinHeader) → copy_of from used.now ≡ Ok h
         → length used.now ≡ h.hdr_size → (place ≡ 0) ⊎ (place ≡ h.hdr_size)
         → copy_of place copy ≡ Ok (record h { hdr_offset = place; salt = salt.now })) }
+    ensures hidden { IfOk result (λ copy. hides_copy copy ≡ hides_copy used.now) }
 {
     let mut copy = Vec::from_slice(alloc, used)?;
     move_copy(&mut copy, place, salt);
@@ -60,7 +62,7 @@ impl Repair {
     /// checksum, to another place with this salt. The place is the byte of the disk: 0 for the
     /// primary, the header's size for the secondary. Of no other place is anything said but the
     /// bytes; both copies are a header where the one that is used is valid and this is the other's
-    /// place.
+    /// place. It hides a copy exactly where the one that is used does.
     pub fn new(
         alloc: Global,
         used: &[u8],
@@ -78,6 +80,7 @@ impl Repair {
             (λ repair. (from : ℕ) (h : BinHeader) → copy_of from used.now ≡ Ok h
             → length used.now ≡ h.hdr_size → (place ≡ 0) ⊎ (place ≡ h.hdr_size)
             → copy_of place repair.copy ≡ Ok (record h { hdr_offset = place; salt = salt.now })) }
+        ensures hidden { IfOk result (λ repair. hides_copy repair.copy ≡ hides_copy used.now) }
         ensures primary { IfOk result
             (λ repair. (h : BinHeader) → copy_of h.hdr_size used.now ≡ Ok h
             → length used.now ≡ h.hdr_size → place ≡ 0
