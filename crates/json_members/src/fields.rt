@@ -6,6 +6,7 @@ ghost use Rattle.json_members.specs.Fields.{Gives, required, IsFaultAt, items_in
 ghost use Rattle.json_members.specs.Fields.{number_in, decimal_in, object_in, texts_in};
 ghost use Rattle.json_members.specs.Fields.{decimals_in, each_item, text_item, decimal_item};
 ghost use Rattle.json_members.specs.Fields.{bytes_in, bytes_of};
+ghost use Rattle.json_members.specs.Members.{without};
 
 use crate::decimal::{decimal_number, decimal_text};
 use crate::faults::{JsonFaultKind, ReadError, fault_at, path_of};
@@ -151,6 +152,25 @@ pub fn object_at(
         return Err(fault_at(alloc, JsonFaultKind::Kind, path, name));
     };
     Ok(Object::new(copy_members(alloc, map)?))
+}
+
+/// As `object_at`, but taken out, with no copy made. The other members are left, also where there
+/// is a fault.
+#[tactic(auto, unfolding(crate::specs::Fields::object_in))]
+pub fn take_object(
+    alloc: Global,
+    path: &str,
+    object: &mut Object,
+    name: &str,
+) -> Result<Object, ReadError>
+    ensures is { Gives (λ o. o) result (object_in path.now name.now object.old) }
+    ensures rest { object.new ≡ without name.now object.old }
+{
+    match object.take(name) {
+        Some(Value::Object(map)) => Ok(Object::new(map)),
+        Some(_) => Err(fault_at(alloc, JsonFaultKind::Kind, path, name)),
+        None => Err(fault_at(alloc, JsonFaultKind::Missing, path, name)),
+    }
 }
 
 /// The fault of the item of a number in the list at a path, or `Memory`.

@@ -26,8 +26,8 @@ pub use decimal::{decimal_number, decimal_text};
 pub use entries::{Entry, copy_entries, read_entries, write_entries};
 pub use faults::{JsonFault, JsonFaultKind, ReadError, fault_at, path_of};
 pub use fields::{
-    bytes_at, decimal_at, decimals_at, number_at, object_at, own_text_at, text_at, texts_at,
-    word_at,
+    bytes_at, decimal_at, decimals_at, number_at, object_at, own_text_at, take_object, text_at,
+    texts_at, word_at,
 };
 pub use floats::{any_float, first_float};
 pub use laws::{members_are_read_by_form, other_members_are_kept, put_members_are_found};

@@ -59,12 +59,20 @@ impl Object {
         self.map.get(name)
     }
 
+    /// Takes the member of a name out, if there is one.
+    pub fn take(&mut self, name: &str) -> Option<Value>
+        ensures taken { option_map view result ≡ get_member name.now self.old }
+        ensures rest { self.new ≡ without name.now self.old }
+    {
+        let _ordered = self.map.len();
+        self.map.remove(name)
+    }
+
     /// Takes the member of a name away, if there is one.
     pub fn drop_member(&mut self, name: &str)
         ensures { self.new ≡ without name.now self.old }
     {
-        let _ordered = self.map.len();
-        drop(self.map.remove(name));
+        drop(self.take(name));
     }
 
     /// Sets the member of a name. Where memory runs out the object is as it was.
