@@ -4,6 +4,7 @@ use Rattle.std.proofs.Common.{arith, ◌*◌, ◌/◌, ◌≤◌}
 use Rattle.std.proofs.lemmas.List.{take_all}
 use Rattle.disk_areas.specs.Headers.{IsHeader}
 use Rattle.luks_bin.specs.Copies.{copy_of, IsCopy}
+use Rattle.luks_bin.specs.Hidden.{hides_copy}
 use Rattle.luks_bin.specs.Shares.{Agree}
 use Rattle.luks_bin.specs.declared.header.BinHeader.{BinHeader}
 use Rattle.luks_copies.specs.Held.{copy_in, place_in, repair_stage_in}
@@ -55,6 +56,7 @@ pub first-repaired : Spelt → (copies : Copies) (repair : Repair) → AreCopies
     → repair_stage_in repair ≡ Broken → place_in repair ≡ 0
     → length (copy_in repair) ≡ length copies.used.bytes
     → Agree (copy_in repair) copies.used.bytes
+    → hides_copy (copy_in repair) ≡ hides_copy copies.used.bytes
     → ((from : ℕ) (h : BinHeader) → copy_of from copies.used.bytes ≡ Ok h
     → length copies.used.bytes ≡ h.hdr_size
     → (◌≡◌ {A = ℕ} 0 0) ⊎ (0 ≡ h.hdr_size)
@@ -63,7 +65,7 @@ pub first-repaired : Spelt → (copies : Copies) (repair : Repair) → AreCopies
     → length copies.used.bytes ≡ h.hdr_size → ◌≡◌ {A = ℕ} 0 0
     → IsHeader header_reader (header_of (copy_in repair) copies.used.bytes))
     → Repairs copies repair
-first-repaired spelt copies repair are bad begun at size shared valid whole =
+first-repaired spelt copies repair are bad begun at size shared hidden valid whole =
     let read = used-read spelt copies are in
     let long = are.whole.whole in (
       λ other. record {
@@ -72,6 +74,7 @@ first-repaired spelt copies repair are bad begun at size shared valid whole =
         copy = valid copies.used.header.hdr_offset copies.used.header read long (inl refl);
         size = size ∙ long;
         shared = shared;
+        hidden = hidden;
         whole = whole copies.used.header
             (subst (λ n. copy_of n copies.used.bytes ≡ Ok copies.used.header)
             (used-behind copies are bad) read) long refl;
@@ -85,6 +88,7 @@ pub second-repaired : Spelt → (copies : Copies) (repair : Repair) → AreCopie
     → copies.secondary.state ≢ Good → repair_stage_in repair ≡ Broken
     → place_in repair ≡ copies.used.header.hdr_size
     → length (copy_in repair) ≡ length copies.used.bytes → Agree (copy_in repair) copies.used.bytes
+    → hides_copy (copy_in repair) ≡ hides_copy copies.used.bytes
     → ((from : ℕ) (h : BinHeader) → copy_of from copies.used.bytes ≡ Ok h
     → length copies.used.bytes ≡ h.hdr_size
     → (copies.used.header.hdr_size ≡ 0) ⊎ (copies.used.header.hdr_size ≡ h.hdr_size)
@@ -94,7 +98,7 @@ pub second-repaired : Spelt → (copies : Copies) (repair : Repair) → AreCopie
     → copies.used.header.hdr_size ≡ h.hdr_size
     → IsHeader header_reader (header_of copies.used.bytes (copy_in repair)))
     → Repairs copies repair
-second-repaired spelt copies repair are good bad begun at size shared valid whole =
+second-repaired spelt copies repair are good bad begun at size shared hidden valid whole =
     let read = used-read spelt copies are in
     let long = are.whole.whole in (
       λ other. absurd (other good),
@@ -106,6 +110,7 @@ second-repaired spelt copies repair are good bad begun at size shared valid whol
           copy = valid copies.used.header.hdr_offset copies.used.header read long (inr refl);
           size = size ∙ long;
           shared = shared;
+          hidden = hidden;
           whole = whole copies.used.header
               (subst (λ n. copy_of n copies.used.bytes ≡ Ok copies.used.header)
               (used-front copies are good) read) long refl;

@@ -1,13 +1,13 @@
 -- Lemmas on the room for both copies: metadata that break no rule leave it.
 use Rattle.std.proofs.Common.{◌≡◌, ℕ, ◌+◌, ◌*◌, ◌<◌, ◌≤◌, List, [], ◌∷◌, Bool, true, false}
-use Rattle.std.proofs.Common.{refl, arith}
+use Rattle.std.proofs.Common.{refl, arith, if◌then◌else◌}
 use Rattle.std.specs.List.{All, sum_by}
 use Rattle.std.proofs.lemmas.List.Elements.{All-head}
 use Rattle.disk_sizes.specs.declared.Sizes.{Sizes}
 use Rattle.luks_json.specs.declared.config.Config.{Config}
 use Rattle.luks_json.specs.declared.meta.Parts.{Parts}
 use Rattle.luks_json.specs.declared.segment.Segment.{Segment}
-use Rattle.luks_rules.specs.Areas.{areas_end, header_bytes, main_bytes}
+use Rattle.luks_rules.specs.Areas.{areas_end, main_bytes}
 use Rattle.luks_rules.specs.Segments.{bytes_of, in_progress, live_bytes}
 use Rattle.luks_rules.specs.States.{IsSound}
 use Rattle.luks_store.specs.Devices.{header_room}
@@ -43,3 +43,15 @@ pub room-of : (m : Parts) (sizes : Sizes) (size : ℕ) → IsSound m sizes
     → m.config.json_size + 4096 ≡ size
     → 2 * size ≤ header_room sizes
 room-of m sizes size sound is = room-by m sizes size sizes.detached refl sound is
+
+-- where both disks are one the header's is the main one
+pub room-there : (atom base used : ℕ) (detached : Bool)
+    → header_room (record {
+      atom = atom;
+      header_atoms = if detached then base else used;
+      main_atoms = used;
+      detached = detached;
+    })
+    ≤ (if detached then base else used) * atom
+room-there atom base used true = omega arith
+room-there atom base used false = omega arith

@@ -1,7 +1,7 @@
 -- Lemmas on what is known of a header that was loaded: its metadata break no rule, and have its
 -- size.
 use Rattle.std.proofs.Common.{◌≡◌, ℕ, ◌+◌, ◌-◌, ◌*◌, ◌≤◌, List, Option, Some, None, Bool, true}
-use Rattle.std.proofs.Common.{false, if◌then◌else◌, Result, Ok, Err, refl, sym, ◌∙◌, ap, subst}
+use Rattle.std.proofs.Common.{false, if◌then◌else◌, Result, Ok, Err, refl, ap, subst}
 use Rattle.std.proofs.Common.{arith}
 use Rattle.std.specs.Prelude.{codes}
 use Rattle.std.specs.Str.{is_utf8}

@@ -1,12 +1,14 @@
--- Lemmas on copies that mean the same: they hold the same text.
-use Rattle.std.proofs.Common.{◌≡◌, inr, ℕ, ◌+◌, ◌-◌, List, length, drop, sym, ◌∙◌, ap, arith}
-use Rattle.std.proofs.Common.{length-drop}
+-- Lemmas on the text of metadata: it is UTF-8, and copies that mean the same hold the same one.
+use Rattle.std.proofs.Common.{◌≡◌, inr, ℕ, ◌+◌, ◌-◌, List, length, drop, Bool, true, false, Result}
+use Rattle.std.proofs.Common.{Ok, Err, if◌then◌else◌, refl, sym, ◌∙◌, ap, arith, length-drop}
+use Rattle.std.specs.Str.{is_utf8}
 use Rattle.std.proofs.lemmas.List.{ext_get_or, get_or-drop}
 use Rattle.luks_bin.proofs.FieldLemmas.{size-least}
 use Rattle.luks_bin.specs.Copies.{text_of, up_to_nul}
 use Rattle.luks_bin.specs.Shares.{Agree}
 use Rattle.luks_copies.specs.Meanings.{size_in}
 use Rattle.luks_copies.specs.Promises.{MeanTheSame}
+use Rattle.json_members.specs.declared.faults.JsonFault.{JsonFault}
 use Rattle.luks_json.specs.Metas.{meta_from}
 use Rattle.luks_json.specs.declared.meta.Parts.{Parts}
 use Rattle.luks_store.proofs.GivenLemmas.{sized-by}
@@ -36,3 +38,14 @@ meta-same mean = λ a b at in_place one two same.
     same-objects a.header.hdr_size b.header.hdr_size _ _ size
     (text-same a.bytes b.bytes long
     ((mean a.bytes b.bytes (omega (arith, least, whole)) long).0 same))
+
+-- what is read as metadata is UTF-8
+tested : (b : Bool) (r : Result Parts JsonFault) (fault : JsonFault) (m : Parts)
+    → (if b then r else Err fault) ≡ Ok m → b ≡ true
+tested true r fault m is = refl
+tested false r fault m is = cc
+
+pub read-utf8 : (size : ℕ) (json : List ℕ) (m : Parts) → meta_from size json ≡ Ok m
+    → is_utf8 json ≡ true
+unfolding meta_from
+read-utf8 size json m is = tested (is_utf8 json) _ _ m is

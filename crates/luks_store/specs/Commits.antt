@@ -1,10 +1,11 @@
 -- Commits and repairs of a header that was loaded.
 use Rattle.std.specs.Prelude.{◌≡◌, ◌≢◌, ℕ, ◌+◌, ◌*◌, ◌/◌, ◌<◌, ◌≤◌, List, length, replicate}
-use Rattle.std.specs.Prelude.{Ok, IsOk}
+use Rattle.std.specs.Prelude.{false, Ok, IsOk}
 use Rattle.disk_areas.specs.Commits.{Follows}
 use Rattle.disk_areas.specs.Headers.{Header, IsHeader}
 use Rattle.disk_sizes.specs.declared.Sizes.{Sizes}
 use Rattle.luks_bin.specs.Copies.{copy_of, text_of}
+use Rattle.luks_bin.specs.Hidden.{hides_copy}
 use Rattle.luks_bin.specs.Shares.{Agree}
 use Rattle.luks_bin.specs.declared.header.BinHeader.{BinHeader}
 use Rattle.luks_copies.specs.Meanings.{header_of, header_reader, meaning_of}
@@ -69,7 +70,7 @@ pub record HoldsText (text : List ℕ) (p : Prepared) : Type 0 where
   pub second : secondary_of p.copies ≡ written (second_header p) text
 
 -- Both copies are whole, of one number, mean the same, hold metadata that break no rule, and have
--- room on the header's disk.
+-- room on the header's disk. No magic of a secondary stands within the primary.
 pub record IsPrepared (p : Prepared) : Type 0 where
   pub first : IsWholeAt 0 (record { header = p.header; bytes = primary_of p.copies })
   pub second : IsWholeAt p.header.hdr_size (record {
@@ -81,6 +82,7 @@ pub record IsPrepared (p : Prepared) : Type 0 where
   pub atom : 0 < p.sizes.atom
   pub held : IsOk (judged p.sizes (committed p))
   pub room : 2 * p.header.hdr_size ≤ header_room p.sizes
+  pub hidden : hides_copy (primary_of p.copies) ≡ false
 
 -- The commit that follows a header, of these metadata.
 pub record IsNext (stored : Stored) (parts : Parts) (p : Prepared) : Type 0 where
@@ -121,7 +123,8 @@ pub record AreGood (copies : Copies) : Type 0 where
   pub secondary : copies.secondary.state ≡ Good
 
 -- A repair that writes the copy that is used, but for magic, salt, hdr_offset and checksum, to the
--- other place, under that place's salt; and the header that both copies are then.
+-- other place, under that place's salt; and the header that both copies are then. It hides a copy
+-- exactly where the one that is used does.
 pub record IsRepairOf (copies : Copies) (place : ℕ) (salt : List ℕ) (header : Header (List ℕ))
     (repair : Repair) : Type 0 where
   pub begun : repair_stage_in repair ≡ Broken
@@ -130,6 +133,7 @@ pub record IsRepairOf (copies : Copies) (place : ℕ) (salt : List ℕ) (header 
       ≡ Ok (record copies.used.header { hdr_offset = place; salt = salt })
   pub size : length (copy_in repair) ≡ copies.used.header.hdr_size
   pub shared : Agree (copy_in repair) copies.used.bytes
+  pub hidden : hides_copy (copy_in repair) ≡ hides_copy copies.used.bytes
   pub whole : IsHeader header_reader header
 
 -- of the primary, where it isn't good, else of the secondary

@@ -125,7 +125,6 @@ fn prepare(
 }
 
 impl Commit {
-    ghost use Rattle.luks_bin.specs.Hidden.{hides_copy};
     ghost use Rattle.luks_store.specs.Commits.{CopiesFit, IsNextStored, IsPrepared};
     ghost use Rattle.luks_store.specs.declared.loaded.Stored.{Stored as stored_type};
 
@@ -198,20 +197,15 @@ impl Commit {
     }
 
     /// What both copies are: a law, with nothing to run. They lie on each disk of the sizes for
-    /// which the metadata were judged, and a header that is stored follows from them.
+    /// which the metadata were judged, and a header that is stored follows from them. No magic of a
+    /// secondary stands within the primary, where one could be found: a text is UTF-8, and zeros
+    /// stand behind it.
     pub fn is_prepared(&self)
         ensures prepared { IsPrepared self.now }
         ensures fit { CopiesFit self.now }
         ensures stored { (next : stored_type) × IsNextStored self.now next }
     {
         let _prepared = &self.prepared;
-    }
-
-    /// Whether the magic of a secondary stands within the primary, where one could be found.
-    pub fn hides_copy(&self) -> bool
-        ensures { result ≡ hides_copy (primary_of self.now.copies) }
-    {
-        luks_bin::hides_copy(self.prepared.copies.first())
     }
 
     /// Whether no device call may follow: all are made, or one has failed.

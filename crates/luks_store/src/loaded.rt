@@ -9,6 +9,7 @@ ghost use Rattle.luks_store.specs.Used.{AreCopies};
 
 use crate::copies::{Copies, CopyPlace};
 use crate::fault::StoreFault;
+use crate::reading::read_bytes;
 use crate::used::read_copies;
 use disk_sizes::Sizes;
 use joined_disk::JoinedDisk;
@@ -97,7 +98,7 @@ pub fn load<D: Disk>(alloc: Global, disk: &mut JoinedDisk<D>) -> Result<Loaded, 
 }
 
 impl Loaded {
-    ghost use Rattle.std.specs.Prelude.{◌+◌, ◌*◌, ◌≤◌, None};
+    ghost use Rattle.std.specs.Prelude.{◌+◌, ◌*◌, ◌≤◌, None, take};
     ghost use Rattle.luks_bin.specs.Hidden.{hides_copy};
     ghost use Rattle.luks_rules.specs.Rules.{first_fault};
     ghost use Rattle.luks_store.specs.Devices.{header_room};
@@ -117,12 +118,36 @@ impl Loaded {
     }
 
     /// Whether the magic of a secondary stands within the copy that is used, where one could be
-    /// found. Where none does, no image that a stop leaves of a commit or a repair has a copy in
-    /// front of the secondary but the primary.
+    /// found. Where none does, and the primary is used, no image that a stop leaves of a commit, or
+    /// of a repair of the secondary, has a copy in front of the secondary but the primary.
     pub fn hides_copy(&self) -> bool
         ensures { result ≡ hides_copy self.now.copies.used.bytes }
     {
         luks_bin::hides_copy(self.stored.copies.used.bytes.as_slice())
+    }
+
+    /// Whether it stands in what the disk has at the primary's place, whatever that is. Where it
+    /// stands neither there nor within the copy that is used, that is so of a repair of the primary
+    /// as well. Nothing is written; a read that fails says nothing.
+    pub fn front_hides_copy<D: Disk>(
+        &self,
+        alloc: Global,
+        disk: &mut JoinedDisk<D>,
+    ) -> Result<bool, StoreFault>
+        requires { sizes_of disk.old ≡ self.now.valid.sizes }
+        ensures hides { IfOk result (λ hides. (all : List ℕ)
+            → (device_of disk.old).values ≡ Some all
+            → hides ≡ hides_copy (take self.now.copies.used.header.hdr_size all)) }
+        ensures unwritten { IsUnwritten (joint_in disk.old) (joint_in disk.new) }
+        ensures sizes { sizes_of disk.new ≡ sizes_of disk.old }
+        ensures cause { IfErr result
+            (λ fault. HasCause (device_of disk.old) (device_of disk.new) fault) }
+    {
+        self.is_stored();
+        match read_bytes(alloc, disk, 0, self.stored.copies.used.header.hdr_size) {
+            Ok(bytes) => Ok(luks_bin::hides_copy(bytes.as_slice())),
+            Err(fault) => Err(StoreFault::from(fault)),
+        }
     }
 
     /// The binary header of the copy that is used.

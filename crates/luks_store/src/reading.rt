@@ -20,7 +20,7 @@ use std::alloc::Global;
 
 /// So many bytes of a disk from a place on. Both are whole pages of 4096 bytes, and thus whole
 /// atoms.
-fn read_bytes<D: Disk>(
+pub(crate) fn read_bytes<D: Disk>(
     alloc: Global,
     disk: &mut JoinedDisk<D>,
     place: u64,

@@ -6,6 +6,7 @@ use Rattle.luks_rules.proofs.SoundLemmas.{sound}
 use Rattle.luks_store.proofs.CommitLemmas.{is-held, same-meaning, whole-text}
 use Rattle.luks_store.proofs.PlainTextLemmas.{plain-text}
 use Rattle.luks_store.proofs.RoomLemmas.{room-of}
+use Rattle.luks_store.proofs.TextLemmas.{read-utf8}
 use Rattle.luks_store.specs.declared.copies.Copies.{Copies}
 use Rattle.luks_store.specs.declared.copies.CopyState.TheVariants.{Good}
 use Rattle.luks_store.proofs.commit.prepare.Goals as goal
@@ -30,6 +31,9 @@ invariant_of-result c =
     let first = whole-text spelt 0 one primary made.primary made.first_size in
     let second = whole-text spelt size two secondary made.secondary made.second_size in
     let rising = c.parts-parts.ensures.right.digests.rising in
+    let read =
+    ap (meta_from (c.args.meta.now.config.json_size + 4096)) c.as_slice.ensures
+    ∙ c.in-Ok.ensures.back in
     let left : Copies = record {
       used = record { header = primary; bytes = one };
       primary = record { state = Good; salt = c.args.first_salt.now };
@@ -44,12 +48,13 @@ invariant_of-result c =
       size = made.size;
       atom = c.requires.atom;
       held = is-held c.args.sizes left c.args.meta.now c.as_slice.result.now c.requires.size
-          made.text
-          (ap (meta_from (c.args.meta.now.config.json_size + 4096)) c.as_slice.ensures
-          ∙ c.in-Ok.ensures.back) c.requires.rules;
+          made.text read c.requires.rules;
       room = room-of c.args.meta.now c.args.sizes size
           (sound c.args.meta.now c.args.sizes c.requires.atom rising c.requires.rules)
           c.requires.size;
+      hidden = made.hidden
+          (read-utf8 (c.args.meta.now.config.json_size + 4096) c.as_slice.result.now c.args.meta.now
+          read);
     }
 
 pub returns-in-Ok-new-clause-bytes : goal.returns-in-Ok-new-clause-bytes

@@ -24,7 +24,8 @@ returns-then-not-is_good-clause-is c =
     subst (λ (s : Stored). Repairs s.copies c.in_ok-repair.repair) c.self.view_is
     (first-repaired c.copies_are_spelt.ensures copies c.in_ok-repair.repair c.self.invariant.copies
     (λ good. (let e = c.if-not-is_good.ensures.1 good in cc)) made.begun made.place
-    (rw is at made.size) (rw is at made.shared) (rw is at made.valid) (rw is at made.primary))
+    (rw is at made.size) (rw is at made.shared) (rw is at made.hidden) (rw is at made.valid)
+    (rw is at made.primary))
 
 pub returns-then-not-is_good-2-clause-is : goal.returns-then-not-is_good-2-clause-is
 returns-then-not-is_good-2-clause-is c =
@@ -36,7 +37,8 @@ returns-then-not-is_good-2-clause-is c =
     c.self.invariant.copies
     (c.if-not-is_good.ensures.0 refl) (λ good. (let e = c.if-not-is_good-2.ensures.1 good in cc))
     made.begun made.place
-    (rw is at made.size) (rw is at made.shared) (rw is at made.valid) (rw is at made.secondary))
+    (rw is at made.size) (rw is at made.shared) (rw is at made.hidden) (rw is at made.valid)
+    (rw is at made.secondary))
 
 pub returns-then-not-is_good-clause-fits : goal.returns-then-not-is_good-clause-fits
 returns-then-not-is_good-clause-fits c =
