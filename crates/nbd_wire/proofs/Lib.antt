@@ -1,3 +1,4 @@
+pub mod ChunkLemmas
 mod ExportLemmas
 pub mod FieldLemmas
 mod HandshakeLemmas

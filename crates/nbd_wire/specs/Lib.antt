@@ -1,3 +1,4 @@
+pub mod Chunks
 pub mod Exports
 pub mod Fields
 pub mod Handshake

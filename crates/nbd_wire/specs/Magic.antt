@@ -18,3 +18,6 @@ request_magic = 0x25609513
 
 abbrev pub simple_reply_magic : ℕ
 simple_reply_magic = 0x67446698
+
+abbrev pub chunk_magic : ℕ
+chunk_magic = 0x668e33ef

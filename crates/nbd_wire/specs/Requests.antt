@@ -1,6 +1,7 @@
 -- The head of a request ("Request message", "Request types" and "Command flags" of the NBD protocol
 -- document).
-use Rattle.std.specs.Prelude.{ℕ, ◌≡◌, ◌<◌, ◌^◌, ◌==◌, if◌then◌else◌, List, [], ◌∷◌}
+use Rattle.std.specs.Prelude.{ℕ, ◌≡◌, ◌<◌, ◌^◌, ◌==◌, nat_lt, if◌then◌else◌, List, [], ◌∷◌}
+use Rattle.std.specs.Prelude.{Bool, true, ◌||◌}
 use Rattle.nbd_wire.specs.declared.requests.CommandType.{CommandType}
 use Rattle.nbd_wire.specs.declared.requests.CommandType.TheVariants.{Read, Write, Disc, Flush, Trim}
 use Rattle.nbd_wire.specs.declared.requests.CommandType.TheVariants.{WriteZeroes, Other}
@@ -28,6 +29,14 @@ command_of n =
     else (if n == 4 then Trim
     else (if n == 6 then WriteZeroes
     else Other n)))))
+
+-- The flags of a request of this type are some that it may have: FUA (1) with every type, NO_HOLE
+-- (2) with a WRITE_ZEROES alone, and DF (4) with a READ alone, where structured replies were agreed
+-- on.
+abbrev pub are_allowed : (structured : Bool) → CommandType → (flags : ℕ) → Bool
+are_allowed true Read flags = flags == 0 || flags == 1 || flags == 4 || flags == 5
+are_allowed structured WriteZeroes flags = nat_lt flags 4
+are_allowed structured command flags = nat_lt flags 2
 
 -- The fields are in their ranges, and a type that has a name goes by it.
 pub record IsRequestHead (head : RequestHead) : Type 0 where

@@ -13,6 +13,9 @@ pub const REQUEST_MAGIC: u32 = 0x2560_9513;
 /// The magic number of a simple reply.
 pub const SIMPLE_REPLY_MAGIC: u32 = 0x6744_6698;
 
+/// The magic number of a chunk of a structured reply.
+pub const CHUNK_MAGIC: u32 = 0x668e_33ef;
+
 /// A message that hasn't its magic number: the number that stands there.
 #[derive(Clone, Copy, Debug, PartialEq, Eq)]
 pub struct BadMagic {

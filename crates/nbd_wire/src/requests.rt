@@ -2,6 +2,7 @@ ghost use Rattle.std.specs.Prelude.{◌≡◌, ◌≢◌, ◌↔◌, ◌<◌, �
 ghost use Rattle.std.specs.Int.{IsBitSet};
 ghost use Rattle.nbd_wire.specs.Fields.{u32_text};
 ghost use Rattle.nbd_wire.specs.Requests.{IsRequestHead, command_number, command_of, request_text};
+ghost use Rattle.nbd_wire.specs.Requests.{are_allowed};
 ghost use Rattle.nbd_wire.specs.Magic.{request_magic};
 
 use crate::fields::{u16_at, u32_at, u64_at};
@@ -63,6 +64,12 @@ impl CommandFlags {
     /// "Force unit access".
     pub const FUA: CommandFlags = CommandFlags { bits: 1 };
 
+    /// "No hole".
+    pub const NO_HOLE: CommandFlags = CommandFlags { bits: 2 };
+
+    /// "Don't fragment".
+    pub const DF: CommandFlags = CommandFlags { bits: 4 };
+
     /// "Force unit access": what is written is to be kept before the reply.
     pub fn has_fua(self) -> bool
         ensures { IsTrue result ↔ IsBitSet self.bits 0 }
@@ -77,11 +84,30 @@ impl CommandFlags {
         self.bits & 2 != 0
     }
 
-    /// Whether there is a flag other than these two.
-    pub fn has_other(self) -> bool
-        ensures { IsTrue result ↔ (4 ≤ self.bits) }
+    /// What is read is to come in one chunk.
+    pub fn has_df(self) -> bool
+        ensures { IsTrue result ↔ IsBitSet self.bits 2 }
     {
-        self.bits >= 4
+        self.bits & 4 != 0
+    }
+
+    /// Whether there is a flag other than these three.
+    pub fn has_other(self) -> bool
+        ensures { IsTrue result ↔ (8 ≤ self.bits) }
+    {
+        self.bits >= 8
+    }
+
+    /// Whether a request of this type may have these flags: FUA with every type, NO_HOLE with a
+    /// WRITE_ZEROES alone, and DF with a READ alone, where structured replies were agreed on.
+    pub fn are_allowed(self, command: CommandType, structured: bool) -> bool
+        ensures { result ≡ are_allowed structured command self.bits }
+    {
+        match command {
+            CommandType::Read if structured => matches!(self.bits, 0 | 1 | 4 | 5),
+            CommandType::WriteZeroes => self.bits < 4,
+            _ => self.bits < 2,
+        }
     }
 }
 

@@ -1,3 +1,4 @@
+ghost use Rattle.nbd_wire.specs.Chunks.{IsChunkHead, chunk_head_text};
 ghost use Rattle.nbd_wire.specs.Handshake.{IsGreeting, greeting_text};
 ghost use Rattle.nbd_wire.specs.OptionReplies.{IsOptionReplyHead, option_reply_text};
 ghost use Rattle.nbd_wire.specs.Options.{IsOptionHead, option_text};
@@ -13,4 +14,5 @@ pub fn texts_are_unique()
     ensures option_reply_heads { IsSpelling IsOptionReplyHead option_reply_text 20 }
     ensures request_heads { IsSpelling IsRequestHead request_text 28 }
     ensures simple_reply_heads { IsSpelling IsSimpleReplyHead simple_reply_text 16 }
+    ensures chunk_heads { IsSpelling IsChunkHead chunk_head_text 20 }
 {}

@@ -1,3 +1,4 @@
+use Rattle.nbd_wire.proofs.ChunkLemmas.{chunk-once, chunk-size}
 use Rattle.nbd_wire.proofs.HandshakeLemmas.{greeting-once, greeting-size}
 use Rattle.nbd_wire.proofs.OptionLemmas.{option-once, option-size}
 use Rattle.nbd_wire.proofs.OptionReplyLemmas.{option_reply-once, option_reply-size}
@@ -19,3 +20,6 @@ returns-clause-request_heads c = record { sized = request-size; once = request-o
 
 pub returns-clause-simple_reply_heads : goal.returns-clause-simple_reply_heads
 returns-clause-simple_reply_heads c = record { sized = simple_reply-size; once = simple_reply-once }
+
+pub returns-clause-chunk_heads : goal.returns-clause-chunk_heads
+returns-clause-chunk_heads c = record { sized = chunk-size; once = chunk-once }
