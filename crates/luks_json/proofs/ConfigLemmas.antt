@@ -1,20 +1,19 @@
 -- The sizes and requirements, and their members.
-use Rattle.std.proofs.Common.{◌≡◌, ℕ, ◌^◌, ◌-◌, ◌+◌, ◌<◌, ◌==◌, ◌||◌, List, [], ◌∷◌, Bool, true}
-use Rattle.std.proofs.Common.{false, codes, decimal, map, Option, Some, None, option_map}
-use Rattle.std.proofs.Common.{option_and_then, IfSome, Ok, refl, sym, ap, subst, ◌∙◌, arith}
+use Rattle.std.proofs.Common.{◌≡◌, ℕ, ◌^◌, ◌-◌, ◌<◌, ◌==◌, ◌||◌, List, [], ◌∷◌}
+use Rattle.std.proofs.Common.{codes, decimal, Option, Some, None, option_map}
+use Rattle.std.proofs.Common.{option_and_then, IfSome, Ok, refl, sym, ap, subst, ◌∙◌}
 use Rattle.std.proofs.lemmas.Bool.{eqb-true, eq-eqb}
-use Rattle.serde_json.specs.Data.{Data, string, array, object, Items, no_items, item, Members}
+use Rattle.serde_json.specs.Data.{Data, string, object, Items, Members}
 use Rattle.serde_json.specs.Find.{get, get_member, as_array}
 use Rattle.json_members.specs.declared.faults.JsonFaultKind.TheVariants.{Number}
 use Rattle.json_members.specs.Decimals.{number_of}
-use Rattle.json_members.specs.Fields.{◌>>=◌, under, meant_in, decimal_in, texts_in, object_in}
+use Rattle.json_members.specs.Fields.{under, meant_in, decimal_in, texts_in, object_in}
 use Rattle.json_members.specs.Fields.{optional, texts_data}
-use Rattle.json_members.specs.Forms.{HasText, HasTexts, HasObject, HasOptional}
-use Rattle.json_members.specs.Members.{without_all, put_all, put_optional, Lacks, IsPlain}
+use Rattle.json_members.specs.Forms.{HasObject, HasOptional}
+use Rattle.json_members.specs.Members.{put_optional, Lacks, IsPlain}
 use Rattle.json_members.proofs.DataLemmas.{text_plain, texts_plain, object_plain}
 use Rattle.json_members.proofs.DataLemmas.{object_member-plain, optional_plain}
 use Rattle.json_members.proofs.DecimalLemmas.{number_of-decimal, number_of-exact, chosen_from}
-use Rattle.json_members.proofs.DecimalLemmas.{taken_from}
 use Rattle.json_members.proofs.FieldLemmas.{decimal_in-decimal, decimal_got, meant_in-text}
 use Rattle.json_members.proofs.FieldLemmas.{meant_got, texts_in-texts, texts_got, object_in-object}
 use Rattle.json_members.proofs.FieldLemmas.{object_got, optional_got, has_optional}
@@ -25,7 +24,6 @@ use Rattle.json_members.proofs.PutLemmas.{without_all-put_optional, without_all-
 use Rattle.json_members.proofs.ReadLemmas.{Right, then, right_at, each_right}
 use Rattle.luks_json.specs.declared.config.Config.{Config}
 use Rattle.luks_json.specs.declared.config.Requirements.{Requirements}
-use Rattle.luks_json.specs.declared.keyslot.Origin.{Origin}
 use Rattle.luks_json.specs.Configs.{requirements_names, requirements_of, requirements_in, only_size}
 use Rattle.luks_json.specs.Configs.{json_size_named, config_names, config_of, requirements_fields}
 use Rattle.luks_json.specs.Configs.{requirements_members, config_fields, config_members}

@@ -1,9 +1,9 @@
 -- A digest and its members.
-use Rattle.std.proofs.Common.{◌≡◌, ℕ, List, codes, Ok, refl, sym, ap, subst, ◌∙◌}
+use Rattle.std.proofs.Common.{◌≡◌, ℕ, List, codes, Ok, refl, sym, ap, subst}
 use Rattle.serde_json.specs.Data.{Members}
 use Rattle.json_members.specs.declared.faults.JsonFaultKind.TheVariants.{Unsupported}
-use Rattle.json_members.specs.Fields.{◌>>=◌, meant_in, word_in, counted_in, bytes_in, decimals_in}
-use Rattle.json_members.specs.Members.{without_all, put_all, Lacks, IsPlain}
+use Rattle.json_members.specs.Fields.{meant_in, word_in, counted_in, bytes_in, decimals_in}
+use Rattle.json_members.specs.Members.{Lacks, IsPlain}
 use Rattle.json_members.proofs.DataLemmas.{text_plain, number_plain, decimals_plain}
 use Rattle.json_members.proofs.FieldLemmas.{word_in-word, word_got, decimals_in-decimals}
 use Rattle.json_members.proofs.FieldLemmas.{decimals_got, meant_in-text, meant_named}

@@ -1,24 +1,22 @@
 -- A keyslot and its members.
-use Rattle.std.proofs.Common.{◌≡◌, ℕ, ◌^◌, ◌<◌, ◌&&◌, List, Bool, true, false, cond, codes}
+use Rattle.std.proofs.Common.{◌≡◌, ℕ, ◌&&◌, List, Bool, true, false, cond, codes}
 use Rattle.std.proofs.Common.{bytes_eq, Option, Some, None, option_map, IfSome, Ok, refl, sym, ap}
 use Rattle.std.proofs.Common.{subst, ◌∙◌}
-use Rattle.std.proofs.lemmas.Slice.Eq.{bytes_eq-Decides}
 use Rattle.serde_json.specs.Data.{Data, string, object, Members}
-use Rattle.json_members.specs.Fields.{◌>>=◌, under, text_in, decimal_in, object_in, optional}
+use Rattle.json_members.specs.Fields.{under, text_in, decimal_in, object_in, optional}
 use Rattle.json_members.specs.Forms.{HasText, HasObject, HasOptional}
-use Rattle.json_members.specs.Members.{without_all, put_all, put_optional, Lacks, IsPlain}
+use Rattle.json_members.specs.Members.{put_optional, Lacks, IsPlain}
 use Rattle.json_members.proofs.DecimalLemmas.{both}
 use Rattle.json_members.proofs.DataLemmas.{text_plain, object_plain, object_member-plain}
 use Rattle.json_members.proofs.DataLemmas.{optional_plain}
 use Rattle.json_members.proofs.FieldLemmas.{text_in-string, text_got, decimal_in-decimal}
 use Rattle.json_members.proofs.FieldLemmas.{decimal_got, object_in-object, object_got, optional_got}
-use Rattle.json_members.proofs.FieldLemmas.{optional-read, has_optional}
+use Rattle.json_members.proofs.FieldLemmas.{has_optional}
 use Rattle.json_members.proofs.PlainLemmas.{put_all-plain, without_all-plain, Lacks-without_all}
 use Rattle.json_members.proofs.PutLemmas.{get_member-put_all, get_member-put_optional}
 use Rattle.json_members.proofs.PutLemmas.{without_all-put_all, without_all-put_all_among}
 use Rattle.json_members.proofs.PutLemmas.{without_all-put_optional, without_all-gone}
 use Rattle.json_members.proofs.ReadLemmas.{Right, then, right_at, each_right}
-use Rattle.luks_json.specs.declared.keyslot.Luks2.{Luks2}
 use Rattle.luks_json.specs.declared.keyslot.OtherArea.{OtherArea}
 use Rattle.luks_json.specs.declared.keyslot.OtherSlot.{OtherSlot}
 use Rattle.luks_json.specs.declared.keyslot.Keyslot.{Keyslot}
@@ -27,10 +25,9 @@ use Rattle.luks_json.specs.declared.keyslot.Origin.{Origin}
 use Rattle.luks_json.specs.declared.keyslot.Origin.TheVariants.{Own, Foreign}
 use Rattle.luks_json.specs.declared.keyslot.SlotType.{SlotType}
 use Rattle.luks_json.specs.declared.keyslot.SlotType.TheVariants as types
-use Rattle.luks_json.specs.declared.reencrypt.Reencrypt.{Reencrypt}
 use Rattle.luks_json.specs.Keyslots.{luks2_of, other_area_names, other_area_of, other_area_in}
 use Rattle.luks_json.specs.Keyslots.{other_names, other_of, is_own, slot_type, keyslot_by}
-use Rattle.luks_json.specs.Keyslots.{keyslot_of, luks2_members, other_area_fields}
+use Rattle.luks_json.specs.Keyslots.{keyslot_of, other_area_fields}
 use Rattle.luks_json.specs.Keyslots.{other_area_members, other_fields, other_members}
 use Rattle.luks_json.specs.Keyslots.{keyslot_members, HasLuks2, HasOtherArea, HasOther, HasKeyslot}
 use Rattle.luks_json.specs.Keyslots.{IsOtherArea, IsOther, IsKeyslot}

@@ -2,6 +2,7 @@ pub mod ConfigLemmas
 pub mod DigestLemmas
 pub mod KeyslotLemmas
 pub mod Luks2Lemmas
+pub mod MetaFormLemmas
 pub mod MetaLemmas
 pub mod NameLemmas
 pub mod ReencryptLemmas

@@ -1,14 +1,14 @@
 -- A keyslot that a passphrase opens, and its members.
-use Rattle.std.proofs.Common.{◌≡◌, ◌⊎◌, inl, inr, ℕ, ◌^◌, ◌<◌, ◌==◌, List, Bool, true, false, codes}
-use Rattle.std.proofs.Common.{bytes_eq, Option, Some, None, option_map, Ok, refl, sym, ap, subst}
+use Rattle.std.proofs.Common.{◌≡◌, ℕ, ◌==◌, List, Bool, true, false, codes}
+use Rattle.std.proofs.Common.{bytes_eq, Option, Some, option_map, Ok, refl, sym, ap, subst}
 use Rattle.std.proofs.Common.{◌∙◌}
 use Rattle.std.proofs.lemmas.Bool.{eqb-true}
 use Rattle.std.specs.List.{AllByRecursion}
-use Rattle.serde_json.specs.Data.{Data, string, number, unsigned, object, Members}
-use Rattle.json_members.specs.Fields.{◌>>=◌, under, text_in, word_in, number_in, counted_in}
+use Rattle.serde_json.specs.Data.{Data, string, number, unsigned, Members}
+use Rattle.json_members.specs.Fields.{under, text_in, word_in, number_in, counted_in}
 use Rattle.json_members.specs.Fields.{decimal_in, bytes_in, object_in, optional}
-use Rattle.json_members.specs.Forms.{HasText, HasNumber, HasObject, HasOptional}
-use Rattle.json_members.specs.Members.{without_all, put_all, put_optional, Lacks, IsPlain}
+use Rattle.json_members.specs.Forms.{HasText, HasNumber, HasOptional}
+use Rattle.json_members.specs.Members.{put_optional, Lacks, IsPlain}
 use Rattle.json_members.specs.Members.{IsPlainData}
 use Rattle.json_members.proofs.DataLemmas.{text_plain, number_plain, object_plain}
 use Rattle.json_members.proofs.DataLemmas.{object_member-plain, optional_plain}
@@ -23,7 +23,6 @@ use Rattle.json_members.proofs.PutLemmas.{without_all-put_all, without_all-put_a
 use Rattle.json_members.proofs.PutLemmas.{without_all-put_optional, without_all-gone}
 use Rattle.json_members.proofs.ReadLemmas.{Right, then, right_at}
 use Rattle.luks_json.specs.declared.keyslot.SlotArea.{SlotArea}
-use Rattle.luks_json.specs.declared.keyslot.Pbkdf2.{Pbkdf2}
 use Rattle.luks_json.specs.declared.keyslot.Derivation.{Derivation}
 use Rattle.luks_json.specs.declared.keyslot.Derivation.TheVariants as derivations
 use Rattle.luks_json.specs.declared.keyslot.Kdf.{Kdf}
@@ -36,8 +35,8 @@ use Rattle.luks_json.specs.Keyslots.{kdf_names, kdf_of, splitter_names, splitter
 use Rattle.luks_json.specs.Keyslots.{luks2_names, luks2_of, slot_area_fields, slot_area_members}
 use Rattle.luks_json.specs.Keyslots.{kdf_fields, kdf_members, splitter_fields, splitter_members}
 use Rattle.luks_json.specs.Keyslots.{priority_number, luks2_fields, luks2_members, HasSlotArea}
-use Rattle.luks_json.specs.Keyslots.{HasPbkdf2, HasOtherKdf, HasDerivation, HasKdf, HasSplitter}
-use Rattle.luks_json.specs.Keyslots.{HasLuks2, IsSlotArea, IsPbkdf2, IsDerivation, IsKdf}
+use Rattle.luks_json.specs.Keyslots.{HasPbkdf2, HasDerivation, HasKdf, HasSplitter}
+use Rattle.luks_json.specs.Keyslots.{HasLuks2, IsSlotArea, IsDerivation, IsKdf}
 use Rattle.luks_json.specs.Keyslots.{IsSplitter, IsLuks2}
 use Rattle.luks_json.specs.Names.{iterations_of}
 use Rattle.luks_json.proofs.NameLemmas.{one_of_three, by_three, same_text, iterations_got}

@@ -1,9 +1,10 @@
 -- Metadata, and the value and text that they are written as.
-use Rattle.std.proofs.Common.{◌≡◌, ℕ, suc, ◌^◌, ◌-◌, ◌+◌, ◌<◌, ◌≤◌, List, [], ◌∷◌, Bool, true}
-use Rattle.std.proofs.Common.{false, cond, codes, decimal, Option, Some, None, Result, Ok, Err}
-use Rattle.std.proofs.Common.{refl, sym, ap, subst, ◌∙◌, arith}
+use Rattle.std.proofs.Common.{◌≡◌, ℕ, ◌-◌, ◌≤◌, List, [], ◌∷◌, Bool, true}
+use Rattle.std.proofs.Common.{false, cond, not, ◌&&◌, codes, decimal, Option, Some, None, Result}
+use Rattle.std.proofs.Common.{Ok, Err, refl, sym, ap, subst, ◌∙◌}
 use Rattle.std.specs.List.{AllByRecursion}
-use Rattle.std.specs.Str.{IsUtf8, is_utf8}
+use Rattle.std.specs.Str.{IsUtf8, bytes_eq, is_utf8}
+use Rattle.std.proofs.lemmas.Bool.{and_parts}
 use Rattle.std.proofs.lemmas.Str.{is_utf8-from_IsUtf8, IsUtf8-from_is_utf8}
 use Rattle.serde_json.specs.Data.{Data, object, Members, no_members, depth}
 use Rattle.serde_json.specs.Find.{get_member, as_object}
@@ -11,11 +12,12 @@ use Rattle.serde_json.specs.Read.{read}
 use Rattle.serde_json.proofs.Nesting.{depth-read}
 use Rattle.json_members.specs.declared.faults.JsonFault.{JsonFault}
 use Rattle.json_members.specs.declared.faults.JsonFaultKind.TheVariants.{NotJson, Missing, Kind}
-use Rattle.json_members.specs.declared.faults.JsonFaultKind.TheVariants.{Number}
-use Rattle.json_members.specs.Entries.{objects_in, objects_members, IsRising, AreEntries}
-use Rattle.json_members.specs.Fields.{◌>>=◌, required, under, object_in}
+use Rattle.json_members.specs.Entries.{objects_in, objects_members, AreEntries}
+use Rattle.json_members.specs.declared.faults.ReadError.{ReadError}
+use Rattle.json_members.specs.declared.faults.ReadError.TheVariants as errors
+use Rattle.json_members.specs.Fields.{◌>>=◌, required, under, object_in, Fails}
 use Rattle.json_members.specs.Floats.{float_in}
-use Rattle.json_members.specs.Members.{without_all, put_all, Lacks, IsPlain, IsPlainData}
+use Rattle.json_members.specs.Members.{without, without_all, put_all, IsPlain, IsPlainData}
 use Rattle.json_members.proofs.DataLemmas.{object_plain, objects_plain, none_plain, inner_plain}
 use Rattle.json_members.proofs.DataLemmas.{object_member-plain}
 use Rattle.json_members.proofs.EntryLemmas.{objects_right}
@@ -23,13 +25,16 @@ use Rattle.json_members.proofs.FieldLemmas.{object_in-object, object_got, as_obj
 use Rattle.json_members.proofs.FloatLemmas.{float_in-whole, whole-float_in}
 use Rattle.json_members.proofs.OrderLemmas.{objects_back}
 use Rattle.json_members.proofs.PlainLemmas.{put_all-plain, without_all-plain, Lacks-without_all}
+use Rattle.json_members.proofs.PlainLemmas.{get_member-without_other}
 use Rattle.json_members.proofs.PutLemmas.{get_member-put_all, without_all-put_all}
-use Rattle.json_members.proofs.ReadLemmas.{Right, then, right_at, required-Some, needed, read_on}
+use Rattle.json_members.proofs.ReadLemmas.{Right, then, right_at, needed, read_on}
 use Rattle.json_members.proofs.ReadLemmas.{each_right}
 use Rattle.luks_json.specs.declared.meta.Parts.{Parts}
 use Rattle.luks_json.specs.declared.config.Config.{Config}
+use Rattle.luks_json.specs.declared.digest.Digest.{Digest}
 use Rattle.luks_json.specs.declared.keyslot.Keyslot.{Keyslot}
 use Rattle.luks_json.specs.declared.keyslot.Origin.{Origin}
+use Rattle.luks_json.specs.declared.segment.Segment.{Segment}
 use Rattle.luks_json.specs.declared.token.Token.{Token}
 use Rattle.luks_json.specs.Configs.{config_of, config_members, HasConfig, IsConfig, origin_of}
 use Rattle.luks_json.specs.Configs.{origin_in}
@@ -38,7 +43,7 @@ use Rattle.luks_json.specs.Keyslots.{keyslot_of, keyslot_members, HasKeyslot, Is
 use Rattle.luks_json.specs.Segments.{segment_of, segment_members, HasSegment, IsSegment}
 use Rattle.luks_json.specs.Tokens.{token_of, token_members, IsToken}
 use Rattle.luks_json.specs.Metas.{top, text_fault, meta_names, there_in, all_there, list_in}
-use Rattle.luks_json.specs.Metas.{config_in, parts_of, whole_of, whole_if, meta_of, read_as}
+use Rattle.luks_json.specs.Metas.{config_in, parts_of, whole_if, meta_of, read_as}
 use Rattle.luks_json.specs.Metas.{meta_from, meta_fields, meta_members, data_of, IsMeta}
 use Rattle.luks_json.proofs.ConfigLemmas.{config_read, config_made, config_written, config_right}
 use Rattle.luks_json.proofs.ConfigLemmas.{config_plain, origin_in-config}
@@ -190,7 +195,7 @@ token_back : (path : List ℕ) (t : Token) → IsToken t → token_of path (toke
 unfolding token_of
 token_back path t is = refl
 
-there_in-there : (name : List ℕ) (ms : Members) (d : Data) → get_member name ms ≡ Some d
+pub there_in-there : (name : List ℕ) (ms : Members) (d : Data) → get_member name ms ≡ Some d
     → there_in name ms ≡ Ok (tt {0})
 unfolding there_in
 there_in-there name ms d h = rw h refl
@@ -251,7 +256,7 @@ unfolding meta_of data_of
 meta_back hdr_size m is fits =
     rw (float_in-whole top (data_of m) (data_plain m is).whole) (parts_back hdr_size m is fits)
 
-whole_right : (o : Option (List ℕ)) (u : Unit {0}) → whole_if o ≡ Ok u → o ≡ None
+pub whole_right : (o : Option (List ℕ)) (u : Unit {0}) → whole_if o ≡ Ok u → o ≡ None
 whole_right None u e = refl
 whole_right (Some path) u e = cc
 
@@ -299,3 +304,162 @@ unfolding meta_from
 meta_from_right hdr_size text =
     from_right (is_utf8 text) (read_as hdr_size (read text))
     (read_right hdr_size (read text) (λ d is. depth-read text d is))
+
+-- ---- reading while the top members are taken out one after the other
+not_same : (b : Bool) → not b ≡ true → b ≡ false
+not_same true is = sym is
+not_same false is = refl
+
+-- a name that is none of these
+abbrev pub is_other : List ℕ → List (List ℕ) → Bool
+is_other name [] = true
+is_other name (k ∷ ks) = not (bytes_eq name k) && is_other name ks
+
+left_in : (name : List ℕ) (ks : List (List ℕ)) (ms : Members) → is_other name ks ≡ true
+    → get_member name (without_all ks ms) ≡ get_member name ms
+left_in name [] ms other = refl
+left_in name (k ∷ ks) ms other =
+    let both = and_parts (not (bytes_eq name k)) (is_other name ks) other in
+    left_in name ks (without k ms) both.1
+    ∙ get_member-without_other name k ms (not_same (bytes_eq name k) both.0)
+
+object_by : (name : List ℕ) (a b : Members) → get_member name a ≡ get_member name b
+    → object_in top name a ≡ object_in top name b
+unfolding object_in
+object_by name a b same =
+    ap (λ (o : Option Data). required Missing top name o
+    >>= (λ d. required Kind top name (as_object d))) same
+
+-- a top member is read as if those that were taken out were still there
+pub list_left : {X : Type 0} (of : List ℕ → Members → Result X JsonFault) (name : List ℕ)
+    (ks : List (List ℕ)) (ms : Members) → is_other name ks ≡ true
+    → list_in of name (without_all ks ms) ≡ list_in of name ms
+unfolding list_in
+list_left of name ks ms other =
+    ap (λ (r : Result Members JsonFault). r >>= (λ inner. objects_in of name inner))
+    (object_by name (without_all ks ms) ms (left_in name ks ms other))
+
+pub config_left : (hdr_size : ℕ) (ks : List (List ℕ)) (ms : Members)
+    → is_other (codes "config") ks ≡ true
+    → config_in hdr_size (without_all ks ms) ≡ config_in hdr_size ms
+unfolding config_in
+config_left hdr_size ks ms other =
+    ap (λ (r : Result Members JsonFault). r >>= (λ inner. config_of hdr_size (codes "config") inner))
+    (object_by (codes "config") (without_all ks ms) ms (left_in (codes "config") ks ms other))
+
+-- a fault ends it, and what was read leads on
+pub fails_at : {A B : Type 0} (e : ReadError) (r : Result A JsonFault) (f : A → Result B JsonFault)
+    → Fails e r → Fails e (r >>= f)
+fails_at errors.Memory r f fails = tt
+fails_at (errors.Fault fault) r f fails = rw fails refl
+
+pub fails_after : {A B : Type 0} (e : ReadError) (r : Result A JsonFault) (x : A)
+    (f : A → Result B JsonFault) → r ≡ Ok x → Fails e (f x) → Fails e (r >>= f)
+fails_after {A = A} e r x f is fails =
+    subst (λ (q : Result A JsonFault). Fails e (q >>= f)) (sym is) fails
+
+goes_on : {A B : Type 0} (r : Result A JsonFault) (x : A) (f : A → Result B JsonFault)
+    (y : Result B JsonFault) → r ≡ Ok x → f x ≡ y → (r >>= f) ≡ y
+goes_on {A = A} r x f y is rest = ap (λ (q : Result A JsonFault). q >>= f) is ∙ rest
+
+-- what was read of the top members so far
+pub record ReadSlots (ms : Members) (keyslots : List (ℕ × Keyslot)) : Type 0 where
+  pub there : all_there meta_names ms ≡ Ok (tt {0})
+  pub keyslots_are : list_in (keyslot_of (origin_in ms)) (codes "keyslots") ms ≡ Ok keyslots
+
+pub slots_read : (ms : Members) (origin : Origin) (keyslots : List (ℕ × Keyslot)) (u : Unit {0})
+    → all_there meta_names ms ≡ Ok u → origin ≡ origin_in ms
+    → list_in (keyslot_of origin) (codes "keyslots") ms ≡ Ok keyslots → ReadSlots ms keyslots
+slots_read ms origin keyslots u there of is = record {
+  there = there;
+  keyslots_are =
+      subst (λ (o : Origin). list_in (keyslot_of o) (codes "keyslots") ms ≡ Ok keyslots) of is;
+}
+
+pub tokens_fail : (hdr_size : ℕ) (ms : Members) (e : ReadError) (keyslots : List (ℕ × Keyslot))
+    → ReadSlots ms keyslots → Fails e (list_in token_of (codes "tokens") ms)
+    → Fails e (parts_of hdr_size ms)
+unfolding parts_of
+tokens_fail hdr_size ms e keyslots slots fails =
+    fails_after e (all_there meta_names ms) (tt {0}) _ slots.there
+    (fails_after e (list_in (keyslot_of (origin_in ms)) (codes "keyslots") ms) keyslots _
+    slots.keyslots_are
+    (fails_at e (list_in token_of (codes "tokens") ms) _ fails))
+
+pub segments_fail : (hdr_size : ℕ) (ms : Members) (e : ReadError) (keyslots : List (ℕ × Keyslot))
+    (tokens : List (ℕ × Token))
+    → ReadSlots ms keyslots → list_in token_of (codes "tokens") ms ≡ Ok tokens
+    → Fails e (list_in segment_of (codes "segments") ms) → Fails e (parts_of hdr_size ms)
+unfolding parts_of
+segments_fail hdr_size ms e keyslots tokens slots a fails =
+    fails_after e (all_there meta_names ms) (tt {0}) _ slots.there
+    (fails_after e (list_in (keyslot_of (origin_in ms)) (codes "keyslots") ms) keyslots _
+    slots.keyslots_are
+    (fails_after e (list_in token_of (codes "tokens") ms) tokens _ a
+    (fails_at e (list_in segment_of (codes "segments") ms) _ fails)))
+
+pub digests_fail : (hdr_size : ℕ) (ms : Members) (e : ReadError) (keyslots : List (ℕ × Keyslot))
+    (tokens : List (ℕ × Token)) (segments : List (ℕ × Segment))
+    → ReadSlots ms keyslots → list_in token_of (codes "tokens") ms ≡ Ok tokens
+    → list_in segment_of (codes "segments") ms ≡ Ok segments
+    → Fails e (list_in digest_of (codes "digests") ms) → Fails e (parts_of hdr_size ms)
+unfolding parts_of
+digests_fail hdr_size ms e keyslots tokens segments slots a b fails =
+    fails_after e (all_there meta_names ms) (tt {0}) _ slots.there
+    (fails_after e (list_in (keyslot_of (origin_in ms)) (codes "keyslots") ms) keyslots _
+    slots.keyslots_are
+    (fails_after e (list_in token_of (codes "tokens") ms) tokens _ a
+    (fails_after e (list_in segment_of (codes "segments") ms) segments _ b
+    (fails_at e (list_in digest_of (codes "digests") ms) _ fails))))
+
+pub config_fails : (hdr_size : ℕ) (ms : Members) (e : ReadError) (keyslots : List (ℕ × Keyslot))
+    (tokens : List (ℕ × Token)) (segments : List (ℕ × Segment)) (digests : List (ℕ × Digest))
+    → ReadSlots ms keyslots → list_in token_of (codes "tokens") ms ≡ Ok tokens
+    → list_in segment_of (codes "segments") ms ≡ Ok segments
+    → list_in digest_of (codes "digests") ms ≡ Ok digests
+    → Fails e (config_in hdr_size ms) → Fails e (parts_of hdr_size ms)
+unfolding parts_of
+config_fails hdr_size ms e keyslots tokens segments digests slots a b c fails =
+    fails_after e (all_there meta_names ms) (tt {0}) _ slots.there
+    (fails_after e (list_in (keyslot_of (origin_in ms)) (codes "keyslots") ms) keyslots _
+    slots.keyslots_are
+    (fails_after e (list_in token_of (codes "tokens") ms) tokens _ a
+    (fails_after e (list_in segment_of (codes "segments") ms) segments _ b
+    (fails_after e (list_in digest_of (codes "digests") ms) digests _ c
+    (fails_at e (config_in hdr_size ms) _ fails)))))
+
+-- all of it was read
+pub parts_read : (hdr_size : ℕ) (ms rest : Members) (keyslots : List (ℕ × Keyslot))
+    (tokens : List (ℕ × Token)) (segments : List (ℕ × Segment)) (digests : List (ℕ × Digest))
+    (config : Config)
+    → ReadSlots ms keyslots → list_in token_of (codes "tokens") ms ≡ Ok tokens
+    → list_in segment_of (codes "segments") ms ≡ Ok segments
+    → list_in digest_of (codes "digests") ms ≡ Ok digests → config_in hdr_size ms ≡ Ok config
+    → rest ≡ without_all meta_names ms
+    → parts_of hdr_size ms
+    ≡ Ok (record {
+      keyslots = keyslots;
+      tokens = tokens;
+      segments = segments;
+      digests = digests;
+      config = config;
+      rest = rest;
+    })
+unfolding parts_of
+parts_read hdr_size ms rest keyslots tokens segments digests config slots a b c d left =
+    goes_on (all_there meta_names ms) (tt {0}) _ _ slots.there
+    (goes_on (list_in (keyslot_of (origin_in ms)) (codes "keyslots") ms) keyslots _ _
+    slots.keyslots_are
+    (goes_on (list_in token_of (codes "tokens") ms) tokens _ _ a
+    (goes_on (list_in segment_of (codes "segments") ms) segments _ _ b
+    (goes_on (list_in digest_of (codes "digests") ms) digests _ _ c
+    (goes_on (config_in hdr_size ms) config _ _ d
+    (ap (λ (r : Members). Ok
+    (record {
+      keyslots = keyslots;
+      tokens = tokens;
+      segments = segments;
+      digests = digests;
+      config = config;
+      rest = r;
+    })) (sym left)))))))

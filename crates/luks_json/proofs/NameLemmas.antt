@@ -1,7 +1,6 @@
 -- A name has one meaning, and a meaning one name.
-use Rattle.std.proofs.Common.{◌≡◌, ◌⊎◌, inl, inr, ℕ, ◌==◌, List, Bool, true, false, cond, codes}
-use Rattle.std.proofs.Common.{bytes_eq, Option, Some, None, Ok, refl, sym, ap, ◌∙◌}
-use Rattle.std.proofs.lemmas.Bool.{eqb-true, eq-eqb}
+use Rattle.std.proofs.Common.{◌≡◌, ◌⊎◌, inl, inr, ℕ, List, Bool, true, false, cond, codes}
+use Rattle.std.proofs.Common.{bytes_eq, Some, None, Ok, refl, sym, ap, ◌∙◌}
 use Rattle.std.proofs.lemmas.Slice.Eq.{bytes_eq-Decides}
 use Rattle.serde_json.specs.Data.{number, unsigned, Members}
 use Rattle.json_members.specs.Fields.{counted_in}

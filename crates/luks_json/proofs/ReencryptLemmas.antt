@@ -1,14 +1,14 @@
 -- The keyslot of a conversion and its members.
-use Rattle.std.proofs.Common.{◌≡◌, ◌⊎◌, inl, inr, ℕ, ◌^◌, ◌<◌, ◌==◌, List, codes, bytes_eq, Option}
-use Rattle.std.proofs.Common.{Some, None, Ok, refl, sym, ap, subst, ◌∙◌}
+use Rattle.std.proofs.Common.{◌≡◌, ℕ, ◌==◌, List, codes, bytes_eq}
+use Rattle.std.proofs.Common.{Some, Ok, refl, sym, ap, subst, ◌∙◌}
 use Rattle.std.proofs.lemmas.Bool.{eqb-true}
 use Rattle.std.specs.List.{AllByRecursion}
-use Rattle.serde_json.specs.Data.{Data, string, number, unsigned, object, Members}
+use Rattle.serde_json.specs.Data.{string, number, unsigned, Members}
 use Rattle.json_members.specs.declared.faults.JsonFaultKind.TheVariants.{Unsupported}
-use Rattle.json_members.specs.Fields.{◌>>=◌, under, meant_in, word_in, number_in, counted_in}
+use Rattle.json_members.specs.Fields.{under, meant_in, word_in, number_in, counted_in}
 use Rattle.json_members.specs.Fields.{decimal_in, object_in}
-use Rattle.json_members.specs.Forms.{HasText, HasNumber, HasObject}
-use Rattle.json_members.specs.Members.{without_all, put_all, Lacks, IsPlain, IsPlainData}
+use Rattle.json_members.specs.Forms.{HasText, HasNumber}
+use Rattle.json_members.specs.Members.{Lacks, IsPlain, IsPlainData}
 use Rattle.json_members.proofs.DataLemmas.{text_plain, number_plain, object_plain}
 use Rattle.json_members.proofs.DataLemmas.{object_member-plain}
 use Rattle.json_members.proofs.DecimalLemmas.{chosen_from}

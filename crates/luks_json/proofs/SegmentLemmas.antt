@@ -1,15 +1,14 @@
 -- A segment and its members.
-use Rattle.std.proofs.Common.{◌≡◌, ◌⊎◌, inl, inr, ℕ, ◌^◌, ◌<◌, List, ◌∷◌, Bool, true, false, cond}
+use Rattle.std.proofs.Common.{◌≡◌, ℕ, ◌^◌, ◌<◌, List, ◌∷◌, Bool, true, false, cond}
 use Rattle.std.proofs.Common.{codes, decimal, bytes_eq, Option, Some, None, option_map, IfSome}
-use Rattle.std.proofs.Common.{Result, Ok, refl, sym, ap, subst, ◌∙◌}
-use Rattle.serde_json.specs.Data.{Data, string, number, unsigned, array, Members}
-use Rattle.serde_json.specs.Find.{get_member}
+use Rattle.std.proofs.Common.{Ok, refl, sym, ap, subst, ◌∙◌}
+use Rattle.serde_json.specs.Data.{string, number, unsigned, array, Members}
 use Rattle.json_members.specs.declared.faults.JsonFaultKind.TheVariants.{Number, Unsupported}
 use Rattle.json_members.specs.Decimals.{number_of}
-use Rattle.json_members.specs.Fields.{◌>>=◌, meant_in, counted_in, decimal_in, texts_in, optional}
+use Rattle.json_members.specs.Fields.{meant_in, counted_in, decimal_in, texts_in, optional}
 use Rattle.json_members.specs.Fields.{absent, texts_data}
-use Rattle.json_members.specs.Forms.{HasText, HasNumber, HasTexts, HasOptional}
-use Rattle.json_members.specs.Members.{without_all, put_all, put_optional, Lacks, IsPlain}
+use Rattle.json_members.specs.Forms.{HasTexts, HasOptional}
+use Rattle.json_members.specs.Members.{put_all, put_optional, Lacks, IsPlain}
 use Rattle.json_members.proofs.DataLemmas.{text_plain, number_plain, texts_plain, optional_plain}
 use Rattle.json_members.proofs.DecimalLemmas.{number_of-decimal, number_of-exact, decimal-dynamic}
 use Rattle.json_members.proofs.DecimalLemmas.{chosen_from, taken_from}

@@ -1,7 +1,7 @@
 -- The sizes and requirements as the members of an object.
 use Rattle.std.specs.Prelude.{◌≡◌, ℕ, ◌^◌, ◌-◌, ◌<◌, ◌==◌, ◌||◌, not, Bool, true, false, List, []}
 use Rattle.std.specs.Prelude.{◌∷◌, codes, Option, Some, None, option_map, option_and_then, Result}
-use Rattle.std.specs.Prelude.{Ok, Err, if◌then◌else◌, decimal, IfSome}
+use Rattle.std.specs.Prelude.{Ok, if◌then◌else◌, decimal, IfSome}
 use Rattle.std.specs.Str.{bytes_eq}
 use Rattle.serde_json.specs.Data.{Data, null, boolean, number, string, array, object, Items}
 use Rattle.serde_json.specs.Data.{no_items, item, Members}

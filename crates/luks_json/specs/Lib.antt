@@ -1,6 +1,7 @@
 pub mod Configs
 pub mod Digests
 pub mod Keyslots
+pub mod MetaForms
 pub mod Metas
 pub mod Names
 pub mod Reencrypts

@@ -1,5 +1,5 @@
 -- Metadata as a JSON text.
-use Rattle.std.specs.Prelude.{◌≡◌, ℕ, List, [], ◌∷◌, codes, Option, Some, None, Result, Ok, Err}
+use Rattle.std.specs.Prelude.{ℕ, List, [], ◌∷◌, codes, Option, Some, None, Result, Ok, Err}
 use Rattle.std.specs.Prelude.{if◌then◌else◌}
 use Rattle.std.specs.Str.{is_utf8}
 use Rattle.serde_json.specs.Data.{Data, object, Members}
@@ -11,12 +11,11 @@ use Rattle.json_members.specs.declared.faults.JsonFaultKind.TheVariants.{NotJson
 use Rattle.json_members.specs.declared.faults.JsonFaultKind.TheVariants.{Number}
 use Rattle.json_members.specs.Fields.{◌>>=◌, required, object_in}
 use Rattle.json_members.specs.Floats.{float_in}
-use Rattle.json_members.specs.Forms.{HasObject}
 use Rattle.json_members.specs.Members.{without_all, put_all, Lacks, IsPlain}
 use Rattle.json_members.specs.Entries.{objects_in, objects_members, AreEntries}
 use Rattle.luks_json.specs.declared.config.Config.{Config}
 use Rattle.luks_json.specs.declared.meta.Parts.{Parts}
-use Rattle.luks_json.specs.Configs.{config_of, config_members, HasConfig, IsConfig, origin_of}
+use Rattle.luks_json.specs.Configs.{config_of, config_members, IsConfig, origin_of}
 use Rattle.luks_json.specs.Configs.{origin_in}
 use Rattle.luks_json.specs.Digests.{digest_of, digest_members, IsDigest}
 use Rattle.luks_json.specs.Keyslots.{keyslot_of, keyslot_members, IsKeyslot}

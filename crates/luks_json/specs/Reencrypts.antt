@@ -1,10 +1,10 @@
 -- The keyslot of a conversion as the members of an object.
 use Rattle.std.specs.Prelude.{◌≡◌, ℕ, ◌^◌, ◌<◌, ◌==◌, List, [], ◌∷◌, codes, Option, Some, None}
-use Rattle.std.specs.Prelude.{Result, Ok, Err, if◌then◌else◌, decimal}
+use Rattle.std.specs.Prelude.{Result, Ok, if◌then◌else◌, decimal}
 use Rattle.std.specs.Str.{bytes_eq}
 use Rattle.serde_json.specs.Data.{Data, string, number, unsigned, object, Members}
 use Rattle.json_members.specs.declared.faults.JsonFault.{JsonFault}
-use Rattle.json_members.specs.declared.faults.JsonFaultKind.TheVariants.{Number, Unsupported}
+use Rattle.json_members.specs.declared.faults.JsonFaultKind.TheVariants.{Unsupported}
 use Rattle.json_members.specs.Fields.{◌>>=◌, under, meant_in, word_in, number_in, counted_in}
 use Rattle.json_members.specs.Fields.{decimal_in, object_in}
 use Rattle.json_members.specs.Forms.{HasText, HasNumber, HasDecimal, HasObject}

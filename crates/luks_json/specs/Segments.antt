@@ -1,6 +1,6 @@
 -- A segment as the members of an object.
-use Rattle.std.specs.Prelude.{◌≡◌, ℕ, ◌^◌, ◌<◌, ◌||◌, ◌==◌, List, [], ◌∷◌, ◌++◌, codes, Bool, true}
-use Rattle.std.specs.Prelude.{Option, Some, None, option_map, Result, Ok, Err, if◌then◌else◌}
+use Rattle.std.specs.Prelude.{◌≡◌, ℕ, ◌^◌, ◌<◌, ◌||◌, ◌==◌, List, [], ◌∷◌, codes, Bool, true}
+use Rattle.std.specs.Prelude.{Option, Some, None, option_map, Result, Ok, if◌then◌else◌}
 use Rattle.std.specs.Prelude.{decimal, IfSome}
 use Rattle.std.specs.Str.{bytes_eq}
 use Rattle.serde_json.specs.Data.{Data, string, number, unsigned, array, Members}
@@ -11,7 +11,6 @@ use Rattle.json_members.specs.Fields.{◌>>=◌, meant_in, counted_in, decimal_i
 use Rattle.json_members.specs.Fields.{absent, texts_data}
 use Rattle.json_members.specs.Forms.{HasNone, HasText, HasNumber, HasDecimal, HasTexts, HasOptional}
 use Rattle.json_members.specs.Members.{without_all, put_all, put_optional, Lacks, IsPlain}
-use Rattle.luks_json.specs.declared.names.Cipher.{Cipher}
 use Rattle.luks_json.specs.declared.segment.Segment.{Segment}
 use Rattle.luks_json.specs.declared.segment.Encryption.{Encryption}
 use Rattle.luks_json.specs.declared.segment.SegmentSize.{SegmentSize}

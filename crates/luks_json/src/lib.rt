@@ -25,7 +25,7 @@ pub use keyslot::{
     Derivation, Kdf, Keyslot, Luks2, Origin, OtherArea, OtherSlot, Pbkdf2, Priority, SlotArea,
     SlotType, Splitter,
 };
-pub use laws::objects_are_read_by_form;
+pub use laws::{metadata_are_read_by_form, objects_are_read_by_form};
 pub use meta::{Meta, Parts};
 pub use names::{Cipher, Hash};
 pub use reencrypt::{AreaType, Direction, Mode, Reencrypt, ReencryptArea, Resilience};

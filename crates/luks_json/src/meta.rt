@@ -1,9 +1,10 @@
 // The metadata of a header.
 
-ghost use Rattle.std.specs.Prelude.{◌≡◌, ◌+◌, IfOk, Ok};
+ghost use Rattle.std.specs.Prelude.{◌≡◌, ◌+◌, codes, IfOk, Ok};
 ghost use Rattle.serde_json.specs.View.{view};
 ghost use Rattle.serde_json.specs.Written.{compact_text};
 ghost use Rattle.json_members.specs.Fields.{Gives};
+ghost use Rattle.json_members.specs.Members.{without};
 ghost use Rattle.luks_json.specs.Metas.{meta_names, there_in, all_there, list_in, config_in};
 ghost use Rattle.luks_json.specs.Metas.{parts_of, whole_of, meta_of, meta_from, meta_members};
 ghost use Rattle.luks_json.specs.Metas.{data_of};
@@ -16,7 +17,7 @@ use crate::token::Token;
 use base_terms::Bytes;
 use json_members::{
     Entry, JsonFault, JsonFaultKind, Listed, Object, ReadError, Text, copy_entries, fault_at,
-    first_float, object_at, put_object, read_entries, write_entries,
+    first_float, put_object, read_entries, take_object, write_entries,
 };
 use serde_json::Value;
 use std::alloc::{AllocError, Global};
@@ -79,24 +80,27 @@ fn look_for_all(alloc: Global, object: &Object) -> Result<(), ReadError>
     Ok(())
 }
 
+// The objects of a top member, which is taken out: its tree goes while they are made.
 #[tactic(auto, unfolding(crate::specs::Metas::list_in))]
-fn list_at<E: Entry>(
+fn take_list<E: Entry>(
     alloc: Global,
     terms: &E::Terms,
-    object: &Object,
+    object: &mut Object,
     name: &str,
 ) -> Result<Listed<(u64, E)>, ReadError>
-    ensures { Gives (λ l. l) result (list_in (E.of terms.now) name.now object.now) }
+    ensures is { Gives (λ l. l) result (list_in (E.of terms.now) name.now object.old) }
+    ensures rest { object.new ≡ without name.now object.old }
 {
-    let inner = object_at(alloc, "", object, name)?;
+    let inner = take_object(alloc, "", object, name)?;
     read_entries(alloc, terms, name, inner)
 }
 
 #[tactic(auto, unfolding(crate::specs::Metas::config_in))]
-fn config_at(alloc: Global, hdr_size: u64, object: &Object) -> Result<Config, ReadError>
-    ensures { Gives (λ c. c) result (config_in hdr_size object.now) }
+fn take_config(alloc: Global, hdr_size: u64, object: &mut Object) -> Result<Config, ReadError>
+    ensures is { Gives (λ c. c) result (config_in hdr_size object.old) }
+    ensures rest { object.new ≡ without (codes "config") object.old }
 {
-    let inner = object_at(alloc, "", object, "config")?;
+    let inner = take_object(alloc, "", object, "config")?;
     read_config(alloc, hdr_size, "config", inner)
 }
 
@@ -107,16 +111,11 @@ fn read_parts(alloc: Global, hdr_size: u64, object: Object) -> Result<Parts, Rea
     let mut object = object;
     look_for_all(alloc, &object)?;
     let origin = origin_at(&object);
-    let keyslots = list_at::<Keyslot>(alloc, &origin, &object, "keyslots")?;
-    let tokens = list_at::<Token>(alloc, &(), &object, "tokens")?;
-    let segments = list_at::<Segment>(alloc, &(), &object, "segments")?;
-    let digests = list_at::<Digest>(alloc, &(), &object, "digests")?;
-    let config = config_at(alloc, hdr_size, &object)?;
-    object.drop_member("keyslots");
-    object.drop_member("tokens");
-    object.drop_member("segments");
-    object.drop_member("digests");
-    object.drop_member("config");
+    let keyslots = take_list::<Keyslot>(alloc, &origin, &mut object, "keyslots")?;
+    let tokens = take_list::<Token>(alloc, &(), &mut object, "tokens")?;
+    let segments = take_list::<Segment>(alloc, &(), &mut object, "segments")?;
+    let digests = take_list::<Digest>(alloc, &(), &mut object, "digests")?;
+    let config = take_config(alloc, hdr_size, &mut object)?;
     Ok(Parts {
         keyslots,
         tokens,

@@ -1,4 +1,4 @@
-use Rattle.std.proofs.Common.{◌≡◌, Err, IsTrue, true, false, sym, ap, subst, ◌∙◌, rules}
+use Rattle.std.proofs.Common.{◌≡◌, Err, IsTrue, true, false, sym, ap, subst, ◌∙◌}
 use Rattle.serde_json.specs.Errors.{IsMemory}
 use Rattle.serde_json.specs.View.{view}
 use Rattle.json_members.specs.declared.faults.JsonFaultKind.TheVariants.{NotJson}
