@@ -1,0 +1,10 @@
+mod BeginLemmas
+mod CauseLemmas
+mod CipherLemmas
+mod FrameLemmas
+mod ImageLemmas
+mod JoinedLemmas
+mod OpenedLemmas
+mod RepairGoesLemmas
+mod RepairLemmas
+mod SizesLemmas

@@ -1,0 +1,112 @@
+-- Each image during a repair stands for what the disk's bytes stood for before it.
+use Rattle.std.proofs.Common.{◌≡◌, ℕ, ◌+◌, ◌-◌, ◌*◌, ◌<◌, ◌≤◌, Bool, List, length, take, drop, Ok}
+use Rattle.std.proofs.Common.{refl}
+use Rattle.std.proofs.Common.{sym, ◌∙◌, ap, subst, arith}
+use Rattle.base_terms.specs.Blocks.{joined}
+use Rattle.disk_areas.specs.Areas.{content_of}
+use Rattle.disk_areas.specs.Headers.{Copy, Gives, Handed, Header, IsGenuine, IsLaidOut, IsReader}
+use Rattle.disk_areas.specs.Headers.{Layout}
+use Rattle.disk_areas.specs.Promises.{ImageTaken, IsImageOf, RepairGives}
+use Rattle.disk_sizes.specs.declared.Sizes.{Sizes}
+use Rattle.disk_views.proofs.Entries.{image_in}
+use Rattle.disk_views.specs.Parts.{block_at, value_in}
+use Rattle.disk_views.specs.Views.{view_of_cells}
+use Rattle.luks_copies.specs.Meanings.{header_reader, meaning_of}
+use Rattle.luks_rules.specs.Areas.{areas_begin}
+use Rattle.luks_store.specs.Devices.{front_of}
+use Rattle.luks_store.specs.Loads.{stored_in, IsStored}
+use Rattle.luks_store.specs.Promises.{LoadsByMeaning}
+use Rattle.luks_store.specs.declared.loaded.Stored.{Stored}
+use Rattle.reenc_meta.specs.Placements.{IsPlacementOf}
+use Rattle.reenc_meta.specs.Places.{IsRightFor}
+use Rattle.reenc_meta.specs.declared.placement.Placement.{Placement}
+use Rattle.reenc_recovery.specs.Images.{StandsUnder}
+use Rattle.reenc_recovery.specs.Repairing.{IsLeft, IsRepaired, ShowsRepairOf}
+use Rattle.reenc_recovery.proofs.FrameLemmas.{stands_still}
+use Rattle.reenc_recovery.proofs.ImageLemmas.{OnePlacement}
+use Rattle.reenc_recovery.proofs.JoinedLemmas.{atom_of_joined, front_text, long_joined, same_behind}
+use Rattle.sector_disk.specs.Cells.{Cell}
+
+module _ (sizes : Sizes) (stored : Stored) (header : Header (List ℕ)) (layout : Layout)
+    (handed : Handed) (bad : Copy) (written broken : Bool) (first : List ℕ) (cells : List Cell)
+    (image : List (List ℕ)) (repaired : IsRepaired sizes stored header layout handed)
+    (shows : ShowsRepairOf sizes layout header bad written broken first cells)
+    (left : IsLeft sizes header handed cells image) where
+  laid_in_all : IsLaidOut sizes.atom (length cells) (header_reader.size header.means) layout
+  laid_in_all =
+      let laid = repaired.laid in
+      let more = shows.header_atoms in
+      record {
+        first = laid.first;
+        second = laid.second;
+        same = laid.same;
+        long = laid.long;
+        within = omega (arith, laid.within, more);
+      }
+
+  -- the image of the header's disk alone
+  front_image : ImageTaken
+      → IsImageOf sizes.atom sizes.header_atoms (header_reader.size header.means) layout
+      (view_of_cells cells) (value_in image)
+  front_image taken =
+      let all = taken sizes.atom (header_reader.size header.means) layout cells image left.is
+      left.even laid_in_all in
+      let more = shows.header_atoms in
+      record {
+        laid = repaired.laid;
+        whole = λ place below. all.0.whole place (omega (arith, below, more));
+        takes = all.0.takes;
+      }
+
+  -- and its bytes
+  front_is : ImageTaken
+      → content_of sizes.header_atoms (value_in image) ≡ front_of sizes (joined image)
+  front_is taken =
+      let all = taken sizes.atom (header_reader.size header.means) layout cells image left.is
+      left.even laid_in_all in
+      let more = shows.header_atoms in
+      let rest = length cells - sizes.header_atoms in
+      let whole : sizes.header_atoms + rest ≡ length cells = omega (arith, more) in
+      sym (front_text sizes.atom 0 sizes.header_atoms rest (value_in image)
+      (λ place from below. all.0.whole place (omega (arith, below, more))))
+      ∙ ap (λ n. take (sizes.header_atoms * sizes.atom) (content_of n (value_in image))) whole
+      ∙ ap (λ bytes. take (sizes.header_atoms * sizes.atom) bytes) all.1
+
+  header_stays : IsReader header_reader → ImageTaken → RepairGives
+      → Gives header_reader (front_of sizes (joined image)) (meaning_of stored.copies.used.bytes)
+  header_stays is_reader taken gives =
+      let front = front_is taken in
+      let given = gives sizes.atom sizes.header_atoms header_reader layout header bad handed
+      (value_in image) written broken (view_of_cells cells) is_reader repaired.whole repaired.past
+      (front_image taken)
+      (subst (λ (bytes : List ℕ). IsGenuine header_reader (header_reader.size header.means) handed
+      bytes) (sym front) left.genuine) shows.copies in
+      subst (λ (m : List ℕ). Gives header_reader (front_of sizes (joined image)) m) repaired.means
+      (subst (λ (bytes : List ℕ). Gives header_reader bytes header.means) front given)
+
+  rest_stays : drop (areas_begin stored.valid.meta.config) (joined image)
+      ≡ drop (areas_begin stored.valid.meta.config) first
+  rest_stays =
+      let n = layout.second.start + layout.second.count in
+      let within : n ≤ length cells = laid_in_all.within in
+      subst (λ (k : ℕ). drop k (joined image) ≡ drop k first) (sym repaired.begin)
+      (same_behind sizes.atom (length cells) n (joined image) first within
+      (long_joined sizes.atom (length cells) image left.even) shows.long
+      (λ place from below. atom_of_joined sizes.atom (length cells) image place left.even below
+      ∙ shows.behind place from below (value_in image place)
+      (image_in cells image place left.is below)))
+
+  pub repair_stands : IsReader header_reader → ImageTaken → RepairGives → LoadsByMeaning
+      → OnePlacement → IsStored stored → (old new : List ℕ) (contents : List (List ℕ))
+      (p : Placement) → stored_in sizes (front_of sizes first) ≡ Ok stored
+      → IsPlacementOf stored.valid.meta sizes p → IsRightFor stored.valid.meta sizes p
+      → StandsUnder sizes old new first contents
+      → StandsUnder sizes old new (joined image) contents
+  repair_stands is_reader taken gives loads placed is_stored old new contents p held is right stands
+      =
+      let found = loads (front_of sizes (joined image)) stored is_stored
+      (header_stays is_reader taken gives) in
+      stands_still placed sizes old new first (joined image) contents stored found.0 p held is right
+      (subst (λ (s : Sizes). stored_in s (front_of sizes (joined image)) ≡ Ok found.0)
+      repaired.sizes_are found.1)
+      found.2 rest_stays stands

@@ -1,0 +1,63 @@
+-- What is promised of images, and of what a repair leaves.
+use Rattle.std.specs.Prelude.{ℕ, ◌≡◌, Bool, true, false, List, length, take, drop, Ok}
+use Rattle.base_terms.specs.Blocks.{joined}
+use Rattle.disk_areas.specs.Commits.{TriesCopy, WritesCopy, other}
+use Rattle.disk_areas.specs.Headers.{Copy, Handed, Header, IsLaidOut, Layout, byte_of, text_of}
+use Rattle.disk_sizes.specs.declared.Sizes.{Sizes}
+use Rattle.disk_views.specs.Views.{IsSynced, IsThinned, view_of_cells}
+use Rattle.luks_store.specs.Devices.{front_of}
+use Rattle.luks_store.specs.Loads.{IsStored, stored_in}
+use Rattle.luks_store.specs.declared.loaded.Stored.{Stored}
+use Rattle.reenc_meta.specs.Placements.{IsPlacementOf}
+use Rattle.reenc_meta.specs.Places.{IsRightFor}
+use Rattle.reenc_meta.specs.declared.placement.Placement.{Placement}
+use Rattle.reenc_recovery.specs.Images.{StandsUnder}
+use Rattle.reenc_recovery.specs.Repairing.{IsCertain, IsLeft, IsRepaired, ShowsRepairOf}
+use Rattle.sector_disk.specs.Cells.{Cell}
+
+-- Each image that a stop leaves of a disk during a repair stands for what the bytes of the disk
+-- stood for before it, under the same keys.
+abbrev pub RepairsKeepContents : Type 0
+RepairsKeepContents =
+    (sizes : Sizes) (stored : Stored) (header : Header (List ℕ)) (layout : Layout) (handed : Handed)
+    (bad : Copy) (written broken : Bool) (first : List ℕ) (cells : List Cell)
+    (image : List (List ℕ)) → IsRepaired sizes stored header layout handed
+    → ShowsRepairOf sizes layout header bad written broken first cells
+    → IsLeft sizes header handed cells image → IsStored stored
+    → (old new : List ℕ) (contents : List (List ℕ)) (p : Placement)
+    → stored_in sizes (front_of sizes first) ≡ Ok stored
+    → IsPlacementOf stored.valid.meta sizes p → IsRightFor stored.valid.meta sizes p
+    → StandsUnder sizes old new first contents → StandsUnder sizes old new (joined image) contents
+
+-- The calls of a repair lead from what it shows to what it shows; one that fails leaves what a stop
+-- may leave.
+pub record RepairGoesOn (sizes : Sizes) (layout : Layout) (header : Header (List ℕ)) (bad : Copy)
+    (first : List ℕ) (old new : List Cell) : Type 0 where
+  pub written : ShowsRepairOf sizes layout header bad false false first old
+      → WritesCopy sizes.atom layout header bad (view_of_cells old) (view_of_cells new)
+      → ShowsRepairOf sizes layout header bad true false first new
+  pub tried : ShowsRepairOf sizes layout header bad false false first old
+      → TriesCopy sizes.atom layout header bad (view_of_cells old) (view_of_cells new)
+      → ShowsRepairOf sizes layout header bad false true first new
+  pub synced : ShowsRepairOf sizes layout header bad true false first old
+      → IsSynced (view_of_cells old) (view_of_cells new)
+      → ShowsRepairOf sizes layout header bad true false first new
+  pub thinned : ShowsRepairOf sizes layout header bad true false first old
+      → IsThinned (view_of_cells old) (view_of_cells new)
+      → ShowsRepairOf sizes layout header bad true true first new
+
+abbrev pub RepairsGoOn : Type 0
+RepairsGoOn =
+    (sizes : Sizes) (layout : Layout) (header : Header (List ℕ)) (bad : Copy) (first : List ℕ)
+    (old new : List Cell) → IsLaidOut sizes.atom sizes.header_atoms (length header.first) layout
+    → length new ≡ length old → RepairGoesOn sizes layout header bad first old new
+
+-- A disk that holds its bytes for certain, of which the one copy stands at its place, shows the
+-- beginning of a repair of the other.
+abbrev pub RepairsBegin : Type 0
+RepairsBegin =
+    (sizes : Sizes) (layout : Layout) (size : ℕ) (first : List ℕ) (cells : List Cell)
+    (header : Header (List ℕ)) (bad : Copy) → IsCertain sizes first cells
+    → IsLaidOut sizes.atom sizes.header_atoms size layout
+    → take size (drop (byte_of size (other bad)) first) ≡ text_of header (other bad)
+    → ShowsRepairOf sizes layout header bad false false first cells

@@ -1,0 +1,140 @@
+// The keys of a volume's sides, and the ciphers of its segments under them.
+
+ghost use Rattle.std.specs.Prelude.{◌≡◌, ◌≢◌, ◌≤◌, ◌⊎◌, ℕ, true, List, [], length, Some, IfOk, IfErr};
+ghost use Rattle.std.specs.Prelude.{IfSome, IsSome, MatchResult};
+ghost use Rattle.luks_json.specs.Names.{is_iterations};
+ghost use Rattle.luks_json.specs.Segments.{is_sector_size};
+ghost use Rattle.luks_json.specs.declared.digest.Digest.{Digest as digest_type};
+ghost use Rattle.luks_rules.specs.References.{value_at};
+ghost use Rattle.luks_rules.specs.States.{IsUnder};
+ghost use Rattle.luks_slots.specs.Functions.{named_cipher, named_hash};
+ghost use Rattle.pbkdf2_hmac.specs.Pbkdf2.{derived_key};
+ghost use Rattle.luks_slots.specs.Unlocks.{matches};
+ghost use Rattle.reenc_recovery.specs.Causes.{IsNoKey, IsRefused};
+ghost use Rattle.reenc_recovery.specs.Keys.{IsCipherOf, IsKeyOf, used_by};
+ghost use Rattle.reenc_recovery.specs.declared.fault.OpenCause.TheVariants.{KeyDiffers, Memory};
+
+use crate::fault::OpenCause;
+use base_terms::Bytes;
+use cipher_laws::SectorCipher;
+use luks_json::{Digest, Encryption};
+use luks_rules::{Extent, Valid};
+use luks_slots::{Key, cipher_spec, hash_function};
+use pbkdf2_hmac::derive;
+use sector_cipher::Context;
+use std::alloc::{AllocError, Global};
+
+/// The fewest and the most bytes of a digest of a key.
+const FEWEST_DIGEST_BYTES: usize = 20;
+
+const MOST_DIGEST_BYTES: usize = 64;
+
+/// The keys of a volume's sides, as its keyslots gave them. A linear side has none; a volume of
+/// which nothing is being converted has its key in `new`.
+#[derive(Drop)]
+pub struct SideKeys {
+    pub old: Option<Key>,
+    pub new: Option<Key>,
+}
+
+/// What PBKDF2 makes of a key to be compared with a digest.
+fn derive_digest(digest: &Digest, key: &Key, made: &mut [u8])
+    requires rounds { is_iterations digest.now.iterations ≡ true }
+    requires some { 1 ≤ length made.old }
+    requires most { length made.old ≤ 64 }
+    ensures { made.new ≡ derived_key (named_hash digest.now.hash) key.now digest.now.salt
+        digest.now.iterations (length made.old) }
+{
+    let hash = hash_function(digest.hash);
+    let salt = digest.salt.as_slice();
+    derive(hash, key.as_slice(), salt, digest.iterations as u32, made);
+}
+
+/// That a key isn't the one of a digest, with copies of what was computed and of what is stored.
+fn refuse_key(alloc: Global, computed: &[u8], digest: &Digest) -> OpenCause
+    ensures { (result ≡ Memory) ⊎ (result ≡ KeyDiffers computed.now digest.now.digest) }
+{
+    match copy_both(alloc, computed, digest.digest.as_slice()) {
+        Ok((computed, stored)) => OpenCause::KeyDiffers { computed, stored },
+        Err(_) => OpenCause::Memory,
+    }
+}
+
+fn copy_both(alloc: Global, one: &[u8], other: &[u8]) -> Result<(Bytes, Bytes), AllocError>
+    ensures { IfOk result (λ both. (both.0 ≡ one.now) × (both.1 ≡ other.now)) }
+{
+    let one = Vec::from_slice(alloc, one)?;
+    let other = Vec::from_slice(alloc, other)?;
+    Ok((Bytes::new(one), Bytes::new(other)))
+}
+
+/// The cipher of a segment that is encrypted so, under the key of this digest.
+#[tactic(auto, unfolding(luks_slots::specs::Unlocks::matches))]
+fn cipher_under(
+    alloc: Global,
+    encryption: &Encryption,
+    digest: &Digest,
+    key: &Option<Key>,
+) -> Result<Context, OpenCause>
+    requires rounds { is_iterations digest.now.iterations ≡ true }
+    requires sector { is_sector_size encryption.now.sector_size ≡ true }
+    ensures cipher { IfOk result (IsCipherOf ⟦<Context as SectorCipher>⟧.sector
+        ⟦<Context as SectorCipher>⟧.sealed ⟦<Context as SectorCipher>⟧.opened
+        (Some encryption.now) (used_by (Some encryption.now) key.now)) }
+    ensures key { IfOk result
+        (λ _. matches digest.now (used_by (Some encryption.now) key.now) ≡ true) }
+    ensures refused { IfErr result (λ cause. IsRefused digest.now
+        (named_cipher encryption.now.cipher) key.now cause) }
+{
+    let Some(key) = key else {
+        return Err(refuse_key(alloc, &[], digest));
+    };
+    let spec = cipher_spec(encryption.cipher);
+    let stored = digest.digest.as_slice();
+    if !spec.has_key_length(key.as_slice().len()) {
+        return Err(refuse_key(alloc, &[], digest));
+    }
+    if stored.len() < FEWEST_DIGEST_BYTES || MOST_DIGEST_BYTES < stored.len() {
+        return Err(refuse_key(alloc, &[], digest));
+    }
+    let mut made = [0; MOST_DIGEST_BYTES];
+    let made = &mut made[..stored.len()];
+    derive_digest(digest, key, made);
+    if *made != *stored {
+        return Err(refuse_key(alloc, made, digest));
+    }
+    match Context::new(spec, key.as_slice(), encryption.sector_size as u32) {
+        Ok(context) => Ok(context),
+        Err(_) => unreachable!(),
+    }
+}
+
+/// The cipher of a segment under the key that was handed in for it, which must be the one of the
+/// segment's digest. A linear segment has the cipher that changes nothing, and no key.
+pub(crate) fn segment_cipher(
+    alloc: Global,
+    valid: &Valid,
+    segment: &Extent,
+    key: &Option<Key>,
+) -> Result<Context, OpenCause>
+    requires sector { IfSome segment.now.encryption (λ e. is_sector_size e.sector_size ≡ true) }
+    requires digest { IsSome segment.now.encryption → (n : ℕ) × (d : digest_type)
+        × IsUnder valid.now.meta segment.now n d }
+    ensures cipher { IfOk result (IsCipherOf ⟦<Context as SectorCipher>⟧.sector
+        ⟦<Context as SectorCipher>⟧.sealed ⟦<Context as SectorCipher>⟧.opened
+        segment.now.encryption (used_by segment.now.encryption key.now)) }
+    ensures key { IfOk result
+        (λ _. IsKeyOf valid.now.meta segment.now (used_by segment.now.encryption key.now)) }
+    ensures refused { IfErr result (IsNoKey valid.now.meta segment.now key.now) }
+{
+    let Some(encryption) = &segment.encryption else {
+        return Ok(Context::linear());
+    };
+    let Some(number) = segment.digest else {
+        unreachable!()
+    };
+    let Some(digest) = valid.digest(number) else {
+        unreachable!()
+    };
+    cipher_under(alloc, encryption, digest, key)
+}

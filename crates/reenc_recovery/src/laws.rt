@@ -1,0 +1,82 @@
+// Laws of images and of opened volumes, with nothing to run.
+
+ghost use Rattle.std.specs.Prelude.{◌≡◌, ◌*◌, ℕ, List, Option, Some, Ok, drop, length};
+ghost use Rattle.cipher_laws.specs.Bytes.{AreBytes};
+ghost use Rattle.disk_sizes.specs.declared.Sizes.{Sizes};
+ghost use Rattle.luks_rules.specs.Areas.{areas_begin};
+ghost use Rattle.luks_store.specs.Devices.{front_of};
+ghost use Rattle.luks_store.specs.Loads.{stored_in};
+ghost use Rattle.luks_store.specs.declared.loaded.Stored.{Stored};
+ghost use Rattle.reenc_meta.specs.Placements.{IsPlacementOf};
+ghost use Rattle.reenc_meta.specs.Places.{IsRightFor};
+ghost use Rattle.reenc_meta.specs.declared.placement.Placement.{Placement as placement};
+ghost use Rattle.reenc_recovery.specs.Images.{StandsFor, StandsUnder};
+ghost use Rattle.reenc_recovery.specs.Openings.{IsOpened, StartsAsImage};
+ghost use Rattle.reenc_recovery.specs.Promises.{RepairsBegin, RepairsGoOn};
+ghost use Rattle.reenc_recovery.specs.Promises.{RepairsKeepContents};
+ghost use Rattle.volume_machine.specs.Beginnings.{IsFresh};
+ghost use Rattle.volume_machine.specs.Sound.{IsSound};
+ghost use Rattle.volume_machine.specs.States.{State};
+ghost use Rattle.volume_machine.specs.declared.keys.Keys.{Keys};
+
+use cipher_laws::SectorCipher;
+use disk_areas::{images_are_taken, repairs_keep_headers};
+use luks_copies::copies_are_read;
+use luks_store::metadata_go_by_meaning;
+use reenc_meta::placements_are_one;
+use volume_laws::{keys_seal_lawfully, volumes_start};
+
+/// An image of disks of some sizes stands for at most one content under the keys of its sides, and
+/// for at most one under a passphrase.
+pub fn images_stand_for_one()
+    ensures keys { (sizes : Sizes) (old new image : List ℕ) (one other : List (List ℕ)) →
+        StandsUnder sizes old new image one → StandsUnder sizes old new image other → one ≡ other }
+    ensures passphrase { (sizes : Sizes) (pass image : List ℕ) (one other : List (List ℕ)) →
+        StandsFor sizes pass image one → StandsFor sizes pass image other → one ≡ other }
+{
+    placements_are_one();
+}
+
+/// What is written in front of the keyslots' areas leaves what an image stands for under the keys
+/// of its sides, as long as its header says the same: so it is with each call of a repair. `p` is
+/// where the header places the volume.
+pub fn contents_stay_behind_headers()
+    ensures { (sizes : Sizes) (old new first image : List ℕ) (content : List (List ℕ))
+        (stored now : Stored) (p : placement) →
+        stored_in sizes (front_of sizes first) ≡ Ok stored →
+        IsPlacementOf stored.valid.meta sizes p → IsRightFor stored.valid.meta sizes p →
+        stored_in sizes (front_of sizes image) ≡ Ok now → now.valid ≡ stored.valid →
+        drop (areas_begin stored.valid.meta.config) image
+        ≡ drop (areas_begin stored.valid.meta.config) first →
+        StandsUnder sizes old new first content → StandsUnder sizes old new image content }
+{
+    placements_are_one();
+}
+
+/// Each image that a stop leaves of a repair stands for what the disk's bytes stood for before it,
+/// as long as no torn copy of the header is valid; and the repair's calls lead from what is known
+/// of the disk to what is known of it.
+pub fn repairs_keep_contents()
+    ensures begins { RepairsBegin }
+    ensures each { RepairsKeepContents }
+    ensures goes_on { RepairsGoOn }
+{
+    copies_are_read();
+    images_are_taken();
+    repairs_keep_headers();
+    metadata_go_by_meaning();
+    placements_are_one();
+}
+
+/// A volume that was opened by the header and a key of disks that hold some bytes is one from which
+/// runs start, as from the plain disk that holds for certain the content that these bytes stand for
+/// under this key.
+pub fn opened_volumes_start<C: SectorCipher>()
+    ensures { (sizes : Sizes) (key : Option (List ℕ)) (all : List ℕ) (volume : State (Keys C)) →
+        IsOpened C.sector C.sealed C.opened sizes key all volume → IsSound volume → IsFresh volume →
+        volume.disk.values ≡ Some all → length all ≡ volume.disk.atoms * volume.map.atom →
+        AreBytes all → StartsAsImage C.sealed C.opened sizes key all volume }
+{
+    keys_seal_lawfully::<C>();
+    volumes_start::<C>();
+}

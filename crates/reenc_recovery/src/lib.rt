@@ -1,0 +1,20 @@
+//! The opening of an encrypted volume (LUKS2 On-Disk Format Specification 1.1), and what an image
+//! of its disks stands for.
+//!
+//! The layer above may rely on one relation, `StandsFor`: an image of the disks stands for a
+//! content under a passphrase, block by block. An image stands for at most one,
+//! [`images_stand_for_one`].
+#![tactic(auto)]
+
+mod fault;
+mod judging;
+mod keys;
+mod laws;
+mod sizes;
+
+pub use fault::OpenCause;
+pub use keys::SideKeys;
+pub use laws::{
+    contents_stay_behind_headers, images_stand_for_one, opened_volumes_start, repairs_keep_contents,
+};
+pub use sizes::sizes_are_of_all_atoms;
