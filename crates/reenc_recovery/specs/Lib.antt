@@ -4,4 +4,3 @@ pub mod Keys
 pub mod Openings
 pub mod Promises
 pub mod Repairing
-pub mod Tables

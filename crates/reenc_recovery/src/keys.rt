@@ -30,7 +30,7 @@ const FEWEST_DIGEST_BYTES: usize = 20;
 const MOST_DIGEST_BYTES: usize = 64;
 
 /// The keys of a volume's sides, as its keyslots gave them. A linear side has none; a volume of
-/// which nothing is being converted has its key in `new`.
+/// which nothing is being converted has its key in `new`, and of it `old` is never looked at.
 #[derive(Drop)]
 pub struct SideKeys {
     pub old: Option<Key>,
