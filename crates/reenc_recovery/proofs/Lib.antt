@@ -7,4 +7,8 @@ mod JoinedLemmas
 mod OpenedLemmas
 mod RepairGoesLemmas
 mod RepairLemmas
+mod RepairTableLemmas
 mod SizesLemmas
+mod StandingLemmas
+mod TableLemmas
+mod WritingLemmas

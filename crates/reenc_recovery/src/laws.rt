@@ -14,6 +14,7 @@ ghost use Rattle.reenc_recovery.specs.Images.{StandsFor, StandsUnder};
 ghost use Rattle.reenc_recovery.specs.Openings.{IsOpened, StartsAsImage};
 ghost use Rattle.reenc_recovery.specs.Promises.{RepairsBegin, RepairsGoOn};
 ghost use Rattle.reenc_recovery.specs.Promises.{RepairsKeepContents};
+ghost use Rattle.reenc_recovery.specs.Tables.{OpeningsKeepContents, ReadsKeepContents};
 ghost use Rattle.volume_machine.specs.Beginnings.{IsFresh};
 ghost use Rattle.volume_machine.specs.Sound.{IsSound};
 ghost use Rattle.volume_machine.specs.States.{State};
@@ -21,8 +22,8 @@ ghost use Rattle.volume_machine.specs.declared.keys.Keys.{Keys};
 
 use cipher_laws::SectorCipher;
 use disk_areas::{images_are_taken, repairs_keep_headers};
-use luks_copies::copies_are_read;
-use luks_store::metadata_go_by_meaning;
+use luks_copies::{calls_are_seen, copies_are_read, copies_mean_what_they_share};
+use luks_store::{metadata_go_by_meaning, used_copies_are_headers};
 use reenc_meta::placements_are_one;
 use volume_laws::{keys_seal_lawfully, volumes_start};
 
@@ -66,6 +67,19 @@ pub fn repairs_keep_contents()
     repairs_keep_headers();
     metadata_go_by_meaning();
     placements_are_one();
+}
+
+/// While a volume is opened each image of each table that its disks tell, from that of the first
+/// sync on, stands for what their bytes stood for when the opening began, as long as no torn copy of
+/// the header is valid: behind the reads, and behind each call of a repair, done or failed.
+pub fn openings_keep_contents()
+    ensures reads { ReadsKeepContents }
+    ensures repairs { OpeningsKeepContents }
+{
+    calls_are_seen();
+    copies_mean_what_they_share();
+    used_copies_are_headers();
+    repairs_keep_contents();
 }
 
 /// A volume that was opened by the header and a key of disks that hold some bytes is one from which

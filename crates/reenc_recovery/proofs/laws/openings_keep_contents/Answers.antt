@@ -1,0 +1,12 @@
+use Rattle.reenc_recovery.proofs.RepairTableLemmas.{openings_keep}
+use Rattle.reenc_recovery.proofs.TableLemmas.{reads_keep}
+use Rattle.reenc_recovery.proofs.laws.openings_keep_contents.Goals as goal
+
+pub returns-clause-reads : goal.returns-clause-reads
+returns-clause-reads c = reads_keep
+
+pub returns-clause-repairs : goal.returns-clause-repairs
+returns-clause-repairs c =
+    openings_keep c.calls_are_seen.ensures.repairs c.repairs_keep_contents.ensures.begins
+    c.repairs_keep_contents.ensures.goes_on c.repairs_keep_contents.ensures.each
+    c.copies_mean_what_they_share.ensures c.used_copies_are_headers.ensures.stands

@@ -1,0 +1,52 @@
+-- The device calls of an opening, in their order.
+use Rattle.std.specs.Prelude.{◌≡◌, ◌⊎◌, Option, Some, None, Result, Ok, Err}
+use Rattle.base_terms.specs.declared.failed.Failed.{Failed}
+use Rattle.joined_disk.specs.Joined.{Joint, joined_disk}
+use Rattle.luks_copies.specs.Held.{copy_in, place_in}
+use Rattle.luks_copies.specs.Steps.{RepairCall}
+use Rattle.luks_copies.specs.declared.repair.Repair.{Repair}
+use Rattle.luks_copies.specs.declared.repair.RepairStage.TheVariants.{Broken, Written}
+use Rattle.luks_store.specs.Commits.{AreGood, Repairs}
+use Rattle.luks_store.specs.Devices.{IsUnwritten}
+use Rattle.luks_store.specs.declared.copies.Copies.{Copies}
+use Rattle.sector_disk.specs.Devices.{Device, SyncCall, failed_call, succeeded}
+
+-- ---- the repair
+-- which repair a header asks for: none where both copies are good
+abbrev pub IsRepairFor : Copies → Option Repair → Type 0
+IsRepairFor copies None = AreGood copies
+IsRepairFor copies (Some repair) = Repairs copies repair
+
+-- its write
+abbrev pub WritesRepair : Repair → Device → Device → Result (Unit {0}) Failed → Type 0
+WritesRepair repair old new result =
+    RepairCall Broken (copy_in repair) (place_in repair) old new result
+
+-- The write was done, and the sync that follows it was done or failed.
+pub record SyncsRepair (repair : Repair) (old new : Device) (result : Result (Unit {0}) Failed) :
+    Type 0 where
+  pub written : Device
+  pub write : WritesRepair repair old written succeeded
+  pub sync : RepairCall Written (copy_in repair) (place_in repair) written new result
+
+-- Its calls, of which the last one was done or failed; there is none where no repair is asked for.
+abbrev pub RepairRun : Option Repair → Device → Device → Result (Unit {0}) Failed → Type 0
+RepairRun None old new (Ok done) = new ≡ old
+RepairRun None old new (Err failed) = ⊥
+RepairRun (Some repair) old new (Ok done) = SyncsRepair repair old new succeeded
+RepairRun (Some repair) old new (Err failed) =
+    WritesRepair repair old new failed_call ⊎ SyncsRepair repair old new failed_call
+
+-- ---- the opening
+-- A sync that was done, and then the reads of the header, by which nothing is written.
+pub record SyncsAndReads (old read : Joint) : Type 0 where
+  pub synced : Joint
+  pub sync : SyncCall (joined_disk old) (joined_disk synced) succeeded
+  pub unwritten : IsUnwritten synced read
+
+-- Then the repair's calls.
+pub record OpeningRun (repair : Option Repair) (old : Joint) (new : Device)
+    (result : Result (Unit {0}) Failed) : Type 0 where
+  pub read : Joint
+  pub first : SyncsAndReads old read
+  pub run : RepairRun repair (joined_disk read) new result
