@@ -41,7 +41,11 @@ pub struct HostBay<R: FileSystem + Network + Drop> {
 impl<R: FileSystem + Network + Drop> HostBay<R> {
     /// A bay of this machine, with these standard streams.
     pub fn new(machine: R, input: Stdin, output: Stdout, errors: Stderr) -> HostBay<R>
-        ensures { result.faults ≡ 0 }
+        ensures machine { result.machine ≡ machine }
+        ensures input { result.input ≡ input }
+        ensures output { result.output ≡ output }
+        ensures errors { result.errors ≡ errors }
+        ensures faults { result.faults ≡ 0 }
     {
         HostBay {
             machine,
