@@ -1,18 +1,15 @@
 -- A disk that holds its bytes for certain shows the beginning of a repair.
-use Rattle.std.proofs.Common.{◌≡◌, ℕ, zero, suc, ◌+◌, ◌*◌, ◌<◌, ◌≤◌, false, true, List, [], ◌∷◌, length}
-use Rattle.std.proofs.Common.{map, take, drop, replicate, Contains, refl, sym, ◌∙◌, ap, arith}
-use Rattle.base_terms.specs.Blocks.{joined, lengths}
-use Rattle.disk_areas.specs.Areas.{IsOf, Shows}
+use Rattle.std.proofs.Common.{◌≡◌, ℕ, zero, suc, ◌+◌, ◌*◌, ◌<◌, ◌≤◌, false, List, [], ◌∷◌, length}
+use Rattle.std.proofs.Common.{take, drop, refl, sym, ◌∙◌, ap, arith}
 use Rattle.disk_areas.specs.Commits.{other}
 use Rattle.disk_areas.specs.Headers.{Copy, Header, IsLaidOut, Layout, byte_of, place_of, primary}
 use Rattle.disk_areas.specs.Headers.{secondary, text_of}
 use Rattle.disk_sizes.specs.declared.Sizes.{Sizes}
 use Rattle.disk_views.proofs.Blockwise.{block_at-part}
 use Rattle.disk_views.specs.Parts.{block_at, cell_in, value_in}
-use Rattle.disk_views.specs.Views.{view_of_cells}
 use Rattle.reenc_recovery.specs.Repairing.{IsCertain, ShowsRepairOf}
 use Rattle.reenc_recovery.proofs.JoinedLemmas.{atom_of_joined, long_joined}
-use Rattle.sector_disk.specs.Cells.{Cell, content, currents}
+use Rattle.sector_disk.specs.Cells.{Cell, currents}
 
 -- the current value of a cell stands in the list of all
 current_in : (cells : List Cell) (place : ℕ)

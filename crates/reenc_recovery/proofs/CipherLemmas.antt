@@ -1,7 +1,7 @@
 -- The ciphers of a volume's segments: they fit its blocks, and seal them as the segments do.
 use Rattle.std.proofs.Common.{◌≡◌, inl, inr, ℕ, ◌+◌, ◌*◌, ◌/◌, ◌%◌, ◌^◌, ◌<◌, List, Option, Some}
 use Rattle.std.proofs.Common.{None}
-use Rattle.std.proofs.Common.{refl, sym, ◌∙◌, ap, arith}
+use Rattle.std.proofs.Common.{refl, ◌∙◌, ap, arith}
 use Rattle.std.specs.Option.{IfSome}
 use Rattle.disk_sizes.specs.declared.Sizes.{Sizes}
 use Rattle.luks_json.specs.declared.meta.Parts.{Parts}

@@ -1,20 +1,19 @@
 -- A volume that was opened starts with the content that its disks' bytes stand for.
-use Rattle.std.proofs.Common.{◌≡◌, ℕ, zero, suc, ◌+◌, ◌*◌, ◌%◌, ◌<◌, List, [], ◌∷◌, map, length}
+use Rattle.std.proofs.Common.{◌≡◌, ℕ, zero, suc, ◌*◌, ◌%◌, ◌<◌, List, [], ◌∷◌, map, length}
 use Rattle.std.proofs.Common.{Some}
-use Rattle.std.proofs.Common.{Ok, Option, refl, sym, ◌∙◌, ap, subst, arith}
+use Rattle.std.proofs.Common.{Option, refl, sym, ◌∙◌, ap, subst}
 use Rattle.std.proofs.lemmas.List.{length-map}
 use Rattle.cipher_laws.specs.Bytes.{AreBytes}
 use Rattle.disk_sizes.specs.declared.Sizes.{Sizes}
 use Rattle.disk_views.specs.Parts.{block_at, value_in}
 use Rattle.plain_disk.specs.Plain.{Block}
-use Rattle.reenc_meta.specs.declared.placement.Placement.{Placement}
-use Rattle.reenc_recovery.specs.Images.{HoldsBlock, HoldsBlocks, StandsUnder, seals_in}
+use Rattle.reenc_recovery.specs.Images.{HoldsBlock, seals_in}
 use Rattle.reenc_recovery.specs.Keys.{used_by}
-use Rattle.reenc_recovery.specs.Openings.{IsOpened, IsOpening, StartsAsImage}
+use Rattle.reenc_recovery.specs.Openings.{IsOpened, StartsAsImage}
 use Rattle.reenc_recovery.proofs.CipherLemmas.{keys_fit, same_opened, same_sealed}
 use Rattle.sector_disk.specs.Geometry.{IsAtom}
 use Rattle.segment_map.specs.declared.map.Map.{Map}
-use Rattle.volume_laws.specs.Contents.{block_in, opened_blocks, IsSealed}
+use Rattle.volume_laws.specs.Contents.{block_in, opened_blocks}
 use Rattle.volume_laws.specs.Promises.{Starts}
 use Rattle.volume_machine.specs.Beginnings.{IsFresh}
 use Rattle.volume_machine.specs.Pieces.{place_in, side_in}

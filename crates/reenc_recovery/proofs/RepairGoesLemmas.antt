@@ -1,15 +1,14 @@
 -- The calls of a repair write one copy and nothing behind both.
-use Rattle.std.proofs.Common.{◌≡◌, inl, inr, ℕ, ◌+◌, ◌<◌, ◌≤◌, Bool, true, false, List, length}
-use Rattle.std.proofs.Common.{refl, sym}
-use Rattle.std.proofs.Common.{◌∙◌, ap, arith}
+use Rattle.std.proofs.Common.{◌≡◌, inl, inr, ℕ, ◌+◌, ◌≤◌, true, false, List, length}
+use Rattle.std.proofs.Common.{refl}
+use Rattle.std.proofs.Common.{◌∙◌, arith}
 use Rattle.disk_areas.specs.Areas.{AreApart}
 use Rattle.disk_areas.specs.Commits.{ShowsCommit, ShowsRepair, TriesCopy, WritesCopy, begun}
 use Rattle.disk_areas.specs.Headers.{Copy, Header, IsLaidOut, Layout, place_of, primary, secondary}
 use Rattle.disk_areas.specs.Promises.{RepairGoes}
 use Rattle.disk_sizes.specs.declared.Sizes.{Sizes}
-use Rattle.disk_views.specs.Parts.{block_at}
 use Rattle.disk_views.specs.Views.{IsOutside, IsSynced, IsThinned, View, view_of_cells}
-use Rattle.reenc_recovery.specs.Promises.{RepairGoesOn, RepairsGoOn}
+use Rattle.reenc_recovery.specs.Promises.{RepairGoesOn}
 use Rattle.reenc_recovery.specs.Repairing.{ShowsRepairOf}
 use Rattle.sector_disk.specs.Cells.{Cell}
 

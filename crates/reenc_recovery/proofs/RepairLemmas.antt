@@ -1,6 +1,5 @@
 -- Each image during a repair stands for what the disk's bytes stood for before it.
-use Rattle.std.proofs.Common.{◌≡◌, ℕ, ◌+◌, ◌-◌, ◌*◌, ◌<◌, ◌≤◌, Bool, List, length, take, drop, Ok}
-use Rattle.std.proofs.Common.{refl}
+use Rattle.std.proofs.Common.{◌≡◌, ℕ, ◌+◌, ◌-◌, ◌*◌, ◌≤◌, Bool, List, length, take, drop, Ok}
 use Rattle.std.proofs.Common.{sym, ◌∙◌, ap, subst, arith}
 use Rattle.base_terms.specs.Blocks.{joined}
 use Rattle.disk_areas.specs.Areas.{content_of}
@@ -9,7 +8,7 @@ use Rattle.disk_areas.specs.Headers.{Layout}
 use Rattle.disk_areas.specs.Promises.{ImageTaken, IsImageOf, RepairGives}
 use Rattle.disk_sizes.specs.declared.Sizes.{Sizes}
 use Rattle.disk_views.proofs.Entries.{image_in}
-use Rattle.disk_views.specs.Parts.{block_at, value_in}
+use Rattle.disk_views.specs.Parts.{value_in}
 use Rattle.disk_views.specs.Views.{view_of_cells}
 use Rattle.luks_copies.specs.Meanings.{header_reader, meaning_of}
 use Rattle.luks_rules.specs.Areas.{areas_begin}

@@ -1,11 +1,11 @@
 -- The tables of a repair: each image of each stands for what the disk's bytes stood for.
-use Rattle.std.proofs.Common.{◌≡◌, ◌⊎◌, inl, inr, ℕ, suc, ◌+◌, ◌*◌, ◌/◌, ◌<◌, ◌≤◌, List, [], ◌∷◌, Bool}
+use Rattle.std.proofs.Common.{◌≡◌, inl, inr, ℕ, suc, ◌+◌, ◌*◌, ◌/◌, ◌<◌, ◌≤◌, List, [], ◌∷◌, Bool}
 use Rattle.std.proofs.Common.{true, false}
-use Rattle.std.proofs.Common.{length, map, replicate, take, drop, Option, Some, None, Result, Ok, Err}
+use Rattle.std.proofs.Common.{length, map, replicate, Option, Some, None, Result, Ok, Err}
 use Rattle.std.proofs.Common.{refl, sym, ◌∙◌, ap, subst, arith}
 use Rattle.std.proofs.Math.Nat.{le_of_mul-le-mul_right}
 use Rattle.std.proofs.lemmas.List.{length-map, length-replicate}
-use Rattle.base_terms.specs.Blocks.{blocks_of, changed, joined, lengths}
+use Rattle.base_terms.specs.Blocks.{joined, lengths}
 use Rattle.base_terms.specs.declared.failed.Failed.{Failed}
 use Rattle.disk_areas.specs.Commits.{HasPast, TriesCopy, WritesCopy}
 use Rattle.disk_areas.specs.Headers.{Copy, Handed, Header, IsGenuine, IsLaidOut, Layout}
@@ -14,27 +14,23 @@ use Rattle.disk_sizes.specs.declared.Sizes.{Sizes}
 use Rattle.disk_views.proofs.Blockwise.{blocks_end}
 use Rattle.disk_views.proofs.Entries.{length-changed}
 use Rattle.disk_views.proofs.TableEntries.{length-thinned, length-tried, synced_view}
-use Rattle.disk_views.specs.Parts.{cell_in}
-use Rattle.disk_views.specs.Views.{IsSynced, IsThinned, view_of_cells}
+use Rattle.disk_views.specs.Views.{IsThinned, view_of_cells}
 use Rattle.joined_disk.specs.Joined.{Joint, joined_disk}
 use Rattle.luks_copies.specs.Held.{copy_in, place_in}
-use Rattle.luks_copies.specs.Meanings.{header_of, header_reader, meaning_of}
+use Rattle.luks_copies.specs.Meanings.{header_of, header_reader}
 use Rattle.luks_copies.specs.Promises.{MeanTheSame}
 use Rattle.luks_copies.specs.Seen.{HasRoomFor, RepairsAreSeen}
 use Rattle.luks_copies.specs.Steps.{RepairCall}
 use Rattle.luks_copies.specs.declared.repair.Repair.{Repair}
 use Rattle.luks_copies.specs.declared.repair.RepairStage.TheVariants.{Broken, Written}
-use Rattle.luks_rules.specs.Areas.{areas_begin, header_bytes}
+use Rattle.luks_rules.specs.Areas.{areas_begin}
 use Rattle.luks_store.proofs.PageLemmas.{page-place, size-pages}
 use Rattle.luks_store.specs.Devices.{front_of}
-use Rattle.luks_store.specs.Loads.{IsStored, stored_in}
+use Rattle.luks_store.specs.Loads.{stored_in}
 use Rattle.luks_store.specs.Promises.{UsedStands}
 use Rattle.luks_store.specs.declared.loaded.Stored.{Stored}
-use Rattle.reenc_meta.specs.Placements.{IsPlacementOf}
-use Rattle.reenc_meta.specs.Places.{IsRightFor}
 use Rattle.reenc_meta.specs.declared.placement.Placement.{Placement}
 use Rattle.reenc_recovery.specs.Calls.{SyncsAndReads, WritesRepair}
-use Rattle.reenc_recovery.specs.Images.{StandsUnder}
 use Rattle.reenc_recovery.specs.Promises.{RepairGoesOn, RepairsBegin, RepairsGoOn}
 use Rattle.reenc_recovery.specs.Promises.{RepairsKeepContents}
 use Rattle.reenc_recovery.specs.Repairing.{IsCertain, IsLeft, IsRepaired, ShowsRepairOf}
@@ -45,7 +41,7 @@ use Rattle.reenc_recovery.proofs.TableLemmas.{IsSettledSince, StillSince, curren
 use Rattle.reenc_recovery.proofs.TableLemmas.{reads_keep, stands_later, still_joined, still_none}
 use Rattle.reenc_recovery.proofs.TableLemmas.{still_one}
 use Rattle.reenc_recovery.proofs.WritingLemmas.{IsWriting, SomeWriting, writing}
-use Rattle.sector_disk.specs.Cells.{Cell, IsImage, content, currents, synced}
+use Rattle.sector_disk.specs.Cells.{Cell, content, currents, synced}
 use Rattle.sector_disk.specs.Devices.{Device, SyncCall, failed_call, succeeded}
 use Rattle.sector_disk.specs.Geometry.{IsAtom}
 use Rattle.sector_disk.specs.Steps.{Told, then_table}

@@ -1,23 +1,19 @@
 -- The tables of an opening: each image of each stands for the same content.
-use Rattle.std.proofs.Common.{◌≡◌, ◌⊎◌, inl, inr, ℕ, zero, suc, ◌+◌, ◌*◌, ◌/◌, ◌<◌, ◌≤◌, List, [], ◌∷◌}
-use Rattle.std.proofs.Common.{◌++◌, Bool, true, false, length, map, replicate, Option, Some, None}
-use Rattle.std.proofs.Common.{Result, Ok, Err, append_assoc, refl, sym, ◌∙◌, ap, ap₂, subst, arith}
-use Rattle.std.proofs.lemmas.List.{append-nil, length-map}
+use Rattle.std.proofs.Common.{◌≡◌, inl, inr, ℕ, List, [], ◌∷◌}
+use Rattle.std.proofs.Common.{◌++◌, map, Option, Some}
+use Rattle.std.proofs.Common.{append_assoc, refl, sym, ◌∙◌, ap, ap₂, subst, arith}
+use Rattle.std.proofs.lemmas.List.{append-nil}
 use Rattle.std.proofs.lemmas.List.Elements.{All-append, All-cons, All-nil, Contains-push_cases}
 use Rattle.std.specs.List.{All}
 use Rattle.std.specs.Prelude.{Contains}
-use Rattle.base_terms.specs.Blocks.{joined, lengths}
+use Rattle.base_terms.specs.Blocks.{joined}
 use Rattle.joined_disk.specs.Joined.{Joint, joined_disk}
 use Rattle.disk_sizes.specs.declared.Sizes.{Sizes}
-use Rattle.luks_store.specs.Devices.{front_of}
-use Rattle.luks_store.specs.Loads.{stored_in}
-use Rattle.luks_store.specs.declared.loaded.Stored.{Stored}
 use Rattle.reenc_recovery.specs.Calls.{SyncsAndReads}
 use Rattle.reenc_recovery.specs.Images.{StandsUnder}
-use Rattle.reenc_recovery.specs.Tables.{IsSpared, StandsSince, StandsStill, TellsSince}
+use Rattle.reenc_recovery.specs.Tables.{StandsSince, StandsStill, TellsSince}
 use Rattle.sector_disk.specs.Cells.{Cell, IsImage, content, currents, synced}
-use Rattle.sector_disk.specs.Devices.{Device}
-use Rattle.sector_disk.specs.Steps.{IsMoved, Told, then_table}
+use Rattle.sector_disk.specs.Steps.{Told, then_table}
 
 -- ---- a table of which each atom is certain
 none_held : (P : Type 0) (value : List ℕ) → Contains [] value → P
