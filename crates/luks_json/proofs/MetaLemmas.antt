@@ -344,7 +344,8 @@ pub config_left : (hdr_size : ℕ) (ks : List (List ℕ)) (ms : Members)
     → config_in hdr_size (without_all ks ms) ≡ config_in hdr_size ms
 unfolding config_in
 config_left hdr_size ks ms other =
-    ap (λ (r : Result Members JsonFault). r >>= (λ inner. config_of hdr_size (codes "config") inner))
+    ap (λ (r : Result Members JsonFault). r >>=
+    (λ inner. config_of hdr_size (codes "config") inner))
     (object_by (codes "config") (without_all ks ms) ms (left_in (codes "config") ks ms other))
 
 -- a fault ends it, and what was read leads on

@@ -36,8 +36,8 @@ pub record HasObjects {X : Type 0} (name : List ℕ) (Form : Members → X → T
 abbrev pub HasToken : Members → Token → Type 0
 HasToken ms token = token.members ≡ ms
 
--- The whole is an object of five objects, among whose numbers is none but whole ones of 64 bits; its
--- other members are kept. Whose header it is, by its config, tells which keyslots it may have.
+-- The whole is an object of five objects, among whose numbers is none but whole ones of 64 bits;
+-- its other members are kept. Whose header it is, by its config, tells which keyslots it may have.
 pub record HasMeta (hdr_size : ℕ) (d : Data) (m : Parts) : Type 0 where
   pub members : Members
   pub whole : d ≡ object members

@@ -1,8 +1,11 @@
 -- The history of sessions that followed one another.
-use Rattle.std.proofs.Common.{◌≡◌, ◌≢◌, ◌⊎◌, inl, inr, ℕ, suc, ◌<◌, ◌≤◌, Bool, true, false, List, [], ◌∷◌, ◌++◌, ◌==◌, if◌then◌else◌, refl, sym, ◌∙◌, ap, subst, append-nil, append_assoc, arith}
+use Rattle.std.proofs.Common.{◌≡◌, ◌≢◌, ◌⊎◌, inl, inr, ℕ, suc, ◌<◌, ◌≤◌, Bool, true, false, List}
+use Rattle.std.proofs.Common.{[], ◌∷◌, ◌++◌, ◌==◌, if◌then◌else◌, refl, sym, ◌∙◌, ap, subst}
+use Rattle.std.proofs.Common.{append-nil, append_assoc, arith}
 use Rattle.plain_disk.specs.Plain.{Exchange}
 use Rattle.nbd_session.specs.Turns.{exchanges_of}
-use Rattle.reenc_tool.specs.Sessions.{HasEach, HasNumber, IsOfSessions, NumbersRise, Played, operations_of, tagged, tagged_of}
+use Rattle.reenc_tool.specs.Sessions.{HasEach, HasNumber, IsOfSessions, NumbersRise, Played}
+use Rattle.reenc_tool.specs.Sessions.{operations_of, tagged, tagged_of}
 use Rattle.reenc_tool.proofs.LaneLemmas.{eqb-differ}
 use Rattle.volume_machine.specs.Answers.{Tagged, of_session, untagged}
 

@@ -190,10 +190,14 @@ served_of state items turned olds news ends standings n failed faults memory all
           )
           (lanes.each k link e inside).served;
       to_the_end = λ calm k inside is.
-          to_the_end calm k inside (sym (get_or-take n standings k Live (omega (arith, same))) ∙ is);
+          to_the_end calm k inside
+          (sym (get_or-take n standings k Live (omega (arith, same))) ∙ is);
       short = λ wanted.
-          let live = short wanted in
-          (live.0, live.1, get_or-take n standings live.0 Live (omega (arith, same, live.1)) ∙ live.2);
+          let live = short wanted in (
+            live.0,
+            live.1,
+            get_or-take n standings live.0 Live (omega (arith, same, live.1)) ∙ live.2,
+          );
       failed_is = failed_is;
       faults_are = faults_are;
       none_other = none_other;

@@ -1,5 +1,6 @@
 -- A command of its parts.
-use Rattle.std.proofs.Common.{◌≡◌, ℕ, ◌+◌, ◌*◌, ◌-◌, ◌^◌, ◌<◌, ◌≤◌, ◌⊎◌, ⊎_elim, le_trans, Bool, true}
+use Rattle.std.proofs.Common.{◌≡◌, ℕ, ◌+◌, ◌*◌, ◌-◌, ◌^◌, ◌<◌, ◌≤◌, ◌⊎◌, ⊎_elim, le_trans, Bool}
+use Rattle.std.proofs.Common.{true}
 use Rattle.std.proofs.Common.{false, inl, inr, zero, suc, List, [], ◌∷◌, ◌++◌, length}
 use Rattle.std.proofs.Common.{slice_index_or, replicate, Option, Some, None, ap, ◌∙◌, refl, sym}
 use Rattle.std.proofs.Common.{subst, arith, suc-mul}
@@ -301,7 +302,8 @@ pub same_outcome : {D L : Type 0} (cause : Cause) (fault fault' : Option StoreFa
     memory ≡ memory' → disk ≡ disk' → links ≡ links' → ends ≡ ends' →
     handed_back cause fault memory disk links ends
     ≡ handed_back cause fault' memory' disk' links' ends'
-same_outcome {D} {L} cause fault fault' memory memory' disk disk' links links' ends ends' f m a b c =
+same_outcome {D} {L} cause fault fault' memory memory' disk disk' links links' ends ends' f m a b
+    c =
     ap (λ (w : Option StoreFault). handed_back cause w memory disk links ends) f
     ∙ ap (λ (w : Bool). handed_back cause fault' w disk links ends) m
     ∙ ap (λ (d : Option D). handed_back cause fault' memory' d links ends) a

@@ -47,8 +47,8 @@ unserved cause disk links = record {
 abbrev pub AsksDisk : Type 0 → Type 0 → Type 1
 AsksDisk B D = B → List ℕ → ℕ → Result D BayFault → B → Type 0
 
--- the cause of a command that was given nothing: what it asked for failed, which the bay counted, or
--- memory was wanted
+-- the cause of a command that was given nothing: what it asked for failed, which the bay counted,
+-- or memory was wanted
 abbrev pub cause_of_fault : Failing → BayFault → ℕ → Cause
 cause_of_fault failing BayFaults.Failed faults = Device failing faults
 cause_of_fault failing BayFaults.Memory faults = Memory

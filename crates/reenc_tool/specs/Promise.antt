@@ -37,7 +37,8 @@ use Rattle.reenc_tool.specs.declared.ended.Failing.TheVariants.{Opening, Listeni
 use Rattle.reenc_tool.specs.declared.ended.Ended.{Ended}
 use Rattle.reenc_tool.specs.declared.ended.Fit.TheVariants.{Blocks}
 use Rattle.reenc_tool.specs.Lanes.{Served}
-use Rattle.reenc_tool.specs.Sessions.{Played, AreSessions, HasEach, IsOfSessions, NumbersRise, operations_of}
+use Rattle.reenc_tool.specs.Sessions.{Played, AreSessions, HasEach, IsOfSessions, NumbersRise}
+use Rattle.reenc_tool.specs.Sessions.{operations_of}
 use Rattle.reenc_tool.specs.Showing.{HasShown}
 use Rattle.reenc_tool.specs.Outcomes.{AsksDisk, HasNoDisk, Outcome, cause_of_fault, unserved}
 use Rattle.command_line.specs.Commands.{Serving, Showing, asked, serves, shows}
@@ -66,8 +67,8 @@ cause_of broken disk_faults failed link_faults memory =
     else (if failed == 0 then (if memory then Memory else Fine) else Link failed link_faults)
 
 -- Where the disk told its bytes and tables, and each atom held its value for certain, a stop after
--- each event leaves only contents that the plain disk allows there, in every block, since no zone is at
--- hand; and each table that the disk tells in the end is one after some of the events.
+-- each event leaves only contents that the plain disk allows there, in every block, since no zone
+-- is at hand; and each table that the disk tells in the end is one after some of the events.
 abbrev pub MayStop : State PlainKeys → Seals → List (Happening PlainKeys) → List Exchange → Type 0
 MayStop start seals run exchanges = (bytes : List ℕ) (before : Told) →
     start.disk.values ≡ Some bytes →
@@ -76,8 +77,8 @@ MayStop start seals run exchanges = (bytes : List ℕ) (before : Told) →
     × StopsAlong start seals (plain_blocks start bytes) run exchanges
     × ((now : Told) → (last_of start run).disk.told ≡ Some now → TellsRun start run now)
 
--- After each event of a run an operation has failed, and the volume is broken, exactly where events of
--- theirs failed; sides, keys and places are those of the start, and no zone is at hand.
+-- After each event of a run an operation has failed, and the volume is broken, exactly where events
+-- of theirs failed; sides, keys and places are those of the start, and no zone is at hand.
 abbrev pub GoesAlong : State PlainKeys → List (Happening PlainKeys) → Type 0
 GoesAlong start run = (earlier later : List (Happening PlainKeys)) → run ≡ earlier ++ later →
     GoesByEvents start earlier
@@ -133,8 +134,8 @@ pub record Ran {D L : Type 0} (device : D → DiskState) (state : L → LinkStat
       left
   -- stops: wherever the run stops, the disk holds what this history allows there
   pub stops : MayStop start seals run (untagged operations)
-  -- the cause, with the counts of the disk and of the first link that failed as they are at the end,
-  -- and when it may come
+  -- the cause, with the counts of the disk and of the first link that failed as they are at the
+  -- end, and when it may come
   pub cause_is : outcome.cause
       ≡ cause_of final.broken final.disk.faults failed faults outcome.memory
   pub broke : final.broken ≡ true → Rose start.disk.faults final.disk.faults
@@ -227,8 +228,9 @@ abbrev pub KeepsWords : List (List ℕ) → Cause → Type 0
 KeepsWords words (Usage kept) = map string_bytes kept.now ≡ words
 KeepsWords words _ = ⊥
 
--- What a command did whose words were read, or not: it was told to serve or to show, which its report
--- belongs to; or nothing was asked of the bay, since the words ask for nothing or memory was wanted.
+-- What a command did whose words were read, or not: it was told to serve or to show, which its
+-- report belongs to; or nothing was asked of the bay, since the words ask for nothing or memory was
+-- wanted.
 abbrev pub Serviced : {B D L : Type 0} → (D → DiskState) → (L → LinkState) → (B → Holdings D) →
     AsksDisk B D → AsksLinks B L → Serving → B → B → Outcome D L → Option (List ℕ) → Type 0
 Serviced device state holdings asks_disk asks_links serve old new outcome report =

@@ -1,5 +1,6 @@
 -- Sessions that were served, and how links tell of them.
-use Rattle.std.specs.Prelude.{ℕ, ◌≡◌, ◌+◌, ◌<◌, ◌≤◌, ◌⊎◌, suc, ◌==◌, if◌then◌else◌, List, [], ◌∷◌, map}
+use Rattle.std.specs.Prelude.{ℕ, ◌≡◌, ◌+◌, ◌<◌, ◌≤◌, ◌⊎◌, suc, ◌==◌, if◌then◌else◌, List, [], ◌∷◌}
+use Rattle.std.specs.Prelude.{map}
 use Rattle.std.specs.Prelude.{◌++◌, Some}
 use Rattle.bays.specs.Stories.{Script, Handed, LinkState, Story}
 use Rattle.nbd_stream.specs.declared.ending.Ending.TheVariants.{PortSpent, WriteFault}

@@ -35,8 +35,8 @@ abbrev pub report_in : Result (List ℕ) StoreFault → Option (List ℕ)
 report_in (Ok text) = Some text
 report_in (Err fault) = None
 
--- The disk was read and nothing else, and is handed back. What its header says is the report, or the
--- cause says why there is none.
+-- The disk was read and nothing else, and is handed back. What its header says is the report, or
+-- the cause says why there is none.
 pub record IsShown {D L : Type 0} (device : D → DiskState) (disk : D) (outcome : Outcome D L)
     (report : Option (List ℕ)) : Type 0 where
   pub back : D
@@ -47,8 +47,8 @@ pub record IsShown {D L : Type 0} (device : D → DiskState) (disk : D) (outcome
   pub outcome_is : outcome ≡ shown back (device back).faults told
   pub report_is : report ≡ report_in told
 
--- The bay was asked once for the disk that the words name, to be read alone, and gave it: it is the one
--- on its shelf, which all else left. Nothing more was asked.
+-- The bay was asked once for the disk that the words name, to be read alone, and gave it: it is the
+-- one on its shelf, which all else left. Nothing more was asked.
 pub record HasOpened {B D L : Type 0} (device : D → DiskState) (holdings : B → Holdings D)
     (asks_reading : AsksDisk B D) (show : Showing) (old new : B) (outcome : Outcome D L)
     (report : Option (List ℕ)) : Type 0 where

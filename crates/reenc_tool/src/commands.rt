@@ -246,9 +246,9 @@ fn execute<'w, B: Bay>(
 /// are those of the operations' device calls, and wherever the run stops the disk holds what that
 /// history allows. Of a header all lines are told, or why there is none; the disk is read alone.
 /// Each cause has its reason. The bay is asked once for the disk, and for clients once for the
-/// links, and for nothing else. The text changes the cause only where all was fine: to `Output` where
-/// it can't be put and pushed out, to `Memory` where memory is wanted for it. Words that ask for
-/// nothing leave the bay as it was. The seeds aren't drawn from.
+/// links, and for nothing else. The text changes the cause only where all was fine: to `Output`
+/// where it can't be put and pushed out, to `Memory` where memory is wanted for it. Words that ask
+/// for nothing leave the bay as it was. The seeds aren't drawn from.
 pub fn run<'w, W: Threads + Wait + Sync, B: Bay, R: Seeds, O: Sink, G: Gate>(
     _rt: &W,
     alloc: Global,

@@ -79,7 +79,8 @@ impl<D: Disk, C: SectorCipher + Copy> Port for VolumePort<D, C> {
 impl<D: Disk, C: SectorCipher + Copy> SharedPort for VolumePort<D, C> {
     ghost use Rattle.reenc_tool.specs.Ports.{Executed, executed_none, executed_joined};
 
-    ghost executed = { λ old new history. Executed C.sealed C.opened old.volume new.volume history };
+    ghost executed = { λ old new history. Executed C.sealed C.opened old.volume new.volume
+        history };
 
     ghost number = { λ port. port.session };
 

@@ -51,7 +51,8 @@ pub fn print<'w, O: Sink>(
 /// Prints the text of a command that did what it was asked.
 fn put_report<'w, O: Sink>(out: &mut O, text: &str) -> Cause<'w>
     ensures cause { EndsAs Cause.Fine (O.outlet out.old).faults (O.outlet out.new).faults result }
-    ensures text { Prints (O.outlet out.old) (O.outlet out.new) (text_of Cause.Fine result text.now) }
+    ensures text { Prints (O.outlet out.old) (O.outlet out.new)
+        (text_of Cause.Fine result text.now) }
 {
     match put_text(out, text) {
         Ok(()) => Cause::Fine,

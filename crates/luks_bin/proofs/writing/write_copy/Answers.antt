@@ -41,4 +41,5 @@ returns-clause-text c =
 pub returns-clause-hidden : goal.returns-clause-hidden
 returns-clause-hidden c = λ utf8.
     ap hides_copy (now c)
-    ∙ written-hides c.args.header.now c.args.json.now (shaped c) c.requires.right c.requires.text utf8
+    ∙ written-hides c.args.header.now c.args.json.now (shaped c) c.requires.right c.requires.text
+    utf8

@@ -16,7 +16,8 @@ returns-clause-ended g c =
     let did = s.1 in
     let fits = c.keys-keys.ensures.fits in
     let atom_is = made.map.atom in
-    inl (ran_of g.D.Disk.device g.L.Link.state c.args.disk c.into_disk-disk.result c.args.links.items
+    inl (ran_of g.D.Disk.device g.L.Link.state c.args.disk c.into_disk-disk.result
+    c.args.links.items
     (some_element c.args.links.items 0 c.requires.some) _ start _ final did.run
     trouble.failed trouble.faults s.0 _ _
     (record {
