@@ -101,6 +101,8 @@ impl<F: PositionedFile> Disk for FileDisk<F> {
 
     ghost held = { λ d t is. Prim.cc };
 
+    ghost sized = { λ d t is. Prim.cc };
+
     fn atom(&self) -> u32 {
         self.atom
     }

@@ -3,14 +3,15 @@ use Rattle.std.specs.Prelude.{ℕ, zero, suc, ◌≡◌, ◌+◌, ◌*◌, ◌<�
 use Rattle.std.specs.Prelude.{take, replicate, slice_index, Option, Some, None, ◌^◌, refl}
 use Rattle.std.specs.Coded.{Π_prop, →_prop, ×_prop, le_prop, Coded, Coded-set, coded_ℕ, coded_bool}
 use Rattle.std.specs.Coded.{coded_list, coded×, code_by}
-use Rattle.std.proofs.Common.{sym, ◌∙◌, ap, ap₂, arith, length-append, append_assoc, Bool, true}
-use Rattle.std.proofs.Common.{false, if◌then◌else◌, nat_lt}
+use Rattle.std.specs.List.{AllByRecursion}
+use Rattle.std.proofs.Common.{sym, ◌∙◌, ap, ap₂, subst, arith, length-append, append_assoc, Bool}
+use Rattle.std.proofs.Common.{true, false, if◌then◌else◌, nat_lt}
 use Rattle.std.proofs.lemmas.Bool.{ltb-true}
 use Rattle.std.proofs.lemmas.List.{length-take-le, take-replicate, replicate-append-replicate}
 use Rattle.std.proofs.Math.Nat.{mul-le-mul_right}
 use Rattle.base_terms.specs.Blocks.{joined, lengths}
 use Rattle.base_terms.proofs.BlockLemmas.{take_behind, even_front, even_rest}
-use Rattle.sector_disk.specs.Cells.{Cell, content, currents, AreHeld}
+use Rattle.sector_disk.specs.Cells.{Cell, content, currents, IsHeld, IsSized, AreHeld, AreSized}
 use Rattle.sector_disk.specs.Devices.{Device}
 use Rattle.sector_disk.specs.Geometry.{IsDisk}
 use Rattle.joined_disk.specs.Joined.{Joint, Follows, nothing, in_front, both_values, told_by_both}
@@ -41,6 +42,7 @@ pub record ShowsDisk (device : Device) : Type 0 where
   pub even : (told : Told) → device.told ≡ Some told
       → lengths (currents told.now) ≡ replicate device.atoms device.size
   pub held : (told : Told) → device.told ≡ Some told → AreHeld told.now
+  pub sized : (told : Told) → device.told ≡ Some told → AreSized device.size told.now
 
 -- by its laws
 pub shows : {D : Type 0} (device : D → Device)
@@ -52,9 +54,16 @@ pub shows : {D : Type 0} (device : D → Device)
     → ((d : D) (t : Told) → (device d).told ≡ Some t
     → lengths (currents t.now) ≡ replicate (device d).atoms (device d).size)
     → ((d : D) (t : Told) → (device d).told ≡ Some t → AreHeld t.now)
+    → ((d : D) (t : Told) → (device d).told ≡ Some t → AreSized (device d).size t.now)
     → (d : D) → ShowsDisk (device d)
-shows device whole bytes agrees even held d =
-    record { whole = whole d; bytes = bytes d; agrees = agrees d; even = even d; held = held d }
+shows device whole bytes agrees even held sized d = record {
+  whole = whole d;
+  bytes = bytes d;
+  agrees = agrees d;
+  even = even d;
+  held = held d;
+  sized = sized d;
+}
 
 -- its sizes are those of a disk
 pub joint_geometry : (joint : Joint) (atom base : ℕ) → IsDisk joint.main.size joint.main.atoms
@@ -76,6 +85,8 @@ shows_nothing size = record {
   even = λ told is.
       (let e : record { now = []; past = []; mark = Some 0 } ≡ told = cc in rw (← e) refl);
   held = λ told is.
+      (let e : record { now = []; past = []; mark = Some 0 } ≡ told = cc in rw (← e) tt);
+  sized = λ told is.
       (let e : record { now = []; past = []; mark = Some 0 } ≡ told = cc in rw (← e) tt);
 }
 
@@ -213,14 +224,16 @@ even_take zero xs = refl
 even_take (suc n) [] = refl
 even_take (suc n) (x ∷ xs) = ap (λ rest. length x.current ∷ rest) (even_take n xs)
 
-held_append : (xs ys : List Cell) → AreHeld xs → AreHeld ys → AreHeld (xs ++ ys)
-held_append [] ys of_xs of_ys = of_ys
-held_append (x ∷ xs) ys of_xs of_ys = (of_xs.0, held_append xs ys of_xs.1 of_ys)
+each_append : (P : Cell → Type 0) (xs ys : List Cell) → AllByRecursion P xs → AllByRecursion P ys
+    → AllByRecursion P (xs ++ ys)
+each_append P [] ys of_xs of_ys = of_ys
+each_append P (x ∷ xs) ys of_xs of_ys = (of_xs.0, each_append P xs ys of_xs.1 of_ys)
 
-held_take : (n : ℕ) (xs : List Cell) → AreHeld xs → AreHeld (take n xs)
-held_take zero xs held = tt
-held_take (suc n) [] held = tt
-held_take (suc n) (x ∷ xs) held = (held.0, held_take n xs held.1)
+each_take : (P : Cell → Type 0) (n : ℕ) (xs : List Cell) → AllByRecursion P xs
+    → AllByRecursion P (take n xs)
+each_take P zero xs each = tt
+each_take P (suc n) [] each = tt
+each_take P (suc n) (x ∷ xs) each = (each.0, each_take P n xs each.1)
 
 whole_joint : (size head main used : ℕ) (front back : List ℕ) → length front ≡ head * size
     → length back ≡ main * size
@@ -266,7 +279,15 @@ shows_joint joint head main same fits = record {
       ∙ replicate-append-replicate joint.head.atoms joint.used joint.main.size));
   held = λ told is. (let both = tells_of joint told is in
       rw both.told_is
-      (held_append both.now_head.now _ (head.held both.now_head (told_of_marked _ _ both.head_is))
-      (held_take joint.used both.now_main.now
+      (each_append IsHeld both.now_head.now _
+      (head.held both.now_head (told_of_marked _ _ both.head_is))
+      (each_take IsHeld joint.used both.now_main.now
       (main.held both.now_main (told_of_marked _ _ both.main_is)))));
+  sized = λ told is. (let both = tells_of joint told is in
+      rw both.told_is
+      (each_append (IsSized joint.main.size) both.now_head.now _
+      (subst (λ size. AreSized size both.now_head.now) same
+      (head.sized both.now_head (told_of_marked _ _ both.head_is)))
+      (each_take (IsSized joint.main.size) joint.used both.now_main.now
+      (main.sized both.now_main (told_of_marked _ _ both.main_is)))));
 }

@@ -187,33 +187,39 @@ impl<D: Disk> Disk for JoinedDisk<D> {
 
     ghost whole = { λ d. (shows_joint (joint_of D.device d.atom d.head_was.value d.main_was.value
         d.head d.main d.used d.calls) (shows_front D.device
-        (shows D.device D.whole D.bytes D.agrees D.even D.held) d.atom d.head)
-        (shows D.device D.whole D.bytes D.agrees D.even D.held d.main) (d.same_size ∙ sym d.size)
-        d.within).whole };
+        (shows D.device D.whole D.bytes D.agrees D.even D.held D.sized) d.atom d.head)
+        (shows D.device D.whole D.bytes D.agrees D.even D.held D.sized
+        d.main) (d.same_size ∙ sym d.size) d.within).whole };
 
     ghost bytes = { λ d. (shows_joint (joint_of D.device d.atom d.head_was.value d.main_was.value
         d.head d.main d.used d.calls) (shows_front D.device
-        (shows D.device D.whole D.bytes D.agrees D.even D.held) d.atom d.head)
-        (shows D.device D.whole D.bytes D.agrees D.even D.held d.main) (d.same_size ∙ sym d.size)
-        d.within).bytes };
+        (shows D.device D.whole D.bytes D.agrees D.even D.held D.sized) d.atom d.head)
+        (shows D.device D.whole D.bytes D.agrees D.even D.held D.sized
+        d.main) (d.same_size ∙ sym d.size) d.within).bytes };
 
     ghost agrees = { λ d. (shows_joint (joint_of D.device d.atom d.head_was.value d.main_was.value
         d.head d.main d.used d.calls) (shows_front D.device
-        (shows D.device D.whole D.bytes D.agrees D.even D.held) d.atom d.head)
-        (shows D.device D.whole D.bytes D.agrees D.even D.held d.main) (d.same_size ∙ sym d.size)
-        d.within).agrees };
+        (shows D.device D.whole D.bytes D.agrees D.even D.held D.sized) d.atom d.head)
+        (shows D.device D.whole D.bytes D.agrees D.even D.held D.sized
+        d.main) (d.same_size ∙ sym d.size) d.within).agrees };
 
     ghost even = { λ d. (shows_joint (joint_of D.device d.atom d.head_was.value d.main_was.value
         d.head d.main d.used d.calls) (shows_front D.device
-        (shows D.device D.whole D.bytes D.agrees D.even D.held) d.atom d.head)
-        (shows D.device D.whole D.bytes D.agrees D.even D.held d.main) (d.same_size ∙ sym d.size)
-        d.within).even };
+        (shows D.device D.whole D.bytes D.agrees D.even D.held D.sized) d.atom d.head)
+        (shows D.device D.whole D.bytes D.agrees D.even D.held D.sized
+        d.main) (d.same_size ∙ sym d.size) d.within).even };
 
     ghost held = { λ d. (shows_joint (joint_of D.device d.atom d.head_was.value d.main_was.value
         d.head d.main d.used d.calls) (shows_front D.device
-        (shows D.device D.whole D.bytes D.agrees D.even D.held) d.atom d.head)
-        (shows D.device D.whole D.bytes D.agrees D.even D.held d.main) (d.same_size ∙ sym d.size)
-        d.within).held };
+        (shows D.device D.whole D.bytes D.agrees D.even D.held D.sized) d.atom d.head)
+        (shows D.device D.whole D.bytes D.agrees D.even D.held D.sized
+        d.main) (d.same_size ∙ sym d.size) d.within).held };
+
+    ghost sized = { λ d. (shows_joint (joint_of D.device d.atom d.head_was.value d.main_was.value
+        d.head d.main d.used d.calls) (shows_front D.device
+        (shows D.device D.whole D.bytes D.agrees D.even D.held D.sized) d.atom d.head)
+        (shows D.device D.whole D.bytes D.agrees D.even D.held D.sized
+        d.main) (d.same_size ∙ sym d.size) d.within).sized };
 
     fn atom(&self) -> u32 {
         self.atom

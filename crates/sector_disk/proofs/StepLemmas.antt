@@ -1,9 +1,9 @@
 -- Lemmas on how a device call moves the tables.
-use Rattle.std.proofs.Common.{◌≡◌, ℕ, ◌+◌, ◌*◌, ◌≤◌, zero, suc, List, [], ◌∷◌, length, Some, Err}
+use Rattle.std.proofs.Common.{◌≡◌, ℕ, ◌≤◌, zero, suc, List, [], ◌∷◌, Some, Err}
 use Rattle.std.proofs.Common.{refl, subst, inl, inr, ◌∙◌}
 use Rattle.base_terms.specs.declared.failed.Failed.{Failed}
 use Rattle.base_terms.specs.Blocks.{changed}
-use Rattle.base_terms.specs.Causes.{HasCause, Rose}
+use Rattle.base_terms.specs.Causes.{Rose}
 use Rattle.sector_disk.specs.Cells.{Cell, tried, IsTried}
 use Rattle.sector_disk.specs.Devices.{Device, WriteCall}
 use Rattle.sector_disk.specs.Steps.{Told, then_table, then_tried, IsMoved, Moves}

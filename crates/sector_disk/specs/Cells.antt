@@ -1,5 +1,6 @@
 -- What each atom of a disk holds: its current value, and the values that a stop may leave there.
-use Rattle.std.specs.Prelude.{ℕ, zero, suc, ◌≡◌, ◌⊎◌, List, [], ◌∷◌, ◌++◌, map, All, Contains}
+use Rattle.std.specs.Prelude.{ℕ, zero, suc, ◌≡◌, ◌⊎◌, List, [], ◌∷◌, ◌++◌, length, map, All}
+use Rattle.std.specs.Prelude.{Contains}
 use Rattle.std.specs.List.{AllByRecursion}
 use Rattle.base_terms.specs.Blocks.{joined}
 
@@ -39,6 +40,14 @@ IsHeld cell = Contains cell.candidates cell.current
 -- each current value is a candidate
 abbrev pub AreHeld : List Cell → Type 0
 AreHeld cells = AllByRecursion IsHeld cells
+
+-- each candidate has so many bytes
+abbrev pub IsSized : ℕ → Cell → Type 0
+IsSized size cell = (value : List ℕ) → Contains cell.candidates value → length value ≡ size
+
+-- each candidate of each atom has so many bytes
+abbrev pub AreSized : ℕ → List Cell → Type 0
+AreSized size cells = AllByRecursion (IsSized size) cells
 
 -- atoms that hold the values of a text for certain
 unfoldable pub sures : List (List ℕ) → List Cell

@@ -1,10 +1,16 @@
 -- Facts that hold of each atom of a disk in memory, whatever calls it had.
-use Rattle.std.specs.Prelude.{ℕ, zero, suc, ◌/◌, List, [], ◌∷◌, length, map}
+use Rattle.std.specs.Prelude.{ℕ, zero, suc, ◌≡◌, ◌+◌, ◌*◌, ◌/◌, ◌≤◌, List, [], ◌∷◌, ◌++◌, length}
+use Rattle.std.specs.Prelude.{map, drop, Contains}
 use Rattle.std.specs.List.{AllByRecursion}
-use Rattle.std.proofs.lemmas.List.Elements.{Contains-push, Contains-append_left}
+use Rattle.std.proofs.Common.{inl, inr, arith, length-drop}
+use Rattle.std.proofs.Math.Nat.{div-mul-le_self}
+use Rattle.std.proofs.lemmas.List.{length-take-le}
+use Rattle.std.proofs.lemmas.List.Elements.{Contains-push, Contains-push_cases}
+use Rattle.std.proofs.lemmas.List.Elements.{Contains-append_left}
 use Rattle.base_terms.specs.Blocks.{changed, blocks_of}
 use Rattle.sector_disk.specs.Calls.{Call, changed_by, table_after, last_table, table}
 use Rattle.sector_disk.specs.Cells.{Cell, sure, sures, wrote, tried, synced, IsHeld, AreHeld}
+use Rattle.sector_disk.specs.Cells.{IsSized, AreSized}
 use Rattle.sector_disk.specs.declared.call_record.Kind.{Kind}
 use Rattle.sector_disk.specs.declared.call_record.Kind.TheVariants.{Read, Write, FailedWrite, Sync}
 
@@ -91,3 +97,65 @@ held_table atom atoms start calls =
     (sures (blocks_of atom atoms start)) calls
     (each_sures IsHeld (λ _. Unit {0}) held_lasting (blocks_of atom atoms start)
     (each_value (blocks_of atom atoms start)))
+
+-- Each current value is a candidate, and each candidate has an atom's bytes: the first is what a
+-- sync keeps the second by.
+abbrev IsHeldSized : ℕ → Cell → Type 0
+IsHeldSized atom cell = IsHeld cell × IsSized atom cell
+
+sized_pushed : (atom : ℕ) (candidates : List (List ℕ)) (value : List ℕ) → length value ≡ atom
+    → ((one : List ℕ) → Contains candidates one → length one ≡ atom)
+    → (one : List ℕ) → Contains (candidates ++ value ∷ []) one → length one ≡ atom
+sized_pushed atom candidates value long each one is =
+    elim (Contains-push_cases candidates value one is) [
+      | inl among ↦ each one among
+      | inr same ↦ rw (← same) long
+    ]
+
+sized_none : (atom : ℕ) (one : List ℕ) → Contains [] one → length one ≡ atom
+sized_none atom one is = absurd (omega (arith, is.1))
+
+sized_lasting : (atom : ℕ) → IsLasting (IsHeldSized atom) (λ value. length value ≡ atom)
+sized_lasting atom = record {
+  at_start =
+      λ value long. (Contains-push [] value, sized_pushed atom [] value long (sized_none atom));
+  in_write = λ cell value long is.
+      (Contains-push cell.candidates value, sized_pushed atom cell.candidates value long is.1);
+  in_failed_write = λ cell value long is. (
+    Contains-append_left cell.candidates (value ∷ []) cell.current is.0,
+    sized_pushed atom cell.candidates value long is.1,
+  );
+  in_sync = λ cell is. (
+    Contains-push [] cell.current,
+    sized_pushed atom [] cell.current (is.1 cell.current is.0) (sized_none atom),
+  );
+}
+
+-- the blocks of a text that is long enough have a block's bytes
+sized_blocks : (atom n : ℕ) (text : List ℕ) → n * atom ≤ length text
+    → AllByRecursion (λ value. length value ≡ atom) (blocks_of atom n text)
+unfolding blocks_of
+sized_blocks atom zero text long = tt
+sized_blocks atom (suc n) text long =
+    let more : suc n * atom ≡ atom + n * atom = grind arith in
+    let rest = length-drop atom text in (
+      length-take-le atom text (omega (arith, long, more)),
+      sized_blocks atom n (drop atom text) (omega (arith, long, more, rest)),
+    )
+
+sized_each : (atom : ℕ) (cells : List Cell) → AllByRecursion (IsHeldSized atom) cells
+    → AreSized atom cells
+sized_each atom [] each = tt
+sized_each atom (cell ∷ cells) each = (each.0.1, sized_each atom cells each.1)
+
+pub sized_table : (atom atoms : ℕ) (start : List ℕ) (calls : List Call)
+    → length start ≡ atoms * atom → AreSized atom (table atom atoms start calls)
+unfolding table
+sized_table atom atoms start calls long =
+    sized_each atom (table atom atoms start calls)
+    (each_last (IsHeldSized atom) (λ value. length value ≡ atom) (sized_lasting atom) atom
+    (λ body. sized_blocks atom (length body / atom) body (div-mul-le_self (length body) atom))
+    (sures (blocks_of atom atoms start)) calls
+    (each_sures (IsHeldSized atom) (λ value. length value ≡ atom) (sized_lasting atom)
+    (blocks_of atom atoms start)
+    (sized_blocks atom atoms start (omega (arith, long)))))

@@ -2,9 +2,9 @@
 use Rattle.std.specs.Prelude.{ℕ, ◌≡◌, ◌*◌, ◌<◌, List, length, replicate, slice_index, Some}
 use Rattle.std.proofs.Common.{sym, ap}
 use Rattle.base_terms.specs.Blocks.{lengths}
-use Rattle.sector_disk.specs.Cells.{content, currents, AreHeld}
+use Rattle.sector_disk.specs.Cells.{content, currents, AreHeld, AreSized}
 use Rattle.sector_disk.specs.Geometry.{is_atom-true, IsDisk}
-use Rattle.sector_disk.specs.EachCell.{held_table}
+use Rattle.sector_disk.specs.EachCell.{held_table, sized_table}
 use Rattle.sector_disk.specs.Mem.{told_of}
 use Rattle.sector_disk.specs.Steps.{Told}
 use Rattle.sector_disk.specs.declared.mem_disk.MemDisk.{MemDisk}
@@ -31,3 +31,7 @@ mem_even d t is = let e : told_of d ≡ t = cc in rw (← e) d.even
 pub mem_held : (d : MemDisk) (t : Told) → Some (told_of d) ≡ Some t → AreHeld t.now
 mem_held d t is = let e : told_of d ≡ t =
     cc in rw (← e) (held_table d.atom d.atoms d.start.items d.calls.calls)
+
+pub mem_sized : (d : MemDisk) (t : Told) → Some (told_of d) ≡ Some t → AreSized d.atom t.now
+mem_sized d t is = let e : told_of d ≡ t =
+    cc in rw (← e) (sized_table d.atom d.atoms d.start.items d.calls.calls d.began)

@@ -1,7 +1,7 @@
 ghost use Rattle.std.specs.Prelude.{◌≡◌, ℕ, ◌*◌, ◌^◌, ◌<◌, List, length, replicate, slice_index};
 ghost use Rattle.std.specs.Prelude.{Option, Some};
 ghost use Rattle.base_terms.specs.Blocks.{lengths};
-ghost use Rattle.sector_disk.specs.Cells.{content, currents, AreHeld};
+ghost use Rattle.sector_disk.specs.Cells.{content, currents, AreHeld, AreSized};
 ghost use Rattle.sector_disk.specs.Devices.{Device, ReadCall, WriteCall, SyncCall, marked};
 ghost use Rattle.sector_disk.specs.Geometry.{IsAtom, IsDisk, IsInDisk};
 ghost use Rattle.sector_disk.specs.Steps.{Told};
@@ -68,10 +68,14 @@ pub trait Disk {
     ghost agrees: { (d : Self) (t : Told) → (device d).told ≡ Some t
         → (device d).values ≡ Some (content t.now) };
 
-    /// Each atom of the current table has an atom's bytes.
+    /// Each current value has an atom's bytes.
     ghost even: { (d : Self) (t : Told) → (device d).told ≡ Some t →
         lengths (currents t.now) ≡ replicate (device d).atoms (device d).size };
 
     /// Each current value is one of its atom's candidates.
     ghost held: { (d : Self) (t : Told) → (device d).told ≡ Some t → AreHeld t.now };
+
+    /// Each candidate has an atom's bytes, so that an image is one of whole atoms.
+    ghost sized: { (d : Self) (t : Told) → (device d).told ≡ Some t →
+        AreSized (device d).size t.now };
 }

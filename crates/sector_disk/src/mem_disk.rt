@@ -205,7 +205,7 @@ impl Disk for MemDisk {
     ghost use Rattle.sector_disk.specs.Mem.{atom_of, atoms_of, atoms_in, bytes_of, told_of};
     ghost use Rattle.sector_disk.specs.Mem.{limits_of, device_of};
     ghost use Rattle.sector_disk.specs.MemLaws.{mem_geometry, mem_whole, mem_bytes, mem_agrees};
-    ghost use Rattle.sector_disk.specs.MemLaws.{mem_even, mem_held};
+    ghost use Rattle.sector_disk.specs.MemLaws.{mem_even, mem_held, mem_sized};
 
     ghost device = { device_of };
 
@@ -220,6 +220,8 @@ impl Disk for MemDisk {
     ghost even = { mem_even };
 
     ghost held = { mem_held };
+
+    ghost sized = { mem_sized };
 
     fn atom(&self) -> u32 {
         self.atom

@@ -58,6 +58,8 @@ impl Disk for RamDisk {
 
     ghost held = { λ d t is. Prim.cc };
 
+    ghost sized = { λ d t is. Prim.cc };
+
     fn atom(&self) -> u32 {
         self.atom
     }

@@ -9,7 +9,7 @@ returns-clause-whole g c = λ all told.
     let device = g.D.Disk.device in
     let each =
     shows device g.met.D.Disk.whole g.met.D.Disk.bytes g.met.D.Disk.agrees g.met.D.Disk.even
-    g.met.D.Disk.held in
+    g.met.D.Disk.held g.met.D.Disk.sized in
     let joint =
     joint_of device d.atom d.head_was.value d.main_was.value d.head d.main d.used d.calls in
     (shows_joint joint (shows_front device each d.atom d.head) (each d.main)

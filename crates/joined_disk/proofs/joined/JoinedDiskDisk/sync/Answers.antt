@@ -15,7 +15,7 @@ invariant_of-self g c =
     let device = g.D.Disk.device in
     let each =
     shows device g.met.D.Disk.whole g.met.D.Disk.bytes g.met.D.Disk.agrees g.met.D.Disk.even
-    g.met.D.Disk.held in
+    g.met.D.Disk.held g.met.D.Disk.sized in
     let both =
     subst (λ size. BothSynced (self.head ≡ None) self.calls (in_front device size self.head)
     (in_front device size c.sync_both.new.head) (device self.main) (device c.sync_both.new.main)
@@ -53,7 +53,7 @@ returns g c =
     let device = g.D.Disk.device in
     let each =
     shows device g.met.D.Disk.whole g.met.D.Disk.bytes g.met.D.Disk.agrees g.met.D.Disk.even
-    g.met.D.Disk.held in
+    g.met.D.Disk.held g.met.D.Disk.sized in
     let both =
     subst (λ size. BothSynced (self.head ≡ None) self.calls (in_front device size self.head)
     (in_front device size c.sync_both.new.head) (device self.main) (device c.sync_both.new.main)

@@ -14,7 +14,7 @@ invariant_of-self g c =
     let device = g.D.Disk.device in
     let each =
     shows device g.met.D.Disk.whole g.met.D.Disk.bytes g.met.D.Disk.agrees g.met.D.Disk.even
-    g.met.D.Disk.held in
+    g.met.D.Disk.held g.met.D.Disk.sized in
     let both =
     subst (λ size. BothWritten (device self.main).size c.args.at c.saturating_sub.result
     c.split_at.result.0.now c.split_at.result.1.now
@@ -56,7 +56,7 @@ returns g c =
     let device = g.D.Disk.device in
     let each =
     shows device g.met.D.Disk.whole g.met.D.Disk.bytes g.met.D.Disk.agrees g.met.D.Disk.even
-    g.met.D.Disk.held in
+    g.met.D.Disk.held g.met.D.Disk.sized in
     let both =
     subst (λ size. BothWritten (device self.main).size c.args.at c.saturating_sub.result
     c.split_at.result.0.now c.split_at.result.1.now
