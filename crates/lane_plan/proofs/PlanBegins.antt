@@ -1,35 +1,25 @@
 -- Plans before their grant, and what a grant makes of them.
-use Rattle.std.proofs.Common.{◌≡◌, ◌+◌, ◌-◌, ◌*◌, ◌<◌, ◌≤◌, ℕ, true, false, max, List, [], length}
-use Rattle.std.proofs.Common.{take, Some, None, refl, sym, ◌∙◌, ap, arith}
-use Rattle.std.proofs.Math.Nat.{le-max_right}
-use Rattle.std.proofs.lemmas.List.{take-take}
-use Rattle.plain_disk.specs.declared.operation.Op.{Op}
-use Rattle.plain_disk.specs.declared.operation.Op.TheVariants as Ops
-use Rattle.segment_map.specs.declared.map.Map.{Map}
-use Rattle.volume_machine.specs.Alone.{Alone, MeetsAlone, alone_after, answered_alone}
-use Rattle.volume_machine.specs.Answers.{Answered}
-use Rattle.volume_machine.specs.Asks.{range_of, wrong_ask}
-use Rattle.volume_machine.specs.Seals.{Seals}
-use Rattle.volume_machine.specs.States.{begun}
-use Rattle.volume_machine.specs.Steps.{CanRead, CanWrite}
-use Rattle.volume_machine.specs.declared.ask.Ask.{Ask}
-use Rattle.volume_machine.specs.declared.grant.Grant.{Grant}
-use Rattle.volume_machine.specs.declared.open.Open.{Open}
+use Rattle.volume_machine.proofs.Common.{List, None, Some, [], ap, arith, false, length, max, refl}
+use Rattle.volume_machine.proofs.Common.{sym, take, ℕ, ◌*◌, ◌+◌, ◌-◌, ◌<◌, ◌∙◌, ◌≡◌, ◌≤◌}
+use Rattle.volume_machine.proofs.Common.{le-max_right, take-take, Map, Op, Alone, alone_after}
+use Rattle.volume_machine.proofs.Common.{answered_alone, Answered, range_of, wrong_ask, Seals}
+use Rattle.volume_machine.proofs.Common.{begun, CanRead, CanWrite, Ask, Grant, Open, MeetsAlone}
 use Rattle.lane_plan.specs.Calls.{ask_of, event_of, outcome_of}
-use Rattle.lane_plan.specs.Plans.{first_call, shape_of, Awaits, refuses, begins, asks, reads}
-use Rattle.lane_plan.specs.Plans.{writes, settles, finishes, Follows, Goes, HasRest, IsBack}
-use Rattle.lane_plan.specs.Plans.{IsGrantFor, IsShape, IsSupplied, IsTold, MayAnswer, bytes_of}
-use Rattle.lane_plan.specs.Plans.{calls_left, left_at, part_of}
+use Rattle.lane_plan.specs.Plans.{Awaits, Follows, Goes, HasRest, IsBack, IsGrantFor, IsShape}
+use Rattle.lane_plan.specs.Plans.{IsSupplied, IsTold, MayAnswer, asks, begins, bytes_of, calls_left}
+use Rattle.lane_plan.specs.Plans.{finishes, first_call, left_at, part_of, reads, refuses, settles}
+use Rattle.lane_plan.specs.Plans.{shape_of, writes}
 use Rattle.lane_plan.specs.declared.calls.Answer.{Answer}
-use Rattle.lane_plan.specs.declared.calls.Answer.TheVariants as Answers
 use Rattle.lane_plan.specs.declared.calls.Call.{Call}
-use Rattle.lane_plan.specs.declared.calls.Call.TheVariants as Calls
-use Rattle.lane_plan.specs.declared.calls.Next.TheVariants as Nexts
 use Rattle.lane_plan.specs.declared.plan.Plan.{Plan}
 use Rattle.lane_plan.specs.declared.plan.Shape.{Shape}
-use Rattle.lane_plan.specs.declared.plan.Stage.TheVariants.{Refusing, Beginning, Waiting}
+use Rattle.lane_plan.specs.declared.plan.Stage.TheVariants.{Beginning, Refusing, Waiting}
 use Rattle.lane_plan.proofs.PlanCourse.{none-yet, some-left}
 use Rattle.lane_plan.proofs.PlanSizes.{body-long, inside, ordered, size-none, some-atom}
+use Rattle.plain_disk.specs.declared.operation.Op.TheVariants as Ops
+use Rattle.lane_plan.specs.declared.calls.Answer.TheVariants as Answers
+use Rattle.lane_plan.specs.declared.calls.Call.TheVariants as Calls
+use Rattle.lane_plan.specs.declared.calls.Next.TheVariants as Nexts
 
 -- the call that a plan awaits the answer to met its conditions
 awaits-meets : (seals : Seals) (plan : Plan) (op : Op) (alone : Alone) (call : Call) →
@@ -39,27 +29,23 @@ awaits-meets seals plan op alone _ (refuses stage asked none) lane = none
 awaits-meets seals plan op alone _ (begins stage supplied none) lane = none
 awaits-meets seals plan op alone _ (asks stage supplied is ungranted none has) lane = (_, is, has)
 awaits-meets seals plan op alone _ (reads map piece buffer len moves reading size within) lane =
-    let course = moves.course in
-    let same = course.atom in
     let can : CanRead map len plan.operation = record {
       reads = reading;
-      has = record { some = some-left plan.operation moves.next; goes_on = course.unfailed };
+      has = record { some = some-left plan.operation moves.next; goes_on = moves.course.unfailed };
       piece = piece;
       next = moves.next;
-      size = rw same size;
+      size = rw moves.course.atom size;
     } in
-    (plan.operation, course.operation, (map, course.granted, can))
+    (plan.operation, moves.course.operation, (map, moves.course.granted, can))
 awaits-meets seals plan op alone _ (writes map piece prepared moves writing is_sealed) lane =
-    let course = moves.course in
-    let same = course.atom in
     let can : CanWrite map prepared.bytes plan.operation = record {
       writes = writing;
-      has = record { some = some-left plan.operation moves.next; goes_on = course.unfailed };
+      has = record { some = some-left plan.operation moves.next; goes_on = moves.course.unfailed };
       piece = piece;
       next = moves.next;
-      are = record { size = rw same is_sealed.size; are_bytes = is_sealed.are_bytes };
+      are = record { size = rw moves.course.atom is_sealed.size; are_bytes = is_sealed.are_bytes };
     } in
-    (plan.operation, course.operation, (map, course.granted, can))
+    (plan.operation, moves.course.operation, (map, moves.course.granted, can))
 awaits-meets seals plan op alone _ (settles map stage course plain can ends) lane =
     (plan.operation, course.operation, can)
 awaits-meets seals plan op alone _ (finishes stage ending) lane =
@@ -74,16 +60,14 @@ follows-call {seals} {plan} {op} {alone} {call} answered none awaits =
 
 -- an answer that leaves an operation all of whose pieces so far were made
 abbrev pub IsBackBy : Seals → Plan → Answer → Plan → Map → Type 0
-IsBackBy seals old answer mid map = (op : Op) (alone : Alone) (call : Call) (lane : ℕ) →
-    Awaits seals old op alone call → MayAnswer old call answer →
-    (answered_alone alone (event_of lane call) (outcome_of answer) ≡ [])
-    × IsBack mid op (alone_after old.shape.atom seals alone (event_of lane call)
-    (outcome_of answer)) map
+IsBackBy seals old answer mid map = (op : Op) (alone : Alone) (call : Call) (lane : ℕ)
+    → Awaits seals old op alone call → MayAnswer old call answer
+    → (answered_alone alone (event_of lane call) (outcome_of answer) ≡ []) × IsBack
+    mid op (alone_after old.shape.atom seals alone (event_of lane call) (outcome_of answer)) map
 
-pub goes-by : (seals : Seals) (old mid new : Plan) (answer : Answer) (map : Map) (result : Call) →
-    IsBackBy seals old answer mid map →
-    ((op : Op) (alone : Alone) → IsBack mid op alone map → Awaits seals new op alone result) →
-    Goes seals old answer new (Nexts.Call result)
+pub goes-by : (seals : Seals) (old mid new : Plan) (answer : Answer) (map : Map) (result : Call)
+    → IsBackBy seals old answer mid map → ((op : Op) (alone : Alone) → IsBack mid op alone map
+    → Awaits seals new op alone result) → Goes seals old answer new (Nexts.Call result)
 unfolding Goes
 goes-by seals old mid new answer map result back on op alone call lane awaits may =
     let it = back op alone call lane awaits may in follows-call _ it.0 (on op _ it.1)
@@ -106,20 +90,17 @@ opened o grant = record {
   failed = false;
 }
 
-back-begun : (plan : Plan) (now : Open) (op : Op) (alone : Alone) (grant : Grant) →
-    IsSupplied plan.shape plan.operation plan.whole plan.part op →
-    alone.operation ≡ Some (begun plan.shape.atom plan.operation.session plan.operation.ask) →
-    alone.granted ≡ Some grant.map → alone.plain ≡ [] →
-    IsGrantFor plan grant → now ≡ opened plan.operation grant →
-    IsBack (record plan { operation = now }) op alone grant.map
+back-begun : (plan : Plan) (now : Open) (op : Op) (alone : Alone) (grant : Grant)
+    → IsSupplied plan.shape plan.operation plan.whole plan.part op
+    → alone.operation ≡ Some (begun plan.shape.atom plan.operation.session plan.operation.ask)
+    → alone.granted ≡ Some grant.map → alone.plain ≡ [] → IsGrantFor plan grant → now
+    ≡ opened plan.operation grant → IsBack (record plan { operation = now }) op alone grant.map
 back-begun plan now op alone grant supplied operation granted plain fit is =
-    let known = supplied.known in
-    let range = fit.range_is in
     let now_is : now ≡ begun plan.shape.atom plan.operation.session plan.operation.ask =
-    rw (is, range) refl in
+    rw (is, fit.range_is) refl in
     rw now_is (record {
       course = record {
-        known = known;
+        known = supplied.known;
         operation = operation;
         granted = granted;
         asks = supplied.asks;
@@ -128,7 +109,7 @@ back-begun plan now op alone grant supplied operation granted plain fit is =
         proper = supplied.proper;
         range_is = refl;
         inside = inside plan.shape.atom plan.shape.blocks plan.operation.ask
-            (some-atom plan.shape.atom known.known) supplied.proper;
+            (some-atom plan.shape.atom supplied.known.known) supplied.proper;
         starts = omega arith;
         within = ordered plan.shape.atom plan.operation.ask;
         unfailed = refl;
@@ -149,9 +130,8 @@ back-held seals plan now grant is op alone _ lane (refuses stage asked none) may
     absurd (may.0 stage)
 back-held seals plan now grant is op alone _ lane (begins stage supplied none) may =
     (refl, back-begun plan now op _ grant supplied refl refl refl may.1 is)
-back-held seals plan now grant is op alone _ lane
-    (asks stage supplied operation ungranted plain has) may =
-    (refl, back-begun plan now op _ grant supplied operation refl plain may is)
+back-held seals plan now grant is op alone _ lane (asks stage supplied operation ungranted
+    plain has) may = (refl, back-begun plan now op _ grant supplied operation refl plain may is)
 back-held seals plan now grant is op alone _ lane _ may = absurd may
 
 -- at most a call a block, and one more
@@ -162,13 +142,11 @@ unfolding IsTold calls_left
 fewer-held seals old new grant (op, alone, _, refuses stage asked none, may) most =
     absurd (may.0 stage)
 fewer-held seals old new grant (op, alone, _, begins stage supplied none, may) most =
-    let left = ap (λ s. left_at old.shape.atom old.operation s) stage in
-    let range = may.1.range_is in
-    let most_by = rw range at most in omega (arith, left, most_by)
+    let most_by = rw may.1.range_is at most in
+    omega (arith, ap (λ s. left_at old.shape.atom old.operation s) stage)
 fewer-held seals old new grant (op, alone, _, asks stage _ _ _ _ _, may) most =
-    let left = ap (λ s. left_at old.shape.atom old.operation s) stage in
-    let range = may.range_is in
-    let most_by = rw range at most in omega (arith, left, most_by)
+    let most_by = rw may.range_is at most in
+    omega (arith, ap (λ s. left_at old.shape.atom old.operation s) stage)
 fewer-held seals old new grant (op, alone, _, _, may) most = absurd may
 
 -- where others have the blocks it asks again
@@ -196,26 +174,23 @@ body-in : (op : Op) (before whole : List ℕ) (len : ℕ) →
     len ≡ bytes_of (ask_of op) → length whole ≡ max (length before) len →
     take (length before) whole ≡ before → HasRest whole op
 body-in (Ops.Read offset size) before whole len body is long front =
-    (let m : len ≤ max (length before) len = le-max_right (length before) len in
-    omega (arith, is, long, m))
+    omega (arith, le-max_right (length before) len)
 body-in (Ops.Write offset text fua) before whole len body is long front =
-    let has = body offset text fua refl in
-    let short = body-long text before has in
+    let has = body offset text fua refl in let short = body-long text before has in
     sym (take-take (length text) (length before) whole short)
     ∙ ap (λ xs. take (length text) xs) front ∙ has
 body-in Ops.Flush before whole len body is long front = tt
 
-pub awaits-admit : {seals : Seals} (plan : Plan) (op : Op) {alone : Alone} (session : ℕ)
-    (shape : Shape) (before part : List ℕ) (len room : ℕ) → alone.operation ≡ None →
-    plan.operation.session ≡ session →
-    plan.operation.ask ≡ ask_of op → plan.stage ≡ Beginning → plan.shape ≡ shape → IsShape shape →
-    wrong_ask shape.atom (shape.blocks * shape.atom) (ask_of op) ≡ None →
-    ((offset : ℕ) (body : List ℕ) (fua : Rattle.std.proofs.Common.Bool) →
-    op ≡ Ops.Write offset body fua → take (length body) before ≡ body) →
-    len ≡ bytes_of (ask_of op) →
-    length plan.whole ≡ max (length before) len → take (length before) plan.whole ≡ before →
-    length plan.part ≡ max (length part) room → room ≡ part_of shape.atom (ask_of op) →
-    Awaits seals plan op alone (Calls.Admit session (ask_of op))
+pub awaits-admit : {seals : Seals} (plan : Plan)
+    (op : Op) {alone : Alone} (session : ℕ) (shape : Shape) (before part : List ℕ) (len room : ℕ)
+    → alone.operation ≡ None → plan.operation.session ≡ session
+    → plan.operation.ask ≡ ask_of op → plan.stage ≡ Beginning → plan.shape ≡ shape
+    → IsShape shape → wrong_ask shape.atom (shape.blocks * shape.atom) (ask_of op) ≡ None
+    → ((offset : ℕ) (body : List ℕ) (fua : Rattle.std.proofs.Common.Bool)
+    → op ≡ Ops.Write offset body fua → take (length body) before ≡ body)
+    → len ≡ bytes_of (ask_of op) → length plan.whole ≡ max (length before) len
+    → take (length before) plan.whole ≡ before → length plan.part ≡ max (length part) room → room
+    ≡ part_of shape.atom (ask_of op) → Awaits seals plan op alone (Calls.Admit session (ask_of op))
 awaits-admit plan op session shape before part len room none session_is asked stage
     shape_is known proper body len_is long front as_long room_is =
     let supplied : IsSupplied plan.shape plan.operation plan.whole plan.part op = record {
@@ -223,17 +198,15 @@ awaits-admit plan op session shape before part len room none session_is asked st
       asks = asked;
       proper = rw (shape_is, asked) proper;
       rest = body-in op before plan.whole len body len_is long front;
-      room = rw (shape_is, asked) (let m : room ≤ max (length part) room =
-          le-max_right (length part) room in omega (arith, m, room_is, as_long));
+      room = rw (shape_is, asked) (omega (arith, le-max_right (length part) room));
     } in
     rw (← session_is, ← asked) (begins stage supplied none)
 
 -- what a grant of a plan's blocks is, to those who know its first call
-pub grant-for : (plan : Plan) (grant : Grant) (session : ℕ) (ask : Ask) →
-    first_call plan ≡ Calls.Admit session ask →
-    grant.map.atom ≡ (shape_of plan).atom → grant.map.blocks ≡ (shape_of plan).blocks →
-    grant.range ≡ range_of (shape_of plan).atom ask →
-    IsGrantFor plan grant
+pub grant-for : (plan : Plan) (grant : Grant) (session : ℕ) (ask : Ask)
+    → first_call plan ≡ Calls.Admit session ask
+    → grant.map.atom ≡ (shape_of plan).atom → grant.map.blocks ≡ (shape_of plan).blocks
+    → grant.range ≡ range_of (shape_of plan).atom ask → IsGrantFor plan grant
 grant-for plan grant session ask first atom blocks range =
     let same : plan.operation.ask ≡ ask = cc in
     record {

@@ -1,37 +1,25 @@
 -- The next call of an operation all of whose pieces so far were made.
-use Rattle.std.proofs.Common.{◌≡◌, ◌⊎◌, inl, inr, ◌+◌, ◌-◌, ◌*◌, ◌<◌, ◌≤◌, ℕ, true, false, List, []}
-use Rattle.std.proofs.Common.{length, refl, sym, ◌∙◌, ap, subst, arith, ◌++◌, take, drop}
-use Rattle.std.proofs.Common.{length-append}
-use Rattle.std.proofs.lemmas.Bool.{cases_lt}
-use Rattle.std.proofs.lemmas.List.{nil_from_length, drop-append-le, length-drop, length-take-le}
-use Rattle.std.proofs.lemmas.List.{take-append-drop, take-append-le}
-use Rattle.plain_disk.specs.declared.operation.Op.{Op}
-use Rattle.plain_disk.specs.declared.operation.Op.TheVariants as Ops
-use Rattle.segment_map.specs.declared.map.Map.{Map}
-use Rattle.segment_map.specs.declared.map.Piece.{Piece}
-use Rattle.volume_machine.specs.Alone.{Alone}
-use Rattle.volume_machine.specs.Asks.{IsForced, IsRead, has_lock, IsWrite}
-use Rattle.volume_machine.specs.Pieces.{IsPieceOf}
-use Rattle.volume_machine.specs.Seals.{Seals, KeysFit, key_of, number_of, seals_of}
-use Rattle.volume_machine.specs.Steps.{CanSettle}
-use Rattle.volume_machine.specs.declared.ask.Ask.{Ask}
-use Rattle.volume_machine.specs.declared.ask.Ask.TheVariants.{Read, Write, Flush}
-use Rattle.volume_machine.specs.declared.open.Open.{Open}
-use Rattle.lane_plan.specs.Plans.{Awaits, reads, settles, finishes, HasPlain, IsBack, IsOnly}
-use Rattle.lane_plan.specs.Plans.{IsPart, IsUnderWay, Moves, MustSettle, bytes_of, writes, HasRest}
-use Rattle.lane_plan.specs.Plans.{IsSealed, place_in}
-use Rattle.lane_plan.specs.declared.calls.Call.TheVariants as Calls
-use Rattle.lane_plan.specs.declared.plan.Plan.{Plan}
-use Rattle.lane_plan.specs.declared.plan.Shape.{Shape}
-use Rattle.lane_plan.specs.declared.plan.Stage.TheVariants.{Moving, Settling, Ending}
-use Rattle.lane_plan.proofs.PlanSizes.{fits-part, rest-long, size-none, stays-within, total}
+use Rattle.volume_machine.proofs.Common
+use Common.{List, [], ap, arith, drop, false, inl, inr, length, length-append, length-drop}
+use Common.{length-take-le, refl, subst, sym, take, true, ℕ, ◌*◌, ◌++◌, ◌+◌, ◌-◌, ◌<◌, ◌∙◌, ◌≡◌}
+use Common.{◌≤◌, ◌⊎◌, cases_lt, drop-append-le, nil_from_length, take-append-drop, take-append-le}
+use Common.{AreBytes, Map, Piece, Op, Alone, IsForced, IsRead, IsWrite, has_lock, IsPieceOf}
+use Common.{KeysFit, Seals, key_of, number_of, seals_of, CanSettle, Ask, Flush, Read, Write, Keys}
+use Common.{Open}
 use Rattle.std.proofs.Math.Seq.{take-add}
-use Rattle.cipher_laws.specs.Bytes.{AreBytes}
 use Rattle.cipher_laws.specs.Laws.{UndoesSectors}
 use Rattle.volume_machine.specs.Fronts.{Front}
-use Rattle.volume_machine.specs.declared.keys.Keys.{Keys}
 use Rattle.volume_machine.proofs.KeyLemmas.{side-whole}
 use Rattle.lane_plan.specs.Calls.{ask_of}
+use Rattle.lane_plan.specs.Plans.{Awaits, HasPlain, HasRest, IsBack, IsOnly, IsPart, IsSealed}
+use Rattle.lane_plan.specs.Plans.{IsUnderWay, Moves, MustSettle, bytes_of, finishes, place_in}
+use Rattle.lane_plan.specs.Plans.{reads, settles, writes}
+use Rattle.lane_plan.specs.declared.plan.Plan.{Plan}
+use Rattle.lane_plan.specs.declared.plan.Shape.{Shape}
+use Rattle.lane_plan.specs.declared.plan.Stage.TheVariants.{Ending, Moving, Settling}
+use Rattle.lane_plan.proofs.PlanSizes.{fits-part, rest-long, size-none, stays-within, total}
+use Rattle.plain_disk.specs.declared.operation.Op.TheVariants as Ops
+use Rattle.lane_plan.specs.declared.calls.Call.TheVariants as Calls
 
 -- no byte was read or written yet
 pub none-yet : (whole : List ℕ) (op : Op) → HasPlain whole op []
@@ -74,10 +62,9 @@ last-settles {plan} {map} back must ends =
     settles map refl back.course back.plain (can-settle plan.operation plan.operation.ask refl must
     ends back.course.unfailed back.course.unsettled) ends
 
-pub last-finishes : {seals : Seals} {plan : Plan} {op : Op} {alone : Alone} {map : Map} →
-    IsBack plan op alone map → (MustSettle plan.operation.ask → ⊥) →
-    plan.operation.next ≡ plan.operation.range.end →
-    Awaits seals (record plan { stage = Ending }) op alone Calls.Finish
+pub last-finishes : {seals : Seals} {plan : Plan} {op : Op} {alone : Alone} {map : Map}
+    → IsBack plan op alone map → (MustSettle plan.operation.ask → ⊥) → plan.operation.next
+    ≡ plan.operation.range.end → Awaits seals (record plan { stage = Ending }) op alone Calls.Finish
 last-finishes {plan} {map} back free ends = finishes refl (record {
   operation = back.course.operation;
   map = map;
@@ -96,85 +83,68 @@ last-finishes {plan} {map} back free ends = finishes refl (record {
 
 -- a piece is all of the operation, or a part
 pub only-or-part : {shape : Shape} {o : Open} {op : Op} {alone : Alone} {map : Map} {piece : Piece}
-    →
-    IsUnderWay shape o op alone map → IsPieceOf map o piece → IsOnly o piece ⊎ IsPart o piece
-only-or-part {o} {piece} course next =
-    let within = next.within in
-    let starts = course.starts in
-    elim (cases_lt piece.count (o.range.end - o.range.start)) [
-      | inl less ↦ inr (λ same. omega (arith, same, less))
-      | inr most ↦ inl (omega (arith, most, within, starts))
-    ]
+    → IsUnderWay shape o op alone map → IsPieceOf map o piece → IsOnly o piece ⊎ IsPart o piece
+only-or-part {o} {piece} course next = elim (cases_lt piece.count (o.range.end - o.range.start)) [
+  | inl less ↦ inr (λ same. omega arith)
+  | inr most ↦ inl (omega arith)
+]
 
 -- before an only piece there are no bytes
 pub none-before : {shape : Shape} {o : Open} {op : Op} {alone : Alone} {map : Map} {piece : Piece} →
     IsUnderWay shape o op alone map → IsPieceOf map o piece → IsOnly o piece → alone.plain ≡ []
 none-before {shape} {o} {alone} course next only =
-    let within = next.within in
-    let some = next.some in
-    let starts = course.starts in
-    let e : o.next ≡ o.range.start = omega (arith, within, some, starts, only) in
+    let e : o.next ≡ o.range.start = omega arith in
     nil_from_length alone.plain (course.size ∙ ap (λ k. (k - o.range.start) * shape.atom) e
     ∙ sym (size-none o.range.start shape.atom))
 
 pub some-left : (o : Open) {map : Map} {piece : Piece} → IsPieceOf map o piece
     → o.next < o.range.end
-some-left o next = (let some = next.some in let within = next.within in
-    omega (arith, some, within))
+some-left o next = omega arith
 
 -- it is made in the buffer that it is given
-pub moves-on : {plan : Plan} {op : Op} {alone : Alone} {map : Map} {piece : Piece} (room : ℕ)
-    (whole part : List ℕ) → IsBack plan op alone map → IsPieceOf map plan.operation piece →
-    HasPlain whole op alone.plain →
-    (IsPart plan.operation piece → (room ≡ length plan.part) × (whole ≡ plan.whole)) →
-    Moves (record plan { stage = Moving map piece; whole = whole; part = part }) op alone map piece
-    room
+pub moves-on : {plan : Plan}
+    {op : Op} {alone : Alone} {map : Map} {piece : Piece} (room : ℕ) (whole part : List ℕ)
+    → IsBack plan op alone map → IsPieceOf map plan.operation piece → HasPlain whole op alone.plain
+    → (IsPart plan.operation piece → (room ≡ length plan.part) × (whole ≡ plan.whole)) → Moves
+    (record plan { stage = Moving map piece; whole = whole; part = part }) op alone map piece room
 moves-on {plan} room whole part back next plain kept = record {
   stage = refl;
   course = back.course;
   next = next;
   plain = plain;
-  rest = λ other. (let same = (kept other).1 in
-      rw same (back.rest (some-left plan.operation next)));
-  part = λ other. (let same = (kept other).0 in
-      rw same (back.part (some-left plan.operation next)));
+  rest = λ other. (rw ((kept other).1) (back.rest (some-left plan.operation next)));
+  part = λ other. (rw ((kept other).0) (back.part (some-left plan.operation next)));
 }
 
 -- and fits there
-fits-in : {plan : Plan} {op : Op} {alone : Alone} {map : Map} {piece : Piece} (buffer : List ℕ) →
-    IsBack plan op alone map → IsPieceOf map plan.operation piece →
-    (IsPart plan.operation piece → buffer ≡ plan.part) →
-    (IsOnly plan.operation piece → buffer ≡ plan.whole) →
-    piece.count * plan.shape.atom ≤ length buffer
+fits-in : {plan : Plan} {op : Op} {alone : Alone} {map : Map} {piece : Piece} (buffer : List ℕ)
+    → IsBack plan op alone map → IsPieceOf map plan.operation piece
+    → (IsPart plan.operation piece → buffer ≡ plan.part) → (IsOnly plan.operation piece
+    → buffer ≡ plan.whole) → piece.count * plan.shape.atom ≤ length buffer
 fits-in {plan} {op} {map} {piece} buffer back next part only =
-    let left = some-left plan.operation next in
-    let bytes = all-bytes back.course in
+    let left = some-left plan.operation next in let bytes = all-bytes back.course in
     elim (only-or-part back.course next) [
-      | inl all ↦ (let is = only all in let long = rest-long plan.whole op (back.rest left) in
-          let asks = ap (λ a. bytes_of a) back.course.asks in
-          rw (is, all) (omega (arith, bytes, long, asks)))
-      | inr other ↦ (let is = part other in
-          let fits = fits-part map plan.operation piece plan.shape.atom next back.course.atom
-          back.course.starts bytes other in
-          let room = back.part left in rw is (omega (arith, fits, room)))
+      | inl all ↦ let asks = ap (λ a. bytes_of a) back.course.asks in
+          rw (only all, all) (omega (arith, rest-long plan.whole op (back.rest left)))
+      | inr other ↦ let fits = fits-part map plan.operation
+          piece plan.shape.atom next back.course.atom back.course.starts bytes other in
+          rw (part other) (omega (arith, back.part left))
     ]
 
-pub next-read : {seals : Seals} {plan new : Plan} {op : Op} {alone : Alone} {map : Map}
-    {piece : Piece} {buffer : List ℕ} {len : ℕ} → IsBack plan op alone map →
-    IsPieceOf map plan.operation piece → IsRead plan.operation.ask →
-    len ≡ piece.count * plan.shape.atom →
-    (IsPart plan.operation piece → (buffer ≡ plan.part)
-    × (new ≡ record plan { stage = Moving map piece; part = [] })) →
-    (IsOnly plan.operation piece → (buffer ≡ plan.whole)
-    × (new ≡ record plan { stage = Moving map piece; whole = [] })) →
-    new ≡ record plan { stage = Moving map piece; whole = new.whole; part = new.part } →
-    Awaits seals new op alone (Calls.Read buffer len)
+pub next-read : {seals : Seals} {plan new : Plan}
+    {op : Op} {alone : Alone} {map : Map} {piece : Piece} {buffer : List ℕ} {len : ℕ}
+    → IsBack plan op alone map → IsPieceOf map plan.operation piece → IsRead plan.operation.ask
+    → len ≡ piece.count * plan.shape.atom → (IsPart plan.operation piece → (buffer ≡ plan.part)
+    × (new ≡ record plan { stage = Moving map piece; part = [] })) → (IsOnly plan.operation piece
+    → (buffer ≡ plan.whole) × (new ≡ record plan { stage = Moving map piece; whole = [] }))
+    → new ≡ record plan { stage = Moving map piece; whole = new.whole; part = new.part }
+    → Awaits seals new op alone (Calls.Read buffer len)
 next-read {seals} {plan} {new} {op} {alone} {map} {piece} {buffer} {len} back next reading size part
     only is =
     let same = λ (other : IsPart plan.operation piece). ap (λ (p : Plan). p.whole) (part other).1 in
     let plain : HasPlain new.whole op alone.plain = elim (only-or-part back.course next) [
-      | inl all ↦ (let none = none-before back.course next all in rw none (none-yet new.whole op))
-      | inr other ↦ (let whole = same other in rw whole back.plain)
+      | inl all ↦ rw (none-before back.course next all) (none-yet new.whole op)
+      | inr other ↦ rw (same other) back.plain
     ] in
     subst (λ (p : Plan). Awaits seals p op alone (Calls.Read buffer len)) (sym is)
     (reads map piece buffer len (moves-on (length buffer) new.whole new.part back next plain
@@ -188,9 +158,7 @@ pub ends-within : {shape : Shape} {o : Open} {op : Op} {alone : Alone} {map : Ma
 ends-within {shape} {o} {piece} course next =
     let most = stays-within o.range.start o.next piece.count o.range.end shape.atom course.starts
     next.within in
-    let all = all-bytes course in
-    let first = next.first in
-    rw first (omega (arith, most, all))
+    rw next.first (omega (arith, all-bytes course))
 
 -- a part of the front of a buffer is a part of the text there
 part-of-front : (body whole : List ℕ) (from len : ℕ) → take (length body) whole ≡ body →
@@ -198,29 +166,26 @@ part-of-front : (body whole : List ℕ) (from len : ℕ) → take (length body) 
 part-of-front body whole from len front within =
     let parts : whole ≡ body ++ drop (length body) whole =
     sym (take-append-drop (length body) whole) ∙ ap (λ xs. xs ++ drop (length body) whole) front in
-    let long : len ≤ length (drop from body) =
-    (let d = length-drop from body in omega (arith, d, within)) in
+    let long : len ≤ length (drop from body) = (omega (arith, length-drop from body)) in
     ap (λ xs. take len (drop from xs)) parts ∙ ap (λ xs. take len xs)
-    (drop-append-le from body (drop (length body) whole) (omega (arith, within)))
+    (drop-append-le from body (drop (length body) whole) (omega arith))
     ∙ take-append-le len (drop from body) (drop (length body) whole) long
 
 front-and-part : (body plain : List ℕ) (from len : ℕ) → take (length plain) body ≡ plain →
     from ≡ length plain → from + len ≤ length body →
     take (length (plain ++ take len (drop from body))) body ≡ plain ++ take len (drop from body)
 front-and-part body plain from len front is within =
-    let d = length-drop from body in
     let size : length (take len (drop from body)) ≡ len =
-    length-take-le len (drop from body) (omega (arith, d, within)) in
+    length-take-le len (drop from body) (omega (arith, length-drop from body)) in
     let sum : length (plain ++ take len (drop from body)) ≡ from + len =
-    length-append plain (take len (drop from body)) ∙ (omega (arith, is, size)) in
+    length-append plain (take len (drop from body)) ∙ (omega arith) in
     ap (λ k. take k body) sum ∙ take-add from len body
     ∙ ap (λ xs. xs ++ take len (drop from body)) (ap (λ k. take k body) is ∙ front)
 
 -- the next bytes of the body stand behind those before them
-next-of-body : (whole : List ℕ) (op : Op) (plain : List ℕ) (from len : ℕ) → IsWrite (ask_of op) →
-    HasRest whole op → HasPlain whole op plain →
-    from ≡ length plain → from + len ≤ bytes_of (ask_of op) →
-    HasPlain whole op (plain ++ take len (drop from whole))
+next-of-body : (whole : List ℕ) (op : Op) (plain : List ℕ) (from len : ℕ)
+    → IsWrite (ask_of op) → HasRest whole op → HasPlain whole op plain → from ≡ length plain
+    → from + len ≤ bytes_of (ask_of op) → HasPlain whole op (plain ++ take len (drop from whole))
 next-of-body whole (Ops.Write offset body fua) plain from len writing rest so_far is within =
     rw (part-of-front body whole from len rest within)
     (front-and-part body plain from len so_far is within)
@@ -233,33 +198,25 @@ of-body whole other (Ops.Write offset body fua) plain writing so_far = so_far
 of-body whole other _ plain writing so_far = absurd writing
 
 -- the next piece of the body, as it was sealed
-sealed-piece : {C : Type 0} (sector : C → ℕ) (seal unseal : C → ℕ → List ℕ → List ℕ)
-    (keys : Keys C) (plan : Plan) (op : Op) (alone : Alone) (map : Map) (piece : Piece)
-    (from len : ℕ) (sealed : List ℕ) →
-    ((c : C) → UndoesSectors (sector c) (unseal c) (seal c)) →
-    KeysFit sector keys plan.shape.atom plan.shape.blocks →
-    IsBack plan op alone map → IsPieceOf map plan.operation piece → IsWrite (ask_of op) →
-    from ≡ place_in plan piece → len ≡ piece.count * plan.shape.atom →
-    AreBytes (take len (drop from plan.whole)) →
-    sealed ≡ (seals_of seal unseal plan.shape.atom keys).sealed piece.side piece.first
-    (take len (drop from plan.whole)) → length sealed ≡ len → AreBytes sealed →
-    IsSealed (seals_of seal unseal plan.shape.atom keys) plan.shape.atom plan.whole op alone.plain
-    piece sealed
+sealed-piece : {C : Type 0} (sector : C → ℕ) (seal unseal : C → ℕ → List ℕ
+    → List ℕ) (keys : Keys C) (plan : Plan) (op : Op) (alone : Alone) (map : Map) (piece : Piece)
+    (from len : ℕ) (sealed : List ℕ) → ((c : C) → UndoesSectors (sector c) (unseal c) (seal c))
+    → KeysFit sector keys plan.shape.atom plan.shape.blocks → IsBack plan op alone map
+    → IsPieceOf map plan.operation piece → IsWrite (ask_of op) → from ≡ place_in plan piece
+    → len ≡ piece.count * plan.shape.atom → AreBytes (take len (drop from plan.whole))
+    → sealed ≡ (seals_of seal unseal plan.shape.atom keys).sealed piece.side piece.first
+    (take len (drop from plan.whole)) → length sealed ≡ len → AreBytes sealed → IsSealed (seals_of
+    seal unseal plan.shape.atom keys) plan.shape.atom plan.whole op alone.plain piece sealed
 sealed-piece sector seal unseal keys plan op alone map piece from len sealed undoes fit back next
     writing from_is len_is bytes made size are =
-    let course = back.course in
     let rest = back.rest (some-left plan.operation next) in
-    let ends = ends-within course next in
-    let asks = ap (λ a. bytes_of a) course.asks in
-    let long = rest-long plan.whole op rest in
-    let within : from + len ≤ bytes_of (ask_of op) = omega (arith, ends, asks, from_is, len_is) in
-    let d = length-drop from plan.whole in
-    let part : length (take len (drop from plan.whole)) ≡ len =
-    length-take-le len (drop from plan.whole) (omega (arith, d, long, within)) in
-    let opened = ap (λ xs. (seals_of seal unseal plan.shape.atom keys).opened piece.side piece.first
-    xs) made ∙ undoes (key_of keys piece.side)
-    (number_of keys plan.shape.atom piece.side piece.first) (take len (drop from plan.whole))
-    (record {
+    let asks = ap (λ a. bytes_of a) back.course.asks in
+    let within : from + len ≤ bytes_of (ask_of op) = omega (arith, ends-within back.course next) in
+    let part : length (take len (drop from plan.whole)) ≡ len = length-take-le len (drop
+    from plan.whole) (omega (arith, length-drop from plan.whole, rest-long plan.whole op rest)) in
+    let opened = ap (λ xs. (seals_of seal unseal plan.shape.atom keys).opened
+    piece.side piece.first xs) made ∙ undoes (key_of keys piece.side) (number_of
+    keys plan.shape.atom piece.side piece.first) (take len (drop from plan.whole)) (record {
       whole = side-whole sector keys plan.shape.atom plan.shape.blocks _ piece.count piece.side fit
           (part ∙ len_is);
       are_bytes = bytes;
@@ -271,35 +228,31 @@ sealed-piece sector seal unseal keys plan op alone map piece from len sealed und
       so_far = subst (λ xs. HasPlain plan.whole op (alone.plain ++ xs)) (sym opened)
           (next-of-body plan.whole op alone.plain from len writing rest back.plain
           (from_is ∙ ap (λ k. (k - plan.operation.range.start) * plan.shape.atom) next.first
-          ∙ sym course.size) within);
+          ∙ sym back.course.size) within);
     }
 
 -- the write of it
 pub next-write : {C : Type 0} (sector : C → ℕ) (seal unseal : C → ℕ → List ℕ → List ℕ)
-    (keys : Keys C) (plan new : Plan) (op : Op) (alone : Alone) (map : Map)
-    (piece : Piece) (prepared : Front) (from len : ℕ) →
-    ((c : C) → UndoesSectors (sector c) (unseal c) (seal c)) →
-    KeysFit sector keys plan.shape.atom plan.shape.blocks →
-    IsBack plan op alone map → IsPieceOf map plan.operation piece → IsWrite plan.operation.ask →
-    from ≡ place_in plan piece → len ≡ piece.count * plan.shape.atom →
-    prepared.bytes ≡ (seals_of seal unseal plan.shape.atom keys).sealed piece.side piece.first
-    (take len (drop from plan.whole)) →
-    length prepared.bytes ≡ len → AreBytes prepared.bytes →
-    AreBytes (take len (drop from plan.whole)) →
-    (IsPart plan.operation piece → prepared.room ≡ length plan.part) →
-    (IsPart plan.operation piece → new.whole ≡ plan.whole) →
-    new ≡ record plan { stage = Moving map piece; whole = new.whole; part = new.part } →
-    Awaits (seals_of seal unseal plan.shape.atom keys) new op alone (Calls.Write prepared)
+    (keys : Keys C) (plan new : Plan) (op : Op) (alone : Alone) (map : Map) (piece : Piece)
+    (prepared : Front) (from len : ℕ) → ((c : C) → UndoesSectors (sector c) (unseal c) (seal c))
+    → KeysFit sector keys plan.shape.atom plan.shape.blocks
+    → IsBack plan op alone map → IsPieceOf map plan.operation piece
+    → IsWrite plan.operation.ask → from ≡ place_in plan piece → len ≡ piece.count * plan.shape.atom
+    → prepared.bytes ≡ (seals_of seal unseal plan.shape.atom keys).sealed piece.side piece.first
+    (take len (drop from plan.whole)) → length prepared.bytes ≡ len → AreBytes prepared.bytes
+    → AreBytes (take len (drop from plan.whole)) → (IsPart plan.operation piece
+    → prepared.room ≡ length plan.part) → (IsPart plan.operation piece → new.whole ≡ plan.whole)
+    → new ≡ record plan { stage = Moving map piece; whole = new.whole; part = new.part }
+    → Awaits (seals_of seal unseal plan.shape.atom keys) new op alone (Calls.Write prepared)
 next-write sector seal unseal keys plan new op alone map piece prepared from len undoes fit back
     next writing from_is len_is made size are bytes room rest is =
     let writing_op = subst (λ a. IsWrite a) back.course.asks writing in
     let it = sealed-piece sector seal unseal keys plan op alone map piece from len prepared.bytes
     undoes fit back next writing_op from_is len_is bytes made size are in
-    subst (λ (p : Plan). Awaits (seals_of seal unseal plan.shape.atom keys) p op alone
-    (Calls.Write prepared)) (sym is)
-    (writes map piece prepared (moves-on prepared.room new.whole new.part back next
-    (of-body plan.whole new.whole op alone.plain writing_op back.plain)
-    (λ other. (room other, rest other))) writing (record {
+    subst (λ (p : Plan). Awaits (seals_of seal unseal plan.shape.atom keys)
+    p op alone (Calls.Write prepared)) (sym is) (writes map piece
+    prepared (moves-on prepared.room new.whole new.part back next (of-body plan.whole new.whole
+    op alone.plain writing_op back.plain) (λ other. (room other, rest other))) writing (record {
       size = it.size;
       are_bytes = it.are_bytes;
       opened_size = it.opened_size;

@@ -1,38 +1,23 @@
 -- Plans whose operation is refused, has failed, is settled, or has finished.
-use Rattle.std.proofs.Common.{◌≡◌, ◌⊎◌, inl, inr, ◌<◌, ◌≤◌, ℕ, Bool, true, false, List, [], ◌∷◌}
-use Rattle.std.proofs.Common.{if◌then◌else◌, length, take, Option, Some, None, refl, sym, ◌∙◌, ap}
-use Rattle.std.proofs.Common.{subst, arith}
-use Rattle.plain_disk.specs.declared.operation.Op.{Op}
-use Rattle.plain_disk.specs.declared.operation.Op.TheVariants as Ops
+use Rattle.volume_machine.proofs.Common
+use Common.{Bool, List, None, Option, Some, [], ap, arith, false, if◌then◌else◌, inl, inr, length}
+use Common.{refl, subst, sym, take, true, ℕ, ◌<◌, ◌∙◌, ◌∷◌, ◌≡◌, ◌≤◌, ◌⊎◌, Map, Op, Content, Done}
+use Common.{Errno, Alone, after_sync, settled_as, Answered, Asked, by_finish, by_settle}
+use Common.{flush_reply, full_reply, tried_by, has_lock, Outcome, broken, device, done, failing}
+use Common.{settling, Seals, after_settle, Ask, Flush, Read, Write, Open}
 use Rattle.plain_disk.specs.declared.operation.Reply.{Reply}
-use Rattle.plain_disk.specs.declared.operation.Reply.TheVariants.{Content, Done, Errno}
-use Rattle.segment_map.specs.declared.map.Map.{Map}
-use Rattle.volume_machine.specs.Alone.{Alone, after_sync, settled_as}
-use Rattle.volume_machine.specs.Answers.{Answered, Asked, by_finish, by_settle, flush_reply}
-use Rattle.volume_machine.specs.Answers.{full_reply, tried_by}
-use Rattle.volume_machine.specs.Asks.{has_lock}
-use Rattle.volume_machine.specs.Events.{Outcome, done, device, broken}
-use Rattle.volume_machine.specs.Pieces.{failing, settling}
-use Rattle.volume_machine.specs.Seals.{Seals}
-use Rattle.volume_machine.specs.Steps.{after_settle}
-use Rattle.volume_machine.specs.declared.ask.Ask.{Ask}
-use Rattle.volume_machine.specs.declared.ask.Ask.TheVariants.{Read, Write, Flush}
-use Rattle.volume_machine.specs.declared.open.Open.{Open}
-use Rattle.lane_plan.specs.Calls.{ask_of}
-use Rattle.lane_plan.specs.Plans.{refuses, begins, reads, writes, settles, finishes, Follows, Goes}
-use Rattle.lane_plan.specs.Plans.{HasPlain, IsAnswered, IsEnding, IsFailure, IsTold, IsUnderWay}
-use Rattle.lane_plan.specs.Plans.{bytes_of, calls_left, left_at}
-use Rattle.lane_plan.specs.declared.calls.Answer.{Answer}
+use Rattle.lane_plan.specs.Plans.{Follows, Goes, HasPlain, IsAnswered, IsEnding, IsFailure, IsTold}
+use Rattle.lane_plan.specs.Plans.{IsUnderWay, begins, bytes_of, calls_left, finishes, left_at}
+use Rattle.lane_plan.specs.Plans.{reads, refuses, settles, writes}
+use Rattle.lane_plan.specs.{Calls.ask_of, declared.calls.Answer.Answer, declared.plan.Plan.Plan}
+use Rattle.lane_plan.specs.{declared.plan.Stage.Stage, declared.plan.Stage.TheVariants.Ending}
+use Rattle.lane_plan.specs.{declared.plan.Stage.TheVariants.Settling}
+use Rattle.lane_plan.proofs.{PlanBegins.follows-call, PlanCourse.none-yet, PlanCourse.whole-size}
+use Rattle.lane_plan.proofs.{PlanMoves.mapped, PlanMoves.with-opened, PlanSizes.body-long}
+use Rattle.plain_disk.specs.declared.operation.Op.TheVariants as Ops
 use Rattle.lane_plan.specs.declared.calls.Answer.TheVariants as Answers
 use Rattle.lane_plan.specs.declared.calls.Call.TheVariants as Calls
 use Rattle.lane_plan.specs.declared.calls.Next.TheVariants as Nexts
-use Rattle.lane_plan.specs.declared.plan.Plan.{Plan}
-use Rattle.lane_plan.specs.declared.plan.Stage.{Stage}
-use Rattle.lane_plan.specs.declared.plan.Stage.TheVariants.{Settling, Ending}
-use Rattle.lane_plan.proofs.PlanBegins.{follows-call}
-use Rattle.lane_plan.proofs.PlanCourse.{none-yet, whole-size}
-use Rattle.lane_plan.proofs.PlanMoves.{mapped, with-opened}
-use Rattle.lane_plan.proofs.PlanSizes.{body-long}
 
 -- what was asked for, with the bytes that were read or tried
 asked-as : (whole : List ℕ) (op : Op) (plain : List ℕ) → HasPlain whole op plain →
@@ -43,10 +28,9 @@ asked-as whole Ops.Flush plain has = refl
 
 -- an operation that was answered
 answered-so : (o : Open) (plain whole : List ℕ) (op : Op) (reply : Reply) (after : Alone)
-    (answered : List Answered) → o.ask ≡ ask_of op → HasPlain whole op plain →
-    after.operation ≡ None →
-    answered ≡ record { session = o.session; ask = o.ask; plain = plain; reply = reply } ∷ [] →
-    IsAnswered o.session op reply after answered
+    (answered : List Answered) → o.ask ≡ ask_of op → HasPlain whole op plain → after.operation
+    ≡ None → answered ≡ record { session = o.session; ask = o.ask; plain = plain; reply = reply }
+    ∷ [] → IsAnswered o.session op reply after answered
 answered-so o plain whole op reply after answered asked has over only = record {
   over = over;
   one = record { session = o.session; ask = o.ask; plain = plain; reply = reply };
@@ -57,9 +41,8 @@ answered-so o plain whole op reply after answered asked has over only = record {
 }
 
 -- one that its admit refused
-pub goes-refused : (seals : Seals) (plan : Plan) (number : ℕ) →
-    Goes seals plan (Answers.Refused number) (record plan { whole = [] })
-    (Nexts.Reply (Errno number) plan.whole)
+pub goes-refused : (seals : Seals) (plan : Plan) (number : ℕ) → Goes seals plan
+    (Answers.Refused number) (record plan { whole = [] }) (Nexts.Reply (Errno number) plan.whole)
 unfolding Goes
 goes-refused seals plan number op alone _ lane (refuses stage asked none) may =
     answered-so plan.operation [] [] op (Errno number) _ _ asked (none-yet [] op) none refl
@@ -87,17 +70,15 @@ settled-open outcome o operation is has = (rw (is, has) refl, rw (is, has) refl)
 
 -- the finish follows
 finish-follows : {seals : Seals} (plan : Plan) (now : Open) {op : Op} {alone : Alone}
-    (answered : List Answered) → answered ≡ [] → IsEnding now plan.whole op alone →
-    Follows seals (record plan { operation = now; stage = Ending }) op alone answered
-    (Nexts.Call Calls.Finish)
+    (answered : List Answered) → answered ≡ [] → IsEnding now plan.whole op alone → Follows seals
+    (record plan { operation = now; stage = Ending }) op alone answered (Nexts.Call Calls.Finish)
 finish-follows plan now answered none ending = follows-call answered none (finishes refl ending)
 
 -- an operation that can end where it failed
-ending-failed : (plan : Plan) (now : Open) (op : Op) (alone : Alone) (map : Map) →
-    (has_lock plan.operation.ask ≡ true) × (now ≡ failing plan.operation) →
-    plan.operation.ask ≡ ask_of op → alone.operation ≡ Some (failing plan.operation) →
-    alone.granted ≡ Some map → HasPlain plan.whole op alone.plain →
-    IsEnding now plan.whole op alone
+ending-failed : (plan : Plan) (now : Open) (op : Op) (alone : Alone) (map : Map)
+    → (has_lock plan.operation.ask ≡ true) × (now ≡ failing plan.operation) → plan.operation.ask
+    ≡ ask_of op → alone.operation ≡ Some (failing plan.operation) → alone.granted ≡ Some map
+    → HasPlain plan.whole op alone.plain → IsEnding now plan.whole op alone
 ending-failed plan now op alone map (has, is) asked operation granted plain = rw is (record {
   operation = operation;
   map = map;
@@ -108,25 +89,22 @@ ending-failed plan now op alone map (has, is) asked operation granted plain = rw
   total = λ unfailed. absurd (cc);
 })
 
-pub goes-failed : (seals : Seals) (plan : Plan) (now : Open) (answer : Answer) → IsFailure answer →
-    (has_lock plan.operation.ask ≡ true) × (now ≡ failing plan.operation) →
-    Goes seals plan answer (record plan { operation = now; stage = Ending })
-    (Nexts.Call Calls.Finish)
+pub goes-failed : (seals : Seals) (plan : Plan) (now : Open) (answer : Answer) → IsFailure answer
+    → (has_lock plan.operation.ask ≡ true) × (now ≡ failing plan.operation) → Goes
+    seals plan answer (record plan { operation = now; stage = Ending }) (Nexts.Call Calls.Finish)
 unfolding Goes
 goes-failed seals plan now Answers.Device fails is op alone _ lane (reads map _ _ _ moves _ _ _)
     may = finish-follows plan now _ refl (ending-failed plan now op _ map is moves.course.asks
     (mapped _ moves.course.operation refl) moves.course.granted moves.plain)
-goes-failed seals plan now Answers.Device fails is op alone _ lane
-    (writes map piece prepared moves writing sealed) may =
-    finish-follows plan now _ refl (ending-failed plan now op _ map is moves.course.asks
-    (mapped _ moves.course.operation refl) moves.course.granted
-    (subst (λ xs. HasPlain plan.whole op xs)
-    (sym (with-opened seals alone map plan.operation piece prepared.bytes moves.course.operation
-    moves.course.granted moves.next)) sealed.so_far))
+goes-failed seals plan now Answers.Device fails is op alone _ lane (writes map
+    piece prepared moves writing sealed) may = finish-follows plan now _ refl (ending-failed plan
+    now op _ map is moves.course.asks (mapped _ moves.course.operation refl) moves.course.granted
+    (subst (λ xs. HasPlain plan.whole op xs) (sym (with-opened seals alone map plan.operation
+    piece prepared.bytes moves.course.operation moves.course.granted moves.next)) sealed.so_far))
 goes-failed seals plan now Answers.Device fails is op alone _ lane (settles map _ course plain _ _)
-    may = (let it = settled-open device plan.operation alone.operation course.operation is.0 in
+    may = let it = settled-open device plan.operation alone.operation course.operation is.0 in
     finish-follows plan now _ it.1 (ending-failed plan now op _ map is course.asks it.0
-    course.granted plain))
+    course.granted plain)
 goes-failed seals plan now Answers.Broken fails is op alone _ lane (reads map _ _ _ moves _ _ _)
     may = finish-follows plan now _ refl (ending-failed plan now op _ map is moves.course.asks
     (mapped _ moves.course.operation refl) moves.course.granted moves.plain)
@@ -134,9 +112,9 @@ goes-failed seals plan now Answers.Broken fails is op alone _ lane (writes map _
     finish-follows plan now _ refl (ending-failed plan now op _ map is moves.course.asks
     (mapped _ moves.course.operation refl) moves.course.granted moves.plain)
 goes-failed seals plan now Answers.Broken fails is op alone _ lane (settles map _ course plain _ _)
-    may = (let it = settled-open broken plan.operation alone.operation course.operation is.0 in
+    may = let it = settled-open broken plan.operation alone.operation course.operation is.0 in
     finish-follows plan now _ it.1 (ending-failed plan now op _ map is course.asks it.0
-    course.granted plain))
+    course.granted plain)
 goes-failed seals plan now Answers.Device fails is op alone _ lane _ may = absurd may
 goes-failed seals plan now Answers.Broken fails is op alone _ lane _ may = absurd may
 goes-failed seals plan now _ fails is op alone _ lane _ may = absurd fails
@@ -147,19 +125,18 @@ flushed : (plan : Plan) (op : Op) (alone : Alone) (map : Map) (outcome : Outcome
     (answered : List Answered) (after : Alone) → answered ≡ by_settle alone.operation outcome →
     after.operation ≡ settled_as outcome alone.operation →
     IsAnswered plan.operation.session op (flush_reply outcome) after answered
-flushed plan op alone map outcome course flush answered after answered_is after_is =
-    let is = course.operation in
-    answered-so plan.operation [] [] op (flush_reply outcome) after answered course.asks
-    (none-yet [] op) (after_is ∙ rw (is, flush) refl) (answered_is ∙ rw (is, flush) refl)
+flushed plan op alone map outcome course flush answered after answered_is after_is = answered-so
+    plan.operation [] [] op (flush_reply outcome) after answered course.asks (none-yet [] op)
+    (after_is ∙ rw (course.operation, flush) refl) (answered_is ∙ rw (course.operation, flush) refl)
 
 pub ends-failed : (seals : Seals) (plan : Plan) (answer : Answer) → IsFailure answer →
     after_settle plan.operation (failing plan.operation) ≡ None →
     Goes seals plan answer (record plan { whole = [] }) (Nexts.Reply (Errno 5) plan.whole)
 unfolding Goes
 ends-failed seals plan answer fails is op alone _ lane (reads _ _ _ _ _ reading _ _) may =
-    absurd (let flush = none-settled plan.operation.ask _ is in rw flush at reading)
+    absurd (rw (none-settled plan.operation.ask _ is) at reading)
 ends-failed seals plan answer fails is op alone _ lane (writes _ _ _ _ writing _) may =
-    absurd (let flush = none-settled plan.operation.ask _ is in rw flush at writing)
+    absurd (rw (none-settled plan.operation.ask _ is) at writing)
 ends-failed seals plan Answers.Device fails is op alone _ lane (settles map _ course _ _ _) may =
     flushed plan op alone map device course (none-settled plan.operation.ask _ is) _ _ refl refl
 ends-failed seals plan Answers.Broken fails is op alone _ lane (settles map _ course _ _ _) may =
@@ -169,10 +146,9 @@ ends-failed seals plan Answers.Broken fails is op alone _ lane _ may = absurd ma
 ends-failed seals plan _ fails is op alone _ lane _ may = absurd fails
 
 -- a settle that is done
-pub goes-settled : (seals : Seals) (plan : Plan) (now : Open) → plan.stage ≡ Settling →
-    after_settle plan.operation (settling plan.operation) ≡ Some now →
-    Goes seals plan Answers.Done (record plan { operation = now; stage = Ending })
-    (Nexts.Call Calls.Finish)
+pub goes-settled : (seals : Seals) (plan : Plan) (now : Open) → plan.stage ≡ Settling
+    → after_settle plan.operation (settling plan.operation) ≡ Some now → Goes seals
+    plan Answers.Done (record plan { operation = now; stage = Ending }) (Nexts.Call Calls.Finish)
 unfolding Goes
 goes-settled seals plan now at is op alone _ lane (settles map _ course plain _ ends) may =
     let (has, now_is) = some-settled (has_lock plan.operation.ask) now (settling plan.operation) is
@@ -244,7 +220,7 @@ has-content seals plan offset len (op, alone, _, settles _ stage _ _ _ _, may) a
     absurd (cc)
 has-content seals plan offset len (op, alone, _, finishes stage ending, may) at unfailed is =
     let (size, front) = read-ending plan op alone offset len ending unfailed is in
-    let long = body-long alone.plain plan.whole front in omega (arith, size, long)
+    omega (arith, body-long alone.plain plan.whole front)
 has-content seals plan offset len (op, alone, _, _, may) at unfailed is = absurd may
 
 -- that of any other

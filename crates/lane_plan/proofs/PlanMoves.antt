@@ -1,34 +1,20 @@
 -- What a plan is told of its pieces.
-use Rattle.std.specs.Prelude.{option_map}
-use Rattle.std.proofs.Common.{◌≡◌, inl, inr, ◌+◌, ◌-◌, ◌*◌, ◌/◌, ◌^◌, ◌<◌, ◌≤◌, ℕ, List, ◌++◌}
-use Rattle.std.proofs.Common.{length, take, Option, Some, refl, sym, ◌∙◌, ap, subst, arith}
-use Rattle.std.proofs.Common.{length-append}
-use Rattle.std.proofs.Math.Nat.{mul-div_left, mul-le-mul_right}
-use Rattle.std.proofs.lemmas.List.{length-take-le}
-use Rattle.sector_disk.specs.Geometry.{IsAtom}
-use Rattle.plain_disk.specs.declared.operation.Op.{Op}
-use Rattle.plain_disk.specs.declared.operation.Op.TheVariants as Ops
-use Rattle.segment_map.specs.declared.Side.{Side}
-use Rattle.segment_map.specs.declared.map.Map.{Map}
-use Rattle.segment_map.specs.declared.map.Piece.{Piece}
-use Rattle.volume_machine.specs.Alone.{Alone, opened_by, passed, with_piece}
-use Rattle.volume_machine.specs.Asks.{IsRead}
-use Rattle.volume_machine.specs.Pieces.{IsPieceOf, known_side, moved}
-use Rattle.volume_machine.specs.Seals.{KeysFit, Seals}
-use Rattle.volume_machine.specs.declared.keys.Keys.{Keys}
+use Rattle.volume_machine.proofs.Common
+use Common.{List, Option, Some, ap, arith, inl, inr, length, length-append, length-take-le}
+use Common.{mul-le-mul_right, option_map, refl, subst, sym, take, ℕ, ◌*◌, ◌++◌, ◌+◌, ◌-◌, ◌/◌, ◌<◌}
+use Common.{◌^◌, ◌∙◌, ◌≡◌, ◌≤◌, mul-div_left, IsAtom, Side, Map, Piece, Op, Alone, opened_by}
+use Common.{passed, with_piece, IsRead, IsPieceOf, known_side, moved, KeysFit, Seals, Keys, Open}
 use Rattle.volume_machine.proofs.KeyLemmas.{fewer-blocks}
-use Rattle.volume_machine.specs.declared.open.Open.{Open}
-use Rattle.lane_plan.specs.Calls.{ask_of}
-use Rattle.lane_plan.specs.Plans.{reads, writes, HasPlace, HasPlain, HasRest, IsBack, IsOnly}
-use Rattle.lane_plan.specs.Plans.{IsPart, IsTakenIn, IsTold, Moves, bytes_of, calls_left, left_at}
-use Rattle.lane_plan.specs.Plans.{place_in}
-use Rattle.lane_plan.specs.declared.calls.Answer.TheVariants as Answers
-use Rattle.lane_plan.specs.declared.plan.Plan.{Plan}
-use Rattle.lane_plan.specs.declared.plan.Stage.TheVariants.{Moving}
+use Rattle.lane_plan.specs.Plans.{HasPlace, HasPlain, HasRest, IsBack, IsOnly, IsPart, IsTakenIn}
+use Rattle.lane_plan.specs.Plans.{IsTold, Moves, bytes_of, calls_left, left_at, place_in, reads}
+use Rattle.lane_plan.specs.Plans.{writes}
+use Rattle.lane_plan.specs.{Calls.ask_of, declared.plan.Plan.Plan}
+use Rattle.lane_plan.specs.{declared.plan.Stage.TheVariants.Moving}
 use Rattle.lane_plan.proofs.PlanBegins.{IsBackBy}
-use Rattle.lane_plan.proofs.PlanCourse.{all-bytes, ends-within, none-before, only-or-part}
+use Rattle.lane_plan.proofs.PlanCourse.{all-bytes, ends-within, none-before, of-body, only-or-part}
 use Rattle.lane_plan.proofs.PlanSizes.{blocks-small, rest-long, size-more, some-atom}
-use Rattle.lane_plan.proofs.PlanCourse.{of-body}
+use Rattle.plain_disk.specs.declared.operation.Op.TheVariants as Ops
+use Rattle.lane_plan.specs.declared.calls.Answer.TheVariants as Answers
 
 -- a plan that awaits the answer to a piece's read or write
 pub record AwaitsPiece (plan : Plan) (map : Map) (piece : Piece) (room : ℕ) : Type 0 where
@@ -47,12 +33,10 @@ pub told-got : (seals : Seals) (plan : Plan) (buffer : List ℕ) (len : ℕ) →
 unfolding IsTold
 told-got seals plan buffer len
     (op, alone, _, reads map piece lent n moves reading size within, may) =
-    let same = may.1 in
-    let is = may.0 in
     let it : AwaitsRead plan map piece (length buffer) len = record {
-      awaits = record { op = op; alone = alone; moves = rw same moves };
-      size = is ∙ size;
-      within = omega (arith, same, is, within);
+      awaits = record { op = op; alone = alone; moves = rw may.1 moves };
+      size = may.0 ∙ size;
+      within = omega arith;
     } in
     (map, piece, it)
 told-got seals plan buffer len (op, alone, _, _, may) = absurd may
@@ -73,33 +57,30 @@ same-piece plan is other = (cc, cc)
 moves-by : {plan : Plan} {op : Op} {alone : Alone} {m map : Map} {p piece : Piece} {room : ℕ} →
     Moves plan op alone m p room → plan.stage ≡ Moving map piece →
     Moves plan op alone map piece room
-moves-by {plan} moves is = (let same = same-piece plan moves.stage is in
-    let map_is = same.0 in let piece_is = same.1 in rw (map_is, piece_is) at moves)
+moves-by {plan} moves is = let same = same-piece plan moves.stage is in
+    rw (same.0, same.1) at moves
 
 pub got-here : (seals : Seals) (plan : Plan) {map : Map} {piece : Piece} (buffer : List ℕ)
     (len : ℕ) → IsTold seals plan (Answers.Got buffer len) → plan.stage ≡ Moving map piece →
     AwaitsRead plan map piece (length buffer) len
-got-here seals plan buffer len told is = (let (m, p, it) = told-got seals plan buffer len told in
-    let same = same-piece plan it.awaits.moves.stage is
-    in let map_is = same.0 in let piece_is = same.1 in rw (map_is, piece_is) at it)
+got-here seals plan buffer len told is = let (m, p, it) = told-got seals plan buffer len told in
+    let same = same-piece plan it.awaits.moves.stage is in rw (same.0, same.1) at it
 
 pub written-here : (seals : Seals) (plan : Plan) {map : Map} {piece : Piece} (buffer : List ℕ) →
     IsTold seals plan (Answers.Written buffer) → plan.stage ≡ Moving map piece →
     AwaitsPiece plan map piece (length buffer)
-written-here seals plan buffer told is = (let (m, p, it) = told-written seals plan buffer told in
-    let same = same-piece plan it.moves.stage is
-    in let map_is = same.0 in let piece_is = same.1 in rw (map_is, piece_is) at it)
+written-here seals plan buffer told is = let (m, p, it) = told-written seals plan buffer told in
+    let same = same-piece plan it.moves.stage is in rw (same.0, same.1) at it
 
 -- the bytes of the next piece are opened as the lane knows them
 known-opened : (seals : Seals) (map : Map) (o : Open) (piece : Piece) (sealed : List ℕ) →
     IsPieceOf map o piece →
     opened_by seals map (Some o) sealed ≡ seals.opened piece.side piece.first sealed
 known-opened seals map o piece sealed next =
-    let first = next.first in
     let none : o.next + 0 ≡ o.next = omega arith in
     let at = rw none at (next.one_side 0 next.some) in
     ap (λ (x : Option Side). seals.opened (known_side x) o.next sealed) at
-    ∙ ap (λ (k : ℕ). seals.opened piece.side k sealed) (sym first)
+    ∙ ap (λ (k : ℕ). seals.opened piece.side k sealed) (sym next.first)
 
 -- the plain bytes with those of the piece
 pub with-opened : (seals : Seals) (alone : Alone) (map : Map) (o : Open) (piece : Piece)
@@ -117,8 +98,7 @@ passed-moved : (map : Map) (o : Open) (piece : Piece) (atom : ℕ) (sealed : Lis
     passed atom sealed o ≡ moved o piece
 passed-moved map o piece atom sealed next some size =
     let count : length sealed / atom ≡ piece.count = rw size (mul-div_left piece.count some) in
-    let first = next.first in
-    ap (λ (k : ℕ). the-open o k) (omega (arith, count, first)) where
+    ap (λ (k : ℕ). the-open o k) (omega arith) where
       the-open : Open → ℕ → Open
       the-open o k = record o { next = k }
 
@@ -129,8 +109,7 @@ mapped f is same = ap (λ (x : Option Open). option_map f x) is ∙ ap (λ (o : 
 -- a part isn't the last of all where there is more
 more-left : (o : Open) (map : Map) (piece : Piece) → IsPieceOf map o piece →
     o.range.start ≤ o.next → (moved o piece).next < o.range.end → IsPart o piece
-more-left o map piece next starts less same = (let first = next.first in let some = next.some in
-    omega (arith, same, first, some, less, starts))
+more-left o map piece next starts less same = omega (arith, same)
 
 -- the plan behind a piece
 behind : (old now : Plan) (o : Open) (piece : Piece) →
@@ -140,8 +119,7 @@ behind : (old now : Plan) (o : Open) (piece : Piece) →
       whole = now.whole;
       part = now.part;
     }
-behind old now o piece same is =
-    ap (λ (q : Plan). with-these q o now) same
+behind old now o piece same is = ap (λ (q : Plan). with-these q o now) same
     ∙ ap (λ (p : Open). with-these old p now) (is ∙ ap (λ (q : Plan). moved q.operation piece) same)
   where
     with-these : Plan → Open → Plan → Plan
@@ -158,12 +136,8 @@ back-moved : (old now : Plan) (op : Op) (alone after : Alone) (map : Map) (piece
 back-moved old now op alone after map piece room o more moves same is operation granted plain size
     has kept =
     let course = moves.course in
-    let next = moves.next in
-    let first = next.first in
-    let within = next.within in
-    let starts = course.starts in
     let other = λ (less : (moved old.operation piece).next < old.operation.range.end).
-    more-left old.operation map piece next starts less in
+    more-left old.operation map piece moves.next course.starts less in
     subst (λ (p : Plan). IsBack p op after map) (sym (behind old now o piece same is)) (record {
       course = record {
         known = course.known;
@@ -175,28 +149,26 @@ back-moved old now op alone after map piece room o more moves same is operation 
         proper = course.proper;
         range_is = course.range_is;
         inside = course.inside;
-        starts = omega (arith, starts, first);
-        within = omega (arith, within, first);
+        starts = omega arith;
+        within = omega arith;
         unfailed = course.unfailed;
         unsettled = course.unsettled;
         size = ap (λ xs. length xs) plain ∙ length-append alone.plain more
-            ∙ (let so_far = course.size in
-            let sum = size-more old.operation.range.start old.operation.next piece.count
-            (piece.first + piece.count) old.shape.atom starts (omega (arith, first)) in
-            omega (arith, so_far, sum, size));
+            ∙ (let sum = size-more old.operation.range.start old.operation.next piece.count
+            (piece.first + piece.count) old.shape.atom course.starts (omega arith) in
+            omega arith);
       };
       plain = rw plain has;
       rest = λ less. (kept (other less)).0;
-      part = λ less. (let room_is = (kept (other less)).1 in rw room_is (moves.part (other less)));
+      part = λ less. (rw ((kept (other less)).1) (moves.part (other less)));
     })
 
 -- the read of a piece
-read-part : (op : Op) (whole other plain more : List ℕ) (at n : ℕ) → IsRead (ask_of op) →
-    at ≡ length plain → length more ≡ n →
-    take (at + n) other ≡ take at whole ++ more → HasPlain whole op plain →
-    HasPlain other op (plain ++ more)
+read-part : (op : Op) (whole other plain more : List ℕ) (at n : ℕ) → IsRead (ask_of op)
+    → at ≡ length plain → length more ≡ n → take (at + n) other ≡ take at whole ++ more
+    → HasPlain whole op plain → HasPlain other op (plain ++ more)
 read-part (Ops.Read offset len) whole other plain more at n reading is size front so_far =
-    ap (λ k. take k other) (length-append plain more ∙ (omega (arith, is, size))) ∙ front
+    ap (λ k. take k other) (length-append plain more ∙ (omega arith)) ∙ front
     ∙ ap (λ xs. xs ++ more) (ap (λ k. take k whole) is ∙ so_far)
 read-part _ whole other plain more at n reading is size front so_far = absurd reading
 
@@ -215,40 +187,33 @@ pub back-got : (seals : Seals) (old now : Plan) (map : Map) (piece : Piece) (o :
     IsBackBy seals old (Answers.Got buffer len) (record now { operation = o }) map
 back-got seals old now map piece o buffer unsealed len stage front long only part same is op alone _
     lane (reads m p lent n moved_here reading size_is within) may =
-    let moves = moves-by moved_here stage in
-    let course = moves.course in
+    let moves = moves-by moved_here stage in let course = moves.course in
     let next = moves.next in
-    let as_long = may.1 in
-    let len_is = may.0 in
-    let size : len ≡ piece.count * old.shape.atom = len_is ∙ size_is
+    let size : len ≡ piece.count * old.shape.atom = may.0 ∙ size_is
     ∙ ap (λ (q : Piece). q.count * old.shape.atom) (same-piece old moved_here.stage stage).1 in
-    let fits : len ≤ length buffer = omega (arith, as_long, len_is, within) in
+    let fits : len ≤ length buffer = omega arith in
     let sealed = take len buffer in
     let more = seals.opened piece.side piece.first sealed in
     let more_size : length more ≡ len = ap (λ xs. length xs) (sym front)
-    ∙ length-take-le len unsealed (omega (arith, long, fits)) in
+    ∙ length-take-le len unsealed (omega arith) in
     let reading_op = subst (λ a. IsRead a) course.asks reading in
     let has : HasPlain now.whole op (alone.plain ++ more) = elim (only-or-part course next) [
-      | inl all ↦ read-part op old.whole now.whole alone.plain more 0 len reading_op
-          (sym (ap (λ xs. length xs) (none-before course next all))) more_size
-          (ap (λ k. take k now.whole) (omega arith) ∙ ap (λ xs. take len xs) (only all) ∙ front)
-          moves.plain
+      | inl all ↦ read-part op old.whole now.whole alone.plain more 0 len
+          reading_op (sym (ap (λ xs. length xs) (none-before course next all))) more_size (ap (λ k.
+          take k now.whole) (omega arith) ∙ ap (λ xs. take len xs) (only all) ∙ front) moves.plain
       | inr other ↦ read-part op old.whole now.whole alone.plain more (place_in old piece) len
           reading_op (ap (λ k. (k - old.operation.range.start) * old.shape.atom) next.first
           ∙ sym course.size) more_size ((part other).front
           ∙ ap (λ xs. take (place_in old piece) old.whole ++ xs) front) moves.plain
     ] in (
       refl,
-      back-moved old now op alone _ map piece _ o more moves same is
-          (mapped _ course.operation
-          (passed-moved map old.operation piece old.shape.atom sealed next
-          (some-atom old.shape.atom course.known.known) (length-take-le len buffer fits ∙ size)))
-          course.granted
-          (with-opened seals alone map old.operation piece sealed course.operation course.granted
-          next)
-          (more_size ∙ size) has (λ other. (
+      back-moved old now op alone _ map piece _ o more moves
+          same is (mapped _ course.operation (passed-moved map old.operation piece old.shape.atom
+          sealed next (some-atom old.shape.atom course.known.known) (length-take-le len buffer fits
+          ∙ size))) course.granted (with-opened seals alone map old.operation
+          piece sealed course.operation course.granted next) (more_size ∙ size) has (λ other. (
             read-rest op old.whole now.whole reading_op (part other).whole (moves.rest other),
-            ap (λ xs. length xs) (part other).part ∙ long ∙ as_long,
+            ap (λ xs. length xs) (part other).part ∙ long ∙ may.1,
           )),
     )
 back-got seals old now map piece o buffer unsealed len stage front long only part same is op alone _
@@ -262,39 +227,29 @@ pub back-put : (seals : Seals) (old now : Plan) (map : Map) (piece : Piece) (o :
     IsBackBy seals old (Answers.Written buffer) (record now { operation = o }) map
 back-put seals old now map piece o buffer stage back same is op alone _ lane
     (writes m p prepared moved_here writing sealed_here) may =
-    let moves = moves-by moved_here stage in
-    let course = moves.course in
-    let piece_is = (same-piece old moved_here.stage stage).1 in
-    let sealed = rw piece_is at sealed_here in
+    let moves = moves-by moved_here stage in let course = moves.course in
+    let sealed = rw ((same-piece old moved_here.stage stage).1) at sealed_here in
     let writing_op =
     subst (λ a. Rattle.volume_machine.specs.Asks.IsWrite a) course.asks writing in (
       refl,
-      back-moved old now op alone _ map piece _ o
-          (seals.opened piece.side piece.first prepared.bytes) moves same is
-          (mapped _ course.operation
-          (passed-moved map old.operation piece old.shape.atom prepared.bytes
-          moves.next (some-atom old.shape.atom course.known.known) sealed.size)) course.granted
-          (with-opened seals alone map old.operation piece prepared.bytes course.operation
-          course.granted
-          moves.next) sealed.opened_size (of-body old.whole now.whole op _ writing_op sealed.so_far)
-          (λ other. (let whole = (back other).0 in
-          (rw whole (moves.rest other), ap (λ xs. length xs) (back other).1 ∙ may))),
+      back-moved old now op alone _ map piece _ o (seals.opened
+          piece.side piece.first prepared.bytes) moves same is (mapped _ course.operation
+          (passed-moved map old.operation piece old.shape.atom prepared.bytes moves.next (some-atom
+          old.shape.atom course.known.known) sealed.size)) course.granted (with-opened seals
+          alone map old.operation piece prepared.bytes course.operation course.granted moves.next)
+          sealed.opened_size (of-body old.whole now.whole op _ writing_op sealed.so_far) (λ other.
+          ((rw ((back other).0) (moves.rest other), ap (λ xs. length xs) (back other).1 ∙ may))),
     )
 back-put seals old now map piece o buffer stage back same is op alone _ lane _ may = absurd may
 
 -- a piece leaves as many calls as blocks are left after it
-pub fewer-moved : {old : Plan} {map : Map} {piece : Piece} {room : ℕ} (new : Plan) →
-    AwaitsPiece old map piece room →
-    calls_left new ≤ 1 + (old.operation.range.end - (piece.first + piece.count)) →
-    calls_left new < calls_left old
+pub fewer-moved : {old : Plan} {map : Map} {piece : Piece} {room : ℕ} (new : Plan)
+    → AwaitsPiece old map piece room → calls_left new
+    ≤ 1 + (old.operation.range.end - (piece.first + piece.count)) → calls_left new < calls_left old
 unfolding calls_left
 fewer-moved {old} new awaits most =
     let next = awaits.moves.next in
-    let left = ap (λ s. left_at old.shape.atom old.operation s) awaits.moves.stage in
-    let first = next.first in
-    let some = next.some in
-    let within = next.within in
-    omega (arith, left, first, some, within, most)
+    let left = ap (λ s. left_at old.shape.atom old.operation s) awaits.moves.stage in omega arith
 
 -- it leaves itself and as many as blocks are left
 pub fewer-next : (old new : Plan) {map : Map} {piece : Piece} →
@@ -302,7 +257,7 @@ pub fewer-next : (old new : Plan) {map : Map} {piece : Piece} →
     calls_left new ≤ 1 + (old.operation.range.end - old.operation.next)
 unfolding calls_left
 fewer-next old new is =
-    let at = ap (λ (p : Plan). left_at p.shape.atom p.operation p.stage) is in omega (arith, at)
+    omega (arith, ap (λ (p : Plan). left_at p.shape.atom p.operation p.stage) is)
 
 -- what a piece needs of its plan
 pub record IsSafe {C : Type 0} (sector : C → ℕ) (keys : Keys C) (plan : Plan) (piece : Piece) :
@@ -317,41 +272,27 @@ pub safe : {C : Type 0} (sector : C → ℕ) (keys : Keys C) {plan : Plan} {map 
     AwaitsPiece plan map piece room → IsSafe sector keys plan piece
 safe sector keys {plan} {piece} fits awaits =
     let course = awaits.moves.course in
-    let first = awaits.moves.next.first in
-    let within = awaits.moves.next.within in
-    let inside = course.inside in
-    let starts = course.starts in
-    let stops = course.within in
     let few = blocks-small plan.shape.atom plan.shape.blocks course.known.known course.known.small
     in
     record {
       known = course.known.known;
       fits = fewer-blocks sector keys plan.shape.atom plan.shape.blocks (piece.first + piece.count)
-          (omega (arith, first, within, inside)) fits;
-      order = omega (arith, starts, stops);
-      few = omega (arith, first, within, inside, few);
+          (omega arith) fits;
+      order = omega arith;
+      few = omega arith;
     }
 
 -- where the piece goes in the whole buffer
 pub has-place : {plan : Plan} {map : Map} {piece : Piece} {room len : ℕ} →
     AwaitsRead plan map piece room len → IsPart plan.operation piece → HasPlace plan piece len
 has-place {plan} {piece} it part =
-    let moves = it.awaits.moves in
-    let course = moves.course in
-    let first = moves.next.first in
-    let starts = course.starts in
+    let moves = it.awaits.moves in let course = moves.course in
     let ends = ends-within course moves.next in
     let long = rest-long plan.whole it.awaits.op (moves.rest part) in
-    let asks = ap (λ a. bytes_of a) course.asks in
-    let all = all-bytes course in
-    let inside = course.inside in
-    let most : (plan.operation.range.end - plan.operation.range.start)
-    * plan.shape.atom ≤ plan.shape.blocks * plan.shape.atom =
-    mul-le-mul_right plan.shape.atom (omega (arith, inside)) in
-    let small = course.known.small in
-    let size = it.size in
+    let most : (plan.operation.range.end - plan.operation.range.start) * plan.shape.atom
+    ≤ plan.shape.blocks * plan.shape.atom = mul-le-mul_right plan.shape.atom (omega arith) in
     record {
-      order = omega (arith, first, starts);
-      small = omega (arith, ends, all, most, small);
-      within = omega (arith, ends, long, asks, size);
+      order = omega arith;
+      small = omega (arith, all-bytes course);
+      within = omega (arith, ap (λ a. bytes_of a) course.asks);
     }

@@ -1,28 +1,17 @@
 -- The sizes of operations, of their pieces, and of the buffers for them.
-use Rattle.std.proofs.Common.{◌≡◌, inl, inr, ℕ, suc, ◌+◌, ◌-◌, ◌*◌, ◌/◌, ◌^◌, ◌<◌, ◌≤◌, List}
-use Rattle.std.proofs.Common.{length, take, min, None, refl, ap, arith}
-use Rattle.std.proofs.Math.Nat.{mul-le-mul_right, le-min}
-use Rattle.std.proofs.lemmas.Bool.{cases_lt}
+use Rattle.volume_machine.proofs.Common
+use Common.{List, None, ap, arith, inl, inr, length, length-take, min, mul-le-mul_right, refl, suc}
+use Common.{take, ℕ, ◌*◌, ◌+◌, ◌-◌, ◌/◌, ◌<◌, ◌^◌, ◌≡◌, ◌≤◌, le-min, cases_lt, IsAtom, Map, Piece}
+use Common.{wrong_range_of, Op, range_of, wrong_ask, IsPieceOf, Ask, Flush, Read, Write, Open}
 use Rattle.std.proofs.lemmas.Grind.{common_steps}
-use Rattle.std.proofs.lemmas.List.{length-take}
-use Rattle.plain_disk.specs.Operations.{wrong_range_of}
-use Rattle.plain_disk.proofs.RangeLemmas.{range_of_proper, whole_blocks, blocks_within}
-use Rattle.plain_disk.specs.declared.operation.Op.{Op}
-use Rattle.plain_disk.specs.declared.operation.Op.TheVariants as Ops
-use Rattle.sector_disk.specs.Geometry.{IsAtom}
-use Rattle.segment_map.specs.declared.map.Map.{Map}
-use Rattle.segment_map.specs.declared.map.Piece.{Piece}
-use Rattle.volume_machine.specs.Asks.{range_of, wrong_ask}
-use Rattle.volume_machine.specs.Pieces.{IsPieceOf}
-use Rattle.volume_machine.specs.declared.ask.Ask.{Ask}
-use Rattle.volume_machine.specs.declared.ask.Ask.TheVariants.{Read, Write, Flush}
-use Rattle.volume_machine.specs.declared.open.Open.{Open}
+use Rattle.plain_disk.proofs.RangeLemmas.{blocks_within, range_of_proper, whole_blocks}
 use Rattle.lane_plan.specs.Calls.{ask_of}
 use Rattle.lane_plan.specs.Plans.{HasRest, IsPart, bytes_of, part_of}
+use Rattle.plain_disk.specs.declared.operation.Op.TheVariants as Ops
 
 pub some-atom : (atom : ℕ) → IsAtom atom → 0 < atom
-some-atom atom (inl is) = omega (arith, is)
-some-atom atom (inr is) = omega (arith, is)
+some-atom atom (inl is) = omega arith
+some-atom atom (inr is) = omega arith
 
 -- the blocks of an operation are in order
 pub ordered : (atom : ℕ) (ask : Ask) → (range_of atom ask).start ≤ (range_of atom ask).end
@@ -35,18 +24,16 @@ proper-read : (atom size offset len : ℕ) → wrong_ask atom size (Read offset 
 proper-read atom size offset len proper = grind (arith, common_steps)
 
 counted : (start count atom len : ℕ) → count * atom ≡ len → (start + count - start) * atom ≡ len
-counted start count atom len is = (let e : start + count - start ≡ count = omega arith in rw e is)
+counted start count atom len is = let e : start + count - start ≡ count = omega arith in rw e is
 
 -- in bytes they are what it asks for
 pub total : (atom size : ℕ) (ask : Ask) → wrong_ask atom size ask ≡ None →
     ((range_of atom ask).end - (range_of atom ask).start) * atom ≡ bytes_of ask
 total atom size (Read offset len) proper =
-    counted (offset / atom) (len / atom) atom len
-    (whole_blocks atom len (range_of_proper atom size offset len 22
-    (proper-read atom size offset len proper)).whole)
-total atom size (Write offset len fua) proper =
-    counted (offset / atom) (len / atom) atom len
-    (whole_blocks atom len (range_of_proper atom size offset len 28 proper).whole)
+    counted (offset / atom) (len / atom) atom len (whole_blocks atom
+    len (range_of_proper atom size offset len 22 (proper-read atom size offset len proper)).whole)
+total atom size (Write offset len fua) proper = counted (offset / atom) (len / atom)
+    atom len (whole_blocks atom len (range_of_proper atom size offset len 28 proper).whole)
 total atom size Flush proper = omega arith
 
 -- and lie in the volume
@@ -55,15 +42,14 @@ pub inside : (atom blocks : ℕ) (ask : Ask) → 0 < atom → wrong_ask atom (bl
 inside atom blocks (Read offset len) some proper =
     blocks_within atom blocks offset len some (range_of_proper atom (blocks * atom) offset len 22
     (proper-read atom (blocks * atom) offset len proper))
-inside atom blocks (Write offset len fua) some proper =
-    blocks_within atom blocks offset len some (range_of_proper atom (blocks * atom) offset len 28
-    proper)
+inside atom blocks (Write offset len fua) some proper = blocks_within
+    atom blocks offset len some (range_of_proper atom (blocks * atom) offset len 28 proper)
 inside atom blocks Flush some proper = omega arith
 
 -- what pieces need of the buffer is as long as the operation
 pub body-long : (body whole : List ℕ) → take (length body) whole ≡ body → length body ≤ length whole
-body-long body whole is = (let e = ap (λ xs. length xs) is in let m =
-    length-take (length body) whole in grind (arith, common_steps, e, m))
+body-long body whole is = let m =
+    length-take (length body) whole in grind (arith, common_steps, ap (λ xs. length xs) is, m)
 
 pub rest-long : (whole : List ℕ) (op : Op) → HasRest whole op → bytes_of (ask_of op) ≤ length whole
 rest-long whole (Ops.Read offset len) rest = rest
@@ -73,43 +59,39 @@ rest-long whole Ops.Flush rest = omega arith
 -- pieces in a row
 pub size-more : (start at count next atom : ℕ) → start ≤ at → next ≡ at + count →
     (at - start) * atom + count * atom ≡ (next - start) * atom
-size-more start at count next atom order is = (let e : next - start ≡ (at - start) + count =
-    omega (arith, order, is) in rw e (omega arith))
+size-more start at count next atom order is = let e : next - start ≡ (at - start) + count =
+    omega arith in rw e (omega arith)
 
 pub size-none : (start atom : ℕ) → 0 ≡ (start - start) * atom
-size-none start atom = (let e : start - start ≡ 0 = omega arith in rw e (omega arith))
+size-none start atom = let e : start - start ≡ 0 = omega arith in rw e (omega arith)
 
 -- the bytes before a piece and its own are among the operation's
 pub stays-within : (start at count end atom : ℕ) → start ≤ at → at + count ≤ end →
     (at - start) * atom + count * atom ≤ (end - start) * atom
 stays-within start at count end atom order within =
-    let more = size-more start at count (at + count) atom order refl in
     let most : (at + count - start) * atom ≤ (end - start) * atom =
-    mul-le-mul_right atom (omega (arith, within)) in
-    omega (arith, more, most)
+    mul-le-mul_right atom (omega arith) in
+    omega (arith, size-more start at count (at + count) atom order refl)
 
 -- a piece that isn't all of the operation fits the buffer for pieces
 shorter : (count all atom bytes limit : ℕ) → all * atom ≡ bytes → count * atom ≤ limit →
     count < all → count * atom ≤ min (bytes - atom) limit
 shorter count all atom bytes limit is few less =
-    let more : suc count * atom ≤ all * atom = mul-le-mul_right atom (omega (arith, less)) in
-    let split : suc count * atom ≡ count * atom + atom = grind arith in
-    le-min (omega (arith, more, split, is)) few
+    let more : suc count * atom ≤ all * atom = mul-le-mul_right atom (omega arith) in
+    let split : suc count * atom ≡ count * atom + atom = grind arith in le-min (omega arith) few
 
-pub fits-part : (map : Map) (o : Open) (piece : Piece) (atom : ℕ) → IsPieceOf map o piece →
-    map.atom ≡ atom → o.range.start ≤ o.next →
-    (o.range.end - o.range.start) * atom ≡ bytes_of o.ask → IsPart o piece →
-    piece.count * atom ≤ part_of atom o.ask
+pub fits-part : (map : Map) (o : Open) (piece : Piece) (atom : ℕ) → IsPieceOf map o piece
+    → map.atom ≡ atom → o.range.start ≤ o.next → (o.range.end - o.range.start) * atom
+    ≡ bytes_of o.ask → IsPart o piece → piece.count * atom ≤ part_of atom o.ask
 fits-part map o piece atom next same starts all part =
-    let within = next.within in
     let few : piece.count * atom ≤ 1048576 = rw same at next.limit in
     elim (cases_lt piece.count (o.range.end - o.range.start)) [
       | inl less ↦ shorter piece.count (o.range.end - o.range.start) atom (bytes_of o.ask) 1048576
           all few less
-      | inr most ↦ absurd (part (omega (arith, within, starts, most)))
+      | inr most ↦ absurd (part (omega arith))
     ]
 
 -- blocks are counted in 64 bits
 pub blocks-small : (atom blocks : ℕ) → IsAtom atom → blocks * atom < 2 ^ 63 → blocks < 2 ^ 63
-blocks-small atom blocks (inl is) small = (let few = rw is at small in omega (arith, few))
-blocks-small atom blocks (inr is) small = (let few = rw is at small in omega (arith, few))
+blocks-small atom blocks (inl is) small = let few = rw is at small in omega arith
+blocks-small atom blocks (inr is) small = let few = rw is at small in omega arith

@@ -1,16 +1,10 @@
 -- The steps of an admit.
-use Rattle.std.proofs.Common.{◌≡◌, ℕ, Bool, true, false, Option, Some, None, refl, sym, ◌∙◌, ap}
-use Rattle.std.specs.Bool.{MatchBool}
-use Rattle.range_lock.specs.declared.Standing.{Standing}
-use Rattle.range_lock.specs.declared.Standing.TheVariants.{Held}
+use Rattle.volume_machine.proofs.Common.{Bool, MatchBool, None, Option, Some, ap, false, refl, sym}
+use Rattle.volume_machine.proofs.Common.{true, ℕ, ◌∙◌, ◌≡◌, IsStanding, Standing, Held, entry_of}
+use Rattle.volume_machine.proofs.Common.{has_lock, range_of, wrong_ask, Outcome, admits, refused}
+use Rattle.volume_machine.proofs.Common.{State, begun, size_of, Goes, IsAdmitted, IsReadyFor}
+use Rattle.volume_machine.proofs.Common.{TellsStanding, Ask, Open, Step}
 use Rattle.volume_core.specs.Calls.{Locks}
-use Rattle.range_lock.specs.Locks.{IsStanding}
-use Rattle.volume_machine.specs.Asks.{range_of, has_lock, wrong_ask, entry_of}
-use Rattle.volume_machine.specs.Events.{admits, Outcome, refused}
-use Rattle.volume_machine.specs.States.{State, size_of, begun}
-use Rattle.volume_machine.specs.Steps.{Step, Goes, IsReadyFor, IsAdmitted, TellsStanding}
-use Rattle.volume_machine.specs.declared.ask.Ask.{Ask}
-use Rattle.volume_machine.specs.declared.open.Open.{Open}
 use Rattle.volume_core.proofs.CodeSteps.{goes-to}
 
 none_of : (o : Option ℕ) → ((n : ℕ) → o ≡ Some n → ⊥) → o ≡ None
@@ -54,12 +48,10 @@ module _ {K : Type 0} (old : State K) (lane session : ℕ) (ask : Ask) where
   unfolding Step
   admit-begun new o standing outcome ready begins locks tells goes rests = rw ready.proper
       (unbroken old.broken _ (IsAdmitted old lane session ask outcome new) ready.unbroken (record {
-        enters = either_way (has_lock ask) _ _ _ _
-            (λ entered. (
-              entered.0,
-              tells (IsStanding old.entries (entry_of old.map.atom lane ask)) entered.1,
-            ))
-            (λ same. (same.0, tells (λ stands. stands ≡ Held) same.1)) locks;
+        enters = either_way (has_lock ask) _ _ _ _ (λ entered. (
+          entered.0,
+          tells (IsStanding old.entries (entry_of old.map.atom lane ask)) entered.1,
+        )) (λ same. (same.0, tells (λ stands. stands ≡ Held) same.1)) locks;
         goes = goes-to old new lane new.entries _ _ _ _ (ap (λ x. Some x) begins) refl goes;
         rests = rests;
       }))

@@ -1,22 +1,13 @@
 -- A volume that has begun is sound.
-use Rattle.std.proofs.Common.{◌≡◌, ◌≢◌, ℕ, zero, suc, ◌-◌, ◌<◌, false, Option, None, List, []}
-use Rattle.std.proofs.Common.{◌++◌, replicate, slice_get, refl, sym, ◌∙◌, subst}
-use Rattle.std.proofs.lemmas.List.{length-replicate}
+use Rattle.volume_machine.proofs.Common
+use Common.{List, None, Option, [], false, refl, replicate, slice_get, subst, suc, sym, zero, ℕ}
+use Common.{◌++◌, ◌-◌, ◌<◌, ◌∙◌, ◌≡◌, ◌≢◌, length-replicate, sides, Side, New, Old, Zone, Map}
+use Common.{known_side, side_in, KeysFit, IsSound, MapFits, open_at, Keys, Open, count_locks}
+use Rattle.sector_disk.specs.Devices.{Device}
 use Rattle.range_lock.specs.Locks.{Locks}
 use Rattle.segment_map.specs.declared.Direction.{Direction}
-use Rattle.segment_map.specs.declared.Direction.TheVariants.{Forward, Backward}
-use Rattle.segment_map.specs.declared.Side.{Side}
-use Rattle.segment_map.specs.declared.Side.TheVariants.{Old, New, Zone}
-use Rattle.segment_map.specs.declared.map.Map.{Map}
-use Rattle.segment_map.specs.Sides.{sides}
-use Rattle.volume_machine.specs.Pieces.{known_side, side_in}
-use Rattle.volume_machine.specs.Sound.{IsSound, MapFits, count_locks}
-use Rattle.volume_machine.specs.Seals.{KeysFit}
-use Rattle.sector_disk.specs.Devices.{Device}
-use Rattle.volume_machine.specs.States.{open_at}
-use Rattle.volume_core.specs.Volumes.{state_of, IsVolume}
-use Rattle.volume_machine.specs.declared.keys.Keys.{Keys}
-use Rattle.volume_machine.specs.declared.open.Open.{Open}
+use Rattle.segment_map.specs.declared.Direction.TheVariants.{Backward, Forward}
+use Rattle.volume_core.specs.Volumes.{IsVolume, state_of}
 
 no_open : (n lane : ℕ) → open_at (replicate n None) lane ≡ None
 no_open zero lane = refl
@@ -29,7 +20,8 @@ no_locks zero = refl
 no_locks (suc n) = no_locks n
 
 -- a run of blocks beside an open zone, at the end and in front of others
-last_run : (side : Side) (n b : ℕ) → side ≢ Zone → known_side (slice_get (replicate n side) b) ≢ Zone
+last_run : (side : Side) (n b : ℕ)
+    → side ≢ Zone → known_side (slice_get (replicate n side) b) ≢ Zone
 last_run side zero b other is = absurd (cc)
 last_run side (suc n) zero other is = other is
 last_run side (suc n) (suc b) other is = last_run side n b other is
@@ -43,19 +35,15 @@ first_run side (suc n) rest (suc b) other beside is = first_run side n rest b ot
 
 none_zoned : (direction : Direction) (blocks boundary b : ℕ)
     → known_side (slice_get (sides direction blocks boundary 0) b) ≢ Zone
-none_zoned Forward blocks boundary b =
-    first_run New boundary (replicate (blocks - boundary - 0) Old) b (λ is. absurd (cc))
-    (λ k. last_run Old (blocks - boundary - 0) k (λ is. absurd (cc)))
-none_zoned Backward blocks boundary b =
-    first_run Old (boundary - 0) (replicate (blocks - boundary) New) b (λ is. absurd (cc))
-    (λ k. last_run New (blocks - boundary) k (λ is. absurd (cc)))
+none_zoned Forward blocks boundary b = first_run New boundary (replicate (blocks - boundary - 0)
+    Old) b (λ is. absurd (cc)) (λ k. last_run Old (blocks - boundary - 0) k (λ is. absurd (cc)))
+none_zoned Backward blocks boundary b = first_run Old (boundary - 0) (replicate (blocks - boundary)
+    New) b (λ is. absurd (cc)) (λ k. last_run New (blocks - boundary) k (λ is. absurd (cc)))
 
 -- a map without an open zone has no block in one
 none_in_zone : (map : Map) (b : ℕ) → map.zone ≡ 0 → side_in map b ≢ Zone
-none_in_zone map b closed is =
-    none_zoned map.direction map.blocks map.boundary b
-    (subst (λ zone. known_side (slice_get (sides map.direction map.blocks map.boundary zone) b)
-    ≡ Zone) closed is)
+none_in_zone map b closed is = none_zoned map.direction map.blocks map.boundary b (subst (λ zone.
+    known_side (slice_get (sides map.direction map.blocks map.boundary zone) b) ≡ Zone) closed is)
 
 module _ (map : Map) (table : Locks) (lanes : List (Option Open)) (n : ℕ) (disk : Device) where
   pub new-sound : {K : Type 0} (keys : K) → 0 < n → MapFits map disk.atoms → map.zone ≡ 0 →

@@ -1,33 +1,28 @@
 -- What the calls on a piece find, and the steps that they are.
-use Rattle.std.proofs.Common.{◌≡◌, ℕ, ◌≤◌, Some, List, length, take, ap, subst, arith, ◌||◌}
-use Rattle.std.proofs.lemmas.List.{length-take-le}
-use Rattle.segment_map.specs.declared.map.Map.{Map}
-use Rattle.segment_map.specs.declared.map.Piece.{Piece}
-use Rattle.volume_machine.specs.Effects.{is_fault}
-use Rattle.volume_machine.specs.Events.{reads, writes, settles, Outcome, got, done, device, broken}
-use Rattle.volume_machine.specs.Pieces.{IsPieceOf, ArePieceBytes, size_of_piece, rest_of}
-use Rattle.volume_machine.specs.States.{State, open_at}
-use Rattle.volume_machine.specs.Steps.{Step, Can, Meets, Goes, CanRead, CanWrite, after_settle}
-use Rattle.volume_machine.specs.declared.open.Open.{Open}
+use Rattle.volume_machine.proofs.Common.{List, Some, ap, arith, length, length-take-le, subst, take}
+use Rattle.volume_machine.proofs.Common.{ℕ, ◌||◌, ◌≡◌, ◌≤◌, Map, Piece, is_fault, Outcome, broken}
+use Rattle.volume_machine.proofs.Common.{device, done, got, reads, settles, writes, ArePieceBytes}
+use Rattle.volume_machine.proofs.Common.{IsPieceOf, rest_of, size_of_piece, State, open_at, CanRead}
+use Rattle.volume_machine.proofs.Common.{CanWrite, Goes, Meets, after_settle, Open, Can, Step}
 use Rattle.volume_machine.proofs.NextPieces.{next_is_one}
-use Rattle.volume_core.specs.Calls.{Reads, Writes, Syncs}
+use Rattle.volume_core.specs.Calls.{Reads, Syncs, Writes}
 use Rattle.volume_core.proofs.CodeSteps.{goes-to}
 
 -- the front of a buffer has so many bytes
 pub front-size : (len : ℕ) (buffer before : List ℕ) → length buffer ≡ length before →
     len ≤ length before → length (take len buffer) ≡ len
-front-size len buffer before same front = length-take-le len buffer (omega (arith, same, front))
+front-size len buffer before same front = length-take-le len buffer (omega arith)
 
 -- the buffer of a read, and the bytes of a write, are as long as the piece
 pub read-size : (map : Map) (len : ℕ) (o : Open) (piece : Piece) → CanRead map len o →
     IsPieceOf map o piece → len ≡ size_of_piece map piece
 read-size map len o piece can next =
-    let one = next_is_one map (rest_of o) can.piece piece can.next next in rw one at can.size
+    rw (next_is_one map (rest_of o) can.piece piece can.next next) at can.size
 
 pub write-bytes : (map : Map) (bytes : List ℕ) (o : Open) (piece : Piece) → CanWrite map bytes o →
     IsPieceOf map o piece → ArePieceBytes map piece bytes
 write-bytes map bytes o piece can next =
-    let one = next_is_one map (rest_of o) can.piece piece can.next next in rw one at can.are
+    rw (next_is_one map (rest_of o) can.piece piece can.next next) at can.are
 
 module _ {K : Type 0} (state : State K) (lane : ℕ) (o : Open) where
   pub can-read : (len : ℕ) → Meets state (reads lane len) → open_at state.lanes lane ≡ Some o →

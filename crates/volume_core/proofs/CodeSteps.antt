@@ -1,30 +1,20 @@
 -- What the calls on a volume find before they do a step, and what a step leaves.
-use Rattle.std.proofs.Common.{◌≡◌, ℕ, zero, suc, ◌<◌, ◌≤◌, Bool, true, false, Option, Some, None}
-use Rattle.std.proofs.Common.{List, [], ◌∷◌, length, refl, ◌∙◌, arith}
-use Rattle.range_lock.specs.declared.Entry.{Entry}
-use Rattle.std.specs.List.{before_first}
-use Rattle.std.proofs.lemmas.List.Elements.{All-contains}
-use Rattle.range_lock.specs.declared.Standing.TheVariants.{Held, Waiting}
-use Rattle.range_lock.specs.Locks.{Conflicts, IsStandingOf, has_entry, is_of}
-use Rattle.volume_machine.proofs.Locking.{holds-by}
-use Rattle.volume_machine.specs.Asks.{has_lock, entry_of}
-use Rattle.volume_machine.specs.Events.{Event, Outcome}
-use Rattle.volume_machine.specs.Sound.{IsSound}
-use Rattle.volume_machine.specs.States.{State, open_at}
-use Rattle.volume_machine.specs.Steps.{Step, Meets, Goes}
+use Rattle.volume_machine.proofs.Common.{before_first, Bool, List, None, Option, Some, [], arith}
+use Rattle.volume_machine.proofs.Common.{false, length, refl, suc, true, zero, ℕ, ◌<◌, ◌∙◌, ◌∷◌}
+use Rattle.volume_machine.proofs.Common.{◌≡◌, ◌≤◌, All-contains, Conflicts, IsStandingOf, has_entry}
+use Rattle.volume_machine.proofs.Common.{is_of, Entry, Held, entry_of, has_lock, Event, Outcome}
+use Rattle.volume_machine.proofs.Common.{IsSound, State, open_at, Goes, Meets, Keys, Open, Step}
+use Rattle.range_lock.specs.declared.Standing.TheVariants.{Waiting}
+use Rattle.volume_machine.proofs.Soundness.{free-room, has-entry, lacks-entry, sound_kept}
+use Rattle.volume_machine.proofs.{EventEffects.event_effects, Locking.holds-by}
 use Rattle.volume_core.specs.Volumes.{IsVolume}
-use Rattle.volume_machine.specs.declared.keys.Keys.{Keys}
-use Rattle.volume_machine.specs.declared.open.Open.{Open}
-use Rattle.volume_machine.proofs.Soundness.{sound_kept, has-entry, lacks-entry, free-room}
-use Rattle.volume_machine.proofs.EventEffects.{event_effects}
 
 -- a lane that has an operation is one of the volume's
 pub has-lane : (lanes : List (Option Open)) (lane : ℕ) (o : Open) → open_at lanes lane ≡ Some o →
     lane < length lanes
 has-lane [] lane o is = absurd (cc)
 has-lane (one ∷ lanes) zero o is = omega arith
-has-lane (one ∷ lanes) (suc lane) o is =
-    (let rest = has-lane lanes lane o is in omega (arith, rest))
+has-lane (one ∷ lanes) (suc lane) o is = omega (arith, has-lane lanes lane o is)
 
 module _ {K : Type 0} (state : State K) (lane : ℕ) (sound : IsSound state) where
   -- an operation with a lock has an entry
@@ -39,11 +29,7 @@ module _ {K : Type 0} (state : State K) (lane : ℕ) (sound : IsSound state) whe
 
   pub free-place : lane < length state.lanes → open_at state.lanes lane ≡ None →
       length state.entries < state.room
-  free-place below free =
-      let fewer = free-room state.lanes lane below (rw free refl) in
-      let count = sound.count in
-      let room = sound.room in
-      omega (arith, fewer, count, room)
+  free-place below free = let fewer = free-room state.lanes lane below (rw free refl) in omega arith
 
   -- an operation ends within the volume
   pub ends-inside : (o : Open) → open_at state.lanes lane ≡ Some o → o.range.end ≤ state.map.blocks
@@ -53,8 +39,7 @@ module _ {K : Type 0} (state : State K) (lane : ℕ) (sound : IsSound state) whe
 pub waits-unheld : (lane other : ℕ) (entries : List Entry)
     → IsStandingOf lane entries (Waiting other) → IsStandingOf lane entries Held → ⊥
 waits-unheld lane other entries waits holds =
-    let by = holds-by lane entries holds in
-    let (e, is) = rw by.is at waits in
+    let by = holds-by lane entries holds in let (e, is) = rw by.is at waits in
     All-contains (λ x. Conflicts x by.entry → ⊥) (before_first (is_of lane) entries) e by.free
     is.0 is.1
 

@@ -1,49 +1,29 @@
 -- Runs in which no count of faults moves.
-use Rattle.std.proofs.Common.{◌≡◌, ◌≢◌, inl, inr, ◌⊎◌, ℕ, ◌+◌, ◌-◌, ◌*◌, ◌/◌, ◌<◌, ◌^◌, true, false}
-use Rattle.std.proofs.Common.{if◌then◌else◌, List, [], ◌∷◌, ◌++◌, length, Option, Some, None}
-use Rattle.std.proofs.Common.{MatchOption, MatchBool, refl, sym, ◌∙◌, ap, subst, arith}
-use Rattle.std.proofs.Common.{length-append}
-use Rattle.base_terms.specs.Causes.{Rose}
-use Rattle.plain_disk.specs.Operations.{wrong_of}
-use Rattle.plain_disk.specs.Outcomes.{IsServed, AreServed}
-use Rattle.plain_disk.specs.Plain.{Exchange}
-use Rattle.plain_disk.specs.declared.operation.Reply.TheVariants.{Content, Done, Errno}
-use Rattle.range_lock.specs.declared.Entry.{Entry}
-use Rattle.range_lock.specs.Locks.{without}
-use Rattle.segment_map.specs.declared.map.Piece.{Piece}
-use Rattle.volume_machine.specs.declared.ask.Ask.{Ask}
-use Rattle.volume_machine.specs.declared.ask.Ask.TheVariants.{Read, Write, Flush}
-use Rattle.volume_machine.specs.declared.open.Open.{Open}
-use Rattle.volume_machine.specs.Asks.{IsRead, IsWrite, range_of, has_lock, wrong_ask}
-use Rattle.volume_machine.specs.Beginnings.{IsFresh}
-use Rattle.volume_machine.specs.Events.{Event, admits, asks, reads, writes, settles, finishes}
-use Rattle.volume_machine.specs.Events.{Outcome, refused, got, done, device, broken}
-use Rattle.volume_laws.specs.Executing.{ServesWithoutFaults}
-use Rattle.volume_machine.specs.Pieces.{side_in, IsPieceOf, ArePieceBytes, moved, settling}
-use Rattle.volume_machine.specs.Pieces.{IsComplete}
-use Rattle.volume_machine.specs.Answers.{by_admit, by_settle, by_finish, full_reply, refusal}
-use Rattle.volume_machine.specs.Answers.{Answered, Asked, IsExchange, AreExchanges}
-use Rattle.volume_machine.specs.Runs.{Happening, IsRun, last_of, with_plain, plain_piece}
-use Rattle.volume_machine.specs.Runs.{after_read, after_write, plain_after, no_plain, answered_by}
-use Rattle.volume_machine.specs.Runs.{answered_in}
-use Rattle.volume_machine.specs.Seals.{Seals, AreLawful}
-use Rattle.volume_machine.specs.Sound.{IsSound}
-use Rattle.volume_machine.specs.States.{State, open_at, size_of, begun}
-use Rattle.volume_machine.specs.Steps.{Step, Can, Meets, Goes, IsAdmitted, ReadStep, WriteStep}
-use Rattle.volume_machine.specs.Steps.{SettleStep, FinishStep, after_settle, CanSettle}
-use Rattle.volume_laws.proofs.Admits.{plain-other, plain-own, unanswered}
-use Rattle.volume_machine.proofs.Locking.{either, same_or_not}
-use Rattle.volume_laws.proofs.Reading.{piece_blocks}
-use Rattle.volume_laws.proofs.Answering.{read_whole, wrong_asked}
-use Rattle.volume_laws.proofs.EventsServed.{forced_locks}
-use Rattle.volume_machine.proofs.Soundness.{sound_kept, match_false}
+use Rattle.volume_machine.proofs.Common
+use Common.{List, MatchBool, MatchOption, None, Option, Some, [], ap, arith, false, if◌then◌else◌}
+use Common.{inl, inr, length, length-append, refl, subst, sym, true, ℕ, ◌*◌, ◌++◌, ◌+◌, ◌-◌, ◌/◌}
+use Common.{◌<◌, ◌^◌, ◌∙◌, ◌∷◌, ◌≡◌, ◌≢◌, ◌⊎◌, either, same_or_not, Rose, without, Entry, Piece}
+use Common.{wrong_of, Exchange, Content, Done, Errno, Answered, Asked, IsExchange, by_admit}
+use Common.{by_finish, by_settle, full_reply, refusal, IsRead, IsWrite, has_lock, range_of}
+use Common.{wrong_ask, IsFresh, Event, Outcome, admits, asks, broken, device, done, finishes, got}
+use Common.{reads, refused, settles, writes, ArePieceBytes, IsComplete, IsPieceOf, moved, settling}
+use Common.{side_in, Happening, after_read, after_write, no_plain, plain_piece, with_plain}
+use Common.{AreLawful, Seals, IsSound, State, begun, open_at, size_of, CanSettle, FinishStep, Goes}
+use Common.{IsAdmitted, Meets, ReadStep, SettleStep, WriteStep, after_settle, Ask, Flush, Read}
+use Common.{Write, Open, AreExchanges, IsRun, answered_by, answered_in, last_of, plain_after, Can}
+use Common.{Step}
+use Rattle.plain_disk.specs.Outcomes.{AreServed, IsServed}
 use Rattle.volume_machine.proofs.EventEffects.{event_effects}
-use Rattle.volume_laws.proofs.Faults.{faults_run}
+use Rattle.volume_machine.proofs.Soundness.{match_false, sound_kept}
+use Rattle.volume_laws.specs.Executing.{ServesWithoutFaults}
+use Rattle.volume_laws.proofs.{Admits.plain-other, Admits.plain-own, Admits.unanswered}
+use Rattle.volume_laws.proofs.{Answering.read_whole, Answering.wrong_asked}
+use Rattle.volume_laws.proofs.{EventsServed.forced_locks, Faults.faults_run, Reading.piece_blocks}
 
 -- a count that rose didn't stay below its last value
 rose_not : (before now : ℕ) → Rose before now → now ≡ before → before < 2 ^ 64 - 1 → ⊥
-rose_not before now (inl less) same below = omega (arith, less, same)
-rose_not before now (inr last) same below = omega (arith, last, same, below)
+rose_not before now (inl less) same below = omega arith
+rose_not before now (inr last) same below = omega arith
 
 -- an operation that isn't wrong got all its bytes, or is done; a wrong one is refused with its
 -- number
@@ -55,10 +35,8 @@ IsFull answered Flush = answered.reply ≡ Done
 
 unfoldable AreFull : ℕ → ℕ → List Answered → Type 0
 AreFull atom size [] = Unit {0}
-AreFull atom size (answered ∷ rest) =
-    MatchOption (wrong_ask atom size answered.ask) (IsFull answered answered.ask)
-    (λ number. answered.reply ≡ Errno number)
-    × AreFull atom size rest
+AreFull atom size (answered ∷ rest) = MatchOption (wrong_ask atom size answered.ask) (IsFull
+    answered answered.ask) (λ number. answered.reply ≡ Errno number) × AreFull atom size rest
 
 -- nothing has failed, and each operation knows what its pieces hold
 record IsFine {K : Type 0} (state : State K) (seals : Seals) (plain : ℕ → List ℕ) : Type 0 where
@@ -68,23 +46,21 @@ record IsFine {K : Type 0} (state : State K) (seals : Seals) (plain : ℕ → Li
   lanes : (lane : ℕ) (o : Open) → open_at state.lanes lane ≡ Some o → (o.failed ≡ false)
       × (has_lock o.ask ≡ true → length (plain lane) ≡ (o.next - o.range.start) * state.map.atom)
 
-fine_after : {K : Type 0} (old new : State K) (seals : Seals) (plain now : ℕ → List ℕ) (lane : ℕ)
-    (entries : List Entry) (next : Option Open) → IsFine old seals plain → IsSound new →
-    Goes old new lane entries next false → ((k : ℕ) → k ≢ lane → now k ≡ plain k) →
-    ((o : Open) → next ≡ Some o
-    → (o.failed ≡ false)
-    × (has_lock o.ask ≡ true → length (now lane) ≡ (o.next - o.range.start) * old.map.atom))
-    → IsFine new seals now
+fine_after : {K : Type 0} (old new : State K) (seals : Seals) (plain now : ℕ
+    → List ℕ) (lane : ℕ) (entries : List Entry) (next : Option Open) → IsFine old seals plain
+    → IsSound new → Goes old new lane entries next false → ((k : ℕ) → k ≢ lane → now k ≡ plain k)
+    → ((o : Open) → next ≡ Some o → (o.failed ≡ false) × (has_lock o.ask ≡ true
+    → length (now lane) ≡ (o.next - o.range.start) * old.map.atom)) → IsFine new seals now
 fine_after old new seals plain now lane entries next fine sound goes known own = record {
   sound = sound;
   lawful = rw goes.map fine.lawful;
   unbroken = goes.broken_is;
   lanes = λ k o is. elim (same_or_not k lane) [
     | inl same ↦
-        (let parts = own o (sym goes.lane_is.own ∙ ap (λ n. open_at new.lanes n) (sym same) ∙ is) in
-        (parts.0, λ has. rw (goes.map, same) (parts.1 has)))
-    | inr other ↦ (let parts = fine.lanes k o (sym (goes.lane_is.others k other) ∙ is) in
-        (parts.0, λ has. rw (goes.map, known k other) (parts.1 has)))
+        let parts = own o (sym goes.lane_is.own ∙ ap (λ n. open_at new.lanes n) (sym same) ∙ is) in
+        (parts.0, λ has. rw (goes.map, same) (parts.1 has))
+    | inr other ↦ let parts = fine.lanes k o (sym (goes.lane_is.others k other) ∙ is) in
+        (parts.0, λ has. rw (goes.map, known k other) (parts.1 has))
   ];
 }
 
@@ -100,8 +76,7 @@ none_full atom size = tt
 
 one_full : (atom size : ℕ) (answered : Answered)
     → MatchOption (wrong_ask atom size answered.ask) (IsFull answered answered.ask)
-    (λ number. answered.reply ≡ Errno number) →
-    AreFull atom size (answered ∷ [])
+    (λ number. answered.reply ≡ Errno number) → AreFull atom size (answered ∷ [])
 unfolding AreFull
 one_full atom size answered is = (is, tt)
 
@@ -117,23 +92,20 @@ proper_full atom size answered proper full = one_full atom size answered (rw pro
 -- a settle
 ends_or_settled : (o p : Open) → after_settle o (settling o) ≡ Some p → p ≡ settling o
 ends_or_settled o p is = elim (either (has_lock o.ask)) [
-  | inl has ↦ (let e : after_settle o (settling o) ≡ Some (settling o) = rw has refl in cc)
+  | inl has ↦ let e : after_settle o (settling o) ≡ Some (settling o) = rw has refl in cc
   | inr free ↦ absurd (let e : after_settle o (settling o) ≡ None = rw free refl in cc)
 ]
 
 settle_full : {K : Type 0} (old : State K) (o : Open)
     → wrong_ask old.map.atom (size_of old.map) o.ask ≡ None → CanSettle o
     → AreFull old.map.atom (size_of old.map) (by_settle (Some o) done)
-settle_full old o proper (inl is) =
-    subst (λ xs. AreFull old.map.atom (size_of old.map) xs)
+settle_full old o proper (inl is) = subst (λ xs. AreFull old.map.atom (size_of old.map) xs)
     (let e : record { session = o.session; ask = Flush; plain = []; reply = Done } ∷ []
-    ≡ by_settle (Some o) done = rw is refl in e)
-    (proper_full old.map.atom (size_of old.map)
+    ≡ by_settle (Some o) done = rw is refl in e) (proper_full old.map.atom (size_of old.map)
     (record { session = o.session; ask = Flush; plain = []; reply = Done }) refl refl)
 settle_full old o proper (inr (forced, ended, unfailed, unsettled)) =
-    subst (λ xs. AreFull old.map.atom (size_of old.map) xs)
-    (let has = forced_locks o.ask forced in let e : [] ≡ by_settle (Some o) done = rw has refl in e)
-    (none_full old.map.atom (size_of old.map))
+    subst (λ xs. AreFull old.map.atom (size_of old.map) xs) (let e : [] ≡ by_settle (Some o) done =
+    rw (forced_locks o.ask forced) refl in e) (none_full old.map.atom (size_of old.map))
 
 module _ {K : Type 0} (old new : State K) (seals : Seals) (plain : ℕ → List ℕ) (lane : ℕ)
     (fine : IsFine old seals plain) (sound : IsSound new) where
@@ -143,55 +115,46 @@ module _ {K : Type 0} (old new : State K) (seals : Seals) (plain : ℕ → List 
       → length (with_plain plain lane (plain lane ++ plain_piece seals old lane bytes) lane)
       ≡ ((moved o piece).next - o.range.start) * old.map.atom
   piece_length o piece bytes at has next are =
-      let size = (fine.lanes lane o at).1 has in
-      let begun = (fine.sound.under_way lane o at).begun in
-      let first : piece.first ≡ o.next = next.first in
       let more = (piece_blocks old.map seals o piece bytes fine.lawful next are).size in
       let opened : plain_piece seals old lane bytes
       ≡ seals.opened (side_in old.map o.next) o.next bytes = rw at refl in
       let count : (moved o piece).next - o.range.start ≡ (o.next - o.range.start) + piece.count =
-      omega (arith, first, begun) in
+      omega (arith, (fine.sound.under_way lane o at).begun) in
       ap (λ xs. length xs) (plain-own plain lane (plain lane ++ plain_piece seals old lane bytes))
       ∙ length-append (plain lane) (plain_piece seals old lane bytes)
-      ∙ rw (count, opened, size, more) (grind arith)
+      ∙ rw (count, opened, (fine.lanes lane o at).1 has, more) (grind arith)
 
   fine_read : (o : Open) (outcome : Outcome) → open_at old.lanes lane ≡ Some o → IsRead o.ask
       → new.disk.faults ≡ old.disk.faults → old.disk.faults < 2 ^ 64 - 1
       → ReadStep old lane o outcome new → IsFine new seals (after_read seals old lane outcome plain)
-  fine_read o (got bytes) at reading same below step =
-      fine_after old new seals plain
+  fine_read o (got bytes) at reading same below step = fine_after old new seals plain
       (with_plain plain lane (plain lane ++ plain_piece seals old lane bytes)) lane old.entries
-      (Some (moved o step.piece)) fine sound step.goes
-      (plain-other plain lane (plain lane ++ plain_piece seals old lane bytes))
-      (λ p is. let e : p ≡ moved o step.piece = cc in
+      (Some (moved o step.piece)) fine sound step.goes (plain-other plain lane (plain lane
+      ++ plain_piece seals old lane bytes)) (λ p is. let e : p ≡ moved o step.piece = cc in
       rw e (
         (fine.lanes lane o at).0,
         λ has. piece_length o step.piece bytes at has step.next step.are,
       ))
   fine_read o device at reading same below step =
       absurd (rose_not old.disk.faults new.disk.faults (step.call.cause.failed refl) same below)
-  fine_read o broken at reading same below step =
-      absurd (let was = step.was in let whole = fine.unbroken in cc)
+  fine_read o broken at reading same below step = absurd (cc)
   fine_read o _ at reading same below step = absurd step
 
   fine_write : (o : Open) (bytes : List ℕ) (outcome : Outcome) → open_at old.lanes lane ≡ Some o
       → IsWrite o.ask → new.disk.faults ≡ old.disk.faults → old.disk.faults < 2 ^ 64 - 1
       → WriteStep old lane o bytes outcome new
       → IsFine new seals (after_write seals old lane bytes outcome plain)
-  fine_write o bytes done at writing same below step =
-      fine_after old new seals plain
+  fine_write o bytes done at writing same below step = fine_after old new seals plain
       (with_plain plain lane (plain lane ++ plain_piece seals old lane bytes)) lane old.entries
-      (Some (moved o step.piece)) fine sound step.goes
-      (plain-other plain lane (plain lane ++ plain_piece seals old lane bytes))
-      (λ p is. let e : p ≡ moved o step.piece = cc in
+      (Some (moved o step.piece)) fine sound step.goes (plain-other plain lane (plain lane
+      ++ plain_piece seals old lane bytes)) (λ p is. let e : p ≡ moved o step.piece = cc in
       rw e (
         (fine.lanes lane o at).0,
         λ has. piece_length o step.piece bytes at has step.next step.are,
       ))
   fine_write o bytes device at writing same below step =
       absurd (rose_not old.disk.faults new.disk.faults (step.call.cause.failed refl) same below)
-  fine_write o bytes broken at writing same below step =
-      absurd (let was = step.was in let whole = fine.unbroken in cc)
+  fine_write o bytes broken at writing same below step = absurd (cc)
   fine_write o bytes _ at writing same below step = absurd step
 
   fine_settle : (o : Open) (outcome : Outcome) → open_at old.lanes lane ≡ Some o → CanSettle o
@@ -201,28 +164,24 @@ module _ {K : Type 0} (old new : State K) (seals : Seals) (plain : ℕ → List 
   fine_settle o done at can same below step = record {
     fine = fine_after old new seals plain plain lane old.entries (after_settle o (settling o)) fine
         sound step.goes (λ k other. refl)
-        (λ p is. let e : p ≡ settling o = ends_or_settled o p is in rw e (fine.lanes lane o at));
+        (λ p is. rw (ends_or_settled o p is) (fine.lanes lane o at));
     full = settle_full old o (fine.sound.under_way lane o at).proper can;
   }
   fine_settle o device at can same below step =
       absurd (rose_not old.disk.faults new.disk.faults (step.call.cause.failed refl) same below)
-  fine_settle o broken at can same below step =
-      absurd (let was = step.was in let whole = fine.unbroken in cc)
+  fine_settle o broken at can same below step = absurd (cc)
   fine_settle o _ at can same below step = absurd step
 
   -- an operation that ends
-  finish_full : (o : Open) (ask : Ask) → open_at old.lanes lane ≡ Some o → o.ask ≡ ask
-      → has_lock o.ask ≡ true → (o.failed ≡ true) ⊎ IsComplete o → IsFull
-      (record {
+  finish_full : (o : Open) (ask : Ask) → open_at old.lanes lane ≡ Some o
+      → o.ask ≡ ask → has_lock o.ask ≡ true → (o.failed ≡ true) ⊎ IsComplete o → IsFull (record {
         session = o.session;
         ask = ask;
         plain = plain lane;
-        reply =
-            full_reply ask (plain lane);
+        reply = full_reply ask (plain lane);
       }) ask
   finish_full o (Read offset len) at is has ended =
-      let parts = fine.lanes lane o at in
-      let complete : IsComplete o = elim ended [
+      let parts = fine.lanes lane o at in let complete : IsComplete o = elim ended [
         | inl failed ↦ absurd (let whole = parts.0 in cc)
         | inr complete ↦ complete
       ] in
@@ -233,9 +192,7 @@ module _ {K : Type 0} (old new : State K) (seals : Seals) (plain : ℕ → List 
       under_way.range_is ∙ ap (λ a. range_of old.map.atom a) is in
       let start : o.range.start ≡ offset / old.map.atom = ap (λ r. r.start) range in
       let end : o.range.end ≡ offset / old.map.atom + len / old.map.atom = ap (λ r. r.end) range in
-      let whole = complete.pieces in
-      let count : o.next - o.range.start ≡ len / old.map.atom =
-      omega (arith, start, end, whole) in (
+      let count : o.next - o.range.start ≡ len / old.map.atom = omega arith in (
         refl,
         parts.1 has ∙ ap (λ n. n * old.map.atom) count
             ∙ (read_whole old.map.atom (size_of old.map) offset len fine.sound.fits.known proper).1,
@@ -254,18 +211,13 @@ module _ {K : Type 0} (old new : State K) (seals : Seals) (plain : ℕ → List 
       session = o.session;
       ask = o.ask;
       plain = plain lane;
-      reply =
-          if b then Errno 5 else full_reply o.ask (plain lane);
-    } ∷ [])) (sym (fine.lanes lane o at).0)
-        (proper_full old.map.atom (size_of old.map)
-        (record {
-          session = o.session;
-          ask = o.ask;
-          plain = plain lane;
-          reply =
-              full_reply o.ask (plain lane);
-        }) (fine.sound.under_way lane o at).proper
-        (finish_full o o.ask at refl has ended));
+      reply = if b then Errno 5 else full_reply o.ask (plain lane);
+    } ∷ [])) (sym (fine.lanes lane o at).0) (proper_full old.map.atom (size_of old.map) (record {
+      session = o.session;
+      ask = o.ask;
+      plain = plain lane;
+      reply = full_reply o.ask (plain lane);
+    }) (fine.sound.under_way lane o at).proper (finish_full o o.ask at refl has ended));
   }
 
   -- an operation that begins
@@ -277,58 +229,46 @@ module _ {K : Type 0} (old new : State K) (seals : Seals) (plain : ℕ → List 
     lanes = λ k o is. elim (same_or_not k lane) [
       | inl same ↦ absurd (let at = ap (λ n. open_at old.lanes n) (sym same) ∙ is in cc)
       | inr other ↦
-          (let parts =
-          fine.lanes k o is in
-          (parts.0, λ has. rw (plain-other plain lane [] k other) (parts.1 has)))
+          let parts = fine.lanes k o is in
+          (parts.0, λ has. rw (plain-other plain lane [] k other) (parts.1 has))
     ];
   }
 
   fine_admit : (session : ℕ) (ask : Ask) (outcome : Outcome) (wrong : Option ℕ)
       → wrong_ask old.map.atom (size_of old.map) ask ≡ wrong → open_at old.lanes lane ≡ None
-      → MatchOption wrong
-      (MatchBool old.broken ((outcome ≡ refused 5) × (new ≡ old))
-      (IsAdmitted old lane session ask outcome new))
-      (λ number. (outcome ≡ refused number) × (new ≡ old))
+      → MatchOption wrong (MatchBool old.broken ((outcome ≡ refused 5) × (new ≡ old)) (IsAdmitted
+      old lane session ask outcome new)) (λ number. (outcome ≡ refused number) × (new ≡ old))
       → FineAfter old new seals (with_plain plain lane []) (by_admit session ask outcome)
-  fine_admit session ask outcome (Some number) is free step =
-      record {
-        fine = subst (λ s. IsFine s seals (with_plain plain lane [])) (sym step.1)
-            (fine_forgets free);
-        full = subst (λ o. AreFull old.map.atom (size_of old.map) (by_admit session ask o))
-            (sym step.0)
-            (wrong_full old.map.atom (size_of old.map) session number ask is);
-      }
+  fine_admit session ask outcome (Some number) is free step = record {
+    fine = subst (λ s. IsFine s seals (with_plain plain lane [])) (sym step.1) (fine_forgets free);
+    full = subst (λ o. AreFull old.map.atom (size_of old.map) (by_admit session ask o))
+        (sym step.0) (wrong_full old.map.atom (size_of old.map) session number ask is);
+  }
   fine_admit session ask outcome None is free step =
-      let admitted =
-      match_false old.broken ((outcome ≡ refused 5) × (new ≡ old))
-      (IsAdmitted old lane session ask outcome new) fine.unbroken step in record {
-        fine = fine_after old new seals plain (with_plain plain lane []) lane new.entries
-            (Some (begun old.map.atom session ask)) fine sound
+      let admitted = match_false old.broken ((outcome ≡ refused 5)
+      × (new ≡ old)) (IsAdmitted old lane session ask outcome new) fine.unbroken step in record {
+        fine = fine_after old new seals plain (with_plain plain lane [])
+            lane new.entries (Some (begun old.map.atom session ask)) fine sound
             (subst (λ b. Goes old new lane new.entries (Some (begun old.map.atom session ask)) b)
-            fine.unbroken admitted.goes) (plain-other plain lane [])
-            (λ o same. let e : o ≡ begun old.map.atom session ask =
-            cc in rw e (
+            fine.unbroken admitted.goes) (plain-other plain lane []) (λ o same. let e : o
+            ≡ begun old.map.atom session ask = cc in rw e (
               refl,
               λ has. ap (λ xs. length xs) (plain-own plain lane [])
                   ∙ (let none : (range_of old.map.atom ask).start
-                  - (range_of old.map.atom ask).start
-                  ≡ 0 = omega arith in rw none (omega arith)),
+                  - (range_of old.map.atom ask).start ≡ 0 = omega arith in rw none (omega arith)),
             ));
-        full = subst (λ xs. AreFull old.map.atom (size_of old.map) xs)
-            (sym (unanswered old new lane session ask outcome admitted))
-            (none_full old.map.atom (size_of old.map));
+        full = subst (λ xs. AreFull old.map.atom (size_of old.map) xs) (sym (unanswered
+            old new lane session ask outcome admitted)) (none_full old.map.atom (size_of old.map));
       }
 
 fine_event : {K : Type 0} (old new : State K) (seals : Seals) (plain : ℕ → List ℕ) (event : Event)
-    (outcome : Outcome) → IsFine old seals plain → Meets old event → Step old event outcome new →
-    new.disk.faults ≡ old.disk.faults → old.disk.faults < 2 ^ 64 - 1
-    → FineAfter old new seals (plain_after seals old event outcome plain)
-    (answered_by old event outcome plain)
+    (outcome : Outcome) → IsFine old seals plain → Meets old event → Step old event outcome new
+    → new.disk.faults ≡ old.disk.faults → old.disk.faults < 2 ^ 64 - 1 → FineAfter
+    old new seals (plain_after seals old event outcome plain) (answered_by old event outcome plain)
 unfolding Can Step answered_by plain_after
 fine_event old new seals plain (admits lane session ask) outcome fine meets step same below =
-    fine_admit old new seals plain lane fine
-    (sound_kept old new (admits lane session ask) outcome fine.sound meets step) session ask outcome
-    _ refl meets.can step
+    fine_admit old new seals plain lane fine (sound_kept old new (admits lane session ask)
+    outcome fine.sound meets step) session ask outcome _ refl meets.can step
 fine_event old new seals plain (asks lane) outcome fine meets step same below = record {
   fine = subst (λ s. IsFine s seals plain) (sym step.1) fine;
   full = none_full old.map.atom (size_of old.map);
@@ -350,26 +290,21 @@ fine_event old new seals plain (writes lane bytes) outcome fine meets (o, at, st
 fine_event old new seals plain (settles lane) outcome fine meets (o, at, step) same below =
     let (p, is, can) = meets.can in let one : p ≡ o = cc in
     let after =
-    fine_settle old new seals plain lane fine
-    (sound_kept old new (settles lane) outcome fine.sound meets (o, at, step)) o outcome at
-    (subst (λ q. CanSettle q) one can) same below step in
+    fine_settle old new seals plain lane fine (sound_kept old new (settles lane) outcome fine.sound
+    meets (o, at, step)) o outcome at (subst (λ q. CanSettle q) one can) same below step in
     record {
       fine = after.fine;
-      full =
-          subst (λ x. AreFull old.map.atom (size_of old.map) (by_settle x outcome)) (sym at)
-          after.full;
+      full = subst (λ x. AreFull old.map.atom (size_of old.map) (by_settle x outcome))
+          (sym at) after.full;
     }
 fine_event old new seals plain (finishes lane) outcome fine meets step same below =
     let (o, at, can) = meets.can.0 in
-    let after =
-    fine_finish old new seals plain lane fine
-    (sound_kept old new (finishes lane) outcome fine.sound meets step) o outcome at can.locks
-    can.ends step in
+    let after = fine_finish old new seals plain lane fine (sound_kept
+    old new (finishes lane) outcome fine.sound meets step) o outcome at can.locks can.ends step in
     record {
       fine = after.fine;
-      full =
-          subst (λ x. AreFull old.map.atom (size_of old.map) (by_finish x (plain lane))) (sym at)
-          after.full;
+      full = subst (λ x. AreFull old.map.atom (size_of old.map) (by_finish x (plain lane)))
+          (sym at) after.full;
     }
 
 full_joined : (atom size : ℕ) (xs ys : List Answered) → AreFull atom size xs → AreFull atom size ys
@@ -388,33 +323,26 @@ fine_run start seals plain [] fine is same below =
     (none_full start.map.atom (size_of start.map), fine.unbroken)
 fine_run start seals plain (one ∷ rest) fine (meets, step, is) same below =
     let goes = event_effects start one.after one.event one.outcome step in
-    let first = goes.disk.later in
-    let behind = faults_run one.after rest is in
-    let here : one.after.disk.faults ≡ start.disk.faults = omega (arith, first, behind, same) in
+    let here : one.after.disk.faults ≡ start.disk.faults =
+    omega (arith, faults_run one.after rest is) in
     let after =
     fine_event start one.after seals plain one.event one.outcome fine meets step here below in
-    let later =
-    fine_run one.after seals (plain_after seals start one.event one.outcome plain) rest after.fine
-    is (same ∙ sym here) (omega (arith, here, below)) in
-    let map = goes.map in (
+    let later = fine_run one.after seals (plain_after seals start one.event one.outcome plain)
+    rest after.fine is (same ∙ sym here) (omega arith) in (
       full_joined start.map.atom (size_of start.map) (answered_by start one.event one.outcome plain)
           (answered_in seals one.after (plain_after seals start one.event one.outcome plain) rest)
-          after.full
-          (subst (λ m. AreFull m.atom (size_of m)
-          (answered_in seals one.after (plain_after seals start one.event one.outcome plain) rest))
-          map later.0),
+          after.full (subst (λ m. AreFull m.atom (size_of m) (answered_in seals
+          one.after (plain_after seals start one.event one.outcome plain) rest)) goes.map later.0),
       later.1,
     )
 
 -- what was answered in full was served
 exchange_served : (atom size : ℕ) (answered : Answered) (exchange : Exchange)
-    → IsExchange answered exchange →
-    MatchOption (wrong_ask atom size answered.ask) (IsFull answered answered.ask)
-    (λ number. answered.reply ≡ Errno number) →
-    MatchOption (wrong_of atom size exchange.op) (IsServed exchange.op exchange.reply)
-    (λ number. exchange.reply ≡ Errno number)
-exchange_served atom size answered exchange is full =
-    served_by (wrong_ask atom size answered.ask)
+    → IsExchange answered exchange
+    → MatchOption (wrong_ask atom size answered.ask) (IsFull answered answered.ask)
+    (λ number. answered.reply ≡ Errno number) → MatchOption (wrong_of atom size exchange.op)
+    (IsServed exchange.op exchange.reply) (λ number. exchange.reply ≡ Errno number)
+exchange_served atom size answered exchange is full = served_by (wrong_ask atom size answered.ask)
     (wrong_asked atom size answered.ask answered.plain exchange.op is.op) full
   where
     full_served : (ask : Ask) → Asked ask answered.plain exchange.op → IsFull answered ask
@@ -425,9 +353,8 @@ exchange_served atom size answered exchange is full =
 
     served_by : (wrong : Option ℕ) → wrong_of atom size exchange.op ≡ wrong
         → MatchOption wrong (IsFull answered answered.ask) (λ number. answered.reply ≡ Errno number)
-        →
-        MatchOption (wrong_of atom size exchange.op) (IsServed exchange.op exchange.reply)
-        (λ number. exchange.reply ≡ Errno number)
+        → MatchOption (wrong_of atom size exchange.op)
+        (IsServed exchange.op exchange.reply) (λ number. exchange.reply ≡ Errno number)
     served_by None why full_so = rw why (full_served answered.ask is.op full_so)
     served_by (Some number) why full_so = rw why (is.reply ∙ full_so)
 
@@ -451,13 +378,12 @@ starts_fine start seals sound fresh lawful = record {
   lanes = λ lane o at. absurd (let free = fresh.lanes lane in cc);
 }
 
-pub serves_without_faults : {K : Type 0} (start : State K) (seals : Seals)
-    (run : List (Happening K)) → IsSound start → IsFresh start → AreLawful start.map.atom seals
-    → IsRun start run →
-    ServesWithoutFaults start seals run
+pub serves_without_faults : {K : Type 0}
+    (start : State K) (seals : Seals) (run : List (Happening K)) → IsSound start → IsFresh start
+    → AreLawful start.map.atom seals → IsRun start run → ServesWithoutFaults start seals run
 serves_without_faults start seals run sound fresh lawful is = λ exchanges are same below.
-    let fine =
-    fine_run start seals no_plain run (starts_fine start seals sound fresh lawful) is same below in (
+    let fine = fine_run
+    start seals no_plain run (starts_fine start seals sound fresh lawful) is same below in (
       exchanges_served start.map.atom (size_of start.map) (answered_in seals start no_plain run)
           exchanges are fine.0,
       fine.1,

@@ -1,41 +1,25 @@
 -- Lanes of a run, each by its own calls.
-use Rattle.std.proofs.Common.{◌≡◌, ◌≢◌, inl, inr, ℕ, suc, ◌*◌, ◌<◌, ◌≤◌, ◌==◌, true, false}
-use Rattle.std.proofs.Common.{if◌then◌else◌, nat_eq, List, [], ◌∷◌, ◌++◌, length, Option, Some}
-use Rattle.std.proofs.Common.{None, MatchOption, MatchBool, refl, sym, ◌∙◌, ap, subst, arith}
-use Rattle.std.proofs.Common.{append_assoc, option_map}
-use Rattle.std.proofs.lemmas.List.{append-nil}
-use Rattle.range_lock.specs.Locks.{is_of}
-use Rattle.segment_map.specs.declared.map.Map.{Map}
-use Rattle.volume_machine.specs.Alone.{Alone, AreMet, Call, MeetsAlone, after_got, after_put}
-use Rattle.volume_machine.specs.Alone.{after_sync, alone_after, alone_of, answered_alone}
-use Rattle.volume_machine.specs.Alone.{answers_of, granted_after, idle_lane, open_after, settled_as}
-use Rattle.volume_machine.specs.Alone.{plain_with, with_piece, opened_by}
-use Rattle.volume_machine.specs.Answers.{answers}
-use Rattle.volume_machine.specs.Asks.{IsRead, IsWrite, has_lock, wrong_ask, entry_of}
-use Rattle.volume_machine.specs.Beginnings.{IsFresh}
-use Rattle.volume_machine.specs.Events.{Event, admits, asks, reads, writes, settles, finishes}
-use Rattle.volume_machine.specs.Events.{lane_of, Outcome, held, refused, got, done, device, broken}
-use Rattle.block_range.specs.declared.BlockRange.{BlockRange}
-use Rattle.volume_machine.specs.Pieces.{AgreeOn, known_side, rest_of}
-use Rattle.volume_machine.proofs.NextPieces.{agrees_itself, agrees_now, next_agrees}
-use Rattle.volume_machine.specs.Runs.{Happening, IsRun, answered_by, last_of, no_plain, plain_after}
-use Rattle.volume_machine.specs.Runs.{plain_in, plain_piece, with_plain}
-use Rattle.volume_machine.specs.Seals.{Seals}
-use Rattle.volume_machine.specs.Sound.{IsSound}
-use Rattle.volume_machine.specs.States.{State, IsClient, begun, open_at, size_of}
-use Rattle.volume_machine.specs.Steps.{Can, CanRead, CanWrite, Holds, IsAdmitted, Meets, Step}
-use Rattle.volume_machine.specs.declared.ask.Ask.{Ask}
-use Rattle.volume_machine.specs.declared.ask.Ask.TheVariants.{Read, Write, Flush}
-use Rattle.volume_machine.specs.declared.grant.Grant.{Grant}
-use Rattle.volume_machine.specs.declared.open.Open.{Open}
+use Rattle.volume_machine.proofs.Common
+use Common.{List, MatchBool, MatchOption, None, Option, Some, [], ap, append_assoc, arith, false}
+use Common.{if◌then◌else◌, inl, inr, length, nat_eq, option_map, refl, subst, suc, sym, true, ℕ}
+use Common.{◌*◌, ◌++◌, ◌<◌, ◌==◌, ◌∙◌, ◌∷◌, ◌≡◌, ◌≢◌, ◌≤◌, either, same_or_not, append-nil}
+use Common.{BlockRange, is_of, Map, Alone, Call, after_got, after_put, after_sync, alone_after}
+use Common.{answered_alone, granted_after, idle_lane, open_after, opened_by, plain_with, settled_as}
+use Common.{with_piece, answers, IsRead, IsWrite, entry_of, has_lock, wrong_ask, IsFresh, Event}
+use Common.{Outcome, admits, asks, broken, device, done, finishes, got, held, lane_of, reads}
+use Common.{refused, settles, writes, AgreeOn, known_side, rest_of, Happening, no_plain}
+use Common.{plain_piece, with_plain, Seals, IsSound, IsClient, State, begun, open_at, size_of}
+use Common.{CanRead, CanWrite, Holds, IsAdmitted, Meets, Ask, Flush, Read, Write, Grant, Open}
+use Common.{AreMet, MeetsAlone, alone_of, answers_of, IsRun, answered_by, last_of, plain_after}
+use Common.{plain_in, Can, Step}
 use Rattle.volume_machine.proofs.EventEffects.{event_effects}
-use Rattle.volume_machine.proofs.Locking.{either, same_or_not, is_of-own, find-last, before-last}
-use Rattle.volume_machine.proofs.Soundness.{match_true, match_false, sound_kept}
+use Rattle.volume_machine.proofs.Locking.{before-last, find-last, is_of-own}
+use Rattle.volume_machine.proofs.NextPieces.{agrees_itself, agrees_now, next_agrees}
+use Rattle.volume_machine.proofs.Soundness.{match_false, match_true, sound_kept}
 use Rattle.volume_laws.specs.Lanes.{AreAlone, AreMetByLanes, AreOfClients, AreSteps, IsLane}
 use Rattle.volume_laws.specs.Lanes.{alone_in, answered_under, call_of, own_calls}
-use Rattle.volume_laws.proofs.Admits.{plain-other, plain-own}
-use Rattle.volume_laws.proofs.Failures.{settled_is}
-use Rattle.volume_laws.proofs.OtherLanes.{event_left}
+use Rattle.volume_laws.proofs.{Admits.plain-other, Admits.plain-own, Failures.settled_is}
+use Rattle.volume_laws.proofs.{OtherLanes.event_left}
 
 -- what a grant told
 record IsTold {K : Type 0} (old new : State K) (lane : ℕ) (ask : Ask) (grant : Grant) : Type 0 where
@@ -55,21 +39,19 @@ admit_told old new lane session ask grant sound free is = elim (either (has_lock
         holds = λ locks. rw (
           enters.0,
           find-last (is_of lane) old.entries e none own,
-          before-last
-              (is_of lane) old.entries e none own,
+          before-last (is_of lane) old.entries e none own,
         ) enters.1.0;
       }
-  | inr has_none ↦ (let enters = match_false (has_lock ask) _ _ has_none is.enters in
-      record { map = enters.1.1.map; holds = λ locks. absurd (cc) })
+  | inr has_none ↦ let enters = match_false (has_lock ask) _ _ has_none is.enters in
+      record { map = enters.1.1.map; holds = λ locks. absurd (cc) }
 ]
 
-held_admit : {K : Type 0} (old new : State K) (lane session : ℕ) (ask : Ask) (grant : Grant)
-    (wrong : Option ℕ) → wrong_ask old.map.atom (size_of old.map) ask ≡ wrong →
-    MatchOption wrong (MatchBool old.broken ((held grant ≡ refused 5) × (new ≡ old))
-    (IsAdmitted old lane session ask (held grant) new))
-    (λ number. (held grant ≡ refused number) × (new ≡ old)) →
-    IsAdmitted old lane session ask (held grant) new
-held_admit old new lane session ask grant (Some number) why step = absurd (let no = step.0 in cc)
+held_admit : {K : Type 0} (old new : State K) (lane session : ℕ) (ask : Ask)
+    (grant : Grant) (wrong : Option ℕ) → wrong_ask old.map.atom (size_of old.map) ask ≡ wrong
+    → MatchOption wrong (MatchBool old.broken ((held grant ≡ refused 5) × (new ≡ old)) (IsAdmitted
+    old lane session ask (held grant) new)) (λ number. (held grant ≡ refused number) × (new ≡ old))
+    → IsAdmitted old lane session ask (held grant) new
+held_admit old new lane session ask grant (Some number) why step = absurd (cc)
 held_admit old new lane session ask grant None why step = elim (either old.broken) [
   | inl was ↦ absurd (let no = (match_true old.broken _ _ was step).0 in cc)
   | inr whole ↦ match_false old.broken _ _ whole step
@@ -79,9 +61,8 @@ admits_told : {K : Type 0} (old new : State K) (lane session : ℕ) (ask : Ask) 
     IsSound old → open_at old.lanes lane ≡ None →
     Step old (admits lane session ask) (held grant) new → IsTold old new lane ask grant
 unfolding Step
-admits_told old new lane session ask grant sound free step =
-    admit_told old new lane session ask grant sound free
-    (held_admit old new lane session ask grant _ refl step)
+admits_told old new lane session ask grant sound free step = admit_told old
+    new lane session ask grant sound free (held_admit old new lane session ask grant _ refl step)
 
 -- an operation that goes on asks for what it asked for, and has the blocks that it had
 record IsSameAsk (o next : Open) : Type 0 where
@@ -141,9 +122,8 @@ own_map : {K : Type 0} (old new : State K) (plain : ℕ → List ℕ) (event : E
     open_after old.map.atom event outcome alone.operation ≡ Some o → AgreeOn o.range map old.map
 unfolding MeetsAlone Step
 own_map old new plain (admits lane session ask)
-    (held grant) alone map o sound is meets step granted now =
-    told_agrees o.range map grant.map old.map (cc)
-    (admits_told old new lane session ask grant sound (is.operation ∙ meets) step).map
+    (held grant) alone map o sound is meets step granted now = told_agrees o.range map grant.map
+    old.map (cc) (admits_told old new lane session ask grant sound (is.operation ∙ meets) step).map
 own_map old new plain (admits lane session ask) _ alone map o sound is meets step granted now =
     absurd (cc)
 own_map old new plain (asks lane) (held grant) alone map o sound is meets
@@ -169,12 +149,11 @@ own_map old new plain (finishes lane) outcome alone map o sound is meets step gr
     absurd (cc)
 
 -- it holds what it held
-still_holds : {K : Type 0} (old new : State K) (plain : ℕ → List ℕ) (event : Event)
-    (outcome : Outcome) (alone : Alone) (map : Map) (o : Open) (f : Open → Open) →
-    IsLane old plain (lane_of event) alone → new.entries ≡ old.entries →
-    ((q : Open) → IsSameAsk q (f q)) → alone.granted ≡ Some map →
-    (now : Option Open) → alone.operation ≡ now → option_map f now ≡ Some o →
-    has_lock o.ask ≡ true → Holds new (lane_of event)
+still_holds : {K : Type 0} (old new : State K) (plain : ℕ → List ℕ)
+    (event : Event) (outcome : Outcome) (alone : Alone) (map : Map) (o : Open) (f : Open → Open)
+    → IsLane old plain (lane_of event) alone → new.entries ≡ old.entries → ((q : Open)
+    → IsSameAsk q (f q)) → alone.granted ≡ Some map → (now : Option Open) → alone.operation ≡ now
+    → option_map f now ≡ Some o → has_lock o.ask ≡ true → Holds new (lane_of event)
 still_holds old new plain event outcome alone map o f is entries asks_so granted None at now has =
     absurd (cc)
 still_holds old new plain event outcome alone map o f is entries asks_so granted
@@ -184,12 +163,11 @@ still_holds old new plain event outcome alone map o f is entries asks_so granted
     ∙ ap (λ x. has_lock x.ask) (sym e) ∙ has in
     rw entries (is.holds map q granted at locks)
 
-own_holds : {K : Type 0} (old new : State K) (plain : ℕ → List ℕ) (event : Event)
-    (outcome : Outcome) (alone : Alone) (map : Map) (o : Open) → IsSound old →
-    IsLane old plain (lane_of event) alone →
-    MeetsAlone alone event → Step old event outcome new →
-    granted_after event outcome alone.granted ≡ Some map →
-    open_after old.map.atom event outcome alone.operation ≡ Some o →
+own_holds : {K : Type 0} (old new : State K) (plain : ℕ
+    → List ℕ) (event : Event) (outcome : Outcome) (alone : Alone) (map : Map) (o : Open)
+    → IsSound old → IsLane old plain (lane_of event) alone → MeetsAlone alone event
+    → Step old event outcome new → granted_after event outcome alone.granted ≡ Some map
+    → open_after old.map.atom event outcome alone.operation ≡ Some o →
     has_lock o.ask ≡ true → Holds new (lane_of event)
 unfolding MeetsAlone Step
 own_holds old new plain (admits lane session ask)
@@ -203,16 +181,13 @@ own_holds old new plain (asks lane) (held grant) alone map o sound is meets
     ((q, at, tells), same) granted now has = subst (λ s. Holds s lane) (sym same) tells.0
 own_holds old new plain (asks lane) _ alone map o sound is meets step granted now has = absurd (cc)
 own_holds old new plain (reads lane len) outcome alone map o sound is meets step granted now has =
-    still_holds old new plain (reads lane len) outcome alone map o
-    (after_got old.map.atom outcome) is
-    (event_effects old new (reads lane len) outcome step).entries_are
+    still_holds old new plain (reads lane len) outcome alone map o (after_got old.map.atom outcome)
+    is (event_effects old new (reads lane len) outcome step).entries_are
     (got_same old.map.atom outcome) granted alone.operation refl now has
-own_holds old new plain (writes lane bytes) outcome alone map o sound is meets step granted now
-    has =
-    still_holds old new plain (writes lane bytes) outcome alone map o
-    (after_put old.map.atom bytes outcome) is
-    (event_effects old new (writes lane bytes) outcome step).entries_are
-    (put_same old.map.atom bytes outcome) granted alone.operation refl now has
+own_holds old new plain (writes lane bytes) outcome alone map o sound
+    is meets step granted now has = still_holds old new plain (writes lane bytes) outcome alone map
+    o (after_put old.map.atom bytes outcome) is (event_effects old new (writes lane bytes) outcome
+    step).entries_are (put_same old.map.atom bytes outcome) granted alone.operation refl now has
 own_holds old new plain (settles lane) outcome alone map o sound is meets step granted now has =
     settle_holds alone.operation refl now
   where
@@ -229,11 +204,10 @@ own_holds old new plain (finishes lane) outcome alone map o sound is meets step 
     absurd (cc)
 
 -- what its pieces are in plain
-piece_plain : {K : Type 0} (seals : Seals) (old : State K) (plain : ℕ → List ℕ) (lane : ℕ)
-    (alone : Alone) (map : Map) (o : Open) (sealed : List ℕ) → IsSound old →
-    IsLane old plain lane alone → alone.granted ≡ Some map → alone.operation ≡ Some o →
-    o.next < o.range.end → with_plain plain lane
-    (plain lane ++ plain_piece seals old lane sealed) lane
+piece_plain : {K : Type 0} (seals : Seals) (old : State K) (plain : ℕ
+    → List ℕ) (lane : ℕ) (alone : Alone) (map : Map) (o : Open) (sealed : List ℕ) → IsSound old
+    → IsLane old plain lane alone → alone.granted ≡ Some map → alone.operation ≡ Some o → o.next
+    < o.range.end → with_plain plain lane (plain lane ++ plain_piece seals old lane sealed) lane
     ≡ with_piece seals alone sealed alone.granted
 piece_plain seals old plain lane alone map o sealed sound is granted at some =
     let begun = (sound.under_way lane o (is.operation ∙ at)).begun in
@@ -386,10 +360,9 @@ unfolding alone_of answers_of
 answers-joined atom seals alone [] ys = refl
 answers-joined atom seals alone (x ∷ xs) ys =
     let next = alone_after atom seals alone x.event x.outcome in
-    ap (λ rest. answered_alone alone x.event x.outcome ++ rest)
-    (answers-joined atom seals next xs ys)
-    ∙ sym (append_assoc (answered_alone alone x.event x.outcome) (answers_of atom seals next xs)
-    (answers_of atom seals (alone_of atom seals next xs) ys))
+    ap (λ rest. answered_alone alone x.event x.outcome ++ rest) (answers-joined
+    atom seals next xs ys) ∙ sym (append_assoc (answered_alone alone x.event x.outcome)
+    (answers_of atom seals next xs) (answers_of atom seals (alone_of atom seals next xs) ys))
 
 met-parts : (atom : ℕ) (seals : Seals) (alone : Alone) (xs ys : List Call) →
     AreMet atom seals alone (xs ++ ys) →
@@ -397,8 +370,8 @@ met-parts : (atom : ℕ) (seals : Seals) (alone : Alone) (xs ys : List Call) →
 unfolding AreMet alone_of
 met-parts atom seals alone [] ys met = (tt, met)
 met-parts atom seals alone (x ∷ xs) ys met =
-    (let parts = met-parts atom seals
-    (alone_after atom seals alone x.event x.outcome) xs ys met.1 in ((met.0, parts.0), parts.1))
+    let parts = met-parts atom seals
+    (alone_after atom seals alone x.event x.outcome) xs ys met.1 in ((met.0, parts.0), parts.1)
 
 met-joined : (atom : ℕ) (seals : Seals) (alone : Alone) (xs ys : List Call) →
     AreMet atom seals alone xs → AreMet atom seals (alone_of atom seals alone xs) ys →
@@ -407,8 +380,7 @@ unfolding AreMet alone_of
 met-joined atom seals alone [] ys first rest = rest
 met-joined atom seals alone (x ∷ xs) ys first rest = (
   first.0,
-  met-joined atom seals
-      (alone_after atom seals alone x.event x.outcome) xs ys first.1 rest,
+  met-joined atom seals (alone_after atom seals alone x.event x.outcome) xs ys first.1 rest,
 )
 
 met_one : (atom : ℕ) (seals : Seals) (alone : Alone) (one : Call) (rest : List Call) →
@@ -419,8 +391,8 @@ met_one atom seals alone one rest met = met.0
 -- one event among a lane's own calls
 call-own : {K : Type 0} (one : Happening K) →
     call_of (lane_of one.event) one ≡ record { event = one.event; outcome = one.outcome } ∷ []
-call-own one = (let own : nat_eq (lane_of one.event) (lane_of one.event) ≡ true = grind arith in
-    rw own refl)
+call-own one = let own : nat_eq (lane_of one.event) (lane_of one.event) ≡ true = grind arith in
+    rw own refl
 
 not-own : (own lane : ℕ) → own ≢ lane → nat_eq own lane ≡ false
 not-own own lane differ = elim (either (nat_eq own lane)) [
@@ -430,7 +402,7 @@ not-own own lane differ = elim (either (nat_eq own lane)) [
 
 call-other : {K : Type 0} (lane : ℕ) (one : Happening K) → lane_of one.event ≢ lane →
     call_of lane one ≡ []
-call-other lane one differ = (let other = not-own (lane_of one.event) lane differ in rw other refl)
+call-other lane one differ = rw (not-own (lane_of one.event) lane differ) refl
 
 -- each lane after one event
 lane_step : {K : Type 0} (seals : Seals) (old : State K) (plain : ℕ → List ℕ) (one : Happening K)
@@ -441,19 +413,16 @@ lane_step : {K : Type 0} (seals : Seals) (old : State K) (plain : ℕ → List �
 unfolding alone_of
 lane_step seals old plain one alone lane sound are meets step =
     elim (same_or_not (lane_of one.event) lane) [
-      | inl own ↦ subst (λ k. IsLane one.after (plain_after seals old one.event one.outcome plain) k
-          (alone_of old.map.atom seals (alone k) (call_of k one))) own
-          (subst (λ calls. IsLane one.after (plain_after seals old one.event one.outcome plain)
+      | inl own ↦ subst (λ k. IsLane one.after (plain_after seals old one.event one.outcome plain)
+          k (alone_of old.map.atom seals (alone k) (call_of k one)))
+          own (subst (λ calls. IsLane one.after (plain_after seals old one.event one.outcome plain)
           (lane_of one.event) (alone_of old.map.atom seals (alone (lane_of one.event)) calls))
-          (sym (call-own one))
-          (own_step seals old one.after plain one.event one.outcome (alone (lane_of one.event))
-          sound
-          (are (lane_of one.event)) meets step))
-      | inr other ↦ subst (λ calls. IsLane one.after
-          (plain_after seals old one.event one.outcome plain) lane
-          (alone_of old.map.atom seals (alone lane) calls)) (sym (call-other lane one other))
-          (other_step seals old one.after plain one.event one.outcome lane (alone lane)
-          (λ same. other (sym same)) (are lane) step)
+          (sym (call-own one)) (own_step seals old one.after plain one.event
+          one.outcome (alone (lane_of one.event)) sound (are (lane_of one.event)) meets step))
+      | inr other ↦ subst (λ calls. IsLane one.after (plain_after seals
+          old one.event one.outcome plain) lane (alone_of old.map.atom seals (alone lane) calls))
+          (sym (call-other lane one other)) (other_step seals old one.after
+          plain one.event one.outcome lane (alone lane) (λ same. other (sym same)) (are lane) step)
     ]
 
 answers_step : {K : Type 0} (atom : ℕ) (seals : Seals) (old : State K) (plain : ℕ → List ℕ)
@@ -470,7 +439,7 @@ answers_step atom seals old plain one alone lane are = elim (same_or_not (lane_o
       ∙ ap (λ xs. answers one.event one.outcome (alone (lane_of one.event)).operation xs)
       is.plain_is
       ∙ sym (append-nil (answered_alone (alone (lane_of one.event)) one.event one.outcome))))
-  | inr differ ↦ (let other = not-own (lane_of one.event) lane differ in rw other refl)
+  | inr differ ↦ rw (not-own (lane_of one.event) lane differ) refl
 ]
 
 -- a run, from any moment at which each lane is what its calls so far tell
@@ -483,11 +452,10 @@ record Follows {K : Type 0} (atom : ℕ) (seals : Seals) (old : State K) (plain 
       (alone lane) (own_calls lane run)
 
 follows : {K : Type 0} (atom count : ℕ) (seals : Seals) (old : State K) (plain : ℕ → List ℕ)
-    (alone : ℕ → Alone) (run : List (Happening K)) → old.map.atom ≡ atom →
-    length old.lanes ≡ count →
-    IsSound old → ((k : ℕ) → IsLane old plain k (alone k)) → AreSteps old run →
-    AreOfClients count run → ((k : ℕ) → AreMet atom seals (alone k) (own_calls k run)) →
-    Follows atom seals old plain alone run
+    (alone : ℕ → Alone) (run : List (Happening K)) → old.map.atom ≡ atom → length old.lanes ≡ count
+    → IsSound old → ((k : ℕ) → IsLane old plain k (alone k)) → AreSteps old run
+    → AreOfClients count run → ((k : ℕ) → AreMet atom seals (alone k) (own_calls k run))
+    → Follows atom seals old plain alone run
 unfolding IsRun last_of plain_in AreSteps AreOfClients own_calls answered_under alone_of answers_of
 follows atom count seals old plain alone [] same long sound are steps clients met =
     record { is = tt; lanes = are; answers = λ lane. refl }
@@ -502,23 +470,18 @@ follows atom count seals old plain alone (one ∷ rest) same long sound are (ste
     let met_so : Meets old one.event =
     meets_by old plain one.event (alone own) sound (are own) (rw long client) meets in
     let goes = event_effects old one.after one.event one.outcome step in
-    let behind = follows atom count seals one.after
-    (plain_after seals old one.event one.outcome plain)
-    (λ k. alone_of atom seals (alone k) (call_of k one)) rest
-    (ap (λ (m : Map). m.atom) goes.map ∙ same) (goes.lane_is.count ∙ long)
-    (sound_kept old one.after one.event one.outcome sound met_so step)
-    (λ k. subst (λ a. IsLane one.after (plain_after seals old one.event one.outcome plain) k
-    (alone_of a seals (alone k) (call_of k one))) same
-    (lane_step seals old plain one alone k sound are meets step)) steps clients
-    (λ k. (parts k).1) in record {
+    let behind = follows atom count seals one.after (plain_after
+    seals old one.event one.outcome plain) (λ k. alone_of atom seals (alone k) (call_of k one)) rest
+    (ap (λ (m : Map). m.atom) goes.map ∙ same) (goes.lane_is.count ∙ long) (sound_kept old one.after
+    one.event one.outcome sound met_so step) (λ k. subst (λ a. IsLane one.after (plain_after seals
+    old one.event one.outcome plain) k (alone_of a seals (alone k) (call_of k one))) same (lane_step
+    seals old plain one alone k sound are meets step)) steps clients (λ k. (parts k).1) in record {
       is = (met_so, step, behind.is);
-      lanes = λ k. subst (λ a. IsLane (last_of one.after rest)
-          (plain_in seals one.after (plain_after seals old one.event one.outcome plain) rest) k a)
-          (sym (alone-joined atom seals (alone k) (call_of k one) (own_calls k rest)))
-          (behind.lanes k);
-      answers = λ k. ap (λ xs. xs ++ answered_under k seals one.after
-          (plain_after seals old one.event one.outcome plain) rest)
-          (answers_step atom seals old plain one alone k are)
+      lanes = λ k. subst (λ a. IsLane (last_of one.after rest) (plain_in seals one.after
+          (plain_after seals old one.event one.outcome plain) rest) k a) (sym (alone-joined
+          atom seals (alone k) (call_of k one) (own_calls k rest))) (behind.lanes k);
+      answers = λ k. ap (λ xs. xs ++ answered_under k seals one.after (plain_after seals
+          old one.event one.outcome plain) rest) (answers_step atom seals old plain one alone k are)
           ∙ ap (λ xs. answers_of atom seals (alone k) (call_of k one) ++ xs) (behind.answers k)
           ∙ sym (answers-joined atom seals (alone k) (call_of k one) (own_calls k rest));
     }
@@ -562,17 +525,15 @@ sound_after start [] sound is = sound
 sound_after start (one ∷ rest) sound (meets, step, is) = sound_after one.after rest
     (sound_kept start one.after one.event one.outcome sound meets step) is
 
-pub next_meets : {K : Type 0} (start : State K) (seals : Seals) (run : List (Happening K))
-    (event : Event) → IsSound start → IsFresh start → AreSteps start run →
-    AreMetByLanes start seals run →
-    IsClient start (lane_of event) → MeetsAlone (alone_in start seals (lane_of event) run) event →
-    Meets (last_of start run) event
+pub next_meets : {K : Type 0} (start : State K)
+    (seals : Seals) (run : List (Happening K)) (event : Event) → IsSound start → IsFresh start
+    → AreSteps start run → AreMetByLanes start seals run → IsClient start (lane_of event)
+    → MeetsAlone (alone_in start seals (lane_of event) run) event → Meets (last_of start run) event
 next_meets start seals run event sound fresh steps by client meets =
     let alone = are_alone start seals run sound fresh steps by in
-    meets_by (last_of start run) (plain_in seals start no_plain run) event
-    (alone_in start seals (lane_of event) run) (sound_after start run sound alone.is)
-    (alone.lanes (lane_of event))
-    (rw (lanes_stay start run steps) client) meets
+    meets_by (last_of start run) (plain_in seals start no_plain run)
+    event (alone_in start seals (lane_of event) run) (sound_after start run sound alone.is)
+    (alone.lanes (lane_of event)) (rw (lanes_stay start run steps) client) meets
 
 -- one event more
 calls-joined : {K : Type 0} (lane : ℕ) (run : List (Happening K)) (one : Happening K) →
@@ -596,12 +557,10 @@ unfolding AreMet
 more_met start seals run one by client meets = record {
   clients = clients-joined (length start.lanes) run one by.clients client;
   met = λ lane. subst (λ calls. AreMet start.map.atom seals idle_lane calls)
-      (sym (calls-joined lane run one))
-      (met-joined start.map.atom seals idle_lane (own_calls lane run) (call_of lane one)
-      (by.met lane) (elim (same_or_not (lane_of one.event) lane) [
+      (sym (calls-joined lane run one)) (met-joined start.map.atom seals idle_lane (own_calls
+      lane run) (call_of lane one) (by.met lane) (elim (same_or_not (lane_of one.event) lane) [
         | inl own ↦ subst (λ k. AreMet start.map.atom seals (alone_in start seals k run)
-            (call_of k one)) own
-            (subst (λ calls. AreMet start.map.atom seals
+            (call_of k one)) own (subst (λ calls. AreMet start.map.atom seals
             (alone_in start seals (lane_of one.event) run) calls) (sym (call-own one)) (meets, tt))
         | inr other ↦ subst (λ calls. AreMet start.map.atom seals
             (alone_in start seals lane run) calls) (sym (call-other lane one other)) tt

@@ -1,34 +1,16 @@
 -- What each event leaves.
-use Rattle.std.proofs.Common.{◌≡◌, inl, inr, ℕ, ◌+◌, ◌/◌, ◌||◌, Bool, true, false, if◌then◌else◌}
-use Rattle.std.proofs.Common.{List, [], ◌∷◌, ◌++◌, length, Option, Some, None, MatchOption}
-use Rattle.std.proofs.Common.{MatchBool, refl, sym, ◌∙◌, ap, arith}
-use Rattle.std.proofs.Math.Nat.{mul-div_cancel}
-use Rattle.base_terms.specs.Causes.{HasCause}
-use Rattle.block_range.specs.declared.BlockRange.{BlockRange}
-use Rattle.range_lock.specs.declared.Entry.{Entry}
-use Rattle.range_lock.specs.declared.Standing.{Standing}
-use Rattle.range_lock.specs.declared.Standing.TheVariants.{Held}
-use Rattle.range_lock.specs.Locks.{IsStanding, IsStandingOf, without}
-use Rattle.sector_disk.specs.Cells.{Cell}
-use Rattle.sector_disk.specs.Devices.{Device, succeeded, failed_call}
-use Rattle.sector_disk.specs.Steps.{Told, Moves, MovesOrNot}
-use Rattle.segment_map.specs.declared.map.Map.{Map}
-use Rattle.segment_map.specs.declared.map.Piece.{Piece}
-use Rattle.volume_machine.specs.Alone.{passed, opened_as, open_after}
-use Rattle.volume_machine.specs.Asks.{has_lock, entry_of, wrong_ask, range_of}
-use Rattle.volume_machine.specs.Effects.{is_fault, breaks, entered, entries_after, Grows, DiskGoes}
-use Rattle.volume_machine.specs.Effects.{Effects}
-use Rattle.volume_machine.specs.Events.{Event, admits, asks, reads, writes, settles, finishes}
-use Rattle.volume_machine.specs.Events.{lane_of, Outcome, held, waits, refused, got, done, device}
-use Rattle.volume_machine.specs.Events.{broken}
-use Rattle.volume_machine.specs.Pieces.{IsPieceOf, ArePieceBytes, moved, failing, settling}
-use Rattle.volume_machine.specs.States.{State, open_at, size_of, begun}
-use Rattle.volume_machine.specs.Steps.{Step, Goes, IsAdmitted, TellsStanding, ReadStep, WriteStep}
-use Rattle.volume_machine.specs.Steps.{SettleStep, after_settle}
-use Rattle.volume_machine.specs.declared.ask.Ask.{Ask}
-use Rattle.volume_machine.specs.declared.open.Open.{Open}
-use Rattle.volume_machine.proofs.Locking.{either}
-use Rattle.volume_machine.proofs.Soundness.{match_true, match_false}
+use Rattle.volume_machine.proofs.Common
+use Common.{Bool, List, MatchBool, MatchOption, None, Option, Some, [], ap, arith, false}
+use Common.{if◌then◌else◌, inl, inr, length, refl, sym, true, ℕ, ◌++◌, ◌+◌, ◌/◌, ◌||◌, ◌∙◌, ◌∷◌}
+use Common.{◌≡◌, mul-div_cancel, either, HasCause, Cell, MovesOrNot, Told, BlockRange, IsStanding}
+use Common.{IsStandingOf, without, Entry, Standing, Held, Map, Piece, open_after, opened_as, passed}
+use Common.{entry_of, has_lock, range_of, wrong_ask, DiskGoes, Effects, Grows, breaks, entered}
+use Common.{entries_after, is_fault, Event, Outcome, admits, asks, broken, device, done, finishes}
+use Common.{got, held, lane_of, reads, refused, settles, waits, writes, ArePieceBytes, IsPieceOf}
+use Common.{failing, moved, settling, State, begun, open_at, size_of, Goes, IsAdmitted, ReadStep}
+use Common.{SettleStep, TellsStanding, WriteStep, after_settle, Ask, Open, Step}
+use Rattle.sector_disk.specs.{Devices.Device, Devices.failed_call, Devices.succeeded, Steps.Moves}
+use Rattle.volume_machine.proofs.Soundness.{match_false, match_true}
 
 -- what the disk tells after a call
 grows_same : (old new : Option Told) → new ≡ old → Grows old new
@@ -80,9 +62,8 @@ call_fails S old new size atoms cause told = record {
 pub passed-moved : (map : Map) (o : Open) (piece : Piece) (bytes : List ℕ) → IsPieceOf map o piece →
     ArePieceBytes map piece bytes → passed map.atom bytes o ≡ moved o piece
 passed-moved map o piece bytes next are =
-    let some = map.some_atom in
     let count : length bytes / map.atom ≡ piece.count = ap (λ n. n / map.atom) are.size
-    ∙ mul-div_cancel piece.count some in
+    ∙ mul-div_cancel piece.count map.some_atom in
     let at : ℕ → Open = λ n. record o { next = n } in
     ap at (ap (λ n. o.next + n) count ∙ ap (λ n. n + piece.count) (sym next.first))
 
@@ -125,8 +106,7 @@ module _ {K : Type 0} (old new : State K) where
     entries_are = goes.entries_are ∙ entries_so;
     lane_is = record {
       count = goes.lane_is.count;
-      own = goes.lane_is.own
-          ∙ now_so;
+      own = goes.lane_is.own ∙ now_so;
       others = goes.lane_is.others;
     };
     broken_is = goes.broken_is ∙ broken_so;
@@ -159,31 +139,28 @@ module _ {K : Type 0} (old new : State K) where
         let enters = match_true (has_lock ask) _ _ has is.enters in
         let it = taken lane session ask (range_of old.map.atom ask)
         (IsStanding old.entries (entry_of old.map.atom lane ask)) outcome enters.1 in
-        goes_effects (admits lane session ask) outcome new.entries
-        (Some (begun old.map.atom session ask)) old.broken is.goes
-        (enters.0 ∙ sym (it.entries ∙ rw has refl)) (sym (it.now _)) (or_false old.broken)
-        (rests_go (is_fault outcome) old.disk new.disk it.fine is.rests)
+        goes_effects (admits lane session ask) outcome new.entries (Some (begun old.map.atom session
+        ask)) old.broken is.goes (enters.0 ∙ sym (it.entries ∙ rw has refl)) (sym (it.now _))
+        (or_false old.broken) (rests_go (is_fault outcome) old.disk new.disk it.fine is.rests)
     | inr has_none ↦
         let enters = match_false (has_lock ask) _ _ has_none is.enters in
         let it = taken lane session ask (range_of old.map.atom ask)
         (λ standing. standing ≡ Held) outcome enters.1 in
-        goes_effects (admits lane session ask) outcome new.entries
-        (Some (begun old.map.atom session ask)) old.broken is.goes
-        (enters.0 ∙ sym (it.entries ∙ rw has_none refl)) (sym (it.now _)) (or_false old.broken)
-        (rests_go (is_fault outcome) old.disk new.disk it.fine is.rests)
+        goes_effects (admits lane session ask) outcome new.entries (Some (begun old.map.atom session
+        ask)) old.broken is.goes (enters.0 ∙ sym (it.entries ∙ rw has_none refl)) (sym (it.now _))
+        (or_false old.broken) (rests_go (is_fault outcome) old.disk new.disk it.fine is.rests)
   ]
 
-  admit_effects : (lane session : ℕ) (ask : Ask) (outcome : Outcome) (wrong : Option ℕ) →
-      wrong_ask old.map.atom (size_of old.map) ask ≡ wrong →
-      MatchOption wrong (MatchBool old.broken ((outcome ≡ refused 5) × (new ≡ old))
-      (IsAdmitted old lane session ask outcome new))
-      (λ number. (outcome ≡ refused number) × (new ≡ old)) →
-      Effects (admits lane session ask) outcome old new
+  admit_effects : (lane session : ℕ) (ask : Ask) (outcome : Outcome) (wrong : Option ℕ)
+      → wrong_ask old.map.atom (size_of old.map) ask ≡ wrong
+      → MatchOption wrong (MatchBool old.broken ((outcome ≡ refused 5) × (new ≡ old)) (IsAdmitted
+      old lane session ask outcome new)) (λ number. (outcome ≡ refused number) × (new ≡ old))
+      → Effects (admits lane session ask) outcome old new
   admit_effects lane session ask outcome (Some number) why (is, same) =
       rw is (same_effects (admits lane session ask) (refused number) same refl refl refl refl)
   admit_effects lane session ask outcome None why step = elim (either old.broken) [
-    | inl was ↦ (let (is, same) = match_true old.broken _ _ was step in
-        rw is (same_effects (admits lane session ask) (refused 5) same refl refl refl refl))
+    | inl was ↦ let (is, same) = match_true old.broken _ _ was step in
+        rw is (same_effects (admits lane session ask) (refused 5) same refl refl refl refl)
     | inr whole ↦ admitted_effects lane session ask outcome (match_false old.broken _ _ whole step)
   ]
 
@@ -204,18 +181,15 @@ module _ {K : Type 0} (old new : State K) where
 
   read_effects : (lane len : ℕ) (o : Open) (outcome : Outcome) → open_at old.lanes lane ≡ Some o →
       ReadStep old lane o outcome new → Effects (reads lane len) outcome old new
-  read_effects lane len o (got bytes) at step =
-      goes_effects (reads lane len) (got bytes) old.entries
-      (Some (moved o step.piece)) false step.goes refl
-      (ap (λ x. Some x) (sym (passed-moved old.map o step.piece bytes step.next step.are))
-      ∙ on_open _ o (open_after old.map.atom (reads lane len) (got bytes)) at)
-      (sym step.was ∙ or_false old.broken)
-      (let it = step.call in call_goes _ old.disk new.disk it.size it.atoms it.cause it.told)
-  read_effects lane len o device at step =
-      goes_effects (reads lane len) device old.entries (Some (failing o)) false step.goes refl
-      (on_open _ o (open_after old.map.atom (reads lane len) device) at)
-      (sym step.was ∙ or_false old.broken)
-      (let it = step.call in call_fails _ old.disk new.disk it.size it.atoms it.cause it.told)
+  read_effects lane len o (got bytes) at step = goes_effects (reads lane len)
+      (got bytes) old.entries (Some (moved o step.piece)) false step.goes refl (ap (λ x. Some x)
+      (sym (passed-moved old.map o step.piece bytes step.next step.are)) ∙ on_open _ o (open_after
+      old.map.atom (reads lane len) (got bytes)) at) (sym step.was ∙ or_false old.broken) (let it =
+      step.call in call_goes _ old.disk new.disk it.size it.atoms it.cause it.told)
+  read_effects lane len o device at step = goes_effects (reads lane len)
+      device old.entries (Some (failing o)) false step.goes refl (on_open _ o (open_after
+      old.map.atom (reads lane len) device) at) (sym step.was ∙ or_false old.broken) (let it =
+      step.call in call_fails _ old.disk new.disk it.size it.atoms it.cause it.told)
   read_effects lane len o broken at step =
       goes_effects (reads lane len) broken old.entries (Some (failing o)) true step.goes refl
       (on_open _ o (open_after old.map.atom (reads lane len) broken) at)
@@ -225,17 +199,14 @@ module _ {K : Type 0} (old new : State K) where
   write_effects : (lane : ℕ) (o : Open) (bytes : List ℕ) (outcome : Outcome) →
       open_at old.lanes lane ≡ Some o → WriteStep old lane o bytes outcome new →
       Effects (writes lane bytes) outcome old new
-  write_effects lane o bytes done at step =
-      goes_effects (writes lane bytes) done old.entries
-      (Some (moved o step.piece)) false step.goes refl
-      (ap (λ x. Some x) (sym (passed-moved old.map o step.piece bytes step.next step.are))
-      ∙ on_open _ o (open_after old.map.atom (writes lane bytes) done) at)
-      (sym step.was ∙ or_false old.broken)
-      (let it = step.call in call_goes _ old.disk new.disk it.size it.atoms it.cause it.told)
+  write_effects lane o bytes done at step = goes_effects (writes lane bytes)
+      done old.entries (Some (moved o step.piece)) false step.goes refl (ap (λ x. Some x)
+      (sym (passed-moved old.map o step.piece bytes step.next step.are)) ∙ on_open _ o (open_after
+      old.map.atom (writes lane bytes) done) at) (sym step.was ∙ or_false old.broken) (let it =
+      step.call in call_goes _ old.disk new.disk it.size it.atoms it.cause it.told)
   write_effects lane o bytes device at step =
       goes_effects (writes lane bytes) device old.entries (Some (failing o)) true step.goes refl
-      (on_open _ o (open_after old.map.atom (writes lane bytes) device) at)
-      (or_true old.broken)
+      (on_open _ o (open_after old.map.atom (writes lane bytes) device) at) (or_true old.broken)
       (let it = step.call in call_fails _ old.disk new.disk it.size it.atoms it.cause it.told)
   write_effects lane o bytes broken at step =
       goes_effects (writes lane bytes) broken old.entries (Some (failing o)) true step.goes refl
@@ -245,23 +216,18 @@ module _ {K : Type 0} (old new : State K) where
 
   settle_effects : (lane : ℕ) (o : Open) (outcome : Outcome) → open_at old.lanes lane ≡ Some o →
       SettleStep old lane o outcome new → Effects (settles lane) outcome old new
-  settle_effects lane o done at step =
-      goes_effects (settles lane) done old.entries
-      (after_settle o (settling o)) false step.goes refl
-      (on_open _ o (open_after old.map.atom (settles lane) done) at)
-      (sym step.was ∙ or_false old.broken)
-      (let it = step.call in call_goes _ old.disk new.disk it.size it.atoms it.cause it.told)
-  settle_effects lane o device at step =
-      goes_effects (settles lane) device old.entries
-      (after_settle o (failing o)) true step.goes refl
-      (on_open _ o (open_after old.map.atom (settles lane) device) at)
-      (or_true old.broken)
-      (let it = step.call in call_fails _ old.disk new.disk it.size it.atoms it.cause it.told)
+  settle_effects lane o done at step = goes_effects (settles lane)
+      done old.entries (after_settle o (settling o)) false step.goes refl (on_open _ o (open_after
+      old.map.atom (settles lane) done) at) (sym step.was ∙ or_false old.broken) (let it =
+      step.call in call_goes _ old.disk new.disk it.size it.atoms it.cause it.told)
+  settle_effects lane o device at step = goes_effects
+      (settles lane) device old.entries (after_settle o (failing o)) true step.goes refl (on_open
+      _ o (open_after old.map.atom (settles lane) device) at) (or_true old.broken) (let it =
+      step.call in call_fails _ old.disk new.disk it.size it.atoms it.cause it.told)
   settle_effects lane o broken at step =
-      goes_effects (settles lane) broken old.entries
-      (after_settle o (failing o)) true step.goes refl
-      (on_open _ o (open_after old.map.atom (settles lane) broken) at)
-      (sym step.was ∙ or_false old.broken) (rests_go false old.disk new.disk refl step.rests)
+      goes_effects (settles lane) broken old.entries (after_settle o (failing o)) true
+      step.goes refl (on_open _ o (open_after old.map.atom (settles lane) broken) at) (sym step.was
+      ∙ or_false old.broken) (rests_go false old.disk new.disk refl step.rests)
   settle_effects lane o _ at step = absurd step
 
   pub event_effects : (event : Event) (outcome : Outcome) → Step old event outcome new →
@@ -274,7 +240,6 @@ module _ {K : Type 0} (old new : State K) where
   event_effects (writes lane bytes) outcome (o, at, step) =
       write_effects lane o bytes outcome at step
   event_effects (settles lane) outcome (o, at, step) = settle_effects lane o outcome at step
-  event_effects (finishes lane) outcome step =
-      rw step.outcome_is (goes_effects (finishes lane) done
-      (without lane old.entries) None old.broken step.goes refl refl (or_false old.broken)
-      (rests_go false old.disk new.disk refl step.rests))
+  event_effects (finishes lane) outcome step = rw step.outcome_is
+      (goes_effects (finishes lane) done (without lane old.entries) None old.broken
+      step.goes refl refl (or_false old.broken) (rests_go false old.disk new.disk refl step.rests))

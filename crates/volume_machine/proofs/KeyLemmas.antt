@@ -1,16 +1,11 @@
 -- What the bytes of a piece are to the key of its side.
-use Rattle.std.proofs.Common.{◌≡◌, ℕ, ◌*◌, ◌/◌, ◌%◌, ◌≤◌, ◌∙◌, sym, arith}
-use Rattle.std.proofs.lemmas.Nat.{mul-mod_second}
-use Rattle.std.proofs.Math.Nat.{mul-mod_left, mul-le-mul_right}
-use Rattle.segment_map.specs.declared.Side.{Side}
-use Rattle.segment_map.specs.declared.Side.TheVariants.{Old, New, Zone}
-use Rattle.volume_machine.specs.Seals.{KeysFit, key_of}
-use Rattle.volume_machine.specs.declared.keys.Keys.{Keys}
+use Rattle.volume_machine.proofs.Common.{arith, mul-le-mul_right, sym, ℕ, ◌%◌, ◌*◌, ◌/◌, ◌∙◌, ◌≡◌}
+use Rattle.volume_machine.proofs.Common.{◌≤◌, mul-mod_left, mul-mod_second, Side, New, Old, Zone}
+use Rattle.volume_machine.proofs.Common.{KeysFit, key_of, Keys}
 
 -- blocks are whole sectors where a block is
 pub whole-blocks : (count atom sector : ℕ) → atom % sector ≡ 0 → (count * atom) % sector ≡ 0
-whole-blocks count atom sector whole =
-    sym (mul-mod_second count atom sector)
+whole-blocks count atom sector whole = sym (mul-mod_second count atom sector)
     ∙ rw whole (let none : count * 0 ≡ 0 * sector = omega arith in rw none (mul-mod_left 0 sector))
 
 pub side-whole : {C : Type 0} (sector : C → ℕ) (keys : Keys C) (atom blocks len count : ℕ)
@@ -28,11 +23,9 @@ pub fewer-blocks : {C : Type 0} (sector : C → ℕ) (keys : Keys C) (atom block
     → KeysFit sector keys atom blocks → KeysFit sector keys atom n
 fewer-blocks sector keys atom blocks n few fit =
     let less : n * (atom / 512) ≤ blocks * (atom / 512) = mul-le-mul_right (atom / 512) few in
-    let old = fit.old_numbers in
-    let new = fit.new_numbers in
     record {
       old_sector = fit.old_sector;
       new_sector = fit.new_sector;
-      old_numbers = omega (arith, less, old);
-      new_numbers = omega (arith, less, new);
+      old_numbers = omega arith;
+      new_numbers = omega arith;
     }

@@ -1,3 +1,4 @@
+pub mod Common
 pub mod EventEffects
 pub mod KeyLemmas
 pub mod Locking

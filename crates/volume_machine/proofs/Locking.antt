@@ -1,24 +1,10 @@
 -- Lemmas on the table of locks: who has an entry, who holds, and that holders don't conflict.
-use Rattle.std.proofs.Common.{◌≡◌, ◌≢◌, inl, inr, ◌⊎◌, ℕ, suc, ◌+◌, Bool, true, false, not, List}
-use Rattle.std.proofs.Common.{[], ◌∷◌, ◌++◌, length, All, Option, Some, None, find, nat_eq, refl}
-use Rattle.std.proofs.Common.{sym, ◌∙◌, ap, subst, arith, MatchOption}
-use Rattle.std.specs.List.{before_first, after_first, prefix_len}
-use Rattle.std.proofs.lemmas.List.Elements.{All-nil, All-cons, All-head, All-tail}
-use Rattle.range_lock.specs.declared.Entry.{Entry}
-use Rattle.range_lock.specs.declared.Standing.TheVariants.{Held}
-use Rattle.range_lock.specs.Locks.{Conflicts, IsStanding, IsStandingOf, is_of, without}
-
--- a test is one or the other
-pub either : (b : Bool) → (b ≡ true) ⊎ (b ≡ false)
-either true = inl refl
-either false = inr refl
-
--- two numbers are the same or not
-pub same_or_not : (m n : ℕ) → (m ≡ n) ⊎ (m ≢ n)
-same_or_not m n = elim (either (nat_eq m n)) [
-  | inl same ↦ inl (grind (arith, same))
-  | inr other ↦ inr (λ same. grind (arith, same, other))
-]
+use Rattle.volume_machine.proofs.Common
+use Common.{after_first, before_first, prefix_len, All, Bool, List, MatchOption, None, Option, Some}
+use Common.{[], ap, arith, false, find, inl, inr, length, not, refl, subst, suc, sym, true, ℕ, ◌++◌}
+use Common.{◌+◌, ◌∙◌, ◌∷◌, ◌≡◌, ◌≢◌, ◌⊎◌, All-cons, All-head, All-nil, All-tail, Conflicts}
+use Common.{IsStanding, IsStandingOf, is_of, without, Entry, Held}
+pub use Common.{either, same_or_not}
 
 pub is_of-own : (lane : ℕ) (e : Entry) → e.lane ≡ lane → is_of lane e ≡ true
 is_of-own lane e is = grind (arith, is)
@@ -66,10 +52,7 @@ find-there p x xs is = rw is refl
 pub conflicts-back : (e f : Entry) → Conflicts e f → Conflicts f e
 conflicts-back e f ((k, both), kinds) = (
   (k, (both.1, both.0)),
-  elim kinds [
-    | inl first ↦ inr first
-    | inr second ↦ inl second
-  ],
+  elim kinds [ inl first ↦ inr first | inr second ↦ inl second ],
 )
 
 -- a table with one more entry behind all others
@@ -97,10 +80,8 @@ pub before-more : (p : Entry → Bool) (xs : List Entry) (e first : Entry) → f
 before-more p [] e first found = absurd (cc)
 before-more p (x ∷ xs) e first found = elim (either (p x)) [
   | inl is ↦ before-here p x (xs ++ e ∷ []) is ∙ sym (before-here p x xs is)
-  | inr is ↦
-      before-there p x (xs ++ e ∷ []) is
-      ∙ ap (λ ys. x ∷ ys) (before-more p xs e first (sym (find-there p x xs is) ∙ found))
-      ∙ sym (before-there p x xs is)
+  | inr is ↦ before-there p x (xs ++ e ∷ []) is ∙ ap (λ ys. x ∷ ys)
+      (before-more p xs e first (sym (find-there p x xs is) ∙ found)) ∙ sym (before-there p x xs is)
 ]
 
 pub before-last : (p : Entry → Bool) (xs : List Entry) (e : Entry) → find p xs ≡ None → p e ≡ true
@@ -108,8 +89,7 @@ pub before-last : (p : Entry → Bool) (xs : List Entry) (e : Entry) → find p 
 before-last p [] e none own = before-here p e [] own
 before-last p (x ∷ xs) e none own = elim (either (p x)) [
   | inl is ↦ absurd (let found = find-here p x xs is in cc)
-  | inr is ↦
-      before-there p x (xs ++ e ∷ []) is
+  | inr is ↦ before-there p x (xs ++ e ∷ []) is
       ∙ ap (λ ys. x ∷ ys) (before-last p xs e (sym (find-there p x xs is) ∙ none) own)
 ]
 
@@ -119,8 +99,7 @@ pub after-none : (p : Entry → Bool) (xs : List Entry) → find p xs ≡ None
 after-none p [] none = refl
 after-none p (x ∷ xs) none = elim (either (p x)) [
   | inl is ↦ absurd (let found = find-here p x xs is in cc)
-  | inr is ↦
-      ap (λ ys. find p ys) (after-there p x xs is)
+  | inr is ↦ ap (λ ys. find p ys) (after-there p x xs is)
       ∙ after-none p xs (sym (find-there p x xs is) ∙ none)
 ]
 
@@ -129,8 +108,7 @@ pub after-last : (p : Entry → Bool) (xs : List Entry) (e : Entry) → find p x
 after-last p [] e none own = ap (λ ys. find p ys) (after-here p e [] own)
 after-last p (x ∷ xs) e none own = elim (either (p x)) [
   | inl is ↦ absurd (let found = find-here p x xs is in cc)
-  | inr is ↦
-      ap (λ ys. find p ys) (after-there p x (xs ++ e ∷ []) is)
+  | inr is ↦ ap (λ ys. find p ys) (after-there p x (xs ++ e ∷ []) is)
       ∙ after-last p xs e (sym (find-there p x xs is) ∙ none) own
 ]
 
@@ -138,9 +116,8 @@ pub after-more : (p : Entry → Bool) (xs : List Entry) (e : Entry) → p e ≡ 
     → find p (after_first p xs) ≡ None → find p (after_first p (xs ++ e ∷ [])) ≡ None
 after-more p [] e other none = ap (λ ys. find p ys) (after-there p e [] other)
 after-more p (x ∷ xs) e other none = elim (either (p x)) [
-  | inl is ↦
-      ap (λ ys. find p ys) (after-here p x (xs ++ e ∷ []) is) ∙ find-more p xs e other
-      ∙ sym (ap (λ ys. find p ys) (after-here p x xs is)) ∙ none
+  | inl is ↦ ap (λ ys. find p ys) (after-here p x (xs ++ e ∷ []) is)
+      ∙ find-more p xs e other ∙ sym (ap (λ ys. find p ys) (after-here p x xs is)) ∙ none
   | inr is ↦ ap (λ ys. find p ys) (after-there p x (xs ++ e ∷ []) is)
       ∙ after-more p xs e other (sym (ap (λ ys. find p ys) (after-there p x xs is)) ∙ none)
 ]
@@ -165,33 +142,26 @@ pub find-without : (lane other : ℕ) (xs : List Entry) → lane ≢ other
     → find (is_of other) (without lane xs) ≡ find (is_of other) xs
 find-without lane other [] differ = refl
 find-without lane other (x ∷ xs) differ = elim (either (is_of lane x)) [
-  | inl is ↦
-      ap (λ ys. find (is_of other) ys) (without-here lane x xs is)
+  | inl is ↦ ap (λ ys. find (is_of other) ys) (without-here lane x xs is)
       ∙ sym (find-there (is_of other) x xs (apart lane other x differ is))
-  | inr is ↦
-      ap (λ ys. find (is_of other) ys) (without-there lane x xs is)
+  | inr is ↦ ap (λ ys. find (is_of other) ys) (without-there lane x xs is)
       ∙ elim (either (is_of other x)) [
         | inl own ↦
             find-here (is_of other) x (without lane xs) own ∙ sym (find-here (is_of other) x xs own)
-        | inr not_own ↦
-            find-there (is_of other) x (without lane xs) not_own ∙ find-without lane other xs differ
-            ∙ sym (find-there (is_of other) x xs not_own)
+        | inr not_own ↦ find-there (is_of other) x (without lane xs) not_own
+            ∙ find-without lane other xs differ ∙ sym (find-there (is_of other) x xs not_own)
       ]
 ]
 
-pub find-left : (lane : ℕ) (xs : List Entry)
-    → find (is_of lane) (after_first (is_of lane) xs) ≡ None
-    → find (is_of lane) (without lane xs) ≡ None
+pub find-left : (lane : ℕ) (xs : List Entry) → find (is_of lane) (after_first (is_of lane) xs)
+    ≡ None → find (is_of lane) (without lane xs) ≡ None
 find-left lane [] once = refl
 find-left lane (x ∷ xs) once = elim (either (is_of lane x)) [
-  | inl is ↦
-      ap (λ ys. find (is_of lane) ys) (without-here lane x xs is)
+  | inl is ↦ ap (λ ys. find (is_of lane) ys) (without-here lane x xs is)
       ∙ sym (ap (λ ys. find (is_of lane) ys) (after-here (is_of lane) x xs is)) ∙ once
-  | inr is ↦
-      ap (λ ys. find (is_of lane) ys) (without-there lane x xs is)
-      ∙ find-there (is_of lane) x (without lane xs) is
-      ∙ find-left lane xs
-      (sym (ap (λ ys. find (is_of lane) ys) (after-there (is_of lane) x xs is)) ∙ once)
+  | inr is ↦ ap (λ ys. find (is_of lane) ys) (without-there lane x xs is)
+      ∙ find-there (is_of lane) x (without lane xs) is ∙ find-left
+      lane xs (sym (ap (λ ys. find (is_of lane) ys) (after-there (is_of lane) x xs is)) ∙ once)
 ]
 
 pub after-without : (lane other : ℕ) (xs : List Entry) → lane ≢ other
@@ -203,14 +173,11 @@ after-without lane other (x ∷ xs) differ once =
     λ ys. find (is_of other) (after_first (is_of other) ys) in
     let there : List Entry → Option Entry = λ ys. find (is_of other) ys in
     elim (either (is_of lane x)) [
-      | inl is ↦
-          ap here (without-here lane x xs is)
+      | inl is ↦ ap here (without-here lane x xs is)
           ∙ sym (ap there (after-there (is_of other) x xs (apart lane other x differ is))) ∙ once
       | inr is ↦ ap here (without-there lane x xs is) ∙ elim (either (is_of other x)) [
-        | inl own ↦
-            ap there (after-here (is_of other) x (without lane xs) own)
-            ∙ find-without lane other xs differ
-            ∙ sym (ap there (after-here (is_of other) x xs own)) ∙ once
+        | inl own ↦ ap there (after-here (is_of other) x (without lane xs) own) ∙ find-without
+            lane other xs differ ∙ sym (ap there (after-here (is_of other) x xs own)) ∙ once
         | inr not_own ↦ ap there (after-there (is_of other) x (without lane xs) not_own)
             ∙ after-without lane other xs differ
             (sym (ap there (after-there (is_of other) x xs not_own)) ∙ once)
@@ -222,9 +189,8 @@ pub length-without : (lane : ℕ) (xs : List Entry) (e : Entry) → find (is_of 
 length-without lane [] e found = absurd (cc)
 length-without lane (x ∷ xs) e found = elim (either (is_of lane x)) [
   | inl is ↦ ap (λ ys. suc (length ys)) (sym (without-here lane x xs is))
-  | inr is ↦
-      ap (λ n. suc n) (length-without lane xs e (sym (find-there (is_of lane) x xs is) ∙ found))
-      ∙ ap (λ ys. suc (length ys)) (sym (without-there lane x xs is))
+  | inr is ↦ ap (λ n. suc n) (length-without lane xs e (sym (find-there (is_of lane) x xs is)
+      ∙ found)) ∙ ap (λ ys. suc (length ys)) (sym (without-there lane x xs is))
 ]
 
 -- a lane holds its range where no entry before its own conflicts
@@ -260,27 +226,23 @@ holds-more lane entries e other stands =
     })
 
 before-without : (P : Entry → Type 0) (lane other : ℕ) (xs : List Entry) → lane ≢ other
-    → All P (before_first (is_of other) xs) →
-    All P (before_first (is_of other) (without lane xs))
+    → All P (before_first (is_of other) xs) → All P (before_first (is_of other) (without lane xs))
 before-without P lane other [] differ all = all
 before-without P lane other (x ∷ xs) differ all = elim (either (is_of lane x)) [
   | inl is ↦ subst (λ ys. All P (before_first (is_of other) ys)) (sym (without-here lane x xs is))
       (All-tail P x (before_first (is_of other) xs)
       (subst (λ ys. All P ys) (before-there (is_of other) x xs (apart lane other x differ is)) all))
-  | inr is ↦
-      subst (λ ys. All P (before_first (is_of other) ys)) (sym (without-there lane x xs is))
-      (elim (either (is_of other x)) [
-        | inl own ↦
-            subst (λ ys. All P ys) (sym (before-here (is_of other) x (without lane xs) own))
-            (All-nil P)
+  | inr is ↦ subst (λ ys. All P (before_first (is_of other) ys))
+      (sym (without-there lane x xs is)) (elim (either (is_of other x)) [
+        | inl own ↦ subst (λ ys. All P ys)
+            (sym (before-here (is_of other) x (without lane xs) own)) (All-nil P)
         | inr not_own ↦
             let parts : All P (x ∷ before_first (is_of other) xs) =
             subst (λ ys. All P ys) (before-there (is_of other) x xs not_own) all in
             subst (λ ys. All P ys) (sym (before-there (is_of other) x (without lane xs) not_own))
             (All-cons P x (before_first (is_of other) (without lane xs))
-            (All-head P x (before_first (is_of other) xs) parts)
-            (before-without P lane other xs differ
-            (All-tail P x (before_first (is_of other) xs) parts)))
+            (All-head P x (before_first (is_of other) xs) parts) (before-without
+            P lane other xs differ (All-tail P x (before_first (is_of other) xs) parts)))
       ])
 ]
 
@@ -315,12 +277,10 @@ apart_by one other e f (x ∷ xs) differ is_e is_f free_e free_f both =
             let first : Conflicts x e → ⊥ = All-head (P e) x (before_first (is_of one) xs)
             (subst (λ ys. All (P e) ys) (before-there (is_of one) x xs not_own) free_e) in
             first (subst (λ y. Conflicts y e) same (conflicts-back e f both))
-        | inr not_others ↦
-            apart_by one other e f xs differ (sym (find-there (is_of one) x xs not_own) ∙ is_e)
-            (sym (find-there (is_of other) x xs not_others) ∙ is_f)
-            (All-tail (P e) x (before_first (is_of one) xs)
-            (subst (λ ys. All (P e) ys) (before-there (is_of one) x xs not_own) free_e))
-            (All-tail (P f) x (before_first (is_of other) xs)
+        | inr not_others ↦ apart_by one other e f xs differ (sym (find-there (is_of one)
+            x xs not_own) ∙ is_e) (sym (find-there (is_of other) x xs not_others) ∙ is_f) (All-tail
+            (P e) x (before_first (is_of one) xs) (subst (λ ys. All (P e) ys) (before-there
+            (is_of one) x xs not_own) free_e)) (All-tail (P f) x (before_first (is_of other) xs)
             (subst (λ ys. All (P f) ys) (before-there (is_of other) x xs not_others) free_f)) both
       ]
     ]
@@ -332,9 +292,7 @@ holders-apart one other e f entries differ is_e is_f one_holds other_holds both 
     let by_one = holds-by one entries one_holds in
     let by_other = holds-by other entries other_holds in
     let same_e : by_one.entry ≡ e = (let found = by_one.is in cc) in
-    let same_f : by_other.entry ≡ f = (let found = by_other.is in cc) in
-    apart_by one other e f entries differ is_e is_f
-    (subst (λ y. All (λ x. Conflicts x y → ⊥) (before_first (is_of one) entries)) same_e
-    by_one.free)
-    (subst (λ y. All (λ x. Conflicts x y → ⊥) (before_first (is_of other) entries)) same_f
-    by_other.free) both
+    let same_f : by_other.entry ≡ f = (cc) in
+    apart_by one other e f entries differ is_e is_f (subst (λ y. All (λ x. Conflicts x y
+    → ⊥) (before_first (is_of one) entries)) same_e by_one.free) (subst (λ y.
+    All (λ x. Conflicts x y → ⊥) (before_first (is_of other) entries)) same_f by_other.free) both

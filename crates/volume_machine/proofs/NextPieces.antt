@@ -1,23 +1,14 @@
 -- The next piece of an operation: there is only one, and it lies on the disk.
-use Rattle.std.proofs.Common.{◌≡◌, inl, inr, ℕ, suc, ◌+◌, ◌*◌, ◌<◌, ◌≤◌, Some, refl, sym, ◌∙◌, ap}
-use Rattle.std.proofs.Common.{subst, arith}
-use Rattle.std.proofs.Math.Nat.{mul-le-mul_right}
-use Rattle.std.proofs.lemmas.Bool.{cases_lt}
-use Rattle.block_range.specs.declared.BlockRange.{BlockRange}
-use Rattle.segment_map.specs.declared.Side.{Side}
-use Rattle.segment_map.specs.declared.Side.TheVariants.{Old, New, Zone}
-use Rattle.segment_map.specs.declared.map.Map.{Map}
-use Rattle.segment_map.specs.declared.map.Piece.{Piece}
-use Rattle.segment_map.specs.Maps.{IsNextPiece, side_at, place_on, place_at, most_bytes}
-use Rattle.volume_machine.specs.Pieces.{AgreeOn, IsPieceOf, place_of}
-use Rattle.volume_machine.specs.Sound.{MapFits}
-use Rattle.volume_machine.specs.declared.open.Open.{Open}
+use Rattle.volume_machine.proofs.Common
+use Common.{Some, ap, arith, inl, inr, mul-le-mul_right, refl, subst, suc, sym, ℕ, ◌*◌, ◌+◌, ◌<◌}
+use Common.{◌∙◌, ◌≡◌, ◌≤◌, cases_lt, BlockRange, IsNextPiece, most_bytes, place_at, place_on}
+use Common.{side_at, Side, New, Old, Zone, Map, Piece, AgreeOn, IsPieceOf, place_of, MapFits, Open}
 
 first_side : (m : Map) (range : BlockRange) (piece : Piece) → IsNextPiece m range piece
     → side_at m range.start ≡ Some piece.side
 first_side m range piece is =
-    (let here = is.one_side 0 is.some in let e : range.start + 0 ≡ range.start =
-    omega arith in rw e at here)
+    let here = is.one_side 0 is.some in let e : range.start + 0 ≡ range.start =
+    omega arith in rw e at here
 
 side_of : (one other : Side) → Some one ≡ Some other → one ≡ other
 side_of one other is = cc
@@ -30,14 +21,13 @@ same_side m range p q is_p is_q =
 no_longer : (m : Map) (range : BlockRange) (p q : Piece) → IsNextPiece m range p
     → IsNextPiece m range q → p.count < q.count → ⊥
 no_longer m range p q is_p is_q less = elim is_p.longest [
-  | inl ends ↦ (let within = is_q.within in omega (arith, ends, within, less))
+  | inl ends ↦ omega arith
   | inr goes_on ↦ elim goes_on [
     | inl full ↦
-        (let more : suc p.count * m.atom ≤ q.count * m.atom =
-        mul-le-mul_right m.atom (omega (arith, less)) in
-        let limit = is_q.limit in omega (arith, full, more, limit))
-    | inr turns ↦
-        turns (is_q.one_side p.count less
+        let more : suc p.count * m.atom ≤ q.count * m.atom =
+        mul-le-mul_right m.atom (omega arith) in
+        omega arith
+    | inr turns ↦ turns (is_q.one_side p.count less
         ∙ ap (λ (s : Side). Some s) (sym (same_side m range p q is_p is_q)))
   ]
 ]
@@ -48,7 +38,7 @@ same_count m range p q is_p is_q = elim (cases_lt p.count q.count) [
   | inl less ↦ absurd (no_longer m range p q is_p is_q less)
   | inr most ↦ elim (cases_lt q.count p.count) [
     | inl less ↦ absurd (no_longer m range q p is_q is_p less)
-    | inr least ↦ omega (arith, most, least)
+    | inr least ↦ omega arith
   ]
 ]
 
@@ -61,14 +51,13 @@ piece_by p q first count side =
 -- there is one next piece
 pub next_is_one : (m : Map) (range : BlockRange) (p q : Piece) → IsNextPiece m range p
     → IsNextPiece m range q → p ≡ q
-next_is_one m range p q is_p is_q =
-    piece_by p q (is_p.first ∙ sym is_q.first) (same_count m range p q is_p is_q)
-    (same_side m range p q is_p is_q)
+next_is_one m range p q is_p is_q = piece_by p q (is_p.first
+    ∙ sym is_q.first) (same_count m range p q is_p is_q) (same_side m range p q is_p is_q)
 
 -- the place of its first block is its own
 place_found : (m : Map) (block place : ℕ) (side : Side) → side_at m block ≡ Some side
     → place_at m block ≡ Some place → place ≡ place_on m block side
-place_found m block place side at is = (let found = rw at at is in cc)
+place_found m block place side at is = let found = rw at at is in cc
 
 pub place-of : (m : Map) (o : Open) (piece : Piece) (place : ℕ) → IsPieceOf m o piece
     → place_at m piece.first ≡ Some place → place ≡ place_of m piece
@@ -78,12 +67,9 @@ place-of m o piece place next is =
 -- it lies on the disk
 pub on_disk : (map : Map) (atoms first count : ℕ) (side : Side) → MapFits map atoms
     → first + count ≤ map.blocks → place_on map first side + count ≤ atoms
-on_disk map atoms first count Old fits within =
-    (let places = fits.old_places in omega (arith, places, within))
-on_disk map atoms first count Zone fits within =
-    (let places = fits.old_places in omega (arith, places, within))
-on_disk map atoms first count New fits within =
-    (let places = fits.new_places in omega (arith, places, within))
+on_disk map atoms first count Old fits within = omega arith
+on_disk map atoms first count Zone fits within = omega arith
+on_disk map atoms first count New fits within = omega arith
 
 -- maps that have the blocks of a range alike
 pub agrees_itself : (range : BlockRange) (map : Map) → AgreeOn range map map
@@ -102,21 +88,16 @@ next_agrees one other range all piece agree from to next = record {
   first = next.first;
   some = next.some;
   within = next.within;
-  one_side =
-      λ k below. sym
-      (agree.sides (range.start + k) (omega (arith, from))
-      (let within = next.within in omega (arith, below, within, to))) ∙ next.one_side k below;
+  one_side = λ k below. sym (agree.sides (range.start + k) (omega arith) (omega arith))
+      ∙ next.one_side k below;
   limit = subst (λ a. piece.count * a ≤ most_bytes) agree.atom next.limit;
   longest = elim next.longest [
     | inl ends ↦ inl ends
     | inr (inl full) ↦ inr (inl (subst (λ a. most_bytes < suc piece.count * a) agree.atom full))
     | inr (inr turns) ↦ elim (cases_lt (range.start + piece.count) range.end) [
-      | inl inside ↦
-          inr (inr
-          (λ same. turns
-          (agree.sides (range.start + piece.count) (omega (arith, from)) (omega (arith, inside, to))
-          ∙ same)))
-      | inr ends ↦ inl (let within = next.within in omega (arith, ends, within))
+      | inl inside ↦ inr (inr (λ same.
+          turns (agree.sides (range.start + piece.count) (omega arith) (omega arith) ∙ same)))
+      | inr ends ↦ inl (omega arith)
     ]
   ];
 }

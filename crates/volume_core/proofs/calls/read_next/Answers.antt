@@ -1,4 +1,4 @@
-use Rattle.std.proofs.Common.{◌∙◌}
+use Rattle.volume_machine.proofs.Common.{◌∙◌}
 use Rattle.volume_machine.proofs.NextPieces.{place-of}
 use Rattle.volume_core.proofs.CodePieceSteps.{front-size, read-size}
 use Rattle.volume_core.proofs.calls.read_next.Goals as goal
@@ -21,8 +21,7 @@ returns-in-Ok-clause-reads g c =
         rw (
           ← place-of _ c.args.operation.now piece c.place.result next c.place.ensures,
           c.requires.atom,
-        )
-            c.in-Ok.ensures.read,
+        ) c.in-Ok.ensures.read,
       );
       leaves = c.moved.ensures;
     }

@@ -15,8 +15,7 @@ returns-in-Ok-clause-writes g c =
           ← place-of _ c.args.operation.now _ c.place.result next c.place.ensures,
           c.requires.atom,
           ← c.as_slice.ensures,
-        )
-            c.in-Ok.ensures.call,
+        ) c.in-Ok.ensures.call,
       );
       leaves = c.moved.ensures;
     }
@@ -34,8 +33,7 @@ returns-in-Err-clause-writes g c =
           ← place-of _ c.args.operation.now _ c.place.result next c.place.ensures,
           c.requires.atom,
           ← c.as_slice.ensures,
-        )
-            c.in-Err.ensures.call,
+        ) c.in-Err.ensures.call,
       );
       leaves = c.failing-in-Err.ensures;
     }

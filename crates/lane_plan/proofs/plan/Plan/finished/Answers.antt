@@ -1,4 +1,4 @@
-use Rattle.std.proofs.Common.{refl}
+use Rattle.volume_machine.proofs.Common.{refl}
 use Rattle.lane_plan.proofs.PlanEnds.{content-is, done-is, goes-finished, has-content}
 use Rattle.lane_plan.proofs.plan.Plan.finished.Goals as goal
 
@@ -14,15 +14,13 @@ into_text-content-requires c =
     told c.requires.stage c.if-self.false c.in-Read.is)
 
 pub returns-in-Read-clause-goes : goal.returns-in-Read-clause-goes
-returns-in-Read-clause-goes c = λ seals.
-    rw (
-      c.taken.ensures.left,
-      c.into_text-content.ensures,
-      c.taken.ensures.taken,
-      c.new-in-Read.ensures,
-      c.new.ensures.items,
-    )
-    (goes-finished seals c.args.self.now _ _ _ c.requires.stage (λ op alone ending. content-is
+returns-in-Read-clause-goes c = λ seals. rw (
+  c.taken.ensures.left,
+  c.into_text-content.ensures,
+  c.taken.ensures.taken,
+  c.new-in-Read.ensures,
+  c.new.ensures.items,
+) (goes-finished seals c.args.self.now _ _ _ c.requires.stage (λ op alone ending. content-is
     c.args.self.now op alone c.in-Read.offset c.in-Read.length ending c.if-self.false c.in-Read.is))
 
 pub returns-in-Write-clause-goes : goal.returns-in-Write-clause-goes

@@ -1,7 +1,5 @@
-use Rattle.std.proofs.Common.{refl}
-use Rattle.lane_plan.proofs.PlanCourse.{next-read}
-use Rattle.lane_plan.proofs.PlanMoves.{fewer-next}
-use Rattle.lane_plan.proofs.PlanCourse.{next-write}
+use Rattle.volume_machine.proofs.Common.{refl}
+use Rattle.lane_plan.proofs.{PlanCourse.next-read, PlanCourse.next-write, PlanMoves.fewer-next}
 use Rattle.lane_plan.proofs.plan.Plan.go_on.Goals as goal
 
 pub returns-in-Read-clause-awaits : goal.returns-in-Read-clause-awaits
@@ -13,16 +11,14 @@ pub returns-in-Read-clause-fewer : goal.returns-in-Read-clause-fewer
 returns-in-Read-clause-fewer g c = fewer-next c.args.self.now c.lent.new.self c.lent.ensures.same
 
 pub returns-in-Write-clause-awaits : goal.returns-in-Write-clause-awaits
-returns-in-Write-clause-awaits g c = λ op alone back.
-    next-write g.C.SectorCipher.sector g.C.SectorCipher.sealed g.C.SectorCipher.opened
-    c.args.keys.now c.args.self.now c.prepared.new.self op alone c.args.map
-    c.next_piece-piece.result c.prepared.result c.place_of-from.result _
-    g.met.C.SectorCipher.unseal_undoes_seal c.requires.fits back
-    (rw c.rest.ensures at c.next_piece-piece.ensures) (rw c.in-Write.is tt)
-    c.place_of-from.ensures refl
+returns-in-Write-clause-awaits g c =
+    λ op alone back. next-write g.C.SectorCipher.sector g.C.SectorCipher.sealed
+    g.C.SectorCipher.opened c.args.keys.now c.args.self.now c.prepared.new.self
+    op alone c.args.map c.next_piece-piece.result c.prepared.result c.place_of-from.result
+    _ g.met.C.SectorCipher.unseal_undoes_seal c.requires.fits back (rw c.rest.ensures
+    at c.next_piece-piece.ensures) (rw c.in-Write.is tt) c.place_of-from.ensures refl
     c.prepared.ensures.bytes c.prepared.ensures.length c.prepared.ensures.are_bytes
-    c.prepared.ensures.plain c.prepared.ensures.room c.prepared.ensures.rest
-    c.prepared.ensures.same
+    c.prepared.ensures.plain c.prepared.ensures.room c.prepared.ensures.rest c.prepared.ensures.same
 
 pub returns-in-Write-clause-fewer : goal.returns-in-Write-clause-fewer
 returns-in-Write-clause-fewer g c = fewer-next c.args.self.now c.prepared.new.self

@@ -1,6 +1,6 @@
-use Rattle.std.proofs.Common.{arith}
+use Rattle.volume_machine.proofs.Common.{arith}
 use Rattle.lane_plan.specs.Plans.{calls_left}
-use Rattle.lane_plan.proofs.PlanCourse.{last-settles, last-finishes}
+use Rattle.lane_plan.proofs.PlanCourse.{last-finishes, last-settles}
 use Rattle.lane_plan.proofs.plan.Plan.last_call.Goals as goal
 
 pub returns-then-must_settle-clause-awaits : goal.returns-then-must_settle-clause-awaits
@@ -13,8 +13,7 @@ returns-then-must_settle-clause-fewer c = omega arith
 
 pub returns-clause-awaits : goal.returns-clause-awaits
 returns-clause-awaits c = λ seals op alone map back. last-finishes back
-    (λ must. (let yes = c.must_settle.ensures.1 must in let no-settle = c.if-must_settle.false in
-    absurd (cc))) c.requires.all
+    (λ must. (let yes = c.must_settle.ensures.1 must in absurd (cc))) c.requires.all
 
 pub returns-clause-fewer : goal.returns-clause-fewer
 unfolding calls_left

@@ -1,7 +1,5 @@
-use Rattle.std.proofs.Common.{rules, ◌≡◌, ◌*◌, None, ◌∙◌, ap}
-use Rattle.volume_machine.specs.Asks.{wrong_ask}
-use Rattle.lane_plan.specs.Calls.{ask_of}
-use Rattle.lane_plan.specs.Plans.{bytes_of, part_of}
+use Rattle.volume_machine.proofs.Common.{None, ap, rules, ◌*◌, ◌∙◌, ◌≡◌, wrong_ask}
+use Rattle.lane_plan.specs.{Calls.ask_of, Plans.bytes_of, Plans.part_of}
 use Rattle.lane_plan.proofs.PlanBegins.{awaits-admit}
 use Rattle.lane_plan.proofs.plan.Plan.new.Goals as goal
 
@@ -12,10 +10,9 @@ returns-clause-awaits c = λ seals alone none.
     let len : c.len_of-len.result ≡ bytes_of (ask_of c.args.op) = c.len_of-len.ensures
     ∙ ap (λ a. bytes_of a) c.ask_of-ask.ensures in
     let room : c.min-room.result ≡ part_of c.args.shape.atom (ask_of c.args.op) = search rules in
-    awaits-admit _ c.args.op c.args.session c.args.shape c.whole_of.result c.args.part
-    c.len_of-len.result c.min-room.result none c.of.ensures.session
-    (c.of.ensures.asks ∙ c.ask_of-ask.ensures) c.of.ensures.stage c.of.ensures.shape c.requires
-    proper c.whole_of.ensures.body len
-    (rw c.of.ensures.whole c.in_ok-whole.ensures.long)
+    awaits-admit _ c.args.op c.args.session c.args.shape c.whole_of.result
+    c.args.part c.len_of-len.result c.min-room.result none c.of.ensures.session (c.of.ensures.asks
+    ∙ c.ask_of-ask.ensures) c.of.ensures.stage c.of.ensures.shape
+    c.requires proper c.whole_of.ensures.body len (rw c.of.ensures.whole c.in_ok-whole.ensures.long)
     (rw c.of.ensures.whole c.in_ok-whole.ensures.front)
     (rw c.of.ensures.part c.in_ok-part.ensures.long) room

@@ -1,13 +1,11 @@
-use Rattle.std.proofs.Common.{refl}
-use Rattle.volume_machine.specs.Steps.{Can, Step}
+use Rattle.volume_machine.proofs.Common.{refl, Can, Step}
 use Rattle.volume_core.proofs.CodeSteps.{ends-inside, locked-entry}
 use Rattle.volume_core.proofs.volume.Volume.ask.Goals as goal
 
 pub open_of-open-requires : goal.open_of-open-requires
 unfolding Can
 open_of-open-requires g c =
-    let (o, is, has) = (rw (← c.self.view_is) at c.requires).can in
-    (o, rw c.deref.ensures.value is)
+    let (o, is, has) = (rw (← c.self.view_is) at c.requires).can in (o, rw c.deref.ensures.value is)
 
 pub ask-requires : goal.ask-requires
 unfolding Can

@@ -1,7 +1,5 @@
-use Rattle.std.proofs.Common.{refl}
-use Rattle.volume_machine.specs.Events.{finishes, done}
-use Rattle.volume_machine.specs.Steps.{Can, Step}
-use Rattle.volume_core.proofs.CodeSteps.{locked-entry, has-lane, volume-kept}
+use Rattle.volume_machine.proofs.Common.{refl, done, finishes, Can, Step}
+use Rattle.volume_core.proofs.CodeSteps.{has-lane, locked-entry, volume-kept}
 use Rattle.volume_core.proofs.volume.Volume.finish.Goals as goal
 
 pub leave-requires : goal.leave-requires
@@ -13,14 +11,12 @@ leave-requires g c =
 pub set_lane-requires : goal.set_lane-requires
 unfolding Can
 set_lane-requires g c =
-    let (o, is, can) = (rw (← c.self.view_is) at c.requires).can.0 in
-    has-lane _ c.args.lane o is
+    let (o, is, can) = (rw (← c.self.view_is) at c.requires).can.0 in has-lane _ c.args.lane o is
 
 pub invariant_of-self : goal.invariant_of-self
 unfolding Step
-invariant_of-self g c =
-    volume-kept g.C.SectorCipher.sector _ _ (finishes c.args.lane) done c.self.invariant
-    (rw (← c.self.view_is) at c.requires) (record {
+invariant_of-self g c = volume-kept g.C.SectorCipher.sector
+    _ _ (finishes c.args.lane) done c.self.invariant (rw (← c.self.view_is) at c.requires) (record {
       outcome_is = refl;
       goes = record {
         map = refl;

@@ -1,4 +1,4 @@
-use Rattle.std.proofs.Common.{sym, ◌∙◌}
+use Rattle.volume_machine.proofs.Common.{sym, ◌∙◌}
 use Rattle.volume_core.proofs.CodeSteps.{none-unheld, waits-unheld}
 use Rattle.volume_core.proofs.volume.Volume.is_held.Goals as goal
 
@@ -12,6 +12,5 @@ returns-then-not-has_entry g c = rw (← c.self.view_is) (
 pub returns-in-Waiting : goal.returns-in-Waiting
 returns-in-Waiting g c = rw (← c.self.view_is) (
   λ never. absurd (cc),
-  λ holds. absurd
-      (waits-unheld c.args.lane c.in-Waiting.field-0 _ c.in-Waiting.ensures holds),
+  λ holds. absurd (waits-unheld c.args.lane c.in-Waiting.field-0 _ c.in-Waiting.ensures holds),
 )

@@ -1,4 +1,4 @@
-use Rattle.volume_core.proofs.CodeAdmit.{is-proper, admit-refused, admit-broken}
+use Rattle.volume_core.proofs.CodeAdmit.{admit-broken, admit-refused, is-proper}
 use Rattle.volume_core.proofs.volume.Volume.judge.Goals as goal
 
 pub returns-in-Some-clause-refused : goal.returns-in-Some-clause-refused

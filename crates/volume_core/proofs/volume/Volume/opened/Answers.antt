@@ -8,6 +8,6 @@ invariant_of-result g c =
     c.into_parts-table.ensures.entries c.into_parts-table.ensures.lanes
 
 pub returns-clause-sound : goal.returns-clause-sound
-returns-clause-sound g c =
-    new-sound _ _ _ c.args.lanes _ _ c.into_parts-table.ensures.some c.requires.map c.requires.zone
-    c.into_parts-table.ensures.room c.into_parts-table.ensures.entries c.into_parts-table.ensures.lanes
+returns-clause-sound g c = new-sound _ _ _ c.args.lanes _
+    _ c.into_parts-table.ensures.some c.requires.map c.requires.zone c.into_parts-table.ensures.room
+    c.into_parts-table.ensures.entries c.into_parts-table.ensures.lanes

@@ -1,6 +1,4 @@
-use Rattle.std.proofs.Common.{refl}
-use Rattle.volume_machine.specs.Events.{reads}
-use Rattle.volume_machine.specs.Steps.{Can}
+use Rattle.volume_machine.proofs.Common.{refl, reads, Can}
 use Rattle.volume_core.specs.Answers.{outcome_of_read}
 use Rattle.volume_core.proofs.CodePieceSteps.{can-read, read-step}
 use Rattle.volume_core.proofs.CodeSteps.{ends-inside, volume-kept}
@@ -25,11 +23,9 @@ read_next-read-requires-clause-can g c =
 pub invariant_of-self : goal.invariant_of-self
 invariant_of-self g c =
     let is = rw c.deref.ensures.value at c.open_of-open.ensures in
-    volume-kept g.C.SectorCipher.sector _ _ (reads c.args.lane c.args.len)
-    (outcome_of_read c.args.len c.read_next-read.result) c.self.invariant
-    (rw (← c.self.view_is) at c.requires.meets)
-    (read-step _ _ c.args.lane _ _ c.args.len _ is c.read_next-read.ensures.reads
-    (record {
+    volume-kept g.C.SectorCipher.sector _ _ (reads c.args.lane c.args.len) (outcome_of_read
+    c.args.len c.read_next-read.result) c.self.invariant (rw (← c.self.view_is) at c.requires.meets)
+    (read-step _ _ c.args.lane _ _ c.args.len _ is c.read_next-read.ensures.reads (record {
       map = refl;
       keys = refl;
       work = refl;

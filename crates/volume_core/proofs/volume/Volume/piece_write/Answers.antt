@@ -1,6 +1,4 @@
-use Rattle.std.proofs.Common.{refl}
-use Rattle.volume_machine.specs.Events.{writes}
-use Rattle.volume_machine.specs.Steps.{Can}
+use Rattle.volume_machine.proofs.Common.{refl, writes, Can}
 use Rattle.volume_core.specs.Answers.{outcome_of_written}
 use Rattle.volume_core.proofs.CodePieceSteps.{can-write, write-step}
 use Rattle.volume_core.proofs.CodeSteps.{ends-inside, volume-kept}
@@ -25,12 +23,10 @@ write_next-written-requires-clause-can g c =
 pub invariant_of-self : goal.invariant_of-self
 invariant_of-self g c =
     let is = rw c.deref.ensures.value at c.open_of-open.ensures in
-    volume-kept g.C.SectorCipher.sector _ _ (writes c.args.lane c.args.prepared.bytes)
-    (outcome_of_written c.write_next-written.result) c.self.invariant
-    (rw (← c.self.view_is) at c.requires)
-    (write-step _ _ c.args.lane _ _ c.args.prepared.bytes _ is
-    c.write_next-written.ensures.writes
-    (record {
+    volume-kept g.C.SectorCipher.sector
+    _ _ (writes c.args.lane c.args.prepared.bytes) (outcome_of_written c.write_next-written.result)
+    c.self.invariant (rw (← c.self.view_is) at c.requires) (write-step
+    _ _ c.args.lane _ _ c.args.prepared.bytes _ is c.write_next-written.ensures.writes (record {
       map = refl;
       keys = refl;
       work = refl;
@@ -43,9 +39,8 @@ invariant_of-self g c =
 pub returns-clause-step : goal.returns-clause-step
 returns-clause-step g c =
     let is = rw c.deref.ensures.value at c.open_of-open.ensures in
-    rw (← c.self.view_is) (write-step _ _ c.args.lane _ _ c.args.prepared.bytes _ is
-    c.write_next-written.ensures.writes
-    (record {
+    rw (← c.self.view_is) (write-step
+    _ _ c.args.lane _ _ c.args.prepared.bytes _ is c.write_next-written.ensures.writes (record {
       map = refl;
       keys = refl;
       work = refl;
