@@ -5,6 +5,7 @@ pub use Rattle.std.proofs.Common.{None, Option, Result, Some, [], ap, append_ass
 pub use Rattle.std.proofs.Common.{drop, false, find, if◌then◌else◌, inl, inr, le_of_suc-le-suc}
 pub use Rattle.std.proofs.Common.{length, length-append, length-drop, length-take, length-take-le}
 pub use Rattle.std.proofs.Common.{map, max, min, mul-le-mul_right, nat_eq, nat_lt, not, option_map}
+pub use Rattle.std.proofs.Common.{add-one, one-add}
 pub use Rattle.std.proofs.Common.{refl, replicate, rules, slice_get, slice_index_or, subst, suc}
 pub use Rattle.std.proofs.Common.{suc-le-suc, sym, take, true, zero, ℕ, ◌%◌, ◌*◌, ◌++◌, ◌+◌, ◌-◌}
 pub use Rattle.std.proofs.Common.{◌/◌, ◌<◌, ◌==◌, ◌^◌, ◌||◌, ◌↔◌, ◌∙◌, ◌∷◌, ◌≡◌, ◌≢◌, ◌≤◌, ◌⊎◌}

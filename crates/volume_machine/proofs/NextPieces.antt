@@ -1,22 +1,18 @@
 -- The next piece of an operation: there is only one, and it lies on the disk.
 use Rattle.volume_machine.proofs.Common
-use Common.{Some, ap, arith, inl, inr, mul-le-mul_right, refl, subst, suc, sym, ℕ, ◌*◌, ◌+◌, ◌<◌}
-use Common.{◌∙◌, ◌≡◌, ◌≤◌, cases_lt, BlockRange, IsNextPiece, most_bytes, place_at, place_on}
-use Common.{side_at, Side, New, Old, Zone, Map, Piece, AgreeOn, IsPieceOf, place_of, MapFits, Open}
+use Common.{Some, ap, arith, inl, inr, mul-le-mul_right, refl, suc, sym, ℕ, ◌*◌, ◌+◌, ◌<◌, ◌∙◌, ◌≡◌}
+use Common.{◌≤◌, cases_lt, BlockRange, IsNextPiece, place_at, place_on, side_at, Side, New, Map}
+use Common.{Piece, AgreeOn, IsPieceOf, place_of, rest_of, MapFits, Open}
 
 first_side : (m : Map) (range : BlockRange) (piece : Piece) → IsNextPiece m range piece
     → side_at m range.start ≡ Some piece.side
 first_side m range piece is =
-    let here = is.one_side 0 is.some in let e : range.start + 0 ≡ range.start =
-    omega arith in rw e at here
-
-side_of : (one other : Side) → Some one ≡ Some other → one ≡ other
-side_of one other is = cc
+    let e : range.start + 0 ≡ range.start = omega arith in rw e at (is.one_side 0 is.some)
 
 same_side : (m : Map) (range : BlockRange) (p q : Piece) → IsNextPiece m range p
     → IsNextPiece m range q → p.side ≡ q.side
 same_side m range p q is_p is_q =
-    side_of p.side q.side (sym (first_side m range p is_p) ∙ first_side m range q is_q)
+    let of_p = first_side m range p is_p in let of_q = first_side m range q is_q in cc
 
 no_longer : (m : Map) (range : BlockRange) (p q : Piece) → IsNextPiece m range p
     → IsNextPiece m range q → p.count < q.count → ⊥
@@ -34,13 +30,8 @@ no_longer m range p q is_p is_q less = elim is_p.longest [
 
 same_count : (m : Map) (range : BlockRange) (p q : Piece) → IsNextPiece m range p
     → IsNextPiece m range q → p.count ≡ q.count
-same_count m range p q is_p is_q = elim (cases_lt p.count q.count) [
-  | inl less ↦ absurd (no_longer m range p q is_p is_q less)
-  | inr most ↦ elim (cases_lt q.count p.count) [
-    | inl less ↦ absurd (no_longer m range q p is_q is_p less)
-    | inr least ↦ omega arith
-  ]
-]
+same_count m range p q is_p is_q =
+    omega (arith, no_longer m range p q is_p is_q, no_longer m range q p is_q is_p)
 
 piece_by : (p q : Piece) → p.first ≡ q.first → p.count ≡ q.count → p.side ≡ q.side → p ≡ q
 piece_by p q first count side =
@@ -55,21 +46,18 @@ next_is_one m range p q is_p is_q = piece_by p q (is_p.first
     ∙ sym is_q.first) (same_count m range p q is_p is_q) (same_side m range p q is_p is_q)
 
 -- the place of its first block is its own
-place_found : (m : Map) (block place : ℕ) (side : Side) → side_at m block ≡ Some side
-    → place_at m block ≡ Some place → place ≡ place_on m block side
-place_found m block place side at is = let found = rw at at is in cc
-
 pub place-of : (m : Map) (o : Open) (piece : Piece) (place : ℕ) → IsPieceOf m o piece
     → place_at m piece.first ≡ Some place → place ≡ place_of m piece
 place-of m o piece place next is =
-    place_found m piece.first place piece.side (rw next.first (first_side m _ piece next)) is
+    let side : side_at m piece.first ≡ Some piece.side =
+    rw next.first (first_side m (rest_of o) piece next) in
+    let found = rw side at is in cc
 
 -- it lies on the disk
 pub on_disk : (map : Map) (atoms first count : ℕ) (side : Side) → MapFits map atoms
     → first + count ≤ map.blocks → place_on map first side + count ≤ atoms
-on_disk map atoms first count Old fits within = omega arith
-on_disk map atoms first count Zone fits within = omega arith
 on_disk map atoms first count New fits within = omega arith
+on_disk map atoms first count _ fits within = omega arith
 
 -- maps that have the blocks of a range alike
 pub agrees_itself : (range : BlockRange) (map : Map) → AgreeOn range map map
@@ -78,7 +66,7 @@ agrees_itself range map =
 
 pub agrees_now : (range : BlockRange) (one other now : Map) → now ≡ other → AgreeOn range one other
     → AgreeOn range one now
-agrees_now range one other now same agree = subst (λ m. AgreeOn range one m) (sym same) agree
+agrees_now range one other now same agree = rw same agree
 
 -- they have one next piece
 pub next_agrees : (one other : Map) (range all : BlockRange) (piece : Piece) → AgreeOn all one other
@@ -90,10 +78,10 @@ next_agrees one other range all piece agree from to next = record {
   within = next.within;
   one_side = λ k below. sym (agree.sides (range.start + k) (omega arith) (omega arith))
       ∙ next.one_side k below;
-  limit = subst (λ a. piece.count * a ≤ most_bytes) agree.atom next.limit;
+  limit = rw agree.atom at next.limit;
   longest = elim next.longest [
     | inl ends ↦ inl ends
-    | inr (inl full) ↦ inr (inl (subst (λ a. most_bytes < suc piece.count * a) agree.atom full))
+    | inr (inl full) ↦ inr (inl (rw agree.atom at full))
     | inr (inr turns) ↦ elim (cases_lt (range.start + piece.count) range.end) [
       | inl inside ↦ inr (inr (λ same.
           turns (agree.sides (range.start + piece.count) (omega arith) (omega arith) ∙ same)))
