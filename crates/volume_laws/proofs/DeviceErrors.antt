@@ -1,28 +1,17 @@
 -- Which operations are answered 5.
-use Rattle.std.proofs.Common.{◌≡◌, ◌↔◌, inl, inr, ℕ, Bool, true, false, if◌then◌else◌, List, []}
-use Rattle.std.proofs.Common.{◌∷◌, ◌++◌, Option, Some, None, MatchOption, MatchBool, refl, sym, ◌∙◌}
-use Rattle.std.proofs.Common.{ap, subst}
-use Rattle.plain_disk.specs.declared.operation.Reply.TheVariants.{Errno}
+use Rattle.volume_machine.proofs.Common
+use Common.{Bool, List, None, Option, Some, [], ap, false, if◌then◌else◌, inl, inr, refl, subst}
+use Common.{sym, true, ℕ, ◌++◌, ◌↔◌, ◌∙◌, ◌∷◌, ◌≡◌, either, Errno, Answered, by_admit, by_finish}
+use Common.{by_settle, flush_reply, full_reply, has_lock, wrong_ask, IsFresh, Event, Outcome}
+use Common.{admits, broken, device, done, finishes, refused, settles, Happening, no_plain, Seals}
+use Common.{State, open_at, size_of, AdmitStep, Meets, SettleStep, IsRun, answered_by, last_of}
+use Common.{plain_in, Step}
 use Rattle.volume_machine.specs.declared.ask.Ask.{Ask}
-use Rattle.volume_machine.specs.declared.ask.Ask.TheVariants.{Read, Write, Flush}
+use Rattle.volume_machine.specs.declared.ask.Ask.TheVariants.{Flush, Read, Write}
 use Rattle.volume_machine.specs.declared.open.Open.{Open}
-use Rattle.volume_machine.specs.Asks.{has_lock, wrong_ask}
-use Rattle.volume_machine.specs.Beginnings.{IsFresh}
-use Rattle.volume_machine.specs.Events.{Event, admits, asks, reads, writes, settles, finishes}
-use Rattle.volume_machine.specs.Events.{Outcome, refused, done, device, broken}
-use Rattle.volume_laws.specs.Promises.{fails_in, is_failure, has_failed, GoesByEvents}
-use Rattle.volume_laws.specs.Promises.{DeviceErrorsAreExact}
-use Rattle.volume_machine.specs.Answers.{Answered, by_admit, by_settle, by_finish, flush_reply}
-use Rattle.volume_machine.specs.Answers.{full_reply}
-use Rattle.volume_machine.specs.Runs.{Happening, IsRun, last_of, answered_by, plain_in, no_plain}
-use Rattle.volume_machine.specs.Seals.{Seals}
-use Rattle.volume_machine.specs.States.{State, open_at, size_of}
-use Rattle.volume_machine.specs.Steps.{Step, Meets, AdmitStep, IsAdmitted, SettleStep}
-use Rattle.volume_laws.proofs.Admits.{unanswered}
-use Rattle.volume_laws.proofs.Executions.{run-front}
-use Rattle.volume_laws.proofs.Failures.{goes_by_events}
-use Rattle.volume_machine.proofs.Locking.{either}
-use Rattle.volume_machine.proofs.Soundness.{match_true, match_false}
+use Rattle.volume_laws.specs.Promises.{DeviceErrorsAreExact, GoesByEvents, fails_in, has_failed}
+use Rattle.volume_laws.specs.Promises.{is_failure}
+use Rattle.volume_laws.proofs.{Admits.unanswered, Executions.run-front, Failures.goes_by_events}
 
 -- an event amid a run
 run-event : {K : Type 0} (old : State K) (earlier later : List (Happening K)) (one : Happening K)
@@ -51,21 +40,16 @@ admit_exact old new lane session ask outcome answered step is proper =
     let right : wrong_ask old.map.atom (size_of old.map) ask ≡ None =
     ap (λ a. wrong_ask old.map.atom (size_of old.map) a)
     (sym (refused_by session ask outcome answered is)) ∙ proper in
-    let judged : MatchBool old.broken ((outcome ≡ refused 5) × (new ≡ old))
-    (IsAdmitted old lane session ask outcome new) =
-    subst (λ w. MatchOption w
-    (MatchBool old.broken ((outcome ≡ refused 5) × (new ≡ old))
-    (IsAdmitted old lane session ask outcome new))
-    (λ number. (outcome ≡ refused number) × (new ≡ old))) right step in
+    let judged = rw right at step in
     elim (either old.broken) [
-      | inl broke ↦ (let refusal = match_true old.broken _ _ broke judged in
+      | inl broke ↦ (let refusal = rw broke at judged in
           let one : answered
           ≡ record { session = session; ask = ask; plain = []; reply = Errno 5 } =
           one_answered _ answered (sym (ap (λ o. by_admit session ask o) refusal.0) ∙ is) in
           (λ five. broke, λ broke. ap (λ a. a.reply) one))
       | inr whole ↦
           absurd (let none =
-          unanswered old new lane session ask outcome (match_false old.broken _ _ whole judged) in
+          unanswered (rw whole at judged) in
           cc)
     ]
 
@@ -81,19 +65,8 @@ settle_exact old new lane o _ step = absurd step
 by_settle_is : (o : Open) (outcome : Outcome) (answered : Answered)
     → by_settle (Some o) outcome ≡ answered ∷ [] → answered.reply ≡ flush_reply outcome
 by_settle_is o outcome answered is = elim (either (has_lock o.ask)) [
-  | inl has ↦ absurd (let none : by_settle (Some o) outcome ≡ [] = rw has refl in cc)
-  | inr free ↦
-      ap (λ a. a.reply)
-      (one_answered
-      (record { session = o.session; ask = o.ask; plain = []; reply = flush_reply outcome })
-      answered
-      ((let all : record {
-        session = o.session;
-        ask = o.ask;
-        plain = [];
-        reply =
-            flush_reply outcome;
-      } ∷ [] ≡ by_settle (Some o) outcome = rw free refl in all) ∙ is))
+  | inl has ↦ absurd (let none = rw has at is in cc)
+  | inr free ↦ ap (λ a. a.reply) (one_answered _ answered (rw free at is))
 ]
 
 -- an operation that is answered by its finish
@@ -113,9 +86,7 @@ finish_answers : {K : Type 0} (old : State K) (lane : ℕ) (plain : List ℕ) (b
     → by_finish now plain ≡ answered ∷ [] → (answered.reply ≡ Errno 5) ↔ (before ≡ true)
 finish_answers old lane plain before None answered at fails is = absurd (cc)
 finish_answers old lane plain before (Some o) answered at fails is =
-    subst (λ b. (answered.reply ≡ Errno 5) ↔ (b ≡ true)) (fails o at)
-    (subst (λ r. (r ≡ Errno 5) ↔ (o.failed ≡ true))
-    (sym (ap (λ a. a.reply) (one_answered _ answered is))) (finish_exact o.failed o.ask plain))
+    rw (one_answered _ answered is, ← fails o at) (finish_exact o.failed o.ask plain)
 
 event_exact : {K : Type 0} (start : State K) (earlier : List (Happening K)) (plain : ℕ → List ℕ)
     (new : State K) (event : Event) (outcome : Outcome) (answered : Answered) →
@@ -126,11 +97,6 @@ event_exact : {K : Type 0} (start : State K) (earlier : List (Happening K)) (pla
 unfolding Step answered_by
 event_exact start earlier plain new (admits lane session ask) outcome answered goes step is proper =
     admit_exact (last_of start earlier) new lane session ask outcome answered step is proper
-event_exact start earlier plain new (asks lane) outcome answered goes step is proper = absurd (cc)
-event_exact start earlier plain new (reads lane len) outcome answered goes step is proper =
-    absurd (cc)
-event_exact start earlier plain new (writes lane bytes) outcome answered goes step is proper =
-    absurd (cc)
 event_exact start earlier plain new (settles lane) outcome answered goes (o, at, step) is proper =
     subst (λ r. (r ≡ Errno 5) ↔ (is_failure outcome ≡ true))
     (sym (by_settle_is o outcome answered (ap (λ x. by_settle x outcome) (sym at) ∙ is)))
@@ -138,6 +104,7 @@ event_exact start earlier plain new (settles lane) outcome answered goes (o, at,
 event_exact start earlier plain new (finishes lane) outcome answered goes step is proper =
     finish_answers (last_of start earlier) lane (plain lane) (fails_in lane false earlier) _
     answered refl (goes.fails lane) is
+event_exact start earlier plain new _ outcome answered goes step is proper = absurd (cc)
 
 pub device_errors_exact : {K : Type 0} (start : State K) (seals : Seals)
     (earlier later : List (Happening K)) (one : Happening K) → IsFresh start

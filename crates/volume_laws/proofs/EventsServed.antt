@@ -1,46 +1,31 @@
 -- Each event goes on from a moment of a run to another, and answers as the plain disk does.
-use Rattle.std.proofs.Common.{◌≡◌, inl, inr, ℕ, ◌<◌, Bool, true, false, List, [], ◌∷◌, ◌++◌, map}
-use Rattle.std.proofs.Common.{Option, Some, None, MatchOption, MatchBool, refl, sym, ◌∙◌, ap, subst}
-use Rattle.std.proofs.Common.{arith}
-use Rattle.plain_disk.specs.declared.operation.Reply.TheVariants.{Done, Errno}
-use Rattle.plain_disk.specs.Plain.{Block, Exchange, Legal, flushed, written, written_for_good}
-use Rattle.plain_disk.specs.Plain.{tried, newest_bytes}
-use Rattle.segment_map.specs.declared.map.Piece.{Piece}
-use Rattle.volume_machine.specs.declared.ask.Ask.{Ask}
-use Rattle.volume_machine.specs.declared.ask.Ask.TheVariants.{Read, Write, Flush}
-use Rattle.volume_machine.specs.declared.open.Open.{Open}
-use Rattle.volume_machine.specs.Asks.{IsRead, IsWrite, IsForced, has_lock, wrong_ask}
-use Rattle.volume_machine.specs.Events.{Outcome, refused, got, done, device, broken}
-use Rattle.volume_machine.specs.Pieces.{IsPieceOf, place_of, ArePieceBytes, moved, failing}
-use Rattle.volume_machine.specs.Pieces.{settling}
-use Rattle.volume_machine.specs.Answers.{by_admit, flush_reply, refusal, IsExchange, AreExchanges}
-use Rattle.volume_machine.specs.Runs.{with_plain, plain_piece, after_read, after_write}
-use Rattle.volume_machine.specs.Seals.{Seals}
-use Rattle.volume_machine.specs.Sound.{IsSound}
-use Rattle.volume_machine.specs.States.{State, open_at, size_of, IsGoverned}
-use Rattle.volume_machine.specs.Steps.{Goes, Holds, HasPiece, IsAdmitted, ReadStep, WriteStep}
-use Rattle.volume_machine.specs.Steps.{SettleStep, after_settle}
-use Rattle.sector_disk.specs.Devices.{succeeded, failed_call}
-use Rattle.disk_views.specs.Views.{view_of_bytes, IsUnchanged, IsWritten, IsTried, IsSynced}
-use Rattle.disk_views.specs.Views.{IsThinned}
-use Rattle.volume_laws.proofs.Admits.{logic_forgets, shown_forgets, logic_admitted, shown_admitted}
-use Rattle.volume_laws.proofs.Admits.{unanswered}
-use Rattle.volume_laws.proofs.Answering.{legal_none, legal_one, step_wrong, step_refused}
-use Rattle.volume_laws.proofs.Answering.{step_flushed, step_unflushed}
-use Rattle.volume_laws.proofs.Here.{Here, Moves, positive, here_after, moves_not, moves_by_read}
-use Rattle.volume_laws.proofs.Here.{moves_by_written, moves_by_tried, moves_by_sync}
-use Rattle.volume_laws.proofs.Here.{moves_by_failed_sync, piece_in_bytes, piece_in_tables}
+use Rattle.volume_machine.proofs.Common
+use Common.{Bool, List, None, Option, Some, [], arith, false, inl, inr, map, refl, sym, true, ℕ}
+use Common.{◌++◌, ◌<◌, ◌∙◌, ◌∷◌, ◌≡◌, either, IsThinned, View, Piece, Block, Exchange, flushed}
+use Common.{Done, Errno, Legal, IsExchange, by_admit, flush_reply, refusal, IsForced, IsRead}
+use Common.{IsWrite, has_lock, wrong_ask, Outcome, broken, device, done, got, ArePieceBytes}
+use Common.{IsPieceOf, failing, moved, place_of, after_read, after_write, with_plain, Seals}
+use Common.{IsSound, IsGoverned, State, open_at, size_of, AdmitStep, Goes, HasPiece, Holds}
+use Common.{IsAdmitted, ReadStep, SettleStep, WriteStep, Works, AreExchanges}
 use Rattle.disk_views.proofs.DeviceViews.{block-read}
-use Rattle.volume_laws.proofs.Invariant.{shown_kept, goes_stays}
-use Rattle.volume_machine.specs.Working.{Works}
-use Rattle.volume_machine.proofs.Locking.{either}
-use Rattle.volume_laws.proofs.Reading.{AreLive, logic_read, shown_read, logic_failed, failing_keeps}
-use Rattle.volume_laws.proofs.Reading.{never_both}
+use Rattle.plain_disk.specs.Plain.{Step as PlainStep}
+use Rattle.volume_machine.specs.{declared.ask.Ask.Ask, declared.ask.Ask.TheVariants.Flush}
+use Rattle.volume_machine.specs.{declared.open.Open.Open}
+use Rattle.volume_machine.proofs.Soundness.{match_false, match_true}
 use Rattle.volume_laws.specs.Contents.{block_in}
-use Rattle.volume_laws.proofs.Settling.{flush_renews, logic_flushed, shown_flushed, logic_unflushed}
-use Rattle.volume_laws.proofs.Settling.{shown_unflushed, logic_settled, shown_settled}
-use Rattle.volume_machine.proofs.Soundness.{match_true, match_false}
-use Rattle.volume_laws.proofs.Writing.{TriesPiece, now_of, logic_tried, shown_written, shown_tried}
+use Rattle.volume_laws.proofs.Admits.{logic_admitted, logic_forgets, shown_admitted, shown_forgets}
+use Rattle.volume_laws.proofs.Admits.{unanswered}
+use Rattle.volume_laws.proofs.Answering.{answer, legal_none, legal_one, step_flushed, step_refused}
+use Rattle.volume_laws.proofs.Answering.{step_unflushed, step_wrong}
+use Rattle.volume_laws.proofs.Here.{Here, Moves, here_after, moves_by_failed_sync, moves_by_read}
+use Rattle.volume_laws.proofs.Here.{moves_by_sync, moves_by_tried, moves_by_written, moves_not}
+use Rattle.volume_laws.proofs.Here.{piece_in_bytes, piece_in_tables, positive}
+use Rattle.volume_laws.proofs.Invariant.{Logic, Shown, Stays, goes_stays, shown_kept}
+use Rattle.volume_laws.proofs.Reading.{AreLive, failing_keeps, forced_writes, logic_failed}
+use Rattle.volume_laws.proofs.Reading.{logic_read, never_both, shown_read, writes_lock}
+use Rattle.volume_laws.proofs.Settling.{flush_renews, logic_flushed, logic_settled, logic_unflushed}
+use Rattle.volume_laws.proofs.Settling.{shown_flushed, shown_settled, shown_unflushed}
+use Rattle.volume_laws.proofs.Writing.{TriesPiece, logic_tried, shown_tried, shown_written}
 
 -- what an event leaves of the volume and of the zone at hand
 pub record IsFine {K : Type 0} (state : State K) : Type 0 where
@@ -58,169 +43,131 @@ pub record Served {K : Type 0} (P Q : Type 0) (seals : Seals) (old new : State K
   pub newest : (b : ℕ) → b < old.map.blocks → IsGoverned old b
       → (block_in next b).newest ≡ (block_in left b).newest
 
--- an event that answers nothing
-pub goes_on : {K P Q : Type 0} (seals : Seals) (old new : State K) (now : ℕ → List ℕ)
-    (left : List Block) (exchanges : List Exchange) → AreExchanges [] exchanges →
-    Here P Q new seals now left → new.map ≡ old.map → new.work ≡ old.work
+-- an event that changes no block of the plain disk
+pub goes_on : {K P Q : Type 0} {seals : Seals} {old new : State K} {now : ℕ → List ℕ}
+    {left : List Block} {exchanges : List Exchange} → Stays old new
+    → Legal old.map.atom left exchanges left → Here P Q new seals now left
     → Served P Q seals old new now left exchanges
-goes_on seals old new now left exchanges are here map work =
-    record {
-      next = left;
-      legal = legal_none old.map.atom left exchanges are;
-      here = here;
-      map =
-          map;
-      work = work;
-      newest = λ b below of. refl;
-    }
+goes_on {left = left} stays legal here = record {
+  next = left;
+  legal = legal;
+  here = here;
+  map = stays.map;
+  work = stays.work;
+  newest = λ b below of. refl;
+}
 
 -- a write that is settled
 pub forced_locks : (ask : Ask) → IsForced ask → has_lock ask ≡ true
-forced_locks (Read offset len) forced = absurd forced
-forced_locks (Write offset len fua) forced = refl
-forced_locks Flush forced = absurd forced
+forced_locks ask forced = writes_lock ask (forced_writes ask forced)
 
-module _ {K P Q : Type 0} (seals : Seals) (old new : State K) (plain : ℕ → List ℕ)
-    (left : List Block) (lane : ℕ) (here : Here P Q old seals plain left) where
+module _ {K P Q : Type 0} {seals : Seals} {old new : State K} {plain : ℕ → List ℕ}
+    {left : List Block} (lane : ℕ) (exchanges : List Exchange)
+    (here : Here P Q old seals plain left) (fine : IsFine new) where
   has_bytes : 0 < old.map.atom
-  has_bytes = positive old seals plain left here
+  has_bytes = positive here
 
   -- an operation that is refused
-  refused_served : (session : ℕ) (ask : Ask) (number : ℕ) (exchanges : List Exchange)
-      → open_at old.lanes lane ≡ None → new ≡ old
-      → ((exchange : Exchange) → IsExchange (refusal session ask number) exchange
-      → Rattle.plain_disk.specs.Plain.Step old.map.atom left exchange left)
+  refused_served : (session : ℕ) (ask : Ask) (number : ℕ) → open_at old.lanes lane ≡ None
+      → new ≡ old → ((exchange : Exchange) → IsExchange (refusal session ask number) exchange
+      → PlainStep old.map.atom left exchange left)
       → AreExchanges (refusal session ask number ∷ []) exchanges
       → Served P Q seals old new (with_plain plain lane []) left exchanges
-  refused_served session ask number exchanges free same step are = record {
-    next = left;
-    legal = legal_one old.map.atom left left (refusal session ask number) exchanges are step;
-    here = subst (λ s. Here P Q s seals (with_plain plain lane []) left) (sym same)
-        (here_after old old seals plain (with_plain plain lane []) left left IsUnchanged here
-        refl
-        here.works (λ whole. (whole, refl))
-        (logic_forgets old plain left lane [] free here.logic)
-        (moves_not old.map.atom here.bytes old.disk old.disk refl here.values)
-        (λ view after unchanged shown. shown_forgets old seals plain left lane [] view after
-        free
-        unchanged shown));
-    map = ap (λ s. s.map) same;
-    work = ap (λ s. s.work) same;
-    newest = λ b below of. refl;
-  }
+  refused_served session ask number free same step are = rw same
+      (goes_on (record { map = refl; work = refl })
+      (legal_one old.map.atom left left (refusal session ask number) exchanges step are)
+      (here_after here refl here.works (λ whole. (whole, refl))
+      (logic_forgets lane [] free here.logic) (moves_not refl here.values)
+      (λ view after. shown_forgets lane [] free)))
 
-  admitted_served : (session : ℕ) (ask : Ask) (outcome : Outcome) (exchanges : List Exchange)
-      → IsFine new → open_at old.lanes lane ≡ None
+  admitted_served : {session : ℕ} {ask : Ask} {outcome : Outcome} → open_at old.lanes lane ≡ None
       → wrong_ask old.map.atom (size_of old.map) ask ≡ None
       → IsAdmitted old lane session ask outcome new
       → AreExchanges (by_admit session ask outcome) exchanges
       → Served P Q seals old new (with_plain plain lane []) left exchanges
-  admitted_served session ask outcome exchanges sound free proper is are = record {
-    next = left;
-    legal = legal_none old.map.atom left exchanges
-        (subst (λ xs. AreExchanges xs exchanges)
-        (unanswered old new lane session ask outcome is)
-        are);
-    here = here_after old new seals plain (with_plain plain lane []) left left IsUnchanged here
-        is.goes.map sound.works (λ whole. (sym is.goes.broken_is ∙ whole, refl))
-        (logic_admitted old new lane session ask outcome is plain left here.logic sound.sound
-        proper)
-        (moves_not old.map.atom here.bytes old.disk new.disk is.rests here.values)
-        (λ view after unchanged shown. shown_admitted old new lane session ask outcome is seals
-        plain left view after has_bytes free unchanged shown);
-    map = is.goes.map;
-    work = is.goes.work;
-    newest = λ b below of. refl;
-  }
+  admitted_served free proper is are = goes_on (goes_stays is.goes)
+      (legal_none old.map.atom left exchanges (rw (unanswered is) at are))
+      (here_after here is.goes.map fine.works (λ whole. (sym is.goes.broken_is ∙ whole, refl))
+      (logic_admitted is here.logic fine.sound proper) (moves_not is.rests here.values)
+      (λ view after. shown_admitted is has_bytes free))
 
-  pub admit_by : (session : ℕ) (ask : Ask) (outcome : Outcome) (exchanges : List Exchange)
-      (wrong : Option ℕ) → wrong_ask old.map.atom (size_of old.map) ask ≡ wrong → IsFine new
-      → open_at old.lanes lane ≡ None → MatchOption wrong
-      (MatchBool old.broken ((outcome ≡ refused 5) × (new ≡ old))
-      (IsAdmitted old lane session ask outcome new))
-      (λ number. (outcome ≡ refused number) × (new ≡ old))
+  pub admit_served : (session : ℕ) (ask : Ask) (outcome : Outcome) → open_at old.lanes lane ≡ None
+      → AdmitStep old lane session ask outcome new
       → AreExchanges (by_admit session ask outcome) exchanges
       → Served P Q seals old new (with_plain plain lane []) left exchanges
-  admit_by session ask outcome exchanges (Some number) is sound free step are =
-      refused_served session ask number exchanges free step.1
-      (λ exchange is_exchange. step_wrong old.map.atom old.map.blocks number left ask exchange
-      here.logic.are.count is is_exchange)
-      (subst (λ o. AreExchanges (by_admit session ask o) exchanges) step.0 are)
-  admit_by session ask outcome exchanges None is sound free step are = elim (either old.broken) [
-    | inl was ↦
-        let refusing =
-        match_true old.broken ((outcome ≡ refused 5) × (new ≡ old))
-        (IsAdmitted old lane session ask outcome new) was step in
-        refused_served session ask 5 exchanges free refusing.1
-        (λ exchange is_exchange. step_refused old.map.atom old.map.blocks left ask exchange
-        here.logic.are.count is has_bytes is_exchange)
-        (subst (λ o. AreExchanges (by_admit session ask o) exchanges) refusing.0 are)
-    | inr was ↦
-        admitted_served session ask outcome exchanges sound free is
-        (match_false old.broken ((outcome ≡ refused 5) × (new ≡ old))
-        (IsAdmitted old lane session ask outcome new) was step) are
-  ]
+  admit_served session ask outcome free step are =
+      by (wrong_ask old.map.atom (size_of old.map) ask) refl
+    where
+      by : (wrong : Option ℕ) → wrong_ask old.map.atom (size_of old.map) ask ≡ wrong
+          → Served P Q seals old new (with_plain plain lane []) left exchanges
+      by (Some number) is = (let (refusing, same) = rw is at step in
+          refused_served session ask number free same
+          (λ exchange. step_wrong old.map.atom left here.logic.are.count is) (rw refusing at are))
+      by None is = (let judged = rw is at step in elim (either old.broken) [
+        | inl was ↦ (let (refusing, same) = match_true old.broken _ _ was judged in
+            refused_served session ask 5 free same
+            (λ exchange. step_refused old.map.atom left here.logic.are.count is has_bytes)
+            (rw refusing at are))
+        | inr was ↦ admitted_served free is (match_false old.broken _ _ was judged) are
+      ])
 
-  -- an event of an operation that failed without a device call, or by a read
-  failed_here : (o : Open) (is_broken : Bool) → IsFine new → open_at old.lanes lane ≡ Some o
+  -- an event that answers nothing, by what it does to the operations and to the disk
+  silent : {now : ℕ → List ℕ} {is_fine : Bool} {Rel : View → View → Type 0}
+      → AreExchanges [] exchanges → Stays old new
+      → (new.broken ≡ false → (old.broken ≡ false) × (is_fine ≡ true)) → Logic new now left
+      → Moves P is_fine old.map.atom here.bytes old.disk new.disk Rel
+      → ((view after : View) → Rel view after → Shown old seals plain left view
+      → Shown new seals now left after) → Served P Q seals old new now left exchanges
+  silent are stays unbroken logic moves shows =
+      goes_on stays (legal_none old.map.atom left exchanges are)
+      (here_after here stays.map fine.works unbroken logic moves shows)
+
+  -- an event of an operation that failed, which wrote nothing
+  failed_served : {o : Open} {is_broken : Bool} {Rel : View → View → Type 0}
+      → AreExchanges [] exchanges → open_at old.lanes lane ≡ Some o
       → Goes old new lane old.entries (Some (failing o)) is_broken
       → (is_broken ≡ false → old.broken ≡ false) → (IsWrite o.ask → is_broken ≡ true)
-      → Moves P true old.map.atom here.bytes old.disk new.disk IsUnchanged
-      → Here P Q new seals plain left
-  failed_here o is_broken sound at goes unbroken breaks moves =
-      here_after old new seals plain plain left left IsUnchanged here goes.map sound.works
-      (λ whole. (unbroken (sym goes.broken_is ∙ whole), refl))
-      (logic_failed old new plain left lane o is_broken here.logic sound.sound at goes unbroken
-      breaks) moves
-      (λ view after unchanged shown. shown_kept old plain new plain seals left view after
-      (goes_stays goes) (failing_keeps old new plain lane o is_broken at goes)
-      (λ whole. (unbroken (sym goes.broken_is ∙ whole), unchanged.current)) unchanged.candidates
-      shown)
+      → Moves P true old.map.atom here.bytes old.disk new.disk Rel
+      → ((view after : View) → Rel view after → IsThinned view after × (is_broken ≡ false
+      → (place : ℕ) → after.current place ≡ view.current place))
+      → Served P Q seals old new plain left exchanges
+  failed_served are at goes unbroken breaks moves thins =
+      silent are (goes_stays goes) (λ whole. (unbroken (sym goes.broken_is ∙ whole), refl))
+      (logic_failed at goes unbroken breaks fine.sound here.logic) moves
+      (λ view after moved. (let (thinned, current) = thins view after moved in
+      shown_kept (goes_stays goes) (failing_keeps at goes)
+      (λ whole. (let stays = sym goes.broken_is ∙ whole in (unbroken stays, current stays)))
+      thinned))
 
   -- a piece is read
-  pub read_served : (o : Open) (outcome : Outcome) (exchanges : List Exchange) → IsFine new
+  pub read_served : {o : Open} (outcome : Outcome) → AreExchanges [] exchanges
       → open_at old.lanes lane ≡ Some o → IsRead o.ask → HasPiece o → Holds old lane
       → (old.broken ≡ false → AreLive old o) → ReadStep old lane o outcome new
-      → AreExchanges [] exchanges
       → Served P Q seals old new (after_read seals old lane outcome plain) left exchanges
-  read_served o (got bytes) exchanges sound at reading has holds live step are =
-      goes_on seals old new (with_plain plain lane (plain lane ++ plain_piece seals old lane bytes))
-      left exchanges are
-      (here_after old new seals plain
-      (with_plain plain lane (plain lane ++ plain_piece seals old lane bytes)) left left IsUnchanged
-      here step.goes.map sound.works (λ whole. (step.was, refl))
-      (logic_read old new seals plain left (view_of_bytes old.map.atom here.bytes) lane o bytes
-      here.lawful has_bytes here.logic sound.sound here.shown
-      (live step.was) at reading has holds step
-      (λ k below. block-read old.map.atom (place_of old.map step.piece) step.piece.count bytes
-      here.bytes old.disk new.disk k step.call here.values step.are.size below))
-      (moves_by_read old.map.atom (place_of old.map step.piece) bytes here.bytes old.disk new.disk
-      succeeded step.call here.values)
-      (λ view after unchanged shown. shown_read old new seals plain left view after lane o bytes at
-      reading step unchanged shown))
-      step.goes.map step.goes.work
-  read_served o device exchanges sound at reading has holds live step are =
-      goes_on seals old new plain left exchanges are
-      (failed_here o false sound at step.goes (λ whole. step.was)
-      (λ writing. absurd (never_both o.ask reading writing))
-      (moves_by_read old.map.atom (place_of old.map step.piece) step.bytes here.bytes old.disk
-      new.disk failed_call step.call here.values))
-      step.goes.map step.goes.work
-  read_served o broken exchanges sound at reading has holds live step are =
-      goes_on seals old new plain left exchanges are
-      (failed_here o true sound at step.goes (λ whole. absurd (cc)) (λ writing. refl)
-      (moves_not old.map.atom here.bytes old.disk new.disk step.rests here.values))
-      step.goes.map step.goes.work
-  read_served o _ exchanges sound at reading has holds live step are = absurd step
+  read_served (got bytes) are at reads has holds live step =
+      silent are (goes_stays step.goes) (λ whole. (step.was, refl))
+      (logic_read at reads step here.lawful has_bytes here.shown (live step.was) has holds
+      (λ k. block-read old.map.atom (place_of old.map step.piece) step.piece.count bytes here.bytes
+      old.disk new.disk k step.call here.values step.are.size) fine.sound here.logic)
+      (moves_by_read step.call here.values) (λ view after. shown_read at reads step)
+  read_served {o = o} device are at reads has holds live step =
+      failed_served are at step.goes (λ whole. step.was)
+      (λ writing. absurd (never_both o.ask reads writing)) (moves_by_read step.call here.values)
+      (λ view after same. (same.candidates, λ whole. same.current))
+  read_served broken are at reads has holds live step =
+      failed_served are at step.goes (λ whole. absurd (cc)) (λ writing. refl)
+      (moves_not step.rests here.values)
+      (λ view after same. (same.candidates, λ whole. same.current))
+  read_served _ are at reads has holds live step = absurd step
 
   -- a piece is written
-  tries : (o next : Open) (piece : Piece) (bytes : List ℕ) (is_broken : Bool)
+  tries : {o next : Open} {piece : Piece} {bytes : List ℕ} {is_broken : Bool}
       → open_at old.lanes lane ≡ Some o → IsWrite o.ask → HasPiece o → Holds old lane
       → IsPieceOf old.map o piece → ArePieceBytes old.map piece bytes → AreLive old o
       → old.broken ≡ false → Goes old new lane old.entries (Some next) is_broken → next.ask ≡ o.ask
       → next.range ≡ o.range → next.settled ≡ o.settled
       → TriesPiece old new seals plain left lane o next piece bytes
-  tries o next piece bytes is_broken at writing has holds is_piece are live whole goes ask range
+  tries {is_broken = is_broken} at writing has holds is_piece are live whole goes ask range
       unsettled = record {
         live = live;
         works = here.works;
@@ -242,172 +189,95 @@ module _ {K P Q : Type 0} (seals : Seals) (old new : State K) (plain : ℕ → L
         unsettled = unsettled;
       }
 
-  pub write_served : (o : Open) (bytes : List ℕ) (outcome : Outcome) (exchanges : List Exchange)
-      → IsFine new → open_at old.lanes lane ≡ Some o → IsWrite o.ask → HasPiece o → Holds old lane
+  pub write_served : {o : Open} (bytes : List ℕ) (outcome : Outcome) → AreExchanges [] exchanges
+      → open_at old.lanes lane ≡ Some o → IsWrite o.ask → HasPiece o → Holds old lane
       → (old.broken ≡ false → AreLive old o) → WriteStep old lane o bytes outcome new
-      → AreExchanges [] exchanges
       → Served P Q seals old new (after_write seals old lane bytes outcome plain) left exchanges
   unfolding tries
-  write_served o bytes done exchanges sound at writing has holds live step are =
-      let some = has_bytes in
+  write_served {o = o} bytes done are at writing has holds live step =
       let begun = (here.logic.sound.under_way lane o at).begun in
       let first : step.piece.first ≡ o.next = step.next.first in
-      let it =
-      tries o (moved o step.piece) step.piece bytes false at writing has holds step.next step.are
-      (live step.was) step.was step.goes refl refl refl in
-      goes_on seals old new (now_of old seals plain lane bytes) left exchanges are
-      (here_after old new seals plain (now_of old seals plain lane bytes) left left
-      (IsWritten old.map.atom (place_of old.map step.piece) step.piece.count bytes) here
-      step.goes.map
-      sound.works (λ whole. (step.was, refl))
-      (logic_tried old new seals plain left lane o (moved o step.piece) step.piece bytes it
-      sound.sound (λ whole. step.was) (omega (arith, first)) (λ whole. omega (arith, first))
-      (λ failed. absurd (let whole = has.goes_on in cc)))
-      (moves_by_written old.map.atom (place_of old.map step.piece) step.piece.count bytes here.bytes
-      old.disk new.disk step.call here.values some step.are.size
-      (piece_in_bytes old seals plain left o step.piece here step.was step.next (live step.was)
-      begun)
-      (piece_in_tables old seals plain left o step.piece here step.was step.next (live step.was)
-      begun))
-      (λ view after wrote shown. shown_written old new seals plain left lane o (moved o step.piece)
-      step.piece bytes it view after wrote step.was shown))
-      step.goes.map step.goes.work
-  write_served o bytes device exchanges sound at writing has holds live step are =
-      let some = has_bytes in
-      let it =
-      tries o (failing o) step.piece bytes true at writing has holds step.next step.are
-      (live step.was) step.was step.goes refl refl refl in
-      goes_on seals old new (now_of old seals plain lane bytes) left exchanges are
-      (here_after old new seals plain (now_of old seals plain lane bytes) left left
-      (IsTried old.map.atom (place_of old.map step.piece) step.piece.count bytes) here step.goes.map
-      sound.works (λ whole. absurd (let breaks = step.goes.broken_is in cc))
-      (logic_tried old new seals plain left lane o (failing o) step.piece bytes it sound.sound
-      (λ whole. absurd (cc)) (omega arith) (λ whole. absurd (cc)) (λ failed. refl))
-      (moves_by_tried old.map.atom (place_of old.map step.piece) step.piece.count bytes here.bytes
-      old.disk new.disk step.call here.values some step.are.size)
-      (λ view after attempted shown. shown_tried old new seals plain left lane o (failing o)
-      step.piece bytes it view after attempted step.goes.broken_is shown))
-      step.goes.map step.goes.work
-  write_served o bytes broken exchanges sound at writing has holds live step are =
-      goes_on seals old new plain left exchanges are
-      (failed_here o true sound at step.goes (λ whole. absurd (cc)) (λ is. refl)
-      (moves_not old.map.atom here.bytes old.disk new.disk step.rests here.values))
-      step.goes.map step.goes.work
-  write_served o bytes _ exchanges sound at writing has holds live step are = absurd step
+      let it = tries at writing has holds step.next step.are (live step.was) step.was step.goes
+      refl refl refl in
+      silent are (goes_stays step.goes) (λ whole. (step.was, refl))
+      (logic_tried it fine.sound (λ whole. step.was) (omega (arith, first))
+      (λ whole. omega (arith, first)) (λ failed. absurd (let whole = has.goes_on in cc)))
+      (moves_by_written step.piece.count step.call here.values has_bytes step.are.size
+      (piece_in_bytes o here step.was step.next (live step.was) begun)
+      (piece_in_tables o here step.was step.next (live step.was) begun))
+      (λ view after wrote. shown_written it view after wrote step.was)
+  write_served bytes device are at writing has holds live step =
+      let it = tries at writing has holds step.next step.are (live step.was) step.was step.goes
+      refl refl refl in
+      silent are (goes_stays step.goes) (λ whole. absurd (let breaks = step.goes.broken_is in cc))
+      (logic_tried it fine.sound (λ whole. absurd (cc)) (omega arith) (λ whole. absurd (cc))
+      (λ failed. refl))
+      (moves_by_tried step.piece.count step.call here.values has_bytes step.are.size)
+      (λ view after attempted. shown_tried it view after attempted step.goes.broken_is)
+  write_served bytes broken are at writing has holds live step =
+      failed_served are at step.goes (λ whole. absurd (cc)) (λ is. refl)
+      (moves_not step.rests here.values)
+      (λ view after same. (same.candidates, λ whole. same.current))
+  write_served bytes _ are at writing has holds live step = absurd step
+
+  -- a flush that failed
+  unflushed_served : {o : Open} {Rel : View → View → Type 0} → open_at old.lanes lane ≡ Some o
+      → has_lock o.ask ≡ false → Goes old new lane old.entries None true
+      → Moves P true old.map.atom here.bytes old.disk new.disk Rel
+      → ((view after : View) → Rel view after → IsThinned view after)
+      → AreExchanges (answer o.session Flush [] (Errno 5) ∷ []) exchanges
+      → Served P Q seals old new plain left exchanges
+  unflushed_served {o = o} at free goes moves thins are = goes_on (goes_stays goes)
+      (legal_one old.map.atom left left (answer o.session Flush [] (Errno 5)) exchanges
+      (λ exchange. step_unflushed old.map.atom left here.logic.are.count has_bytes) are)
+      (here_after here goes.map fine.works (λ whole. absurd (let breaks = goes.broken_is in cc))
+      (logic_unflushed goes (λ whole. absurd (cc)) fine.sound here.logic) moves
+      (λ view after moved. shown_unflushed goes at free goes.broken_is (thins view after moved)))
 
   -- a flush that ends
-  pub flush_served : (o : Open) (outcome : Outcome) (exchanges : List Exchange) → IsFine new
-      → open_at old.lanes lane ≡ Some o → o.ask ≡ Flush → SettleStep old lane o outcome new
-      → AreExchanges
-      (record { session = o.session; ask = Flush; plain = []; reply = flush_reply outcome } ∷ [])
-      exchanges → Served P Q seals old new plain left exchanges
-  flush_served o done exchanges sound at is step are =
+  pub flush_served : {o : Open} (outcome : Outcome) → open_at old.lanes lane ≡ Some o
+      → o.ask ≡ Flush → SettleStep old lane o outcome new
+      → AreExchanges (answer o.session Flush [] (flush_reply outcome) ∷ []) exchanges
+      → Served P Q seals old new plain left exchanges
+  flush_served {o = o} done at is step are =
       let free : has_lock o.ask ≡ false = rw is refl in
-      let goes =
-      subst (λ x. Goes old new lane old.entries x false)
-      (let e : after_settle o (settling o) ≡ None = rw free refl in e) step.goes in record {
+      let goes = rw free at step.goes in record {
         next = map flushed left;
-        legal = legal_one old.map.atom left (map flushed left)
-            (record { session = o.session; ask = Flush; plain = []; reply = Done }) exchanges are
-            (λ exchange is_exchange. step_flushed old.map.atom old.map.blocks left exchange
-            here.logic.are.count is_exchange);
-        here = here_after old new seals plain plain left (map flushed left) IsSynced here
-            step.goes.map sound.works (λ whole. (step.was, refl))
-            (logic_flushed old new plain left lane here.logic sound.sound goes step.was)
-            (moves_by_sync old.map.atom here.bytes old.disk new.disk step.call here.values)
-            (λ view after synced shown. shown_flushed old new plain left lane seals o view after
-            has_bytes here.logic at free goes step.was here.works synced shown);
+        legal = legal_one old.map.atom left (map flushed left) (answer o.session Flush [] Done)
+            exchanges (λ exchange. step_flushed old.map.atom left here.logic.are.count) are;
+        here = here_after here step.goes.map fine.works (λ whole. (step.was, refl))
+            (logic_flushed goes step.was fine.sound here.logic) (moves_by_sync step.call here.values)
+            (λ view after. shown_flushed goes at free has_bytes here.logic step.was here.works);
         map = step.goes.map;
         work = step.goes.work;
         newest =
-            λ b below of. (flush_renews left).newest b
-            (let count = here.logic.are.count in omega (arith, count, below));
+            λ b below of. (flush_renews left).newest b (omega (arith, here.logic.are.count, below));
       }
-  flush_served o device exchanges sound at is step are =
+  flush_served {o = o} device at is step are =
       let free : has_lock o.ask ≡ false = rw is refl in
-      let goes =
-      subst (λ x. Goes old new lane old.entries x true)
-      (let e : after_settle o (failing o) ≡ None = rw free refl in e) step.goes in record {
-        next = left;
-        legal = legal_one old.map.atom left left
-            (record { session = o.session; ask = Flush; plain = []; reply = Errno 5 }) exchanges are
-            (λ exchange is_exchange. step_unflushed old.map.atom old.map.blocks left exchange
-            here.logic.are.count has_bytes is_exchange);
-        here = here_after old new seals plain plain left left IsThinned here step.goes.map
-            sound.works
-            (λ whole. absurd (let breaks = step.goes.broken_is in cc))
-            (logic_unflushed old new plain left lane true here.logic sound.sound goes
-            (λ whole. absurd (cc)))
-            (moves_by_failed_sync old.map.atom here.bytes old.disk new.disk step.call here.values)
-            (λ view after thinned shown. shown_unflushed old new plain left lane seals o view after
-            at free goes thinned shown);
-        map = step.goes.map;
-        work = step.goes.work;
-        newest = λ b below of. refl;
-      }
-  flush_served o broken exchanges sound at is step are =
+      unflushed_served at free (rw free at step.goes) (moves_by_failed_sync step.call here.values)
+      (λ view after thinned. thinned) are
+  flush_served {o = o} broken at is step are =
       let free : has_lock o.ask ≡ false = rw is refl in
-      let goes =
-      subst (λ x. Goes old new lane old.entries x true)
-      (let e : after_settle o (failing o) ≡ None = rw free refl in e) step.goes in record {
-        next = left;
-        legal = legal_one old.map.atom left left
-            (record { session = o.session; ask = Flush; plain = []; reply = Errno 5 }) exchanges are
-            (λ exchange is_exchange. step_unflushed old.map.atom old.map.blocks left exchange
-            here.logic.are.count has_bytes is_exchange);
-        here = here_after old new seals plain plain left left IsUnchanged here step.goes.map
-            sound.works (λ whole. absurd (let breaks = step.goes.broken_is in cc))
-            (logic_unflushed old new plain left lane true here.logic sound.sound goes
-            (λ whole. absurd (cc)))
-            (moves_not old.map.atom here.bytes old.disk new.disk step.rests here.values)
-            (λ view after unchanged shown. shown_unflushed old new plain left lane seals o view
-            after at free goes unchanged.candidates shown);
-        map = step.goes.map;
-        work = step.goes.work;
-        newest = λ b below of. refl;
-      }
-  flush_served o _ exchanges sound at is step are = absurd step
+      unflushed_served at free (rw free at step.goes) (moves_not step.rests here.values)
+      (λ view after same. same.candidates) are
+  flush_served _ at is step are = absurd step
 
-  pub settle_served : (o : Open) (outcome : Outcome) (exchanges : List Exchange) → IsFine new
+  pub settle_served : {o : Open} (outcome : Outcome) → AreExchanges [] exchanges
       → open_at old.lanes lane ≡ Some o → IsForced o.ask → o.next ≡ o.range.end
-      → SettleStep old lane o outcome new → AreExchanges [] exchanges
-      → Served P Q seals old new plain left exchanges
-  settle_served o done exchanges sound at forced whole step are =
-      let has = forced_locks o.ask forced in
-      let goes =
-      subst (λ x. Goes old new lane old.entries x false)
-      (let e : after_settle o (settling o) ≡ Some (settling o) = rw has refl in e) step.goes in
-      goes_on seals old new plain left exchanges are
-      (here_after old new seals plain plain left left IsSynced here step.goes.map sound.works
-      (λ whole. (step.was, refl))
-      (logic_settled old new plain left lane o here.logic sound.sound at whole goes step.was)
-      (moves_by_sync old.map.atom here.bytes old.disk new.disk step.call here.values)
-      (λ view after synced shown. shown_settled old new plain left lane seals o view after has_bytes
-      here.logic at forced whole goes step.was here.works synced shown))
-      step.goes.map step.goes.work
-  settle_served o device exchanges sound at forced whole step are =
-      let has = forced_locks o.ask forced in
-      let goes =
-      subst (λ x. Goes old new lane old.entries x true)
-      (let e : after_settle o (failing o) ≡ Some (failing o) = rw has refl in e) step.goes in
-      goes_on seals old new plain left exchanges are
-      (here_after old new seals plain plain left left IsThinned here step.goes.map sound.works
-      (λ whole. absurd (let breaks = step.goes.broken_is in cc))
-      (logic_failed old new plain left lane o true here.logic sound.sound at goes
-      (λ stays. absurd (cc)) (λ writing. refl))
-      (moves_by_failed_sync old.map.atom here.bytes old.disk new.disk step.call here.values)
-      (λ view after thinned shown. shown_kept old plain new plain seals left view after
-      (goes_stays goes) (failing_keeps old new plain lane o true at goes)
-      (λ unbroken. absurd (let breaks = goes.broken_is in cc)) thinned shown))
-      step.goes.map step.goes.work
-  settle_served o broken exchanges sound at forced whole step are =
-      let has = forced_locks o.ask forced in
-      let goes =
-      subst (λ x. Goes old new lane old.entries x true)
-      (let e : after_settle o (failing o) ≡ Some (failing o) = rw has refl in e) step.goes in
-      goes_on seals old new plain left exchanges are
-      (failed_here o true sound at goes (λ stays. absurd (cc)) (λ writing. refl)
-      (moves_not old.map.atom here.bytes old.disk new.disk step.rests here.values))
-      step.goes.map step.goes.work
-  settle_served o _ exchanges sound at forced whole step are =
-      absurd step
+      → SettleStep old lane o outcome new → Served P Q seals old new plain left exchanges
+  settle_served {o = o} done are at forced whole step =
+      let goes = rw (forced_locks o.ask forced) at step.goes in
+      silent are (goes_stays goes) (λ unbroken. (step.was, refl))
+      (logic_settled at whole goes step.was fine.sound here.logic)
+      (moves_by_sync step.call here.values)
+      (λ view after. shown_settled at whole goes step.was has_bytes here.logic forced here.works)
+  settle_served {o = o} device are at forced whole step =
+      failed_served are at (rw (forced_locks o.ask forced) at step.goes) (λ stays. absurd (cc))
+      (λ writing. refl) (moves_by_failed_sync step.call here.values)
+      (λ view after thinned. (thinned, λ unbroken. absurd (cc)))
+  settle_served {o = o} broken are at forced whole step =
+      failed_served are at (rw (forced_locks o.ask forced) at step.goes) (λ stays. absurd (cc))
+      (λ writing. refl) (moves_not step.rests here.values)
+      (λ view after same. (same.candidates, λ unbroken. absurd (cc)))
+  settle_served _ are at forced whole step = absurd step

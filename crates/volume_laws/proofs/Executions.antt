@@ -1,14 +1,10 @@
 -- Executions, one after the other, and stops within them.
-use Rattle.std.proofs.Common.{◌≡◌, ℕ, List, [], ◌∷◌, ◌++◌, refl, sym, ◌∙◌, ap, subst, append_assoc}
-use Rattle.plain_disk.specs.Plain.{Block, Exchange}
-use Rattle.volume_laws.specs.Executing.{Executes, StopsAlong}
-use Rattle.volume_laws.specs.Promises.{Starts}
-use Rattle.volume_machine.specs.Answers.{Answered, AreExchanges, AreTagged, Tagged, untagged}
-use Rattle.volume_machine.specs.Runs.{Happening, IsRun, last_of, answered_by, answered_in, plain_in}
-use Rattle.volume_machine.specs.Runs.{plain_after, no_plain}
-use Rattle.volume_machine.specs.Seals.{Seals}
-use Rattle.volume_machine.specs.States.{State}
-use Rattle.volume_laws.proofs.RunsServed.{split_exchanges, serves_each_run}
+use Rattle.volume_machine.proofs.Common
+use Common.{List, [], ap, append_assoc, refl, subst, sym, ℕ, ◌++◌, ◌∙◌, ◌∷◌, ◌≡◌, Block, Exchange}
+use Common.{Answered, Tagged, Happening, no_plain, Seals, State, AreExchanges, AreTagged, untagged}
+use Common.{IsRun, answered_by, answered_in, last_of, plain_after, plain_in}
+use Rattle.volume_laws.specs.{Executing.Executes, Executing.StopsAlong, Promises.Starts}
+use Rattle.volume_laws.proofs.RunsServed.{serves_each_run, split_exchanges}
 
 -- runs, one after the other
 pub run-joined : {K : Type 0} (old : State K) (xs ys : List (Happening K)) → IsRun old xs
@@ -38,12 +34,8 @@ pub answered-joined : {K : Type 0} (seals : Seals) (old : State K) (plain : ℕ 
 unfolding answered_in last_of plain_in
 answered-joined seals old plain [] ys = refl
 answered-joined seals old plain (x ∷ xs) ys =
-    ap (λ rest. answered_by old x.event x.outcome plain ++ rest)
-    (answered-joined seals x.after (plain_after seals old x.event x.outcome plain) xs ys)
-    ∙ sym (append_assoc (answered_by old x.event x.outcome plain)
-    (answered_in seals x.after (plain_after seals old x.event x.outcome plain) xs)
-    (answered_in seals (last_of x.after xs)
-    (plain_in seals x.after (plain_after seals old x.event x.outcome plain) xs) ys))
+    rw (answered-joined seals x.after (plain_after seals old x.event x.outcome plain) xs ys)
+    (sym (append_assoc (answered_by old x.event x.outcome plain) _ _))
 
 tagged-joined : (xs ys : List Answered) (first rest : List Tagged) → AreTagged xs first
     → AreTagged ys rest → AreTagged (xs ++ ys) (first ++ rest)
@@ -74,16 +66,13 @@ pub executes_joined : {K : Type 0} (seals : Seals) (old middle new : State K)
     Executes seals old middle xs first → Executes seals middle new ys rest
     → Executes seals old new (xs ++ ys) (first ++ rest)
 executes_joined seals old middle new xs ys first rest one other = record {
-  is = run-joined old xs ys one.is (subst (λ s. IsRun s ys) (sym one.last) other.is);
+  is = run-joined old xs ys one.is (rw one.last other.is);
   last = last-joined old xs ys ∙ ap (λ s. last_of s ys) one.last ∙ other.last;
   answers =
-      λ plain. subst (λ all. AreTagged all (first ++ rest))
-      (sym (answered-joined seals old plain xs ys))
+      λ plain. rw (answered-joined seals old plain xs ys)
       (tagged-joined (answered_in seals old plain xs)
       (answered_in seals (last_of old xs) (plain_in seals old plain xs) ys) first rest
-      (one.answers plain)
-      (subst (λ s. AreTagged (answered_in seals s (plain_in seals old plain xs) ys) rest)
-      (sym one.last) (other.answers (plain_in seals old plain xs))));
+      (one.answers plain) (rw one.last (other.answers (plain_in seals old plain xs))));
 }
 
 -- stops along a run

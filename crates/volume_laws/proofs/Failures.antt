@@ -1,50 +1,41 @@
 -- When operations fail and volumes break.
-use Rattle.std.proofs.Common.{◌≡◌, inl, inr, ℕ, ◌||◌, Bool, true, false, nat_eq, List, [], ◌∷◌}
-use Rattle.std.proofs.Common.{Option, Some, None, refl, sym, ◌∙◌, ap, arith}
+use Rattle.volume_machine.proofs.Common
+use Common.{Bool, List, None, Option, Some, [], ap, arith, false, inl, inr, nat_eq, refl, sym, true}
+use Common.{ℕ, ◌||◌, ◌∙◌, ◌∷◌, ◌≡◌, either, after_got, after_put, after_sync, open_after, has_lock}
+use Common.{IsFresh, breaks, Event, Outcome, admits, asks, broken, device, done, finishes, got}
+use Common.{held, lane_of, reads, settles, waits, writes, Happening, State, begun, open_at, Meets}
+use Common.{after_settle, IsRun, last_of, Can, Step}
+use Rattle.std.proofs.Math.Bool.{or-false}
 use Rattle.volume_machine.specs.declared.open.Open.{Open}
-use Rattle.volume_machine.specs.Alone.{open_after, after_got, after_put, after_sync}
-use Rattle.volume_machine.specs.Asks.{has_lock}
-use Rattle.volume_machine.specs.Beginnings.{IsFresh}
-use Rattle.volume_machine.specs.Effects.{breaks}
-use Rattle.volume_machine.specs.Events.{Event, admits, asks, reads, writes, settles, finishes}
-use Rattle.volume_machine.specs.Events.{lane_of, Outcome, held, waits, got, done, device, broken}
-use Rattle.volume_machine.specs.Runs.{Happening, IsRun, last_of}
-use Rattle.volume_machine.specs.States.{State, open_at, begun}
-use Rattle.volume_machine.specs.Steps.{Step, Can, Meets, after_settle}
 use Rattle.volume_machine.proofs.EventEffects.{event_effects}
-use Rattle.volume_machine.proofs.Locking.{either}
-use Rattle.volume_laws.specs.Promises.{fails, fails_in, has_failed_by, breaks_in, is_failure}
-use Rattle.volume_laws.specs.Promises.{GoesByEvents}
+use Rattle.volume_laws.specs.Promises.{GoesByEvents, breaks_in, fails, fails_in, has_failed_by}
+use Rattle.volume_laws.specs.Promises.{is_failure}
 
 or_true : (b : Bool) → true ≡ (b || true)
 or_true true = refl
 or_true false = refl
 
-or_false : (b : Bool) → b ≡ (b || false)
-or_false true = refl
-or_false false = refl
-
 -- an operation after an outcome
 got_fails : (atom : ℕ) (outcome : Outcome) (o : Open) →
     (after_got atom outcome o).failed ≡ (o.failed || is_failure outcome)
-got_fails atom (got sealed) o = or_false o.failed
+got_fails atom (got sealed) o = sym (or-false o.failed)
 got_fails atom device o = or_true o.failed
 got_fails atom broken o = or_true o.failed
-got_fails atom _ o = or_false o.failed
+got_fails atom _ o = sym (or-false o.failed)
 
 put_fails : (atom : ℕ) (sealed : List ℕ) (outcome : Outcome) (o : Open) →
     (after_put atom sealed outcome o).failed ≡ (o.failed || is_failure outcome)
-put_fails atom sealed done o = or_false o.failed
+put_fails atom sealed done o = sym (or-false o.failed)
 put_fails atom sealed device o = or_true o.failed
 put_fails atom sealed broken o = or_true o.failed
-put_fails atom sealed _ o = or_false o.failed
+put_fails atom sealed _ o = sym (or-false o.failed)
 
 sync_fails : (outcome : Outcome) (o : Open) →
     (after_sync outcome o).failed ≡ (o.failed || is_failure outcome)
-sync_fails done o = or_false o.failed
+sync_fails done o = sym (or-false o.failed)
 sync_fails device o = or_true o.failed
 sync_fails broken o = or_true o.failed
-sync_fails _ o = or_false o.failed
+sync_fails _ o = sym (or-false o.failed)
 
 pub settled_is : (q now p : Open) → after_settle q now ≡ Some p → p ≡ now
 settled_is q now p is = elim (either (has_lock q.ask)) [
@@ -58,9 +49,9 @@ own_fails : (atom : ℕ) (event : Event) (outcome : Outcome) (now : Option Open)
     ((p : Open) → now ≡ Some p → p.failed ≡ before) → (o : Open) →
     open_after atom event outcome now ≡ Some o → o.failed ≡ has_failed_by event outcome before
 own_fails atom (admits lane session ask) (held grant) now before free was o is =
-    (let e : o ≡ begun atom session ask = cc in ap (λ x. x.failed) e)
+    ap (λ x. x.failed) (let e : o ≡ begun atom session ask = cc in e)
 own_fails atom (admits lane session ask) (waits other) now before free was o is =
-    (let e : o ≡ begun atom session ask = cc in ap (λ x. x.failed) e)
+    ap (λ x. x.failed) (let e : o ≡ begun atom session ask = cc in e)
 own_fails atom (admits lane session ask) _ now before free was o is =
     absurd (let none = free lane session ask refl in cc)
 own_fails atom (asks lane) outcome now before free was o is = was o is
@@ -82,8 +73,7 @@ free_admit : {K : Type 0} (old : State K) (event : Event) → Meets old event �
     (lane session : ℕ) (ask : _) → event ≡ admits lane session ask →
     open_at old.lanes (lane_of event) ≡ None
 unfolding Can
-free_admit old event meets lane session ask is = (let can = meets.can in let e = is in
-    rw e (rw e at can))
+free_admit old event meets lane session ask is = rw is (rw is at meets.can)
 
 event_fails : {K : Type 0} (old new : State K) (lane : ℕ) (event : Event) (outcome : Outcome)
     (before : Bool) → Meets old event → Step old event outcome new →
@@ -100,8 +90,7 @@ event_fails old new lane event outcome before meets step was o is =
           ∙ ap (λ n. open_at new.lanes n) e ∙ is) ∙ sym (rw own refl)
       | inr other ↦
           was o (sym (goes.lane_is.others lane
-          (λ same. (let no = other in
-          let e : nat_eq (lane_of event) lane ≡ true = grind (arith, same) in cc))) ∙ is)
+          (λ same. grind (arith, same, other))) ∙ is)
           ∙ sym (rw other refl)
     ]
 

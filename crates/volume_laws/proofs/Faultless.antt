@@ -9,10 +9,12 @@ use Common.{wrong_ask, IsFresh, Event, Outcome, admits, asks, broken, device, do
 use Common.{reads, refused, settles, writes, ArePieceBytes, IsComplete, IsPieceOf, moved, settling}
 use Common.{side_in, Happening, after_read, after_write, no_plain, plain_piece, with_plain}
 use Common.{AreLawful, Seals, IsSound, State, begun, open_at, size_of, CanSettle, FinishStep, Goes}
-use Common.{IsAdmitted, Meets, ReadStep, SettleStep, WriteStep, after_settle, Ask, Flush, Read}
-use Common.{Write, Open, AreExchanges, IsRun, answered_by, answered_in, last_of, plain_after, Can}
-use Common.{Step}
+use Common.{IsAdmitted, Meets, ReadStep, SettleStep, WriteStep, after_settle, AreExchanges, IsRun}
+use Common.{answered_by, answered_in, last_of, plain_after, Can, Step}
 use Rattle.plain_disk.specs.Outcomes.{AreServed, IsServed}
+use Rattle.volume_machine.specs.declared.ask.Ask.{Ask}
+use Rattle.volume_machine.specs.declared.ask.Ask.TheVariants.{Flush, Read, Write}
+use Rattle.volume_machine.specs.declared.open.Open.{Open}
 use Rattle.volume_machine.proofs.EventEffects.{event_effects}
 use Rattle.volume_machine.proofs.Soundness.{match_false, sound_kept}
 use Rattle.volume_laws.specs.Executing.{ServesWithoutFaults}
@@ -115,7 +117,7 @@ module _ {K : Type 0} (old new : State K) (seals : Seals) (plain : ℕ → List 
       → length (with_plain plain lane (plain lane ++ plain_piece seals old lane bytes) lane)
       ≡ ((moved o piece).next - o.range.start) * old.map.atom
   piece_length o piece bytes at has next are =
-      let more = (piece_blocks old.map seals o piece bytes fine.lawful next are).size in
+      let more = (piece_blocks o next fine.lawful are).size in
       let opened : plain_piece seals old lane bytes
       ≡ seals.opened (side_in old.map o.next) o.next bytes = rw at refl in
       let count : (moved o piece).next - o.range.start ≡ (o.next - o.range.start) + piece.count =
@@ -257,8 +259,8 @@ module _ {K : Type 0} (old new : State K) (seals : Seals) (plain : ℕ → List 
                   ∙ (let none : (range_of old.map.atom ask).start
                   - (range_of old.map.atom ask).start ≡ 0 = omega arith in rw none (omega arith)),
             ));
-        full = subst (λ xs. AreFull old.map.atom (size_of old.map) xs) (sym (unanswered
-            old new lane session ask outcome admitted)) (none_full old.map.atom (size_of old.map));
+        full = subst (λ xs. AreFull old.map.atom (size_of old.map) xs) (sym (unanswered admitted))
+            (none_full old.map.atom (size_of old.map));
       }
 
 fine_event : {K : Type 0} (old new : State K) (seals : Seals) (plain : ℕ → List ℕ) (event : Event)

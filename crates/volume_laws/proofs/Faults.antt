@@ -1,14 +1,9 @@
 -- The count of a disk's faults, and volumes that break.
-use Rattle.std.proofs.Common.{◌≡◌, inl, inr, ℕ, ◌≤◌, true, false, ◌||◌, List, [], ◌∷◌, ◌∙◌, ap}
-use Rattle.std.proofs.Common.{arith}
-use Rattle.base_terms.specs.Causes.{Rose}
-use Rattle.volume_machine.specs.Beginnings.{IsFresh}
-use Rattle.volume_machine.specs.Effects.{breaks, is_fault}
-use Rattle.volume_machine.specs.Events.{Event, writes, settles, Outcome}
-use Rattle.volume_machine.specs.Runs.{Happening, IsRun, last_of}
-use Rattle.volume_machine.specs.States.{State}
+use Rattle.volume_machine.proofs.Common.{List, [], ap, arith, false, inl, inr, true, ℕ, ◌||◌, ◌∙◌}
+use Rattle.volume_machine.proofs.Common.{◌∷◌, ◌≡◌, ◌≤◌, either, Rose, IsFresh, breaks, is_fault}
+use Rattle.volume_machine.proofs.Common.{Event, Outcome, settles, writes, Happening, State, IsRun}
+use Rattle.volume_machine.proofs.Common.{last_of}
 use Rattle.volume_machine.proofs.EventEffects.{event_effects}
-use Rattle.volume_machine.proofs.Locking.{either}
 use Rattle.volume_laws.specs.Executing.{BreaksByFaults}
 
 -- the count of faults doesn't fall

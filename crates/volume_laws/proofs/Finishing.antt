@@ -1,64 +1,46 @@
 -- Operations that end: what holds between events goes on to hold.
-use Rattle.std.proofs.Common.{◌≡◌, ◌≢◌, inl, inr, ◌⊎◌, ℕ, suc, ◌+◌, ◌-◌, ◌*◌, ◌<◌, ◌≤◌, true, false}
-use Rattle.std.proofs.Common.{List, length, Contains, Some, None, refl, sym, ◌∙◌, ap, subst, arith}
-use Rattle.base_terms.specs.Blocks.{blocks_of, changed}
-use Rattle.plain_disk.specs.Plain.{Block, values_of}
-use Rattle.range_lock.specs.Locks.{without}
-use Rattle.volume_machine.specs.declared.open.Open.{Open}
-use Rattle.volume_machine.specs.Asks.{IsRead, IsWrite, IsForced}
-use Rattle.volume_laws.specs.Contents.{block_in, AreBlocksOf, IsTriedBy, IsNow, IsAllowedAt}
-use Rattle.volume_laws.specs.Contents.{IsSealed}
-use Rattle.volume_machine.specs.Pieces.{place_in}
-use Rattle.volume_machine.specs.Seals.{Seals}
-use Rattle.disk_views.specs.Parts.{AreBlocks, block_at}
-use Rattle.volume_machine.specs.Sound.{IsSound}
-use Rattle.volume_machine.specs.States.{State, open_at, IsLive, IsGoverned}
-use Rattle.volume_machine.specs.Steps.{Goes, Holds}
-use Rattle.disk_views.specs.Views.{View, IsOutside, IsUnchanged}
-use Rattle.volume_laws.proofs.Admits.{idle}
-use Rattle.disk_views.proofs.Blockwise.{one_block}
+use Rattle.volume_machine.proofs.Common
+use Common.{Contains, List, None, Some, ap, arith, false, inl, inr, length, refl, subst, suc, sym}
+use Common.{true, ℕ, ◌*◌, ◌+◌, ◌-◌, ◌<◌, ◌∙◌, ◌≡◌, ◌≢◌, ◌≤◌, ◌⊎◌, same_or_not, blocks_of, changed}
+use Common.{AreBlocks, block_at, IsOutside, IsUnchanged, View, one_block, without, zone_kept, Block}
+use Common.{values_of, IsForced, IsRead, IsWrite, place_in, Seals, IsSound, IsGoverned, IsLive}
+use Common.{State, open_at, Goes, Holds, Works}
 use Rattle.disk_views.proofs.Entries.{length-changed}
-use Rattle.volume_laws.proofs.Invariant.{LaneKnows, Logic, Shown, tried_goes, writes_stay}
-use Rattle.volume_laws.proofs.Invariant.{shown_kept, lanes_still, goes_stays, live_back}
-use Rattle.volume_machine.proofs.Locking.{same_or_not, holds-without}
-use Rattle.volume_laws.proofs.PlainBlocks.{block_in-changed_outside, block_in-changed_inside}
-use Rattle.volume_laws.proofs.Reading.{held_apart, writes_lock, reads_lock, never_both, tried_apart}
-use Rattle.volume_laws.proofs.Reading.{read_untried}
-use Rattle.volume_laws.proofs.Settling.{own_value}
-use Rattle.volume_laws.proofs.Writing.{in_piece}
-use Rattle.disk_zones.proofs.ZoneFrames.{zone_kept}
+use Rattle.volume_machine.specs.declared.open.Open.{Open}
+use Rattle.volume_machine.proofs.Locking.{holds-without}
+use Rattle.volume_laws.specs.Contents.{AreBlocksOf, IsAllowedAt, IsNow, IsSealed, IsTriedBy}
+use Rattle.volume_laws.specs.Contents.{block_in}
 use Rattle.volume_laws.specs.Texts.{texts_of}
-use Rattle.volume_machine.specs.Working.{Works}
-use Rattle.volume_laws.proofs.Workings.{zone_renewed}
+use Rattle.volume_laws.proofs.Invariant.{LaneKnows, Logic, Shown, goes_stays, lanes_still}
+use Rattle.volume_laws.proofs.Invariant.{live_back, logic_kept, shown_kept, tried_goes, writes_stay}
+use Rattle.volume_laws.proofs.Reading.{held_apart, never_both, read_untried, reads_lock}
+use Rattle.volume_laws.proofs.Reading.{tried_apart, writes_lock}
+use Rattle.volume_laws.proofs.{Admits.idle, PlainBlocks.block_in-changed_inside}
+use Rattle.volume_laws.proofs.{PlainBlocks.block_in-changed_outside, Settling.knows_renewed}
+use Rattle.volume_laws.proofs.{Settling.own_value, Workings.zone_renewed, Writing.in_piece}
 
 -- a lane ended its operation
 abbrev pub Ends : {K : Type 0} → State K → State K → ℕ → Type 0
 Ends old new lane = Goes old new lane (without lane old.entries) None old.broken
 
-pub logic_ended : {K : Type 0} (old new : State K) (plain : ℕ → List ℕ) (left : List Block)
-    (lane : ℕ) → Logic old plain left → IsSound new → Ends old new lane → Logic new plain left
-logic_ended old new plain left lane logic sound goes = record {
-  sound = sound;
-  are = rw goes.map logic.are;
-  sure = λ whole b below. logic.sure (sym goes.broken_is ∙ whole) b
-      (subst (λ m. b < m.blocks) goes.map below);
-  lanes = lanes_still old plain new plain left lane None (goes_stays goes) goes.lane_is
-      (λ k other. refl) (λ k other held. rw goes.entries_are
-      (holds-without lane k old.entries (λ same. other (sym same)) held))
-      (λ was. goes.broken_is ∙ was) (λ o is. absurd (cc)) logic.lanes;
-}
+module _ {K : Type 0} {old new : State K} {lane : ℕ} (goes : Ends old new lane) where
+  still_holds : (k : ℕ) → k ≢ lane → Holds old k → Holds new k
+  still_holds k other held = rw goes.entries_are
+      (holds-without lane k old.entries (λ same. other (sym same)) held)
+
+  pub logic_ended : {plain : ℕ → List ℕ} {left : List Block} → IsSound new → Logic old plain left → Logic new plain left
+  logic_ended sound = logic_kept goes (λ whole. whole) sound (λ k other. refl) still_holds
+      (λ o is. absurd (cc))
 
 -- a read that ended
-pub shown_read_ended : {K : Type 0} (old new : State K) (plain : ℕ → List ℕ) (seals : Seals)
-    (left : List Block) (lane : ℕ) (o : Open) (view next : View) →
-    open_at old.lanes lane ≡ Some o → IsRead o.ask → Ends old new lane → IsUnchanged view next
+pub shown_read_ended : {K : Type 0} {old new : State K} {plain : ℕ → List ℕ} {seals : Seals}
+    {left : List Block} {lane : ℕ} {o : Open} {view next : View}
+    → open_at old.lanes lane ≡ Some o → IsRead o.ask → Ends old new lane → IsUnchanged view next
     → Shown old seals plain left view → Shown new seals plain left next
-shown_read_ended old new plain seals left lane o view next is reads goes same shown =
-    shown_kept old plain new plain seals left view next (goes_stays goes)
-    (writes_stay old plain new plain lane None goes.map goes.lane_is (λ k other. refl)
-    (λ b value. read_untried old plain lane b value o is reads)
-    (λ b value. idle new plain lane b value goes.lane_is.own) (λ one same_one. absurd (cc)))
-    (λ whole. (sym goes.broken_is ∙ whole, same.current)) same.candidates shown
+shown_read_ended is reads goes same = shown_kept (goes_stays goes)
+    (writes_stay goes.map goes.lane_is (λ k other. refl) (read_untried is reads)
+    (idle goes.lane_is.own) (λ one same_one. absurd (cc)))
+    (λ whole. (sym goes.broken_is ∙ whole, same.current)) same.candidates
 
 -- A write that ended, and what it made of the blocks that it tried: each has the new value, and
 -- either keeps those before, or was settled.
@@ -76,7 +58,7 @@ pub record EndsWrite {K : Type 0} (old new : State K) (plain : ℕ → List ℕ)
   pub has : (block : Block) (value : List ℕ) → Contains (values_of (change block value)) value
   pub works : Works old
   pub live : (b : ℕ) → o.range.start ≤ b → b < o.range.start + count → IsGoverned old b → ⊥
-  pub keeps : ((block : Block) (value other : List ℕ) → Contains (values_of block) other
+  pub keeps : 0 < count → ((block : Block) (value other : List ℕ) → Contains (values_of block) other
       → Contains (values_of (change block value)) other)
       ⊎ (IsForced o.ask × (o.settled ≡ true))
 
@@ -86,26 +68,6 @@ abbrev pub ended_blocks : {K : Type 0} → State K → (ℕ → List ℕ) → Li
 ended_blocks old plain left lane o change count =
     changed change left o.range.start (blocks_of old.map.atom count (plain lane))
 
-knows_beside : {K : Type 0} (state : State K) (plain : ℕ → List ℕ) (left next : List Block)
-    (lane : ℕ) (o : Open) (knows : LaneKnows state plain left lane o) →
-    (IsRead o.ask → (i : ℕ) → i < knows.count
-    → block_in next (o.range.start + i) ≡ block_in left (o.range.start + i))
-    → LaneKnows state plain next lane o
-knows_beside state plain left next lane o knows same = record {
-  count = knows.count;
-  are = knows.are;
-  least = knows.least;
-  most = knows.most;
-  exact = knows.exact;
-  holds = knows.holds;
-  reads = λ reading i below.
-      (let right = knows.reads reading i below in let is = same reading i below in
-      (right.0 ∙ sym (ap (λ block. block.newest) is), ap (λ block. block.unsure) is ∙ right.1));
-  kept = knows.kept;
-  beside = knows.beside;
-  breaks = knows.breaks;
-}
-
 pub ended_outside : {K : Type 0} (old : State K) (plain : ℕ → List ℕ) (left : List Block) (lane : ℕ)
     (o : Open) (change : Block → List ℕ → Block) (count b : ℕ) →
     IsOutside o.range.start count b
@@ -113,8 +75,8 @@ pub ended_outside : {K : Type 0} (old : State K) (plain : ℕ → List ℕ) (lef
 ended_outside old plain left lane o change count b outside =
     block_in-changed_outside change left old.map.atom o.range.start count (plain lane) b outside
 
-module _ {K : Type 0} (old new : State K) (plain : ℕ → List ℕ) (left : List Block) (lane : ℕ)
-    (o : Open) (change : Block → List ℕ → Block) (count : ℕ)
+module _ {K : Type 0} {old new : State K} {plain : ℕ → List ℕ} {left : List Block} {lane : ℕ}
+    {o : Open} {change : Block → List ℕ → Block} {count : ℕ}
     (it : EndsWrite old new plain left lane o change count) where
   -- the plain disk's blocks once the write has ended
   abbrev ended : List Block
@@ -137,7 +99,7 @@ module _ {K : Type 0} (old new : State K) (plain : ℕ → List ℕ) (left : Lis
   only_own : (k j : ℕ) (value : List ℕ) → j < count → k ≢ lane
       → IsTriedBy old plain k (o.range.start + j) value → ⊥
   only_own k j value below other tried =
-      tried_apart old plain left lane k (o.range.start + j) value o it.logic it.some
+      tried_apart lane k (o.range.start + j) it.logic it.some
       (λ same. other (sym same)) it.at (writes_lock o.ask it.writes) it.holds
       (omega arith) (let most = it.most in omega (arith, most, below)) tried
 
@@ -146,20 +108,17 @@ module _ {K : Type 0} (old new : State K) (plain : ℕ → List ℕ) (left : Lis
       → (k ≢ lane) × IsTriedBy old plain k b value
   tried_before k b value tried = elim (same_or_not k lane) [
     | inl same ↦
-        absurd (idle new plain k b value (ap (λ n. open_at new.lanes n) same ∙ it.goes.lane_is.own)
-        tried)
+        absurd (idle (ap (λ n. open_at new.lanes n) same ∙ it.goes.lane_is.own) b value tried)
     | inr other ↦ (
       other,
-      tried_goes new plain old plain k b value (sym it.goes.map)
-          (sym (it.goes.lane_is.others k other)) refl tried,
+      tried_goes (sym it.goes.map) (sym (it.goes.lane_is.others k other)) refl tried,
     )
   ]
 
   tried_after : (k b : ℕ) (value : List ℕ) → k ≢ lane → IsTriedBy old plain k b value
       → IsTriedBy new plain k b value
   tried_after k b value other tried =
-      tried_goes old plain new plain k b value it.goes.map (it.goes.lane_is.others k other) refl
-      tried
+      tried_goes it.goes.map (it.goes.lane_is.others k other) refl tried
 
   -- what the ended write tried
   own_of : (b : ℕ) (value : List ℕ) → IsTriedBy old plain lane b value
@@ -210,7 +169,7 @@ module _ {K : Type 0} (old new : State K) (plain : ℕ → List ℕ) (left : Lis
               (let u = ap (λ n. open_at old.lanes n) same ∙ it.at in cc) in
               never_both p.ask reading (subst (λ q. IsWrite q.ask) (sym one) it.writes))
           | inr other ↦
-              absurd (held_apart old k lane (p.range.start + i) p o it.logic.sound other is
+              absurd (held_apart k lane (p.range.start + i) it.logic.sound other is
               (reads_lock p.ask reading) (knows.holds (omega (arith, below)))
               (omega arith) (let most = knows.most in omega (arith, most, below)) it.at it.writes
               it.holds
@@ -239,13 +198,11 @@ module _ {K : Type 0} (old new : State K) (plain : ℕ → List ℕ) (left : Lis
                   (ended_outside old plain left lane o change count b outside)
                   ∙ it.logic.sure was b (subst (λ m. b < m.blocks) goes.map below)
             ];
-        lanes = lanes_still old plain new plain next lane None (goes_stays goes) goes.lane_is
-            (λ k other. refl) (λ k other held. rw goes.entries_are
-            (holds-without lane k old.entries (λ same. other (sym same)) held))
+        lanes = lanes_still (goes_stays goes) goes.lane_is (λ k other. refl) (still_holds goes)
             (λ was. goes.broken_is ∙ was) (λ p is. absurd (cc))
             (λ k p is. let knows = it.logic.lanes k p is in
-            knows_beside old plain left next k p knows
-            (λ reading i below. read_beside k p i is reading knows below));
+            knows_renewed knows (λ reading i below. let same = read_beside k p i is reading knows
+            below in (ap (λ block. block.newest) same, ap (λ block. block.unsure) same)));
       }
 
   -- the candidates of a block, after its write ended
@@ -267,7 +224,7 @@ module _ {K : Type 0} (old new : State K) (plain : ℕ → List ℕ) (left : Lis
             let own_has : Contains (values_of (block_in next b))
             (block_at old.map.atom (plain lane) j) =
             rw now (it.has (block_in left b) (block_at old.map.atom (plain lane) j)) in
-            elim it.keeps [
+            elim (it.keeps (omega (arith, lt))) [
               | inl keeps ↦ elim allowed [
                 | inl contains_old ↦ (
                   value,
@@ -351,7 +308,7 @@ module _ {K : Type 0} (old new : State K) (plain : ℕ → List ℕ) (left : Lis
             (let size = it.are.size in let some =
             it.some in rw (place, size) (grind (arith, lt))) in
             let own : value ≡ block_at old.map.atom (plain lane) (b - o.range.start) =
-            own_value old plain left lane b value o it.logic it.some it.at it.writes it.holds
+            own_value lane b value it.logic it.some it.at it.writes it.holds
             (omega (arith, is)) (let most = it.most in omega (arith, most, is, lt)) enough is_now in
             inr (
               λ k other tried. (let (differ, before) =
@@ -427,7 +384,7 @@ module _ {K : Type 0} (old new : State K) (plain : ℕ → List ℕ) (left : Lis
             ]);
         zone = λ work is. (let was =
             sym it.goes.work ∙ is in
-            rw map (zone_renewed old work seals left blocks old.map.atom new.broken next
+            rw map (zone_renewed seals left blocks old.map.atom new.broken next
             (it.works work was) was
             (λ b below of. ap (λ block. block.newest)
             (ended_outside old plain left lane o change count b

@@ -1,24 +1,13 @@
 -- What holds between the events of a run: of the operations under way, and of what the disk holds.
-use Rattle.std.proofs.Common.{◌≡◌, ◌≢◌, inl, inr, ℕ, ◌+◌, ◌-◌, ◌<◌, ◌≤◌, true, false, Bool, List}
-use Rattle.std.proofs.Common.{Contains, Option, Some, IsSomeAnd, refl, sym, ◌∙◌, ap, subst}
-use Rattle.plain_disk.specs.Plain.{Block}
+use Rattle.volume_machine.proofs.Common
+use Common.{Bool, Contains, List, Option, Some, false, inl, inr, refl, subst, sym, true, ℕ, ◌+◌}
+use Common.{◌-◌, ◌<◌, ◌∙◌, ◌≡◌, ◌≢◌, ◌≤◌, either, same_or_not, AreBlocks, block_at, IsThinned, View}
+use Common.{Entry, ShowsZone, zone_kept, Block, IsForced, IsRead, IsWrite, place_in, Seals, IsSound}
+use Common.{IsGoverned, IsLive, LaneBecomes, State, open_at, Goes, Holds, Work}
 use Rattle.volume_machine.specs.declared.open.Open.{Open}
-use Rattle.volume_machine.specs.Asks.{IsRead, IsWrite, IsForced}
-use Rattle.volume_laws.specs.Contents.{block_in, IsSealed, AreBlocksOf, IsTriedBy, IsNow}
-use Rattle.volume_laws.specs.Contents.{IsAllowedAt}
-use Rattle.volume_machine.specs.Pieces.{place_in}
-use Rattle.volume_machine.specs.Seals.{Seals}
-use Rattle.disk_views.specs.Parts.{AreBlocks, block_at}
-use Rattle.volume_machine.specs.Sound.{IsSound}
-use Rattle.volume_machine.specs.States.{State, open_at, IsGoverned, IsLive, LaneBecomes}
-use Rattle.volume_machine.specs.Steps.{Holds, Goes}
-use Rattle.range_lock.specs.declared.Entry.{Entry}
+use Rattle.volume_laws.specs.Contents.{AreBlocksOf, IsAllowedAt, IsNow, IsSealed, IsTriedBy}
+use Rattle.volume_laws.specs.Contents.{block_in}
 use Rattle.volume_laws.specs.Texts.{texts_of}
-use Rattle.volume_machine.specs.Works.{Work}
-use Rattle.disk_zones.specs.Zones.{ShowsZone}
-use Rattle.disk_zones.proofs.ZoneFrames.{zone_kept}
-use Rattle.disk_views.specs.Views.{View, IsThinned}
-use Rattle.volume_machine.proofs.Locking.{same_or_not}
 
 -- the value of a block that is certain
 abbrev pub IsRight : List Block → ℕ → List ℕ → Type 0
@@ -91,228 +80,195 @@ pub record KeepsWrites {K : Type 0} (old : State K) (plain : ℕ → List ℕ) (
       × (before.range ≡ o.range)
       × (before.settled ≡ true) × (now lane ≡ plain lane)
 
--- what a lane has tried stays as long as its operation goes on
-pub tried_goes : {K : Type 0} (old : State K) (plain : ℕ → List ℕ) (new : State K)
-    (now : ℕ → List ℕ) (lane b : ℕ) (value : List ℕ) →
-    new.map ≡ old.map → open_at new.lanes lane ≡ open_at old.lanes lane → now lane ≡ plain lane →
-    IsTriedBy old plain lane b value → IsTriedBy new now lane b value
-tried_goes old plain new now lane b value map same known is = record {
-  o = is.o;
-  is = same ∙ is.is;
-  writes = is.writes;
-  begun = is.begun;
-  tried = rw (map, known) is.tried;
-  value_is = rw (map, known) is.value_is;
-}
+-- this lane has tried nothing
+abbrev pub TriesNothing : {K : Type 0} → State K → (ℕ → List ℕ) → ℕ → Type 0
+TriesNothing state plain lane = (b : ℕ) (value : List ℕ) → IsTriedBy state plain lane b value → ⊥
 
--- the same where the operation changed, but not its ask and its range
-tried_by : {K : Type 0} (old : State K) (plain : ℕ → List ℕ) (new : State K) (now : ℕ → List ℕ)
-    (lane b : ℕ) (value : List ℕ) (o next : Open) →
-    new.map ≡ old.map → open_at old.lanes lane ≡ Some o → open_at new.lanes lane ≡ Some next
-    → next.ask ≡ o.ask → next.range ≡ o.range →
-    now lane ≡ plain lane → IsTriedBy old plain lane b value → IsTriedBy new now lane b value
-tried_by old plain new now lane b value o next map is is_next ask range known tried =
-    let same : tried.o ≡ o = (let e = tried.is in cc) in record {
-      o = next;
-      is = is_next;
-      writes = rw (ask, ← same) tried.writes;
-      begun = rw (range, ← same) tried.begun;
-      tried = rw (range, ← same, map, known) tried.tried;
-      value_is = rw (range, ← same, map, known) tried.value_is;
-    }
+-- what a lane has tried stays where its operation keeps its ask and its range
+module _ {K : Type 0} {old new : State K} {plain now : ℕ → List ℕ} {lane b : ℕ} {value : List ℕ}
+    (map : new.map ≡ old.map) where
+  pub tried_by : {o next : Open} → open_at old.lanes lane ≡ Some o
+      → open_at new.lanes lane ≡ Some next → next.ask ≡ o.ask → next.range ≡ o.range
+      → now lane ≡ plain lane → IsTriedBy old plain lane b value → IsTriedBy new now lane b value
+  tried_by {o = o} {next = next} is is_next ask range known tried =
+      let same : tried.o ≡ o = (let e = tried.is in cc) in record {
+        o = next;
+        is = is_next;
+        writes = rw (ask, ← same) tried.writes;
+        begun = rw (range, ← same) tried.begun;
+        tried = rw (range, ← same, map, known) tried.tried;
+        value_is = rw (range, ← same, map, known) tried.value_is;
+      }
+
+  pub tried_goes : open_at new.lanes lane ≡ open_at old.lanes lane → now lane ≡ plain lane
+      → IsTriedBy old plain lane b value → IsTriedBy new now lane b value
+  tried_goes same known tried = tried_by tried.is (same ∙ tried.is) refl refl known tried
 
 -- blocks and their places stay, and which of them the zone at hand knows
 pub record Stays {K : Type 0} (old new : State K) : Type 0 where
   pub map : new.map ≡ old.map
   pub work : new.work ≡ old.work
 
-pub goes_stays : {K : Type 0} {old new : State K} {lane : ℕ} {entries : List Entry}
-    {now : Option Open} {is_broken : Bool} → Goes old new lane entries now is_broken → Stays old new
-goes_stays goes = record { map = goes.map; work = goes.work }
+module _ {K : Type 0} {old new : State K} where
+  pub goes_stays : {lane : ℕ} {entries : List Entry} {now : Option Open} {is_broken : Bool}
+      → Goes old new lane entries now is_broken → Stays old new
+  goes_stays goes = record { map = goes.map; work = goes.work }
 
-pub governed_back : {K : Type 0} {old new : State K} (b : ℕ) → Stays old new → IsGoverned new b
-    → IsGoverned old b
-governed_back {old = old} {new = new} b stays governed =
-    subst (λ w. IsSomeAnd w (λ work. (work.range.start ≤ b) × (b < work.range.end))) stays.work
-    governed
+  pub governed_back : (b : ℕ) → Stays old new → IsGoverned new b → IsGoverned old b
+  governed_back b stays governed = rw stays.work at governed
 
-pub live_back : {K : Type 0} {old new : State K} (b : ℕ) → Stays old new → IsLive new b
-    → IsLive old b
-live_back {old = old} {new = new} b stays live = record {
-  inside = subst (λ m. b < m.blocks) stays.map live.inside;
-  free = λ governed. live.free
-      (subst (λ w. IsSomeAnd w (λ work. (work.range.start ≤ b) × (b < work.range.end)))
-      (sym stays.work) governed);
-}
+  pub live_back : (b : ℕ) → Stays old new → IsLive new b → IsLive old b
+  live_back b stays live = record {
+    inside = rw stays.map at live.inside;
+    free = λ governed. live.free (rw stays.work governed);
+  }
 
-module _ {K : Type 0} (old : State K) (plain : ℕ → List ℕ) (new : State K) (now : ℕ → List ℕ) where
-  -- one lane's operation goes on with what it asked for and knows
-  pub tried_go_on : (lane : ℕ) (o next : Open) → new.map ≡ old.map
-      → LaneBecomes old.lanes new.lanes lane (Some next) → open_at old.lanes lane ≡ Some o
-      → next.ask ≡ o.ask → next.range ≡ o.range → ((k : ℕ) → now k ≡ plain k)
+-- one lane's operation changes, and no other
+module _ {K : Type 0} {old new : State K} {plain now : ℕ → List ℕ} {lane : ℕ} {next : Option Open}
+    (map : new.map ≡ old.map) (lanes : LaneBecomes old.lanes new.lanes lane next)
+    (known : (k : ℕ) → k ≢ lane → now k ≡ plain k) where
+  tried_stays : ((b : ℕ) (value : List ℕ) → IsTriedBy old plain lane b value
+      → IsTriedBy new now lane b value) → ((b : ℕ) (value : List ℕ)
+      → IsTriedBy new now lane b value → IsTriedBy old plain lane b value)
       → KeepsTried old plain new now
-  tried_go_on lane o next map lanes is ask range known = record {
+  tried_stays kept back = record {
     kept = λ k b value tried. elim (same_or_not k lane) [
-      | inl same ↦
-          tried_by old plain new now k b value o next map (ap (λ n. open_at old.lanes n) same ∙ is)
-          (ap (λ n. open_at new.lanes n) same ∙ lanes.own) ask range (known k) tried
-      | inr other ↦
-          tried_goes old plain new now k b value map (lanes.others k other) (known k) tried
+      | inl same ↦ rw same (kept b value (rw same at tried))
+      | inr other ↦ tried_goes map (lanes.others k other) (known k other) tried
     ];
     back = λ k b value tried. elim (same_or_not k lane) [
-      | inl same ↦
-          tried_by new now old plain k b value next o (sym map)
-          (ap (λ n. open_at new.lanes n) same ∙ lanes.own) (ap (λ n. open_at old.lanes n) same ∙ is)
-          (sym ask) (sym range) (sym (known k)) tried
-      | inr other ↦
-          tried_goes new now old plain k b value (sym map) (sym (lanes.others k other))
-          (sym (known k)) tried
+      | inl same ↦ rw same (back b value (rw same at tried))
+      | inr other ↦ tried_goes (sym map) (sym (lanes.others k other)) (sym (known k other)) tried
     ];
   }
 
-  pub writes_go_on : (lane : ℕ) (o next : Open) → new.map ≡ old.map
-      → LaneBecomes old.lanes new.lanes lane (Some next) → open_at old.lanes lane ≡ Some o
-      → next.ask ≡ o.ask → next.range ≡ o.range → next.settled ≡ o.settled
-      → ((k : ℕ) → now k ≡ plain k) → KeepsWrites old plain new now
-  writes_go_on lane o next map lanes is ask range settled known = record {
-    tried = tried_go_on lane o next map lanes is ask range known;
-    settled = λ k one is_one forced is_settled. elim (same_or_not k lane) [
-      | inl same ↦
-          (let e : one ≡ next =
-          (let at = sym (ap (λ n. open_at new.lanes n) same ∙ lanes.own) ∙ is_one in cc) in (
-            o,
-            ap (λ n. open_at old.lanes n) same ∙ is,
-            rw e (sym ask),
-            rw e (sym range),
-            sym settled ∙ rw (← e) is_settled,
-            known k,
-          ))
-      | inr other ↦ (one, sym (lanes.others k other) ∙ is_one, refl, refl, is_settled, known k)
+  -- it goes on with what it asked for and knows
+  pub tried_go_on : {o p : Open} → open_at old.lanes lane ≡ Some o → next ≡ Some p
+      → p.ask ≡ o.ask → p.range ≡ o.range → now lane ≡ plain lane → KeepsTried old plain new now
+  tried_go_on is becomes ask range same = tried_stays
+      (λ b value. tried_by map is (lanes.own ∙ becomes) ask range same)
+      (λ b value. tried_by (sym map) (lanes.own ∙ becomes) is (sym ask) (sym range) (sym same))
+
+  pub writes_go_on : {o p : Open} → open_at old.lanes lane ≡ Some o → next ≡ Some p
+      → p.ask ≡ o.ask → p.range ≡ o.range → p.settled ≡ o.settled → now lane ≡ plain lane
+      → KeepsWrites old plain new now
+  writes_go_on {o = o} {p = p} is becomes ask range settled knows = record {
+    tried = tried_go_on is becomes ask range knows;
+    settled = λ k one at forced is_settled. elim (same_or_not k lane) [
+      | inl same ↦ rw same
+          (let e : one ≡ p = (let own = lanes.own in cc) in
+          (o, is, rw e (sym ask), rw e (sym range), sym settled ∙ rw (← e) is_settled, knows))
+      | inr other ↦ (one, sym (lanes.others k other) ∙ at, refl, refl, is_settled, known k other)
     ];
   }
 
-  -- one lane has tried nothing before and after
-  pub tried_stay : (lane : ℕ) (next : Option Open) → new.map ≡ old.map
-      → LaneBecomes old.lanes new.lanes lane next → ((k : ℕ) → k ≢ lane → now k ≡ plain k)
-      → ((b : ℕ) (value : List ℕ) → IsTriedBy old plain lane b value → ⊥)
-      → ((b : ℕ) (value : List ℕ) → IsTriedBy new now lane b value → ⊥)
+  -- it has tried nothing before and after
+  pub tried_stay : TriesNothing old plain lane → TriesNothing new now lane
       → KeepsTried old plain new now
-  tried_stay lane next map lanes known before after = record {
-    kept = λ k b value tried. elim (same_or_not k lane) [
-      | inl same ↦ absurd (before b value (subst (λ n. IsTriedBy old plain n b value) same tried))
-      | inr other ↦
-          tried_goes old plain new now k b value map (lanes.others k other) (known k other) tried
-    ];
-    back = λ k b value tried. elim (same_or_not k lane) [
-      | inl same ↦ absurd (after b value (subst (λ n. IsTriedBy new now n b value) same tried))
-      | inr other ↦
-          tried_goes new now old plain k b value (sym map) (sym (lanes.others k other))
-          (sym (known k other)) tried
-    ];
-  }
+  tried_stay before after = tried_stays (λ b value tried. absurd (before b value tried))
+      (λ b value tried. absurd (after b value tried))
 
-  pub writes_stay : (lane : ℕ) (next : Option Open) → new.map ≡ old.map
-      → LaneBecomes old.lanes new.lanes lane next → ((k : ℕ) → k ≢ lane → now k ≡ plain k)
-      → ((b : ℕ) (value : List ℕ) → IsTriedBy old plain lane b value → ⊥)
-      → ((b : ℕ) (value : List ℕ) → IsTriedBy new now lane b value → ⊥)
+  pub writes_stay : TriesNothing old plain lane → TriesNothing new now lane
       → ((o : Open) → next ≡ Some o → IsForced o.ask → o.settled ≡ true → ⊥)
       → KeepsWrites old plain new now
-  writes_stay lane next map lanes known before after unsettled = record {
-    tried = tried_stay lane next map lanes known before after;
-    settled = λ k one is_one forced is_settled. elim (same_or_not k lane) [
-      | inl same ↦
-          absurd (unsettled one (sym lanes.own ∙ ap (λ n. open_at new.lanes n) (sym same) ∙ is_one)
-          forced is_settled)
-      | inr other ↦
-          (one, sym (lanes.others k other) ∙ is_one, refl, refl, is_settled, known k other)
+  writes_stay before after unsettled = record {
+    tried = tried_stay before after;
+    settled = λ k one at forced is_settled. elim (same_or_not k lane) [
+      | inl same ↦ absurd (unsettled one (let own = lanes.own in cc) forced is_settled)
+      | inr other ↦ (one, sym (lanes.others k other) ∙ at, refl, refl, is_settled, known k other)
     ];
   }
 
-  pub now_kept : (left : List Block) (b : ℕ) (value : List ℕ) → KeepsTried old plain new now
-      → IsNow old plain left b value → IsNow new now left b value
-  now_kept left b value keeps (inl (lane, tried)) =
-      inl (lane, keeps.kept lane b value tried)
-  now_kept left b value keeps (inr (none, is)) =
+module _ {K : Type 0} {old new : State K} {plain now : ℕ → List ℕ} (keeps : KeepsTried old plain new now)
+    (left : List Block) (b : ℕ) (value : List ℕ) where
+  pub now_kept : IsNow old plain left b value → IsNow new now left b value
+  now_kept (inl (lane, tried)) = inl (lane, keeps.kept lane b value tried)
+  now_kept (inr (none, is)) =
       inr (λ lane other tried. none lane other (keeps.back lane b other tried), is)
 
-  pub allowed_kept : (left : List Block) (b : ℕ) (value : List ℕ) → KeepsTried old plain new now
-      → IsAllowedAt old plain left b value → IsAllowedAt new now left b value
-  allowed_kept left b value keeps (inl contains) = inl contains
-  allowed_kept left b value keeps (inr (lane, tried)) =
-      inr (lane, keeps.kept lane b value tried)
+  pub allowed_kept : IsAllowedAt old plain left b value → IsAllowedAt new now left b value
+  allowed_kept (inl contains) = inl contains
+  allowed_kept (inr (lane, tried)) = inr (lane, keeps.kept lane b value tried)
 
+module _ {K : Type 0} {old new : State K} {plain now : ℕ → List ℕ} {left : List Block}
+    (stays : Stays old new) where
   -- what the disk shows stays where no write was tried, finished or settled
-  pub shown_kept : (seals : Seals) (left : List Block) (view next : View) → Stays old new
-      → KeepsWrites old plain new now → (new.broken ≡ false
-      → (old.broken ≡ false) × ((place : ℕ) → next.current place ≡ view.current place))
+  pub shown_kept : {seals : Seals} {view next : View} → KeepsWrites old plain new now
+      → (new.broken ≡ false → (old.broken ≡ false)
+      × ((place : ℕ) → next.current place ≡ view.current place))
       → IsThinned view next → Shown old seals plain left view → Shown new seals now left next
-  shown_kept seals left view next stays keeps unbroken thinned shown = let map =
-      stays.map in record {
-        current =
-            λ whole b below. subst
-            (λ m. (value : List ℕ) × IsNow new now left b value
-            × IsSealed m seals b value (next.current (place_in m b))) (sym map)
-            (let (was, same) = unbroken whole in
-            let (value, is_now, sealed) = shown.current was b (live_back b stays below) in (
-              value,
-              now_kept left b value keeps.tried is_now,
-              rw (same (place_in old.map b)) sealed,
-            ));
-        candidates =
-            λ b below atom contains. subst
-            (λ m. (value : List ℕ) × IsAllowedAt new now left b value
-            × IsSealed m seals b value atom)
-            (sym map)
-            (let (value, allowed, sealed) = shown.candidates b (live_back b stays below) atom
-            (thinned (place_in old.map b) atom
-            (subst (λ m. Contains (next.candidates (place_in m b)) atom) map contains)) in
-            (value, allowed_kept left b value keeps.tried allowed, sealed));
-        settled = λ lane o is forced is_settled b from to atom contains.
-            let (before, was, ask, range, was_settled, known) =
-            keeps.settled lane o is forced is_settled in
-            let sealed =
-            shown.settled lane before was (subst (λ a. IsForced a) (sym ask) forced) was_settled b
-            (rw range from) (rw range to) atom
-            (thinned (place_in old.map b) atom
-            (subst (λ m. Contains (next.candidates (place_in m b)) atom) map contains)) in
-            rw (map, known, ← range) sealed;
-        zone = λ work is. rw map
-            (zone_kept old.map.atom work.layout work.zone (texts_of seals left work) work.phase
-            old.broken new.broken view next unbroken thinned
-            (shown.zone work (sym stays.work ∙ is)));
-      }
+  shown_kept {seals = seals} {view = view} {next = next} keeps unbroken thinned shown = record {
+    current = λ whole b below. subst (λ m. (value : List ℕ) × IsNow new now left b value
+        × IsSealed m seals b value (next.current (place_in m b))) (sym stays.map)
+        (let (was, same) = unbroken whole in
+        let (value, is_now, sealed) = shown.current was b (live_back b stays below) in
+        (value, now_kept keeps.tried left b value is_now, rw (same (place_in old.map b)) sealed));
+    candidates = λ b below atom contains. subst (λ m. (value : List ℕ)
+        × IsAllowedAt new now left b value × IsSealed m seals b value atom) (sym stays.map)
+        (let (value, allowed, sealed) = shown.candidates b (live_back b stays below) atom
+        (thinned (place_in old.map b) atom (rw stays.map at contains)) in
+        (value, allowed_kept keeps.tried left b value allowed, sealed));
+    settled = λ lane o is forced is_settled b from to atom contains.
+        let (before, was, ask, range, was_settled, known) =
+        keeps.settled lane o is forced is_settled in
+        let sealed = shown.settled lane before was (rw ask forced) was_settled b (rw range from)
+        (rw range to) atom (thinned (place_in old.map b) atom (rw stays.map at contains)) in
+        rw (stays.map, known, ← range) sealed;
+    zone = λ work is. rw stays.map
+        (zone_kept old.map.atom work.layout work.zone (texts_of seals left work) work.phase
+        old.broken new.broken view next unbroken thinned (shown.zone work (sym stays.work ∙ is)));
+  }
 
   -- what the other lanes know stays
-  pub knows_still : (left : List Block) (lane : ℕ) (o : Open) → new.map ≡ old.map
-      → now lane ≡ plain lane → (Holds old lane → Holds new lane)
-      → (old.broken ≡ true → new.broken ≡ true) → (knows : LaneKnows old plain left lane o)
-      → ((b : ℕ) → o.range.start ≤ b → b < o.range.start + knows.count → IsGoverned new b → ⊥)
-      → LaneKnows new now left lane o
-  knows_still left lane o map known holds broken knows beside = record {
-    beside = beside;
+  pub knows_still : {lane : ℕ} {o : Open} → now lane ≡ plain lane
+      → (Holds old lane → Holds new lane) → (old.broken ≡ true → new.broken ≡ true)
+      → LaneKnows old plain left lane o → LaneKnows new now left lane o
+  knows_still known holds broken knows = record {
     count = knows.count;
-    are = rw (map, known) knows.are;
+    are = rw (stays.map, known) knows.are;
     least = knows.least;
     most = knows.most;
     exact = knows.exact;
     holds = λ some. holds (knows.holds some);
-    reads = λ is k below. rw (map, known) (knows.reads is k below);
+    reads = λ is k below. rw (stays.map, known) (knows.reads is k below);
     kept = knows.kept;
     breaks = λ writes failed. broken (knows.breaks writes failed);
+    beside = λ b from to of. knows.beside b from to (governed_back b stays of);
   }
 
-  pub lanes_still : (left : List Block) (lane : ℕ) (next : Option Open) → Stays old new
-      → LaneBecomes old.lanes new.lanes lane next → ((k : ℕ) → k ≢ lane → now k ≡ plain k)
-      → ((k : ℕ) → k ≢ lane → Holds old k → Holds new k) → (old.broken ≡ true → new.broken ≡ true)
+  pub lanes_still : {lane : ℕ} {next : Option Open} → LaneBecomes old.lanes new.lanes lane next
+      → ((k : ℕ) → k ≢ lane → now k ≡ plain k) → ((k : ℕ) → k ≢ lane → Holds old k → Holds new k)
+      → (old.broken ≡ true → new.broken ≡ true)
       → ((o : Open) → next ≡ Some o → LaneKnows new now left lane o)
       → ((k : ℕ) (o : Open) → open_at old.lanes k ≡ Some o → LaneKnows old plain left k o)
       → (k : ℕ) (o : Open) → open_at new.lanes k ≡ Some o → LaneKnows new now left k o
-  lanes_still left lane next stays lanes known holds broken own all k o is =
+  lanes_still {lane = lane} lanes known holds broken own all k o is =
       elim (same_or_not k lane) [
-        | inl same ↦
-            subst (λ n. LaneKnows new now left n o) (sym same)
-            (own o (sym lanes.own ∙ ap (λ n. open_at new.lanes n) (sym same) ∙ is))
-        | inr other ↦ (let knows = all k o (sym (lanes.others k other) ∙ is) in
-            knows_still left k o stays.map (known k other) (holds k other) broken knows
-            (λ b from to of. knows.beside b from to (governed_back b stays of)))
+        | inl same ↦ rw same (own o (let becomes = lanes.own in cc))
+        | inr other ↦ knows_still (known k other) (holds k other) broken
+            (all k o (sym (lanes.others k other) ∙ is))
       ]
+
+-- an event of one lane
+module _ {K : Type 0} {old new : State K} {lane : ℕ} {entries : List Entry} {next : Option Open}
+    {is_broken : Bool} (goes : Goes old new lane entries next is_broken)
+    (unbroken : is_broken ≡ false → old.broken ≡ false) where
+  -- a broken volume stays broken
+  pub still_broken : old.broken ≡ true → new.broken ≡ true
+  still_broken was = elim (either is_broken) [
+    | inl breaks ↦ goes.broken_is ∙ breaks
+    | inr stays ↦ absurd (let whole = unbroken stays in cc)
+  ]
+
+  -- what holds of the operations goes on to hold where it does of this lane's
+  pub logic_kept : {plain now : ℕ → List ℕ} {left : List Block} → IsSound new
+      → ((k : ℕ) → k ≢ lane → now k ≡ plain k) → ((k : ℕ) → k ≢ lane → Holds old k → Holds new k)
+      → ((o : Open) → next ≡ Some o → LaneKnows new now left lane o) → Logic old plain left
+      → Logic new now left
+  logic_kept sound known holds own logic = record {
+    sound = sound;
+    are = rw goes.map logic.are;
+    sure = λ whole b below. logic.sure (unbroken (sym goes.broken_is ∙ whole)) b
+        (rw goes.map at below);
+    lanes = lanes_still (goes_stays goes) goes.lane_is known holds still_broken own logic.lanes;
+  }

@@ -1,20 +1,24 @@
 -- Lanes of a run, each by its own calls.
 use Rattle.volume_machine.proofs.Common
 use Common.{List, MatchBool, MatchOption, None, Option, Some, [], ap, append_assoc, arith, false}
-use Common.{if◌then◌else◌, inl, inr, length, nat_eq, refl, subst, suc, sym, true, ℕ, ◌*◌, ◌++◌, ◌<◌}
-use Common.{◌==◌, ◌∙◌, ◌∷◌, ◌≡◌, ◌≢◌, ◌≤◌, MatchBool-at_false, MatchBool-at_true, either}
-use Common.{same_or_not, append-nil, is_of, Map, Alone, Call, after_got, after_put, after_sync}
-use Common.{alone_after, answered_alone, granted_after, idle_lane, open_after, plain_with}
-use Common.{with_piece, answers, IsRead, IsWrite, entry_of, has_lock, IsFresh, Event, Outcome}
-use Common.{admits, asks, broken, device, done, finishes, got, held, lane_of, reads, refused}
-use Common.{settles, writes, AgreeOn, rest_of, Happening, no_plain, plain_piece, with_plain, Seals}
-use Common.{IsSound, IsClient, State, begun, open_at, CanRead, CanWrite, Holds, IsAdmitted, Meets}
-use Common.{Ask, Read, Write, Grant, Open, AreMet, MeetsAlone, alone_of, answers_of, IsRun}
-use Common.{answered_by, last_of, plain_after, plain_in, Can, Step}
+use Common.{if◌then◌else◌, inl, inr, length, nat_eq, option_map, refl, subst, suc, sym, true, ℕ}
+use Common.{◌*◌, ◌++◌, ◌<◌, ◌==◌, ◌∙◌, ◌∷◌, ◌≡◌, ◌≢◌, ◌≤◌, either, same_or_not, append-nil}
+use Common.{BlockRange, is_of, Map, Alone, Call, after_got, after_put, after_sync, alone_after}
+use Common.{answered_alone, granted_after, idle_lane, open_after, opened_by, plain_with, settled_as}
+use Common.{with_piece, answers, IsRead, IsWrite, entry_of, has_lock, wrong_ask, IsFresh, Event}
+use Common.{Outcome, admits, asks, broken, device, done, finishes, got, held, lane_of, reads}
+use Common.{refused, settles, writes, AgreeOn, known_side, rest_of, Happening, no_plain}
+use Common.{plain_piece, with_plain, Seals, IsSound, IsClient, State, begun, open_at, size_of}
+use Common.{CanRead, CanWrite, Holds, IsAdmitted, Meets, AreMet, MeetsAlone, alone_of, answers_of}
+use Common.{IsRun, answered_by, last_of, plain_after, plain_in, Can, Step}
+use Rattle.volume_machine.specs.declared.ask.Ask.{Ask}
+use Rattle.volume_machine.specs.declared.ask.Ask.TheVariants.{Flush, Read, Write}
+use Rattle.volume_machine.specs.declared.grant.Grant.{Grant}
+use Rattle.volume_machine.specs.declared.open.Open.{Open}
 use Rattle.volume_machine.proofs.EventEffects.{event_effects}
 use Rattle.volume_machine.proofs.Locking.{before-last, find-last, is_of-own}
 use Rattle.volume_machine.proofs.NextPieces.{agrees_itself, agrees_now, next_agrees}
-use Rattle.volume_machine.proofs.Soundness.{sound_kept}
+use Rattle.volume_machine.proofs.Soundness.{match_false, match_true, sound_kept}
 use Rattle.volume_laws.specs.Lanes.{AreAlone, AreMetByLanes, AreOfClients, AreSteps, IsLane}
 use Rattle.volume_laws.specs.Lanes.{alone_in, answered_under, call_of, own_calls}
 use Rattle.volume_laws.proofs.{Admits.plain-other, Admits.plain-own, Failures.settled_is}
@@ -25,117 +29,198 @@ record IsTold {K : Type 0} (old new : State K) (lane : ℕ) (ask : Ask) (grant :
   map : grant.map ≡ old.map
   holds : has_lock ask ≡ true → Holds new lane
 
--- an operation that goes on asks for what it asked for, and has the blocks that it had
-abbrev AsksSame : Open → Open → Type 0
-AsksSame o next = (next.ask ≡ o.ask) × (next.range ≡ o.range)
+admit_told : {K : Type 0} (old new : State K) (lane session : ℕ) (ask : Ask) (grant : Grant) →
+    IsSound old → open_at old.lanes lane ≡ None →
+    IsAdmitted old lane session ask (held grant) new → IsTold old new lane ask grant
+admit_told old new lane session ask grant sound free is = elim (either (has_lock ask)) [
+  | inl has ↦
+      let enters = match_true (has_lock ask) _ _ has is.enters in
+      let none = sound.entries lane ∙ rw free refl in
+      let e = entry_of old.map.atom lane ask in
+      let own : is_of lane e ≡ true = is_of-own lane e refl in record {
+        map = enters.1.1.map;
+        holds = λ locks. rw (
+          enters.0,
+          find-last (is_of lane) old.entries e none own,
+          before-last (is_of lane) old.entries e none own,
+        ) enters.1.0;
+      }
+  | inr has_none ↦ let enters = match_false (has_lock ask) _ _ has_none is.enters in
+      record { map = enters.1.1.map; holds = λ locks. absurd (cc) }
+]
 
-got_same : (atom : ℕ) (outcome : Outcome) (o : Open) → AsksSame o (after_got atom outcome o)
-got_same atom device o = (refl, refl)
-got_same atom _ o = (refl, refl)
+held_admit : {K : Type 0} (old new : State K) (lane session : ℕ) (ask : Ask)
+    (grant : Grant) (wrong : Option ℕ) → wrong_ask old.map.atom (size_of old.map) ask ≡ wrong
+    → MatchOption wrong (MatchBool old.broken ((held grant ≡ refused 5) × (new ≡ old)) (IsAdmitted
+    old lane session ask (held grant) new)) (λ number. (held grant ≡ refused number) × (new ≡ old))
+    → IsAdmitted old lane session ask (held grant) new
+held_admit old new lane session ask grant (Some number) why step = absurd (cc)
+held_admit old new lane session ask grant None why step = elim (either old.broken) [
+  | inl was ↦ absurd (let no = (match_true old.broken _ _ was step).0 in cc)
+  | inr whole ↦ match_false old.broken _ _ whole step
+]
+
+admits_told : {K : Type 0} (old new : State K) (lane session : ℕ) (ask : Ask) (grant : Grant) →
+    IsSound old → open_at old.lanes lane ≡ None →
+    Step old (admits lane session ask) (held grant) new → IsTold old new lane ask grant
+unfolding Step
+admits_told old new lane session ask grant sound free step = admit_told old
+    new lane session ask grant sound free (held_admit old new lane session ask grant _ refl step)
+
+-- an operation that goes on asks for what it asked for, and has the blocks that it had
+record IsSameAsk (o next : Open) : Type 0 where
+  ask : next.ask ≡ o.ask
+  range : next.range ≡ o.range
+
+got_same : (atom : ℕ) (outcome : Outcome) (o : Open) → IsSameAsk o (after_got atom outcome o)
+got_same atom (got sealed) o = record { ask = refl; range = refl }
+got_same atom device o = record { ask = refl; range = refl }
+got_same atom broken o = record { ask = refl; range = refl }
+got_same atom _ o = record { ask = refl; range = refl }
 
 put_same : (atom : ℕ) (sealed : List ℕ) (outcome : Outcome) (o : Open) →
-    AsksSame o (after_put atom sealed outcome o)
-put_same atom sealed device o = (refl, refl)
-put_same atom sealed _ o = (refl, refl)
+    IsSameAsk o (after_put atom sealed outcome o)
+put_same atom sealed done o = record { ask = refl; range = refl }
+put_same atom sealed device o = record { ask = refl; range = refl }
+put_same atom sealed broken o = record { ask = refl; range = refl }
+put_same atom sealed _ o = record { ask = refl; range = refl }
 
-sync_same : (outcome : Outcome) (o : Open) → AsksSame o (after_sync outcome o)
-sync_same device o = (refl, refl)
-sync_same _ o = (refl, refl)
+sync_same : (outcome : Outcome) (o : Open) → IsSameAsk o (after_sync outcome o)
+sync_same done o = record { ask = refl; range = refl }
+sync_same device o = record { ask = refl; range = refl }
+sync_same broken o = record { ask = refl; range = refl }
+sync_same _ o = record { ask = refl; range = refl }
 
 reads_lock : (ask : Ask) → IsRead ask → has_lock ask ≡ true
 reads_lock (Read offset len) is = refl
-reads_lock _ is = absurd is
+reads_lock (Write offset len fua) is = absurd is
+reads_lock Flush is = absurd is
 
 writes_lock : (ask : Ask) → IsWrite ask → has_lock ask ≡ true
+writes_lock (Read offset len) is = absurd is
 writes_lock (Write offset len fua) is = refl
-writes_lock _ is = absurd is
+writes_lock Flush is = absurd is
 
-module _ {K : Type 0} {old new : State K} where
-  admit_told : {lane session : ℕ} {ask : Ask} {grant : Grant} → IsSound old →
-      open_at old.lanes lane ≡ None → IsAdmitted old lane session ask (held grant) new →
-      IsTold old new lane ask grant
-  admit_told {lane} {ask = ask} sound free is = elim (either (has_lock ask)) [
-    | inl has ↦
-        let enters = MatchBool-at_true _ _ has is.enters in
-        let none = sound.entries lane ∙ rw free refl in
-        let e = entry_of old.map.atom lane ask in
-        let own = is_of-own lane e refl in
-        let at = find-last (is_of lane) old.entries e none own in
-        let before = before-last (is_of lane) old.entries e none own in
-        record { map = enters.1.1.map; holds = λ locks. rw (enters.0, at, before) enters.1.0 }
-    | inr no ↦
-        let enters = MatchBool-at_false _ _ no is.enters in
-        record { map = enters.1.1.map; holds = λ locks. absurd (cc) }
-  ]
+-- what a grant told of the operation's blocks goes on to hold
+still_agrees : {K : Type 0} (old : State K) (plain : ℕ → List ℕ) (lane : ℕ) (alone : Alone)
+    (map : Map) (o : Open) (f : Open → Open) → IsLane old plain lane alone →
+    ((q : Open) → IsSameAsk q (f q)) → alone.granted ≡ Some map → (now : Option Open) →
+    alone.operation ≡ now → option_map f now ≡ Some o → AgreeOn o.range map old.map
+still_agrees old plain lane alone map o f is same granted None at now = absurd (cc)
+still_agrees old plain lane alone map o f is same granted (Some q) at now =
+    let e : o ≡ f q = cc in
+    subst (λ r. AgreeOn r map old.map) (sym (ap (λ x. x.range) e ∙ (same q).range))
+    (is.map map q granted at)
 
-  held_admit : {lane session : ℕ} {ask : Ask} {grant : Grant} (wrong : Option ℕ) →
-      MatchOption wrong (MatchBool old.broken ((held grant ≡ refused 5) × (new ≡ old))
-      (IsAdmitted old lane session ask (held grant) new))
-      (λ number. (held grant ≡ refused number) × (new ≡ old)) →
-      IsAdmitted old lane session ask (held grant) new
-  held_admit (Some number) step = absurd (cc)
-  held_admit None step = elim (either old.broken) [
-    | inl was ↦ absurd (let no = (MatchBool-at_true _ _ was step).0 in cc)
-    | inr whole ↦ MatchBool-at_false _ _ whole step
-  ]
+told_agrees : (range : BlockRange) (map granted now : Map) → map ≡ granted → granted ≡ now →
+    AgreeOn range map now
+told_agrees range map granted now same is =
+    subst (λ m. AgreeOn range m now) (sym (same ∙ is)) (agrees_itself range now)
 
-  -- what it goes on to have, and to hold
-  still_has : {plain : ℕ → List ℕ} {lane : ℕ} {alone : Alone} {map : Map} {o q : Open} (f : _) →
-      IsLane old plain lane alone → alone.granted ≡ Some map → alone.operation ≡ Some q →
-      AsksSame q (f q) → o ≡ f q → new.entries ≡ old.entries →
-      AgreeOn o.range map old.map × (has_lock o.ask ≡ true → Holds new lane)
-  still_has {map = map} {q = q} f is granted at same now entries = (
-    rw (now, same.1) (is.map map q granted at),
-    λ has. rw entries (is.holds map q granted at (rw (now, same.0) at has)),
-  )
+-- the lane of an event is after it what it is by its own calls
+own_map : {K : Type 0} (old new : State K) (plain : ℕ → List ℕ) (event : Event) (outcome : Outcome)
+    (alone : Alone) (map : Map) (o : Open) → IsSound old → IsLane old plain (lane_of event) alone →
+    MeetsAlone alone event → Step old event outcome new →
+    granted_after event outcome alone.granted ≡ Some map →
+    open_after old.map.atom event outcome alone.operation ≡ Some o → AgreeOn o.range map old.map
+unfolding MeetsAlone Step
+own_map old new plain (admits lane session ask)
+    (held grant) alone map o sound is meets step granted now = told_agrees o.range map grant.map
+    old.map (cc) (admits_told old new lane session ask grant sound (is.operation ∙ meets) step).map
+own_map old new plain (admits lane session ask) _ alone map o sound is meets step granted now =
+    absurd (cc)
+own_map old new plain (asks lane) (held grant) alone map o sound is meets
+    ((q, at, tells), same) granted now = told_agrees o.range map grant.map old.map (cc) tells.1.map
+own_map old new plain (asks lane) _ alone map o sound is meets step granted now = absurd (cc)
+own_map old new plain (reads lane len) outcome alone map o sound is meets step granted now =
+    still_agrees old plain lane alone map o (after_got old.map.atom outcome) is
+    (got_same old.map.atom outcome) granted alone.operation refl now
+own_map old new plain (writes lane bytes) outcome alone map o sound is meets step granted now =
+    still_agrees old plain lane alone map o (after_put old.map.atom bytes outcome) is
+    (put_same old.map.atom bytes outcome) granted alone.operation refl now
+own_map old new plain (settles lane) outcome alone map o sound is meets step granted now =
+    settle_agrees alone.operation refl now
+  where
+    settle_agrees : (at : Option Open) → alone.operation ≡ at → settled_as outcome at ≡ Some o →
+        AgreeOn o.range map old.map
+    settle_agrees None is_at now_so = absurd (cc)
+    settle_agrees (Some q) is_at now_so =
+        let e : o ≡ after_sync outcome q = settled_is q (after_sync outcome q) o now_so in
+        subst (λ r. AgreeOn r map old.map) (sym (ap (λ x. x.range) e ∙ (sync_same outcome q).range))
+        (is.map map q granted is_at)
+own_map old new plain (finishes lane) outcome alone map o sound is meets step granted now =
+    absurd (cc)
 
-  -- the lane of an event is after it what it is by its own calls
-  own_has : (plain : ℕ → List ℕ) (event : Event) (outcome : Outcome) (alone : Alone) (map : Map)
-      (o : Open) → IsSound old → IsLane old plain (lane_of event) alone →
-      MeetsAlone alone event → Step old event outcome new →
-      granted_after event outcome alone.granted ≡ Some map →
-      open_after old.map.atom event outcome alone.operation ≡ Some o →
-      AgreeOn o.range map old.map × (has_lock o.ask ≡ true → Holds new (lane_of event))
-  unfolding MeetsAlone Step
-  own_has plain (admits lane session ask) (held grant) alone map o sound is free step granted now =
-      let told = admit_told sound (is.operation ∙ free) (held_admit _ step) in
-      let same : map ≡ old.map = (let grant_is = told.map in cc) in
-      let e : o ≡ begun old.map.atom session ask = cc in
-      (rw same (agrees_itself o.range old.map), λ has. told.holds (rw e at has))
-  own_has plain (admits lane session ask) _ alone map o sound is free step granted now = absurd (cc)
-  own_has plain (asks lane) (held grant) alone map o sound is meets ((q, at, tells), same) granted
-      now =
-      let e : map ≡ old.map = (let grant_is = tells.1.map in cc) in
-      (rw e (agrees_itself o.range old.map), λ has. rw same tells.0)
-  own_has plain (asks lane) _ alone map o sound is meets step granted now = absurd (cc)
-  own_has plain (reads lane len) outcome alone map o sound is (q, at, can) step granted now =
-      let atom = old.map.atom in
-      let e : o ≡ after_got atom outcome q = (let next = rw at at now in cc) in
-      still_has (after_got atom outcome) is granted at (got_same atom outcome q) e
-      (event_effects old new (reads lane len) outcome step).entries_are
-  own_has plain (writes lane bytes) outcome alone map o sound is (q, at, can) step granted now =
-      let atom = old.map.atom in
-      let e : o ≡ after_put atom bytes outcome q = (let next = rw at at now in cc) in
-      still_has (after_put atom bytes outcome) is granted at (put_same atom bytes outcome q) e
-      (event_effects old new (writes lane bytes) outcome step).entries_are
-  own_has plain (settles lane) outcome alone map o sound is (q, at, can) step granted now =
-      still_has (after_sync outcome) is granted at (sync_same outcome q)
-      (settled_is q (after_sync outcome q) o (rw at at now))
-      (event_effects old new (settles lane) outcome step).entries_are
-  own_has plain (finishes lane) outcome alone map o sound is meets step granted now = absurd (cc)
+-- it holds what it held
+still_holds : {K : Type 0} (old new : State K) (plain : ℕ → List ℕ)
+    (event : Event) (outcome : Outcome) (alone : Alone) (map : Map) (o : Open) (f : Open → Open)
+    → IsLane old plain (lane_of event) alone → new.entries ≡ old.entries → ((q : Open)
+    → IsSameAsk q (f q)) → alone.granted ≡ Some map → (now : Option Open) → alone.operation ≡ now
+    → option_map f now ≡ Some o → has_lock o.ask ≡ true → Holds new (lane_of event)
+still_holds old new plain event outcome alone map o f is entries asks_so granted None at now has =
+    absurd (cc)
+still_holds old new plain event outcome alone map o f is entries asks_so granted
+    (Some q) at now has =
+    let e : o ≡ f q = cc in
+    let locks : has_lock q.ask ≡ true = ap (λ a. has_lock a) (sym (asks_so q).ask)
+    ∙ ap (λ x. has_lock x.ask) (sym e) ∙ has in
+    rw entries (is.holds map q granted at locks)
+
+own_holds : {K : Type 0} (old new : State K) (plain : ℕ
+    → List ℕ) (event : Event) (outcome : Outcome) (alone : Alone) (map : Map) (o : Open)
+    → IsSound old → IsLane old plain (lane_of event) alone → MeetsAlone alone event
+    → Step old event outcome new → granted_after event outcome alone.granted ≡ Some map
+    → open_after old.map.atom event outcome alone.operation ≡ Some o →
+    has_lock o.ask ≡ true → Holds new (lane_of event)
+unfolding MeetsAlone Step
+own_holds old new plain (admits lane session ask)
+    (held grant) alone map o sound is meets step granted now has =
+    let e : o ≡ begun old.map.atom session ask = cc in
+    (admits_told old new lane session ask grant sound (is.operation ∙ meets) step).holds
+    (ap (λ x. has_lock x.ask) (sym e) ∙ has)
+own_holds old new plain (admits lane session ask) _ alone map o sound is meets step granted now
+    has = absurd (cc)
+own_holds old new plain (asks lane) (held grant) alone map o sound is meets
+    ((q, at, tells), same) granted now has = subst (λ s. Holds s lane) (sym same) tells.0
+own_holds old new plain (asks lane) _ alone map o sound is meets step granted now has = absurd (cc)
+own_holds old new plain (reads lane len) outcome alone map o sound is meets step granted now has =
+    still_holds old new plain (reads lane len) outcome alone map o (after_got old.map.atom outcome)
+    is (event_effects old new (reads lane len) outcome step).entries_are
+    (got_same old.map.atom outcome) granted alone.operation refl now has
+own_holds old new plain (writes lane bytes) outcome alone map o sound
+    is meets step granted now has = still_holds old new plain (writes lane bytes) outcome alone map
+    o (after_put old.map.atom bytes outcome) is (event_effects old new (writes lane bytes) outcome
+    step).entries_are (put_same old.map.atom bytes outcome) granted alone.operation refl now has
+own_holds old new plain (settles lane) outcome alone map o sound is meets step granted now has =
+    settle_holds alone.operation refl now
+  where
+    settle_holds : (at : Option Open) → alone.operation ≡ at → settled_as outcome at ≡ Some o →
+        Holds new lane
+    settle_holds None is_at now_so = absurd (cc)
+    settle_holds (Some q) is_at now_so =
+        let e : o ≡ after_sync outcome q = settled_is q (after_sync outcome q) o now_so in
+        let locks : has_lock q.ask ≡ true = ap (λ a. has_lock a) (sym (sync_same outcome q).ask)
+        ∙ ap (λ x. has_lock x.ask) (sym e) ∙ has in
+        rw (event_effects old new (settles lane) outcome step).entries_are
+        (is.holds map q granted is_at locks)
+own_holds old new plain (finishes lane) outcome alone map o sound is meets step granted now has =
+    absurd (cc)
 
 -- what its pieces are in plain
-piece_plain : {K : Type 0} (seals : Seals) (old : State K) (plain : ℕ → List ℕ) (lane : ℕ)
-    (alone : Alone) (map : Map) (o : Open) (sealed : List ℕ) → IsSound old →
-    IsLane old plain lane alone → alone.granted ≡ Some map → alone.operation ≡ Some o →
-    o.next < o.range.end →
-    with_plain plain lane (plain lane ++ plain_piece seals old lane sealed) lane
+piece_plain : {K : Type 0} (seals : Seals) (old : State K) (plain : ℕ
+    → List ℕ) (lane : ℕ) (alone : Alone) (map : Map) (o : Open) (sealed : List ℕ) → IsSound old
+    → IsLane old plain lane alone → alone.granted ≡ Some map → alone.operation ≡ Some o → o.next
+    < o.range.end → with_plain plain lane (plain lane ++ plain_piece seals old lane sealed) lane
     ≡ with_piece seals alone sealed alone.granted
 piece_plain seals old plain lane alone map o sealed sound is granted at some =
     let begun = (sound.under_way lane o (is.operation ∙ at)).begun in
     let side = (is.map map o granted at).sides o.next begun some in
     plain-own plain lane (plain lane ++ plain_piece seals old lane sealed)
-    ∙ rw (is.plain_is, is.operation, at, granted) (rw (at, side) refl)
+    ∙ ap (λ xs. xs ++ plain_piece seals old lane sealed) is.plain_is
+    ∙ ap (λ x. alone.plain ++ opened_by seals old.map x sealed) (is.operation ∙ at)
+    ∙ ap (λ s. alone.plain ++ seals.opened (known_side s) o.next sealed) (sym side)
+    ∙ ap (λ x. alone.plain ++ opened_by seals map x sealed) (sym at)
+    ∙ sym (ap (λ g. with_piece seals alone sealed g) granted)
 
 own_plain : {K : Type 0} (seals : Seals) (old : State K) (plain : ℕ → List ℕ) (event : Event)
     (outcome : Outcome) (alone : Alone) → IsSound old → IsLane old plain (lane_of event) alone →
@@ -144,16 +229,18 @@ own_plain : {K : Type 0} (seals : Seals) (old : State K) (plain : ℕ → List �
 unfolding MeetsAlone plain_after
 own_plain seals old plain (admits lane session ask) outcome alone sound is meets =
     plain-own plain lane []
-own_plain seals old plain (reads lane len) (got sealed) alone sound is
-    (o, at, (map, granted, can)) =
+own_plain seals old plain (asks lane) outcome alone sound is meets = is.plain_is
+own_plain seals old plain (reads lane len)
+    (got sealed) alone sound is (o, at, (map, granted, can)) =
     piece_plain seals old plain lane alone map o sealed sound is granted at can.has.some
+own_plain seals old plain (reads lane len) _ alone sound is meets = is.plain_is
 own_plain seals old plain (writes lane sealed) done alone sound is (o, at, (map, granted, can)) =
     piece_plain seals old plain lane alone map o sealed sound is granted at can.has.some
 own_plain seals old plain (writes lane sealed) device alone sound is (o, at, (map, granted, can)) =
     piece_plain seals old plain lane alone map o sealed sound is granted at can.has.some
-own_plain seals old plain (reads lane len) _ alone sound is meets = is.plain_is
 own_plain seals old plain (writes lane sealed) _ alone sound is meets = is.plain_is
-own_plain seals old plain _ outcome alone sound is meets = is.plain_is
+own_plain seals old plain (settles lane) outcome alone sound is meets = is.plain_is
+own_plain seals old plain (finishes lane) outcome alone sound is meets = is.plain_is
 
 pub own_step : {K : Type 0} (seals : Seals) (old new : State K) (plain : ℕ → List ℕ) (event : Event)
     (outcome : Outcome) (alone : Alone) → IsSound old → IsLane old plain (lane_of event) alone →
@@ -165,9 +252,9 @@ own_step seals old new plain event outcome alone sound is meets step =
       operation = goes.lane_is.own ∙ ap (λ x. open_after old.map.atom event outcome x) is.operation;
       plain_is = own_plain seals old plain event outcome alone sound is meets;
       map = λ map o granted now. agrees_now o.range map old.map new.map goes.map
-          (own_has plain event outcome alone map o sound is meets step granted now).0;
-      holds = λ map o granted now.
-          (own_has plain event outcome alone map o sound is meets step granted now).1;
+          (own_map old new plain event outcome alone map o sound is meets step granted now);
+      holds = λ map o granted now has. own_holds old new plain event outcome alone map o sound is
+          meets step granted now has;
     }
 
 -- every other lane is what it was
@@ -177,15 +264,17 @@ other_plain : {K : Type 0} (seals : Seals) (old : State K) (plain : ℕ → List
 unfolding plain_after
 other_plain seals old plain (admits own session ask) outcome lane differ =
     plain-other plain own [] lane differ
+other_plain seals old plain (asks own) outcome lane differ = refl
 other_plain seals old plain (reads own len) (got sealed) lane differ =
     plain-other plain own _ lane differ
+other_plain seals old plain (reads own len) _ lane differ = refl
 other_plain seals old plain (writes own sealed) done lane differ =
     plain-other plain own _ lane differ
 other_plain seals old plain (writes own sealed) device lane differ =
     plain-other plain own _ lane differ
-other_plain seals old plain (reads own len) _ lane differ = refl
 other_plain seals old plain (writes own sealed) _ lane differ = refl
-other_plain seals old plain _ outcome lane differ = refl
+other_plain seals old plain (settles own) outcome lane differ = refl
+other_plain seals old plain (finishes own) outcome lane differ = refl
 
 other_step : {K : Type 0} (seals : Seals) (old new : State K) (plain : ℕ → List ℕ) (event : Event)
     (outcome : Outcome) (lane : ℕ) (alone : Alone) → lane ≢ lane_of event →
@@ -309,7 +398,10 @@ call-own one = let own : nat_eq (lane_of one.event) (lane_of one.event) ≡ true
     rw own refl
 
 not-own : (own lane : ℕ) → own ≢ lane → nat_eq own lane ≡ false
-not-own own lane differ = grind arith
+not-own own lane differ = elim (either (nat_eq own lane)) [
+  | inl same ↦ absurd (differ (grind (arith, same)))
+  | inr other ↦ other
+]
 
 call-other : {K : Type 0} (lane : ℕ) (one : Happening K) → lane_of one.event ≢ lane →
     call_of lane one ≡ []

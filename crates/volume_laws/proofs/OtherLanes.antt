@@ -1,18 +1,11 @@
 -- What an event leaves of other lanes.
-use Rattle.std.proofs.Common.{◌≡◌, ◌≢◌, inl, inr, ℕ, length, sym, ◌∙◌, subst}
-use Rattle.segment_map.specs.declared.map.Map.{Map}
-use Rattle.volume_machine.specs.declared.open.Open.{Open}
+use Rattle.volume_machine.proofs.Common
+use Common.{inl, inr, length, sym, ℕ, ◌∙◌, ◌≡◌, ◌≢◌, either, IsStandingOf, Held, entry_of, has_lock}
+use Common.{entered, entries_after, Event, Outcome, admits, asks, finishes, lane_of, reads, refused}
+use Common.{settles, writes, State, open_at, Holds, Meets, Can, Step}
 use Rattle.volume_machine.specs.declared.ask.Ask.{Ask}
-use Rattle.volume_machine.specs.Asks.{has_lock, entry_of}
-use Rattle.volume_machine.specs.Effects.{entered, entries_after}
-use Rattle.volume_machine.specs.Events.{Event, admits, asks, reads, writes, settles, finishes}
-use Rattle.volume_machine.specs.Events.{Outcome, refused, lane_of}
-use Rattle.volume_machine.specs.States.{State, open_at}
-use Rattle.volume_machine.specs.Steps.{Step, Can, Meets, CanRead, CanWrite, Has, Holds}
-use Rattle.range_lock.specs.declared.Standing.TheVariants.{Held}
-use Rattle.range_lock.specs.Locks.{IsStandingOf}
 use Rattle.volume_machine.proofs.EventEffects.{event_effects}
-use Rattle.volume_machine.proofs.Locking.{either, holds-more, holds-without}
+use Rattle.volume_machine.proofs.Locking.{holds-more, holds-without}
 
 -- what a lane holds it goes on to hold
 enters_behind : (atom other : ℕ) (ask : Ask) (outcome : Outcome) (lane : ℕ) (entries : _) →
@@ -59,27 +52,15 @@ others_left old new event outcome lane step differ =
     (let left = event_left old new event outcome lane step differ in (left.own, left.holds))
 
 -- what a call of another lane asks of the state is met after the event too
-has_left : {K : Type 0} (old new : State K) (lane : ℕ) (Is : Open → Type 0) → IsLeft old new lane →
-    Has old lane Is → Has new lane Is
-has_left old new lane Is left (o, at, is) = (o, left.own ∙ at, is)
-
 can_left : {K : Type 0} (old new : State K) (next : Event) → IsLeft old new (lane_of next) →
     Can old next → Can new next
 unfolding Can
-can_left old new (admits lane session ask) left can = left.own ∙ can
-can_left old new (asks lane) left can = has_left old new lane _ left can
-can_left old new (reads lane len) left can = (
-  subst (λ (m : Map). Has new lane (CanRead m len)) (sym left.map)
-      (has_left old new lane _ left can.0),
-  left.holds can.1,
-)
-can_left old new (writes lane bytes) left can = (
-  subst (λ (m : Map). Has new lane (CanWrite m bytes)) (sym left.map)
-      (has_left old new lane _ left can.0),
-  left.holds can.1,
-)
-can_left old new (settles lane) left can = has_left old new lane _ left can
-can_left old new (finishes lane) left can = (has_left old new lane _ left can.0, left.holds can.1)
+can_left old new (admits lane session ask) left can = rw left.own can
+can_left old new (asks lane) left can = rw left.own can
+can_left old new (reads lane len) left can = (rw (left.own, left.map) can.0, left.holds can.1)
+can_left old new (writes lane bytes) left can = (rw (left.own, left.map) can.0, left.holds can.1)
+can_left old new (settles lane) left can = rw left.own can
+can_left old new (finishes lane) left can = (rw left.own can.0, left.holds can.1)
 
 pub still_meets : {K : Type 0} (old new : State K) (event next : Event) (outcome : Outcome) →
     Step old event outcome new → lane_of next ≢ lane_of event → Meets old next → Meets new next

@@ -1,15 +1,9 @@
 -- The places of a map's blocks, and when no two of them are the same.
-use Rattle.std.proofs.Common.{◌≡◌, inl, inr, ◌⊎◌, ℕ, zero, suc, ◌+◌, ◌-◌, ◌<◌, ◌≤◌, List, ◌++◌}
-use Rattle.std.proofs.Common.{replicate, Option, Some, None, slice_get, refl, ◌∙◌, ap, arith}
-use Rattle.std.proofs.lemmas.Bool.{cases_lt}
-use Rattle.segment_map.specs.declared.Direction.TheVariants.{Forward, Backward}
-use Rattle.segment_map.specs.declared.Side.{Side}
-use Rattle.segment_map.specs.declared.Side.TheVariants.{Old, New, Zone}
-use Rattle.segment_map.specs.declared.map.Map.{Map}
-use Rattle.segment_map.specs.Maps.{side_at, place_on}
-use Rattle.segment_map.specs.Sides.{left_of}
-use Rattle.volume_machine.specs.Pieces.{known_side, place_in}
-use Rattle.volume_machine.specs.Sound.{AreApart}
+use Rattle.volume_machine.proofs.Common.{List, None, Option, Some, ap, arith, inl, inr, refl}
+use Rattle.volume_machine.proofs.Common.{replicate, slice_get, suc, zero, ℕ, ◌++◌, ◌+◌, ◌-◌, ◌<◌}
+use Rattle.volume_machine.proofs.Common.{◌∙◌, ◌≡◌, ◌≤◌, ◌⊎◌, cases_lt, place_on, side_at, left_of}
+use Rattle.volume_machine.proofs.Common.{Side, New, Old, Zone, Map, known_side, place_in, AreApart}
+use Rattle.segment_map.specs.declared.Direction.TheVariants.{Backward, Forward}
 
 -- within a run of blocks on one side, and behind it
 pub run_inside : (side : Side) (n k : ℕ) (rest : List Side) → k < n
@@ -107,84 +101,25 @@ backward_new map b backward above inside =
     ∙ run_last New left k (omega (arith, above, inside))) in
     rw side refl
 
--- no two blocks have the same place
+-- no two blocks have the same place, where those on either side of the boundary don't meet
+apart_by : (map : Map) (below above : ℕ) → (below ≤ above) ⊎ (above + map.blocks ≤ below)
+    → ((b : ℕ) → b < map.blocks → ((b < map.boundary) × (place_in map b ≡ below + b))
+    ⊎ ((map.boundary ≤ b) × (place_in map b ≡ above + b))) → AreApart map
+apart_by map below above segments places a b a_inside b_inside same =
+    omega (arith, places a a_inside, places b b_inside, same, segments)
+
 pub forward_apart : (map : Map) → map.direction ≡ Forward
     → (map.new_place ≤ map.old_place) ⊎ (map.old_place + map.blocks ≤ map.new_place) → AreApart map
-forward_apart map forward segments = λ a b a_inside b_inside same. elim (cases_lt a map.boundary) [
-  | inl a_new ↦ elim (cases_lt b map.boundary) [
-    | inl b_new ↦
-        omega (arith, forward_new map a forward a_new, forward_new map b forward b_new, same)
-    | inr b_old ↦
-        absurd (omega (
-          arith,
-          forward_new map a forward a_new,
-          forward_old map b forward b_old,
-          same,
-          segments,
-          a_new,
-          b_old,
-          b_inside,
-        ))
-  ]
-  | inr a_old ↦ elim (cases_lt b map.boundary) [
-    | inl b_new ↦
-        absurd (omega (
-          arith,
-          forward_old map a forward a_old,
-          forward_new map b forward b_new,
-          same,
-          segments,
-          b_new,
-          a_old,
-          a_inside,
-        ))
-    | inr b_old ↦
-        omega (arith, forward_old map a forward a_old, forward_old map b forward b_old, same)
-  ]
-]
+forward_apart map forward segments = apart_by map map.new_place map.old_place segments
+    (λ b inside. elim (cases_lt b map.boundary) [
+      | inl new ↦ inl (new, forward_new map b forward new)
+      | inr old ↦ inr (old, forward_old map b forward old)
+    ])
 
 pub backward_apart : (map : Map) → map.direction ≡ Backward
     → (map.old_place ≤ map.new_place) ⊎ (map.new_place + map.blocks ≤ map.old_place) → AreApart map
-backward_apart map backward segments =
-    λ a b a_inside b_inside same. elim (cases_lt a map.boundary) [
-      | inl a_old ↦ elim (cases_lt b map.boundary) [
-        | inl b_old ↦
-            omega (
-              arith,
-              backward_old map a backward a_old,
-              backward_old map b backward b_old,
-              same,
-            )
-        | inr b_new ↦
-            absurd (omega (
-              arith,
-              backward_old map a backward a_old,
-              backward_new map b backward b_new b_inside,
-              same,
-              segments,
-              a_old,
-              b_new,
-              b_inside,
-            ))
-      ]
-      | inr a_new ↦ elim (cases_lt b map.boundary) [
-        | inl b_old ↦
-            absurd (omega (
-              arith,
-              backward_new map a backward a_new a_inside,
-              backward_old map b backward b_old,
-              same,
-              segments,
-              b_old,
-              a_new,
-              a_inside,
-            ))
-        | inr b_new ↦
-            omega (
-              arith,
-              backward_new map a backward a_new a_inside,
-              backward_new map b backward b_new b_inside,
-              same,
-            )
-      ]
-    ]
+backward_apart map backward segments = apart_by map map.old_place map.new_place segments
+    (λ b inside. elim (cases_lt b map.boundary) [
+      | inl old ↦ inl (old, backward_old map b backward old)
+      | inr new ↦ inr (new, backward_new map b backward new inside)
+    ])

@@ -1,19 +1,13 @@
 -- Lemmas on the blocks of a plain disk, block by block.
-use Rattle.std.proofs.Common.{◌≡◌, ℕ, zero, suc, ◌+◌, ◌*◌, ◌<◌, ◌≤◌, false, List, [], ◌∷◌, ◌++◌}
-use Rattle.std.proofs.Common.{length, take, drop, map, sym, ◌∙◌, ap, ap₂, arith, length-append}
-use Rattle.std.proofs.Common.{length-take, suc-le-suc, le_of_suc-le-suc, mul-le-mul_right}
-use Rattle.std.specs.Prelude.{Contains}
-use Rattle.std.proofs.lemmas.List.{get_or-map, get_or-take, get_or-drop, take_at, drop_at}
-use Rattle.std.proofs.lemmas.List.Elements.{Contains-push, Contains-append_left}
-use Rattle.base_terms.specs.Blocks.{blocks_of, changed, joined}
-use Rattle.plain_disk.specs.Plain.{Block, values_of, settled, written, tried, flushed}
-use Rattle.plain_disk.specs.Plain.{written_for_good, newest_bytes, AreSure}
+use Rattle.volume_machine.proofs.Common
+use Common.{Contains, List, [], ap, ap₂, arith, drop, false, le_of_suc-le-suc, length}
+use Common.{length-append, length-take, map, mul-le-mul_right, suc, suc-le-suc, sym, take, zero, ℕ}
+use Common.{◌*◌, ◌++◌, ◌+◌, ◌<◌, ◌∙◌, ◌∷◌, ◌≡◌, ◌≤◌, drop_at, get_or-drop, get_or-map, get_or-take}
+use Common.{take_at, Contains-append_left, Contains-push, blocks_of, changed, joined, block_at}
+use Common.{IsOutside, block_at-first, block_at-next, block_at-part, block_end, length-part}
+use Common.{same_blocks, Block, flushed, settled, values_of, written, AreSure, newest_bytes}
+use Rattle.disk_views.proofs.Entries.{changed_blocks-inside, changed_blocks-outside}
 use Rattle.volume_laws.specs.Contents.{block_in}
-use Rattle.disk_views.specs.Parts.{block_at}
-use Rattle.disk_views.specs.Views.{IsOutside}
-use Rattle.disk_views.proofs.Blockwise.{block_end, block_at-first, block_at-next, block_at-part}
-use Rattle.disk_views.proofs.Blockwise.{length-part, same_blocks}
-use Rattle.disk_views.proofs.Entries.{changed_blocks-outside, changed_blocks-inside}
 
 -- blocks that are changed by the blocks of a text, and flushed ones
 pub block_in-changed_outside : (change : Block → List ℕ → Block) (blocks : List Block)
@@ -117,6 +111,7 @@ sure_part s n blocks within sure =
 pub newest_contained : (block : Block) → Contains (values_of block) block.newest
 newest_contained block = Contains-push block.older block.newest
 
+-- a value that is written or tried is one of the block's then, and so is each before
 pub written_contained : (block : Block) (value : List ℕ)
     → Contains (values_of (written block value)) value
 written_contained block value = Contains-push (values_of block) value
@@ -124,15 +119,3 @@ written_contained block value = Contains-push (values_of block) value
 pub written-keeps : (block : Block) (value other : List ℕ) → Contains (values_of block) other
     → Contains (values_of (written block value)) other
 written-keeps block value other has = Contains-append_left (values_of block) (value ∷ []) other has
-
-pub tried_contained : (block : Block) (value : List ℕ)
-    → Contains (values_of (tried block value)) value
-tried_contained block value = Contains-push (values_of block) value
-
-pub tried-keeps : (block : Block) (value other : List ℕ) → Contains (values_of block) other
-    → Contains (values_of (tried block value)) other
-tried-keeps block value other has = Contains-append_left (values_of block) (value ∷ []) other has
-
-pub written_for_good_contained : (block : Block) (value : List ℕ)
-    → Contains (values_of (written_for_good block value)) value
-written_for_good_contained block value = Contains-push [] value

@@ -1,28 +1,16 @@
 -- How volumes start: a whole disk stands for its own atoms, and what settled tables stand for.
-use Rattle.std.proofs.Common.{◌≡◌, ℕ, zero, suc, ◌*◌, ◌<◌, List, [], ◌∷◌, length, replicate}
-use Rattle.std.proofs.Common.{Contains, Some, refl, sym, ◌∙◌, ap, subst, arith, slice_index_or}
-use Rattle.std.proofs.lemmas.List.{length-map}
-use Rattle.base_terms.specs.Blocks.{blocks_of, lengths}
-use Rattle.cipher_laws.specs.Bytes.{AreBytes}
-use Rattle.plain_disk.specs.Plain.{Block, settled, settled_blocks}
-use Rattle.sector_disk.specs.Cells.{Cell, AreSettled, content, currents}
+use Rattle.volume_machine.proofs.Common
+use Common.{Contains, List, Some, [], ap, arith, length, refl, replicate, slice_index_or, subst}
+use Common.{suc, sym, zero, ℕ, ◌*◌, ◌<◌, ◌∙◌, ◌∷◌, ◌≡◌, length-map, blocks_of, lengths, Cell}
+use Common.{AreSettled, content, currents, AreBytes, AreBlocks, block_at, cell_in, one_block, Block}
+use Common.{settled, settled_blocks, ChangeNothing, IsFresh, IsWholeDisk, place_in, side_in}
+use Common.{AreLawful, Seals, AreApart, IsSound, State}
 use Rattle.sector_disk.proofs.ImageLemmas.{blocks_of-joined}
-use Rattle.volume_laws.specs.Contents.{block_in, IsSealed, StandsFor}
-use Rattle.disk_views.specs.Parts.{cell_in}
-use Rattle.volume_machine.specs.Beginnings.{IsFresh}
-use Rattle.volume_machine.specs.Pieces.{side_in, place_in}
-use Rattle.volume_laws.specs.Promises.{Starts, StartsCovered, TellsSettled}
-use Rattle.volume_machine.specs.Beginnings.{ChangeNothing}
-use Rattle.volume_machine.specs.Seals.{Seals, AreLawful}
-use Rattle.disk_views.specs.Parts.{AreBlocks, block_at}
-use Rattle.volume_machine.specs.Sound.{IsSound, AreApart}
-use Rattle.volume_machine.specs.States.{State}
-use Rattle.volume_machine.specs.Beginnings.{IsWholeDisk}
-use Rattle.volume_laws.specs.Contents.{plain_blocks}
-use Rattle.disk_views.proofs.Blockwise.{one_block}
+use Rattle.disk_views.proofs.Entries.{blocks_of-at, length-blocks_of}
 use Rattle.volume_machine.proofs.NextPieces.{on_disk}
-use Rattle.disk_views.proofs.Entries.{length-blocks_of, blocks_of-at}
-use Rattle.volume_laws.proofs.PlainBlocks.{sure_blocks, newest_contained}
+use Rattle.volume_laws.specs.Contents.{IsSealed, StandsFor, block_in, plain_blocks}
+use Rattle.volume_laws.specs.Promises.{Starts, StartsCovered, TellsSettled}
+use Rattle.volume_laws.proofs.PlainBlocks.{newest_contained, sure_blocks}
 
 -- a block of settled values
 settled_in : (values : List (List ℕ)) (b : ℕ)

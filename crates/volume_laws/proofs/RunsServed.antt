@@ -1,142 +1,87 @@
 -- Runs of events: their operations are those of one plain disk, and a stop leaves what it allows.
-use Rattle.std.proofs.Common.{◌≡◌, inl, inr, ℕ, Bool, false, ◌||◌, true, List, [], ◌∷◌, ◌++◌, Some}
-use Rattle.std.proofs.Common.{refl, sym, ◌∙◌, ap, subst, arith}
-use Rattle.plain_disk.specs.Plain.{Block, Exchange, Legal}
-use Rattle.sector_disk.specs.Steps.{Told}
-use Rattle.volume_machine.specs.declared.ask.Ask.{Ask}
-use Rattle.volume_machine.specs.declared.ask.Ask.TheVariants.{Read, Write, Flush}
+use Rattle.volume_machine.proofs.Common
+use Common.{Bool, Contains, List, Some, [], ap, arith, false, inl, inr, refl, subst, sym, true, ℕ}
+use Common.{◌++◌, ◌<◌, ◌||◌, ◌∙◌, ◌∷◌, ◌≡◌, cell_in, value_in, View, view_of_bytes, view_of_cells}
+use Common.{Block, Exchange, values_of, Legal, by_settle, IsRead, IsWrite, breaks, Event, Outcome}
+use Common.{admits, asks, finishes, reads, settles, writes, place_in, Happening, no_plain, Seals}
+use Common.{State, open_at, CanSettle, Meets, SettleStep, Works, AreExchanges, IsRun, answered_by}
+use Common.{answered_in, last_of, plain_after, plain_in, Can, Step}
+use Rattle.disk_views.proofs.{Entries.image_in, TableEntries.place_of_some}
 use Rattle.volume_machine.specs.declared.open.Open.{Open}
-use Rattle.volume_machine.specs.Asks.{IsRead, IsWrite, IsForced, has_lock}
-use Rattle.volume_laws.specs.Contents.{block_in, StopsAllowed, IsTriedBy}
-use Rattle.disk_views.specs.Parts.{cell_in, value_in}
-use Rattle.volume_machine.specs.Events.{Event, admits, asks, reads, writes, settles, finishes}
-use Rattle.volume_machine.specs.Events.{Outcome}
-use Rattle.volume_machine.specs.Pieces.{place_in}
-use Rattle.volume_laws.specs.Promises.{Starts, StartsCovered, TellsWhole, ServesEachRun}
-use Rattle.volume_machine.specs.Answers.{AreExchanges, by_settle, by_finish, flush_reply}
-use Rattle.volume_machine.specs.Runs.{Happening, IsRun, last_of, answered_in, answered_by, plain_in}
-use Rattle.volume_machine.specs.Runs.{plain_after, no_plain}
-use Rattle.volume_machine.specs.Seals.{Seals}
-use Rattle.volume_machine.specs.States.{State, open_at}
-use Rattle.volume_machine.specs.Steps.{Step, Can, Meets, SettleStep, CanSettle, HasPiece}
-use Rattle.volume_laws.proofs.Admits.{idle}
-use Rattle.volume_laws.proofs.Answering.{legal_none}
-use Rattle.disk_views.proofs.Entries.{image_in}
-use Rattle.volume_machine.specs.Effects.{breaks}
-use Rattle.volume_machine.specs.Working.{Works}
-use Rattle.volume_machine.proofs.EventEffects.{event_effects}
-use Rattle.volume_laws.proofs.OtherLanes.{event_left}
-use Rattle.volume_laws.proofs.Reading.{reads_lock, writes_lock}
-use Rattle.volume_laws.proofs.Workings.{works_stay, client_live}
-use Rattle.volume_laws.proofs.EventsServed.{IsFine, Served, goes_on, admit_by, read_served}
-use Rattle.volume_laws.proofs.EventsServed.{write_served, flush_served, settle_served}
-use Rattle.volume_laws.proofs.EndsServed.{finish_served}
-use Rattle.volume_laws.proofs.Here.{Here, some_atom}
-use Rattle.volume_laws.proofs.PlainBlocks.{sure_in}
-use Rattle.volume_laws.proofs.SealLemmas.{length-sealed}
-use Rattle.volume_machine.proofs.Soundness.{sound_kept}
-use Rattle.disk_views.proofs.TableEntries.{place_of_some}
+use Rattle.volume_machine.proofs.{EventEffects.event_effects, Soundness.sound_kept}
+use Rattle.volume_laws.specs.Contents.{IsSealed, block_in}
+use Rattle.volume_laws.specs.Promises.{ServesEachRun, Starts, StartsCovered, TellsWhole}
+use Rattle.volume_laws.proofs.EventsServed.{IsFine, Served, admit_served, flush_served}
+use Rattle.volume_laws.proofs.EventsServed.{forced_locks, goes_on, read_served, settle_served}
+use Rattle.volume_laws.proofs.EventsServed.{write_served}
+use Rattle.volume_laws.proofs.{Admits.idle, Answering.legal_none, EndsServed.finish_served}
+use Rattle.volume_laws.proofs.{Here.Here, Here.some_atom, Invariant.Shown, Invariant.TriesNothing}
+use Rattle.volume_laws.proofs.{OtherLanes.event_left, PlainBlocks.sure_in, Reading.reads_lock}
+use Rattle.volume_laws.proofs.{Reading.writes_lock, SealLemmas.length-sealed, Workings.client_live}
+use Rattle.volume_laws.proofs.{Workings.works_stay}
 
-settles_served : {K P Q : Type 0} (seals : Seals) (old new : State K) (plain : ℕ → List ℕ)
-    (left : List Block) (lane : ℕ) (o : Open) (outcome : Outcome) (exchanges : List Exchange) →
+settles_served : {K P Q : Type 0} {seals : Seals} {old new : State K} {plain : ℕ → List ℕ}
+    {left : List Block} (lane : ℕ) (o : Open) (outcome : Outcome) (exchanges : List Exchange) →
     Here P Q old seals plain left → IsFine new → open_at old.lanes lane ≡ Some o → CanSettle o
-    → SettleStep old lane o outcome new →
-    AreExchanges (by_settle (Some o) outcome) exchanges
+    → SettleStep old lane o outcome new → AreExchanges (by_settle (Some o) outcome) exchanges
     → Served P Q seals old new plain left exchanges
-settles_served seals old new plain left lane o outcome exchanges here sound at (inl is) step are =
-    flush_served seals old new plain left lane here o outcome exchanges sound at is step
-    (subst (λ xs. AreExchanges xs exchanges)
-    (let e : by_settle (Some o) outcome
-    ≡ record { session = o.session; ask = Flush; plain = []; reply = flush_reply outcome } ∷ [] =
-    rw is refl in e) are)
-settles_served seals old new plain left lane o outcome exchanges here sound at
-    (inr (forced, whole, unfailed, unsettled)) step are =
-    settle_served seals old new plain left lane here o outcome exchanges sound at forced whole step
-    (subst (λ xs. AreExchanges xs exchanges)
-    (let has = locks o.ask forced in let e : by_settle (Some o) outcome ≡ [] = rw has refl in e)
-    are)
-  where
-    locks : (ask : Ask) → IsForced ask → has_lock ask ≡ true
-    locks (Read offset len) is = absurd is
-    locks (Write offset len fua) is = refl
-    locks Flush is = absurd is
+settles_served lane o outcome exchanges here fine at (inl is) step are =
+    flush_served lane exchanges here fine outcome at is step (rw is at are)
+settles_served lane o outcome exchanges here fine at (inr (forced, whole, unfailed, unsettled))
+    step are =
+    settle_served lane exchanges here fine outcome (rw (forced_locks o.ask forced) at are) at forced
+    whole step
 
 -- the zone at hand after an event of a client
 or_first : (a b : Bool) → (a || b) ≡ false → a ≡ false
 or_first true b is = absurd (cc)
 or_first false b is = refl
 
-pub works_after : {K : Type 0} (old new : State K) (event : Event) (outcome : Outcome)
-    → Meets old event
-    → Step old event outcome new → Works old → Works new
-works_after old new event outcome meets step works =
+pub works_after : {K : Type 0} {old new : State K} {event : Event} (outcome : Outcome)
+    → Meets old event → Step old event outcome new → Works old → Works new
+works_after {old = old} {new = new} {event = event} outcome meets step works =
     let goes = event_effects old new event outcome step in
     let client = meets.client in
-    works_stay old new (record { map = goes.map; work = goes.work })
+    works_stay (record { map = goes.map; work = goes.work })
     (λ stays. or_first old.broken (breaks event outcome) (sym goes.broken_is ∙ stays))
     goes.lane_is.count
-    (λ lane last. let left =
-    event_left old new event outcome lane step (λ same. omega (arith, client, last, same)) in
-    (left.own, left.holds)) works
-
-fine_after : {K P Q : Type 0} (seals : Seals) (old new : State K) (plain : ℕ → List ℕ)
-    (left : List Block) (event : Event) (outcome : Outcome) →
-    Here P Q old seals plain left → Meets old event → Step old event outcome new → IsFine new
-fine_after seals old new plain left event outcome here meets step = record {
-  sound = sound_kept old new event outcome here.logic.sound meets step;
-  works = works_after old new event outcome meets step here.works;
-}
+    (λ lane last. let left = event_left old new event outcome lane step
+    (λ same. omega (arith, client, last, same)) in (left.own, left.holds)) works
 
 -- each event
-pub event_served : {K P Q : Type 0} (seals : Seals) (old new : State K) (plain : ℕ → List ℕ)
-    (left : List Block) (event : Event) (outcome : Outcome) (exchanges : List Exchange) →
-    Here P Q old seals plain left → Meets old event → Step old event outcome new
+event_served : {K P Q : Type 0} {seals : Seals} {old new : State K} {plain : ℕ → List ℕ}
+    {left : List Block} (event : Event) (outcome : Outcome) (exchanges : List Exchange) →
+    Here P Q old seals plain left → IsFine new → Meets old event → Step old event outcome new
     → AreExchanges (answered_by old event outcome plain) exchanges →
     Served P Q seals old new (plain_after seals old event outcome plain) left exchanges
 unfolding Can Step answered_by plain_after
-event_served seals old new plain left (admits lane session ask) outcome exchanges here meets step
-    are =
-    admit_by seals old new plain left lane here session ask outcome exchanges _ refl
-    (fine_after seals old new plain left (admits lane session ask) outcome here meets step)
-    meets.can step are
-event_served {P = P} {Q = Q} seals old new plain left (asks lane) outcome exchanges here meets step
-    are =
-    goes_on seals old new plain left exchanges are
-    (subst (λ s. Here P Q s seals plain left) (sym step.1) here) (ap (λ s. s.map) step.1)
-    (ap (λ s. s.work) step.1)
-event_served seals old new plain left (reads lane len) outcome exchanges here meets (o, at, step)
-    are =
+event_served (admits lane session ask) outcome exchanges here fine meets step are =
+    admit_served lane exchanges here fine session ask outcome meets.can step are
+event_served {old = old} {left = left} (asks lane) outcome exchanges here fine meets step are =
+    rw step.1 (goes_on (record { map = refl; work = refl })
+    (legal_none old.map.atom left exchanges are) here)
+event_served {old = old} (reads lane len) outcome exchanges here fine meets (o, at, step) are =
     let (p, is, can) = meets.can.0 in
     let same : p ≡ o = cc in
-    read_served seals old new plain left lane here o outcome exchanges
-    (fine_after seals old new plain left (reads lane len) outcome here meets (o, at, step)) at
-    (subst (λ q. IsRead q.ask) same can.reads) (subst (λ q. HasPiece q) same can.has) meets.can.1
-    (λ whole. client_live old lane o here.logic.sound here.works whole at
-    (reads_lock o.ask (subst (λ q. IsRead q.ask) same can.reads)) meets.can.1 meets.client) step are
-event_served seals old new plain left (writes lane bytes) outcome exchanges here meets (o, at, step)
-    are =
+    let reading = subst (λ q. IsRead q.ask) same can.reads in
+    read_served lane exchanges here fine outcome are at reading (rw same at can.has) meets.can.1
+    (λ whole. client_live lane here.logic.sound here.works whole at (reads_lock o.ask reading)
+    meets.can.1 meets.client) step
+event_served {old = old} (writes lane bytes) outcome exchanges here fine meets (o, at, step) are =
     let (p, is, can) = meets.can.0 in
     let same : p ≡ o = cc in
-    write_served seals old new plain left lane here o bytes outcome exchanges
-    (fine_after seals old new plain left (writes lane bytes) outcome here meets (o, at, step)) at
-    (subst (λ q. IsWrite q.ask) same can.writes) (subst (λ q. HasPiece q) same can.has) meets.can.1
-    (λ whole. client_live old lane o here.logic.sound here.works whole at
-    (writes_lock o.ask (subst (λ q. IsWrite q.ask) same can.writes)) meets.can.1 meets.client) step
-    are
-event_served seals old new plain left (settles lane) outcome exchanges here meets (o, at, step)
-    are =
+    let writing = subst (λ q. IsWrite q.ask) same can.writes in
+    write_served lane exchanges here fine bytes outcome are at writing (rw same at can.has)
+    meets.can.1 (λ whole. client_live lane here.logic.sound here.works whole at
+    (writes_lock o.ask writing) meets.can.1 meets.client) step
+event_served (settles lane) outcome exchanges here fine meets (o, at, step) are =
     let (p, is, can) = meets.can in
     let same : p ≡ o = cc in
-    settles_served seals old new plain left lane o outcome exchanges here
-    (fine_after seals old new plain left (settles lane) outcome here meets (o, at, step)) at
-    (subst (λ q. CanSettle q) same can) step
-    (subst (λ x. AreExchanges (by_settle x outcome) exchanges) at are)
-event_served seals old new plain left (finishes lane) outcome exchanges here meets step are =
+    settles_served lane o outcome exchanges here fine at (rw same at can) step (rw at at are)
+event_served (finishes lane) outcome exchanges here fine meets step are =
     let (o, at, can) = meets.can.0 in
-    finish_served seals old new plain left lane o here exchanges
-    (fine_after seals old new plain left (finishes lane) outcome here meets step) at can.locks
-    can.ends meets.can.1 step.goes step.rests
-    (subst (λ x. AreExchanges (by_finish x (plain lane)) exchanges) at are)
+    finish_served lane exchanges here fine at meets.can.1 step.goes step.rests can.locks can.ends
+    (rw at at are)
 
 -- exchanges of two lists of answers, one after the other
 pub split_exchanges : (xs ys : List _) (exchanges : List Exchange)
@@ -164,26 +109,27 @@ record Ran {K : Type 0} (P Q : Type 0) (seals : Seals) (old : State K) (plain : 
   legal : Legal old.map.atom left exchanges next
   here : Here P Q (last_of old run) seals (plain_in seals old plain run) next
 
-run_served : {K P Q : Type 0} (seals : Seals) (old : State K) (plain : ℕ → List ℕ)
-    (left : List Block) (run : List (Happening K)) (exchanges : List Exchange) →
+run_served : {K P Q : Type 0} {seals : Seals} {old : State K} {plain : ℕ → List ℕ}
+    {left : List Block} (run : List (Happening K)) (exchanges : List Exchange) →
     Here P Q old seals plain left → IsRun old run
     → AreExchanges (answered_in seals old plain run) exchanges
     → Ran P Q seals old plain left run exchanges
 unfolding IsRun last_of answered_in plain_in
-run_served seals old plain left [] exchanges here is are =
+run_served {old = old} {left = left} [] exchanges here is are =
     record { next = left; legal = legal_none old.map.atom left exchanges are; here = here }
-run_served seals old plain left (one ∷ rest) exchanges here (meets, step, is) are =
+run_served {seals = seals} {old = old} {plain = plain} {left = left} (one ∷ rest) exchanges here
+    (meets, step, is) are =
     let (first, behind, parts, are_first, are_behind) =
     split_exchanges (answered_by old one.event one.outcome plain)
     (answered_in seals one.after (plain_after seals old one.event one.outcome plain) rest) exchanges
     are in
-    let served =
-    event_served seals old one.after plain left one.event one.outcome first here meets step
-    are_first in
-    let ran =
-    run_served seals one.after (plain_after seals old one.event one.outcome plain) served.next rest
-    behind served.here is are_behind in
-    record {
+    let served = event_served one.event one.outcome first here (record {
+      sound = sound_kept old one.after one.event one.outcome here.logic.sound meets step;
+      works = works_after one.outcome meets step here.works;
+    }) meets step are_first in
+    let ran = run_served {old = one.after}
+    {plain = plain_after seals old one.event one.outcome plain} {left = served.next} rest behind
+    served.here is are_behind in record {
       next = ran.next;
       legal = subst (λ es. Legal old.map.atom left es ran.next) (sym parts)
           (legal_joined old.map.atom left served.next ran.next first behind served.legal
@@ -192,76 +138,58 @@ run_served seals old plain left (one ∷ rest) exchanges here (meets, step, is) 
     }
 
 -- a start is a moment
-pub starts_here : {K : Type 0} (start : State K) (seals : Seals) (blocks : List Block)
-    (bytes : List ℕ) → Starts start seals blocks bytes →
+starts_here : {K : Type 0} {start : State K} {seals : Seals} {blocks : List Block}
+    {bytes : List ℕ} → Starts start seals blocks bytes →
     Here (StartsCovered start seals blocks) (TellsWhole start) start seals no_plain blocks
-starts_here start seals blocks bytes starts =
-    let none : (lane b : ℕ) (value : List ℕ) → IsTriedBy start no_plain lane b value → ⊥ =
-    λ lane b value tried. idle start no_plain lane b value (starts.fresh.lanes lane) tried in
-    record {
+starts_here {start = start} {seals = seals} {blocks = blocks} {bytes = bytes} starts =
+    let none : (lane : ℕ) → TriesNothing start no_plain lane =
+    λ lane. idle (starts.fresh.lanes lane) in
+    let rests = starts.fresh.rests in
+    let shows : (view : View) → ((b : ℕ) → b < start.map.blocks
+    → IsSealed start.map seals b (block_in blocks b).newest (view.current (place_in start.map b)))
+    → ((b : ℕ) → b < start.map.blocks → (atom : List ℕ)
+    → Contains (view.candidates (place_in start.map b)) atom → (value : List ℕ)
+    × Contains (values_of (block_in blocks b)) value × IsSealed start.map seals b value atom)
+    → Shown start seals no_plain blocks view = λ view current candidates. record {
+      current = λ whole b below.
+          ((block_in blocks b).newest, inr (λ lane. none lane b, refl), current b below.inside);
+      candidates = λ b below atom contains.
+          (let (value, has, sealed) = candidates b below.inside atom contains in
+          (value, inl has, sealed));
+      settled = λ lane o is. absurd (let free = starts.fresh.lanes lane in cc);
+      zone = λ work is. absurd (cc);
+    } in record {
       logic = record {
         sound = starts.sound;
         are = starts.are;
         sure = λ whole b below. sure_in blocks b starts.sure
-            (let count = starts.are.count in omega (arith, count, below));
+            (omega (arith, starts.are.count, below));
         lanes = λ lane o is. absurd (let free = starts.fresh.lanes lane in cc);
       };
       lawful = starts.lawful;
       apart = starts.apart;
-      works = λ work is. absurd (let none = starts.fresh.rests in cc);
+      works = λ work is. absurd (cc);
       bytes = bytes;
       values = starts.values;
       size = λ whole unbroken. whole.bytes bytes starts.values;
       cells = λ whole covered told is. whole.cells told is;
-      shown = record {
-        current =
-            λ whole b below. (
-              (block_in blocks b).newest,
-              inr (λ lane other tried. none lane b other tried, refl),
-              starts.stands b below.inside,
-            );
-        candidates = λ b below atom contains. absurd (omega (arith, contains.1));
-        settled = λ lane o is. absurd (let free = starts.fresh.lanes lane in cc);
-        zone = λ work is. absurd (let rests = starts.fresh.rests in cc);
-      };
-      places = λ covered told is b below. place_of_some told.now (place_in start.map b) (let size =
-          length-sealed start.map seals b (block_in blocks b).newest
+      shown = shows (view_of_bytes start.map.atom bytes) starts.stands
+          (λ b below atom contains. absurd (omega (arith, contains.1)));
+      places = λ covered told is b below. place_of_some told.now (place_in start.map b)
+          (let size = length-sealed start.map seals b (block_in blocks b).newest
           (cell_in told.now (place_in start.map b)).current starts.lawful
-          ((covered told is).current b below) in let some =
-          some_atom start.map.atom starts.sound.fits.known in omega (arith, size, some));
-      tables = λ covered told is. (let covers = covered told is in record {
-        current =
-            λ whole b below. (
-              (block_in blocks b).newest,
-              inr (λ lane other tried. none lane b other tried, refl),
-              covers.current b below.inside,
-            );
-        candidates =
-            λ b below atom contains.
-            (let (value, has, sealed) =
-            covers.candidates b below.inside atom contains in (value, inl has, sealed));
-        settled = λ lane o at. absurd (let free = starts.fresh.lanes lane in cc);
-        zone = λ work at. absurd (let rests = starts.fresh.rests in cc);
-      });
+          ((covered told is).current b below) in
+          omega (arith, size, some_atom start.map.atom starts.sound.fits.known));
+      tables = λ covered told is. shows (view_of_cells told.now) (covered told is).current
+          (covered told is).candidates;
     }
 
--- a stop at a moment leaves what is allowed
-stops_here : {K P Q : Type 0} (state : State K) (seals : Seals) (plain : ℕ → List ℕ)
-    (left : List Block) → Here P Q state seals plain left → P → (told : Told)
-    → state.disk.told ≡ Some told →
-    StopsAllowed state seals plain left told.now
-stops_here state seals plain left here premise told is = λ image is_image b below.
-    (here.tables premise told is).candidates b below (value_in image (place_in state.map b))
-    (image_in told.now image (place_in state.map b) is_image
-    (here.places premise told is b below.inside))
-
--- every run from a start
+-- every run from a start; a stop leaves what is allowed
 pub serves_each_run : {K : Type 0} (start : State K) (seals : Seals) → ServesEachRun start seals
 serves_each_run start seals = λ blocks bytes run exchanges starts is are.
-    let ran =
-    run_served seals start no_plain blocks run exchanges
-    (starts_here start seals blocks bytes starts) is are in
-    let here = ran.here in record {
+    let ran = run_served run exchanges (starts_here starts) is are in
+    let here = ran.here in
+    let last = last_of start run in record {
       left = ran.next;
       legal = ran.legal;
       now = here.bytes;
@@ -269,6 +197,8 @@ serves_each_run start seals = λ blocks bytes run exchanges starts is are.
       stands = here.shown.current;
       size = here.size;
       cells = here.cells;
-      stops = stops_here (last_of start run) seals (plain_in seals start no_plain run) ran.next
-          here;
+      stops = λ covered told was image is_image b below.
+          (here.tables covered told was).candidates b below (value_in image (place_in last.map b))
+          (image_in told.now image (place_in last.map b) is_image
+          (here.places covered told was b below.inside));
     }

@@ -1,27 +1,16 @@
 -- Lemmas on what images stand for: one content, and by stops an allowed one.
-use Rattle.std.proofs.Common.{◌≡◌, ℕ, ◌+◌, ◌-◌, ◌<◌, ◌≤◌, ◌⊎◌, inl, inr, List, [], Option, Some}
-use Rattle.std.proofs.Common.{None, IsSomeAnd, refl, sym, ◌∙◌, ap, subst, arith}
-use Rattle.std.proofs.lemmas.Bool.{cases_lt}
+use Rattle.volume_machine.proofs.Common.{List, None, Option, Some, [], ap, arith, inl, inr, refl}
+use Rattle.volume_machine.proofs.Common.{subst, sym, ℕ, ◌+◌, ◌-◌, ◌<◌, ◌∙◌, ◌≡◌, ◌≤◌, ◌⊎◌, cases_lt}
+use Rattle.volume_machine.proofs.Common.{Cell, AreBlocks, block_at, value_in, Side, New, Old, Zone}
+use Rattle.volume_machine.proofs.Common.{Map, Resilience, checksum, datashift, journal, Block}
+use Rattle.volume_machine.proofs.Common.{place_in, side_in, AreLawful, Seals, IsLive, State, Work}
+use Rattle.disk_areas.specs.{Areas.Image, Areas.content_of, Headers.IsReader}
 use Rattle.disk_areas.proofs.HeadersGiven.{header_is_one}
-use Rattle.disk_areas.specs.Areas.{Image, content_of}
-use Rattle.disk_areas.specs.Headers.{IsReader}
-use Rattle.disk_views.specs.Parts.{AreBlocks, block_at, value_in}
-use Rattle.plain_disk.specs.Plain.{Block}
-use Rattle.sector_disk.specs.Cells.{Cell}
-use Rattle.disk_zones.specs.Standing.{Hash, TellsDigest, Recovers}
-use Rattle.disk_zones.specs.Zones.{Resilience, journal, checksum, datashift}
-use Rattle.segment_map.specs.declared.Side.{Side}
-use Rattle.segment_map.specs.declared.Side.TheVariants.{Old, New, Zone}
-use Rattle.segment_map.specs.declared.map.Map.{Map}
-use Rattle.volume_laws.specs.Standing.{Content, Reading, atoms_of, AtomStands, IsInZone}
-use Rattle.volume_laws.specs.Standing.{BlockStands, StandsBy, StandsUnder, StandsForNow}
-use Rattle.volume_laws.specs.Standing.{StandsAllowed}
-use Rattle.volume_laws.specs.Contents.{IsSealed, IsNow, IsAllowedAt, StandsNow, StopsAllowed}
+use Rattle.disk_zones.specs.Standing.{Hash, Recovers, TellsDigest}
+use Rattle.volume_laws.specs.Contents.{IsAllowedAt, IsNow, IsSealed, StandsNow, StopsAllowed}
+use Rattle.volume_laws.specs.Standing.{AtomStands, BlockStands, Content, IsInZone, Reading}
+use Rattle.volume_laws.specs.Standing.{StandsAllowed, StandsBy, StandsForNow, StandsUnder, atoms_of}
 use Rattle.volume_laws.proofs.VolumeStart.{one_value}
-use Rattle.volume_machine.specs.Pieces.{side_in, place_in}
-use Rattle.volume_machine.specs.Seals.{Seals, AreLawful}
-use Rattle.volume_machine.specs.States.{State, IsLive}
-use Rattle.volume_machine.specs.Works.{Work}
 
 -- what is sealed alike is alike
 sealed_one : (atom : ℕ) (seals : Seals) (side : Side) (b : ℕ) (one other : List ℕ)
@@ -122,53 +111,40 @@ chosen n P each = (λ b. pick b (cases_lt b n), λ b below. picked b (cases_lt b
     picked b (inl less) below = (each b less).1
     picked b (inr from) below = absurd (omega (arith, from, below))
 
--- without a header every block is live
-all_live : {K : Type 0} (state : State K) → state.work ≡ None → (b : ℕ) → b < state.map.blocks
-    → IsLive state b
-all_live state none b below =
-    record { inside = below; free = λ governed. governs_none state.work none governed }
-  where
-    governs_none : (work : Option Work) → work ≡ None
-        → IsSomeAnd work (λ w. (w.range.start ≤ b) × (b < w.range.end)) → ⊥
-    governs_none None is governed = absurd governed
-    governs_none (Some work) is governed = absurd (cc)
+-- without a header every block is live, and an image stands by the volume's own map
+module _ {K : Type 0} (state : State K) (none : state.work ≡ None) where
+  all_live : (b : ℕ) → b < state.map.blocks → IsLive state b
+  all_live b below = record { inside = below; free = λ governed. absurd (rw none at governed) }
 
-under_none : (reading : Reading) (atoms : ℕ) (seals : Seals) (map : Map) (work : Option Work)
-    (image : Image) (content : Content)
-    → work ≡ None → StandsBy map seals image content
-    → StandsUnder reading atoms seals map work image content
-under_none reading atoms seals map None image content none stands = stands
-under_none reading atoms seals map (Some work) image content none stands = absurd (cc)
+  under_none : (reading : Reading) (seals : Seals) (image : Image) (content : Content)
+      → StandsBy state.map seals image content
+      → StandsUnder reading state.disk.atoms seals state.map state.work image content
+  under_none reading seals image content stands = rw none stands
 
-pub now_stands : {K : Type 0} (reading : Reading) (state : State K) (seals : Seals)
-    (plain : ℕ → List ℕ) (blocks : List Block) (bytes : List ℕ)
-    → state.work ≡ None → StandsNow state seals plain blocks bytes
-    → StandsForNow reading state seals plain blocks bytes
-now_stands reading state seals plain blocks bytes none stands =
-    let image : Image = λ place. block_at state.map.atom bytes place in
-    let (content, each) = chosen state.map.blocks
-    (λ b value. IsNow state plain blocks b value
-    × IsSealed state.map seals b value (image (place_in state.map b)))
-    (λ b below. let (value, is, sealed) =
-    stands b (all_live state none b below) in (value, (is, sealed))) in (
-      content,
-      under_none reading state.disk.atoms seals state.map state.work image content none
-          (λ b below. (each b below).1),
-      λ b below. (each b below).0,
-    )
+  pub now_stands : (reading : Reading) (seals : Seals) (plain : ℕ → List ℕ) (blocks : List Block)
+      (bytes : List ℕ) → StandsNow state seals plain blocks bytes
+      → StandsForNow reading state seals plain blocks bytes
+  now_stands reading seals plain blocks bytes stands =
+      let image : Image = λ place. block_at state.map.atom bytes place in
+      let (content, each) = chosen state.map.blocks
+      (λ b value. IsNow state plain blocks b value
+      × IsSealed state.map seals b value (image (place_in state.map b)))
+      (λ b below. let (value, is, sealed) = stands b (all_live b below) in (value, (is, sealed))) in (
+        content,
+        under_none reading seals image content (λ b below. (each b below).1),
+        λ b below. (each b below).0,
+      )
 
-pub stops_stand : {K : Type 0} (reading : Reading) (state : State K) (seals : Seals)
-    (plain : ℕ → List ℕ) (blocks : List Block) (cells : List Cell)
-    → state.work ≡ None → StopsAllowed state seals plain blocks cells
-    → StandsAllowed reading state seals plain blocks cells
-stops_stand reading state seals plain blocks cells none stops = λ image is.
-    let (content, each) = chosen state.map.blocks
-    (λ b value. IsAllowedAt state plain blocks b value
-    × IsSealed state.map seals b value (value_in image (place_in state.map b)))
-    (λ b below. let (value, allowed, sealed) =
-    stops image is b (all_live state none b below) in (value, (allowed, sealed))) in (
-      content,
-      under_none reading state.disk.atoms seals state.map state.work (value_in image) content none
-          (λ b below. (each b below).1),
-      λ b below. (each b below).0,
-    )
+  pub stops_stand : (reading : Reading) (seals : Seals) (plain : ℕ → List ℕ) (blocks : List Block)
+      (cells : List Cell) → StopsAllowed state seals plain blocks cells
+      → StandsAllowed reading state seals plain blocks cells
+  stops_stand reading seals plain blocks cells stops = λ image is.
+      let (content, each) = chosen state.map.blocks
+      (λ b value. IsAllowedAt state plain blocks b value
+      × IsSealed state.map seals b value (value_in image (place_in state.map b)))
+      (λ b below. let (value, allowed, sealed) = stops image is b (all_live b below) in
+      (value, (allowed, sealed))) in (
+        content,
+        under_none reading seals (value_in image) content (λ b below. (each b below).1),
+        λ b below. (each b below).0,
+      )

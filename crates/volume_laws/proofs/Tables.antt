@@ -1,14 +1,9 @@
 -- The tables of a disk along a run: each event adds at most one, the one after it.
-use Rattle.std.proofs.Common.{◌≡◌, inl, inr, List, [], ◌∷◌, ◌++◌, All, Some, refl, sym, ◌∙◌, ap}
-use Rattle.std.proofs.Common.{append_assoc}
-use Rattle.std.proofs.lemmas.List.{append-nil}
-use Rattle.std.proofs.lemmas.List.Elements.{All-nil, All-cons}
-use Rattle.sector_disk.specs.Cells.{Cell}
-use Rattle.sector_disk.specs.Steps.{Told}
-use Rattle.volume_laws.specs.Executing.{WasTold, TellsRun}
-use Rattle.volume_machine.specs.Runs.{Happening, IsRun, last_of}
-use Rattle.volume_machine.specs.States.{State}
+use Rattle.volume_machine.proofs.Common.{All, List, Some, [], ap, append_assoc, inl, inr, refl, sym}
+use Rattle.volume_machine.proofs.Common.{◌++◌, ◌∙◌, ◌∷◌, ◌≡◌, append-nil, All-cons, All-nil, Cell}
+use Rattle.volume_machine.proofs.Common.{Told, Happening, State, IsRun, last_of}
 use Rattle.volume_machine.proofs.EventEffects.{event_effects}
+use Rattle.volume_laws.specs.Executing.{TellsRun, WasTold}
 
 -- a table that was told later was told
 told_later : {K : Type 0} (start : State K) (one : Happening K) (rest : List (Happening K))

@@ -1,17 +1,9 @@
 -- Volumes of any map start: their bytes stand for the blocks that their keys open, and for no
 -- others.
-use Rattle.std.proofs.Common.{◌≡◌, ℕ, zero, suc, ◌+◌, ◌*◌, ◌<◌, List, length, Some, sym, ◌∙◌, ap}
-use Rattle.std.proofs.Common.{arith}
-use Rattle.cipher_laws.specs.Bytes.{AreBytes}
-use Rattle.disk_views.specs.Parts.{AreBlocks, block_at}
-use Rattle.disk_views.proofs.Blockwise.{one_block}
-use Rattle.plain_disk.specs.Plain.{Block}
-use Rattle.segment_map.specs.declared.map.Map.{Map}
-use Rattle.volume_machine.specs.Beginnings.{IsFresh}
-use Rattle.volume_machine.specs.Pieces.{side_in, place_in}
-use Rattle.volume_machine.specs.Seals.{AreLawful, Seals}
-use Rattle.volume_machine.specs.Sound.{AreApart, IsSound, MapFits}
-use Rattle.volume_machine.specs.States.{State}
+use Rattle.volume_machine.proofs.Common.{List, Some, ap, arith, length, suc, sym, zero, ℕ, ◌*◌, ◌+◌}
+use Rattle.volume_machine.proofs.Common.{◌<◌, ◌∙◌, ◌≡◌, AreBytes, AreBlocks, block_at, one_block}
+use Rattle.volume_machine.proofs.Common.{Map, Block, IsFresh, place_in, side_in, AreLawful, Seals}
+use Rattle.volume_machine.proofs.Common.{AreApart, IsSound, MapFits, State}
 use Rattle.volume_machine.proofs.NextPieces.{on_disk}
 use Rattle.volume_laws.specs.Contents.{IsSealed, StandsFor, block_in, blocks_from, opened_block}
 use Rattle.volume_laws.specs.Contents.{opened_blocks}

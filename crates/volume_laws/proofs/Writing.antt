@@ -1,35 +1,22 @@
 -- Pieces that are written: what holds between events goes on to hold.
-use Rattle.std.proofs.Common.{◌≡◌, inl, inr, ◌⊎◌, ℕ, suc, ◌+◌, ◌-◌, ◌*◌, ◌<◌, ◌≤◌, Bool, true}
-use Rattle.std.proofs.Common.{false, List, ◌++◌, length, Contains, Some, refl, sym, ◌∙◌, ap, subst}
-use Rattle.std.proofs.Common.{arith, nat_lt, length-append}
-use Rattle.plain_disk.specs.Plain.{Block}
-use Rattle.segment_map.specs.declared.map.Map.{Map}
-use Rattle.segment_map.specs.declared.map.Piece.{Piece}
-use Rattle.volume_machine.specs.declared.open.Open.{Open}
-use Rattle.volume_machine.specs.Asks.{IsRead, IsWrite, IsForced}
-use Rattle.volume_laws.specs.Contents.{IsTriedBy, IsNow, IsAllowedAt, IsSealed}
-use Rattle.volume_machine.specs.Pieces.{side_in, place_in, place_of, IsPieceOf, ArePieceBytes}
-use Rattle.volume_machine.specs.Runs.{with_plain, plain_piece}
-use Rattle.volume_machine.specs.Seals.{Seals, AreLawful}
-use Rattle.disk_views.specs.Parts.{AreBlocks, block_at}
-use Rattle.volume_machine.specs.Sound.{IsSound, AreApart}
-use Rattle.volume_machine.specs.States.{State, open_at, IsLive}
-use Rattle.volume_machine.specs.Steps.{HasPiece, Holds, Goes}
-use Rattle.disk_views.specs.Views.{View, IsOutside, IsTried, IsWritten}
-use Rattle.volume_laws.proofs.Admits.{plain-other, plain-own}
-use Rattle.disk_views.proofs.Blockwise.{block_at-front, block_at-behind, blocks_joined, one_block}
-use Rattle.volume_laws.proofs.Invariant.{LaneKnows, Logic, Shown, tried_goes, lanes_still}
-use Rattle.volume_laws.proofs.Invariant.{goes_stays, live_back, governed_back}
-use Rattle.volume_machine.proofs.Locking.{either, same_or_not}
-use Rattle.volume_machine.specs.Working.{Works}
-use Rattle.volume_laws.specs.Texts.{texts_of}
-use Rattle.volume_machine.specs.Works.{Work}
+use Rattle.volume_machine.proofs.Common
+use Common.{Bool, Contains, List, Some, ap, arith, false, inl, inr, length, length-append, nat_lt}
+use Common.{refl, subst, suc, sym, true, ℕ, ◌*◌, ◌++◌, ◌+◌, ◌-◌, ◌<◌, ◌∙◌, ◌≡◌, ◌≤◌, ◌⊎◌, either}
+use Common.{same_or_not, AreBlocks, block_at, IsOutside, IsTried, IsWritten, View, block_at-behind}
+use Common.{block_at-front, blocks_joined, one_block, Map, Piece, Reaches, ShowsZone, zone_stays}
+use Common.{zone_whole, Block, IsForced, IsRead, IsWrite, ArePieceBytes, IsPieceOf, place_in}
+use Common.{place_of, side_in, AreLawful, Seals, AreApart, IsSound, IsLive, State, open_at, Goes}
+use Common.{HasPiece, Holds, Works, Work}
 use Rattle.disk_areas.specs.Areas.{Area}
-use Rattle.disk_zones.specs.Zones.{ShowsZone, Reaches}
-use Rattle.disk_zones.proofs.ZoneFrames.{zone_stays, zone_whole}
-use Rattle.disk_zones.specs.Calls.{writes_beside, write_fails_beside}
-use Rattle.volume_laws.proofs.Reading.{AreLive, held_apart, writes_lock, never_both, forced_writes}
-use Rattle.volume_laws.proofs.Reading.{still_broken, piece_place, piece_blocks, piece_block}
+use Rattle.disk_zones.specs.Calls.{write_fails_beside, writes_beside}
+use Rattle.volume_machine.specs.declared.open.Open.{Open}
+use Rattle.volume_laws.specs.Contents.{IsAllowedAt, IsNow, IsSealed, IsTriedBy}
+use Rattle.volume_laws.specs.Texts.{texts_of}
+use Rattle.volume_laws.proofs.Invariant.{LaneKnows, Logic, Shown, goes_stays, governed_back}
+use Rattle.volume_laws.proofs.Invariant.{live_back, logic_kept, tried_goes}
+use Rattle.volume_laws.proofs.Reading.{AreLive, forced_writes, held_apart, never_both, now_is}
+use Rattle.volume_laws.proofs.Reading.{now_of, now_other, opened_piece, piece_block, piece_blocks}
+use Rattle.volume_laws.proofs.Reading.{piece_place, writes_lock}
 
 -- the place of a block that isn't the piece's is none of the piece's places
 pub place_outside : (map : Map) (o : Open) (piece : Piece) (b : ℕ) → AreApart map
@@ -50,7 +37,7 @@ place_outside map o piece b apart next inside below outside =
                 let same : b ≡ o.next + j =
                 apart b (o.next + j) below (omega (arith, lt, bound, inside))
                 (let at : place_of map piece + j ≡ place_in map b =
-                omega (arith, ge) in sym (piece_place map o piece j next lt ∙ at)) in
+                omega (arith, ge) in sym (piece_place o next j lt ∙ at)) in
                 absurd (elim outside [
                   | inl less ↦ omega (arith, same, less)
                   | inr more ↦ omega (arith, same, lt, more)
@@ -81,20 +68,6 @@ pub record TriesPiece {K : Type 0} (old new : State K) (seals : Seals) (plain : 
   pub works : Works old
   pub whole : old.broken ≡ false
 
--- what it knows then
-abbrev pub now_of : {K : Type 0} → State K → Seals → (ℕ → List ℕ) → ℕ → List ℕ → ℕ → List ℕ
-now_of old seals plain lane bytes =
-    with_plain plain lane (plain lane ++ plain_piece seals old lane bytes)
-
-abbrev pub opened_piece : {K : Type 0} → State K → Seals → Open → List ℕ → List ℕ
-opened_piece old seals o bytes = seals.opened (side_in old.map o.next) o.next bytes
-
-pub now_is : {K : Type 0} (old : State K) (seals : Seals) (plain : ℕ → List ℕ) (lane : ℕ) (o : Open)
-    (bytes : List ℕ) → open_at old.lanes lane ≡ Some o →
-    now_of old seals plain lane bytes lane ≡ plain lane ++ opened_piece old seals o bytes
-now_is old seals plain lane o bytes at =
-    plain-own plain lane (plain lane ++ plain_piece seals old lane bytes) ∙ rw at refl
-
 -- a block is the piece's or not
 pub in_piece : (first count b : ℕ)
     → ((j : ℕ) × (j < count) × (b ≡ first + j)) ⊎ IsOutside first count b
@@ -117,8 +90,8 @@ settled_holds state plain left lane b o knows settled from to =
     let least = knows.least in
     knows.holds (omega (arith, kept, least, from, to))
 
-module _ {K : Type 0} (old new : State K) (seals : Seals) (plain : ℕ → List ℕ) (left : List Block)
-    (lane : ℕ) (o next : Open) (piece : Piece) (bytes : List ℕ)
+module _ {K : Type 0} {old new : State K} {seals : Seals} {plain : ℕ → List ℕ} {left : List Block}
+    {lane : ℕ} {o next : Open} {piece : Piece} {bytes : List ℕ}
     (it : TriesPiece old new seals plain left lane o next piece bytes) where
   -- what the lanes know in plain then
   abbrev now : ℕ → List ℕ
@@ -140,7 +113,7 @@ module _ {K : Type 0} (old new : State K) (seals : Seals) (plain : ℕ → List 
             let all : now k
             ≡ plain lane ++ opened =
             ap (λ n. now n) same
-            ∙ now_is old seals plain lane o bytes it.at in
+            ∙ now_is old seals plain lane bytes it.at in
             let size = knows.are.size in
             let most : suc (b - o.range.start) * old.map.atom ≤ length (plain lane) =
             subst (λ n. suc (b - o.range.start) * old.map.atom ≤ length (plain n)) same
@@ -167,9 +140,8 @@ module _ {K : Type 0} (old new : State K) (seals : Seals) (plain : ℕ → List 
                   opened (b - o.range.start) below (omega (arith, size))));
             }
         | inr other ↦
-            tried_goes old plain new now k b value it.goes.map
-            (it.goes.lane_is.others k other)
-            (plain-other plain lane (plain lane ++ plain_piece seals old lane bytes) k other) tried
+            tried_goes it.goes.map (it.goes.lane_is.others k other)
+            (now_other old seals plain lane bytes k other) tried
       ]
 
   -- the piece's blocks are tried now
@@ -179,11 +151,11 @@ module _ {K : Type 0} (old new : State K) (seals : Seals) (plain : ℕ → List 
       let knows = it.logic.lanes lane o it.at in
       let map = it.goes.map in
       let range = it.range in
-      let all = now_is old seals plain lane o bytes it.at in
+      let all = now_is old seals plain lane bytes it.at in
       let exact : o.range.start + knows.count ≡ o.next = knows.exact it.has.goes_on in
       let size = knows.are.size in
       let piece_size =
-      (piece_blocks old.map seals o piece bytes it.lawful it.is_piece it.are).size in
+      (piece_blocks o it.is_piece it.lawful it.are).size in
       let long = length-append (plain lane) opened in
       let place : o.next + j - o.range.start ≡ knows.count + j = omega (arith, exact) in
       let enough : suc (knows.count + j) * old.map.atom
@@ -217,11 +189,11 @@ module _ {K : Type 0} (old new : State K) (seals : Seals) (plain : ℕ → List 
             let exact : o.range.start + knows.count ≡ o.next = knows.exact it.has.goes_on in
             let size = knows.are.size in
             let piece_size =
-            (piece_blocks old.map seals o piece bytes it.lawful it.is_piece it.are).size in
+            (piece_blocks o it.is_piece it.lawful it.are).size in
             let all : now k
             ≡ plain lane ++ opened =
             ap (λ n. now n) same
-            ∙ now_is old seals plain lane o bytes it.at in
+            ∙ now_is old seals plain lane bytes it.at in
             let long = length-append (plain lane) opened in
             let both : length (plain lane ++ opened)
             ≡ (knows.count + piece.count) * old.map.atom =
@@ -256,11 +228,8 @@ module _ {K : Type 0} (old new : State K) (seals : Seals) (plain : ℕ → List 
             )
         | inr other ↦ (
           value,
-          tried_goes new now old plain k b value (sym it.goes.map)
-              (sym (it.goes.lane_is.others k other))
-              (sym (plain-other plain lane (plain lane ++ plain_piece seals old lane bytes) k
-              other))
-              tried,
+          tried_goes (sym it.goes.map) (sym (it.goes.lane_is.others k other))
+              (sym (now_other old seals plain lane bytes k other)) tried,
         )
       ]
 
@@ -274,10 +243,10 @@ module _ {K : Type 0} (old new : State K) (seals : Seals) (plain : ℕ → List 
       record { size = it.are.size; are_bytes = it.are.are_bytes } in
       let one : AreBlocks atom 1 (block_at atom bytes j) =
       one_block atom piece.count bytes j blocks below in
-      let value = piece_block old.map seals o piece bytes j it.lawful it.is_piece it.are below in
+      let value = piece_block o it.is_piece it.lawful it.are j below in
       let side = side_in old.map (o.next + j) in (
         one_block atom piece.count opened j
-            (piece_blocks old.map seals o piece bytes it.lawful it.is_piece it.are) below,
+            (piece_blocks o it.is_piece it.lawful it.are) below,
         sym (ap (λ v. seals.sealed side (o.next + j) v) value
             ∙ it.lawful.seals_opened side (o.next + j) (block_at atom bytes j) one),
       )
@@ -308,7 +277,7 @@ module _ {K : Type 0} (old new : State K) (seals : Seals) (plain : ℕ → List 
       elim (in_piece o.next piece.count b) [
         | inl (j, lt, is) ↦
             let place : place_in old.map b ≡ place_of old.map piece + j =
-            ap (λ n. place_in old.map n) is ∙ piece_place old.map o piece j it.is_piece lt in
+            ap (λ n. place_in old.map n) is ∙ piece_place o it.is_piece j lt in
             elim (tried.inside j lt atom
             (subst (λ p. Contains (after.candidates p) atom) place contains)) [
               | inl before ↦ was (subst (λ p. Contains (view.candidates p) atom) (sym place) before)
@@ -355,14 +324,14 @@ module _ {K : Type 0} (old new : State K) (seals : Seals) (plain : ℕ → List 
             settled_holds old plain left k b p (it.logic.lanes k p was) settled from to in
             let outside : IsOutside o.next piece.count b = elim (in_piece o.next piece.count b) [
               | inl (j, lt, same_b) ↦
-                  absurd (held_apart old lane k b o p it.logic.sound (λ same. other (sym same))
+                  absurd (held_apart lane k b it.logic.sound (λ same. other (sym same))
                   it.at
                   (writes_lock o.ask it.writes) it.holds
                   (omega (arith, same_b, begun)) (omega (arith, same_b, lt, ends)) was
                   (forced_writes p.ask forced) holds from to)
               | inr out ↦ out
             ] in
-            rw (plain-other plain lane (plain lane ++ plain_piece seals old lane bytes) k other)
+            rw (now_other old seals plain lane bytes k other)
             (shown.settled k p was forced settled b from to atom
             (tried.outside (place_in old.map b)
             (place_outside old.map o piece b it.apart it.is_piece bound.inside
@@ -378,7 +347,7 @@ module _ {K : Type 0} (old new : State K) (seals : Seals) (plain : ℕ → List 
   written_current view after written shown was b below = elim (in_piece o.next piece.count b) [
     | inl (j, lt, is) ↦
         let place : place_in old.map b ≡ place_of old.map piece + j =
-        ap (λ n. place_in old.map n) is ∙ piece_place old.map o piece j it.is_piece lt in (
+        ap (λ n. place_in old.map n) is ∙ piece_place o it.is_piece j lt in (
           block_at old.map.atom opened j,
           inl (
             lane,
@@ -420,14 +389,14 @@ module _ {K : Type 0} (old new : State K) (seals : Seals) (plain : ℕ → List 
       let knows = it.logic.lanes lane o it.at in
       let map = it.goes.map in
       let range = it.range in
-      let all = now_is old seals plain lane o bytes it.at in
+      let all = now_is old seals plain lane bytes it.at in
       let exact : o.range.start + knows.count ≡ o.next = knows.exact it.has.goes_on in
       let ends = it.is_piece.within in
       record {
         count = knows.count + piece.count;
         are = rw (map, all) (blocks_joined old.map.atom knows.count piece.count (plain lane)
             opened knows.are
-            (piece_blocks old.map seals o piece bytes it.lawful it.is_piece it.are));
+            (piece_blocks o it.is_piece it.lawful it.are));
         least = rw range (omega (arith, least, exact));
         most = rw range (omega (arith, exact, ends));
         exact = λ whole. (let e = exact_next whole in rw range (omega (arith, exact, e)));
@@ -449,20 +418,10 @@ module _ {K : Type 0} (old new : State K) (seals : Seals) (plain : ℕ → List 
       → next.next ≤ o.next + piece.count → (next.failed ≡ false → next.next ≡ o.next + piece.count)
       → (next.failed ≡ true → it.is_broken ≡ true) → Logic new now left
   logic_tried sound unbroken least exact breaks =
-      record {
-        sound = sound;
-        are = rw it.goes.map it.logic.are;
-        sure = λ whole b below. it.logic.sure (unbroken (sym it.goes.broken_is ∙ whole)) b
-            (subst (λ m. b < m.blocks) it.goes.map below);
-        lanes = lanes_still old plain new now left lane (Some next) (goes_stays it.goes)
-            it.goes.lane_is
-            (plain-other plain lane (plain lane ++ plain_piece seals old lane bytes))
-            (λ k other held. rw it.goes.entries_are held)
-            (still_broken old new lane old.entries (Some next) it.is_broken it.goes unbroken)
-            (λ one same. let e : one ≡ next = cc in
-            rw e (knows_tried least exact (λ failed. it.goes.broken_is ∙ breaks failed)))
-            it.logic.lanes;
-      }
+      logic_kept it.goes unbroken sound (now_other old seals plain lane bytes)
+      (λ k other held. rw it.goes.entries_are held)
+      (λ one same. let e : one ≡ next = cc in
+      rw e (knows_tried least exact (λ failed. it.goes.broken_is ∙ breaks failed))) it.logic
 
   -- the zone's areas lie apart from a piece
   piece_away : (work : Work) → old.work ≡ Some work → (area : Area)
@@ -477,7 +436,7 @@ module _ {K : Type 0} (old new : State K) (seals : Seals) (plain : ℕ → List 
             (it.works work is).away (o.next + j)
             (it.live (o.next + j) (omega (arith, begun)) (omega (arith, lt, within))) area of in
             let place : place_in old.map (o.next + j) ≡ area.start + i =
-            piece_place old.map o piece j it.is_piece lt ∙ sym same in
+            piece_place o it.is_piece j lt ∙ sym same in
             absurd (elim away [
               | inl before ↦ omega (arith, before, place)
               | inr behind ↦ omega (arith, behind, place, below)

@@ -6,9 +6,9 @@ returns-clause-one c start reading state seals image one other =
     stands_for_one reading state.disk.atoms seals state.map state.work image one other
 
 pub returns-clause-now : goal.returns-clause-now
-returns-clause-now c start reading state seals plain blocks bytes =
-    now_stands reading state seals plain blocks bytes
+returns-clause-now c start reading state seals plain blocks bytes none =
+    now_stands state none reading seals plain blocks bytes
 
 pub returns-clause-stops : goal.returns-clause-stops
-returns-clause-stops c start reading state seals plain blocks cells =
-    stops_stand reading state seals plain blocks cells
+returns-clause-stops c start reading state seals plain blocks cells none =
+    stops_stand state none reading seals plain blocks cells
