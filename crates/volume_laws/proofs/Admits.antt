@@ -37,7 +37,7 @@ module _ {K : Type 0} {state : State K} {plain : ℕ → List ℕ} {lane : ℕ} 
 
   -- a lane without an operation has tried nothing
   pub idle : open_at state.lanes lane ≡ None → TriesNothing state plain lane
-  idle free b value is = (let at = is.is in cc)
+  idle free b value is = cc
 
   -- an operation that was admitted has done nothing yet
   knows_nothing : {left : List Block} {o : Open} → plain lane ≡ [] → o.next ≡ o.range.start
@@ -49,11 +49,11 @@ module _ {K : Type 0} {state : State K} {plain : ℕ → List ℕ} {lane : ℕ} 
     least = omega arith;
     most = omega arith;
     exact = λ whole. omega arith;
-    holds = λ some. absurd (omega (arith, some));
-    reads = λ is k below. absurd (omega (arith, below));
+    holds = λ some. absurd (omega arith);
+    reads = λ is k below. absurd (omega arith);
     kept = λ settled. absurd (cc);
     breaks = λ writes failed. absurd (cc);
-    beside = λ b from to of. absurd (omega (arith, from, to));
+    beside = λ b from to of. absurd (omega arith);
   }
 
 itself : (lanes : List (Option Open)) (lane : ℕ) → LaneBecomes lanes lanes lane (open_at lanes lane)
@@ -67,15 +67,15 @@ module _ {K : Type 0} {state : State K} {plain : ℕ → List ℕ} {left : List 
     sound = logic.sound;
     are = logic.are;
     sure = logic.sure;
-    lanes = lanes_still (record { map = refl; work = refl }) (itself state.lanes lane) (plain-other plain lane now)
-        (λ k other holds. holds) (λ was. was) (λ o is. absurd (cc)) logic.lanes;
+    lanes = lanes_still (record { map = refl; work = refl }) (itself state.lanes lane) (plain-other
+        plain lane now) (λ k other holds. holds) (λ was. was) (λ o is. absurd (cc)) logic.lanes;
   }
 
   pub shown_forgets : {seals : Seals} {view next : View} → IsUnchanged view next
       → Shown state seals plain left view → Shown state seals (with_plain plain lane now) left next
   shown_forgets same = shown_kept (record { map = refl; work = refl })
-      (writes_stay refl (itself state.lanes lane) (plain-other plain lane now) (idle free) (idle free)
-      (λ o is forced settled. cc)) (λ whole. (whole, same.current)) same.candidates
+      (writes_stay refl (itself state.lanes lane) (plain-other plain lane now) (idle free)
+      (idle free) (λ o is forced settled. cc)) (λ whole. (whole, same.current)) same.candidates
 
 module _ {K : Type 0} {old new : State K} {lane session : ℕ} {ask : Ask} {outcome : Outcome}
     (is : IsAdmitted old lane session ask outcome new) where

@@ -46,9 +46,8 @@ pub blocks_of-front : (atom m : ℕ) (text front : List ℕ) → take (m * atom)
     → blocks_of atom m text ≡ blocks_of atom m front
 blocks_of-front atom m text front begins =
     let long = length-blocks_of atom m text in
-    ext_get_or [] (blocks_of atom m text) (blocks_of atom m front)
-    (long ∙ sym (length-blocks_of atom m front))
-    (λ k below. let inside : k < m = omega (arith, below, long) in
+    ext_get_or [] (blocks_of atom m text) (blocks_of atom m front) (long
+    ∙ sym (length-blocks_of atom m front)) (λ k below. let inside : k < m = omega arith in
     blocks_of-at atom m text k [] inside ∙ sym (rw (← begins) (
     blocks_of-at atom m (take (m * atom) text) k [] inside ∙ block_at-take atom m text k inside)))
 
@@ -65,9 +64,8 @@ range_whole atom size offset len past known proper = elim known [
         → atom ≡ a → (offset / atom * atom ≡ offset) × (len / atom * atom ≡ len)
     whole_at a which right same = rw same (grind (arith, which, right), grind (arith, which, right))
 
-pub read_whole : (atom size offset len : ℕ) → IsAtom atom
-    → wrong_ask atom size (Read offset len) ≡ None
-    → (offset / atom * atom ≡ offset) × (len / atom * atom ≡ len)
+pub read_whole : (atom size offset len : ℕ) → IsAtom atom → wrong_ask atom size (Read offset len)
+    ≡ None → (offset / atom * atom ≡ offset) × (len / atom * atom ≡ len)
 read_whole atom size offset len known proper =
     range_whole atom size offset len 22 known (elim (either (nat_lt 33554432 len)) [
       | inl long ↦ absurd (let wrong = rw long at proper in cc)
@@ -83,12 +81,12 @@ module _ (atom : ℕ) (left : List Block) {blocks : ℕ} (count : length left �
     {exchange : Exchange} where
   judged : {one : Answered} (wrong : Option ℕ) → wrong_ask atom (blocks * atom) one.ask ≡ wrong
       → IsExchange one exchange → wrong_of atom (length left * atom) exchange.op ≡ wrong
-  judged {one = one} wrong is_wrong is =
-      wrong_asked atom (length left * atom) one.ask one.plain exchange.op is.op
-      ∙ ap (λ n. wrong_ask atom (n * atom) one.ask) count ∙ is_wrong
+  judged {one = one} wrong is_wrong is = wrong_asked atom (length left * atom) one.ask
+      one.plain exchange.op is.op ∙ ap (λ n. wrong_ask atom (n * atom) one.ask) count ∙ is_wrong
 
   -- a wrong operation
-  pub step_wrong : {session : ℕ} {ask : Ask} {number : ℕ} → wrong_ask atom (blocks * atom) ask ≡ Some number
+  pub step_wrong : {session : ℕ} {ask : Ask} {number : ℕ}
+      → wrong_ask atom (blocks * atom) ask ≡ Some number
       → IsExchange (refusal session ask number) exchange → Step atom left exchange left
   unfolding Step
   step_wrong {number = number} wrong is = rw (judged (Some number) wrong is) (is.reply, refl)
@@ -102,10 +100,11 @@ module _ (atom : ℕ) (left : List Block) {blocks : ℕ} (count : length left �
   proper_goes next proper is goes = rw (judged None proper is) goes
 
   -- refused on a broken volume
-  pub step_refused : {session : ℕ} {ask : Ask} → wrong_ask atom (blocks * atom) ask ≡ None → 0 < atom
-      → IsExchange (refusal session ask 5) exchange → Step atom left exchange left
+  pub step_refused : {session : ℕ} {ask : Ask} → wrong_ask atom (blocks * atom) ask ≡ None
+      → 0 < atom → IsExchange (refusal session ask 5) exchange → Step atom left exchange left
   unfolding ProperStep WriteStep blocks_of
-  step_refused {session = session} {ask = ask} proper some is = proper_goes left proper is (goes ask is)
+  step_refused {session = session} {ask = ask} proper some is =
+      proper_goes left proper is (goes ask is)
     where
       goes : (ask : Ask) → IsExchange (refusal session ask 5) exchange
           → ProperStep atom left exchange.op exchange.reply exchange.tried left
@@ -123,9 +122,8 @@ module _ (atom : ℕ) (left : List Block) {blocks : ℕ} (count : length left �
       goes Flush is = rw (is.op, is.reply) (refl, refl)
 
   -- a read that was answered by its bytes, and one that was answered by 5
-  pub step_read : {session offset len : ℕ} {plain : List ℕ}
-      → wrong_ask atom (blocks * atom) (Read offset len) ≡ None
-      → (plain ≡ take len (drop offset (newest_bytes left)))
+  pub step_read : {session offset len : ℕ} {plain : List ℕ} → wrong_ask atom (blocks
+      * atom) (Read offset len) ≡ None → (plain ≡ take len (drop offset (newest_bytes left)))
       × AreSure (take (len / atom) (drop (offset / atom) left))
       → IsExchange (answer session (Read offset len) plain (Content plain)) exchange
       → Step atom left exchange left
@@ -142,11 +140,10 @@ module _ (atom : ℕ) (left : List Block) {blocks : ℕ} (count : length left �
 
   -- a write that is done, and one that failed
   pub step_written : {session offset len : ℕ} {fua : Bool} {plain : List ℕ} (n : ℕ)
-      → wrong_ask atom (blocks * atom) (Write offset len fua) ≡ None → length plain ≡ len
-      → length plain ≡ n * atom → len / atom ≡ n
-      → IsExchange (answer session (Write offset len fua) plain Done) exchange
-      → Step atom left exchange
-      (changed (change_of fua) left (offset / atom) (blocks_of atom n plain))
+      → wrong_ask atom (blocks * atom) (Write offset len fua) ≡ None
+      → length plain ≡ len → length plain ≡ n * atom → len / atom ≡ n
+      → IsExchange (answer session (Write offset len fua) plain Done) exchange → Step
+      atom left exchange (changed (change_of fua) left (offset / atom) (blocks_of atom n plain))
   unfolding ProperStep WriteStep
   step_written {offset = offset} {fua = fua} {plain = plain} n proper long whole counted is =
       let (body, op, body_long, begins) = is.op in
@@ -166,8 +163,7 @@ module _ (atom : ℕ) (left : List Block) {blocks : ℕ} (count : length left �
   unfolding ProperStep WriteStep
   step_unwritten {offset = offset} {plain = plain} n proper some most whole is =
       let (body, op, body_long, begins) = is.op in
-      let counted : length plain / atom ≡ n =
-      ap (λ m. m / atom) whole ∙ mul-div_cancel n some in
+      let counted : length plain / atom ≡ n = ap (λ m. m / atom) whole ∙ mul-div_cancel n some in
       let even : length plain % atom ≡ 0 = ap (λ m. m % atom) whole ∙ mul-mod_left n atom in
       let same : blocks_of atom (length plain / atom) body ≡ blocks_of atom n plain =
       ap (λ m. blocks_of atom m body) counted
@@ -185,6 +181,6 @@ module _ (atom : ℕ) (left : List Block) {blocks : ℕ} (count : length left �
   unfolding ProperStep
   step_flushed is = proper_goes _ refl is (rw (is.op, is.reply) refl)
 
-  pub step_unflushed : {session : ℕ} → 0 < atom → IsExchange (answer session Flush [] (Errno 5)) exchange
-      → Step atom left exchange left
+  pub step_unflushed : {session : ℕ} → 0 < atom
+      → IsExchange (answer session Flush [] (Errno 5)) exchange → Step atom left exchange left
   step_unflushed some is = step_refused refl some is

@@ -15,8 +15,7 @@ use Rattle.volume_laws.proofs.{Admits.unanswered, Executions.run-front, Failures
 
 -- an event amid a run
 run-event : {K : Type 0} (old : State K) (earlier later : List (Happening K)) (one : Happening K)
-    → IsRun old (earlier ++ one ∷ later) →
-    Meets (last_of old earlier) one.event
+    → IsRun old (earlier ++ one ∷ later) → Meets (last_of old earlier) one.event
     × Step (last_of old earlier) one.event one.outcome one.after
 unfolding IsRun last_of
 run-event old [] later one (meets, step, is) = (meets, step)
@@ -37,19 +36,16 @@ admit_exact : {K : Type 0} (old new : State K) (lane session : ℕ) (ask : Ask) 
     wrong_ask old.map.atom (size_of old.map) answered.ask ≡ None
     → (answered.reply ≡ Errno 5) ↔ (old.broken ≡ true)
 admit_exact old new lane session ask outcome answered step is proper =
-    let right : wrong_ask old.map.atom (size_of old.map) ask ≡ None =
-    ap (λ a. wrong_ask old.map.atom (size_of old.map) a)
-    (sym (refused_by session ask outcome answered is)) ∙ proper in
+    let right : wrong_ask old.map.atom (size_of old.map) ask ≡ None = ap (λ a. wrong_ask
+    old.map.atom (size_of old.map) a) (sym (refused_by session ask outcome answered is)) ∙ proper in
     let judged = rw right at step in
     elim (either old.broken) [
-      | inl broke ↦ (let refusal = rw broke at judged in
+      | inl broke ↦ let refusal = rw broke at judged in
           let one : answered
           ≡ record { session = session; ask = ask; plain = []; reply = Errno 5 } =
           one_answered _ answered (sym (ap (λ o. by_admit session ask o) refusal.0) ∙ is) in
-          (λ five. broke, λ broke. ap (λ a. a.reply) one))
-      | inr whole ↦
-          absurd (let none =
-          unanswered (rw whole at judged) in
+          (λ five. broke, λ broke. ap (λ a. a.reply) one)
+      | inr whole ↦ absurd (let none = unanswered (rw whole at judged) in
           cc)
     ]
 
@@ -106,10 +102,9 @@ event_exact start earlier plain new (finishes lane) outcome answered goes step i
     answered refl (goes.fails lane) is
 event_exact start earlier plain new _ outcome answered goes step is proper = absurd (cc)
 
-pub device_errors_exact : {K : Type 0} (start : State K) (seals : Seals)
-    (earlier later : List (Happening K)) (one : Happening K) → IsFresh start
-    → IsRun start (earlier ++ one ∷ later) →
-    DeviceErrorsAreExact seals start earlier one
+pub device_errors_exact : {K : Type 0} (start : State K)
+    (seals : Seals) (earlier later : List (Happening K)) (one : Happening K) → IsFresh start
+    → IsRun start (earlier ++ one ∷ later) → DeviceErrorsAreExact seals start earlier one
 device_errors_exact start seals earlier later one fresh is = λ answered answers proper.
     let goes = goes_by_events start earlier fresh (run-front start earlier (one ∷ later) is) in
     let (meets, step) = run-event start earlier later one is in

@@ -43,30 +43,28 @@ knows_text {old = old} lane {o = o} offset len logic at asked whole =
     let range = (logic.sound.under_way lane o at).range_is ∙ asked in
     let start : o.range.start ≡ offset / old.map.atom = ap (λ r. r.start) range in
     let end : o.range.end ≡ offset / old.map.atom + len / old.map.atom = ap (λ r. r.end) range in
-    let count : knows.count ≤ len / old.map.atom = omega (arith, start, end, knows.most) in
+    let count : knows.count ≤ len / old.map.atom = omega (arith, start, end) in
     let bound : knows.count * old.map.atom ≤ len / old.map.atom * old.map.atom =
     grind (arith, count) in record {
       start = start;
       end = end;
       size = knows.are.size;
-      most = omega (arith, knows.are.size, bound, whole);
-      all = λ unfailed ended. omega (arith, knows.exact unfailed, ended, start, end);
+      most = omega arith;
+      all = λ unfailed ended. omega (arith, knows.exact unfailed, start, end);
     }
 
 -- what a write that is done makes of a block: the new value is its newest, one of its values, and
 -- certain
-change_makes : (fua : Bool) (block : Block) (value : List ℕ)
-    → ((change_of fua block value).newest ≡ value)
-    × Contains (values_of (change_of fua block value)) value
+change_makes : (fua : Bool) (block : Block) (value : List ℕ) → ((change_of fua block value).newest
+    ≡ value) × Contains (values_of (change_of fua block value)) value
     × ((change_of fua block value).unsure ≡ false)
 change_makes true block value = (refl, Contains-push [] value, refl)
 change_makes false block value = (refl, written_contained block value, refl)
 
-module _ {K P Q : Type 0} {seals : Seals} {old new : State K} {plain : ℕ → List ℕ}
-    {left : List Block} (lane : ℕ) {o : Open} (exchanges : List Exchange)
-    (here : Here P Q old seals plain left) (fine : IsFine new)
-    (at : open_at old.lanes lane ≡ Some o) (holds : Holds old lane) (goes : Ends old new lane)
-    (rests : new.disk ≡ old.disk) where
+module _ {K P Q : Type 0} {seals : Seals} {old new : State K} {plain : ℕ
+    → List ℕ} {left : List Block} (lane : ℕ) {o : Open} (exchanges : List Exchange) (here : Here
+    P Q old seals plain left) (fine : IsFine new) (at : open_at old.lanes lane ≡ Some o)
+    (holds : Holds old lane) (goes : Ends old new lane) (rests : new.disk ≡ old.disk) where
   has_bytes : 0 < old.map.atom
   has_bytes = positive here
 
@@ -81,48 +79,43 @@ module _ {K P Q : Type 0} {seals : Seals} {old new : State K} {plain : ℕ → L
       → IsExchange one exchange → PlainStep old.map.atom left exchange left)
       → AreExchanges (one ∷ []) exchanges → Served P Q seals old new plain left exchanges
   read_ended one reading step are = goes_on (goes_stays goes)
-      (legal_one old.map.atom left left one exchanges step are)
-      (here_after here goes.map fine.works (λ whole. (sym goes.broken_is ∙ whole, refl))
-      (logic_ended goes fine.sound here.logic) (moves_not rests here.values)
-      (λ view after. shown_read_ended at reading goes))
+      (legal_one old.map.atom left left one exchanges step are) (here_after here goes.map fine.works
+      (λ whole. (sym goes.broken_is ∙ whole, refl)) (logic_ended goes fine.sound here.logic)
+      (moves_not rests here.values) (λ view after. shown_read_ended at reading goes))
 
   read_right : (offset len : ℕ) → o.ask ≡ Read offset len → o.failed ≡ false
       → o.next ≡ o.range.end → (plain lane ≡ take len (drop offset (newest_bytes left)))
       × AreSure (take (len / old.map.atom) (drop (offset / old.map.atom) left))
   read_right offset len is unfailed ended =
-      let atom = old.map.atom in
-      let logic = here.logic in
+      let atom = old.map.atom in let logic = here.logic in
       let under_way = logic.sound.under_way lane o at in
       let knows = logic.lanes lane o at in
       let parts = read_whole atom (size_of old.map) offset len known (rw is at proper) in
       let text = knows_text lane offset len logic at (ap (λ a. range_of atom a) is) parts.1 in
       let count : knows.count ≡ len / atom = text.all unfailed ended in
-      let inside : offset / atom + len / atom ≤ length left =
-      omega (arith, under_way.inside, logic.are.count, text.end) in
+      let inside : offset / atom + len / atom ≤ length left = omega arith in
       let reading : IsRead o.ask = rw is tt in
       let newest = is_newest_part atom (offset / atom) (len / atom) left (plain lane)
-      (λ b below. let one = (logic.are.newest b (omega (arith, logic.are.count, below))).size in
-      omega (arith, one)) inside (knows.are.size ∙ ap (λ n. n * atom) count)
-      (λ k below. (knows.reads reading k (omega (arith, count, below))).0
+      (λ b below. omega (arith, (logic.are.newest b (omega arith)).size)) inside (knows.are.size
+      ∙ ap (λ n. n * atom) count) (λ k below. (knows.reads reading k (omega arith)).0
       ∙ ap (λ n. (block_in left (n + k)).newest) text.start) in (
         newest ∙ rw (parts.0, parts.1) refl,
         sure_part (offset / atom) (len / atom) left inside (λ b from to.
             let k : ℕ = b - offset / atom in
-            let place : o.range.start + k ≡ b = omega (arith, text.start, from) in
+            let place : o.range.start + k ≡ b = omega arith in
             subst (λ n. (block_in left n).unsure ≡ false) place
-            (knows.reads reading k (omega (arith, count, from, to))).1),
+            (knows.reads reading k (omega arith)).1),
       )
 
   -- a write that ends, with what it made of its blocks
-  write_ended : (change : Block → List ℕ → Block) (one : Answered) → IsWrite o.ask
-      → ((block : Block) (value : List ℕ) → ((change block value).newest ≡ value)
-      × Contains (values_of (change block value)) value
-      × (old.broken ≡ false → (change block value).unsure ≡ false))
-      → (0 < (here.logic.lanes lane o at).count → ((block : Block) (value other : List ℕ)
-      → Contains (values_of block) other → Contains (values_of (change block value)) other)
-      ⊎ (IsForced o.ask × (o.settled ≡ true)))
-      → ((exchange : Exchange) → IsExchange one exchange → PlainStep old.map.atom left exchange
-      (ended_blocks old plain left lane o change (here.logic.lanes lane o at).count))
+  write_ended : (change : Block → List ℕ → Block) (one : Answered)
+      → IsWrite o.ask → ((block : Block) (value : List ℕ) → ((change block value).newest ≡ value)
+      × Contains (values_of (change block value)) value × (old.broken ≡ false
+      → (change block value).unsure ≡ false)) → (0 < (here.logic.lanes lane o at).count
+      → ((block : Block) (value other : List ℕ) → Contains (values_of block) other
+      → Contains (values_of (change block value)) other) ⊎ (IsForced o.ask × (o.settled ≡ true)))
+      → ((exchange : Exchange) → IsExchange one exchange → PlainStep old.map.atom
+      left exchange (ended_blocks old plain left lane o change (here.logic.lanes lane o at).count))
       → AreExchanges (one ∷ []) exchanges → Served P Q seals old new plain left exchanges
   write_ended change one writing makes keeps step are =
       let knows = here.logic.lanes lane o at in
@@ -149,11 +142,9 @@ module _ {K P Q : Type 0} {seals : Seals} {old new : State K} {plain : ℕ → L
             (moves_not rests here.values) (λ view after. shown_write_ended it seals view after);
         map = goes.map;
         work = goes.work;
-        newest = λ b below of. ap (λ block. block.newest)
-            (ended_outside old plain left lane o change knows.count b
-            (elim (in_piece o.range.start knows.count b) [
-              | inl (j, lt, is) ↦
-                  absurd (knows.beside b (omega (arith, is)) (omega (arith, is, lt)) of)
+        newest = λ b below of. ap (λ block. block.newest) (ended_outside old
+            plain left lane o change knows.count b (elim (in_piece o.range.start knows.count b) [
+              | inl (j, lt, is) ↦ absurd (knows.beside b (omega arith) (omega arith) of)
               | inr outside ↦ outside
             ]));
       }
@@ -173,18 +164,19 @@ module _ {K P Q : Type 0} {seals : Seals} {old new : State K} {plain : ℕ → L
     text = knows_text lane offset len here.logic at (ap (λ a. range_of old.map.atom a) is) whole
 
     -- a write that failed
-    failed_write_served : o.failed ≡ true
-        → AreExchanges (answer o.session (Write offset len fua) (plain lane) (Errno 5) ∷ [])
-        exchanges → Served P Q seals old new plain left exchanges
+    failed_write_served : o.failed ≡ true → AreExchanges (answer o.session (Write offset len fua)
+        (plain lane) (Errno 5) ∷ []) exchanges → Served P Q seals old new plain left exchanges
     failed_write_served failed =
         let writing : IsWrite o.ask = rw is tt in
         write_ended tried (answer o.session (Write offset len fua) (plain lane) (Errno 5)) writing
-        (λ block value. (refl, written_contained block value,
-        λ was. absurd (let breaks = knows.breaks writing failed in cc))) (λ some. inl written-keeps)
-        (λ exchange is_exchange. subst (λ n. PlainStep old.map.atom left exchange
-        (changed tried left n (blocks_of old.map.atom knows.count (plain lane)))) (sym text.start)
-        (step_unwritten old.map.atom left
-        here.logic.are.count knows.count right has_bytes text.most text.size is_exchange))
+        (λ block value. (
+          refl,
+          written_contained block value,
+          λ was. absurd (let breaks = knows.breaks writing failed in cc),
+        )) (λ some. inl written-keeps) (λ exchange is_exchange. subst (λ n. PlainStep old.map.atom
+        left exchange (changed tried left n (blocks_of old.map.atom knows.count (plain lane))))
+        (sym text.start) (step_unwritten old.map.atom
+        left here.logic.are.count knows.count right has_bytes text.most text.size is_exchange))
 
     -- a write that is done
     written_served : o.failed ≡ false → IsComplete o
@@ -192,18 +184,15 @@ module _ {K P Q : Type 0} {seals : Seals} {old new : State K} {plain : ℕ → L
         → Served P Q seals old new plain left exchanges
     written_served unfailed complete =
         let all = text.all unfailed complete.pieces in
-        let long : length (plain lane) ≡ len =
-        text.size ∙ ap (λ n. n * old.map.atom) all ∙ whole in
+        let long : length (plain lane) ≡ len = text.size ∙ ap (λ n. n * old.map.atom) all ∙ whole in
         write_ended (change_of fua) (answer o.session (Write offset len fua) (plain lane) Done)
-        (rw is tt)
-        (λ block value. (let makes = change_makes fua block value in
+        (rw is tt) (λ block value. (let makes = change_makes fua block value in
         (makes.0, makes.1, λ was. makes.2)))
         (λ some. let many : 1 * old.map.atom ≤ knows.count * old.map.atom = grind (arith, some) in
-        kept fua is (omega (arith, many, has_bytes, text.size, text.most)))
-        (λ exchange is_exchange. subst (λ n. PlainStep old.map.atom left exchange (changed
-        (change_of fua) left n (blocks_of old.map.atom knows.count (plain lane)))) (sym text.start)
-        (step_written old.map.atom left
-        here.logic.are.count knows.count right long text.size (sym all) is_exchange))
+        kept fua is (omega (arith, has_bytes))) (λ exchange is_exchange.
+        subst (λ n. PlainStep old.map.atom left exchange (changed (change_of fua) left n (blocks_of
+        old.map.atom knows.count (plain lane)))) (sym text.start) (step_written old.map.atom
+        left here.logic.are.count knows.count right long text.size (sym all) is_exchange))
       where
         kept : (forced : Bool) → o.ask ≡ Write offset len forced → 0 < len →
             ((block : Block) (value other : List ℕ) → Contains (values_of block) other
@@ -215,14 +204,12 @@ module _ {K P Q : Type 0} {seals : Seals} {old new : State K} {plain : ℕ → L
 
   -- an operation that ends is answered
   end_by : (ask : Ask) → o.ask ≡ ask → has_lock ask ≡ true
-      → (o.failed ≡ true) ⊎ ((o.failed ≡ false) × IsComplete o)
-      → AreExchanges (answer o.session ask (plain lane)
-      (if o.failed then Errno 5 else full_reply ask (plain lane)) ∷ []) exchanges
+      → (o.failed ≡ true) ⊎ ((o.failed ≡ false) × IsComplete o) → AreExchanges (answer o.session
+      ask (plain lane) (if o.failed then Errno 5 else full_reply ask (plain lane)) ∷ []) exchanges
       → Served P Q seals old new plain left exchanges
   end_by (Read offset len) is has (inl failed) are =
-      read_ended (answer o.session (Read offset len) (plain lane) (Errno 5)) (rw is tt)
-      (λ exchange. step_unread old.map.atom left here.logic.are.count (rw is at proper))
-      (rw failed at are)
+      read_ended (answer o.session (Read offset len) (plain lane) (Errno 5)) (rw is tt) (λ exchange.
+      step_unread old.map.atom left here.logic.are.count (rw is at proper)) (rw failed at are)
   end_by (Read offset len) is has (inr (unfailed, complete)) are =
       read_ended (answer o.session (Read offset len) (plain lane) (Content (plain lane))) (rw is tt)
       (λ exchange. step_read old.map.atom left here.logic.are.count (rw is at proper)
@@ -238,8 +225,5 @@ module _ {K P Q : Type 0} {seals : Seals} {old new : State K} {plain : ℕ → L
       → Served P Q seals old new plain left exchanges
   finish_served has ends = end_by o.ask refl has (elim (either o.failed) [
     | inl failed ↦ inl failed
-    | inr unfailed ↦ elim ends [
-      | inl failed ↦ inl failed
-      | inr complete ↦ inr (unfailed, complete)
-    ]
+    | inr unfailed ↦ elim ends [ inl failed ↦ inl failed | inr complete ↦ inr (unfailed, complete) ]
   ])

@@ -70,26 +70,23 @@ module _ {K P Q : Type 0} {seals : Seals} {old new : State K} {plain : ℕ → L
   -- an operation that is refused
   refused_served : (session : ℕ) (ask : Ask) (number : ℕ) → open_at old.lanes lane ≡ None
       → new ≡ old → ((exchange : Exchange) → IsExchange (refusal session ask number) exchange
-      → PlainStep old.map.atom left exchange left)
-      → AreExchanges (refusal session ask number ∷ []) exchanges
-      → Served P Q seals old new (with_plain plain lane []) left exchanges
-  refused_served session ask number free same step are = rw same
-      (goes_on (record { map = refl; work = refl })
+      → PlainStep old.map.atom left exchange left) → AreExchanges (refusal session ask number
+      ∷ []) exchanges → Served P Q seals old new (with_plain plain lane []) left exchanges
+  refused_served session ask number free same step are =
+      rw same (goes_on (record { map = refl; work = refl })
       (legal_one old.map.atom left left (refusal session ask number) exchanges step are)
-      (here_after here refl here.works (λ whole. (whole, refl))
-      (logic_forgets lane [] free here.logic) (moves_not refl here.values)
-      (λ view after. shown_forgets lane [] free)))
+      (here_after here refl here.works (λ whole. (whole, refl)) (logic_forgets lane
+      [] free here.logic) (moves_not refl here.values) (λ view after. shown_forgets lane [] free)))
 
   admitted_served : {session : ℕ} {ask : Ask} {outcome : Outcome} → open_at old.lanes lane ≡ None
       → wrong_ask old.map.atom (size_of old.map) ask ≡ None
       → IsAdmitted old lane session ask outcome new
       → AreExchanges (by_admit session ask outcome) exchanges
       → Served P Q seals old new (with_plain plain lane []) left exchanges
-  admitted_served free proper is are = goes_on (goes_stays is.goes)
-      (legal_none old.map.atom left exchanges (rw (unanswered is) at are))
-      (here_after here is.goes.map fine.works (λ whole. (sym is.goes.broken_is ∙ whole, refl))
-      (logic_admitted is here.logic fine.sound proper) (moves_not is.rests here.values)
-      (λ view after. shown_admitted is has_bytes free))
+  admitted_served free proper is are = goes_on (goes_stays is.goes) (legal_none old.map.atom
+      left exchanges (rw (unanswered is) at are)) (here_after here is.goes.map fine.works
+      (λ whole. (sym is.goes.broken_is ∙ whole, refl)) (logic_admitted is here.logic fine.sound
+      proper) (moves_not is.rests here.values) (λ view after. shown_admitted is has_bytes free))
 
   pub admit_served : (session : ℕ) (ask : Ask) (outcome : Outcome) → open_at old.lanes lane ≡ None
       → AdmitStep old lane session ask outcome new
@@ -103,13 +100,12 @@ module _ {K P Q : Type 0} {seals : Seals} {old new : State K} {plain : ℕ → L
       by (Some number) is = (let (refusing, same) = rw is at step in
           refused_served session ask number free same
           (λ exchange. step_wrong old.map.atom left here.logic.are.count is) (rw refusing at are))
-      by None is = (let judged = rw is at step in elim (either old.broken) [
+      by None is = let judged = rw is at step in elim (either old.broken) [
         | inl was ↦ (let (refusing, same) = match_true old.broken _ _ was judged in
-            refused_served session ask 5 free same
-            (λ exchange. step_refused old.map.atom left here.logic.are.count is has_bytes)
-            (rw refusing at are))
+            refused_served session ask 5 free same (λ exchange.
+            step_refused old.map.atom left here.logic.are.count is has_bytes) (rw refusing at are))
         | inr was ↦ admitted_served free is (match_false old.broken _ _ was judged) are
-      ])
+      ]
 
   -- an event that answers nothing, by what it does to the operations and to the disk
   silent : {now : ℕ → List ℕ} {is_fine : Bool} {Rel : View → View → Type 0}
@@ -118,9 +114,8 @@ module _ {K P Q : Type 0} {seals : Seals} {old new : State K} {plain : ℕ → L
       → Moves P is_fine old.map.atom here.bytes old.disk new.disk Rel
       → ((view after : View) → Rel view after → Shown old seals plain left view
       → Shown new seals now left after) → Served P Q seals old new now left exchanges
-  silent are stays unbroken logic moves shows =
-      goes_on stays (legal_none old.map.atom left exchanges are)
-      (here_after here stays.map fine.works unbroken logic moves shows)
+  silent are stays unbroken logic moves shows = goes_on stays (legal_none old.map.atom
+      left exchanges are) (here_after here stays.map fine.works unbroken logic moves shows)
 
   -- an event of an operation that failed, which wrote nothing
   failed_served : {o : Open} {is_broken : Bool} {Rel : View → View → Type 0}
@@ -135,9 +130,8 @@ module _ {K P Q : Type 0} {seals : Seals} {old new : State K} {plain : ℕ → L
       silent are (goes_stays goes) (λ whole. (unbroken (sym goes.broken_is ∙ whole), refl))
       (logic_failed at goes unbroken breaks fine.sound here.logic) moves
       (λ view after moved. (let (thinned, current) = thins view after moved in
-      shown_kept (goes_stays goes) (failing_keeps at goes)
-      (λ whole. (let stays = sym goes.broken_is ∙ whole in (unbroken stays, current stays)))
-      thinned))
+      shown_kept (goes_stays goes) (failing_keeps at goes) (λ whole. (let stays =
+      sym goes.broken_is ∙ whole in (unbroken stays, current stays))) thinned))
 
   -- a piece is read
   pub read_served : {o : Open} (outcome : Outcome) → AreExchanges [] exchanges
@@ -150,14 +144,12 @@ module _ {K P Q : Type 0} {seals : Seals} {old new : State K} {plain : ℕ → L
       (λ k. block-read old.map.atom (place_of old.map step.piece) step.piece.count bytes here.bytes
       old.disk new.disk k step.call here.values step.are.size) fine.sound here.logic)
       (moves_by_read step.call here.values) (λ view after. shown_read at reads step)
-  read_served {o = o} device are at reads has holds live step =
-      failed_served are at step.goes (λ whole. step.was)
-      (λ writing. absurd (never_both o.ask reads writing)) (moves_by_read step.call here.values)
-      (λ view after same. (same.candidates, λ whole. same.current))
+  read_served {o = o} device are at reads has holds live step = failed_served are at step.goes
+      (λ whole. step.was) (λ writing. absurd (never_both o.ask reads writing)) (moves_by_read
+      step.call here.values) (λ view after same. (same.candidates, λ whole. same.current))
   read_served broken are at reads has holds live step =
-      failed_served are at step.goes (λ whole. absurd (cc)) (λ writing. refl)
-      (moves_not step.rests here.values)
-      (λ view after same. (same.candidates, λ whole. same.current))
+      failed_served are at step.goes (λ whole. absurd (cc)) (λ writing. refl) (moves_not
+      step.rests here.values) (λ view after same. (same.candidates, λ whole. same.current))
   read_served _ are at reads has holds live step = absurd step
 
   -- a piece is written
@@ -200,24 +192,21 @@ module _ {K P Q : Type 0} {seals : Seals} {old new : State K} {plain : ℕ → L
       let it = tries at writing has holds step.next step.are (live step.was) step.was step.goes
       refl refl refl in
       silent are (goes_stays step.goes) (λ whole. (step.was, refl))
-      (logic_tried it fine.sound (λ whole. step.was) (omega (arith, first))
-      (λ whole. omega (arith, first)) (λ failed. absurd (let whole = has.goes_on in cc)))
-      (moves_by_written step.piece.count step.call here.values has_bytes step.are.size
-      (piece_in_bytes o here step.was step.next (live step.was) begun)
+      (logic_tried it fine.sound (λ whole. step.was) (omega arith) (λ whole. omega arith)
+      (λ failed. absurd (cc))) (moves_by_written step.piece.count step.call here.values
+      has_bytes step.are.size (piece_in_bytes o here step.was step.next (live step.was) begun)
       (piece_in_tables o here step.was step.next (live step.was) begun))
       (λ view after wrote. shown_written it view after wrote step.was)
   write_served bytes device are at writing has holds live step =
       let it = tries at writing has holds step.next step.are (live step.was) step.was step.goes
       refl refl refl in
-      silent are (goes_stays step.goes) (λ whole. absurd (let breaks = step.goes.broken_is in cc))
-      (logic_tried it fine.sound (λ whole. absurd (cc)) (omega arith) (λ whole. absurd (cc))
-      (λ failed. refl))
+      silent are (goes_stays step.goes) (λ whole. absurd (cc)) (logic_tried
+      it fine.sound (λ whole. absurd (cc)) (omega arith) (λ whole. absurd (cc)) (λ failed. refl))
       (moves_by_tried step.piece.count step.call here.values has_bytes step.are.size)
       (λ view after attempted. shown_tried it view after attempted step.goes.broken_is)
   write_served bytes broken are at writing has holds live step =
-      failed_served are at step.goes (λ whole. absurd (cc)) (λ is. refl)
-      (moves_not step.rests here.values)
-      (λ view after same. (same.candidates, λ whole. same.current))
+      failed_served are at step.goes (λ whole. absurd (cc)) (λ is. refl) (moves_not
+      step.rests here.values) (λ view after same. (same.candidates, λ whole. same.current))
   write_served bytes _ are at writing has holds live step = absurd step
 
   -- a flush that failed
@@ -230,7 +219,7 @@ module _ {K P Q : Type 0} {seals : Seals} {old new : State K} {plain : ℕ → L
   unflushed_served {o = o} at free goes moves thins are = goes_on (goes_stays goes)
       (legal_one old.map.atom left left (answer o.session Flush [] (Errno 5)) exchanges
       (λ exchange. step_unflushed old.map.atom left here.logic.are.count has_bytes) are)
-      (here_after here goes.map fine.works (λ whole. absurd (let breaks = goes.broken_is in cc))
+      (here_after here goes.map fine.works (λ whole. absurd (cc))
       (logic_unflushed goes (λ whole. absurd (cc)) fine.sound here.logic) moves
       (λ view after moved. shown_unflushed goes at free goes.broken_is (thins view after moved)))
 
@@ -245,13 +234,12 @@ module _ {K P Q : Type 0} {seals : Seals} {old new : State K} {plain : ℕ → L
         next = map flushed left;
         legal = legal_one old.map.atom left (map flushed left) (answer o.session Flush [] Done)
             exchanges (λ exchange. step_flushed old.map.atom left here.logic.are.count) are;
-        here = here_after here step.goes.map fine.works (λ whole. (step.was, refl))
-            (logic_flushed goes step.was fine.sound here.logic) (moves_by_sync step.call here.values)
+        here = here_after here step.goes.map fine.works (λ whole. (step.was, refl)) (logic_flushed
+            goes step.was fine.sound here.logic) (moves_by_sync step.call here.values)
             (λ view after. shown_flushed goes at free has_bytes here.logic step.was here.works);
         map = step.goes.map;
         work = step.goes.work;
-        newest =
-            λ b below of. (flush_renews left).newest b (omega (arith, here.logic.are.count, below));
+        newest = λ b below of. (flush_renews left).newest b (omega arith);
       }
   flush_served {o = o} device at is step are =
       let free : has_lock o.ask ≡ false = rw is refl in
@@ -268,16 +256,13 @@ module _ {K P Q : Type 0} {seals : Seals} {old new : State K} {plain : ℕ → L
       → SettleStep old lane o outcome new → Served P Q seals old new plain left exchanges
   settle_served {o = o} done are at forced whole step =
       let goes = rw (forced_locks o.ask forced) at step.goes in
-      silent are (goes_stays goes) (λ unbroken. (step.was, refl))
-      (logic_settled at whole goes step.was fine.sound here.logic)
-      (moves_by_sync step.call here.values)
+      silent are (goes_stays goes) (λ unbroken. (step.was, refl)) (logic_settled
+      at whole goes step.was fine.sound here.logic) (moves_by_sync step.call here.values)
       (λ view after. shown_settled at whole goes step.was has_bytes here.logic forced here.works)
-  settle_served {o = o} device are at forced whole step =
-      failed_served are at (rw (forced_locks o.ask forced) at step.goes) (λ stays. absurd (cc))
-      (λ writing. refl) (moves_by_failed_sync step.call here.values)
-      (λ view after thinned. (thinned, λ unbroken. absurd (cc)))
-  settle_served {o = o} broken are at forced whole step =
-      failed_served are at (rw (forced_locks o.ask forced) at step.goes) (λ stays. absurd (cc))
-      (λ writing. refl) (moves_not step.rests here.values)
-      (λ view after same. (same.candidates, λ unbroken. absurd (cc)))
+  settle_served {o = o} device are at forced whole step = failed_served are at (rw (forced_locks
+      o.ask forced) at step.goes) (λ stays. absurd (cc)) (λ writing. refl) (moves_by_failed_sync
+      step.call here.values) (λ view after thinned. (thinned, λ unbroken. absurd (cc)))
+  settle_served {o = o} broken are at forced whole step = failed_served are at (rw (forced_locks
+      o.ask forced) at step.goes) (λ stays. absurd (cc)) (λ writing. refl) (moves_not
+      step.rests here.values) (λ view after same. (same.candidates, λ unbroken. absurd (cc)))
   settle_served _ are at forced whole step = absurd step

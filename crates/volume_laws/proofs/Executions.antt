@@ -26,11 +26,9 @@ unfolding last_of
 last-joined old [] ys = refl
 last-joined old (x ∷ xs) ys = last-joined x.after xs ys
 
-pub answered-joined : {K : Type 0} (seals : Seals) (old : State K) (plain : ℕ → List ℕ)
-    (xs ys : List (Happening K)) →
-    answered_in seals old plain (xs ++ ys)
-    ≡ answered_in seals old plain xs
-    ++ answered_in seals (last_of old xs) (plain_in seals old plain xs) ys
+pub answered-joined : {K : Type 0} (seals : Seals) (old : State K) (plain : ℕ
+    → List ℕ) (xs ys : List (Happening K)) → answered_in seals old plain (xs ++ ys) ≡ answered_in
+    seals old plain xs ++ answered_in seals (last_of old xs) (plain_in seals old plain xs) ys
 unfolding answered_in last_of plain_in
 answered-joined seals old plain [] ys = refl
 answered-joined seals old plain (x ∷ xs) ys =
@@ -62,39 +60,30 @@ unfolding IsRun last_of answered_in AreTagged
 executes_none seals state = record { is = tt; last = refl; answers = λ plain. tt }
 
 pub executes_joined : {K : Type 0} (seals : Seals) (old middle new : State K)
-    (xs ys : List (Happening K)) (first rest : List Tagged) →
-    Executes seals old middle xs first → Executes seals middle new ys rest
-    → Executes seals old new (xs ++ ys) (first ++ rest)
+    (xs ys : List (Happening K)) (first rest : List Tagged) → Executes seals old middle xs first
+    → Executes seals middle new ys rest → Executes seals old new (xs ++ ys) (first ++ rest)
 executes_joined seals old middle new xs ys first rest one other = record {
   is = run-joined old xs ys one.is (rw one.last other.is);
   last = last-joined old xs ys ∙ ap (λ s. last_of s ys) one.last ∙ other.last;
-  answers =
-      λ plain. rw (answered-joined seals old plain xs ys)
-      (tagged-joined (answered_in seals old plain xs)
-      (answered_in seals (last_of old xs) (plain_in seals old plain xs) ys) first rest
-      (one.answers plain) (rw one.last (other.answers (plain_in seals old plain xs))));
+  answers = λ plain. rw (answered-joined seals old plain xs ys) (tagged-joined (answered_in
+      seals old plain xs) (answered_in seals (last_of old xs) (plain_in seals old plain xs) ys)
+      first rest (one.answers plain) (rw one.last (other.answers (plain_in seals old plain xs))));
 }
 
 -- stops along a run
-pub stops_along : {K : Type 0} (start : State K) (seals : Seals) (blocks : List Block)
-    (bytes : List ℕ) (run : List (Happening K)) (exchanges : List Exchange) →
-    Starts start seals blocks bytes → IsRun start run
-    → AreExchanges (answered_in seals start no_plain run) exchanges
+pub stops_along : {K : Type 0} (start : State K) (seals : Seals) (blocks : List Block) (bytes : List
+    ℕ) (run : List (Happening K)) (exchanges : List Exchange) → Starts start seals blocks bytes
+    → IsRun start run → AreExchanges (answered_in seals start no_plain run) exchanges
     → StopsAlong start seals blocks run exchanges
 stops_along start seals blocks bytes run exchanges starts is are = λ earlier later parts.
-    let all : AreExchanges
-    (answered_in seals start no_plain earlier
-    ++ answered_in seals (last_of start earlier) (plain_in seals start no_plain earlier) later)
-    exchanges =
-    subst (λ xs. AreExchanges xs exchanges)
-    (ap (λ r. answered_in seals start no_plain r) parts
+    let all : AreExchanges (answered_in seals start no_plain earlier ++ answered_in
+    seals (last_of start earlier) (plain_in seals start no_plain earlier) later) exchanges =
+    subst (λ xs. AreExchanges xs exchanges) (ap (λ r. answered_in seals start no_plain r) parts
     ∙ answered-joined seals start no_plain earlier later) are in
     let (first, rest, is_parts, are_first, are_rest) =
-    split_exchanges (answered_in seals start no_plain earlier)
-    (answered_in seals (last_of start earlier) (plain_in seals start no_plain earlier) later)
-    exchanges all in
-    let served =
-    serves_each_run start seals blocks bytes earlier first starts
+    split_exchanges (answered_in seals start no_plain earlier) (answered_in
+    seals (last_of start earlier) (plain_in seals start no_plain earlier) later) exchanges all in
+    let served = serves_each_run start seals blocks bytes earlier first starts
     (run-front start earlier later (subst (λ r. IsRun start r) parts is)) are_first in record {
       first = first;
       rest = rest;

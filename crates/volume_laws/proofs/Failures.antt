@@ -39,7 +39,7 @@ sync_fails _ o = sym (or-false o.failed)
 
 pub settled_is : (q now p : Open) → after_settle q now ≡ Some p → p ≡ now
 settled_is q now p is = elim (either (has_lock q.ask)) [
-  | inl has ↦ (let e : after_settle q now ≡ Some now = rw has refl in cc)
+  | inl has ↦ let e : after_settle q now ≡ Some now = rw has refl in cc
   | inr free ↦ absurd (let e : after_settle q now ≡ None = rw free refl in cc)
 ]
 
@@ -85,12 +85,9 @@ event_fails old new lane event outcome before meets step was o is =
       | inl own ↦
           let e : lane_of event ≡ lane = grind (arith, own) in
           own_fails old.map.atom event outcome (open_at old.lanes (lane_of event)) before
-          (free_admit old event meets)
-          (λ p at. was p (ap (λ n. open_at old.lanes n) (sym e) ∙ at)) o (sym goes.lane_is.own
-          ∙ ap (λ n. open_at new.lanes n) e ∙ is) ∙ sym (rw own refl)
-      | inr other ↦
-          was o (sym (goes.lane_is.others lane
-          (λ same. grind (arith, same, other))) ∙ is)
+          (free_admit old event meets) (λ p at. was p (ap (λ n. open_at old.lanes n) (sym e) ∙ at))
+          o (sym goes.lane_is.own ∙ ap (λ n. open_at new.lanes n) e ∙ is) ∙ sym (rw own refl)
+      | inr other ↦ was o (sym (goes.lane_is.others lane (λ same. grind (arith, same, other))) ∙ is)
           ∙ sym (rw other refl)
     ]
 
@@ -122,8 +119,7 @@ whole_run old before (one ∷ rest) was (meets, step, is) =
     ∙ ap (λ b. b || breaks one.event one.outcome) was) is in
     record {
       broken_is = rest_is.broken_is;
-      map_is = rest_is.map_is
-          ∙ goes.map;
+      map_is = rest_is.map_is ∙ goes.map;
       keys_are = rest_is.keys_are ∙ goes.keys;
       work_is = rest_is.work_is ∙ goes.work;
     }

@@ -16,8 +16,8 @@ use Rattle.volume_laws.proofs.{Invariant.Logic, Invariant.Shown, Reading.AreLive
 use Rattle.volume_laws.proofs.{Reading.piece_place, SealLemmas.length-sealed}
 
 pub some_atom : (atom : ℕ) → IsAtom atom → 0 < atom
-some_atom atom (inl is) = omega (arith, is)
-some_atom atom (inr is) = omega (arith, is)
+some_atom atom (inl is) = omega arith
+some_atom atom (inr is) = omega arith
 
 -- what holds at a moment: the operations', and the disk's, by its bytes and, under a premise, by
 -- its tables where it tells them; and, under another, that it tells an atom's bytes for each atom
@@ -64,31 +64,30 @@ pub here_after : {K P Q : Type 0} {fine : Bool} {old new : State K} {seals : Sea
     → Shown new seals now next after) → Here P Q new seals now next
 here_after {new = new} {seals = seals} {now = now} {next = next} here map works whole logic moves
     shows = record {
-  works = works;
-  logic = logic;
-  lawful = rw map here.lawful;
-  apart = rw map here.apart;
-  bytes = moves.now;
-  values = moves.values;
-  size = λ sized unbroken. (let (was, is_fine) = whole unbroken in
-      moves.size is_fine ∙ here.size sized was ∙ rw (moves.atoms, map) refl);
-  cells = λ sized premise told is.
-      (let (before, was, size, moved) = moves.by_tables premise told is in
-      size ∙ here.cells sized premise before was ∙ sym moves.atoms);
-  shown = subst (λ m. Shown new seals now next (view_of_bytes m.atom moves.now)) (sym map)
-      (shows _ _ moves.by_bytes here.shown);
-  places = λ premise told is b below.
-      (let (before, was, size, moved) = moves.by_tables premise told is in
-      rw (map, size) (here.places premise before was b (rw map at below)));
-  tables = λ premise told is.
-      (let (before, was, size, moved) = moves.by_tables premise told is in
-      shows _ _ moved (here.tables premise before was));
-}
+      works = works;
+      logic = logic;
+      lawful = rw map here.lawful;
+      apart = rw map here.apart;
+      bytes = moves.now;
+      values = moves.values;
+      size = λ sized unbroken. (let (was, is_fine) = whole unbroken in
+          moves.size is_fine ∙ here.size sized was ∙ rw (moves.atoms, map) refl);
+      cells = λ sized premise told is.
+          (let (before, was, size, moved) = moves.by_tables premise told is in
+          size ∙ here.cells sized premise before was ∙ sym moves.atoms);
+      shown = subst (λ m. Shown new seals now next (view_of_bytes m.atom moves.now)) (sym map)
+          (shows _ _ moves.by_bytes here.shown);
+      places = λ premise told is b below.
+          (let (before, was, size, moved) = moves.by_tables premise told is in
+          rw (map, size) (here.places premise before was b (rw map at below)));
+      tables = λ premise told is.
+          (let (before, was, size, moved) = moves.by_tables premise told is in
+          shows _ _ moved (here.tables premise before was));
+    }
 
 module _ {P : Type 0} {atom : ℕ} {bytes : List ℕ} {old new : Device} where
   moves_turned : {Rel : View → View → Type 0} → TurnsBytes atom bytes new Rel
-      → new.atoms ≡ old.atoms
-      → (P → (told : Told) → new.told ≡ Some told → TurnsTable old told Rel)
+      → new.atoms ≡ old.atoms → (P → (told : Told) → new.told ≡ Some told → TurnsTable old told Rel)
       → Moves P true atom bytes old new Rel
   moves_turned turns atoms tables = record {
     now = turns.now;
@@ -139,24 +138,21 @@ module _ {P : Type 0} {atom : ℕ} {bytes : List ℕ} {old new : Device} where
       }
 
   pub moves_by_written : {at : ℕ} (n : ℕ) {text : List ℕ} → WriteCall atom at text old new succeeded
-      → old.values ≡ Some bytes → 0 < atom → length text ≡ n * atom
-      → (at + n) * atom ≤ length bytes → (P → HasPlaces old at n)
-      → Moves P true atom bytes old new (IsWritten atom at n text)
+      → old.values ≡ Some bytes → 0 < atom → length text ≡ n * atom → (at + n) * atom ≤ length bytes
+      → (P → HasPlaces old at n) → Moves P true atom bytes old new (IsWritten atom at n text)
   moves_by_written {at = at} n {text = text} call values some long within has =
       moves_turned (bytes-written atom at n text bytes old new call values within long) call.atoms
       (λ premise told is. table-written atom at n text old new told call is some long (has premise))
 
   pub moves_by_sync : SyncCall old new succeeded → old.values ≡ Some bytes
       → Moves P true atom bytes old new IsSynced
-  moves_by_sync call values =
-      moves_turned (bytes-synced atom bytes old new succeeded call values) call.atoms
-      (λ premise told is. table-synced old new told call is)
+  moves_by_sync call values = moves_turned (bytes-synced atom bytes old new succeeded call values)
+      call.atoms (λ premise told is. table-synced old new told call is)
 
   pub moves_by_failed_sync : SyncCall old new failed_call → old.values ≡ Some bytes
       → Moves P true atom bytes old new IsThinned
-  moves_by_failed_sync call values =
-      moves_turned (bytes-thinned atom bytes old new failed_call call values) call.atoms
-      (λ premise told is. table-thinned old new told call is)
+  moves_by_failed_sync call values = moves_turned (bytes-thinned atom bytes old new
+      failed_call call values) call.atoms (λ premise told is. table-thinned old new told call is)
 
 -- a piece lies within the disk's bytes and tables
 module _ {K P Q : Type 0} {state : State K} {seals : Seals} {plain : ℕ → List ℕ} {left : List Block}
@@ -166,18 +162,15 @@ module _ {K P Q : Type 0} {state : State K} {seals : Seals} {plain : ℕ → Lis
   piece_length : {view : View} → Shown state seals plain left view → (k : ℕ) → k < piece.count
       → length (view.current (place_of state.map piece + k)) ≡ state.map.atom
   piece_length {view = view} shown k below =
-      let within = next.within in
       let (value, is_now, sealed) = shown.current was (o.next + k)
-      (live (o.next + k) (omega (arith, begun)) (omega (arith, within, below))) in
+      (live (o.next + k) (omega arith) (omega arith)) in
       rw (← piece_place o next k below)
       (length-sealed state.map seals (o.next + k) value _ here.lawful sealed)
 
-  pub piece_in_bytes : (place_of state.map piece + piece.count) * state.map.atom
-      ≤ length here.bytes
+  pub piece_in_bytes : (place_of state.map piece + piece.count) * state.map.atom ≤ length here.bytes
   piece_in_bytes = blocks_of_whole state.map.atom (place_of state.map piece) piece.count here.bytes
       (positive here) next.some (piece_length here.shown)
 
   pub piece_in_tables : P → HasPlaces state.disk (place_of state.map piece) piece.count
-  piece_in_tables premise =
-      places_of_current state.disk state.map.atom (place_of state.map piece) piece.count
-      (positive here) (λ before is. piece_length (here.tables premise before is))
+  piece_in_tables premise = places_of_current state.disk state.map.atom (place_of state.map piece)
+      piece.count (positive here) (λ before is. piece_length (here.tables premise before is))

@@ -40,26 +40,22 @@ pub record Logic {K : Type 0} (state : State K) (plain : ℕ → List ℕ) (left
 
 -- what the disk shows of the zone at hand
 abbrev pub ShowsWork : {K : Type 0} → State K → Seals → List Block → View → Type 0
-ShowsWork state seals left view = (work : Work) → state.work ≡ Some work →
-    ShowsZone state.map.atom work.layout work.zone (texts_of seals left work) work.phase
-    state.broken view
+ShowsWork state seals left view = (work : Work) → state.work ≡ Some work → ShowsZone
+    state.map.atom work.layout work.zone (texts_of seals left work) work.phase state.broken view
 
 -- what holds of the disk: while nothing has failed it stands for what each block holds; each
 -- candidate is an allowed value; and of a write that is settled its own values alone are left
 pub record Shown {K : Type 0} (state : State K) (seals : Seals) (plain : ℕ → List ℕ)
     (left : List Block) (view : View) : Type 0 where
-  pub current : state.broken ≡ false → (b : ℕ) → IsLive state b →
-      (value : List ℕ) × IsNow state plain left b value
-      × IsSealed state.map seals b value (view.current (place_in state.map b))
-  pub candidates : (b : ℕ) → IsLive state b → (atom : List ℕ)
-      → Contains (view.candidates (place_in state.map b)) atom →
-      (value : List ℕ) × IsAllowedAt state plain left b value
-      × IsSealed state.map seals b value atom
-  pub settled : (lane : ℕ) (o : Open) → open_at state.lanes lane ≡ Some o → IsForced o.ask
-      → o.settled ≡ true →
-      (b : ℕ) → o.range.start ≤ b → b < o.range.end → (atom : List ℕ)
-      → Contains (view.candidates (place_in state.map b)) atom →
-      IsSealed state.map seals b (block_at state.map.atom (plain lane) (b - o.range.start)) atom
+  pub current : state.broken ≡ false → (b : ℕ) → IsLive state b → (value : List ℕ) × IsNow state
+      plain left b value × IsSealed state.map seals b value (view.current (place_in state.map b))
+  pub candidates : (b : ℕ) → IsLive state b
+      → (atom : List ℕ) → Contains (view.candidates (place_in state.map b)) atom → (value : List ℕ)
+      × IsAllowedAt state plain left b value × IsSealed state.map seals b value atom
+  pub settled : (lane : ℕ) (o : Open) → open_at state.lanes lane ≡ Some o
+      → IsForced o.ask → o.settled ≡ true → (b : ℕ) → o.range.start ≤ b
+      → b < o.range.end → (atom : List ℕ) → Contains (view.candidates (place_in state.map b)) atom
+      → IsSealed state.map seals b (block_at state.map.atom (plain lane) (b - o.range.start)) atom
   pub zone : ShowsWork state seals left view
 
 -- between two states the same blocks were tried by the same lanes
@@ -74,11 +70,9 @@ pub record KeepsTried {K : Type 0} (old : State K) (plain : ℕ → List ℕ) (n
 pub record KeepsWrites {K : Type 0} (old : State K) (plain : ℕ → List ℕ) (new : State K)
     (now : ℕ → List ℕ) : Type 0 where
   pub tried : KeepsTried old plain new now
-  pub settled : (lane : ℕ) (o : Open) → open_at new.lanes lane ≡ Some o → IsForced o.ask
-      → o.settled ≡ true →
-      (before : Open) × (open_at old.lanes lane ≡ Some before) × (before.ask ≡ o.ask)
-      × (before.range ≡ o.range)
-      × (before.settled ≡ true) × (now lane ≡ plain lane)
+  pub settled : (lane : ℕ) (o : Open) → open_at new.lanes lane ≡ Some o → IsForced o.ask → o.settled
+      ≡ true → (before : Open) × (open_at old.lanes lane ≡ Some before) × (before.ask ≡ o.ask)
+      × (before.range ≡ o.range) × (before.settled ≡ true) × (now lane ≡ plain lane)
 
 -- this lane has tried nothing
 abbrev pub TriesNothing : {K : Type 0} → State K → (ℕ → List ℕ) → ℕ → Type 0
@@ -91,7 +85,7 @@ module _ {K : Type 0} {old new : State K} {plain now : ℕ → List ℕ} {lane b
       → open_at new.lanes lane ≡ Some next → next.ask ≡ o.ask → next.range ≡ o.range
       → now lane ≡ plain lane → IsTriedBy old plain lane b value → IsTriedBy new now lane b value
   tried_by {o = o} {next = next} is is_next ask range known tried =
-      let same : tried.o ≡ o = (let e = tried.is in cc) in record {
+      let same : tried.o ≡ o = (cc) in record {
         o = next;
         is = is_next;
         writes = rw (ask, ← same) tried.writes;
@@ -128,9 +122,8 @@ module _ {K : Type 0} {old new : State K} {plain now : ℕ → List ℕ} {lane :
     (map : new.map ≡ old.map) (lanes : LaneBecomes old.lanes new.lanes lane next)
     (known : (k : ℕ) → k ≢ lane → now k ≡ plain k) where
   tried_stays : ((b : ℕ) (value : List ℕ) → IsTriedBy old plain lane b value
-      → IsTriedBy new now lane b value) → ((b : ℕ) (value : List ℕ)
-      → IsTriedBy new now lane b value → IsTriedBy old plain lane b value)
-      → KeepsTried old plain new now
+      → IsTriedBy new now lane b value) → ((b : ℕ) (value : List ℕ) → IsTriedBy new now lane b value
+      → IsTriedBy old plain lane b value) → KeepsTried old plain new now
   tried_stays kept back = record {
     kept = λ k b value tried. elim (same_or_not k lane) [
       | inl same ↦ rw same (kept b value (rw same at tried))
@@ -155,8 +148,7 @@ module _ {K : Type 0} {old new : State K} {plain now : ℕ → List ℕ} {lane :
   writes_go_on {o = o} {p = p} is becomes ask range settled knows = record {
     tried = tried_go_on is becomes ask range knows;
     settled = λ k one at forced is_settled. elim (same_or_not k lane) [
-      | inl same ↦ rw same
-          (let e : one ≡ p = (let own = lanes.own in cc) in
+      | inl same ↦ rw same (let e : one ≡ p = (cc) in
           (o, is, rw e (sym ask), rw e (sym range), sym settled ∙ rw (← e) is_settled, knows))
       | inr other ↦ (one, sym (lanes.others k other) ∙ at, refl, refl, is_settled, known k other)
     ];
@@ -168,19 +160,18 @@ module _ {K : Type 0} {old new : State K} {plain now : ℕ → List ℕ} {lane :
   tried_stay before after = tried_stays (λ b value tried. absurd (before b value tried))
       (λ b value tried. absurd (after b value tried))
 
-  pub writes_stay : TriesNothing old plain lane → TriesNothing new now lane
-      → ((o : Open) → next ≡ Some o → IsForced o.ask → o.settled ≡ true → ⊥)
-      → KeepsWrites old plain new now
+  pub writes_stay : TriesNothing old plain lane → TriesNothing new now lane → ((o : Open)
+      → next ≡ Some o → IsForced o.ask → o.settled ≡ true → ⊥) → KeepsWrites old plain new now
   writes_stay before after unsettled = record {
     tried = tried_stay before after;
     settled = λ k one at forced is_settled. elim (same_or_not k lane) [
-      | inl same ↦ absurd (unsettled one (let own = lanes.own in cc) forced is_settled)
+      | inl same ↦ absurd (unsettled one (cc) forced is_settled)
       | inr other ↦ (one, sym (lanes.others k other) ∙ at, refl, refl, is_settled, known k other)
     ];
   }
 
-module _ {K : Type 0} {old new : State K} {plain now : ℕ → List ℕ} (keeps : KeepsTried old plain new now)
-    (left : List Block) (b : ℕ) (value : List ℕ) where
+module _ {K : Type 0} {old new : State K} {plain now : ℕ → List ℕ}
+    (keeps : KeepsTried old plain new now) (left : List Block) (b : ℕ) (value : List ℕ) where
   pub now_kept : IsNow old plain left b value → IsNow new now left b value
   now_kept (inl (lane, tried)) = inl (lane, keeps.kept lane b value tried)
   now_kept (inr (none, is)) =
@@ -193,9 +184,8 @@ module _ {K : Type 0} {old new : State K} {plain now : ℕ → List ℕ} (keeps 
 module _ {K : Type 0} {old new : State K} {plain now : ℕ → List ℕ} {left : List Block}
     (stays : Stays old new) where
   -- what the disk shows stays where no write was tried, finished or settled
-  pub shown_kept : {seals : Seals} {view next : View} → KeepsWrites old plain new now
-      → (new.broken ≡ false → (old.broken ≡ false)
-      × ((place : ℕ) → next.current place ≡ view.current place))
+  pub shown_kept : {seals : Seals} {view next : View} → KeepsWrites old plain new now → (new.broken
+      ≡ false → (old.broken ≡ false) × ((place : ℕ) → next.current place ≡ view.current place))
       → IsThinned view next → Shown old seals plain left view → Shown new seals now left next
   shown_kept {seals = seals} {view = view} {next = next} keeps unbroken thinned shown = record {
     current = λ whole b below. subst (λ m. (value : List ℕ) × IsNow new now left b value
@@ -242,12 +232,11 @@ module _ {K : Type 0} {old new : State K} {plain now : ℕ → List ℕ} {left :
       → ((o : Open) → next ≡ Some o → LaneKnows new now left lane o)
       → ((k : ℕ) (o : Open) → open_at old.lanes k ≡ Some o → LaneKnows old plain left k o)
       → (k : ℕ) (o : Open) → open_at new.lanes k ≡ Some o → LaneKnows new now left k o
-  lanes_still {lane = lane} lanes known holds broken own all k o is =
-      elim (same_or_not k lane) [
-        | inl same ↦ rw same (own o (let becomes = lanes.own in cc))
-        | inr other ↦ knows_still (known k other) (holds k other) broken
-            (all k o (sym (lanes.others k other) ∙ is))
-      ]
+  lanes_still {lane = lane} lanes known holds broken own all k o is = elim (same_or_not k lane) [
+    | inl same ↦ rw same (own o (cc))
+    | inr other ↦ knows_still (known k other) (holds k other) broken
+        (all k o (sym (lanes.others k other) ∙ is))
+  ]
 
 -- an event of one lane
 module _ {K : Type 0} {old new : State K} {lane : ℕ} {entries : List Entry} {next : Option Open}

@@ -49,7 +49,7 @@ pub others_left : {K : Type 0} (old new : State K) (event : Event) (outcome : Ou
     Step old event outcome new → lane ≢ lane_of event →
     (open_at new.lanes lane ≡ open_at old.lanes lane) × (Holds old lane → Holds new lane)
 others_left old new event outcome lane step differ =
-    (let left = event_left old new event outcome lane step differ in (left.own, left.holds))
+    let left = event_left old new event outcome lane step differ in (left.own, left.holds)
 
 -- what a call of another lane asks of the state is met after the event too
 can_left : {K : Type 0} (old new : State K) (next : Event) → IsLeft old new (lane_of next) →

@@ -10,17 +10,15 @@ use Rattle.disk_views.proofs.Entries.{changed_blocks-inside, changed_blocks-outs
 use Rattle.volume_laws.specs.Contents.{block_in}
 
 -- blocks that are changed by the blocks of a text, and flushed ones
-pub block_in-changed_outside : (change : Block → List ℕ → Block) (blocks : List Block)
-    (atom at n : ℕ)
-    (text : List ℕ) (b : ℕ) → IsOutside at n b
+pub block_in-changed_outside : (change : Block → List ℕ
+    → Block) (blocks : List Block) (atom at n : ℕ) (text : List ℕ) (b : ℕ) → IsOutside at n b
     → block_in (changed change blocks at (blocks_of atom n text)) b ≡ block_in blocks b
 block_in-changed_outside change blocks atom at n text b is =
     changed_blocks-outside change blocks atom at n text b (settled []) is
 
-pub block_in-changed_inside : (change : Block → List ℕ → Block) (blocks : List Block)
-    (atom at n : ℕ)
-    (text : List ℕ) (k : ℕ) → k < n → at + k < length blocks
-    → block_in (changed change blocks at (blocks_of atom n text)) (at + k)
+pub block_in-changed_inside : (change : Block
+    → List ℕ → Block) (blocks : List Block) (atom at n : ℕ) (text : List ℕ) (k : ℕ) → k < n
+    → at + k < length blocks → block_in (changed change blocks at (blocks_of atom n text)) (at + k)
     ≡ change (block_in blocks (at + k)) (block_at atom text k)
 block_in-changed_inside change blocks atom at n text k inside within =
     changed_blocks-inside change blocks atom at n text k (settled []) inside within
@@ -46,11 +44,9 @@ pub length-newest_bytes : (atom : ℕ) (blocks : List Block) → AreSized atom b
     → length (newest_bytes blocks) ≡ length blocks * atom
 unfolding newest_bytes joined
 length-newest_bytes atom [] sized = omega arith
-length-newest_bytes atom (block ∷ blocks) sized =
-    length-append block.newest (newest_bytes blocks)
-    ∙ ap₂ (λ a b. a + b) (sized_first atom block blocks sized)
-    (length-newest_bytes atom blocks (sized_rest atom block blocks sized))
-    ∙ sym (block_end atom (length blocks))
+length-newest_bytes atom (block ∷ blocks) sized = length-append block.newest (newest_bytes blocks)
+    ∙ ap₂ (λ a b. a + b) (sized_first atom block blocks sized) (length-newest_bytes
+    atom blocks (sized_rest atom block blocks sized)) ∙ sym (block_end atom (length blocks))
 
 pub block_at-newest_bytes : (atom : ℕ) (blocks : List Block) (b : ℕ) → AreSized atom blocks
     → b < length blocks → block_at atom (newest_bytes blocks) b ≡ (block_in blocks b).newest
@@ -61,29 +57,24 @@ block_at-newest_bytes atom (block ∷ blocks) zero sized inside =
     ∙ take_at block.newest (newest_bytes blocks) atom (sized_first atom block blocks sized)
 block_at-newest_bytes atom (block ∷ blocks) (suc b) sized inside =
     sym (block_at-next atom (block.newest ++ newest_bytes blocks) b)
-    ∙ ap (λ text. block_at atom text b)
-    (drop_at block.newest (newest_bytes blocks) atom (sized_first atom block blocks sized))
-    ∙ block_at-newest_bytes atom blocks b (sized_rest atom block blocks sized)
-    (le_of_suc-le-suc inside)
+    ∙ ap (λ text. block_at atom text b) (drop_at block.newest
+    (newest_bytes blocks) atom (sized_first atom block blocks sized)) ∙ block_at-newest_bytes
+    atom blocks b (sized_rest atom block blocks sized) (le_of_suc-le-suc inside)
 
 -- a text of the newest values of some blocks is that part of the newest bytes
 pub is_newest_part : (atom s n : ℕ) (blocks : List Block) (text : List ℕ) → AreSized atom blocks
     → s + n ≤ length blocks → length text ≡ n * atom
     → ((k : ℕ) → k < n → block_at atom text k ≡ (block_in blocks (s + k)).newest)
     → text ≡ take (n * atom) (drop (s * atom) (newest_bytes blocks))
-is_newest_part atom s n blocks text sized within is newest =
-    let ends : (s + n) * atom ≤ length blocks * atom = mul-le-mul_right atom within in
-    same_blocks atom n text (take (n * atom) (drop (s * atom) (newest_bytes blocks))) is
-    (length-part atom s n (newest_bytes blocks)
-    (omega (arith, ends, length-newest_bytes atom blocks sized)))
-    (λ k inside. newest k inside
-    ∙ sym (block_at-newest_bytes atom blocks (s + k) sized (omega (arith, inside, within)))
+is_newest_part atom s n blocks text sized within is newest = same_blocks atom n text (take (n
+    * atom) (drop (s * atom) (newest_bytes blocks))) is (length-part atom s n (newest_bytes blocks)
+    (omega (arith, mul-le-mul_right atom within, length-newest_bytes atom blocks sized))) (λ k
+    inside. newest k inside ∙ sym (block_at-newest_bytes atom blocks (s + k) sized (omega arith))
     ∙ sym (block_at-part atom s n (newest_bytes blocks) k inside))
 
 -- no block is unsure
 pub sure_blocks : (blocks : List Block)
-    → ((b : ℕ) → b < length blocks → (block_in blocks b).unsure ≡ false)
-    → AreSure blocks
+    → ((b : ℕ) → b < length blocks → (block_in blocks b).unsure ≡ false) → AreSure blocks
 unfolding AreSure
 sure_blocks [] sure = tt
 sure_blocks (block ∷ blocks) sure =
@@ -96,16 +87,14 @@ sure_in [] b sure inside = absurd (omega arith)
 sure_in (block ∷ blocks) zero sure inside = sure.0
 sure_in (block ∷ blocks) (suc b) sure inside = sure_in blocks b sure.1 (le_of_suc-le-suc inside)
 
-pub sure_part : (s n : ℕ) (blocks : List Block) → s + n ≤ length blocks
-    → ((b : ℕ) → s ≤ b → b < s + n → (block_in blocks b).unsure ≡ false)
-    → AreSure (take n (drop s blocks))
+pub sure_part : (s n : ℕ) (blocks : List Block) → s + n ≤ length blocks → ((b : ℕ)
+    → s ≤ b → b < s + n → (block_in blocks b).unsure ≡ false) → AreSure (take n (drop s blocks))
 sure_part s n blocks within sure =
     let rest : List Block = drop s blocks in
     sure_blocks (take n rest) (λ b inside.
-    let below : b < n = omega (arith, inside, length-take n rest) in
-    ap (λ block. block.unsure)
-    (get_or-take n rest b (settled []) below ∙ get_or-drop s blocks b (settled []))
-    ∙ sure (s + b) (omega arith) (omega (arith, below)))
+    let below : b < n = omega (arith, length-take n rest) in
+    ap (λ block. block.unsure) (get_or-take n rest b (settled []) below
+    ∙ get_or-drop s blocks b (settled [])) ∙ sure (s + b) (omega arith) (omega arith))
 
 -- what stays a value of a block
 pub newest_contained : (block : Block) → Contains (values_of block) block.newest

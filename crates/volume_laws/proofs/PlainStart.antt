@@ -26,8 +26,7 @@ length-settled values = length-map values settled
 
 plain_in : (atom atoms : ℕ) (bytes : List ℕ) (b : ℕ) → b < atoms
     → block_in (settled_blocks (blocks_of atom atoms bytes)) b ≡ settled (block_at atom bytes b)
-plain_in atom atoms bytes b below =
-    settled_in (blocks_of atom atoms bytes) b
+plain_in atom atoms bytes b below = settled_in (blocks_of atom atoms bytes) b
     ∙ ap (λ value. settled value) (blocks_of-at atom atoms bytes b [] below)
 
 plain_stands : {K : Type 0} (start : State K) (seals : Seals) (bytes : List ℕ)
@@ -83,13 +82,13 @@ current_in (cell ∷ cells) (suc place) = current_in cells place
 settled_cell : (cells : List Cell) (place : ℕ) (atom : List ℕ) → AreSettled cells
     → Contains (cell_in cells place).candidates atom → atom ≡ (cell_in cells place).current
 unfolding AreSettled
-settled_cell [] place atom settled has = absurd (omega (arith, has.1))
+settled_cell [] place atom settled has = absurd (omega arith)
 settled_cell (cell ∷ cells) zero atom settled has =
     one_of cell.current atom (subst (λ xs. Contains xs atom) settled.0 has)
   where
     one_of : (x value : List ℕ) → Contains (x ∷ []) value → value ≡ x
     one_of x value (zero, below, is) = sym is
-    one_of x value (suc k, below, is) = absurd (omega (arith, below))
+    one_of x value (suc k, below, is) = absurd (omega arith)
 settled_cell (cell ∷ cells) (suc place) atom settled has =
     settled_cell cells place atom settled.1 has
 
@@ -103,9 +102,8 @@ current_block : (atom atoms : ℕ) (bytes : List ℕ) (cells : List Cell) (place
     → bytes ≡ content cells → lengths (currents cells) ≡ replicate atoms atom → place < atoms →
     block_at atom bytes place ≡ (cell_in cells place).current
 current_block atom atoms bytes cells place same even inside =
-    sym (blocks_of-at atom atoms bytes place [] inside)
-    ∙ ap (λ vs. slice_index_or vs place []) (table_blocks atom atoms bytes cells same even)
-    ∙ sym (current_in cells place)
+    sym (blocks_of-at atom atoms bytes place [] inside) ∙ ap (λ vs. slice_index_or vs place [])
+    (table_blocks atom atoms bytes cells same even) ∙ sym (current_in cells place)
 
 -- what bytes stand for each image of settled tables stands for
 settled_covered : {K : Type 0} (start : State K) (seals : Seals) (blocks : List Block)
@@ -114,12 +112,11 @@ settled_covered : {K : Type 0} (start : State K) (seals : Seals) (blocks : List 
     → StartsCovered start seals blocks
 settled_covered start seals blocks bytes inside stands tells = λ told is.
     let (settled, same, even) = tells told is in
-    let sealed : (b : ℕ) → b < start.map.blocks
-    → IsSealed start.map seals b (block_in blocks b).newest
-    (cell_in told.now (place_in start.map b)).current =
+    let sealed : (b : ℕ) → b < start.map.blocks → IsSealed
+    start.map seals b (block_in blocks b).newest (cell_in told.now (place_in start.map b)).current =
     λ b below. subst (λ atom. IsSealed start.map seals b (block_in blocks b).newest atom)
-    (current_block start.map.atom start.disk.atoms bytes told.now (place_in start.map b) same even
-    (inside b below)) (stands b below) in record {
+    (current_block start.map.atom start.disk.atoms
+    bytes told.now (place_in start.map b) same even (inside b below)) (stands b below) in record {
       candidates = λ b below value has. (
         (block_in blocks b).newest,
         newest_contained (block_in blocks b),
@@ -133,17 +130,14 @@ pub starts_covered : {K : Type 0} (start : State K) (seals : Seals) (blocks : Li
     (bytes : List ℕ) → Starts start seals blocks bytes → TellsSettled start bytes
     → StartsCovered start seals blocks
 starts_covered start seals blocks bytes starts tells =
-    settled_covered start seals blocks bytes
-    (λ b below. let on =
-    on_disk start.map start.disk.atoms b 1 (side_in start.map b) starts.sound.fits
-    (omega (arith, below)) in omega (arith, on)) starts.stands tells
+    settled_covered start seals blocks bytes (λ b below. let on = on_disk start.map start.disk.atoms
+    b 1 (side_in start.map b) starts.sound.fits (omega arith) in omega arith) starts.stands tells
 
 pub plain_covered : {K : Type 0} (start : State K) (seals : Seals) (bytes : List ℕ)
     → IsWholeDisk start.map.atom start.disk.atoms start.map → ChangeNothing seals →
     length bytes ≡ start.disk.atoms * start.map.atom → AreBytes bytes → TellsSettled start bytes
     → StartsCovered start seals (plain_blocks start bytes)
 plain_covered start seals bytes whole nothing long are tells =
-    settled_covered start seals (plain_blocks start bytes) bytes
-    (λ b below. subst (λ n. n < start.disk.atoms) (sym (whole.places b below))
-    (subst (λ n. b < n) whole.blocks below))
+    settled_covered start seals (plain_blocks start bytes) bytes (λ b below. subst (λ n. n
+    < start.disk.atoms) (sym (whole.places b below)) (subst (λ n. b < n) whole.blocks below))
     (plain_stands start seals bytes whole nothing long are) tells

@@ -76,11 +76,10 @@ pub tried_apart : {K : Type 0} {state : State K} {plain : ℕ → List ℕ} {lef
     → o.range.start ≤ b → b < o.range.end → IsTriedBy state plain other b value → ⊥
 tried_apart lane other b logic some differ is has holds from to tried =
     let knows = logic.lanes other tried.o tried.is in
-    let size = knows.are.size in
-    let enough = tried.tried in
-    let below : b - tried.o.range.start < knows.count = grind (arith, size, enough, some) in
+    let below : b - tried.o.range.start < knows.count =
+    grind (arith, knows.are.size, tried.tried, some) in
     held_apart lane other b logic.sound differ is has holds from to tried.is tried.writes
-    (knows.holds (omega (arith, below))) tried.begun (omega (arith, below))
+    (knows.holds (omega arith)) tried.begun (omega arith)
 
 -- the blocks of a piece are on its side, in places one after the other
 module _ {map : Map} (o : Open) {piece : Piece} (next : IsPieceOf map o piece) where
@@ -96,16 +95,15 @@ module _ {map : Map} (o : Open) {piece : Piece} (next : IsPieceOf map o piece) w
       place_behind New = omega arith
 
   first_side : side_in map o.next ≡ piece.side
-  first_side = (let e : o.next ≡ o.next + 0 = omega arith in
-      ap (λ b. side_in map b) e ∙ piece_side 0 next.some)
+  first_side = let e : o.next ≡ o.next + 0 = omega arith in
+      ap (λ b. side_in map b) e ∙ piece_side 0 next.some
 
   -- a piece in plain: so many blocks, each as it is sealed in its place
   pub piece_blocks : {seals : Seals} {bytes : List ℕ} → AreLawful map.atom seals
       → ArePieceBytes map piece bytes →
       AreBlocks map.atom piece.count (seals.opened (side_in map o.next) o.next bytes)
-  piece_blocks {bytes = bytes} lawful are =
-      lawful.keeps_opened (side_in map o.next) o.next piece.count bytes
-      (record { size = are.size; are_bytes = are.are_bytes })
+  piece_blocks {bytes = bytes} lawful are = lawful.keeps_opened (side_in map o.next)
+      o.next piece.count bytes (record { size = are.size; are_bytes = are.are_bytes })
 
   pub piece_block : {seals : Seals} {bytes : List ℕ} → AreLawful map.atom seals
       → ArePieceBytes map piece bytes → (k : ℕ) → k < piece.count →
@@ -113,9 +111,8 @@ module _ {map : Map} (o : Open) {piece : Piece} (next : IsPieceOf map o piece) w
       ≡ seals.opened (side_in map (o.next + k)) (o.next + k) (block_at map.atom bytes k)
   piece_block {seals = seals} {bytes = bytes} lawful are k below =
       lawful.each_opened (side_in map o.next) o.next piece.count bytes
-      (record { size = are.size; are_bytes = are.are_bytes }) k below
-      ∙ ap (λ side. seals.opened side (o.next + k) (block_at map.atom bytes k))
-      (first_side ∙ sym (piece_side k below))
+      (record { size = are.size; are_bytes = are.are_bytes }) k below ∙ ap (λ side. seals.opened
+      side (o.next + k) (block_at map.atom bytes k)) (first_side ∙ sym (piece_side k below))
 
 -- a block that was read is right, where no unfinished write has tried it
 right_read : {K : Type 0} {state : State K} {seals : Seals} {plain : ℕ → List ℕ} {left : List Block}
@@ -161,7 +158,7 @@ module _ {K : Type 0} (old : State K) (seals : Seals) (plain : ℕ → List ℕ)
 pub read_untried : {K : Type 0} {state : State K} {plain : ℕ → List ℕ} {lane : ℕ} {o : Open}
     → open_at state.lanes lane ≡ Some o → IsRead o.ask → TriesNothing state plain lane
 read_untried {o = o} at reads b value tried = never_both o.ask reads
-    (let one : tried.o ≡ o = (let t = tried.is in cc) in subst (λ p. IsWrite p.ask) one tried.writes)
+    (let one : tried.o ≡ o = (cc) in subst (λ p. IsWrite p.ask) one tried.writes)
 
 -- a piece was read
 module _ {K : Type 0} {old new : State K} {seals : Seals} {plain : ℕ → List ℕ} {left : List Block}
@@ -170,73 +167,62 @@ module _ {K : Type 0} {old new : State K} {seals : Seals} {plain : ℕ → List 
   knows_read : AreLawful old.map.atom seals → 0 < old.map.atom → Shown old seals plain left view
       → AreLive old o → HasPiece o → Holds old lane → ((k : ℕ) → k < is.piece.count
       → block_at old.map.atom bytes k ≡ view.current (place_of old.map is.piece + k))
-      → Logic old plain left → LaneKnows new (now_of old seals plain lane bytes) left lane (moved o is.piece)
+      → Logic old plain left
+      → LaneKnows new (now_of old seals plain lane bytes) left lane (moved o is.piece)
   knows_read lawful some shown live has holds content logic =
-      let piece = is.piece in
-      let map = is.goes.map in
-      let knows = logic.lanes lane o at in
-      let opened = opened_piece old seals o bytes in
-      let all : now_of old seals plain lane bytes lane ≡ plain lane ++ opened = now_is old seals plain lane bytes at in
+      let knows = logic.lanes lane o at in let opened = opened_piece old seals o bytes in
+      let all : now_of old seals plain lane bytes lane ≡ plain lane ++ opened =
+      now_is old seals plain lane bytes at in
       let exact : o.range.start + knows.count ≡ o.next = knows.exact has.goes_on in
-      let first : piece.first ≡ o.next = is.next.first in
-      let within : o.next + piece.count ≤ o.range.end = is.next.within in
+      let first : is.piece.first ≡ o.next = is.next.first in
+      let within : o.next + is.piece.count ≤ o.range.end = is.next.within in
       let begun : o.range.start ≤ o.next = (logic.sound.under_way lane o at).begun in
       record {
-        count = knows.count + piece.count;
-        are = rw (map, all) (blocks_joined old.map.atom knows.count piece.count (plain lane) opened
-            knows.are (piece_blocks o is.next lawful is.are));
-        least = omega (arith, exact, first);
-        most = omega (arith, exact, within);
-        exact = λ whole. omega (arith, exact, first);
+        count = knows.count + is.piece.count;
+        are = rw (is.goes.map, all) (blocks_joined old.map.atom knows.count
+            is.piece.count (plain lane) opened knows.are (piece_blocks o is.next lawful is.are));
+        least = omega arith;
+        most = omega arith;
+        exact = λ whole. omega arith;
         holds = λ any. rw is.goes.entries_are holds;
-        reads = λ reading k below. rw (map, all)
-            (elim (cases_lt k knows.count) [
-              | inl lt ↦
-                  rw (block_at-front old.map.atom knows.count (plain lane) opened k lt
-                  (omega (arith, knows.are.size))) (knows.reads reads k lt)
-              | inr ge ↦
-                  let j : ℕ = k - knows.count in
-                  let place : k ≡ knows.count + j = omega (arith, ge) in
-                  let lt : j < piece.count = omega (arith, below, ge) in
-                  let b : o.range.start + k ≡ o.next + j = omega (arith, exact, ge) in
-                  let value : block_at old.map.atom (plain lane ++ opened) k
-                  ≡ seals.opened (side_in old.map (o.next + j)) (o.next + j)
-                  (block_at old.map.atom bytes j) =
-                  ap (λ n. block_at old.map.atom (plain lane ++ opened) n) place
-                  ∙ block_at-behind old.map.atom knows.count (plain lane) opened j knows.are.size
-                  ∙ piece_block o is.next lawful is.are j lt in
-                  rw (b, value) (right_read (o.next + j) lawful logic shown is.was
-                  (live (o.next + j) (omega (arith, begun)) (omega (arith, lt, within)))
-                  (λ other tried_value tried. elim (same_or_not lane other) [
-                    | inl same ↦ read_untried at reads _ _ (rw (← same) at tried)
-                    | inr differ ↦
-                        tried_apart lane other (o.next + j) logic some differ at
-                        (reads_lock o.ask reads) holds (omega (arith, begun))
-                        (omega (arith, lt, within)) tried
-                  ])
-                  (content j lt ∙ ap (λ p. view.current p) (sym (piece_place o is.next j lt))))
-            ]);
-        kept = λ settled. absurd (omega (arith, knows.kept settled, has.some));
+        reads = λ reading k below. rw (is.goes.map, all) (elim (cases_lt k knows.count) [
+          | inl lt ↦ rw (block_at-front old.map.atom
+              knows.count (plain lane) opened k lt (omega arith)) (knows.reads reads k lt)
+          | inr ge ↦
+              let j : ℕ = k - knows.count in
+              let place : k ≡ knows.count + j = omega arith in
+              let lt : j < is.piece.count = omega arith in
+              let b : o.range.start + k ≡ o.next + j = omega arith in
+              let value : block_at old.map.atom (plain lane ++ opened) k ≡ seals.opened
+              (side_in old.map (o.next + j)) (o.next + j) (block_at old.map.atom bytes j) =
+              ap (λ n. block_at old.map.atom (plain lane ++ opened) n) place
+              ∙ block_at-behind old.map.atom knows.count (plain lane) opened j knows.are.size
+              ∙ piece_block o is.next lawful is.are j lt in
+              rw (b, value) (right_read (o.next + j) lawful logic shown is.was
+              (live (o.next + j) (omega arith) (omega arith))
+              (λ other tried_value tried. elim (same_or_not lane other) [
+                | inl same ↦ read_untried at reads _ _ (rw (← same) at tried)
+                | inr differ ↦ tried_apart lane other (o.next + j) logic some
+                    differ at (reads_lock o.ask reads) holds (omega arith) (omega arith) tried
+              ]) (content j lt ∙ ap (λ p. view.current p) (sym (piece_place o is.next j lt))))
+        ]);
+        kept = λ settled. absurd (omega (arith, knows.kept settled));
         breaks = λ writes failed. absurd (never_both o.ask reads writes);
-        beside =
-            λ b from to of. (live b from (omega (arith, to, exact, within))).free
-            (governed_back b (goes_stays is.goes) of);
+        beside = λ b
+            from to of. (live b from (omega arith)).free (governed_back b (goes_stays is.goes) of);
       }
 
-  pub logic_read : AreLawful old.map.atom seals → 0 < old.map.atom
-      → Shown old seals plain left view → AreLive old o → HasPiece o → Holds old lane
-      → ((k : ℕ) → k < is.piece.count
+  pub logic_read : AreLawful old.map.atom seals → 0 < old.map.atom → Shown old seals plain left view
+      → AreLive old o → HasPiece o → Holds old lane → ((k : ℕ) → k < is.piece.count
       → block_at old.map.atom bytes k ≡ view.current (place_of old.map is.piece + k))
       → IsSound new → Logic old plain left → Logic new (now_of old seals plain lane bytes) left
   logic_read lawful some shown live has holds content sound logic =
-      logic_kept is.goes (λ whole. is.was) sound (now_other old seals plain lane bytes)
-      (λ k other held. rw is.goes.entries_are held)
-      (λ one same. let e : one ≡ moved o is.piece = cc in
+      logic_kept is.goes (λ whole. is.was) sound (now_other old seals plain lane bytes) (λ k
+      other held. rw is.goes.entries_are held) (λ one same. let e : one ≡ moved o is.piece = cc in
       rw e (knows_read lawful some shown live has holds content logic)) logic
 
-module _ {K : Type 0} {old new : State K} {lane : ℕ} {o : Open} {bytes : List ℕ}
-    (at : open_at old.lanes lane ≡ Some o) (reads : IsRead o.ask)
-    (is : GetsPiece old lane o bytes new) where
+module _ {K : Type 0} {old new : State K} {lane : ℕ} {o : Open} {bytes : List ℕ} (at : open_at
+    old.lanes lane ≡ Some o) (reads : IsRead o.ask) (is : GetsPiece old lane o bytes new) where
   pub shown_read : {seals : Seals} {plain : ℕ → List ℕ} {left : List Block} {view next : View}
       → IsUnchanged view next → Shown old seals plain left view
       → Shown new seals (now_of old seals plain lane bytes) left next
@@ -292,5 +278,4 @@ module _ {K : Type 0} {old new : State K} {lane : ℕ} {o : Open} {is_broken : B
       (λ writes failed. goes.broken_is ∙ breaks writes) knows)) logic
 
   pub failing_keeps : {plain : ℕ → List ℕ} → KeepsWrites old plain new plain
-  failing_keeps =
-      writes_go_on goes.map goes.lane_is (λ k other. refl) at refl refl refl refl refl
+  failing_keeps = writes_go_on goes.map goes.lane_is (λ k other. refl) at refl refl refl refl refl

@@ -27,10 +27,9 @@ settles_served : {K P Q : Type 0} {seals : Seals} {old new : State K} {plain : �
     → Served P Q seals old new plain left exchanges
 settles_served lane o outcome exchanges here fine at (inl is) step are =
     flush_served lane exchanges here fine outcome at is step (rw is at are)
-settles_served lane o outcome exchanges here fine at (inr (forced, whole, unfailed, unsettled))
-    step are =
-    settle_served lane exchanges here fine outcome (rw (forced_locks o.ask forced) at are) at forced
-    whole step
+settles_served lane o outcome
+    exchanges here fine at (inr (forced, whole, unfailed, unsettled)) step are = settle_served
+    lane exchanges here fine outcome (rw (forced_locks o.ask forced) at are) at forced whole step
 
 -- the zone at hand after an event of a client
 or_first : (a b : Bool) → (a || b) ≡ false → a ≡ false
@@ -41,12 +40,10 @@ pub works_after : {K : Type 0} {old new : State K} {event : Event} (outcome : Ou
     → Meets old event → Step old event outcome new → Works old → Works new
 works_after {old = old} {new = new} {event = event} outcome meets step works =
     let goes = event_effects old new event outcome step in
-    let client = meets.client in
-    works_stay (record { map = goes.map; work = goes.work })
-    (λ stays. or_first old.broken (breaks event outcome) (sym goes.broken_is ∙ stays))
-    goes.lane_is.count
-    (λ lane last. let left = event_left old new event outcome lane step
-    (λ same. omega (arith, client, last, same)) in (left.own, left.holds)) works
+    works_stay (record { map = goes.map; work = goes.work }) (λ stays. or_first old.broken
+    (breaks event outcome) (sym goes.broken_is ∙ stays)) goes.lane_is.count (λ lane last. let left =
+    event_left old new event outcome lane step (λ same. omega arith) in
+    (left.own, left.holds)) works
 
 -- each event
 event_served : {K P Q : Type 0} {seals : Seals} {old new : State K} {plain : ℕ → List ℕ}
@@ -61,22 +58,19 @@ event_served {old = old} {left = left} (asks lane) outcome exchanges here fine m
     rw step.1 (goes_on (record { map = refl; work = refl })
     (legal_none old.map.atom left exchanges are) here)
 event_served {old = old} (reads lane len) outcome exchanges here fine meets (o, at, step) are =
-    let (p, is, can) = meets.can.0 in
-    let same : p ≡ o = cc in
+    let (p, is, can) = meets.can.0 in let same : p ≡ o = cc in
     let reading = subst (λ q. IsRead q.ask) same can.reads in
     read_served lane exchanges here fine outcome are at reading (rw same at can.has) meets.can.1
     (λ whole. client_live lane here.logic.sound here.works whole at (reads_lock o.ask reading)
     meets.can.1 meets.client) step
 event_served {old = old} (writes lane bytes) outcome exchanges here fine meets (o, at, step) are =
-    let (p, is, can) = meets.can.0 in
-    let same : p ≡ o = cc in
+    let (p, is, can) = meets.can.0 in let same : p ≡ o = cc in
     let writing = subst (λ q. IsWrite q.ask) same can.writes in
     write_served lane exchanges here fine bytes outcome are at writing (rw same at can.has)
     meets.can.1 (λ whole. client_live lane here.logic.sound here.works whole at
     (writes_lock o.ask writing) meets.can.1 meets.client) step
 event_served (settles lane) outcome exchanges here fine meets (o, at, step) are =
-    let (p, is, can) = meets.can in
-    let same : p ≡ o = cc in
+    let (p, is, can) = meets.can in let same : p ≡ o = cc in
     settles_served lane o outcome exchanges here fine at (rw same at can) step (rw at at are)
 event_served (finishes lane) outcome exchanges here fine meets step are =
     let (o, at, can) = meets.can.0 in
@@ -85,9 +79,8 @@ event_served (finishes lane) outcome exchanges here fine meets step are =
 
 -- exchanges of two lists of answers, one after the other
 pub split_exchanges : (xs ys : List _) (exchanges : List Exchange)
-    → AreExchanges (xs ++ ys) exchanges →
-    (first : List Exchange) × (rest : List Exchange) × (exchanges ≡ first ++ rest)
-    × AreExchanges xs first × AreExchanges ys rest
+    → AreExchanges (xs ++ ys) exchanges → (first : List Exchange) × (rest : List Exchange)
+    × (exchanges ≡ first ++ rest) × AreExchanges xs first × AreExchanges ys rest
 unfolding AreExchanges
 split_exchanges [] ys exchanges are = ([], exchanges, refl, tt, are)
 split_exchanges (x ∷ xs) ys [] are = absurd are
@@ -120,16 +113,14 @@ run_served {old = old} {left = left} [] exchanges here is are =
 run_served {seals = seals} {old = old} {plain = plain} {left = left} (one ∷ rest) exchanges here
     (meets, step, is) are =
     let (first, behind, parts, are_first, are_behind) =
-    split_exchanges (answered_by old one.event one.outcome plain)
-    (answered_in seals one.after (plain_after seals old one.event one.outcome plain) rest) exchanges
-    are in
+    split_exchanges (answered_by old one.event one.outcome plain) (answered_in
+    seals one.after (plain_after seals old one.event one.outcome plain) rest) exchanges are in
     let served = event_served one.event one.outcome first here (record {
       sound = sound_kept old one.after one.event one.outcome here.logic.sound meets step;
       works = works_after one.outcome meets step here.works;
     }) meets step are_first in
-    let ran = run_served {old = one.after}
-    {plain = plain_after seals old one.event one.outcome plain} {left = served.next} rest behind
-    served.here is are_behind in record {
+    let ran = run_served {old = one.after} {plain = plain_after seals old one.event
+    one.outcome plain} {left = served.next} rest behind served.here is are_behind in record {
       next = ran.next;
       legal = subst (λ es. Legal old.map.atom left es ran.next) (sym parts)
           (legal_joined old.map.atom left served.next ran.next first behind served.legal
@@ -144,7 +135,6 @@ starts_here : {K : Type 0} {start : State K} {seals : Seals} {blocks : List Bloc
 starts_here {start = start} {seals = seals} {blocks = blocks} {bytes = bytes} starts =
     let none : (lane : ℕ) → TriesNothing start no_plain lane =
     λ lane. idle (starts.fresh.lanes lane) in
-    let rests = starts.fresh.rests in
     let shows : (view : View) → ((b : ℕ) → b < start.map.blocks
     → IsSealed start.map seals b (block_in blocks b).newest (view.current (place_in start.map b)))
     → ((b : ℕ) → b < start.map.blocks → (atom : List ℕ)
@@ -162,8 +152,7 @@ starts_here {start = start} {seals = seals} {blocks = blocks} {bytes = bytes} st
       logic = record {
         sound = starts.sound;
         are = starts.are;
-        sure = λ whole b below. sure_in blocks b starts.sure
-            (omega (arith, starts.are.count, below));
+        sure = λ whole b below. sure_in blocks b starts.sure (omega arith);
         lanes = λ lane o is. absurd (let free = starts.fresh.lanes lane in cc);
       };
       lawful = starts.lawful;
@@ -174,12 +163,11 @@ starts_here {start = start} {seals = seals} {blocks = blocks} {bytes = bytes} st
       size = λ whole unbroken. whole.bytes bytes starts.values;
       cells = λ whole covered told is. whole.cells told is;
       shown = shows (view_of_bytes start.map.atom bytes) starts.stands
-          (λ b below atom contains. absurd (omega (arith, contains.1)));
-      places = λ covered told is b below. place_of_some told.now (place_in start.map b)
-          (let size = length-sealed start.map seals b (block_in blocks b).newest
-          (cell_in told.now (place_in start.map b)).current starts.lawful
-          ((covered told is).current b below) in
-          omega (arith, size, some_atom start.map.atom starts.sound.fits.known));
+          (λ b below atom contains. absurd (omega arith));
+      places = λ covered told is b below. place_of_some told.now (place_in start.map b) (let size =
+          length-sealed start.map seals b (block_in blocks b).newest (cell_in told.now
+          (place_in start.map b)).current starts.lawful ((covered told is).current b below) in
+          omega (arith, some_atom start.map.atom starts.sound.fits.known));
       tables = λ covered told is. shows (view_of_cells told.now) (covered told is).current
           (covered told is).candidates;
     }
@@ -188,8 +176,7 @@ starts_here {start = start} {seals = seals} {blocks = blocks} {bytes = bytes} st
 pub serves_each_run : {K : Type 0} (start : State K) (seals : Seals) → ServesEachRun start seals
 serves_each_run start seals = λ blocks bytes run exchanges starts is are.
     let ran = run_served run exchanges (starts_here starts) is are in
-    let here = ran.here in
-    let last = last_of start run in record {
+    let here = ran.here in let last = last_of start run in record {
       left = ran.next;
       legal = ran.legal;
       now = here.bytes;
@@ -197,8 +184,7 @@ serves_each_run start seals = λ blocks bytes run exchanges starts is are.
       stands = here.shown.current;
       size = here.size;
       cells = here.cells;
-      stops = λ covered told was image is_image b below.
-          (here.tables covered told was).candidates b below (value_in image (place_in last.map b))
-          (image_in told.now image (place_in last.map b) is_image
-          (here.places covered told was b below.inside));
+      stops = λ covered told was image is_image b below. (here.tables covered told was).candidates
+          b below (value_in image (place_in last.map b)) (image_in told.now
+          image (place_in last.map b) is_image (here.places covered told was b below.inside));
     }

@@ -30,21 +30,19 @@ units_of_blocks atom k (inr is) = rw is (omega arith)
 number_behind : (tweak atom block k : ℕ) → IsAtom atom
     → tweak + block * (atom / 512) + k * atom / 512 ≡ tweak + (block + k) * (atom / 512)
 number_behind tweak atom block k known =
-    let units = units_of_blocks atom k known in
-    let ends = blocks_end (atom / 512) block k in
-    omega (arith, units, ends)
+    omega (arith, units_of_blocks atom k known, blocks_end (atom / 512) block k)
 
 -- the front of a run of blocks, and those behind
 module _ (atom m n : ℕ) (bytes : List ℕ) (are : AreBlocks atom (m + n) bytes) where
   front_blocks : AreBlocks atom m (take (m * atom) bytes)
   front_blocks = record {
-    size = length-take-le (m * atom) bytes (omega (arith, are.size, blocks_end atom m n));
+    size = length-take-le (m * atom) bytes (omega (arith, blocks_end atom m n));
     are_bytes = bytes-take (m * atom) bytes are.are_bytes;
   }
 
   blocks_behind : AreBlocks atom n (drop (m * atom) bytes)
   blocks_behind = record {
-    size = length-drop (m * atom) bytes ∙ omega (arith, are.size, blocks_end atom m n);
+    size = length-drop (m * atom) bytes ∙ omega (arith, blocks_end atom m n);
     are_bytes = bytes-drop (m * atom) bytes are.are_bytes;
   }
 
@@ -54,17 +52,15 @@ module _ (atom sector : ℕ) (whole : atom % sector ≡ 0) where
       → AreSectors sector bytes
   blocks_are_sectors count bytes are = record {
     whole = ap (λ n. n % sector) are.size ∙ sym (mul-mod_second count atom sector)
-        ∙ ap (λ rest. (count * rest) % sector) whole
-        ∙ ap (λ n. n % sector) (let e : count * 0 ≡ 0 * sector = omega arith in e)
-        ∙ mul-mod_left 0 sector;
+        ∙ ap (λ rest. (count * rest) % sector) whole ∙ ap (λ n. n % sector) (let e : count * 0
+        ≡ 0 * sector = omega arith in e) ∙ mul-mod_left 0 sector;
     are_bytes = are.are_bytes;
   }
 
   module _ (change : ℕ → List ℕ → List ℕ) (keeps : KeepsLengths sector change) where
     changed_length : (first n : ℕ) (bytes : List ℕ) → AreBlocks atom n bytes
         → length (change first bytes) ≡ n * atom
-    changed_length first n bytes are =
-        keeps first bytes (blocks_are_sectors n bytes are) ∙ are.size
+    changed_length first n bytes are = keeps first bytes (blocks_are_sectors n bytes are) ∙ are.size
 
     -- what a cipher makes of blocks are as many blocks
     changed_blocks : GivesBytes sector change → (first n : ℕ) (bytes : List ℕ)
@@ -95,24 +91,20 @@ module _ (atom sector : ℕ) (whole : atom % sector ≡ 0) where
           let long = changed_length first 1 (take (1 * atom) bytes)
           (front_blocks atom 1 n bytes are) in
           ap (λ all. block_at atom all 0) (changed_in_parts first 1 n bytes are)
-          ∙ block_at-front atom 1 (change first (take (1 * atom) bytes))
-          (change (first + 1 * atom / 512) (drop (1 * atom) bytes)) 0 (omega arith)
-          (omega (arith, long))
-          ∙ block_at-one atom (change first (take (1 * atom) bytes)) long
-          ∙ ap (λ m. change first (take m bytes)) one
+          ∙ block_at-front atom 1 (change first (take (1 * atom) bytes)) (change (first + 1
+          * atom / 512) (drop (1 * atom) bytes)) 0 (omega arith) (omega arith) ∙ block_at-one atom
+          (change first (take (1 * atom) bytes)) long ∙ ap (λ m. change first (take m bytes)) one
 
       -- a run of blocks is worked on block by block
-      each_changed : (first count : ℕ) (bytes : List ℕ) (k : ℕ) → AreBlocks atom count bytes
-          → k < count
-          → block_at atom (change first bytes) k
+      each_changed : (first count : ℕ) (bytes : List ℕ) (k : ℕ)
+          → AreBlocks atom count bytes → k < count → block_at atom (change first bytes) k
           ≡ change (first + k * atom / 512) (block_at atom bytes k)
       each_changed first count bytes k are inside =
           let rest : ℕ = count - k - 1 in
           let split : count ≡ k + (1 + rest) = omega arith in
           let parts : AreBlocks atom (k + (1 + rest)) bytes = rw (← split) are in
           let front : List ℕ = take (k * atom) bytes in
-          let behind : List ℕ = drop (k * atom) bytes in
-          let further : ℕ = first + k * atom / 512 in
+          let behind : List ℕ = drop (k * atom) bytes in let further : ℕ = first + k * atom / 512 in
           let place : k ≡ k + 0 = omega arith in
           ap (λ all. block_at atom all k) (changed_in_parts first k (1 + rest) bytes parts)
           ∙ ap (λ p. block_at atom (change first front ++ change further behind) p) place
@@ -155,8 +147,6 @@ keys_are_lawful sector seal unseal keys atom ciphers known old new =
 
 -- what holds a value of a block has a block's bytes
 pub length-sealed : (map : Map) (seals : Seals) (b : ℕ) (value text : List ℕ)
-    → AreLawful map.atom seals
-    → IsSealed map seals b value text → length text ≡ map.atom
-length-sealed map seals b value text lawful is =
-    ap (λ bytes. length bytes) is.1 ∙ (lawful.keeps_sealed (side_in map b) b value is.0).size
-    ∙ omega arith
+    → AreLawful map.atom seals → IsSealed map seals b value text → length text ≡ map.atom
+length-sealed map seals b value text lawful is = ap (λ bytes. length bytes) is.1
+    ∙ (lawful.keeps_sealed (side_in map b) b value is.0).size ∙ omega arith

@@ -27,11 +27,10 @@ pub own_value : {K : Type 0} {state : State K} {plain : ℕ → List ℕ} {left 
     → value ≡ block_at state.map.atom (plain lane) (b - o.range.start)
 own_value lane b value {o = o} logic some is writes holds from to enough (inl (k, tried)) =
     elim (same_or_not lane k) [
-      | inl same ↦ let one : tried.o ≡ o = (let t = tried.is in cc) in
+      | inl same ↦ let one : tried.o ≡ o = (cc) in
           rw (same, ← one) tried.value_is
-      | inr differ ↦
-          absurd (tried_apart lane k b logic some differ is (writes_lock o.ask writes) holds from to
-          tried)
+      | inr differ ↦ absurd (tried_apart
+          lane k b logic some differ is (writes_lock o.ask writes) holds from to tried)
     ]
 own_value {state = state} {plain = plain} lane b value {o = o} logic some is writes holds from to
     enough (inr (none, newest)) =
@@ -46,27 +45,24 @@ own_value {state = state} {plain = plain} lane b value {o = o} logic some is wri
 
 -- all its pieces were made
 tried_whole : {K : Type 0} {state : State K} {plain : ℕ → List ℕ} {left : List Block} {lane : ℕ}
-    (b : ℕ) {o : Open} → LaneKnows state plain left lane o → o.next ≡ o.range.end
-    → o.range.start ≤ b → b < o.range.end
-    → suc (b - o.range.start) * state.map.atom ≤ length (plain lane)
+    (b : ℕ) {o : Open} → LaneKnows state plain left lane o → o.next ≡ o.range.end → o.range.start
+    ≤ b → b < o.range.end → suc (b - o.range.start) * state.map.atom ≤ length (plain lane)
 tried_whole b {o = o} knows whole from to =
     let count : suc (b - o.range.start) ≤ knows.count = omega arith in
     rw knows.are.size (grind (arith, count))
 
 -- each write that is settled was all tried before
 abbrev SettledBefore : {K : Type 0} → State K → State K → Type 0
-SettledBefore old new =
-    (lane : ℕ) (o : Open) → open_at new.lanes lane ≡ Some o → IsForced o.ask → o.settled ≡ true →
-    (p : Open) × (open_at old.lanes lane ≡ Some p) × IsForced p.ask × (p.range ≡ o.range)
-    × (p.next ≡ p.range.end)
+SettledBefore old new = (lane : ℕ) (o : Open) → open_at new.lanes lane ≡ Some o
+    → IsForced o.ask → o.settled ≡ true → (p : Open) × (open_at old.lanes lane ≡ Some p)
+    × IsForced p.ask × (p.range ≡ o.range) × (p.next ≡ p.range.end)
 
 -- after a sync: each block's atom has the one candidate that it holds
-module _ {K : Type 0} {old new : State K} {plain : ℕ → List ℕ} {left : List Block}
-    (next_left : List Block) (logic : Logic old plain left) (some : 0 < old.map.atom) (works : Works old)
-    (stays : Stays old new) (was : old.broken ≡ false) (keeps : KeepsTried old plain new plain)
-    (newest : (b : ℕ) → b < old.map.blocks
-    → (block_in next_left b).newest ≡ (block_in left b).newest)
-    (settled : SettledBefore old new) where
+module _ {K : Type 0} {old new : State K} {plain : ℕ
+    → List ℕ} {left : List Block} (next_left : List Block) (logic : Logic old plain left) (some : 0
+    < old.map.atom) (works : Works old) (stays : Stays old new) (was : old.broken ≡ false)
+    (keeps : KeepsTried old plain new plain) (newest : (b : ℕ) → b < old.map.blocks → (block_in
+    next_left b).newest ≡ (block_in left b).newest) (settled : SettledBefore old new) where
   renewed : (b : ℕ) (value : List ℕ) → b < old.map.blocks → IsNow old plain left b value
       → IsNow new plain next_left b value
   renewed b value below now = elim (now_kept keeps left b value now) [
@@ -85,8 +81,11 @@ module _ {K : Type 0} {old new : State K} {plain : ℕ → List ℕ} {left : Lis
     current = λ whole b below. subst (λ m. (value : List ℕ) × IsNow new plain next_left b value
         × IsSealed m seals b value (next.current (place_in m b))) (sym stays.map)
         (let live = live_back b stays below in
-        let (value, is_now, sealed) = shown.current was b live in
-        (value, renewed b value live.inside is_now, rw (synced.current (place_in old.map b)) sealed));
+        let (value, is_now, sealed) = shown.current was b live in (
+          value,
+          renewed b value live.inside is_now,
+          rw (synced.current (place_in old.map b)) sealed,
+        ));
     candidates = λ b below atom contains. subst (λ m. (value : List ℕ)
         × IsAllowedAt new plain next_left b value × IsSealed m seals b value atom) (sym stays.map)
         (let live = live_back b stays below in
@@ -97,12 +96,11 @@ module _ {K : Type 0} {old new : State K} {plain : ℕ → List ℕ} {left : Lis
     settled = λ lane o is forced is_settled b from to atom contains. rw stays.map
         (let (p, at, is_forced, range, whole) = settled lane o is forced is_settled in
         let p_from : p.range.start ≤ b = rw range from in
-        let p_to : b < p.range.end = rw range to in
-        let knows = logic.lanes lane p at in
+        let p_to : b < p.range.end = rw range to in let knows = logic.lanes lane p at in
         let writes = forced_writes p.ask is_forced in
         let holds : Holds old lane = knows.holds (omega arith) in
         let live = ended_live lane logic.sound works was at (writes_lock p.ask writes) holds
-        (omega (arith, whole, p_from, p_to)) in
+        (omega arith) in
         let (value, is_now, sealed) = shown.current was b (live b p_from p_to) in
         let own = own_value lane b value logic some at writes holds p_from p_to
         (tried_whole b knows whole p_from p_to) is_now in
@@ -111,12 +109,11 @@ module _ {K : Type 0} {old new : State K} {plain : ℕ → List ℕ} {left : Lis
         rw (← range, ← own, same) sealed);
     zone = λ work is. (let was_so = sym stays.work ∙ is in
         let texts = texts_of seals left work in
-        rw stays.map (zone_renewed seals left next_left old.map.atom new.broken next
-        (works work was_so) was_so (λ b below of. newest b below)
-        (zone_whole old.map.atom work.layout work.zone texts work.phase new.broken next
-        (zone_stays old.map.atom work.layout work.zone texts work.phase false view next
-        (syncs synced) (subst (λ b. ShowsZone old.map.atom work.layout work.zone texts work.phase b
-        view) was (shown.zone work was_so))))));
+        rw stays.map (zone_renewed seals left next_left old.map.atom new.broken next (works
+        work was_so) was_so (λ b below of. newest b below) (zone_whole old.map.atom work.layout
+        work.zone texts work.phase new.broken next (zone_stays old.map.atom work.layout work.zone
+        texts work.phase false view next (syncs synced) (subst (λ b. ShowsZone old.map.atom
+        work.layout work.zone texts work.phase b view) was (shown.zone work was_so))))));
   }
 
 -- the same newest values, as certain as before
@@ -154,8 +151,8 @@ logic_renewed logic are renewed = record {
   sure = λ whole b below. renewed.unsure b below ∙ logic.sure whole b below;
   lanes = λ lane o is. (let knows = logic.lanes lane o is in
       let under_way = logic.sound.under_way lane o is in knows_renewed knows (λ reading k below. (
-        renewed.newest (o.range.start + k) (omega (arith, below, knows.most, under_way.inside)),
-        renewed.unsure (o.range.start + k) (omega (arith, below, knows.most, under_way.inside)),
+        renewed.newest (o.range.start + k) (omega arith),
+        renewed.unsure (o.range.start + k) (omega arith),
       )));
 }
 
@@ -170,7 +167,7 @@ flush_renews left = record {
 flush_untried : {K : Type 0} {state : State K} {plain : ℕ → List ℕ} {lane : ℕ} {o : Open}
     → open_at state.lanes lane ≡ Some o → has_lock o.ask ≡ false → TriesNothing state plain lane
 flush_untried {o = o} is free b value tried =
-    let one : tried.o ≡ o = (let t = tried.is in cc) in
+    let one : tried.o ≡ o = (cc) in
     let locks = writes_lock o.ask (subst (λ p. IsWrite p.ask) one tried.writes) in cc
 
 module _ {K : Type 0} {old new : State K} {plain : ℕ → List ℕ} {left : List Block} {lane : ℕ}
@@ -195,14 +192,13 @@ module _ {K : Type 0} {old new : State K} {plain : ℕ → List ℕ} {left : Lis
     pub shown_flushed : 0 < old.map.atom → Logic old plain left → old.broken ≡ false → Works old
         → IsSynced view next → Shown old seals plain left view
         → Shown new seals plain (map flushed left) next
-    shown_flushed some logic was works = shown_synced (map flushed left) logic some works (goes_stays goes) was
-        (tried_stay goes.map goes.lane_is (λ k other. refl) (flush_untried is free)
-        (idle goes.lane_is.own))
-        (λ b below. (flush_renews left).newest b (omega (arith, logic.are.count, below)))
+    shown_flushed some logic was works = shown_synced (map flushed left) logic some works
+        (goes_stays goes) was (tried_stay goes.map goes.lane_is (λ k other. refl) (flush_untried
+        is free) (idle goes.lane_is.own)) (λ b below. (flush_renews left).newest b (omega arith))
         (λ k one at forced settled. elim (same_or_not k lane) [
-          | inl same ↦ absurd (let own = goes.lane_is.own in cc)
-          | inr other ↦ (let before = sym (goes.lane_is.others k other) ∙ at in
-              (one, before, forced, refl, (logic.lanes k one before).kept settled))
+          | inl same ↦ absurd (cc)
+          | inr other ↦ let before = sym (goes.lane_is.others k other) ∙ at in
+              (one, before, forced, refl, (logic.lanes k one before).kept settled)
         ])
 
     -- a flush that failed
@@ -213,9 +209,8 @@ module _ {K : Type 0} {old new : State K} {plain : ℕ → List ℕ} {left : Lis
         (idle goes.lane_is.own) (λ one same. absurd (cc))) (λ whole. absurd (cc))
 
 module _ {K : Type 0} {old new : State K} {plain : ℕ → List ℕ} {left : List Block} {lane : ℕ}
-    {o : Open} (is : open_at old.lanes lane ≡ Some o) (whole : o.next ≡ o.range.end)
-    (goes : Goes old new lane old.entries (Some (settling o)) false)
-    (was : old.broken ≡ false) where
+    {o : Open} (is : open_at old.lanes lane ≡ Some o) (whole : o.next ≡ o.range.end) (goes : Goes
+    old new lane old.entries (Some (settling o)) false) (was : old.broken ≡ false) where
   pub logic_settled : IsSound new → Logic old plain left → Logic new plain left
   logic_settled sound logic = logic_goes_on goes (λ stays. was) sound
       (λ one same. let e : one ≡ settling o = cc in
@@ -226,12 +221,11 @@ module _ {K : Type 0} {old new : State K} {plain : ℕ → List ℕ} {left : Lis
   pub shown_settled : {seals : Seals} {view next : View} → 0 < old.map.atom
       → Logic old plain left → IsForced o.ask → Works old → IsSynced view next
       → Shown old seals plain left view → Shown new seals plain left next
-  shown_settled some logic forced works = shown_synced left logic some works (goes_stays goes) was
-      (tried_go_on goes.map goes.lane_is (λ k other. refl) is refl refl refl refl)
-      (λ b below. refl)
-      (λ k one at is_forced settled. elim (same_or_not k lane) [
-        | inl same ↦ (let e : one ≡ settling o = (let own = goes.lane_is.own in cc) in
-            (o, ap (λ n. open_at old.lanes n) same ∙ is, forced, ap (λ p. p.range) (sym e), whole))
-        | inr other ↦ (let before = sym (goes.lane_is.others k other) ∙ at in
-            (one, before, is_forced, refl, (logic.lanes k one before).kept settled))
+  shown_settled some logic forced works = shown_synced left logic some works (goes_stays goes)
+      was (tried_go_on goes.map goes.lane_is (λ k other. refl) is refl refl refl refl)
+      (λ b below. refl) (λ k one at is_forced settled. elim (same_or_not k lane) [
+        | inl same ↦ let e : one ≡ settling o = (cc) in
+            (o, ap (λ n. open_at old.lanes n) same ∙ is, forced, ap (λ p. p.range) (sym e), whole)
+        | inr other ↦ let before = sym (goes.lane_is.others k other) ∙ at in
+            (one, before, is_forced, refl, (logic.lanes k one before).kept settled)
       ])

@@ -14,17 +14,14 @@ use Rattle.volume_laws.proofs.VolumeStart.{one_value}
 
 -- what is sealed alike is alike
 sealed_one : (atom : ℕ) (seals : Seals) (side : Side) (b : ℕ) (one other : List ℕ)
-    → AreLawful atom seals
-    → AreBlocks atom 1 one → AreBlocks atom 1 other
-    → seals.sealed side b one ≡ seals.sealed side b other → one ≡ other
-sealed_one atom seals side b one other lawful are also same =
-    sym (lawful.opens_sealed side b one are) ∙ ap (λ text. seals.opened side b text) same
-    ∙ lawful.opens_sealed side b other also
+    → AreLawful atom seals → AreBlocks atom 1 one
+    → AreBlocks atom 1 other → seals.sealed side b one ≡ seals.sealed side b other → one ≡ other
+sealed_one atom seals side b one other lawful are also same = sym (lawful.opens_sealed side
+    b one are) ∙ ap (λ text. seals.opened side b text) same ∙ lawful.opens_sealed side b other also
 
 -- a digest tells one block
 digest_tells : (atom : ℕ) (seals : Seals) (hash : Hash) (b : ℕ) (told own one other : List ℕ)
-    → AreLawful atom seals
-    → AreBlocks atom 1 one → AreBlocks atom 1 other
+    → AreLawful atom seals → AreBlocks atom 1 one → AreBlocks atom 1 other
     → TellsDigest hash told own (seals.sealed Old b one) (seals.sealed New b one)
     → TellsDigest hash told own (seals.sealed Old b other) (seals.sealed New b other) → one ≡ other
 digest_tells atom seals hash b told own one other lawful are also tells tells_also =
@@ -39,64 +36,53 @@ digest_tells atom seals hash b told own one other lawful are also tells tells_al
       ]
     ]
 
-recovers_one : (atom : ℕ) (seals : Seals) (resilience : Resilience) (hash : Hash) (work : Work)
-    (image : Image) (i b : ℕ) (one other : Content)
-    → AreLawful atom seals → work.range.start + i ≡ b → AreBlocks atom 1 (one b)
-    → AreBlocks atom 1 (other b)
+recovers_one : (atom : ℕ) (seals : Seals) (resilience : Resilience) (hash : Hash)
+    (work : Work) (image : Image) (i b : ℕ) (one other : Content) → AreLawful atom seals
+    → work.range.start + i ≡ b → AreBlocks atom 1 (one b) → AreBlocks atom 1 (other b)
     → Recovers resilience hash work.zone (atoms_of seals one work) image i
     → Recovers resilience hash work.zone (atoms_of seals other work) image i → one b ≡ other b
-recovers_one atom seals journal hash work image i b one other lawful place are also tells
-    tells_also =
-    sealed_one atom seals Old b (one b) (other b) lawful are also
-    (rw place at (sym tells ∙ tells_also))
-recovers_one atom seals checksum hash work image i b one other lawful place are also tells
-    tells_also =
-    digest_tells atom seals hash b _ _ (one b) (other b) lawful are also (rw place at tells)
-    (rw place at tells_also)
+recovers_one atom
+    seals journal hash work image i b one other lawful place are also tells tells_also = sealed_one
+    atom seals Old b (one b) (other b) lawful are also (rw place at (sym tells ∙ tells_also))
+recovers_one atom seals checksum
+    hash work image i b one other lawful place are also tells tells_also = digest_tells atom
+    seals hash b _ _ (one b) (other b) lawful are also (rw place at tells) (rw place at tells_also)
 recovers_one atom seals datashift hash work image i b one other lawful place are also tells
     tells_also = absurd tells
 
-block_one : (reading : Reading) (map : Map) (seals : Seals) (work : Work) (image : Image)
-    (one other : Content) (b : ℕ)
+block_one : (reading : Reading)
+    (map : Map) (seals : Seals) (work : Work) (image : Image) (one other : Content) (b : ℕ)
     → AreLawful map.atom seals → BlockStands reading map seals work image one b
-    → BlockStands reading map seals work image other b
-    → one b ≡ other b
+    → BlockStands reading map seals work image other b → one b ≡ other b
 block_one reading map seals work image one other b lawful is also =
     by (side_in map b) is.zone is.stands also.stands
   where
     by : (side : Side) → (side ≡ Zone → IsInZone map work b)
         → AtomStands reading map seals work image one b side
         → AtomStands reading map seals work image other b side → one b ≡ other b
-    by Old zone stands stands_also =
-        sealed_one map.atom seals Old b (one b) (other b) lawful is.are also.are
-        (sym stands ∙ stands_also)
-    by New zone stands stands_also =
-        sealed_one map.atom seals New b (one b) (other b) lawful is.are also.are
-        (sym stands ∙ stands_also)
-    by Zone zone stands stands_also =
-        recovers_one map.atom seals work.zone.resilience reading.hash work image
-        (b - work.range.start) b one other lawful
-        (let from = (zone refl).from in omega (arith, from))
-        is.are also.are stands stands_also
+    by Old zone stands stands_also = sealed_one
+        map.atom seals Old b (one b) (other b) lawful is.are also.are (sym stands ∙ stands_also)
+    by New zone stands stands_also = sealed_one
+        map.atom seals New b (one b) (other b) lawful is.are also.are (sym stands ∙ stands_also)
+    by Zone zone stands stands_also = recovers_one
+        map.atom seals work.zone.resilience reading.hash work image (b - work.range.start)
+        b one other lawful (omega (arith, (zone refl).from)) is.are also.are stands stands_also
 
 -- an image stands for one content
-pub stands_for_one : (reading : Reading) (atoms : ℕ) (seals : Seals) (map : Map)
-    (work : Option Work) (image : Image) (one other : Content)
-    → IsReader reading.reader → AreLawful map.atom seals
-    → StandsUnder reading atoms seals map work image one
-    → StandsUnder reading atoms seals map work image other → (b : ℕ) → b < map.blocks
-    → one b ≡ other b
+pub stands_for_one : (reading : Reading) (atoms : ℕ) (seals : Seals)
+    (map : Map) (work : Option Work) (image : Image) (one other : Content) → IsReader reading.reader
+    → AreLawful map.atom seals → StandsUnder reading atoms seals map work image one
+    → StandsUnder reading atoms seals map work image other
+    → (b : ℕ) → b < map.blocks → one b ≡ other b
 stands_for_one reading atoms seals map None image one other is_reader lawful stands also b below =
     one_value map seals b (one b) (other b) _ lawful (stands b below) (also b below)
 stands_for_one reading atoms seals map (Some work) image one other is_reader lawful stands also b
     below =
-    let same : stands.header ≡ also.header =
-    header_is_one reading.reader (content_of atoms image) stands.header also.header stands.gives
-    also.gives in
-    block_one reading (reading.map_of stands.header) seals work image one other b
-    (rw stands.atom lawful) (stands.stands b below)
-    (subst (λ m. BlockStands reading (reading.map_of m) seals work image other b) (sym same)
-    (also.stands b below))
+    let same : stands.header ≡ also.header = header_is_one
+    reading.reader (content_of atoms image) stands.header also.header stands.gives also.gives in
+    block_one reading (reading.map_of stands.header) seals
+    work image one other b (rw stands.atom lawful) (stands.stands b below) (subst (λ m. BlockStands
+    reading (reading.map_of m) seals work image other b) (sym same) (also.stands b below))
 
 -- values of blocks, chosen one by one, are a content
 chosen : (n : ℕ) (P : ℕ → List ℕ → Type 0) → ((b : ℕ) → b < n → (value : List ℕ) × P b value)
@@ -109,7 +95,7 @@ chosen n P each = (λ b. pick b (cases_lt b n), λ b below. picked b (cases_lt b
 
     picked : (b : ℕ) (where_is : (b < n) ⊎ (n ≤ b)) → b < n → P b (pick b where_is)
     picked b (inl less) below = (each b less).1
-    picked b (inr from) below = absurd (omega (arith, from, below))
+    picked b (inr from) below = absurd (omega arith)
 
 -- without a header every block is live, and an image stands by the volume's own map
 module _ {K : Type 0} (state : State K) (none : state.work ≡ None) where
@@ -126,10 +112,9 @@ module _ {K : Type 0} (state : State K) (none : state.work ≡ None) where
       → StandsForNow reading state seals plain blocks bytes
   now_stands reading seals plain blocks bytes stands =
       let image : Image = λ place. block_at state.map.atom bytes place in
-      let (content, each) = chosen state.map.blocks
-      (λ b value. IsNow state plain blocks b value
-      × IsSealed state.map seals b value (image (place_in state.map b)))
-      (λ b below. let (value, is, sealed) = stands b (all_live b below) in (value, (is, sealed))) in (
+      let (content, each) = chosen state.map.blocks (λ b value. IsNow state plain blocks b value
+      × IsSealed state.map seals b value (image (place_in state.map b))) (λ b
+      below. let (value, is, sealed) = stands b (all_live b below) in (value, (is, sealed))) in (
         content,
         under_none reading seals image content (λ b below. (each b below).1),
         λ b below. (each b below).0,
@@ -139,9 +124,8 @@ module _ {K : Type 0} (state : State K) (none : state.work ≡ None) where
       (cells : List Cell) → StopsAllowed state seals plain blocks cells
       → StandsAllowed reading state seals plain blocks cells
   stops_stand reading seals plain blocks cells stops = λ image is.
-      let (content, each) = chosen state.map.blocks
-      (λ b value. IsAllowedAt state plain blocks b value
-      × IsSealed state.map seals b value (value_in image (place_in state.map b)))
+      let (content, each) = chosen state.map.blocks (λ b value. IsAllowedAt state plain
+      blocks b value × IsSealed state.map seals b value (value_in image (place_in state.map b)))
       (λ b below. let (value, allowed, sealed) = stops image is b (all_live b below) in
       (value, (allowed, sealed))) in (
         content,

@@ -27,20 +27,17 @@ told_first start one rest told is =
 pub tells_run : {K : Type 0} (start : State K) (run : List (Happening K)) (now : Told)
     → IsRun start run → (last_of start run).disk.told ≡ Some now → TellsRun start run now
 unfolding IsRun last_of
-tells_run start [] now is told =
-    record {
-      before = now;
-      was = told;
-      tables = [];
-      since = sym (append-nil now.past);
-      each =
-          All-nil _;
-    }
+tells_run start [] now is told = record {
+  before = now;
+  was = told;
+  tables = [];
+  since = sym (append-nil now.past);
+  each = All-nil _;
+}
 tells_run start (one ∷ rest) now (meets, step, is) told =
     let behind = tells_run one.after rest now is told in
-    let (before, was, grew) =
-    (event_effects start one.after one.event one.outcome step).disk.tables behind.before
-    behind.was in
+    let (before, was, grew) = (event_effects start one.after one.event one.outcome step).disk.tables
+    behind.before behind.was in
     let later : All (λ table. WasTold start (one ∷ rest) table.1) behind.tables =
     λ k d below. told_later start one rest _ (behind.each k d below) in
     elim grew [

@@ -13,10 +13,10 @@ use Rattle.volume_laws.proofs.PlainBlocks.{sure_blocks}
 block_in-from : (block : ℕ → Block) (first n b : ℕ) → b < n →
     block_in (blocks_from block first n) b ≡ block (first + b)
 unfolding blocks_from
-block_in-from block first zero b below = absurd (omega (arith, below))
+block_in-from block first zero b below = absurd (omega arith)
 block_in-from block first (suc n) zero below = ap block (omega arith)
 block_in-from block first (suc n) (suc b) below =
-    block_in-from block (suc first) n b (omega (arith, below)) ∙ ap block (omega arith)
+    block_in-from block (suc first) n b (omega arith) ∙ ap block (omega arith)
 
 length-from : (block : ℕ → Block) (first n : ℕ) → length (blocks_from block first n) ≡ n
 unfolding blocks_from
@@ -34,9 +34,8 @@ atom_in : (map : Map) (atoms : ℕ) (bytes : List ℕ) (b : ℕ) → MapFits map
     length bytes ≡ atoms * map.atom → AreBytes bytes → b < map.blocks →
     AreBlocks map.atom 1 (block_at map.atom bytes (place_in map b))
 atom_in map atoms bytes b fits long are below =
-    let on = on_disk map atoms b 1 (side_in map b) fits (omega (arith, below)) in
     one_block map.atom atoms bytes (place_in map b) (record { size = long; are_bytes = are })
-    (omega (arith, on))
+    (omega (arith, on_disk map atoms b 1 (side_in map b) fits (omega arith)))
 
 pub volume_starts : {K : Type 0} (start : State K) (seals : Seals) (bytes : List ℕ) →
     IsSound start → IsFresh start → AreApart start.map → AreLawful start.map.atom seals →
@@ -59,13 +58,11 @@ volume_starts start seals bytes sound fresh apart lawful values long are =
             (lawful.keeps_opened (side_in start.map b) b 1 _ (atom b below));
       };
       sure = sure_blocks (opened_blocks start.map seals bytes)
-          (λ b below. ap (λ block. block.unsure)
-          (opened_in start.map seals bytes b (omega (arith, below, count))));
+          (λ b below. ap (λ block. block.unsure) (opened_in start.map seals bytes b (omega arith)));
       values = values;
       stands = λ b below. rw (opened_in start.map seals bytes b below) (
         lawful.keeps_opened (side_in start.map b) b 1 _ (atom b below),
-        sym
-            (lawful.seals_opened (side_in start.map b) b _ (atom b below)),
+        sym (lawful.seals_opened (side_in start.map b) b _ (atom b below)),
       );
     }
 
@@ -73,14 +70,12 @@ volume_starts start seals bytes sound fresh apart lawful values long are =
 pub one_value : (map : Map) (seals : Seals) (b : ℕ) (value other atom : List ℕ) →
     AreLawful map.atom seals → IsSealed map seals b value atom → IsSealed map seals b other atom →
     value ≡ other
-one_value map seals b value other atom lawful is also =
-    sym (lawful.opens_sealed (side_in map b) b value is.0)
-    ∙ ap (λ text. seals.opened (side_in map b) b text) (sym is.1 ∙ also.1)
+one_value map seals b value other atom lawful is also = sym (lawful.opens_sealed (side_in map b)
+    b value is.0) ∙ ap (λ text. seals.opened (side_in map b) b text) (sym is.1 ∙ also.1)
     ∙ lawful.opens_sealed (side_in map b) b other also.0
 
 pub one_content : (map : Map) (seals : Seals) (bytes : List ℕ) (one other : List Block) →
     AreLawful map.atom seals → StandsFor map seals one bytes → StandsFor map seals other bytes →
     (b : ℕ) → b < map.blocks → (block_in one b).newest ≡ (block_in other b).newest
-one_content map seals bytes one other lawful stands also b below =
-    one_value map seals b (block_in one b).newest (block_in other b).newest _ lawful
-    (stands b below) (also b below)
+one_content map seals bytes one other lawful stands also b below = one_value map seals
+    b (block_in one b).newest (block_in other b).newest _ lawful (stands b below) (also b below)

@@ -16,7 +16,7 @@ module _ {K : Type 0} {state : State K} (lane : ℕ) {o : Open} (sound : IsSound
   apart_live : ((work : Work) → state.work ≡ Some work → (working : HoldsZone state work)
       → lane ≢ working.lane) → AreLive state o
   apart_live differ b from to = record {
-    inside = (let inside = (sound.under_way lane o at).inside in omega (arith, inside, to));
+    inside = omega (arith, (sound.under_way lane o at).inside);
     free = λ governed. cases state.work refl governed;
   }
     where
@@ -24,27 +24,26 @@ module _ {K : Type 0} {state : State K} (lane : ℕ) {o : Open} (sound : IsSound
           → IsSomeAnd work (λ w. (w.range.start ≤ b) × (b < w.range.end)) → ⊥
       cases None is governed = absurd governed
       cases (Some work) is (zone_from, zone_to) =
-          let working = (works work is).held whole (omega (arith, zone_from, zone_to)) in
+          let working = (works work is).held whole (omega arith) in
           held_apart lane working.lane b sound (differ work is working) at has holds from to
           working.at working.writes working.holds (rw working.range zone_from)
           (rw working.range zone_to)
 
   -- a lane of a client
   pub client_live : suc lane < length state.lanes → AreLive state o
-  client_live client = apart_live (λ work is working same. omega (arith, client, working.last, same))
+  client_live client = apart_live (λ work is working same. omega arith)
 
   -- an operation that has come to its end
   pub ended_live : o.range.start < o.next → AreLive state o
   ended_live some = apart_live (λ work is working same.
-      let one : working.o ≡ o = (let w = working.at in cc) in
-      let next = subst (λ p. p.next ≡ p.range.start) one working.next in omega (arith, next, some))
+      let one : working.o ≡ o = (cc) in
+      omega (arith, subst (λ p. p.next ≡ p.range.start) one working.next))
 
 -- the zone at hand after an event of another lane
 pub works_stay : {K : Type 0} {old new : State K} → Stays old new
-    → (new.broken ≡ false → old.broken ≡ false) → length new.lanes ≡ length old.lanes →
-    ((lane : ℕ) → suc lane ≡ length old.lanes
-    → (open_at new.lanes lane ≡ open_at old.lanes lane) × (Holds old lane → Holds new lane))
-    → Works old → Works new
+    → (new.broken ≡ false → old.broken ≡ false) → length new.lanes ≡ length old.lanes
+    → ((lane : ℕ) → suc lane ≡ length old.lanes → (open_at new.lanes lane ≡ open_at old.lanes lane)
+    × (Holds old lane → Holds new lane)) → Works old → Works new
 works_stay stays unbroken count left works work is =
     let working = works work (sym stays.work ∙ is) in record {
       apart = working.apart;
@@ -83,8 +82,6 @@ zone_renewed {work = work} seals left next atom broken view working is newest sh
       saved = λ i below. refl;
     }) shows
   where
-    same : (i : ℕ) → i < work.zone.own.count
-        → (block_in next (work.range.start + i)).newest
+    same : (i : ℕ) → i < work.zone.own.count → (block_in next (work.range.start + i)).newest
         ≡ (block_in left (work.range.start + i)).newest
-    same i below = newest (work.range.start + i) (omega arith)
-        (rw is (omega arith, omega (arith, below, working.count)))
+    same i below = newest (work.range.start + i) (omega arith) (rw is (omega arith, omega arith))
