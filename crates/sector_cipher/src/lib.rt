@@ -23,5 +23,3 @@ mod disk;
 mod keys;
 mod many;
 mod spec;
-#[cfg(test)]
-mod tests;
