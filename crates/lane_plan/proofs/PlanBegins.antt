@@ -3,17 +3,16 @@ use Rattle.volume_machine.proofs.Common.{List, None, Some, [], ap, arith, false,
 use Rattle.volume_machine.proofs.Common.{sym, take, ℕ, ◌*◌, ◌+◌, ◌-◌, ◌<◌, ◌∙◌, ◌≡◌, ◌≤◌}
 use Rattle.volume_machine.proofs.Common.{le-max_right, take-take, Map, Op, Alone, alone_after}
 use Rattle.volume_machine.proofs.Common.{answered_alone, Answered, range_of, wrong_ask, Seals}
-use Rattle.volume_machine.proofs.Common.{begun, CanRead, CanWrite, Ask, Grant, Open, MeetsAlone}
+use Rattle.volume_machine.proofs.Common.{begun, CanRead, CanWrite, MeetsAlone}
+use Rattle.volume_machine.specs.declared.{ask.Ask.Ask, grant.Grant.Grant, open.Open.Open}
 use Rattle.lane_plan.specs.Calls.{ask_of, event_of, outcome_of}
 use Rattle.lane_plan.specs.Plans.{Awaits, Follows, Goes, HasRest, IsBack, IsGrantFor, IsShape}
 use Rattle.lane_plan.specs.Plans.{IsSupplied, IsTold, MayAnswer, asks, begins, bytes_of, calls_left}
 use Rattle.lane_plan.specs.Plans.{finishes, first_call, left_at, part_of, reads, refuses, settles}
 use Rattle.lane_plan.specs.Plans.{shape_of, writes}
-use Rattle.lane_plan.specs.declared.calls.Answer.{Answer}
-use Rattle.lane_plan.specs.declared.calls.Call.{Call}
-use Rattle.lane_plan.specs.declared.plan.Plan.{Plan}
-use Rattle.lane_plan.specs.declared.plan.Shape.{Shape}
 use Rattle.lane_plan.specs.declared.plan.Stage.TheVariants.{Beginning, Refusing, Waiting}
+use Rattle.lane_plan.specs.declared.{calls.Answer.Answer, calls.Call.Call, plan.Plan.Plan}
+use Rattle.lane_plan.specs.declared.{plan.Shape.Shape}
 use Rattle.lane_plan.proofs.PlanCourse.{none-yet, some-left}
 use Rattle.lane_plan.proofs.PlanSizes.{body-long, inside, ordered, size-none, some-atom}
 use Rattle.plain_disk.specs.declared.operation.Op.TheVariants as Ops

@@ -4,19 +4,19 @@ use Common.{List, [], ap, arith, drop, false, inl, inr, length, length-append, l
 use Common.{length-take-le, refl, subst, sym, take, true, ℕ, ◌*◌, ◌++◌, ◌+◌, ◌-◌, ◌<◌, ◌∙◌, ◌≡◌}
 use Common.{◌≤◌, ◌⊎◌, cases_lt, drop-append-le, nil_from_length, take-append-drop, take-append-le}
 use Common.{AreBytes, Map, Piece, Op, Alone, IsForced, IsRead, IsWrite, has_lock, IsPieceOf}
-use Common.{KeysFit, Seals, key_of, number_of, seals_of, CanSettle, Ask, Flush, Read, Write, Keys}
-use Common.{Open}
+use Common.{KeysFit, Seals, key_of, number_of, seals_of, CanSettle}
 use Rattle.std.proofs.Math.Seq.{take-add}
 use Rattle.cipher_laws.specs.Laws.{UndoesSectors}
 use Rattle.volume_machine.specs.Fronts.{Front}
+use Rattle.volume_machine.specs.declared.ask.Ask.TheVariants.{Flush, Read, Write}
+use Rattle.volume_machine.specs.declared.{ask.Ask.Ask, keys.Keys.Keys, open.Open.Open}
 use Rattle.volume_machine.proofs.KeyLemmas.{side-whole}
 use Rattle.lane_plan.specs.Calls.{ask_of}
 use Rattle.lane_plan.specs.Plans.{Awaits, HasPlain, HasRest, IsBack, IsOnly, IsPart, IsSealed}
 use Rattle.lane_plan.specs.Plans.{IsUnderWay, Moves, MustSettle, bytes_of, finishes, place_in}
 use Rattle.lane_plan.specs.Plans.{reads, settles, writes}
-use Rattle.lane_plan.specs.declared.plan.Plan.{Plan}
-use Rattle.lane_plan.specs.declared.plan.Shape.{Shape}
 use Rattle.lane_plan.specs.declared.plan.Stage.TheVariants.{Ending, Moving, Settling}
+use Rattle.lane_plan.specs.declared.{plan.Plan.Plan, plan.Shape.Shape}
 use Rattle.lane_plan.proofs.PlanSizes.{fits-part, rest-long, size-none, stays-within, total}
 use Rattle.plain_disk.specs.declared.operation.Op.TheVariants as Ops
 use Rattle.lane_plan.specs.declared.calls.Call.TheVariants as Calls

@@ -4,14 +4,16 @@ use Common.{Bool, List, None, Option, Some, [], ap, arith, false, if◌then◌el
 use Common.{refl, subst, sym, take, true, ℕ, ◌<◌, ◌∙◌, ◌∷◌, ◌≡◌, ◌≤◌, ◌⊎◌, Map, Op, Content, Done}
 use Common.{Errno, Alone, after_sync, settled_as, Answered, Asked, by_finish, by_settle}
 use Common.{flush_reply, full_reply, tried_by, has_lock, Outcome, broken, device, done, failing}
-use Common.{settling, Seals, after_settle, Ask, Flush, Read, Write, Open}
+use Common.{settling, Seals, after_settle}
 use Rattle.plain_disk.specs.declared.operation.Reply.{Reply}
+use Rattle.volume_machine.specs.declared.ask.Ask.TheVariants.{Flush, Read, Write}
+use Rattle.volume_machine.specs.declared.{ask.Ask.Ask, open.Open.Open}
+use Rattle.lane_plan.specs.Calls.{ask_of}
 use Rattle.lane_plan.specs.Plans.{Follows, Goes, HasPlain, IsAnswered, IsEnding, IsFailure, IsTold}
 use Rattle.lane_plan.specs.Plans.{IsUnderWay, begins, bytes_of, calls_left, finishes, left_at}
 use Rattle.lane_plan.specs.Plans.{reads, refuses, settles, writes}
-use Rattle.lane_plan.specs.{Calls.ask_of, declared.calls.Answer.Answer, declared.plan.Plan.Plan}
-use Rattle.lane_plan.specs.{declared.plan.Stage.Stage, declared.plan.Stage.TheVariants.Ending}
-use Rattle.lane_plan.specs.{declared.plan.Stage.TheVariants.Settling}
+use Rattle.lane_plan.specs.declared.{calls.Answer.Answer, plan.Plan.Plan, plan.Stage.Stage}
+use Rattle.lane_plan.specs.declared.{plan.Stage.TheVariants.Ending, plan.Stage.TheVariants.Settling}
 use Rattle.lane_plan.proofs.{PlanBegins.follows-call, PlanCourse.none-yet, PlanCourse.whole-size}
 use Rattle.lane_plan.proofs.{PlanMoves.mapped, PlanMoves.with-opened, PlanSizes.body-long}
 use Rattle.plain_disk.specs.declared.operation.Op.TheVariants as Ops

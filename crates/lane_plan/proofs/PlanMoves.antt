@@ -3,13 +3,14 @@ use Rattle.volume_machine.proofs.Common
 use Common.{List, Option, Some, ap, arith, inl, inr, length, length-append, length-take-le}
 use Common.{mul-le-mul_right, option_map, refl, subst, sym, take, ℕ, ◌*◌, ◌++◌, ◌+◌, ◌-◌, ◌/◌, ◌<◌}
 use Common.{◌^◌, ◌∙◌, ◌≡◌, ◌≤◌, mul-div_left, IsAtom, Side, Map, Piece, Op, Alone, opened_by}
-use Common.{passed, with_piece, IsRead, IsPieceOf, known_side, moved, KeysFit, Seals, Keys, Open}
+use Common.{passed, with_piece, IsRead, IsPieceOf, known_side, moved, KeysFit, Seals}
+use Rattle.volume_machine.specs.declared.{keys.Keys.Keys, open.Open.Open}
 use Rattle.volume_machine.proofs.KeyLemmas.{fewer-blocks}
+use Rattle.lane_plan.specs.Calls.{ask_of}
 use Rattle.lane_plan.specs.Plans.{HasPlace, HasPlain, HasRest, IsBack, IsOnly, IsPart, IsTakenIn}
 use Rattle.lane_plan.specs.Plans.{IsTold, Moves, bytes_of, calls_left, left_at, place_in, reads}
 use Rattle.lane_plan.specs.Plans.{writes}
-use Rattle.lane_plan.specs.{Calls.ask_of, declared.plan.Plan.Plan}
-use Rattle.lane_plan.specs.{declared.plan.Stage.TheVariants.Moving}
+use Rattle.lane_plan.specs.declared.{plan.Plan.Plan, plan.Stage.TheVariants.Moving}
 use Rattle.lane_plan.proofs.PlanBegins.{IsBackBy}
 use Rattle.lane_plan.proofs.PlanCourse.{all-bytes, ends-within, none-before, of-body, only-or-part}
 use Rattle.lane_plan.proofs.PlanSizes.{blocks-small, rest-long, size-more, some-atom}

@@ -1,10 +1,12 @@
 -- The sizes of operations, of their pieces, and of the buffers for them.
-use Rattle.volume_machine.proofs.Common
-use Common.{List, None, ap, arith, inl, inr, length, length-take, min, mul-le-mul_right, refl, suc}
-use Common.{take, ℕ, ◌*◌, ◌+◌, ◌-◌, ◌/◌, ◌<◌, ◌^◌, ◌≡◌, ◌≤◌, le-min, cases_lt, IsAtom, Map, Piece}
-use Common.{wrong_range_of, Op, range_of, wrong_ask, IsPieceOf, Ask, Flush, Read, Write, Open}
+use Rattle.volume_machine.proofs.Common.{List, None, ap, arith, inl, inr, length, length-take, min}
+use Rattle.volume_machine.proofs.Common.{mul-le-mul_right, refl, suc, take, ℕ, ◌*◌, ◌+◌, ◌-◌, ◌/◌}
+use Rattle.volume_machine.proofs.Common.{◌<◌, ◌^◌, ◌≡◌, ◌≤◌, le-min, cases_lt, IsAtom, Map, Piece}
+use Rattle.volume_machine.proofs.Common.{wrong_range_of, Op, range_of, wrong_ask, IsPieceOf}
 use Rattle.std.proofs.lemmas.Grind.{common_steps}
 use Rattle.plain_disk.proofs.RangeLemmas.{blocks_within, range_of_proper, whole_blocks}
+use Rattle.volume_machine.specs.declared.ask.Ask.TheVariants.{Flush, Read, Write}
+use Rattle.volume_machine.specs.declared.{ask.Ask.Ask, open.Open.Open}
 use Rattle.lane_plan.specs.Calls.{ask_of}
 use Rattle.lane_plan.specs.Plans.{HasRest, IsPart, bytes_of, part_of}
 use Rattle.plain_disk.specs.declared.operation.Op.TheVariants as Ops

@@ -1,9 +1,9 @@
 -- The steps of an admit.
-use Rattle.volume_machine.proofs.Common.{Bool, MatchBool, None, Option, Some, ap, false, refl, sym}
-use Rattle.volume_machine.proofs.Common.{true, ℕ, ◌∙◌, ◌≡◌, IsStanding, Standing, Held, entry_of}
-use Rattle.volume_machine.proofs.Common.{has_lock, range_of, wrong_ask, Outcome, admits, refused}
-use Rattle.volume_machine.proofs.Common.{State, begun, size_of, Goes, IsAdmitted, IsReadyFor}
-use Rattle.volume_machine.proofs.Common.{TellsStanding, Ask, Open, Step}
+use Rattle.volume_machine.proofs.Common
+use Common.{Bool, MatchBool, None, Option, Some, ap, false, refl, sym, true, ℕ, ◌∙◌, ◌≡◌}
+use Common.{IsStanding, Standing, Held, entry_of, has_lock, range_of, wrong_ask, Outcome, admits}
+use Common.{refused, State, begun, size_of, Goes, IsAdmitted, IsReadyFor, TellsStanding, Step}
+use Rattle.volume_machine.specs.declared.{ask.Ask.Ask, open.Open.Open}
 use Rattle.volume_core.specs.Calls.{Locks}
 use Rattle.volume_core.proofs.CodeSteps.{goes-to}
 

@@ -2,11 +2,12 @@
 use Rattle.volume_machine.proofs.Common
 use Common.{List, None, Option, [], false, refl, replicate, slice_get, subst, suc, sym, zero, ℕ}
 use Common.{◌++◌, ◌-◌, ◌<◌, ◌∙◌, ◌≡◌, ◌≢◌, length-replicate, sides, Side, New, Old, Zone, Map}
-use Common.{known_side, side_in, KeysFit, IsSound, MapFits, open_at, Keys, Open, count_locks}
+use Common.{known_side, side_in, KeysFit, IsSound, MapFits, open_at, count_locks}
 use Rattle.sector_disk.specs.Devices.{Device}
 use Rattle.range_lock.specs.Locks.{Locks}
 use Rattle.segment_map.specs.declared.Direction.{Direction}
 use Rattle.segment_map.specs.declared.Direction.TheVariants.{Backward, Forward}
+use Rattle.volume_machine.specs.declared.{keys.Keys.Keys, open.Open.Open}
 use Rattle.volume_core.specs.Volumes.{IsVolume, state_of}
 
 no_open : (n lane : ℕ) → open_at (replicate n None) lane ≡ None

@@ -3,7 +3,8 @@ use Rattle.volume_machine.proofs.Common.{List, Some, ap, arith, length, length-t
 use Rattle.volume_machine.proofs.Common.{ℕ, ◌||◌, ◌≡◌, ◌≤◌, Map, Piece, is_fault, Outcome, broken}
 use Rattle.volume_machine.proofs.Common.{device, done, got, reads, settles, writes, ArePieceBytes}
 use Rattle.volume_machine.proofs.Common.{IsPieceOf, rest_of, size_of_piece, State, open_at, CanRead}
-use Rattle.volume_machine.proofs.Common.{CanWrite, Goes, Meets, after_settle, Open, Can, Step}
+use Rattle.volume_machine.proofs.Common.{CanWrite, Goes, Meets, after_settle, Can, Step}
+use Rattle.volume_machine.specs.declared.open.Open.{Open}
 use Rattle.volume_machine.proofs.NextPieces.{next_is_one}
 use Rattle.volume_core.specs.Calls.{Reads, Syncs, Writes}
 use Rattle.volume_core.proofs.CodeSteps.{goes-to}

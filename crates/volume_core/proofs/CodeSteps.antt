@@ -3,8 +3,9 @@ use Rattle.volume_machine.proofs.Common.{before_first, Bool, List, None, Option,
 use Rattle.volume_machine.proofs.Common.{false, length, refl, suc, true, zero, ℕ, ◌<◌, ◌∙◌, ◌∷◌}
 use Rattle.volume_machine.proofs.Common.{◌≡◌, ◌≤◌, All-contains, Conflicts, IsStandingOf, has_entry}
 use Rattle.volume_machine.proofs.Common.{is_of, Entry, Held, entry_of, has_lock, Event, Outcome}
-use Rattle.volume_machine.proofs.Common.{IsSound, State, open_at, Goes, Meets, Keys, Open, Step}
+use Rattle.volume_machine.proofs.Common.{IsSound, State, open_at, Goes, Meets, Step}
 use Rattle.range_lock.specs.declared.Standing.TheVariants.{Waiting}
+use Rattle.volume_machine.specs.declared.{keys.Keys.Keys, open.Open.Open}
 use Rattle.volume_machine.proofs.Soundness.{free-room, has-entry, lacks-entry, sound_kept}
 use Rattle.volume_machine.proofs.{EventEffects.event_effects, Locking.holds-by}
 use Rattle.volume_core.specs.Volumes.{IsVolume}

@@ -1,5 +1,6 @@
 use Rattle.volume_machine.proofs.Common.{ap, arith, subst, seals_of}
-use Rattle.lane_plan.specs.{Plans.Awaits, declared.plan.Plan.Plan, declared.plan.Shape.Shape}
+use Rattle.lane_plan.specs.Plans.{Awaits}
+use Rattle.lane_plan.specs.declared.{plan.Plan.Plan, plan.Shape.Shape}
 use Rattle.lane_plan.proofs.PlanBegins.{goes-by, told-by}
 use Rattle.lane_plan.proofs.PlanMoves.{back-got, fewer-moved, got-here, has-place, safe, told-got}
 use Rattle.lane_plan.proofs.plan.Plan.got.Goals as goal
