@@ -14,8 +14,6 @@ use diffusion::put_chain;
 use pbkdf2_hmac::{Hash, xor_into};
 
 mod diffusion;
-#[cfg(test)]
-mod tests;
 
 /// The most bytes of a key.
 pub const MOST_BYTES: usize = 64;

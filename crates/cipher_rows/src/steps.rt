@@ -1,6 +1,7 @@
 // The steps of a row's words.
 
 use crate::ciphers::{Cipher, Way, in_parts, sector_of};
+use crate::derived::told_of_keys;
 use crate::keys::{counted, key_of, lengths_of, number, spec_of};
 use aes_core::Aes;
 use anyhow::{Result, anyhow};
@@ -80,6 +81,9 @@ impl Bench {
         if let Some(cipher) = cipher_of(alloc, words.as_slice())? {
             self.cipher = cipher;
             return self.sector(alloc);
+        }
+        if let Some(told) = told_of_keys(alloc, words.as_slice())? {
+            return Ok(told);
         }
         match words.as_slice() {
             ["lengths", name] => lengths_of(alloc, name),

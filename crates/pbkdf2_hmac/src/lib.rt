@@ -21,8 +21,6 @@ mod blocks;
 mod bytes;
 mod hasher;
 mod keyed;
-#[cfg(test)]
-mod tests;
 
 pub use bytes::xor_into;
 
