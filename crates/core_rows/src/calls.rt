@@ -33,7 +33,8 @@ fn ask_for(word: &str, offset: u64, length: u32) -> Result<Ask> {
     }
 }
 
-fn ask_of(words: &[&str]) -> Result<Ask> {
+/// What the words of an operation ask for.
+pub(crate) fn ask_of(words: &[&str]) -> Result<Ask> {
     match words {
         ["flush"] => Ok(Ask::Flush),
         [word, offset, length] => ask_for(word, number(offset)?, small(length)?),

@@ -1,8 +1,15 @@
-//! Rows on volumes, step by step, each with its outcome, in `data/volumes.rows`. A line is a step
-//! and its outcome, with a tab between them; a line that is empty or begins with `#` is none. A
-//! step acts on what the one before it left:
+//! Rows on disks in memory and volumes, step by step, each with its outcome, in the files of
+//! `data/`. A line is a step and its outcome, with a tab between them; a line that is empty or
+//! begins with `#` is none. A step acts on what the one before it left:
 //!
 //! - `disk ATOM ATOMS ROOM FAILS..` makes a disk in memory; its device calls of these numbers fail;
+//! - `plain_disk BLOCK BLOCKS` makes a plain disk in memory, which answers an ASK, with the byte of
+//!   a write behind it; `newest BLOCK` tells the value of a block, and `wrong SIZE ASK` the number
+//!   with which an operation is refused by a disk of so many bytes in blocks of 512;
+//! - `ram ATOM ATOMS` makes one that never fails;
+//! - `size`, `fill FIRST COUNT BYTE`, `ends`, `sync`, `mark NUMBER` and `faults` are the calls of
+//!   a disk, where `fill` writes a byte over and over, and `ends` tells the first and the last byte
+//!   of each atom; after `stop CALLS` those that come later fail;
 //! - `restart newest`, `restart oldest`, `restart pick NUMBERS..` stop a disk and take an image;
 //! - `holds AT SIDE SECTOR NUMBER BYTE` tells whether an atom holds so sealed a byte;
 //! - `plain LANES` makes a volume of a disk, `half DIRECTION ZONE OLD NEW SECTOR` one in the middle
@@ -11,6 +18,12 @@
 //!   the events of a lane, where ASK is `flush`, or `read`, `write` or `kept` with offset and
 //!   length in bytes; `Unmet` tells that a call's conditions aren't met;
 //! - `progress` and `map` tell of the volume;
+//! - `lane` makes a volume of a disk whose first lane executes operations one after the other:
+//!   an ASK, with the byte of a write behind it; `part` tells the length of its buffer for pieces;
+//! - `plan ASK` tells whether the plan of such an operation begins with its admit, and how long its
+//!   buffer for pieces is, on a volume of 4 MiB in blocks of 512 bytes;
+//! - `walk ATOM DIRECTION PAST` has a lane execute many operations on a volume in the middle of a
+//!   conversion, so many blocks past it, beside one plain disk;
 //! - `pieces DIRECTION ZONE START END` tells the pieces of these blocks of such a conversion, and
 //!   leaves nothing to act on;
 //! - `orders PLAN` has two lanes make their events in every order beside one plain disk, and tells
@@ -20,10 +33,14 @@
 #![tactic(auto)]
 
 mod calls;
+mod disks;
 mod events;
+mod lanes;
 mod orders;
+mod plain;
 mod sides;
 mod steps;
+mod walks;
 mod words;
 
 use anyhow::{Result, anyhow};
@@ -54,15 +71,17 @@ fn holds(rt: &HostRuntime, subject: &mut Subject, line: &str) -> Result<bool> {
 }
 
 fn main(rt: HostRuntime) -> Result<ExitCode> {
-    let text = fs::read_to_string(&rt, "volumes.rows")?;
     let mut subject = Subject::Nothing;
     let mut steps: u64 = 0;
     let mut failed: u64 = 0;
-    for line in text.as_str().lines() {
-        if !line.is_empty() && !line.starts_with('#') {
-            steps = steps.saturating_add(1);
-            if !holds(&rt, &mut subject, line)? {
-                failed = failed.saturating_add(1);
+    for name in ["plain.rows", "disks.rows", "volumes.rows", "lanes.rows"] {
+        let text = fs::read_to_string(&rt, name)?;
+        for line in text.as_str().lines() {
+            if !line.is_empty() && !line.starts_with('#') {
+                steps = steps.saturating_add(1);
+                if !holds(&rt, &mut subject, line)? {
+                    failed = failed.saturating_add(1);
+                }
             }
         }
     }

@@ -36,10 +36,12 @@ fn eight_blocks(atom: u32, direction: Direction, zone: u64) -> Map
 }
 
 /// Keys of XTS on both sides.
-fn xts_keys(old_tweak: u64, new_tweak: u64, sector: u32) -> Result<Keys<Context>>
+pub(crate) fn xts_keys(old_tweak: u64, new_tweak: u64, sector: u32) -> Result<Keys<Context>>
     requires sector { (sector ≡ 512) ⊎ (sector ≡ 4096) }
     requires old { old_tweak < 2 ^ 60 }
     requires new { new_tweak < 2 ^ 60 }
+    ensures old_tweak { IfOk result (λ keys. keys.old_tweak ≡ old_tweak) }
+    ensures new_tweak { IfOk result (λ keys. keys.new_tweak ≡ new_tweak) }
     ensures large { IfOk result (λ keys.
         KeysFit ⟦<Context as SectorCipher>⟧.sector keys 4096 8) }
     ensures small { IfOk result (λ keys. sector ≡ 512 →
@@ -59,7 +61,7 @@ fn xts_keys(old_tweak: u64, new_tweak: u64, sector: u32) -> Result<Keys<Context>
     })
 }
 
-fn direction_of(word: &str) -> Result<Direction> {
+pub(crate) fn direction_of(word: &str) -> Result<Direction> {
     match word {
         "forward" => Ok(Direction::Forward),
         "backward" => Ok(Direction::Backward),

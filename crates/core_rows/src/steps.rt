@@ -4,12 +4,17 @@ ghost use Rattle.std.specs.Prelude.{IfOk};
 ghost use Rattle.sector_disk.specs.Images.{IsChoice};
 
 use crate::calls::{Call, answer, call_of};
+use crate::disks::{new_ram, on_any};
+use crate::lanes::{Lane, on_lane, plain_lane, planned};
 use crate::orders::orders_served;
+use crate::plain::{new_plain, on_plain, refusal};
 use crate::sides::{half_converted, holds, pieces};
+use crate::walks::walked;
 use crate::words::{number, numbers, small};
 use anyhow::{Result, anyhow};
+use plain_disk::PlainDisk;
 use sector_cipher::Context;
-use sector_disk::{Choice, MemDisk};
+use sector_disk::{Choice, MemDisk, RamDisk};
 use std::alloc::Global;
 use volume_core::Volume;
 
@@ -17,8 +22,11 @@ use volume_core::Volume;
 #[derive(Drop)]
 pub(crate) enum Subject {
     Nothing,
+    Plain(PlainDisk),
+    Ram(RamDisk),
     Disk(MemDisk),
     Volume(Volume<MemDisk, Context>),
+    Lane(Lane<MemDisk>),
 }
 
 /// The outcome of a step that makes something.
@@ -35,13 +43,31 @@ pub(crate) fn perform(
     if let ["disk", words @ ..] = words {
         return made(alloc, Subject::Disk(new_disk(alloc, words)?));
     }
+    if let ["plain_disk", words @ ..] = words {
+        return made(alloc, Subject::Plain(new_plain(alloc, words)?));
+    }
+    if let ["ram", words @ ..] = words {
+        return made(alloc, Subject::Ram(new_ram(alloc, words)?));
+    }
     if let Some(told) = apart(alloc, words)? {
         return Ok((Subject::Nothing, told));
     }
     match subject {
         Subject::Nothing => Err(anyhow!("a step without a disk")),
+        Subject::Plain(mut disk) => {
+            let told = on_plain(alloc, &mut disk, words)?;
+            Ok((Subject::Plain(disk), told))
+        }
+        Subject::Ram(mut disk) => {
+            let told = on_any(alloc, &mut disk, words)?;
+            Ok((Subject::Ram(disk), told))
+        }
         Subject::Disk(disk) => on_disk(alloc, disk, words),
         Subject::Volume(volume) => on_volume(alloc, volume, words),
+        Subject::Lane(mut lane) => {
+            let told = on_lane(alloc, &mut lane, words)?;
+            Ok((Subject::Lane(lane), told))
+        }
     }
 }
 
@@ -49,6 +75,9 @@ pub(crate) fn perform(
 fn apart(alloc: Global, words: &[&str]) -> Result<Option<String>> {
     match words {
         ["pieces", words @ ..] => Ok(Some(pieces(alloc, words)?)),
+        ["wrong", words @ ..] => Ok(Some(refusal(alloc, words)?)),
+        ["plan", words @ ..] => Ok(Some(planned(alloc, words)?)),
+        ["walk", words @ ..] => Ok(Some(walked(alloc, words)?)),
         ["orders", plan] => {
             let served = orders_served(alloc, number(plan)? as usize)?;
             Ok(Some(format!(in alloc; "{served}")?))
@@ -65,7 +94,7 @@ fn new_disk(alloc: Global, words: &[&str]) -> Result<MemDisk> {
     let atoms = number(atoms)?;
     let room = number(room)?;
     let fails = numbers(alloc, fails)?;
-    if atoms > 1024 {
+    if atoms > 8192 {
         return Err(anyhow!("a disk of too many atoms"));
     }
     match *atom {
@@ -134,13 +163,25 @@ fn held(alloc: Global, disk: MemDisk, words: &[&str]) -> Result<(Subject, String
     Ok((Subject::Disk(disk), format!(in alloc; "{found}")?))
 }
 
+/// A call of a disk, or the number of calls after which all fail.
+fn called(alloc: Global, disk: MemDisk, words: &[&str]) -> Result<(Subject, String)> {
+    let mut disk = disk;
+    if let ["stop", calls] = words {
+        disk.stop_after(number(calls)?);
+        return made(alloc, Subject::Disk(disk));
+    }
+    let told = on_any(alloc, &mut disk, words)?;
+    Ok((Subject::Disk(disk), told))
+}
+
 fn on_disk(alloc: Global, disk: MemDisk, words: &[&str]) -> Result<(Subject, String)> {
     match words {
         ["plain", lanes] => made(alloc, Subject::Volume(plain(alloc, disk, lanes)?)),
+        ["lane"] => made(alloc, Subject::Lane(plain_lane(alloc, disk)?)),
         ["half", words @ ..] => half(alloc, disk, words),
         ["restart", words @ ..] => made(alloc, Subject::Disk(restarted(alloc, disk, words)?)),
         ["holds", words @ ..] => held(alloc, disk, words),
-        _ => Err(anyhow!("no such step on a disk")),
+        words => called(alloc, disk, words),
     }
 }
 

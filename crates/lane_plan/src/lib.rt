@@ -18,6 +18,3 @@ mod plan;
 
 pub use calls::{Answer, Call, Next};
 pub use plan::{Plan, Shape};
-
-#[cfg(test)]
-mod tests;

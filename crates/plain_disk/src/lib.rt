@@ -9,8 +9,6 @@
 
 mod operation;
 mod plain_disk;
-#[cfg(test)]
-mod tests;
 
 pub use operation::{MAX_READ, Op, Reply, wrong, wrong_range};
 pub use plain_disk::PlainDisk;

@@ -19,6 +19,3 @@ pub use device::Disk;
 pub use images::Choice;
 pub use mem_disk::MemDisk;
 pub use ram_disk::RamDisk;
-
-#[cfg(test)]
-mod tests;

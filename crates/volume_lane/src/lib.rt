@@ -9,6 +9,3 @@ mod executing;
 mod steps;
 
 pub use executing::execute;
-
-#[cfg(test)]
-mod tests;
