@@ -1,21 +1,38 @@
 //! Rows on the commands, each with its outcome, in the files of `data/`. A line is a row, with a
 //! tab between two columns; a line that is empty or begins with `#` is none. The first column says
-//! what is done:
+//! what is done, the second what comes of it:
 //!
 //! - `asks` reads words: what they ask for, or the refusal and the first line that a person is
 //!   told; then the words, with a space between two;
 //! - `run FAILS` runs a command on the disk `x` of 128 atoms of 512 bytes in memory: its status,
 //!   the lines that it prints and what is told of the header; then its words, and the copies at 0
 //!   and at 16384: `-` for none, or the file of its text, its number and the letter of its label.
-//!   Device calls of the numbers in FAILS, counted from 0, fail.
+//!   Device calls of the numbers in FAILS, counted from 0, fail;
+//! - `serves` runs a command for clients of the disk `x`: the status and its cause, the text that
+//!   is printed, the atoms of the disk that is handed back, and how each session of each link
+//!   ended. Then come its words; the disk's atoms of 512 bytes; the calls that fail, of the bay and
+//!   of each link, with a stroke between two; the bytes that the output takes; the most bytes that
+//!   come at once of a client, and those that it takes; and in turn what a client sends and what
+//!   its session is to put. Behind the length of the disk, and of the output, are their calls that
+//!   fail;
+//! - `walks` serves a client that sends 500 requests as they are drawn, beside a plain disk that
+//!   answers them: the words, the bytes of a block and the most that come at once, what the client
+//!   sends first, what it is to be put for it, and what it sends last.
+//!
+//! What is sent and put are messages of the file `messages`. A line of it is a name, the bytes in
+//! hexadecimal and how often they come, with a tab between.
 //!
 //! Prints each row with another outcome, and how many rows there are.
 #![tactic(auto)]
 
 mod asking;
+mod messages;
 mod running;
+mod serving;
+mod walking;
 
 use anyhow::{Result, anyhow};
+use messages::{Message, messages_of};
 use std::fs;
 use std::process::ExitCode;
 use std::sync::Wait;
@@ -25,22 +42,33 @@ use std::thread::Threads;
 fn outcome<W: Threads + Wait + Sync>(
     rt: &HostRuntime,
     threads: &W,
+    messages: &[Message],
     columns: &[&str],
 ) -> Result<String> {
-    match columns {
-        ["asks", _, line] => asking::asked(rt.alloc(), line),
-        [first, _, line, headers @ ..] => {
-            let disk = running::disk_of_row(rt, first, headers)?;
+    let [first, _, line, rest @ ..] = columns else {
+        return Err(anyhow!("a row of so many columns"));
+    };
+    match *first {
+        "asks" => asking::asked(rt.alloc(), line),
+        "serves" => serving::served(threads, rt.alloc(), messages, line, rest),
+        "walks" => walking::walked(threads, rt.alloc(), messages, line, rest),
+        run => {
+            let fails = run.strip_prefix("run").unwrap_or("no row");
+            let disk = running::disk_of_row(rt, fails, rest)?;
             running::ran(threads, rt.alloc(), line, disk)
         }
-        _ => Err(anyhow!("a row of so many columns")),
     }
 }
 
 /// Whether a row has its outcome.
-fn holds<W: Threads + Wait + Sync>(rt: &HostRuntime, threads: &W, line: &str) -> Result<bool> {
+fn holds<W: Threads + Wait + Sync>(
+    rt: &HostRuntime,
+    threads: &W,
+    messages: &[Message],
+    line: &str,
+) -> Result<bool> {
     let columns: Vec<&str> = line.split('\t').collect(rt.alloc())?;
-    let found = outcome(rt, threads, columns.as_slice())?;
+    let found = outcome(rt, threads, messages, columns.as_slice())?;
     let wanted = columns.get(1).copied().unwrap_or("");
     if found.as_str() != wanted {
         println!(rt; "{line}\n    has the outcome {found}")?;
@@ -49,14 +77,16 @@ fn holds<W: Threads + Wait + Sync>(rt: &HostRuntime, threads: &W, line: &str) ->
 }
 
 fn main(rt: HostRuntime) -> Result<ExitCode> {
+    let messages = fs::read_to_string(&rt, "messages")?;
+    let messages = messages_of(rt.alloc(), messages.as_str())?;
     let mut rows: u64 = 0;
     let mut failed: u64 = 0;
-    for name in ["words.rows", "status.rows"] {
+    for name in ["words.rows", "status.rows", "sessions.rows"] {
         let text = fs::read_to_string(&rt, name)?;
         for line in text.as_str().lines() {
             if !line.is_empty() && !line.starts_with('#') {
                 rows = rows.saturating_add(1);
-                if !holds(&rt, &rt, line)? {
+                if !holds(&rt, &rt, messages.as_slice(), line)? {
                     failed = failed.saturating_add(1);
                 }
             }

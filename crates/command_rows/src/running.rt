@@ -9,7 +9,7 @@ use crate::asking::words_of_row;
 use anyhow::{Context, Result, anyhow};
 use base_terms::zeros;
 use bays::{MemBay, MemLink};
-use io_edge::{FixedSeeds, ListSink, OpenGate};
+use io_edge::{FixedSeeds, ListSink, ListSource, OpenGate};
 use luks_bin::{BinHeader, is_header_size, write_copy};
 use reenc_tool::{Ended, FaultText, run};
 use sector_disk::{Disk, MemDisk};
@@ -18,16 +18,18 @@ use std::fs;
 use std::sync::Wait;
 use std::thread::Threads;
 
-/// The calls that are to fail: the numbers behind the first word of a row, and so many more.
-fn fails_of_row(alloc: Global, first: &str, more: u64) -> Result<Vec<u64>> {
-    let mut fails: Vec<u64> = Vec::new(alloc);
-    for word in first.split(' ').skip(1) {
-        match word.parse::<u64>() {
-            Ok(number) => fails.push(number.saturating_add(more))?,
-            Err(_) => return Err(anyhow!("{word} is no number")),
+/// The numbers of these words, and so much more.
+pub(crate) fn numbers_of(alloc: Global, words: &str, more: u64) -> Result<Vec<u64>> {
+    let mut numbers: Vec<u64> = Vec::new(alloc);
+    for word in words.split(' ') {
+        if !word.is_empty() {
+            match word.parse::<u64>() {
+                Ok(number) => numbers.push(number.saturating_add(more))?,
+                Err(_) => return Err(anyhow!("{word} is no number")),
+            }
         }
     }
-    Ok(fails)
+    Ok(numbers)
 }
 
 /// The header that a copy at a place tells, with a number and with a label of one letter.
@@ -107,34 +109,45 @@ fn put_copy(rt: &HostRuntime, disk: &mut MemDisk, column: &str, place: u64) -> R
     }
 }
 
-/// The disk of a row, with the copies that its columns tell.
-pub(crate) fn disk_of_row(rt: &HostRuntime, first: &str, headers: &[&str]) -> Result<MemDisk> {
+/// The disk of a row, whose calls of these numbers fail, with the copies that its columns tell.
+pub(crate) fn disk_of_row(rt: &HostRuntime, fails: &str, headers: &[&str]) -> Result<MemDisk> {
     if headers.len() > 2 {
         return Err(anyhow!("more than two copies"));
     }
     let primary = headers.first().copied().unwrap_or("-");
     let secondary = headers.get(1).copied().unwrap_or("-");
     let copies = u64::from(primary != "-") + u64::from(secondary != "-");
-    let fails = fails_of_row(rt.alloc(), first, copies)?;
+    let fails = numbers_of(rt.alloc(), fails, copies)?;
     let mut disk = MemDisk::new(rt.alloc(), 512, 128, 200, fails.as_slice())?;
     put_copy(rt, &mut disk, primary, 0)?;
     put_copy(rt, &mut disk, secondary, 16384)?;
     Ok(disk)
 }
 
-/// The bay of this disk, by the name of `x`, and of no clients at the address `A`.
-fn bay_of(alloc: Global, disk: MemDisk) -> Result<MemBay> {
+/// The bay of this disk, by the name of `x`, and of these clients at the address `A`. Its own calls
+/// of the first of these numbers fail, and those of each link of the others.
+pub(crate) fn bay_of(
+    alloc: Global,
+    disk: MemDisk,
+    clients: Vec<(ListSource, ListSink)>,
+    fails: Vec<Vec<u64>>,
+) -> Result<MemBay> {
     let mut disks = Vec::new(alloc);
     disks.push((String::from_str(alloc, "x")?, disk))?;
     let address = String::from_str(alloc, "A")?;
-    Ok(MemBay::new(
-        alloc,
-        disks,
-        Vec::new(alloc),
-        address,
-        Vec::new(alloc),
-        Vec::new(alloc),
-    ))
+    Ok(MemBay::new(alloc, disks, Vec::new(alloc), address, clients, fails))
+}
+
+/// Runs a command in a bay.
+pub(crate) fn run_in<'w>(
+    rt: &(impl Threads + Wait + Sync),
+    alloc: Global,
+    words: &'w [String],
+    bay: &mut MemBay,
+    out: &mut ListSink,
+) -> Result<Ended<'w, MemDisk, MemLink>> {
+    let mut seeds = FixedSeeds::new(alloc, &[0], &[])?;
+    Ok(run(rt, alloc, words, bay, &mut seeds, out, &OpenGate))
 }
 
 /// The status, the lines that were printed, and what is told of the header.
@@ -158,17 +171,8 @@ pub(crate) fn ran(
     disk: MemDisk,
 ) -> Result<String> {
     let words = words_of_row(alloc, line)?;
-    let mut bay = bay_of(alloc, disk)?;
+    let mut bay = bay_of(alloc, disk, Vec::new(alloc), Vec::new(alloc))?;
     let mut out = ListSink::new(alloc, 4096, &[])?;
-    let mut seeds = FixedSeeds::new(alloc, &[0], &[])?;
-    let ended = run(
-        rt,
-        alloc,
-        words.as_slice(),
-        &mut bay,
-        &mut seeds,
-        &mut out,
-        &OpenGate,
-    );
+    let ended = run_in(rt, alloc, words.as_slice(), &mut bay, &mut out)?;
     shown(alloc, &ended, &out)
 }

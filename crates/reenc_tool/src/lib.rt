@@ -10,8 +10,6 @@ mod ended;
 mod port;
 mod serving;
 mod showing;
-#[cfg(test)]
-mod tests;
 mod text;
 
 pub use bays::{Bay, BayFault, Link};

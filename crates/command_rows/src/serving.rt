@@ -1,0 +1,168 @@
+// Rows on commands that meet clients.
+
+use crate::asking::words_of_row;
+use crate::messages::{Message, bytes_of};
+use crate::running::{bay_of, numbers_of, run_in};
+use anyhow::{Result, anyhow};
+use bays::MemLink;
+use io_edge::{ListSink, ListSource};
+use reenc_tool::{Ended, SessionEnd};
+use sector_disk::{Disk, MemDisk};
+use std::alloc::Global;
+use std::sync::Wait;
+use std::thread::Threads;
+
+/// What a client sends, and what it is to be put.
+#[derive(Debug, Drop)]
+pub(crate) struct Client {
+    pub(crate) sent: Vec<u8>,
+    pub(crate) answers: Vec<u8>,
+}
+
+/// The clients of a row: what one sends and what it is to be put, in turn.
+fn clients_of(alloc: Global, messages: &[Message], columns: &[&str]) -> Result<Vec<Client>> {
+    let mut clients = Vec::new(alloc);
+    for pair in columns.chunks(2) {
+        let sent = pair.first().copied().unwrap_or("");
+        let answers = pair.get(1).copied().unwrap_or("");
+        clients.push(Client {
+            sent: bytes_of(alloc, messages, sent)?,
+            answers: bytes_of(alloc, messages, answers)?,
+        })?;
+    }
+    Ok(clients)
+}
+
+/// The connections of clients that send at most `piece` bytes at once and take `room` bytes.
+pub(crate) fn connections_of(
+    alloc: Global,
+    clients: &[Client],
+    piece: u64,
+    room: u64,
+) -> Result<Vec<(ListSource, ListSink)>> {
+    let mut connections = Vec::new(alloc);
+    for client in clients {
+        let source = ListSource::new(alloc, client.sent.as_slice(), piece.max(1) as usize, &[])?;
+        connections.push((source, ListSink::new(alloc, room as usize, &[])?))?;
+    }
+    Ok(connections)
+}
+
+/// The lists of calls that fail, with a stroke between two.
+fn lists_of(alloc: Global, column: &str) -> Result<Vec<Vec<u64>>> {
+    let mut lists = Vec::new(alloc);
+    for list in column.split('/') {
+        lists.push(numbers_of(alloc, list, 0)?)?;
+    }
+    Ok(lists)
+}
+
+/// A disk of so many atoms of 512 bytes, and its calls that fail.
+fn disk_of(alloc: Global, column: &str) -> Result<MemDisk> {
+    let numbers = numbers_of(alloc, column, 0)?;
+    let [atoms, fails @ ..] = numbers.as_slice() else {
+        return Err(anyhow!("a disk without a length"));
+    };
+    if *atoms > 16 {
+        return Err(anyhow!("a disk of {atoms} atoms"));
+    }
+    Ok(MemDisk::new(alloc, 512, *atoms, 100, fails)?)
+}
+
+/// An output that takes so many bytes, and its calls that fail.
+fn out_of(alloc: Global, column: &str) -> Result<ListSink> {
+    let numbers = numbers_of(alloc, column, 0)?;
+    let [room, fails @ ..] = numbers.as_slice() else {
+        return Err(anyhow!("an output without a length"));
+    };
+    Ok(ListSink::new(alloc, *room as usize, fails)?)
+}
+
+/// A session of a link as it ended, and what its client was put if that is something else than it
+/// is to be put.
+fn told_session(
+    alloc: Global,
+    end: &SessionEnd,
+    handed: Option<&(ListSource, ListSink)>,
+    clients: &[Client],
+) -> Result<String> {
+    let Some((_, sink)) = handed else {
+        return Err(anyhow!("a session whose connection wasn't handed back"));
+    };
+    let Some(client) = clients.get(end.number as usize) else {
+        return Err(anyhow!("a session of no client"));
+    };
+    if sink.as_slice() == client.answers.as_slice() {
+        return Ok(format!(in alloc; "{end:?}")?);
+    }
+    let put = hex::encode(alloc, sink.as_slice())?;
+    Ok(format!(in alloc; "{end:?} with {put}")?)
+}
+
+/// What was told before, and the sessions of a link, in their order.
+fn told_link(
+    alloc: Global,
+    before: &String,
+    link: &MemLink,
+    ends: &[SessionEnd],
+    clients: &[Client],
+) -> Result<String> {
+    let mut told = format!(in alloc; "{before}, link")?;
+    for (place, end) in ends.iter().enumerate() {
+        let session = told_session(alloc, end, link.handed().get(place), clients)?;
+        told = format!(in alloc; "{told} {session}")?;
+    }
+    Ok(told)
+}
+
+/// How a command ended, what it printed, the disk that it handed back, and each session.
+pub(crate) fn told(
+    alloc: Global,
+    ended: &Ended<'_, MemDisk, MemLink>,
+    out: &ListSink,
+    clients: &[Client],
+) -> Result<String> {
+    let Ok(text) = str::from_utf8(out.as_slice()) else {
+        return Err(anyhow!("no text is printed"));
+    };
+    let (status, cause) = (ended.status, ended.cause);
+    let wanted = if ended.memory { " wanting memory" } else { "" };
+    let atoms = match &ended.disk {
+        Some(disk) => Some(disk.atoms()),
+        None => None,
+    };
+    let mut told = format!(in alloc; "{status} {cause:?}{wanted} {text:?} {atoms:?}")?;
+    for (number, ends) in ended.sessions.as_slice().iter().enumerate() {
+        let Some(link) = ended.links.get(number) else {
+            return Err(anyhow!("sessions of no link"));
+        };
+        told = told_link(alloc, &told, link, ends.as_slice(), clients)?;
+    }
+    Ok(told)
+}
+
+/// What a command comes to whose bay is as these columns say: the disk, the calls that fail, the
+/// output, the bytes that a client sends at once and that it takes, and the clients.
+pub(crate) fn served(
+    rt: &(impl Threads + Wait + Sync),
+    alloc: Global,
+    messages: &[Message],
+    line: &str,
+    columns: &[&str],
+) -> Result<String> {
+    let [disk, fails, out, limits, clients @ ..] = columns else {
+        return Err(anyhow!("a bay of so many columns"));
+    };
+    let limits = numbers_of(alloc, limits, 0)?;
+    let [piece, room] = limits.as_slice() else {
+        return Err(anyhow!("clients have a piece and a room"));
+    };
+    let clients = clients_of(alloc, messages, clients)?;
+    let connections = connections_of(alloc, clients.as_slice(), *piece, *room)?;
+    let lists = lists_of(alloc, fails)?;
+    let mut bay = bay_of(alloc, disk_of(alloc, disk)?, connections, lists)?;
+    let mut out = out_of(alloc, out)?;
+    let words = words_of_row(alloc, line)?;
+    let ended = run_in(rt, alloc, words.as_slice(), &mut bay, &mut out)?;
+    told(alloc, &ended, &out, clients.as_slice())
+}
