@@ -1,26 +1,25 @@
 -- Runs in which no count of faults moves.
 use Rattle.volume_machine.proofs.Common
-use Common.{List, MatchBool, MatchOption, None, Option, Some, [], ap, arith, false, if◌then◌else◌}
+use Common.{Bool, List, MatchBool, MatchOption, None, Option, Some, [], arith, false, if◌then◌else◌}
 use Common.{inl, inr, length, length-append, refl, subst, sym, true, ℕ, ◌*◌, ◌++◌, ◌+◌, ◌-◌, ◌/◌}
-use Common.{◌<◌, ◌^◌, ◌∙◌, ◌∷◌, ◌≡◌, ◌≢◌, ◌⊎◌, either, same_or_not, Rose, without, Entry, Piece}
+use Common.{◌<◌, ◌^◌, ◌∙◌, ◌∷◌, ◌≡◌, ◌≢◌, ◌⊎◌, MatchBool-at_false, same_or_not, Rose, Entry, Piece}
 use Common.{wrong_of, Exchange, Content, Done, Errno, Answered, Asked, IsExchange, by_admit}
-use Common.{by_finish, by_settle, full_reply, refusal, IsRead, IsWrite, has_lock, range_of}
-use Common.{wrong_ask, IsFresh, Event, Outcome, admits, asks, broken, device, done, finishes, got}
-use Common.{reads, refused, settles, writes, ArePieceBytes, IsComplete, IsPieceOf, moved, settling}
-use Common.{side_in, Happening, after_read, after_write, no_plain, plain_piece, with_plain}
-use Common.{AreLawful, Seals, IsSound, State, begun, open_at, size_of, CanSettle, FinishStep, Goes}
-use Common.{IsAdmitted, Meets, ReadStep, SettleStep, WriteStep, after_settle, AreExchanges, IsRun}
-use Common.{answered_by, answered_in, last_of, plain_after, Can, Step}
+use Common.{by_finish, by_settle, full_reply, refusal, has_lock, range_of, wrong_ask, IsFresh}
+use Common.{Event, Outcome, admits, asks, broken, device, done, finishes, got, reads, refused}
+use Common.{settles, writes, ArePieceBytes, IsComplete, IsPieceOf, moved, settling, side_in}
+use Common.{Happening, after_read, after_write, no_plain, plain_piece, with_plain, AreLawful, Seals}
+use Common.{IsSound, State, begun, open_at, size_of, CanSettle, FinishStep, Goes, IsAdmitted, Meets}
+use Common.{ReadStep, SettleStep, WriteStep, AreExchanges, IsRun, answered_by, answered_in, last_of}
+use Common.{plain_after, Can, Step}
 use Rattle.plain_disk.specs.Outcomes.{AreServed, IsServed}
-use Rattle.volume_machine.specs.declared.ask.Ask.{Ask}
 use Rattle.volume_machine.specs.declared.ask.Ask.TheVariants.{Flush, Read, Write}
-use Rattle.volume_machine.specs.declared.open.Open.{Open}
-use Rattle.volume_machine.proofs.EventEffects.{event_effects}
-use Rattle.volume_machine.proofs.Soundness.{match_false, sound_kept}
+use Rattle.volume_machine.specs.declared.{ask.Ask.Ask, open.Open.Open}
+use Rattle.volume_machine.proofs.{EventEffects.event_effects, Soundness.sound_kept}
 use Rattle.volume_laws.specs.Executing.{ServesWithoutFaults}
 use Rattle.volume_laws.proofs.{Admits.plain-other, Admits.plain-own, Admits.unanswered}
 use Rattle.volume_laws.proofs.{Answering.read_whole, Answering.wrong_asked}
-use Rattle.volume_laws.proofs.{EventsServed.forced_locks, Faults.faults_run, Reading.piece_blocks}
+use Rattle.volume_laws.proofs.{EventsServed.forced_locks, Failures.settled_is, Faults.faults_run}
+use Rattle.volume_laws.proofs.{Reading.piece_blocks}
 
 -- a count that rose didn't stay below its last value
 rose_not : (before now : ℕ) → Rose before now → now ≡ before → before < 2 ^ 64 - 1 → ⊥
@@ -40,30 +39,33 @@ AreFull atom size [] = Unit {0}
 AreFull atom size (answered ∷ rest) = MatchOption (wrong_ask atom size answered.ask) (IsFull
     answered answered.ask) (λ number. answered.reply ≡ Errno number) × AreFull atom size rest
 
+-- a lane whose operation hasn't failed has had so much of it in plain
+abbrev HasHad : ℕ → List ℕ → Open → Type 0
+HasHad atom plain o = (o.failed ≡ false)
+    × (has_lock o.ask ≡ true → length plain ≡ (o.next - o.range.start) * atom)
+
 -- nothing has failed, and each operation knows what its pieces hold
 record IsFine {K : Type 0} (state : State K) (seals : Seals) (plain : ℕ → List ℕ) : Type 0 where
   sound : IsSound state
   lawful : AreLawful state.map.atom seals
   unbroken : state.broken ≡ false
-  lanes : (lane : ℕ) (o : Open) → open_at state.lanes lane ≡ Some o → (o.failed ≡ false)
-      × (has_lock o.ask ≡ true → length (plain lane) ≡ (o.next - o.range.start) * state.map.atom)
+  lanes : (lane : ℕ) (o : Open) → open_at state.lanes lane ≡ Some o →
+      HasHad state.map.atom (plain lane) o
 
-fine_after : {K : Type 0} (old new : State K) (seals : Seals) (plain now : ℕ
-    → List ℕ) (lane : ℕ) (entries : List Entry) (next : Option Open) → IsFine old seals plain
-    → IsSound new → Goes old new lane entries next false → ((k : ℕ) → k ≢ lane → now k ≡ plain k)
-    → ((o : Open) → next ≡ Some o → (o.failed ≡ false) × (has_lock o.ask ≡ true
-    → length (now lane) ≡ (o.next - o.range.start) * old.map.atom)) → IsFine new seals now
-fine_after old new seals plain now lane entries next fine sound goes known own = record {
+fine_after : {K : Type 0} {old new : State K} {seals : Seals} {plain now : ℕ
+    → List ℕ} {lane : ℕ} {entries : List Entry} {next : Option Open} {is_broken : Bool}
+    → IsFine old seals plain → IsSound new → Goes old new lane entries next is_broken
+    → is_broken ≡ false → ((k : ℕ) → k ≢ lane → now k ≡ plain k)
+    → ((o : Open) → next ≡ Some o → HasHad old.map.atom (now lane) o) → IsFine new seals now
+fine_after {old} {now = now} fine sound goes whole known own = record {
   sound = sound;
   lawful = rw goes.map fine.lawful;
-  unbroken = goes.broken_is;
-  lanes = λ k o is. elim (same_or_not k lane) [
-    | inl same ↦
-        let parts = own o (sym goes.lane_is.own ∙ ap (λ n. open_at new.lanes n) (sym same) ∙ is) in
-        (parts.0, λ has. rw (goes.map, same) (parts.1 has))
-    | inr other ↦ let parts = fine.lanes k o (sym (goes.lane_is.others k other) ∙ is) in
-        (parts.0, λ has. rw (goes.map, known k other) (parts.1 has))
-  ];
+  unbroken = goes.broken_is ∙ whole;
+  lanes = λ k o is. rw goes.map (elim (same_or_not k _) [
+    | inl same ↦ subst (λ n. HasHad old.map.atom (now n) o) (sym same)
+        (own o (sym goes.lane_is.own ∙ rw same at is))
+    | inr other ↦ rw (known k other) (fine.lanes k o (sym (goes.lane_is.others k other) ∙ is))
+  ]);
 }
 
 -- the moment after an event, and that what was answered is full
@@ -76,150 +78,107 @@ none_full : (atom size : ℕ) → AreFull atom size []
 unfolding AreFull
 none_full atom size = tt
 
-one_full : (atom size : ℕ) (answered : Answered)
-    → MatchOption (wrong_ask atom size answered.ask) (IsFull answered answered.ask)
-    (λ number. answered.reply ≡ Errno number) → AreFull atom size (answered ∷ [])
+one_full : (atom size : ℕ) (answered : Answered) → wrong_ask atom size answered.ask ≡ None →
+    IsFull answered answered.ask → AreFull atom size (answered ∷ [])
 unfolding AreFull
-one_full atom size answered is = (is, tt)
+one_full atom size answered proper full = (rw proper full, tt)
 
 wrong_full : (atom size session number : ℕ) (ask : Ask) → wrong_ask atom size ask ≡ Some number
     → AreFull atom size (refusal session ask number ∷ [])
-wrong_full atom size session number ask wrong =
-    one_full atom size (refusal session ask number) (rw wrong refl)
-
-proper_full : (atom size : ℕ) (answered : Answered) → wrong_ask atom size answered.ask ≡ None
-    → IsFull answered answered.ask → AreFull atom size (answered ∷ [])
-proper_full atom size answered proper full = one_full atom size answered (rw proper full)
+unfolding AreFull
+wrong_full atom size session number ask wrong = (rw wrong refl, tt)
 
 -- a settle
-ends_or_settled : (o p : Open) → after_settle o (settling o) ≡ Some p → p ≡ settling o
-ends_or_settled o p is = elim (either (has_lock o.ask)) [
-  | inl has ↦ let e : after_settle o (settling o) ≡ Some (settling o) = rw has refl in cc
-  | inr free ↦ absurd (let e : after_settle o (settling o) ≡ None = rw free refl in cc)
-]
-
 settle_full : {K : Type 0} (old : State K) (o : Open)
     → wrong_ask old.map.atom (size_of old.map) o.ask ≡ None → CanSettle o
     → AreFull old.map.atom (size_of old.map) (by_settle (Some o) done)
-settle_full old o proper (inl is) = subst (λ xs. AreFull old.map.atom (size_of old.map) xs)
-    (let e : record { session = o.session; ask = Flush; plain = []; reply = Done } ∷ []
-    ≡ by_settle (Some o) done = rw is refl in e) (proper_full old.map.atom (size_of old.map)
+settle_full old o proper (inl is) = rw is (one_full old.map.atom (size_of old.map)
     (record { session = o.session; ask = Flush; plain = []; reply = Done }) refl refl)
 settle_full old o proper (inr (forced, ended, unfailed, unsettled)) =
-    subst (λ xs. AreFull old.map.atom (size_of old.map) xs) (let e : [] ≡ by_settle (Some o) done =
-    rw (forced_locks o.ask forced) refl in e) (none_full old.map.atom (size_of old.map))
+    rw (forced_locks o.ask forced) (none_full old.map.atom (size_of old.map))
 
-module _ {K : Type 0} (old new : State K) (seals : Seals) (plain : ℕ → List ℕ) (lane : ℕ)
+module _ {K : Type 0} {old new : State K} {seals : Seals} {plain : ℕ → List ℕ} (lane : ℕ)
     (fine : IsFine old seals plain) (sound : IsSound new) where
-  -- a piece has its length in plain
-  piece_length : (o : Open) (piece : Piece) (bytes : List ℕ) → open_at old.lanes lane ≡ Some o
-      → has_lock o.ask ≡ true → IsPieceOf old.map o piece → ArePieceBytes old.map piece bytes
-      → length (with_plain plain lane (plain lane ++ plain_piece seals old lane bytes) lane)
-      ≡ ((moved o piece).next - o.range.start) * old.map.atom
-  piece_length o piece bytes at has next are =
-      let more = (piece_blocks o next fine.lawful are).size in
+  -- a piece was made
+  fine_moved : (o : Open) (piece : Piece) (bytes : List ℕ) → open_at old.lanes lane ≡ Some o →
+      IsPieceOf old.map o piece → ArePieceBytes old.map piece bytes →
+      Goes old new lane old.entries (Some (moved o piece)) false →
+      IsFine new seals (with_plain plain lane (plain lane ++ plain_piece seals old lane bytes))
+  fine_moved o piece bytes at next are goes =
+      let had = fine.lanes lane o at in
+      let now = plain lane ++ plain_piece seals old lane bytes in
       let opened : plain_piece seals old lane bytes
       ≡ seals.opened (side_in old.map o.next) o.next bytes = rw at refl in
       let count : (moved o piece).next - o.range.start ≡ (o.next - o.range.start) + piece.count =
       omega (arith, (fine.sound.under_way lane o at).begun) in
-      ap (λ xs. length xs) (plain-own plain lane (plain lane ++ plain_piece seals old lane bytes))
-      ∙ length-append (plain lane) (plain_piece seals old lane bytes)
-      ∙ rw (count, opened, (fine.lanes lane o at).1 has, more) (grind arith)
-
-  fine_read : (o : Open) (outcome : Outcome) → open_at old.lanes lane ≡ Some o → IsRead o.ask
-      → new.disk.faults ≡ old.disk.faults → old.disk.faults < 2 ^ 64 - 1
-      → ReadStep old lane o outcome new → IsFine new seals (after_read seals old lane outcome plain)
-  fine_read o (got bytes) at reading same below step = fine_after old new seals plain
-      (with_plain plain lane (plain lane ++ plain_piece seals old lane bytes)) lane old.entries
-      (Some (moved o step.piece)) fine sound step.goes (plain-other plain lane (plain lane
-      ++ plain_piece seals old lane bytes)) (λ p is. let e : p ≡ moved o step.piece = cc in
-      rw e (
-        (fine.lanes lane o at).0,
-        λ has. piece_length o step.piece bytes at has step.next step.are,
+      fine_after fine sound goes refl (plain-other plain lane now) (λ p is.
+      let e : p ≡ moved o piece = cc in rw (e, plain-own plain lane now) (
+        had.0,
+        λ has. length-append (plain lane) (plain_piece seals old lane bytes)
+            ∙ rw (count, opened, had.1 has, (piece_blocks o next fine.lawful are).size)
+            (grind arith),
       ))
-  fine_read o device at reading same below step =
-      absurd (rose_not old.disk.faults new.disk.faults (step.call.cause.failed refl) same below)
-  fine_read o broken at reading same below step = absurd (cc)
-  fine_read o _ at reading same below step = absurd step
 
-  fine_write : (o : Open) (bytes : List ℕ) (outcome : Outcome) → open_at old.lanes lane ≡ Some o
-      → IsWrite o.ask → new.disk.faults ≡ old.disk.faults → old.disk.faults < 2 ^ 64 - 1
-      → WriteStep old lane o bytes outcome new
-      → IsFine new seals (after_write seals old lane bytes outcome plain)
-  fine_write o bytes done at writing same below step = fine_after old new seals plain
-      (with_plain plain lane (plain lane ++ plain_piece seals old lane bytes)) lane old.entries
-      (Some (moved o step.piece)) fine sound step.goes (plain-other plain lane (plain lane
-      ++ plain_piece seals old lane bytes)) (λ p is. let e : p ≡ moved o step.piece = cc in
-      rw e (
-        (fine.lanes lane o at).0,
-        λ has. piece_length o step.piece bytes at has step.next step.are,
-      ))
-  fine_write o bytes device at writing same below step =
-      absurd (rose_not old.disk.faults new.disk.faults (step.call.cause.failed refl) same below)
-  fine_write o bytes broken at writing same below step = absurd (cc)
-  fine_write o bytes _ at writing same below step = absurd step
+  fine_read : (o : Open) (outcome : Outcome) → (Rose old.disk.faults new.disk.faults → ⊥) →
+      open_at old.lanes lane ≡ Some o → ReadStep old lane o outcome new →
+      IsFine new seals (after_read seals old lane outcome plain)
+  fine_read o (got bytes) calm at step =
+      fine_moved o step.piece bytes at step.next step.are step.goes
+  fine_read o device calm at step = absurd (calm (step.call.cause.failed refl))
+  fine_read o broken calm at step = absurd (cc)
+  fine_read o _ calm at step = absurd step
 
-  fine_settle : (o : Open) (outcome : Outcome) → open_at old.lanes lane ≡ Some o → CanSettle o
-      → new.disk.faults ≡ old.disk.faults → old.disk.faults < 2 ^ 64 - 1
-      → SettleStep old lane o outcome new
-      → FineAfter old new seals plain (by_settle (Some o) outcome)
-  fine_settle o done at can same below step = record {
-    fine = fine_after old new seals plain plain lane old.entries (after_settle o (settling o)) fine
-        sound step.goes (λ k other. refl)
-        (λ p is. rw (ends_or_settled o p is) (fine.lanes lane o at));
+  fine_write : (o : Open) (bytes : List ℕ) (outcome : Outcome) →
+      (Rose old.disk.faults new.disk.faults → ⊥) →
+      open_at old.lanes lane ≡ Some o → WriteStep old lane o bytes outcome new →
+      IsFine new seals (after_write seals old lane bytes outcome plain)
+  fine_write o bytes done calm at step =
+      fine_moved o step.piece bytes at step.next step.are step.goes
+  fine_write o bytes device calm at step = absurd (calm (step.call.cause.failed refl))
+  fine_write o bytes broken calm at step = absurd (cc)
+  fine_write o bytes _ calm at step = absurd step
+
+  fine_settle : (o : Open) (outcome : Outcome) → (Rose old.disk.faults new.disk.faults → ⊥) →
+      open_at old.lanes lane ≡ Some o → CanSettle o → SettleStep old lane o outcome new →
+      FineAfter old new seals plain (by_settle (Some o) outcome)
+  fine_settle o done calm at can step = record {
+    fine = fine_after fine sound step.goes refl (λ k other. refl)
+        (λ p is. rw (settled_is o (settling o) p is) (fine.lanes lane o at));
     full = settle_full old o (fine.sound.under_way lane o at).proper can;
   }
-  fine_settle o device at can same below step =
-      absurd (rose_not old.disk.faults new.disk.faults (step.call.cause.failed refl) same below)
-  fine_settle o broken at can same below step = absurd (cc)
-  fine_settle o _ at can same below step = absurd step
+  fine_settle o device calm at can step = absurd (calm (step.call.cause.failed refl))
+  fine_settle o broken calm at can step = absurd (cc)
+  fine_settle o _ calm at can step = absurd step
 
   -- an operation that ends
-  finish_full : (o : Open) (ask : Ask) → open_at old.lanes lane ≡ Some o
-      → o.ask ≡ ask → has_lock o.ask ≡ true → (o.failed ≡ true) ⊎ IsComplete o → IsFull (record {
+  finish_full : (o : Open) (ask : Ask) → open_at old.lanes lane ≡ Some o → o.ask ≡ ask →
+      has_lock o.ask ≡ true → (o.failed ≡ true) ⊎ IsComplete o → IsFull (record {
         session = o.session;
         ask = ask;
         plain = plain lane;
         reply = full_reply ask (plain lane);
       }) ask
-  finish_full o (Read offset len) at is has ended =
-      let parts = fine.lanes lane o at in let complete : IsComplete o = elim ended [
-        | inl failed ↦ absurd (let whole = parts.0 in cc)
-        | inr complete ↦ complete
-      ] in
+  finish_full o (Read offset len) at is has (inl failed) =
+      absurd (let whole = (fine.lanes lane o at).0 in cc)
+  finish_full o (Read offset len) at is has (inr complete) =
       let under_way = fine.sound.under_way lane o at in
-      let proper : wrong_ask old.map.atom (size_of old.map) (Read offset len) ≡ None =
-      subst (λ a. wrong_ask old.map.atom (size_of old.map) a ≡ None) is under_way.proper in
-      let range : o.range ≡ range_of old.map.atom (Read offset len) =
-      under_way.range_is ∙ ap (λ a. range_of old.map.atom a) is in
-      let start : o.range.start ≡ offset / old.map.atom = ap (λ r. r.start) range in
-      let end : o.range.end ≡ offset / old.map.atom + len / old.map.atom = ap (λ r. r.end) range in
-      let count : o.next - o.range.start ≡ len / old.map.atom = omega arith in (
-        refl,
-        parts.1 has ∙ ap (λ n. n * old.map.atom) count
-            ∙ (read_whole old.map.atom (size_of old.map) offset len fine.sound.fits.known proper).1,
-      )
+      let proper = rw is at under_way.proper in let range = rw is at under_way.range_is in
+      let start : o.range.start ≡ offset / old.map.atom = rw range refl in
+      let end : o.range.end ≡ offset / old.map.atom + len / old.map.atom = rw range refl in
+      let count : o.next - o.range.start ≡ len / old.map.atom = omega arith in
+      let whole =
+      read_whole old.map.atom (size_of old.map) offset len fine.sound.fits.known proper in
+      (refl, (fine.lanes lane o at).1 has ∙ rw count whole.1)
   finish_full o (Write offset len fua) at is has ended = refl
   finish_full o Flush at is has ended = refl
 
-  fine_finish : (o : Open) (outcome : Outcome) → open_at old.lanes lane ≡ Some o
-      → has_lock o.ask ≡ true → (o.failed ≡ true) ⊎ IsComplete o → FinishStep old lane outcome new
-      → FineAfter old new seals plain (by_finish (Some o) (plain lane))
+  fine_finish : (o : Open) (outcome : Outcome) → open_at old.lanes lane ≡ Some o →
+      has_lock o.ask ≡ true → (o.failed ≡ true) ⊎ IsComplete o → FinishStep old lane outcome new →
+      FineAfter old new seals plain (by_finish (Some o) (plain lane))
   fine_finish o outcome at has ended step = record {
-    fine = fine_after old new seals plain plain lane (without lane old.entries) None fine sound
-        (subst (λ b. Goes old new lane (without lane old.entries) None b) fine.unbroken step.goes)
-        (λ k other. refl) (λ p is. absurd (cc));
-    full = subst (λ b. AreFull old.map.atom (size_of old.map) (record {
-      session = o.session;
-      ask = o.ask;
-      plain = plain lane;
-      reply = if b then Errno 5 else full_reply o.ask (plain lane);
-    } ∷ [])) (sym (fine.lanes lane o at).0) (proper_full old.map.atom (size_of old.map) (record {
-      session = o.session;
-      ask = o.ask;
-      plain = plain lane;
-      reply = full_reply o.ask (plain lane);
-    }) (fine.sound.under_way lane o at).proper (finish_full o o.ask at refl has ended));
+    fine = fine_after fine sound step.goes fine.unbroken (λ k other. refl) (λ p is. absurd (cc));
+    full = rw (fine.lanes lane o at).0 (one_full old.map.atom (size_of old.map) _
+        (fine.sound.under_way lane o at).proper (finish_full o o.ask at refl has ended));
   }
 
   -- an operation that begins
@@ -229,10 +188,8 @@ module _ {K : Type 0} (old new : State K) (seals : Seals) (plain : ℕ → List 
     lawful = fine.lawful;
     unbroken = fine.unbroken;
     lanes = λ k o is. elim (same_or_not k lane) [
-      | inl same ↦ absurd (let at = ap (λ n. open_at old.lanes n) (sym same) ∙ is in cc)
-      | inr other ↦
-          let parts = fine.lanes k o is in
-          (parts.0, λ has. rw (plain-other plain lane [] k other) (parts.1 has))
+      | inl same ↦ absurd (let at = rw same at is in cc)
+      | inr other ↦ rw (plain-other plain lane [] k other) (fine.lanes k o is)
     ];
   }
 
@@ -242,72 +199,54 @@ module _ {K : Type 0} (old new : State K) (seals : Seals) (plain : ℕ → List 
       old lane session ask outcome new)) (λ number. (outcome ≡ refused number) × (new ≡ old))
       → FineAfter old new seals (with_plain plain lane []) (by_admit session ask outcome)
   fine_admit session ask outcome (Some number) is free step = record {
-    fine = subst (λ s. IsFine s seals (with_plain plain lane [])) (sym step.1) (fine_forgets free);
-    full = subst (λ o. AreFull old.map.atom (size_of old.map) (by_admit session ask o))
-        (sym step.0) (wrong_full old.map.atom (size_of old.map) session number ask is);
+    fine = rw step.1 (fine_forgets free);
+    full = rw step.0 (wrong_full old.map.atom (size_of old.map) session number ask is);
   }
   fine_admit session ask outcome None is free step =
-      let admitted = match_false old.broken ((outcome ≡ refused 5)
-      × (new ≡ old)) (IsAdmitted old lane session ask outcome new) fine.unbroken step in record {
-        fine = fine_after old new seals plain (with_plain plain lane [])
-            lane new.entries (Some (begun old.map.atom session ask)) fine sound
-            (subst (λ b. Goes old new lane new.entries (Some (begun old.map.atom session ask)) b)
-            fine.unbroken admitted.goes) (plain-other plain lane []) (λ o same. let e : o
-            ≡ begun old.map.atom session ask = cc in rw e (
+      let admitted = MatchBool-at_false _ _ fine.unbroken step in record {
+        fine = fine_after fine sound admitted.goes fine.unbroken (plain-other plain lane [])
+            (λ o same. let e : o ≡ begun old.map.atom session ask = cc in
+            rw (e, plain-own plain lane []) (
               refl,
-              λ has. ap (λ xs. length xs) (plain-own plain lane [])
-                  ∙ (let none : (range_of old.map.atom ask).start
-                  - (range_of old.map.atom ask).start ≡ 0 = omega arith in rw none (omega arith)),
+              λ has.
+                  let start = (range_of old.map.atom ask).start in
+                  let none : start - start ≡ 0 = omega arith in rw none (omega arith),
             ));
-        full = subst (λ xs. AreFull old.map.atom (size_of old.map) xs) (sym (unanswered admitted))
-            (none_full old.map.atom (size_of old.map));
+        full = rw (unanswered admitted) (none_full old.map.atom (size_of old.map));
       }
 
-fine_event : {K : Type 0} (old new : State K) (seals : Seals) (plain : ℕ → List ℕ) (event : Event)
-    (outcome : Outcome) → IsFine old seals plain → Meets old event → Step old event outcome new
-    → new.disk.faults ≡ old.disk.faults → old.disk.faults < 2 ^ 64 - 1 → FineAfter
+fine_event : {K : Type 0} {old new : State K} {seals : Seals} {plain : ℕ
+    → List ℕ} (event : Event) (outcome : Outcome) → IsFine old seals plain → Meets old event
+    → Step old event outcome new → (Rose old.disk.faults new.disk.faults → ⊥) → FineAfter
     old new seals (plain_after seals old event outcome plain) (answered_by old event outcome plain)
 unfolding Can Step answered_by plain_after
-fine_event old new seals plain (admits lane session ask) outcome fine meets step same below =
-    fine_admit old new seals plain lane fine (sound_kept old new (admits lane session ask)
-    outcome fine.sound meets step) session ask outcome _ refl meets.can step
-fine_event old new seals plain (asks lane) outcome fine meets step same below = record {
-  fine = subst (λ s. IsFine s seals plain) (sym step.1) fine;
-  full = none_full old.map.atom (size_of old.map);
-}
-fine_event old new seals plain (reads lane len) outcome fine meets (o, at, step) same below =
-    let (p, is, can) = meets.can.0 in let one : p ≡ o = cc in record {
-      fine = fine_read old new seals plain lane fine
-          (sound_kept old new (reads lane len) outcome fine.sound meets (o, at, step)) o outcome at
-          (subst (λ q. IsRead q.ask) one can.reads) same below step;
+fine_event {old} {new} (admits lane session ask) outcome fine meets step calm =
+    let sound = sound_kept old new (admits lane session ask) outcome fine.sound meets step in
+    fine_admit lane fine sound session ask outcome _ refl meets.can step
+fine_event {old} (asks lane) outcome fine meets step calm =
+    record { fine = rw step.1 fine; full = none_full old.map.atom (size_of old.map) }
+fine_event {old} {new} (reads lane len) outcome fine meets (o, at, step) calm =
+    let sound = sound_kept old new (reads lane len) outcome fine.sound meets (o, at, step) in
+    record {
+      fine = fine_read lane fine sound o outcome calm at step;
       full = none_full old.map.atom (size_of old.map);
     }
-fine_event old new seals plain (writes lane bytes) outcome fine meets (o, at, step) same below =
-    let (p, is, can) = meets.can.0 in let one : p ≡ o = cc in record {
-      fine = fine_write old new seals plain lane fine
-          (sound_kept old new (writes lane bytes) outcome fine.sound meets (o, at, step)) o bytes
-          outcome at (subst (λ q. IsWrite q.ask) one can.writes) same below step;
+fine_event {old} {new} (writes lane bytes) outcome fine meets (o, at, step) calm =
+    let sound = sound_kept old new (writes lane bytes) outcome fine.sound meets (o, at, step) in
+    record {
+      fine = fine_write lane fine sound o bytes outcome calm at step;
       full = none_full old.map.atom (size_of old.map);
     }
-fine_event old new seals plain (settles lane) outcome fine meets (o, at, step) same below =
+fine_event {old} {new} (settles lane) outcome fine meets (o, at, step) calm =
     let (p, is, can) = meets.can in let one : p ≡ o = cc in
-    let after =
-    fine_settle old new seals plain lane fine (sound_kept old new (settles lane) outcome fine.sound
-    meets (o, at, step)) o outcome at (subst (λ q. CanSettle q) one can) same below step in
-    record {
-      fine = after.fine;
-      full = subst (λ x. AreFull old.map.atom (size_of old.map) (by_settle x outcome))
-          (sym at) after.full;
-    }
-fine_event old new seals plain (finishes lane) outcome fine meets step same below =
+    let sound = sound_kept old new (settles lane) outcome fine.sound meets (o, at, step) in
+    let after = fine_settle lane fine sound o outcome calm at (rw one at can) step in
+    record { fine = after.fine; full = rw at after.full }
+fine_event {old} {new} (finishes lane) outcome fine meets step calm =
     let (o, at, can) = meets.can.0 in
-    let after = fine_finish old new seals plain lane fine (sound_kept
-    old new (finishes lane) outcome fine.sound meets step) o outcome at can.locks can.ends step in
-    record {
-      fine = after.fine;
-      full = subst (λ x. AreFull old.map.atom (size_of old.map) (by_finish x (plain lane)))
-          (sym at) after.full;
-    }
+    let sound = sound_kept old new (finishes lane) outcome fine.sound meets step in
+    let after = fine_finish lane fine sound o outcome at can.locks can.ends step in
+    record { fine = after.fine; full = rw at after.full }
 
 full_joined : (atom size : ℕ) (xs ys : List Answered) → AreFull atom size xs → AreFull atom size ys
     → AreFull atom size (xs ++ ys)
@@ -325,16 +264,16 @@ fine_run start seals plain [] fine is same below =
     (none_full start.map.atom (size_of start.map), fine.unbroken)
 fine_run start seals plain (one ∷ rest) fine (meets, step, is) same below =
     let goes = event_effects start one.after one.event one.outcome step in
-    let here : one.after.disk.faults ≡ start.disk.faults =
-    omega (arith, faults_run one.after rest is) in
-    let after =
-    fine_event start one.after seals plain one.event one.outcome fine meets step here below in
-    let later = fine_run one.after seals (plain_after seals start one.event one.outcome plain)
-    rest after.fine is (same ∙ sym here) (omega arith) in (
+    let later_faults = faults_run one.after rest is in
+    let here : one.after.disk.faults ≡ start.disk.faults = omega arith in
+    let after = fine_event one.event one.outcome fine meets step
+    (λ rose. rose_not start.disk.faults one.after.disk.faults rose here below) in
+    let next = plain_after seals start one.event one.outcome plain in
+    let later = fine_run one.after seals next rest after.fine is (same ∙ sym here) (omega arith) in
+    let full = subst (λ m. AreFull m.atom (size_of m) (answered_in seals one.after next rest))
+    goes.map later.0 in (
       full_joined start.map.atom (size_of start.map) (answered_by start one.event one.outcome plain)
-          (answered_in seals one.after (plain_after seals start one.event one.outcome plain) rest)
-          after.full (subst (λ m. AreFull m.atom (size_of m) (answered_in seals
-          one.after (plain_after seals start one.event one.outcome plain) rest)) goes.map later.0),
+          (answered_in seals one.after next rest) after.full full,
       later.1,
     )
 

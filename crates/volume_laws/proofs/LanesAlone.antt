@@ -1,24 +1,22 @@
 -- Lanes of a run, each by its own calls.
 use Rattle.volume_machine.proofs.Common
 use Common.{List, MatchBool, MatchOption, None, Option, Some, [], ap, append_assoc, arith, false}
-use Common.{if◌then◌else◌, inl, inr, length, nat_eq, option_map, refl, subst, suc, sym, true, ℕ}
-use Common.{◌*◌, ◌++◌, ◌<◌, ◌==◌, ◌∙◌, ◌∷◌, ◌≡◌, ◌≢◌, ◌≤◌, either, same_or_not, append-nil}
-use Common.{BlockRange, is_of, Map, Alone, Call, after_got, after_put, after_sync, alone_after}
-use Common.{answered_alone, granted_after, idle_lane, open_after, opened_by, plain_with, settled_as}
-use Common.{with_piece, answers, IsRead, IsWrite, entry_of, has_lock, wrong_ask, IsFresh, Event}
+use Common.{if◌then◌else◌, inl, inr, length, nat_eq, refl, subst, suc, sym, true, ℕ, ◌*◌, ◌++◌, ◌<◌}
+use Common.{◌==◌, ◌∙◌, ◌∷◌, ◌≡◌, ◌≢◌, ◌≤◌, MatchBool-at_false, MatchBool-at_true, either}
+use Common.{same_or_not, append-nil, is_of, Map, Alone, Call, after_got, after_put, after_sync}
+use Common.{alone_after, answered_alone, granted_after, idle_lane, open_after, opened_by}
+use Common.{plain_with, with_piece, answers, IsRead, IsWrite, entry_of, has_lock, IsFresh, Event}
 use Common.{Outcome, admits, asks, broken, device, done, finishes, got, held, lane_of, reads}
-use Common.{refused, settles, writes, AgreeOn, known_side, rest_of, Happening, no_plain}
-use Common.{plain_piece, with_plain, Seals, IsSound, IsClient, State, begun, open_at, size_of}
-use Common.{CanRead, CanWrite, Holds, IsAdmitted, Meets, AreMet, MeetsAlone, alone_of, answers_of}
-use Common.{IsRun, answered_by, last_of, plain_after, plain_in, Can, Step}
-use Rattle.volume_machine.specs.declared.ask.Ask.{Ask}
-use Rattle.volume_machine.specs.declared.ask.Ask.TheVariants.{Flush, Read, Write}
-use Rattle.volume_machine.specs.declared.grant.Grant.{Grant}
-use Rattle.volume_machine.specs.declared.open.Open.{Open}
+use Common.{refused, settles, writes, AgreeOn, rest_of, Happening, no_plain, plain_piece}
+use Common.{with_plain, Seals, IsSound, IsClient, State, begun, open_at, CanRead, CanWrite, Holds}
+use Common.{IsAdmitted, Meets, AreMet, MeetsAlone, alone_of, answers_of, IsRun, answered_by}
+use Common.{last_of, plain_after, plain_in, Can, Step}
+use Rattle.volume_machine.specs.declared.ask.Ask.TheVariants.{Read, Write}
+use Rattle.volume_machine.specs.declared.{ask.Ask.Ask, grant.Grant.Grant, open.Open.Open}
 use Rattle.volume_machine.proofs.EventEffects.{event_effects}
 use Rattle.volume_machine.proofs.Locking.{before-last, find-last, is_of-own}
 use Rattle.volume_machine.proofs.NextPieces.{agrees_itself, agrees_now, next_agrees}
-use Rattle.volume_machine.proofs.Soundness.{match_false, match_true, sound_kept}
+use Rattle.volume_machine.proofs.Soundness.{sound_kept}
 use Rattle.volume_laws.specs.Lanes.{AreAlone, AreMetByLanes, AreOfClients, AreSteps, IsLane}
 use Rattle.volume_laws.specs.Lanes.{alone_in, answered_under, call_of, own_calls}
 use Rattle.volume_laws.proofs.{Admits.plain-other, Admits.plain-own, Failures.settled_is}
@@ -29,182 +27,106 @@ record IsTold {K : Type 0} (old new : State K) (lane : ℕ) (ask : Ask) (grant :
   map : grant.map ≡ old.map
   holds : has_lock ask ≡ true → Holds new lane
 
-admit_told : {K : Type 0} (old new : State K) (lane session : ℕ) (ask : Ask) (grant : Grant) →
-    IsSound old → open_at old.lanes lane ≡ None →
-    IsAdmitted old lane session ask (held grant) new → IsTold old new lane ask grant
-admit_told old new lane session ask grant sound free is = elim (either (has_lock ask)) [
-  | inl has ↦
-      let enters = match_true (has_lock ask) _ _ has is.enters in
-      let none = sound.entries lane ∙ rw free refl in
-      let e = entry_of old.map.atom lane ask in
-      let own : is_of lane e ≡ true = is_of-own lane e refl in record {
-        map = enters.1.1.map;
-        holds = λ locks. rw (
-          enters.0,
-          find-last (is_of lane) old.entries e none own,
-          before-last (is_of lane) old.entries e none own,
-        ) enters.1.0;
-      }
-  | inr has_none ↦ let enters = match_false (has_lock ask) _ _ has_none is.enters in
-      record { map = enters.1.1.map; holds = λ locks. absurd (cc) }
-]
-
-held_admit : {K : Type 0} (old new : State K) (lane session : ℕ) (ask : Ask)
-    (grant : Grant) (wrong : Option ℕ) → wrong_ask old.map.atom (size_of old.map) ask ≡ wrong
-    → MatchOption wrong (MatchBool old.broken ((held grant ≡ refused 5) × (new ≡ old)) (IsAdmitted
-    old lane session ask (held grant) new)) (λ number. (held grant ≡ refused number) × (new ≡ old))
-    → IsAdmitted old lane session ask (held grant) new
-held_admit old new lane session ask grant (Some number) why step = absurd (cc)
-held_admit old new lane session ask grant None why step = elim (either old.broken) [
-  | inl was ↦ absurd (let no = (match_true old.broken _ _ was step).0 in cc)
-  | inr whole ↦ match_false old.broken _ _ whole step
-]
-
-admits_told : {K : Type 0} (old new : State K) (lane session : ℕ) (ask : Ask) (grant : Grant) →
-    IsSound old → open_at old.lanes lane ≡ None →
-    Step old (admits lane session ask) (held grant) new → IsTold old new lane ask grant
-unfolding Step
-admits_told old new lane session ask grant sound free step = admit_told old
-    new lane session ask grant sound free (held_admit old new lane session ask grant _ refl step)
-
 -- an operation that goes on asks for what it asked for, and has the blocks that it had
-record IsSameAsk (o next : Open) : Type 0 where
-  ask : next.ask ≡ o.ask
-  range : next.range ≡ o.range
+abbrev AsksSame : Open → Open → Type 0
+AsksSame o next = (next.ask ≡ o.ask) × (next.range ≡ o.range)
 
-got_same : (atom : ℕ) (outcome : Outcome) (o : Open) → IsSameAsk o (after_got atom outcome o)
-got_same atom (got sealed) o = record { ask = refl; range = refl }
-got_same atom device o = record { ask = refl; range = refl }
-got_same atom broken o = record { ask = refl; range = refl }
-got_same atom _ o = record { ask = refl; range = refl }
+got_same : (atom : ℕ) (outcome : Outcome) (o : Open) → AsksSame o (after_got atom outcome o)
+got_same atom device o = (refl, refl)
+got_same atom _ o = (refl, refl)
 
 put_same : (atom : ℕ) (sealed : List ℕ) (outcome : Outcome) (o : Open) →
-    IsSameAsk o (after_put atom sealed outcome o)
-put_same atom sealed done o = record { ask = refl; range = refl }
-put_same atom sealed device o = record { ask = refl; range = refl }
-put_same atom sealed broken o = record { ask = refl; range = refl }
-put_same atom sealed _ o = record { ask = refl; range = refl }
+    AsksSame o (after_put atom sealed outcome o)
+put_same atom sealed device o = (refl, refl)
+put_same atom sealed _ o = (refl, refl)
 
-sync_same : (outcome : Outcome) (o : Open) → IsSameAsk o (after_sync outcome o)
-sync_same done o = record { ask = refl; range = refl }
-sync_same device o = record { ask = refl; range = refl }
-sync_same broken o = record { ask = refl; range = refl }
-sync_same _ o = record { ask = refl; range = refl }
+sync_same : (outcome : Outcome) (o : Open) → AsksSame o (after_sync outcome o)
+sync_same device o = (refl, refl)
+sync_same _ o = (refl, refl)
 
 reads_lock : (ask : Ask) → IsRead ask → has_lock ask ≡ true
 reads_lock (Read offset len) is = refl
-reads_lock (Write offset len fua) is = absurd is
-reads_lock Flush is = absurd is
+reads_lock _ is = absurd is
 
 writes_lock : (ask : Ask) → IsWrite ask → has_lock ask ≡ true
-writes_lock (Read offset len) is = absurd is
 writes_lock (Write offset len fua) is = refl
-writes_lock Flush is = absurd is
+writes_lock _ is = absurd is
 
--- what a grant told of the operation's blocks goes on to hold
-still_agrees : {K : Type 0} (old : State K) (plain : ℕ → List ℕ) (lane : ℕ) (alone : Alone)
-    (map : Map) (o : Open) (f : Open → Open) → IsLane old plain lane alone →
-    ((q : Open) → IsSameAsk q (f q)) → alone.granted ≡ Some map → (now : Option Open) →
-    alone.operation ≡ now → option_map f now ≡ Some o → AgreeOn o.range map old.map
-still_agrees old plain lane alone map o f is same granted None at now = absurd (cc)
-still_agrees old plain lane alone map o f is same granted (Some q) at now =
-    let e : o ≡ f q = cc in
-    subst (λ r. AgreeOn r map old.map) (sym (ap (λ x. x.range) e ∙ (same q).range))
-    (is.map map q granted at)
+module _ {K : Type 0} {old new : State K} where
+  admit_told : {lane session : ℕ} {ask : Ask} {grant : Grant} → IsSound old →
+      open_at old.lanes lane ≡ None → IsAdmitted old lane session ask (held grant) new →
+      IsTold old new lane ask grant
+  admit_told {lane} {ask = ask} sound free is = elim (either (has_lock ask)) [
+    | inl has ↦
+        let enters = MatchBool-at_true _ _ has is.enters in
+        let none = sound.entries lane ∙ rw free refl in
+        let e = entry_of old.map.atom lane ask in let own = is_of-own lane e refl in
+        let before = before-last (is_of lane) old.entries e none own in
+        record {
+          map = enters.1.1.map;
+          holds = λ locks. rw (
+            enters.0,
+            find-last (is_of lane) old.entries e none own,
+            before,
+          ) enters.1.0;
+        }
+    | inr lockless ↦
+        let enters = MatchBool-at_false _ _ lockless is.enters in
+        record { map = enters.1.1.map; holds = λ locks. absurd (cc) }
+  ]
 
-told_agrees : (range : BlockRange) (map granted now : Map) → map ≡ granted → granted ≡ now →
-    AgreeOn range map now
-told_agrees range map granted now same is =
-    subst (λ m. AgreeOn range m now) (sym (same ∙ is)) (agrees_itself range now)
+  held_admit : {lane session : ℕ} {ask : Ask} {grant : Grant} (wrong : Option ℕ)
+      → MatchOption wrong (MatchBool old.broken ((held grant ≡ refused 5) × (new ≡ old))
+      (IsAdmitted old lane session ask (held grant) new)) (λ number. (held grant ≡ refused number)
+      × (new ≡ old)) → IsAdmitted old lane session ask (held grant) new
+  held_admit (Some number) step = absurd (cc)
+  held_admit None step = elim (either old.broken) [
+    | inl was ↦ absurd (let no = (MatchBool-at_true _ _ was step).0 in cc)
+    | inr whole ↦ MatchBool-at_false _ _ whole step
+  ]
 
--- the lane of an event is after it what it is by its own calls
-own_map : {K : Type 0} (old new : State K) (plain : ℕ → List ℕ) (event : Event) (outcome : Outcome)
-    (alone : Alone) (map : Map) (o : Open) → IsSound old → IsLane old plain (lane_of event) alone →
-    MeetsAlone alone event → Step old event outcome new →
-    granted_after event outcome alone.granted ≡ Some map →
-    open_after old.map.atom event outcome alone.operation ≡ Some o → AgreeOn o.range map old.map
-unfolding MeetsAlone Step
-own_map old new plain (admits lane session ask)
-    (held grant) alone map o sound is meets step granted now = told_agrees o.range map grant.map
-    old.map (cc) (admits_told old new lane session ask grant sound (is.operation ∙ meets) step).map
-own_map old new plain (admits lane session ask) _ alone map o sound is meets step granted now =
-    absurd (cc)
-own_map old new plain (asks lane) (held grant) alone map o sound is meets
-    ((q, at, tells), same) granted now = told_agrees o.range map grant.map old.map (cc) tells.1.map
-own_map old new plain (asks lane) _ alone map o sound is meets step granted now = absurd (cc)
-own_map old new plain (reads lane len) outcome alone map o sound is meets step granted now =
-    still_agrees old plain lane alone map o (after_got old.map.atom outcome) is
-    (got_same old.map.atom outcome) granted alone.operation refl now
-own_map old new plain (writes lane bytes) outcome alone map o sound is meets step granted now =
-    still_agrees old plain lane alone map o (after_put old.map.atom bytes outcome) is
-    (put_same old.map.atom bytes outcome) granted alone.operation refl now
-own_map old new plain (settles lane) outcome alone map o sound is meets step granted now =
-    settle_agrees alone.operation refl now
-  where
-    settle_agrees : (at : Option Open) → alone.operation ≡ at → settled_as outcome at ≡ Some o →
-        AgreeOn o.range map old.map
-    settle_agrees None is_at now_so = absurd (cc)
-    settle_agrees (Some q) is_at now_so =
-        let e : o ≡ after_sync outcome q = settled_is q (after_sync outcome q) o now_so in
-        subst (λ r. AgreeOn r map old.map) (sym (ap (λ x. x.range) e ∙ (sync_same outcome q).range))
-        (is.map map q granted is_at)
-own_map old new plain (finishes lane) outcome alone map o sound is meets step granted now =
-    absurd (cc)
+module _ {K : Type 0} (old new : State K) where
+  -- what an operation goes on to have, and to hold
+  still_has : {plain : ℕ → List ℕ} {lane : ℕ} {alone : Alone} {map : Map} {o q : Open} (f : Open
+      → Open) → IsLane old plain lane alone → alone.granted ≡ Some map
+      → alone.operation ≡ Some q → AsksSame q (f q) → o ≡ f q → new.entries ≡ old.entries
+      → AgreeOn o.range map old.map × (has_lock o.ask ≡ true → Holds new lane)
+  still_has {map = map} {q = q} f is granted at same now entries = (
+    rw (now, same.1) (is.map map q granted at),
+    λ has. rw entries (is.holds map q granted at (rw (now, same.0) at has)),
+  )
 
--- it holds what it held
-still_holds : {K : Type 0} (old new : State K) (plain : ℕ → List ℕ)
-    (event : Event) (outcome : Outcome) (alone : Alone) (map : Map) (o : Open) (f : Open → Open)
-    → IsLane old plain (lane_of event) alone → new.entries ≡ old.entries → ((q : Open)
-    → IsSameAsk q (f q)) → alone.granted ≡ Some map → (now : Option Open) → alone.operation ≡ now
-    → option_map f now ≡ Some o → has_lock o.ask ≡ true → Holds new (lane_of event)
-still_holds old new plain event outcome alone map o f is entries asks_so granted None at now has =
-    absurd (cc)
-still_holds old new plain event outcome alone map o f is entries asks_so granted
-    (Some q) at now has =
-    let e : o ≡ f q = cc in
-    let locks : has_lock q.ask ≡ true = ap (λ a. has_lock a) (sym (asks_so q).ask)
-    ∙ ap (λ x. has_lock x.ask) (sym e) ∙ has in
-    rw entries (is.holds map q granted at locks)
-
-own_holds : {K : Type 0} (old new : State K) (plain : ℕ
-    → List ℕ) (event : Event) (outcome : Outcome) (alone : Alone) (map : Map) (o : Open)
-    → IsSound old → IsLane old plain (lane_of event) alone → MeetsAlone alone event
-    → Step old event outcome new → granted_after event outcome alone.granted ≡ Some map
-    → open_after old.map.atom event outcome alone.operation ≡ Some o →
-    has_lock o.ask ≡ true → Holds new (lane_of event)
-unfolding MeetsAlone Step
-own_holds old new plain (admits lane session ask)
-    (held grant) alone map o sound is meets step granted now has =
-    let e : o ≡ begun old.map.atom session ask = cc in
-    (admits_told old new lane session ask grant sound (is.operation ∙ meets) step).holds
-    (ap (λ x. has_lock x.ask) (sym e) ∙ has)
-own_holds old new plain (admits lane session ask) _ alone map o sound is meets step granted now
-    has = absurd (cc)
-own_holds old new plain (asks lane) (held grant) alone map o sound is meets
-    ((q, at, tells), same) granted now has = subst (λ s. Holds s lane) (sym same) tells.0
-own_holds old new plain (asks lane) _ alone map o sound is meets step granted now has = absurd (cc)
-own_holds old new plain (reads lane len) outcome alone map o sound is meets step granted now has =
-    still_holds old new plain (reads lane len) outcome alone map o (after_got old.map.atom outcome)
-    is (event_effects old new (reads lane len) outcome step).entries_are
-    (got_same old.map.atom outcome) granted alone.operation refl now has
-own_holds old new plain (writes lane bytes) outcome alone map o sound
-    is meets step granted now has = still_holds old new plain (writes lane bytes) outcome alone map
-    o (after_put old.map.atom bytes outcome) is (event_effects old new (writes lane bytes) outcome
-    step).entries_are (put_same old.map.atom bytes outcome) granted alone.operation refl now has
-own_holds old new plain (settles lane) outcome alone map o sound is meets step granted now has =
-    settle_holds alone.operation refl now
-  where
-    settle_holds : (at : Option Open) → alone.operation ≡ at → settled_as outcome at ≡ Some o →
-        Holds new lane
-    settle_holds None is_at now_so = absurd (cc)
-    settle_holds (Some q) is_at now_so =
-        let e : o ≡ after_sync outcome q = settled_is q (after_sync outcome q) o now_so in
-        let locks : has_lock q.ask ≡ true = ap (λ a. has_lock a) (sym (sync_same outcome q).ask)
-        ∙ ap (λ x. has_lock x.ask) (sym e) ∙ has in
-        rw (event_effects old new (settles lane) outcome step).entries_are
-        (is.holds map q granted is_at locks)
-own_holds old new plain (finishes lane) outcome alone map o sound is meets step granted now has =
-    absurd (cc)
+  -- the lane of an event is after it what it is by its own calls
+  own_has : (plain : ℕ → List ℕ) (event : Event) (outcome : Outcome) (alone : Alone) (map : Map)
+      (o : Open) → IsSound old → IsLane old plain (lane_of event) alone → MeetsAlone alone event
+      → Step old event outcome new → granted_after event outcome alone.granted ≡ Some map
+      → open_after old.map.atom event outcome alone.operation ≡ Some o →
+      AgreeOn o.range map old.map × (has_lock o.ask ≡ true → Holds new (lane_of event))
+  unfolding MeetsAlone Step
+  own_has plain (admits lane session ask) (held grant) alone map o sound is free step granted now =
+      let told : IsTold old new lane ask grant =
+      admit_told sound (is.operation ∙ free) (held_admit _ step) in
+      let same : map ≡ old.map = cc (told.map) in
+      let e : o ≡ begun old.map.atom session ask = cc in
+      (rw same (agrees_itself o.range old.map), λ has. told.holds (rw e at has))
+  own_has plain (admits lane session ask) _ alone map o sound is free step granted now = absurd (cc)
+  own_has plain (asks lane) (held grant) alone map o sound is meets ((q, at, tells), same) granted
+      now =
+      let e : map ≡ old.map = cc (tells.1.map) in
+      (rw e (agrees_itself o.range old.map), λ has. rw same tells.0)
+  own_has plain (asks lane) _ alone map o sound is meets step granted now = absurd (cc)
+  own_has plain (reads lane len) outcome alone map o sound is (q, at, can) step granted now =
+      let e : o ≡ after_got old.map.atom outcome q = (let next = rw at at now in cc) in
+      still_has (after_got old.map.atom outcome) is granted at (got_same old.map.atom outcome q) e
+      (event_effects old new (reads lane len) outcome step).entries_are
+  own_has plain (writes lane bytes) outcome alone map o sound is (q, at, can) step granted now =
+      let e : o ≡ after_put old.map.atom bytes outcome q = (let next = rw at at now in cc) in
+      still_has (after_put old.map.atom bytes outcome) is granted at (put_same old.map.atom
+      bytes outcome q) e (event_effects old new (writes lane bytes) outcome step).entries_are
+  own_has plain (settles lane) outcome alone map o sound is (q, at, can) step granted now =
+      still_has (after_sync outcome) is granted at (sync_same outcome q) (settled_is q (after_sync
+      outcome q) o (rw at at now)) (event_effects old new (settles lane) outcome step).entries_are
+  own_has plain (finishes lane) outcome alone map o sound is meets step granted now = absurd (cc)
 
 -- what its pieces are in plain
 piece_plain : {K : Type 0} (seals : Seals) (old : State K) (plain : ℕ
@@ -214,13 +136,9 @@ piece_plain : {K : Type 0} (seals : Seals) (old : State K) (plain : ℕ
     ≡ with_piece seals alone sealed alone.granted
 piece_plain seals old plain lane alone map o sealed sound is granted at some =
     let begun = (sound.under_way lane o (is.operation ∙ at)).begun in
-    let side = (is.map map o granted at).sides o.next begun some in
     plain-own plain lane (plain lane ++ plain_piece seals old lane sealed)
-    ∙ ap (λ xs. xs ++ plain_piece seals old lane sealed) is.plain_is
-    ∙ ap (λ x. alone.plain ++ opened_by seals old.map x sealed) (is.operation ∙ at)
-    ∙ ap (λ s. alone.plain ++ seals.opened (known_side s) o.next sealed) (sym side)
-    ∙ ap (λ x. alone.plain ++ opened_by seals map x sealed) (sym at)
-    ∙ sym (ap (λ g. with_piece seals alone sealed g) granted)
+    ∙ rw (is.plain_is, is.operation, at, granted)
+    (rw ((is.map map o granted at).sides o.next begun some, opened_by) refl)
 
 own_plain : {K : Type 0} (seals : Seals) (old : State K) (plain : ℕ → List ℕ) (event : Event)
     (outcome : Outcome) (alone : Alone) → IsSound old → IsLane old plain (lane_of event) alone →
@@ -229,18 +147,16 @@ own_plain : {K : Type 0} (seals : Seals) (old : State K) (plain : ℕ → List �
 unfolding MeetsAlone plain_after
 own_plain seals old plain (admits lane session ask) outcome alone sound is meets =
     plain-own plain lane []
-own_plain seals old plain (asks lane) outcome alone sound is meets = is.plain_is
-own_plain seals old plain (reads lane len)
-    (got sealed) alone sound is (o, at, (map, granted, can)) =
+own_plain seals old plain (reads lane len) (got sealed) alone sound is
+    (o, at, (map, granted, can)) =
     piece_plain seals old plain lane alone map o sealed sound is granted at can.has.some
-own_plain seals old plain (reads lane len) _ alone sound is meets = is.plain_is
 own_plain seals old plain (writes lane sealed) done alone sound is (o, at, (map, granted, can)) =
     piece_plain seals old plain lane alone map o sealed sound is granted at can.has.some
 own_plain seals old plain (writes lane sealed) device alone sound is (o, at, (map, granted, can)) =
     piece_plain seals old plain lane alone map o sealed sound is granted at can.has.some
+own_plain seals old plain (reads lane len) _ alone sound is meets = is.plain_is
 own_plain seals old plain (writes lane sealed) _ alone sound is meets = is.plain_is
-own_plain seals old plain (settles lane) outcome alone sound is meets = is.plain_is
-own_plain seals old plain (finishes lane) outcome alone sound is meets = is.plain_is
+own_plain seals old plain _ outcome alone sound is meets = is.plain_is
 
 pub own_step : {K : Type 0} (seals : Seals) (old new : State K) (plain : ℕ → List ℕ) (event : Event)
     (outcome : Outcome) (alone : Alone) → IsSound old → IsLane old plain (lane_of event) alone →
@@ -252,9 +168,9 @@ own_step seals old new plain event outcome alone sound is meets step =
       operation = goes.lane_is.own ∙ ap (λ x. open_after old.map.atom event outcome x) is.operation;
       plain_is = own_plain seals old plain event outcome alone sound is meets;
       map = λ map o granted now. agrees_now o.range map old.map new.map goes.map
-          (own_map old new plain event outcome alone map o sound is meets step granted now);
-      holds = λ map o granted now has. own_holds old new plain event outcome alone map o sound is
-          meets step granted now has;
+          (own_has old new plain event outcome alone map o sound is meets step granted now).0;
+      holds = λ map o granted now.
+          (own_has old new plain event outcome alone map o sound is meets step granted now).1;
     }
 
 -- every other lane is what it was
@@ -264,17 +180,15 @@ other_plain : {K : Type 0} (seals : Seals) (old : State K) (plain : ℕ → List
 unfolding plain_after
 other_plain seals old plain (admits own session ask) outcome lane differ =
     plain-other plain own [] lane differ
-other_plain seals old plain (asks own) outcome lane differ = refl
 other_plain seals old plain (reads own len) (got sealed) lane differ =
     plain-other plain own _ lane differ
-other_plain seals old plain (reads own len) _ lane differ = refl
 other_plain seals old plain (writes own sealed) done lane differ =
     plain-other plain own _ lane differ
 other_plain seals old plain (writes own sealed) device lane differ =
     plain-other plain own _ lane differ
+other_plain seals old plain (reads own len) _ lane differ = refl
 other_plain seals old plain (writes own sealed) _ lane differ = refl
-other_plain seals old plain (settles own) outcome lane differ = refl
-other_plain seals old plain (finishes own) outcome lane differ = refl
+other_plain seals old plain _ outcome lane differ = refl
 
 other_step : {K : Type 0} (seals : Seals) (old new : State K) (plain : ℕ → List ℕ) (event : Event)
     (outcome : Outcome) (lane : ℕ) (alone : Alone) → lane ≢ lane_of event →
@@ -290,28 +204,28 @@ other_step seals old new plain event outcome lane alone differ is step =
     }
 
 -- what the map of a grant lets a lane read and write the state's map does
-can_read : (one other : Map) (len : ℕ) (o : Open) → AgreeOn o.range one other →
-    o.range.start ≤ o.next → CanRead one len o → CanRead other len o
-can_read one other len o agree begun can = record {
-  reads = can.reads;
-  has = can.has;
-  piece = can.piece;
-  next = next_agrees one other (rest_of o) o.range can.piece agree begun (omega arith) can.next;
-  size = can.size ∙ ap (λ a. can.piece.count * a) agree.atom;
-}
+module _ {one other : Map} {o : Open} (agree : AgreeOn o.range one other)
+    (begun : o.range.start ≤ o.next) where
+  can_read : {len : ℕ} → CanRead one len o → CanRead other len o
+  can_read can = record {
+    reads = can.reads;
+    has = can.has;
+    piece = can.piece;
+    next = next_agrees one other (rest_of o) o.range can.piece agree begun (omega arith) can.next;
+    size = can.size ∙ ap (λ a. can.piece.count * a) agree.atom;
+  }
 
-can_write : (one other : Map) (bytes : List ℕ) (o : Open) → AgreeOn o.range one other →
-    o.range.start ≤ o.next → CanWrite one bytes o → CanWrite other bytes o
-can_write one other bytes o agree begun can = record {
-  writes = can.writes;
-  has = can.has;
-  piece = can.piece;
-  next = next_agrees one other (rest_of o) o.range can.piece agree begun (omega arith) can.next;
-  are = record {
-    size = can.are.size ∙ ap (λ a. can.piece.count * a) agree.atom;
-    are_bytes = can.are.are_bytes;
-  };
-}
+  can_write : {bytes : List ℕ} → CanWrite one bytes o → CanWrite other bytes o
+  can_write can = record {
+    writes = can.writes;
+    has = can.has;
+    piece = can.piece;
+    next = next_agrees one other (rest_of o) o.range can.piece agree begun (omega arith) can.next;
+    are = record {
+      size = can.are.size ∙ ap (λ a. can.piece.count * a) agree.atom;
+      are_bytes = can.are.are_bytes;
+    };
+  }
 
 -- conditions by own calls are conditions of the state
 can_by : {K : Type 0} (state : State K) (plain : ℕ → List ℕ) (event : Event) (alone : Alone) →
@@ -320,24 +234,14 @@ can_by : {K : Type 0} (state : State K) (plain : ℕ → List ℕ) (event : Even
 unfolding MeetsAlone Can
 can_by state plain (admits lane session ask) alone sound is meets = is.operation ∙ meets
 can_by state plain (asks lane) alone sound is (o, at, has) = (o, is.operation ∙ at, has)
-can_by state plain (reads lane len) alone sound is (o, at, (map, granted, can)) = (
-  (
-    o,
-    is.operation ∙ at,
-    can_read map state.map len o (is.map map o granted at)
-        (sound.under_way lane o (is.operation ∙ at)).begun can,
-  ),
-  is.holds map o granted at (reads_lock o.ask can.reads),
-)
-can_by state plain (writes lane bytes) alone sound is (o, at, (map, granted, can)) = (
-  (
-    o,
-    is.operation ∙ at,
-    can_write map state.map bytes o (is.map map o granted at)
-        (sound.under_way lane o (is.operation ∙ at)).begun can,
-  ),
-  is.holds map o granted at (writes_lock o.ask can.writes),
-)
+can_by state plain (reads lane len) alone sound is (o, at, (map, granted, can)) =
+    let begun = (sound.under_way lane o (is.operation ∙ at)).begun in
+    let can_now = can_read (is.map map o granted at) begun can in
+    ((o, is.operation ∙ at, can_now), is.holds map o granted at (reads_lock o.ask can.reads))
+can_by state plain (writes lane bytes) alone sound is (o, at, (map, granted, can)) =
+    let begun = (sound.under_way lane o (is.operation ∙ at)).begun in
+    let can_now = can_write (is.map map o granted at) begun can in
+    ((o, is.operation ∙ at, can_now), is.holds map o granted at (writes_lock o.ask can.writes))
 can_by state plain (settles lane) alone sound is (o, at, can) = (o, is.operation ∙ at, can)
 can_by state plain (finishes lane) alone sound is (o, at, (map, granted, can)) =
     ((o, is.operation ∙ at, can), is.holds map o granted at can.locks)
@@ -349,47 +253,37 @@ meets_by state plain event alone sound is client meets =
     record { client = client; can = can_by state plain event alone sound is meets }
 
 -- lists of own calls, one after the other
-alone-joined : (atom : ℕ) (seals : Seals) (alone : Alone) (xs ys : List Call) →
-    alone_of atom seals alone (xs ++ ys) ≡ alone_of atom seals (alone_of atom seals alone xs) ys
-unfolding alone_of
-alone-joined atom seals alone [] ys = refl
-alone-joined atom seals alone (x ∷ xs) ys =
-    alone-joined atom seals (alone_after atom seals alone x.event x.outcome) xs ys
+module _ (atom : ℕ) (seals : Seals) where
+  alone-joined : (alone : Alone) (xs ys : List Call) → alone_of atom seals alone (xs ++ ys)
+      ≡ alone_of atom seals (alone_of atom seals alone xs) ys
+  unfolding alone_of
+  alone-joined alone [] ys = refl
+  alone-joined alone (x ∷ xs) ys =
+      alone-joined (alone_after atom seals alone x.event x.outcome) xs ys
 
-answers-joined : (atom : ℕ) (seals : Seals) (alone : Alone) (xs ys : List Call) →
-    answers_of atom seals alone (xs ++ ys) ≡ answers_of atom seals alone xs ++ answers_of atom seals
-    (alone_of atom seals alone xs) ys
-unfolding alone_of answers_of
-answers-joined atom seals alone [] ys = refl
-answers-joined atom seals alone (x ∷ xs) ys =
-    let next = alone_after atom seals alone x.event x.outcome in
-    ap (λ rest. answered_alone alone x.event x.outcome ++ rest) (answers-joined
-    atom seals next xs ys) ∙ sym (append_assoc (answered_alone alone x.event x.outcome)
-    (answers_of atom seals next xs) (answers_of atom seals (alone_of atom seals next xs) ys))
+  answers-joined : (alone : Alone) (xs ys : List Call) → answers_of atom seals alone (xs ++ ys)
+      ≡ answers_of atom seals alone xs ++ answers_of atom seals (alone_of atom seals alone xs) ys
+  unfolding alone_of answers_of
+  answers-joined alone [] ys = refl
+  answers-joined alone (x ∷ xs) ys =
+      let next = alone_after atom seals alone x.event x.outcome in
+      rw (answers-joined next xs ys) (sym (append_assoc (answered_alone alone x.event x.outcome)
+      (answers_of atom seals next xs) (answers_of atom seals (alone_of atom seals next xs) ys)))
 
-met-parts : (atom : ℕ) (seals : Seals) (alone : Alone) (xs ys : List Call) →
-    AreMet atom seals alone (xs ++ ys) →
-    AreMet atom seals alone xs × AreMet atom seals (alone_of atom seals alone xs) ys
-unfolding AreMet alone_of
-met-parts atom seals alone [] ys met = (tt, met)
-met-parts atom seals alone (x ∷ xs) ys met =
-    let parts = met-parts atom seals
-    (alone_after atom seals alone x.event x.outcome) xs ys met.1 in ((met.0, parts.0), parts.1)
+  met-parts : (alone : Alone) (xs ys : List Call) → AreMet atom seals alone (xs ++ ys) →
+      AreMet atom seals alone xs × AreMet atom seals (alone_of atom seals alone xs) ys
+  unfolding AreMet alone_of
+  met-parts alone [] ys met = (tt, met)
+  met-parts alone (x ∷ xs) ys met =
+      let parts = met-parts (alone_after atom seals alone x.event x.outcome) xs ys met.1 in
+      ((met.0, parts.0), parts.1)
 
-met-joined : (atom : ℕ) (seals : Seals) (alone : Alone) (xs ys : List Call) →
-    AreMet atom seals alone xs → AreMet atom seals (alone_of atom seals alone xs) ys →
-    AreMet atom seals alone (xs ++ ys)
-unfolding AreMet alone_of
-met-joined atom seals alone [] ys first rest = rest
-met-joined atom seals alone (x ∷ xs) ys first rest = (
-  first.0,
-  met-joined atom seals (alone_after atom seals alone x.event x.outcome) xs ys first.1 rest,
-)
-
-met_one : (atom : ℕ) (seals : Seals) (alone : Alone) (one : Call) (rest : List Call) →
-    AreMet atom seals alone (one ∷ rest) → MeetsAlone alone one.event
-unfolding AreMet
-met_one atom seals alone one rest met = met.0
+  met-joined : (alone : Alone) (xs ys : List Call) → AreMet atom seals alone xs →
+      AreMet atom seals (alone_of atom seals alone xs) ys → AreMet atom seals alone (xs ++ ys)
+  unfolding AreMet alone_of
+  met-joined alone [] ys first rest = rest
+  met-joined alone (x ∷ xs) ys first rest =
+      (first.0, met-joined (alone_after atom seals alone x.event x.outcome) xs ys first.1 rest)
 
 -- one event among a lane's own calls
 call-own : {K : Type 0} (one : Happening K) →
@@ -398,52 +292,37 @@ call-own one = let own : nat_eq (lane_of one.event) (lane_of one.event) ≡ true
     rw own refl
 
 not-own : (own lane : ℕ) → own ≢ lane → nat_eq own lane ≡ false
-not-own own lane differ = elim (either (nat_eq own lane)) [
-  | inl same ↦ absurd (differ (grind (arith, same)))
-  | inr other ↦ other
-]
+not-own own lane differ = grind arith
 
 call-other : {K : Type 0} (lane : ℕ) (one : Happening K) → lane_of one.event ≢ lane →
     call_of lane one ≡ []
 call-other lane one differ = rw (not-own (lane_of one.event) lane differ) refl
 
 -- each lane after one event
-lane_step : {K : Type 0} (seals : Seals) (old : State K) (plain : ℕ → List ℕ) (one : Happening K)
-    (alone : ℕ → Alone) (lane : ℕ) → IsSound old → ((k : ℕ) → IsLane old plain k (alone k)) →
-    MeetsAlone (alone (lane_of one.event)) one.event → Step old one.event one.outcome one.after →
-    IsLane one.after (plain_after seals old one.event one.outcome plain) lane
-    (alone_of old.map.atom seals (alone lane) (call_of lane one))
-unfolding alone_of
-lane_step seals old plain one alone lane sound are meets step =
-    elim (same_or_not (lane_of one.event) lane) [
-      | inl own ↦ subst (λ k. IsLane one.after (plain_after seals old one.event one.outcome plain)
-          k (alone_of old.map.atom seals (alone k) (call_of k one)))
-          own (subst (λ calls. IsLane one.after (plain_after seals old one.event one.outcome plain)
-          (lane_of one.event) (alone_of old.map.atom seals (alone (lane_of one.event)) calls))
-          (sym (call-own one)) (own_step seals old one.after plain one.event
-          one.outcome (alone (lane_of one.event)) sound (are (lane_of one.event)) meets step))
-      | inr other ↦ subst (λ calls. IsLane one.after (plain_after seals
-          old one.event one.outcome plain) lane (alone_of old.map.atom seals (alone lane) calls))
-          (sym (call-other lane one other)) (other_step seals old one.after
-          plain one.event one.outcome lane (alone lane) (λ same. other (sym same)) (are lane) step)
-    ]
+module _ {K : Type 0} (seals : Seals) {old : State K} {plain : ℕ → List ℕ} {alone : ℕ → Alone}
+    (one : Happening K) (lane : ℕ) (are : (k : ℕ) → IsLane old plain k (alone k)) where
+  lane_step : IsSound old → MeetsAlone (alone (lane_of one.event)) one.event
+      → Step old one.event one.outcome one.after → IsLane one.after (plain_after seals old one.event
+      one.outcome plain) lane (alone_of old.map.atom seals (alone lane) (call_of lane one))
+  unfolding alone_of
+  lane_step sound meets step = elim (same_or_not (lane_of one.event) lane) [
+    | inl own ↦ rw (← own, call-own one) (own_step seals old one.after plain one.event one.outcome
+        (alone (lane_of one.event)) sound (are (lane_of one.event)) meets step)
+    | inr other ↦ rw (call-other lane one other) (other_step seals old one.after plain one.event
+        one.outcome lane (alone lane) (λ same. other (sym same)) (are lane) step)
+  ]
 
-answers_step : {K : Type 0} (atom : ℕ) (seals : Seals) (old : State K) (plain : ℕ → List ℕ)
-    (one : Happening K) (alone : ℕ → Alone) (lane : ℕ) → ((k : ℕ) → IsLane old plain k (alone k)) →
-    (if lane_of one.event == lane then answered_by old one.event one.outcome plain else [])
-    ≡ answers_of atom seals (alone lane) (call_of lane one)
-unfolding answers_of answered_by
-answers_step atom seals old plain one alone lane are = elim (same_or_not (lane_of one.event) lane) [
-  | inl own ↦ subst (λ k. (if lane_of one.event == k then answered_by old one.event one.outcome
-      plain else []) ≡ answers_of atom seals (alone k) (call_of k one)) own
-      (let is = are (lane_of one.event) in
-      let same : nat_eq (lane_of one.event) (lane_of one.event) ≡ true = grind arith in
-      rw same (ap (λ o. answers one.event one.outcome o (plain (lane_of one.event))) is.operation
-      ∙ ap (λ xs. answers one.event one.outcome (alone (lane_of one.event)).operation xs)
-      is.plain_is
-      ∙ sym (append-nil (answered_alone (alone (lane_of one.event)) one.event one.outcome))))
-  | inr differ ↦ rw (not-own (lane_of one.event) lane differ) refl
-]
+  answers_step : (atom : ℕ) →
+      (if lane_of one.event == lane then answered_by old one.event one.outcome plain else [])
+      ≡ answers_of atom seals (alone lane) (call_of lane one)
+  unfolding answers_of answered_by
+  answers_step atom = elim (same_or_not (lane_of one.event) lane) [
+    | inl own ↦ let is = are (lane_of one.event) in
+        let same : nat_eq (lane_of one.event) (lane_of one.event) ≡ true = grind arith in
+        rw (← own, same, is.operation, is.plain_is)
+        (sym (append-nil (answered_alone (alone (lane_of one.event)) one.event one.outcome)))
+    | inr differ ↦ rw (not-own (lane_of one.event) lane differ) refl
+  ]
 
 -- a run, from any moment at which each lane is what its calls so far tell
 record Follows {K : Type 0} (atom : ℕ) (seals : Seals) (old : State K) (plain : ℕ → List ℕ)
@@ -459,41 +338,32 @@ follows : {K : Type 0} (atom count : ℕ) (seals : Seals) (old : State K) (plain
     → IsSound old → ((k : ℕ) → IsLane old plain k (alone k)) → AreSteps old run
     → AreOfClients count run → ((k : ℕ) → AreMet atom seals (alone k) (own_calls k run))
     → Follows atom seals old plain alone run
-unfolding IsRun last_of plain_in AreSteps AreOfClients own_calls answered_under alone_of answers_of
+unfolding IsRun last_of plain_in AreSteps AreOfClients AreMet own_calls answered_under
+    alone_of answers_of
 follows atom count seals old plain alone [] same long sound are steps clients met =
     record { is = tt; lanes = are; answers = λ lane. refl }
 follows atom count seals old plain alone (one ∷ rest) same long sound are (step, steps)
     (client, clients) met =
     let own = lane_of one.event in
-    let parts : (k : ℕ) → AreMet atom seals (alone k) (call_of k one) × AreMet atom seals
-    (alone_of atom seals (alone k) (call_of k one)) (own_calls k rest) =
-    λ k. met-parts atom seals (alone k) (call_of k one) (own_calls k rest) (met k) in
-    let meets : MeetsAlone (alone own) one.event =
-    first_met (subst (λ calls. AreMet atom seals (alone own) calls) (call-own one) (parts own).0) in
+    let next = plain_after seals old one.event one.outcome plain in
+    let parts = λ (k : ℕ).
+    met-parts atom seals (alone k) (call_of k one) (own_calls k rest) (met k) in
+    let meets : MeetsAlone (alone own) one.event = (rw (call-own one) at (parts own).0).0 in
     let met_so : Meets old one.event =
     meets_by old plain one.event (alone own) sound (are own) (rw long client) meets in
     let goes = event_effects old one.after one.event one.outcome step in
-    let behind = follows atom count seals one.after (plain_after
-    seals old one.event one.outcome plain) (λ k. alone_of atom seals (alone k) (call_of k one)) rest
-    (ap (λ (m : Map). m.atom) goes.map ∙ same) (goes.lane_is.count ∙ long) (sound_kept old one.after
-    one.event one.outcome sound met_so step) (λ k. subst (λ a. IsLane one.after (plain_after seals
-    old one.event one.outcome plain) k (alone_of a seals (alone k) (call_of k one))) same (lane_step
-    seals old plain one alone k sound are meets step)) steps clients (λ k. (parts k).1) in record {
+    let behind = follows atom count seals one.after next
+    (λ k. alone_of atom seals (alone k) (call_of k one)) rest (rw goes.map same) (goes.lane_is.count
+    ∙ long) (sound_kept old one.after one.event one.outcome sound met_so step)
+    (λ k. subst (λ a. IsLane one.after next k (alone_of a seals (alone k) (call_of k one)))
+    same (lane_step seals one k are sound meets step)) steps clients (λ k. (parts k).1) in
+    record {
       is = (met_so, step, behind.is);
-      lanes = λ k. subst (λ a. IsLane (last_of one.after rest) (plain_in seals one.after
-          (plain_after seals old one.event one.outcome plain) rest) k a) (sym (alone-joined
-          atom seals (alone k) (call_of k one) (own_calls k rest))) (behind.lanes k);
-      answers = λ k. ap (λ xs. xs ++ answered_under k seals one.after (plain_after seals
-          old one.event one.outcome plain) rest) (answers_step atom seals old plain one alone k are)
-          ∙ ap (λ xs. answers_of atom seals (alone k) (call_of k one) ++ xs) (behind.answers k)
-          ∙ sym (answers-joined atom seals (alone k) (call_of k one) (own_calls k rest));
+      lanes = λ k. rw (alone-joined atom seals (alone k) (call_of k one) (own_calls k rest))
+          (behind.lanes k);
+      answers = λ k. rw (answers_step seals one k are atom, behind.answers k)
+          (sym (answers-joined atom seals (alone k) (call_of k one) (own_calls k rest)));
     }
-  where
-    first_met : AreMet atom seals (alone (lane_of one.event))
-        (record { event = one.event; outcome = one.outcome } ∷ []) →
-        MeetsAlone (alone (lane_of one.event)) one.event
-    first_met met_first = met_one atom seals (alone (lane_of one.event))
-        (record { event = one.event; outcome = one.outcome }) [] met_first
 
 -- from a fresh start
 idle_is : {K : Type 0} (start : State K) (lane : ℕ) → IsFresh start →
@@ -543,8 +413,8 @@ calls-joined : {K : Type 0} (lane : ℕ) (run : List (Happening K)) (one : Happe
     own_calls lane (run ++ one ∷ []) ≡ own_calls lane run ++ call_of lane one
 unfolding own_calls
 calls-joined lane [] one = append-nil (call_of lane one)
-calls-joined lane (x ∷ run) one = ap (λ xs. call_of lane x ++ xs) (calls-joined lane run one)
-    ∙ sym (append_assoc (call_of lane x) (own_calls lane run) (call_of lane one))
+calls-joined lane (x ∷ run) one = rw (calls-joined lane run one)
+    (sym (append_assoc (call_of lane x) (own_calls lane run) (call_of lane one)))
 
 clients-joined : {K : Type 0} (count : ℕ) (run : List (Happening K)) (one : Happening K) →
     AreOfClients count run → suc (lane_of one.event) < count → AreOfClients count (run ++ one ∷ [])
@@ -559,13 +429,9 @@ pub more_met : {K : Type 0} (start : State K) (seals : Seals) (run : List (Happe
 unfolding AreMet
 more_met start seals run one by client meets = record {
   clients = clients-joined (length start.lanes) run one by.clients client;
-  met = λ lane. subst (λ calls. AreMet start.map.atom seals idle_lane calls)
-      (sym (calls-joined lane run one)) (met-joined start.map.atom seals idle_lane (own_calls
+  met = λ lane. rw (calls-joined lane run one) (met-joined start.map.atom seals idle_lane (own_calls
       lane run) (call_of lane one) (by.met lane) (elim (same_or_not (lane_of one.event) lane) [
-        | inl own ↦ subst (λ k. AreMet start.map.atom seals (alone_in start seals k run)
-            (call_of k one)) own (subst (λ calls. AreMet start.map.atom seals
-            (alone_in start seals (lane_of one.event) run) calls) (sym (call-own one)) (meets, tt))
-        | inr other ↦ subst (λ calls. AreMet start.map.atom seals
-            (alone_in start seals lane run) calls) (sym (call-other lane one other)) tt
+        | inl own ↦ rw (← own, call-own one) (meets, tt)
+        | inr other ↦ rw (call-other lane one other) tt
       ]));
 }
