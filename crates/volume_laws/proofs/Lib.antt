@@ -14,7 +14,6 @@ pub mod LanesAlone
 pub mod OtherLanes
 pub mod Places
 pub mod PlainBlocks
-pub mod PlainStart
 pub mod Reading
 pub mod RunsServed
 pub mod SealLemmas
