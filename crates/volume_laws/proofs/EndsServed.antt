@@ -33,10 +33,9 @@ record KnowsText {K : Type 0} (old : State K) (plain : ℕ → List ℕ) (lane :
 
 knows_text : {K : Type 0} {old : State K} {plain : ℕ → List ℕ} {left : List Block} (lane : ℕ)
     {o : Open} (offset len : ℕ) (logic : Logic old plain left)
-    (at : open_at old.lanes lane ≡ Some o) → range_of old.map.atom o.ask ≡ record {
-      start = offset / old.map.atom;
-      end = offset / old.map.atom + len / old.map.atom;
-    } → len / old.map.atom * old.map.atom ≡ len
+    (at : open_at old.lanes lane ≡ Some o)
+    → range_of old.map.atom o.ask ≡ range_of old.map.atom (Read offset len)
+    → len / old.map.atom * old.map.atom ≡ len
     → KnowsText old plain lane o offset len (logic.lanes lane o at).count
 knows_text {old = old} lane {o = o} offset len logic at asked whole =
     let knows = logic.lanes lane o at in

@@ -1,6 +1,6 @@
 -- Each event goes on from a moment of a run to another, and answers as the plain disk does.
 use Rattle.volume_machine.proofs.Common
-use Common.{Bool, List, None, Option, Some, [], arith, false, inl, inr, map, refl, sym, true, ℕ}
+use Common.{Bool, List, None, Option, Some, [], ap, arith, false, inl, inr, map, refl, sym, true, ℕ}
 use Common.{◌++◌, ◌<◌, ◌∙◌, ◌∷◌, ◌≡◌, either, IsThinned, View, Piece, Block, Exchange, flushed}
 use Common.{Done, Errno, Legal, IsExchange, by_admit, flush_reply, refusal, IsForced, IsRead}
 use Common.{IsWrite, has_lock, wrong_ask, Outcome, broken, device, done, got, ArePieceBytes}
@@ -21,9 +21,10 @@ use Rattle.volume_laws.proofs.Here.{Here, Moves, here_after, moves_by_failed_syn
 use Rattle.volume_laws.proofs.Here.{moves_by_sync, moves_by_tried, moves_by_written, moves_not}
 use Rattle.volume_laws.proofs.Here.{piece_in_bytes, piece_in_tables, positive}
 use Rattle.volume_laws.proofs.Invariant.{Logic, Shown, Stays, goes_stays, shown_kept}
+use Rattle.volume_laws.proofs.PlainBlocks.{block_in-flushed}
 use Rattle.volume_laws.proofs.Reading.{AreLive, failing_keeps, forced_writes, logic_failed}
 use Rattle.volume_laws.proofs.Reading.{logic_read, never_both, shown_read, writes_lock}
-use Rattle.volume_laws.proofs.Settling.{flush_renews, logic_flushed, logic_settled, logic_unflushed}
+use Rattle.volume_laws.proofs.Settling.{logic_flushed, logic_settled, logic_unflushed}
 use Rattle.volume_laws.proofs.Settling.{shown_flushed, shown_settled, shown_unflushed}
 use Rattle.volume_laws.proofs.Writing.{TriesPiece, logic_tried, shown_tried, shown_written}
 
@@ -239,7 +240,8 @@ module _ {K P Q : Type 0} {seals : Seals} {old new : State K} {plain : ℕ → L
             (λ view after. shown_flushed goes at free has_bytes here.logic step.was here.works);
         map = step.goes.map;
         work = step.goes.work;
-        newest = λ b below of. (flush_renews left).newest b (omega arith);
+        newest = λ b below of. ap (λ block. block.newest)
+            (block_in-flushed left b (omega arith));
       }
   flush_served {o = o} device at is step are =
       let free : has_lock o.ask ≡ false = rw is refl in

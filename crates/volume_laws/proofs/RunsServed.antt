@@ -1,11 +1,12 @@
 -- Runs of events: their operations are those of one plain disk, and a stop leaves what it allows.
 use Rattle.volume_machine.proofs.Common
-use Common.{Bool, Contains, List, Some, [], ap, arith, false, inl, inr, refl, subst, sym, true, ℕ}
-use Common.{◌++◌, ◌<◌, ◌||◌, ◌∙◌, ◌∷◌, ◌≡◌, cell_in, value_in, View, view_of_bytes, view_of_cells}
-use Common.{Block, Exchange, values_of, Legal, by_settle, IsRead, IsWrite, breaks, Event, Outcome}
-use Common.{admits, asks, finishes, reads, settles, writes, place_in, Happening, no_plain, Seals}
-use Common.{State, open_at, CanSettle, Meets, SettleStep, Works, AreExchanges, IsRun, answered_by}
-use Common.{answered_in, last_of, plain_after, plain_in, Can, Step}
+use Common.{Contains, List, Some, [], ap, arith, inl, inr, refl, subst, sym, ℕ, ◌++◌, ◌<◌, ◌||◌}
+use Common.{◌∙◌, ◌∷◌, ◌≡◌, cell_in, value_in, View, view_of_bytes, view_of_cells, Block, Exchange}
+use Common.{values_of, Legal, by_settle, IsRead, IsWrite, breaks, Event, Outcome, admits, asks}
+use Common.{finishes, reads, settles, writes, place_in, Happening, no_plain, Seals, State, open_at}
+use Common.{CanSettle, Meets, SettleStep, Works, AreExchanges, IsRun, answered_by, answered_in}
+use Common.{last_of, plain_after, plain_in, Can, Step}
+use Rattle.std.proofs.lemmas.Bool.{or_parts}
 use Rattle.disk_views.proofs.{Entries.image_in, TableEntries.place_of_some}
 use Rattle.volume_machine.specs.declared.open.Open.{Open}
 use Rattle.volume_machine.proofs.{EventEffects.event_effects, Soundness.sound_kept}
@@ -32,16 +33,12 @@ settles_served lane o outcome
     lane exchanges here fine outcome (rw (forced_locks o.ask forced) at are) at forced whole step
 
 -- the zone at hand after an event of a client
-or_first : (a b : Bool) → (a || b) ≡ false → a ≡ false
-or_first true b is = absurd (cc)
-or_first false b is = refl
-
 pub works_after : {K : Type 0} {old new : State K} {event : Event} (outcome : Outcome)
     → Meets old event → Step old event outcome new → Works old → Works new
 works_after {old = old} {new = new} {event = event} outcome meets step works =
     let goes = event_effects old new event outcome step in
-    works_stay (record { map = goes.map; work = goes.work }) (λ stays. or_first old.broken
-    (breaks event outcome) (sym goes.broken_is ∙ stays)) goes.lane_is.count (λ lane last. let left =
+    works_stay (record { map = goes.map; work = goes.work }) (λ stays. (or_parts old.broken
+    (breaks event outcome) (sym goes.broken_is ∙ stays)).0) goes.lane_is.count (λ lane last. let left =
     event_left old new event outcome lane step (λ same. omega arith) in
     (left.own, left.holds)) works
 

@@ -7,7 +7,7 @@ use Common.{IsWrite, has_lock, place_in, settling, Seals, IsSound, State, open_a
 use Common.{Works}
 use Rattle.disk_zones.specs.Calls.{syncs}
 use Rattle.volume_machine.specs.declared.open.Open.{Open}
-use Rattle.volume_laws.specs.Contents.{AreBlocksOf, IsAllowedAt, IsNow, IsSealed, block_in}
+use Rattle.volume_laws.specs.Contents.{IsAllowedAt, IsNow, IsSealed, block_in}
 use Rattle.volume_laws.specs.Texts.{texts_of}
 use Rattle.volume_laws.proofs.Admits.{idle}
 use Rattle.volume_laws.proofs.Invariant.{KeepsTried, LaneKnows, Logic, Shown, Stays, TriesNothing}
@@ -116,11 +116,6 @@ module _ {K : Type 0} {old new : State K} {plain : ℕ
         work.layout work.zone texts work.phase b view) was (shown.zone work was_so))))));
   }
 
--- the same newest values, as certain as before
-pub record AreRenewed (left next : List Block) (blocks : ℕ) : Type 0 where
-  pub newest : (b : ℕ) → b < blocks → (block_in next b).newest ≡ (block_in left b).newest
-  pub unsure : (b : ℕ) → b < blocks → (block_in next b).unsure ≡ (block_in left b).unsure
-
 -- what a lane knows of other blocks of the plain disk, where those that it has read are the same
 pub knows_renewed : {K : Type 0} {state : State K} {plain : ℕ → List ℕ} {left next : List Block}
     {lane : ℕ} {o : Open} → (knows : LaneKnows state plain left lane o) →
@@ -142,27 +137,6 @@ knows_renewed knows same = record {
   breaks = knows.breaks;
 }
 
-logic_renewed : {K : Type 0} {state : State K} {plain : ℕ → List ℕ} {left next : List Block}
-    → Logic state plain left → AreBlocksOf state.map next → AreRenewed left next state.map.blocks
-    → Logic state plain next
-logic_renewed logic are renewed = record {
-  sound = logic.sound;
-  are = are;
-  sure = λ whole b below. renewed.unsure b below ∙ logic.sure whole b below;
-  lanes = λ lane o is. (let knows = logic.lanes lane o is in
-      let under_way = logic.sound.under_way lane o is in knows_renewed knows (λ reading k below. (
-        renewed.newest (o.range.start + k) (omega arith),
-        renewed.unsure (o.range.start + k) (omega arith),
-      )));
-}
-
--- a flush makes the newest values the only ones
-pub flush_renews : (left : List Block) → AreRenewed left (map flushed left) (length left)
-flush_renews left = record {
-  newest = λ b below. ap (λ block. block.newest) (block_in-flushed left b below);
-  unsure = λ b below. ap (λ block. block.unsure) (block_in-flushed left b below);
-}
-
 -- a lane that ends its flush has tried nothing
 flush_untried : {K : Type 0} {state : State K} {plain : ℕ → List ℕ} {lane : ℕ} {o : Open}
     → open_at state.lanes lane ≡ Some o → has_lock o.ask ≡ false → TriesNothing state plain lane
@@ -180,12 +154,20 @@ module _ {K : Type 0} {old new : State K} {plain : ℕ → List ℕ} {left : Lis
       → Logic new plain (map flushed left)
   logic_flushed was sound logic =
       let ended = logic_unflushed (λ whole. was) sound logic in
-      let renewed : AreRenewed left (map flushed left) new.map.blocks =
-      subst (λ n. AreRenewed left (map flushed left) n) ended.are.count (flush_renews left) in
-      logic_renewed ended (record {
-        count = length-map left flushed ∙ ended.are.count;
-        newest = λ b below. rw (renewed.newest b below) (ended.are.newest b below);
-      }) renewed
+      let same : (b : ℕ) → b < new.map.blocks
+      → block_in (map flushed left) b ≡ flushed (block_in left b) = λ b below.
+      block_in-flushed left b (omega (arith, below, ended.are.count)) in record {
+        sound = sound;
+        are = record {
+          count = length-map left flushed ∙ ended.are.count;
+          newest = λ b below. rw (same b below) (ended.are.newest b below);
+        };
+        sure = λ whole b below. rw (same b below) (ended.sure whole b below);
+        lanes = λ k o is. (let knows = ended.lanes k o is in
+            let under_way = sound.under_way k o is in knows_renewed knows (λ reading i below.
+            let e = same (o.range.start + i) (omega arith) in
+            (ap (λ block. block.newest) e, ap (λ block. block.unsure) e)));
+      }
 
   module _ {seals : Seals} {o : Open} {view next : View} (is : open_at old.lanes lane ≡ Some o)
       (free : has_lock o.ask ≡ false) where
@@ -194,7 +176,7 @@ module _ {K : Type 0} {old new : State K} {plain : ℕ → List ℕ} {left : Lis
         → Shown new seals plain (map flushed left) next
     shown_flushed some logic was works = shown_synced (map flushed left) logic some works
         (goes_stays goes) was (tried_stay goes.map goes.lane_is (λ k other. refl) (flush_untried
-        is free) (idle goes.lane_is.own)) (λ b below. (flush_renews left).newest b (omega arith))
+        is free) (idle goes.lane_is.own)) (λ b below. ap (λ block. block.newest) (block_in-flushed left b (omega arith)))
         (λ k one at forced settled. elim (same_or_not k lane) [
           | inl same ↦ absurd (cc)
           | inr other ↦ let before = sym (goes.lane_is.others k other) ∙ at in
