@@ -36,17 +36,13 @@ admit_exact : {K : Type 0} (old new : State K) (lane session : ℕ) (ask : Ask) 
     wrong_ask old.map.atom (size_of old.map) answered.ask ≡ None
     → (answered.reply ≡ Errno 5) ↔ (old.broken ≡ true)
 admit_exact old new lane session ask outcome answered step is proper =
-    let right : wrong_ask old.map.atom (size_of old.map) ask ≡ None = ap (λ a. wrong_ask
-    old.map.atom (size_of old.map) a) (sym (refused_by session ask outcome answered is)) ∙ proper in
-    let judged = rw right at step in
+    let right : wrong_ask old.map.atom (size_of old.map) ask ≡ None =
+    rw (← refused_by session ask outcome answered is) proper in let judged = rw right at step in
     elim (either old.broken) [
       | inl broke ↦ let refusal = rw broke at judged in
-          let one : answered
-          ≡ record { session = session; ask = ask; plain = []; reply = Errno 5 } =
-          one_answered _ answered (sym (ap (λ o. by_admit session ask o) refusal.0) ∙ is) in
+          let one = one_answered _ answered (rw refusal.0 at is) in
           (λ five. broke, λ broke. ap (λ a. a.reply) one)
-      | inr whole ↦ absurd (let none = unanswered (rw whole at judged) in
-          cc)
+      | inr whole ↦ absurd (let none = unanswered (rw whole at judged) in cc)
     ]
 
 -- a flush that is answered by its settle
@@ -94,8 +90,7 @@ unfolding Step answered_by
 event_exact start earlier plain new (admits lane session ask) outcome answered goes step is proper =
     admit_exact (last_of start earlier) new lane session ask outcome answered step is proper
 event_exact start earlier plain new (settles lane) outcome answered goes (o, at, step) is proper =
-    subst (λ r. (r ≡ Errno 5) ↔ (is_failure outcome ≡ true))
-    (sym (by_settle_is o outcome answered (ap (λ x. by_settle x outcome) (sym at) ∙ is)))
+    rw (by_settle_is o outcome answered (rw at at is))
     (settle_exact (last_of start earlier) new lane o outcome step)
 event_exact start earlier plain new (finishes lane) outcome answered goes step is proper =
     finish_answers (last_of start earlier) lane (plain lane) (fails_in lane false earlier) _

@@ -14,13 +14,12 @@ use Rattle.volume_laws.specs.Contents.{block_in}
 use Rattle.volume_laws.proofs.Answering.{answer, change_of, legal_one, read_whole, step_read}
 use Rattle.volume_laws.proofs.Answering.{step_unread, step_unwritten, step_written, write_whole}
 use Rattle.volume_laws.proofs.EventsServed.{IsFine, Served, goes_on}
-use Rattle.volume_laws.proofs.Finishing.{Ends, EndsWrite, ended_blocks, ended_outside, logic_ended}
+use Rattle.volume_laws.proofs.Finishing.{Ends, EndsWrite, ended_blocks, ended_newest, logic_ended}
 use Rattle.volume_laws.proofs.Finishing.{logic_write_ended, shown_read_ended, shown_write_ended}
 use Rattle.volume_laws.proofs.Here.{Here, here_after, moves_not, positive}
 use Rattle.volume_laws.proofs.Invariant.{LaneKnows, Logic, goes_stays}
 use Rattle.volume_laws.proofs.PlainBlocks.{is_newest_part, sure_part, written-keeps}
 use Rattle.volume_laws.proofs.PlainBlocks.{written_contained}
-use Rattle.volume_laws.proofs.Writing.{in_piece}
 
 -- what it knows of its text: of so many of the blocks that it asked for
 record KnowsText {K : Type 0} (old : State K) (plain : ℕ → List ℕ) (lane : ℕ) (o : Open)
@@ -32,9 +31,8 @@ record KnowsText {K : Type 0} (old : State K) (plain : ℕ → List ℕ) (lane :
   all : o.failed ≡ false → o.next ≡ o.range.end → count ≡ len / old.map.atom
 
 knows_text : {K : Type 0} {old : State K} {plain : ℕ → List ℕ} {left : List Block} (lane : ℕ)
-    {o : Open} (offset len : ℕ) (logic : Logic old plain left)
-    (at : open_at old.lanes lane ≡ Some o)
-    → range_of old.map.atom o.ask ≡ range_of old.map.atom (Read offset len)
+    {o : Open} (offset len : ℕ) (logic : Logic old plain left) (at : open_at old.lanes lane
+    ≡ Some o) → range_of old.map.atom o.ask ≡ range_of old.map.atom (Read offset len)
     → len / old.map.atom * old.map.atom ≡ len
     → KnowsText old plain lane o offset len (logic.lanes lane o at).count
 knows_text {old = old} lane {o = o} offset len logic at asked whole =
@@ -86,16 +84,15 @@ module _ {K P Q : Type 0} {seals : Seals} {old new : State K} {plain : ℕ
       → o.next ≡ o.range.end → (plain lane ≡ take len (drop offset (newest_bytes left)))
       × AreSure (take (len / old.map.atom) (drop (offset / old.map.atom) left))
   read_right offset len is unfailed ended =
-      let atom = old.map.atom in let logic = here.logic in
-      let under_way = logic.sound.under_way lane o at in
-      let knows = logic.lanes lane o at in
+      let atom = old.map.atom in let under_way = here.logic.sound.under_way lane o at in
+      let knows = here.logic.lanes lane o at in
       let parts = read_whole atom (size_of old.map) offset len known (rw is at proper) in
-      let text = knows_text lane offset len logic at (ap (λ a. range_of atom a) is) parts.1 in
+      let text = knows_text lane offset len here.logic at (ap (λ a. range_of atom a) is) parts.1 in
       let count : knows.count ≡ len / atom = text.all unfailed ended in
       let inside : offset / atom + len / atom ≤ length left = omega arith in
       let reading : IsRead o.ask = rw is tt in
-      let newest = is_newest_part atom (offset / atom) (len / atom) left (plain lane)
-      (λ b below. omega (arith, (logic.are.newest b (omega arith)).size)) inside (knows.are.size
+      let newest = is_newest_part atom (offset / atom) (len / atom) left (plain lane) (λ b
+      below. omega (arith, (here.logic.are.newest b (omega arith)).size)) inside (knows.are.size
       ∙ ap (λ n. n * atom) count) (λ k below. (knows.reads reading k (omega arith)).0
       ∙ ap (λ n. (block_in left (n + k)).newest) text.start) in (
         newest ∙ rw (parts.0, parts.1) refl,
@@ -138,14 +135,10 @@ module _ {K P Q : Type 0} {seals : Seals} {old new : State K} {plain : ℕ
         legal = legal_one old.map.atom left next one exchanges step are;
         here = here_after here goes.map fine.works (λ whole. (sym goes.broken_is ∙ whole, refl))
             (logic_write_ended it fine.sound (λ was block value. (makes block value).2 was))
-            (moves_not rests here.values) (λ view after. shown_write_ended it seals view after);
+            (moves_not rests here.values) (shown_write_ended it);
         map = goes.map;
         work = goes.work;
-        newest = λ b below of. ap (λ block. block.newest) (ended_outside old
-            plain left lane o change knows.count b (elim (in_piece o.range.start knows.count b) [
-              | inl (j, lt, is) ↦ absurd (knows.beside b (omega arith) (omega arith) of)
-              | inr outside ↦ outside
-            ]));
+        newest = λ b below. ended_newest it b;
       }
 
   -- what is known of a write

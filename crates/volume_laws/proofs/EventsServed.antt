@@ -197,7 +197,7 @@ module _ {K P Q : Type 0} {seals : Seals} {old new : State K} {plain : ℕ → L
       (λ failed. absurd (cc))) (moves_by_written step.piece.count step.call here.values
       has_bytes step.are.size (piece_in_bytes o here step.was step.next (live step.was) begun)
       (piece_in_tables o here step.was step.next (live step.was) begun))
-      (λ view after wrote. shown_written it view after wrote step.was)
+      (λ view after wrote. shown_written it view after wrote)
   write_served bytes device are at writing has holds live step =
       let it = tries at writing has holds step.next step.are (live step.was) step.was step.goes
       refl refl refl in

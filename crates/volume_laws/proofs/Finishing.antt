@@ -12,7 +12,7 @@ use Rattle.volume_laws.specs.Contents.{AreBlocksOf, IsAllowedAt, IsNow, IsSealed
 use Rattle.volume_laws.specs.Contents.{block_in}
 use Rattle.volume_laws.specs.Texts.{texts_of}
 use Rattle.volume_laws.proofs.Invariant.{LaneKnows, Logic, Shown, goes_stays, lanes_still}
-use Rattle.volume_laws.proofs.Invariant.{live_back, logic_kept, shown_kept, tried_goes, writes_stay}
+use Rattle.volume_laws.proofs.Invariant.{logic_kept, shown_by, shown_kept, tried_goes, writes_stay}
 use Rattle.volume_laws.proofs.Reading.{held_apart, never_both, read_untried, reads_lock}
 use Rattle.volume_laws.proofs.Reading.{tried_apart, writes_lock}
 use Rattle.volume_laws.proofs.{Admits.idle, PlainBlocks.block_in-changed_inside}
@@ -28,7 +28,8 @@ module _ {K : Type 0} {old new : State K} {lane : ℕ} (goes : Ends old new lane
   still_holds k other held = rw goes.entries_are
       (holds-without lane k old.entries (λ same. other (sym same)) held)
 
-  pub logic_ended : {plain : ℕ → List ℕ} {left : List Block} → IsSound new → Logic old plain left → Logic new plain left
+  pub logic_ended : {plain : ℕ → List ℕ} {left : List Block}
+      → IsSound new → Logic old plain left → Logic new plain left
   logic_ended sound = logic_kept goes (λ whole. whole) sound (λ k other. refl) still_holds
       (λ o is. absurd (cc))
 
@@ -37,10 +38,9 @@ pub shown_read_ended : {K : Type 0} {old new : State K} {plain : ℕ → List �
     {left : List Block} {lane : ℕ} {o : Open} {view next : View}
     → open_at old.lanes lane ≡ Some o → IsRead o.ask → Ends old new lane → IsUnchanged view next
     → Shown old seals plain left view → Shown new seals plain left next
-shown_read_ended is reads goes same = shown_kept (goes_stays goes)
-    (writes_stay goes.map goes.lane_is (λ k other. refl) (read_untried is reads)
-    (idle goes.lane_is.own) (λ one same_one. absurd (cc)))
-    (λ whole. (sym goes.broken_is ∙ whole, same.current)) same.candidates
+shown_read_ended is reads goes same = shown_kept (goes_stays goes) (writes_stay
+    goes.map goes.lane_is (λ k other. refl) (read_untried is reads) (idle goes.lane_is.own) (λ one
+    same_one. absurd (cc))) (λ whole. (sym goes.broken_is ∙ whole, same.current)) same.candidates
 
 -- A write that ended, and what it made of the blocks that it tried: each has the new value, and
 -- either keeps those before, or was settled.
@@ -59,8 +59,7 @@ pub record EndsWrite {K : Type 0} (old new : State K) (plain : ℕ → List ℕ)
   pub works : Works old
   pub live : (b : ℕ) → o.range.start ≤ b → b < o.range.start + count → IsGoverned old b → ⊥
   pub keeps : 0 < count → ((block : Block) (value other : List ℕ) → Contains (values_of block) other
-      → Contains (values_of (change block value)) other)
-      ⊎ (IsForced o.ask × (o.settled ≡ true))
+      → Contains (values_of (change block value)) other) ⊎ (IsForced o.ask × (o.settled ≡ true))
 
 -- the plain disk's blocks then
 abbrev pub ended_blocks : {K : Type 0} → State K → (ℕ → List ℕ) → List Block → ℕ → Open
@@ -69,8 +68,7 @@ ended_blocks old plain left lane o change count =
     changed change left o.range.start (blocks_of old.map.atom count (plain lane))
 
 pub ended_outside : {K : Type 0} (old : State K) (plain : ℕ → List ℕ) (left : List Block) (lane : ℕ)
-    (o : Open) (change : Block → List ℕ → Block) (count b : ℕ) →
-    IsOutside o.range.start count b
+    (o : Open) (change : Block → List ℕ → Block) (count b : ℕ) → IsOutside o.range.start count b
     → block_in (ended_blocks old plain left lane o change count) b ≡ block_in left b
 ended_outside old plain left lane o change count b outside =
     block_in-changed_outside change left old.map.atom o.range.start count (plain lane) b outside
@@ -82,26 +80,34 @@ module _ {K : Type 0} {old new : State K} {plain : ℕ → List ℕ} {left : Lis
   abbrev ended : List Block
   ended = ended_blocks old plain left lane o change count
 
-  inside_blocks : (j : ℕ) → j < count → o.range.start + j < length left
-  inside_blocks j below =
-      let inside = (it.logic.sound.under_way lane o it.at).inside in
-      let size = it.logic.are.count in
-      let most = it.most in omega (arith, inside, size, most, below)
-
   -- a block that it tried, and one that it didn't
   ended_inside : (j : ℕ) → j < count → block_in ended (o.range.start + j)
       ≡ change (block_in left (o.range.start + j)) (block_at old.map.atom (plain lane) j)
-  ended_inside j below =
-      block_in-changed_inside change left old.map.atom o.range.start count (plain lane) j below
-      (inside_blocks j below)
+  ended_inside j below = block_in-changed_inside change left old.map.atom o.range.start count
+      (plain lane) j below (let inside = (it.logic.sound.under_way lane o it.at).inside in
+      omega arith)
+
+  ended_at : (b j : ℕ) → j < count → b ≡ o.range.start + j
+      → block_in ended b ≡ change (block_in left b) (block_at old.map.atom (plain lane) j)
+  ended_at b j lt is = rw is (ended_inside j lt)
+
+  ended_beside : (b : ℕ) → IsOutside o.range.start count b → block_in ended b ≡ block_in left b
+  ended_beside = ended_outside old plain left lane o change count
+
+  -- what is governed isn't its own
+  pub ended_newest : (b : ℕ) → IsGoverned old b
+      → (block_in ended b).newest ≡ (block_in left b).newest
+  ended_newest b of = ap (λ block. block.newest)
+      (ended_beside b (elim (in_piece o.range.start count b) [
+        | inl (j, lt, at) ↦ absurd (it.live b (omega (arith, at)) (omega (arith, at)) of)
+        | inr outside ↦ outside
+      ]))
 
   -- only the ended write tried its blocks
   only_own : (k j : ℕ) (value : List ℕ) → j < count → k ≢ lane
       → IsTriedBy old plain k (o.range.start + j) value → ⊥
-  only_own k j value below other tried =
-      tried_apart lane k (o.range.start + j) it.logic it.some
-      (λ same. other (sym same)) it.at (writes_lock o.ask it.writes) it.holds
-      (omega arith) (let most = it.most in omega (arith, most, below)) tried
+  only_own k j value below other = tried_apart lane k (o.range.start + j) it.logic it.some (λ same.
+      other (sym same)) it.at (writes_lock o.ask it.writes) it.holds (omega arith) (omega arith)
 
   -- what is tried still was tried before, by another lane
   tried_before : (k b : ℕ) (value : List ℕ) → IsTriedBy new plain k b value
@@ -109,291 +115,178 @@ module _ {K : Type 0} {old new : State K} {plain : ℕ → List ℕ} {left : Lis
   tried_before k b value tried = elim (same_or_not k lane) [
     | inl same ↦
         absurd (idle (ap (λ n. open_at new.lanes n) same ∙ it.goes.lane_is.own) b value tried)
-    | inr other ↦ (
-      other,
-      tried_goes (sym it.goes.map) (sym (it.goes.lane_is.others k other)) refl tried,
-    )
+    | inr other ↦
+        (other, tried_goes (sym it.goes.map) (sym (it.goes.lane_is.others k other)) refl tried)
   ]
 
-  tried_after : (k b : ℕ) (value : List ℕ) → k ≢ lane → IsTriedBy old plain k b value
-      → IsTriedBy new plain k b value
-  tried_after k b value other tried =
-      tried_goes it.goes.map (it.goes.lane_is.others k other) refl tried
+  -- what was tried the ended write tried, or it is tried still
+  tried_after : (k b : ℕ) (value : List ℕ) → IsTriedBy old plain k b value
+      → IsTriedBy old plain lane b value ⊎ IsTriedBy new plain k b value
+  tried_after k b value tried = elim (same_or_not k lane) [
+    | inl same ↦ inl (rw same at tried)
+    | inr other ↦ inr (tried_goes it.goes.map (it.goes.lane_is.others k other) refl tried)
+  ]
 
   -- what the ended write tried
-  own_of : (b : ℕ) (value : List ℕ) → IsTriedBy old plain lane b value
-      → (j : ℕ) × (j < count) × (b ≡ o.range.start + j)
-      × (value ≡ block_at old.map.atom (plain lane) j)
+  own_of : (b : ℕ) (value : List ℕ) → IsTriedBy old plain lane b value → (j : ℕ)
+      × (j < count) × (b ≡ o.range.start + j) × (value ≡ block_at old.map.atom (plain lane) j)
   own_of b value tried =
-      let one : tried.o ≡ o = (let t = tried.is in let u = it.at in cc) in
+      let one : tried.o ≡ o = (cc) in
       let begun : o.range.start ≤ b = subst (λ p. p.range.start ≤ b) one tried.begun in
       let enough : suc (b - o.range.start) * old.map.atom ≤ length (plain lane) =
-      subst (λ p. suc (b - p.range.start) * old.map.atom ≤ length (plain lane)) one tried.tried in
-      let size = it.are.size in
-      let some = it.some in (
+      subst (λ p. suc (b - p.range.start) * old.map.atom ≤ length (plain lane)) one tried.tried in (
         b - o.range.start,
-        grind (arith, enough, size, some),
-        omega (arith, begun),
+        grind (arith, enough, it.are.size, it.some),
+        omega arith,
         subst (λ p. value ≡ block_at old.map.atom (plain lane) (b - p.range.start)) one
             tried.value_is,
       )
+
+  not_own : (b : ℕ) (value : List ℕ) → IsOutside o.range.start count b
+      → IsTriedBy old plain lane b value → ⊥
+  not_own b value outside tried = let (i, lt, is, same) = own_of b value tried in omega arith
 
   ended_are : AreBlocksOf old.map ended
   ended_are = record {
     count = length-changed change left o.range.start (blocks_of old.map.atom count (plain lane))
         ∙ it.logic.are.count;
     newest = λ b below. elim (in_piece o.range.start count b) [
-      | inl (j, lt, is) ↦
-          let value : (block_in ended b).newest
-          ≡ block_at old.map.atom (plain lane) j =
-          ap (λ n. (block_in ended n).newest) is
-          ∙ ap (λ block. block.newest) (ended_inside j lt)
-          ∙ it.newest (block_in left (o.range.start + j)) (block_at old.map.atom (plain lane) j) in
-          rw value (one_block old.map.atom count (plain lane) j it.are lt)
-      | inr outside ↦
-          rw (ended_outside old plain left lane o change count b outside)
-          (it.logic.are.newest b below)
+      | inl (j, lt, is) ↦ rw (ap (λ block. block.newest) (ended_at b j lt is)
+          ∙ it.newest (block_in left b) (block_at old.map.atom (plain lane) j))
+          (one_block old.map.atom count (plain lane) j it.are lt)
+      | inr outside ↦ rw (ended_beside b outside) (it.logic.are.newest b below)
     ];
   }
 
   -- what others have read isn't what the ended write tried
   read_beside : (k : ℕ) (p : Open) (i : ℕ) → open_at old.lanes k ≡ Some p → IsRead p.ask
       → (knows : LaneKnows old plain left k p) → i < knows.count
-      → block_in ended (p.range.start + i)
-      ≡ block_in left (p.range.start + i)
+      → block_in ended (p.range.start + i) ≡ block_in left (p.range.start + i)
   read_beside k p i is reading knows below =
       elim (in_piece o.range.start count (p.range.start + i)) [
         | inl (j, lt, same_b) ↦ elim (same_or_not k lane) [
-          | inl same ↦
-              absurd (let one : p ≡ o =
-              (let u = ap (λ n. open_at old.lanes n) same ∙ it.at in cc) in
+          | inl same ↦ absurd (let one : p ≡ o = (cc) in
               never_both p.ask reading (subst (λ q. IsWrite q.ask) (sym one) it.writes))
-          | inr other ↦
-              absurd (held_apart k lane (p.range.start + i) it.logic.sound other is
-              (reads_lock p.ask reading) (knows.holds (omega (arith, below)))
-              (omega arith) (let most = knows.most in omega (arith, most, below)) it.at it.writes
-              it.holds
-              (omega (arith, same_b)) (let most = it.most in omega (arith, most, lt, same_b)))
+          | inr other ↦ absurd (held_apart k lane (p.range.start
+              + i) it.logic.sound other is (reads_lock p.ask reading) (knows.holds (omega arith))
+              (omega arith) (omega arith) it.at it.writes it.holds (omega arith) (omega arith))
         ]
-        | inr outside ↦ ended_outside old plain left lane o change count (p.range.start + i) outside
+        | inr outside ↦ ended_beside (p.range.start + i) outside
       ]
 
-  pub logic_write_ended : IsSound new
-      → (old.broken ≡ false → (block : Block) (value : List ℕ)
+  pub logic_write_ended : IsSound new → (old.broken ≡ false → (block : Block) (value : List ℕ)
       → (change block value).unsure ≡ false) → Logic new plain ended
-  logic_write_ended sound sure =
-      let next = ended in
-      let goes = it.goes in record {
-        sound = sound;
-        are = rw goes.map (ended_are);
-        sure = λ whole b below.
-            let was : old.broken ≡ false = sym goes.broken_is ∙ whole in
-            elim (in_piece o.range.start count b) [
-              | inl (j, lt, is) ↦ ap (λ n. (block_in next n).unsure) is ∙ ap (λ block. block.unsure)
-                  (ended_inside j lt)
-                  ∙ sure was (block_in left (o.range.start + j))
-                  (block_at old.map.atom (plain lane) j)
-              | inr outside ↦
-                  ap (λ block. block.unsure)
-                  (ended_outside old plain left lane o change count b outside)
-                  ∙ it.logic.sure was b (subst (λ m. b < m.blocks) goes.map below)
-            ];
-        lanes = lanes_still (goes_stays goes) goes.lane_is (λ k other. refl) (still_holds goes)
-            (λ was. goes.broken_is ∙ was) (λ p is. absurd (cc))
-            (λ k p is. let knows = it.logic.lanes k p is in
-            knows_renewed knows (λ reading i below. let same = read_beside k p i is reading knows
-            below in (ap (λ block. block.newest) same, ap (λ block. block.unsure) same)));
-      }
+  logic_write_ended sound sure = record {
+    sound = sound;
+    are = rw it.goes.map ended_are;
+    sure = λ whole b below. (let was : old.broken ≡ false = sym it.goes.broken_is ∙ whole in
+        elim (in_piece o.range.start count b) [
+          | inl (j, lt, is) ↦ ap (λ block. block.unsure) (ended_at b j lt is)
+              ∙ sure was (block_in left b) (block_at old.map.atom (plain lane) j)
+          | inr outside ↦ ap (λ block. block.unsure) (ended_beside b outside)
+              ∙ it.logic.sure was b (rw it.goes.map at below)
+        ]);
+    lanes = lanes_still (goes_stays it.goes)
+        it.goes.lane_is (λ k other. refl) (still_holds it.goes) (λ was. it.goes.broken_is
+        ∙ was) (λ p is. absurd (cc)) (λ k p is. let knows = it.logic.lanes k p is in
+        knows_renewed knows (λ reading i below.
+        let same = read_beside k p i is reading knows below in
+        (ap (λ block. block.newest) same, ap (λ block. block.unsure) same)));
+  }
 
   -- the candidates of a block, after its write ended
-  ended_allowed : (seals : Seals) (view : View) → Shown old seals plain left view → (b : ℕ)
+  ended_allowed : {seals : Seals} {view : View} → Shown old seals plain left view → (b : ℕ)
       → IsLive old b → (atom : List ℕ) → Contains (view.candidates (place_in old.map b)) atom
-      → (value : List ℕ)
-      × IsAllowedAt new plain ended b value
-      × IsSealed old.map seals b value atom
-  ended_allowed seals view shown b below atom contains =
-      let next = ended in
+      → (value : List ℕ) × IsAllowedAt new plain ended b value × IsSealed old.map seals b value atom
+  ended_allowed {seals = seals} shown b below atom contains =
       let (value, allowed, sealed) = shown.candidates b below atom contains in
       elim (in_piece o.range.start count b) [
         | inl (j, lt, is) ↦
-            let now : block_in next b
-            ≡ change (block_in left b) (block_at old.map.atom (plain lane) j) =
-            subst (λ n. block_in next n
-            ≡ change (block_in left n) (block_at old.map.atom (plain lane) j)) (sym is)
-            (ended_inside j lt) in
-            let own_has : Contains (values_of (block_in next b))
-            (block_at old.map.atom (plain lane) j) =
-            rw now (it.has (block_in left b) (block_at old.map.atom (plain lane) j)) in
-            elim (it.keeps (omega (arith, lt))) [
+            let mine = block_at old.map.atom (plain lane) j in
+            let now = ended_at b j lt is in
+            let own_has : Contains (values_of (block_in ended b)) mine =
+            rw now (it.has (block_in left b) mine) in
+            elim (it.keeps (omega arith)) [
               | inl keeps ↦ elim allowed [
-                | inl contains_old ↦ (
-                  value,
-                  inl (rw now (keeps (block_in left b) (block_at old.map.atom (plain lane) j) value
-                      contains_old)),
-                  sealed,
-                )
-                | inr (k, tried) ↦ elim (same_or_not k lane) [
-                  | inl same ↦
-                      let (i, i_lt, i_is, i_value) =
-                      own_of b value (subst (λ n. IsTriedBy old plain n b value) same tried) in
-                      let same_j : i ≡ j = omega (arith, is, i_is) in (
+                | inl had ↦ (value, inl (rw now (keeps (block_in left b) mine value had)), sealed)
+                | inr (k, tried) ↦ elim (tried_after k b value tried) [
+                  | inl own ↦
+                      let (i, i_lt, i_is, i_value) = own_of b value own in
+                      let same_j : i ≡ j = omega arith in (
                         value,
-                        inl (subst (λ v. Contains (values_of (block_in next b)) v)
-                            (sym (i_value ∙ ap (λ n. block_at old.map.atom (plain lane) n) same_j))
-                            own_has),
+                        inl (subst (λ v. Contains (values_of (block_in ended b)) v) (sym (i_value
+                            ∙ ap (λ n. block_at old.map.atom (plain lane) n) same_j)) own_has),
                         sealed,
                       )
-                  | inr other ↦ (
-                    value,
-                    inr (
-                      k,
-                      tried_after k b value other tried,
-                    ),
-                    sealed,
-                  )
+                  | inr still ↦ (value, inr (k, still), sealed)
                 ]
               ]
               | inr (forced, settled) ↦
-                  let place : b - o.range.start ≡ j = omega (arith, is) in (
-                    block_at old.map.atom (plain lane) j,
+                  let place : b - o.range.start ≡ j = omega arith in (
+                    mine,
                     inl own_has,
-                    subst (λ n. IsSealed old.map seals b (block_at old.map.atom (plain lane) n)
-                        atom)
-                        place
-                        (shown.settled lane o it.at forced settled b (omega (arith, is))
-                        (let most = it.most in omega (arith, most, is, lt)) atom contains),
+                    subst (λ n. IsSealed old.map
+                        seals b (block_at old.map.atom (plain lane) n) atom) place (shown.settled
+                        lane o it.at forced settled b (omega arith) (omega arith) atom contains),
                   )
             ]
-        | inr outside ↦
-            let same = ended_outside old plain left lane o change count b outside in
-            elim allowed [
-              | inl contains_old ↦ (
-                value,
-                inl (subst (λ block. Contains (values_of block) value) (sym same) contains_old),
-                sealed,
-              )
-              | inr (k, tried) ↦ elim (same_or_not k lane) [
-                | inl is_lane ↦
-                    absurd (let (i, i_lt, i_is, i_value) =
-                    own_of b value (subst (λ n. IsTriedBy old plain n b value) is_lane tried) in
-                    elim outside [
-                      | inl less ↦ omega (arith, less, i_is)
-                      | inr more ↦ omega (arith, more, i_is, i_lt)
-                    ])
-                | inr other ↦ (
-                  value,
-                  inr (
-                    k,
-                    tried_after k b value other tried,
-                  ),
-                  sealed,
-                )
-              ]
-            ]
+        | inr outside ↦ elim allowed [
+          | inl had ↦ (
+            value,
+            inl (subst (λ block. Contains (values_of block) value)
+                (sym (ended_beside b outside)) had),
+            sealed,
+          )
+          | inr (k, tried) ↦ elim (tried_after k b value tried) [
+            | inl own ↦ absurd (not_own b value outside own)
+            | inr still ↦ (value, inr (k, still), sealed)
+          ]
+        ]
       ]
 
   -- what a block holds, after its write ended
   ended_current : (b : ℕ) (value : List ℕ) → IsNow old plain left b value
       → IsNow new plain ended b value
-  ended_current b value is_now =
-      elim (in_piece o.range.start count b) [
-        | inl (j, lt, is) ↦
-            let now : (block_in next b).newest ≡ block_at old.map.atom (plain lane) j =
-            subst (λ n. (block_in next n).newest ≡ block_at old.map.atom (plain lane) j) (sym is)
-            (ap (λ block. block.newest) (ended_inside j lt)
-            ∙ it.newest (block_in left (o.range.start + j))
-            (block_at old.map.atom (plain lane) j)) in
-            let place : b - o.range.start ≡ j = omega (arith, is) in
-            let enough : suc (b - o.range.start) * old.map.atom ≤ length (plain lane) =
-            (let size = it.are.size in let some =
-            it.some in rw (place, size) (grind (arith, lt))) in
-            let own : value ≡ block_at old.map.atom (plain lane) (b - o.range.start) =
-            own_value lane b value it.logic it.some it.at it.writes it.holds
-            (omega (arith, is)) (let most = it.most in omega (arith, most, is, lt)) enough is_now in
-            inr (
-              λ k other tried. (let (differ, before) =
-                  tried_before k b other tried in
-                  only_own k j other lt differ
-                  (subst (λ n. IsTriedBy old plain k n other) is before)),
-              own ∙ ap (λ n. block_at old.map.atom (plain lane) n) place ∙ sym now,
-            )
-        | inr outside ↦ beside outside is_now
-      ]
+  ended_current b value is_now = elim (in_piece o.range.start count b) [
+    | inl (j, lt, is) ↦
+        let now : (block_in ended b).newest ≡ block_at old.map.atom (plain lane) j =
+        ap (λ block. block.newest) (ended_at b j lt is)
+        ∙ it.newest (block_in left b) (block_at old.map.atom (plain lane) j) in
+        let place : b - o.range.start ≡ j = omega arith in
+        let enough : suc (b - o.range.start) * old.map.atom ≤ length (plain lane) =
+        (rw (place, it.are.size) (grind (arith, lt))) in
+        let own = own_value lane b value it.logic it.some it.at it.writes it.holds
+        (omega arith) (omega arith) enough is_now in
+        inr (
+          λ k other tried. (let (differ, before) = tried_before k b other tried in
+              only_own k j other lt differ (rw is at before)),
+          own ∙ ap (λ n. block_at old.map.atom (plain lane) n) place ∙ sym now,
+        )
+    | inr outside ↦ beside outside is_now
+  ]
     where
-      next : List Block
-      next = ended
-
       beside : IsOutside o.range.start count b → IsNow old plain left b value
-          → IsNow new plain next b value
-      beside outside (inl (k, tried)) = elim (same_or_not k lane) [
-        | inl is_lane ↦
-            absurd (let (i, i_lt, i_is, i_value) =
-            own_of b value (subst (λ n. IsTriedBy old plain n b value) is_lane tried) in
-            elim outside [
-              | inl less ↦ omega (arith, less, i_is)
-              | inr more ↦ omega (arith, more, i_is, i_lt)
-            ])
-        | inr other ↦
-            inl (k, tried_after k b value other tried)
+          → IsNow new plain ended b value
+      beside outside (inl (k, tried)) = elim (tried_after k b value tried) [
+        | inl own ↦ absurd (not_own b value outside own)
+        | inr still ↦ inl (k, still)
       ]
       beside outside (inr (none, is)) = inr (
-        λ k other tried. (let (differ, before) =
-            tried_before k b other tried in
-            none k other before),
-        is ∙ sym
-            (ap (λ block. block.newest)
-            (ended_outside old plain left lane o change count b outside)),
+        λ k other tried. none k other (tried_before k b other tried).1,
+        is ∙ sym (ap (λ block. block.newest) (ended_beside b outside)),
       )
 
-  pub shown_write_ended : (seals : Seals) (view next : View) → IsUnchanged view next
+  pub shown_write_ended : {seals : Seals} (view next : View) → IsUnchanged view next
       → Shown old seals plain left view → Shown new seals plain ended next
-  shown_write_ended seals view next same shown =
-      let map = it.goes.map in
-      let blocks = ended in record {
-        current =
-            λ whole b below. subst
-            (λ m. (value : List ℕ) × IsNow new plain blocks b value
-            × IsSealed m seals b value (next.current (place_in m b))) (sym map)
-            (let (value, is_now, sealed) =
-            shown.current (sym it.goes.broken_is ∙ whole) b
-            (live_back b (goes_stays it.goes) below) in (
-              value,
-              ended_current b value is_now,
-              rw (same.current (place_in old.map b)) sealed,
-            ));
-        candidates =
-            λ b below atom contains. subst
-            (λ m. (value : List ℕ) × IsAllowedAt new plain blocks b value
-            × IsSealed m seals b value atom) (sym map)
-            (ended_allowed seals view shown b (live_back b (goes_stays it.goes) below) atom
-            (same.candidates (place_in old.map b) atom
-            (subst (λ m. Contains (next.candidates (place_in m b)) atom) map contains)));
-        settled =
-            λ k p is forced settled b from to atom contains. subst
-            (λ m. IsSealed m seals b (block_at m.atom (plain k) (b - p.range.start)) atom) (sym map)
-            (elim (same_or_not k lane) [
-              | inl same_lane ↦
-                  absurd (let own =
-                  ap (λ n. open_at new.lanes n) same_lane ∙ it.goes.lane_is.own in cc)
-              | inr other ↦
-                  shown.settled k p (sym (it.goes.lane_is.others k other) ∙ is) forced settled b
-                  from
-                  to atom
-                  (same.candidates (place_in old.map b) atom
-                  (subst (λ m. Contains (next.candidates (place_in m b)) atom) map contains))
-            ]);
-        zone = λ work is. (let was =
-            sym it.goes.work ∙ is in
-            rw map (zone_renewed seals left blocks old.map.atom new.broken next
-            (it.works work was) was
-            (λ b below of. ap (λ block. block.newest)
-            (ended_outside old plain left lane o change count b
-            (elim (in_piece o.range.start count b) [
-              | inl (j, lt, at) ↦ absurd (it.live b (omega (arith, at)) (omega (arith, at, lt)) of)
-              | inr outside ↦ outside
-            ])))
-            (zone_kept old.map.atom work.layout work.zone (texts_of seals left work) work.phase
-            old.broken new.broken view next
-            (λ whole. (sym it.goes.broken_is ∙ whole, same.current)) same.candidates
-            (shown.zone work was))));
-      }
+  shown_write_ended {seals = seals} view next same shown = shown_by (goes_stays it.goes) (λ whole
+      b live. let (value, is_now, sealed) = shown.current (sym it.goes.broken_is ∙ whole) b live in
+      (value, ended_current b value is_now, rw (same.current (place_in old.map b)) sealed))
+      (λ b live atom contains. ended_allowed shown b live atom (same.candidates (place_in old.map b)
+      atom contains)) (λ k p is forced settled b from to atom contains. elim (same_or_not k lane) [
+        | inl own ↦ absurd (cc)
+        | inr other ↦ shown.settled k p (sym (it.goes.lane_is.others k other) ∙ is) forced settled
+            b from to atom (same.candidates (place_in old.map b) atom contains)
+      ]) (λ work is. zone_renewed seals left ended old.map.atom new.broken
+      next (it.works work is) is (λ b below. ended_newest b) (zone_kept old.map.atom work.layout
+      work.zone (texts_of seals left work) work.phase old.broken new.broken view next (λ whole.
+      (sym it.goes.broken_is ∙ whole, same.current)) same.candidates (shown.zone work is)))

@@ -181,33 +181,53 @@ module _ {K : Type 0} {old new : State K} {plain now : ℕ → List ℕ}
   allowed_kept (inl contains) = inl contains
   allowed_kept (inr (lane, tried)) = inr (lane, keeps.kept lane b value tried)
 
+-- what the disk shows, said of the places that its blocks had before
+pub shown_by : {K : Type 0} {old new : State K} {now : ℕ
+    → List ℕ} {left : List Block} {seals : Seals} {next : View} → Stays old new
+    → (new.broken ≡ false → (b : ℕ) → IsLive old b → (value : List ℕ) × IsNow new now left b value
+    × IsSealed old.map seals b value (next.current (place_in old.map b))) → ((b : ℕ)
+    → IsLive old b → (atom : List ℕ) → Contains (next.candidates (place_in old.map b)) atom
+    → (value : List ℕ) × IsAllowedAt new now left b value × IsSealed old.map seals b value atom)
+    → ((lane : ℕ) (o : Open) → open_at new.lanes lane ≡ Some o
+    → IsForced o.ask → o.settled ≡ true → (b : ℕ) → o.range.start ≤ b
+    → b < o.range.end → (atom : List ℕ) → Contains (next.candidates (place_in old.map b)) atom
+    → IsSealed old.map seals b (block_at old.map.atom (now lane) (b - o.range.start)) atom)
+    → ((work : Work) → old.work ≡ Some work → ShowsZone old.map.atom work.layout
+    work.zone (texts_of seals left work) work.phase new.broken next) → Shown new seals now left next
+shown_by {new = new} {now = now} {left = left} {seals = seals} {next = next} stays current
+    candidates settled zone = record {
+      current = λ whole b below. subst (λ m. (value : List ℕ) × IsNow new now left b value
+          × IsSealed m seals b value (next.current (place_in m b))) (sym stays.map)
+          (current whole b (live_back b stays below));
+      candidates = λ b below atom contains. subst (λ m. (value : List ℕ)
+          × IsAllowedAt new now left b value × IsSealed m seals b value atom) (sym stays.map)
+          (candidates b (live_back b stays below) atom (rw stays.map at contains));
+      settled = λ lane o is forced is_settled b from to atom contains. rw stays.map
+          (settled lane o is forced is_settled b from to atom (rw stays.map at contains));
+      zone = λ work is. rw stays.map (zone work (sym stays.work ∙ is));
+    }
+
 module _ {K : Type 0} {old new : State K} {plain now : ℕ → List ℕ} {left : List Block}
     (stays : Stays old new) where
   -- what the disk shows stays where no write was tried, finished or settled
   pub shown_kept : {seals : Seals} {view next : View} → KeepsWrites old plain new now → (new.broken
       ≡ false → (old.broken ≡ false) × ((place : ℕ) → next.current place ≡ view.current place))
       → IsThinned view next → Shown old seals plain left view → Shown new seals now left next
-  shown_kept {seals = seals} {view = view} {next = next} keeps unbroken thinned shown = record {
-    current = λ whole b below. subst (λ m. (value : List ℕ) × IsNow new now left b value
-        × IsSealed m seals b value (next.current (place_in m b))) (sym stays.map)
-        (let (was, same) = unbroken whole in
-        let (value, is_now, sealed) = shown.current was b (live_back b stays below) in
-        (value, now_kept keeps.tried left b value is_now, rw (same (place_in old.map b)) sealed));
-    candidates = λ b below atom contains. subst (λ m. (value : List ℕ)
-        × IsAllowedAt new now left b value × IsSealed m seals b value atom) (sym stays.map)
-        (let (value, allowed, sealed) = shown.candidates b (live_back b stays below) atom
-        (thinned (place_in old.map b) atom (rw stays.map at contains)) in
-        (value, allowed_kept keeps.tried left b value allowed, sealed));
-    settled = λ lane o is forced is_settled b from to atom contains.
-        let (before, was, ask, range, was_settled, known) =
-        keeps.settled lane o is forced is_settled in
-        let sealed = shown.settled lane before was (rw ask forced) was_settled b (rw range from)
-        (rw range to) atom (thinned (place_in old.map b) atom (rw stays.map at contains)) in
-        rw (stays.map, known, ← range) sealed;
-    zone = λ work is. rw stays.map
-        (zone_kept old.map.atom work.layout work.zone (texts_of seals left work) work.phase
-        old.broken new.broken view next unbroken thinned (shown.zone work (sym stays.work ∙ is)));
-  }
+  shown_kept {seals = seals} {view = view} {next = next} keeps unbroken thinned shown =
+      shown_by stays (λ whole b live. let (was, same) = unbroken whole in
+      let (value, is_now, sealed) = shown.current was b live in
+      (value, now_kept keeps.tried left b value is_now, rw (same (place_in old.map b)) sealed))
+      (λ b live atom contains. let (value, allowed, sealed) = shown.candidates b live atom
+      (thinned (place_in old.map b) atom contains) in
+      (value, allowed_kept keeps.tried left b value allowed, sealed))
+      (λ lane o is forced is_settled b from to atom contains.
+      let (before, was, ask, range, was_settled, known) =
+      keeps.settled lane o is forced is_settled in
+      let sealed = shown.settled lane before was (rw ask forced) was_settled b (rw range from)
+      (rw range to) atom (thinned (place_in old.map b) atom contains) in
+      rw (known, ← range) sealed)
+      (λ work is. zone_kept old.map.atom work.layout work.zone (texts_of seals left work)
+      work.phase old.broken new.broken view next unbroken thinned (shown.zone work is))
 
   -- what the other lanes know stays
   pub knows_still : {lane : ℕ} {o : Open} → now lane ≡ plain lane

@@ -51,14 +51,13 @@ forward_places map forward b =
           inl (below, rw side refl)
       | inr (from, is) ↦ inr (
         from,
-        on_old map b (side_at map b)
-            (elim (run_at Zone map.zone k (replicate left Old)) [
-              | inl (zoned, at) ↦ inr (inl (rw forward (is ∙ at)))
-              | inr (past, at) ↦ elim (last_run Old left (k - map.zone)) [
-                | inl old ↦ inl (rw forward (is ∙ at ∙ old))
-                | inr none ↦ inr (inr (rw forward (is ∙ at ∙ none)))
-              ]
-            ]),
+        on_old map b (side_at map b) (elim (run_at Zone map.zone k (replicate left Old)) [
+          | inl (zoned, at) ↦ inr (inl (rw forward (is ∙ at)))
+          | inr (past, at) ↦ elim (last_run Old left (k - map.zone)) [
+            | inl old ↦ inl (rw forward (is ∙ at ∙ old))
+            | inr none ↦ inr (inr (rw forward (is ∙ at ∙ none)))
+          ]
+        ]),
       )
     ]
 
@@ -69,18 +68,17 @@ backward_places map backward b inside =
     let before = map.boundary - map.zone in let left = map.blocks - map.boundary in
     let zone : map.zone ≤ map.boundary =
     let same : left_of map.direction map.blocks map.boundary ≡ map.boundary = rw backward refl in
-    omega (arith, map.zone_left, same) in
+    omega arith in
     elim (run_at Old before b (replicate map.zone Zone ++ replicate left New)) [
-      | inl (old, is) ↦
-          inl (omega (arith, old), on_old map b (side_at map b) (inl (rw backward is)))
+      | inl (old, is) ↦ inl (omega arith, on_old map b (side_at map b) (inl (rw backward is)))
       | inr (from, is) ↦ elim (run_at Zone map.zone (b - before) (replicate left New)) [
         | inl (zoned, at) ↦ inl (
-          omega (arith, from, zoned, zone),
+          omega arith,
           on_old map b (side_at map b) (inr (inl (rw backward (is ∙ at)))),
         )
         | inr (past, at) ↦ let side : side_at map b ≡ Some New = rw backward (is ∙ at ∙ run_last
-            New left (b - before - map.zone) (omega (arith, from, past, zone, inside))) in
-            inr (omega (arith, from, past, zone), rw side refl)
+            New left (b - before - map.zone) (omega arith)) in
+            inr (omega arith, rw side refl)
       ]
     ]
 

@@ -1,12 +1,13 @@
 -- Lemmas on the blocks of a plain disk, block by block.
 use Rattle.volume_machine.proofs.Common
-use Common.{Contains, List, [], ap, ap₂, arith, drop, false, le_of_suc-le-suc, length}
-use Common.{length-append, length-take, map, mul-le-mul_right, suc, suc-le-suc, sym, take, zero, ℕ}
-use Common.{◌*◌, ◌++◌, ◌+◌, ◌<◌, ◌∙◌, ◌∷◌, ◌≡◌, ◌≤◌, drop_at, get_or-drop, get_or-map, get_or-take}
-use Common.{take_at, Contains-append_left, Contains-push, blocks_of, changed, joined, block_at}
-use Common.{IsOutside, block_at-first, block_at-next, block_at-part, block_end, length-part}
-use Common.{same_blocks, Block, flushed, settled, values_of, written, AreSure, newest_bytes}
-use Rattle.disk_views.proofs.Entries.{changed_blocks-inside, changed_blocks-outside}
+use Common.{Contains, List, [], ap, arith, drop, false, le_of_suc-le-suc, length, length-take, map}
+use Common.{mul-le-mul_right, refl, replicate, slice_index_or, suc, suc-le-suc, sym, take, zero, ℕ}
+use Common.{◌*◌, ◌++◌, ◌+◌, ◌<◌, ◌∙◌, ◌∷◌, ◌≡◌, ◌≤◌, get_or-drop, get_or-map, get_or-take}
+use Common.{Contains-append_left, Contains-push, blocks_of, changed, joined, lengths, block_at}
+use Common.{IsOutside, block_at-part, length-part, same_blocks, Block, flushed, settled, values_of}
+use Common.{written, AreSure, newest_bytes}
+use Rattle.sector_disk.proofs.ImageLemmas.{blocks_of-joined, length-joined}
+use Rattle.disk_views.proofs.Entries.{blocks_of-at, changed_blocks-inside, changed_blocks-outside}
 use Rattle.volume_laws.specs.Contents.{block_in}
 
 -- blocks that are changed by the blocks of a text, and flushed ones
@@ -31,35 +32,30 @@ block_in-flushed blocks b inside = get_or-map flushed blocks b (settled []) (set
 abbrev pub AreSized : ℕ → List Block → Type 0
 AreSized atom blocks = (b : ℕ) → b < length blocks → length (block_in blocks b).newest ≡ atom
 
-sized_rest : (atom : ℕ) (block : Block) (blocks : List Block) → AreSized atom (block ∷ blocks)
-    → AreSized atom blocks
-sized_rest atom block blocks sized b inside = sized (suc b) (suc-le-suc inside)
-
-sized_first : (atom : ℕ) (block : Block) (blocks : List Block) → AreSized atom (block ∷ blocks)
-    → length block.newest ≡ atom
-sized_first atom block blocks sized = sized 0 (omega arith)
+even_newest : (atom : ℕ) (blocks : List Block) → AreSized atom blocks
+    → lengths (map (λ block. block.newest) blocks) ≡ replicate (length blocks) atom
+unfolding lengths
+even_newest atom [] sized = refl
+even_newest atom (block ∷ blocks) sized =
+    rw (sized 0 (omega arith), even_newest atom blocks (λ b below. sized (suc b) (suc-le-suc below)))
+    refl
 
 -- the newest values as one text
-pub length-newest_bytes : (atom : ℕ) (blocks : List Block) → AreSized atom blocks
-    → length (newest_bytes blocks) ≡ length blocks * atom
-unfolding newest_bytes joined
-length-newest_bytes atom [] sized = omega arith
-length-newest_bytes atom (block ∷ blocks) sized = length-append block.newest (newest_bytes blocks)
-    ∙ ap₂ (λ a b. a + b) (sized_first atom block blocks sized) (length-newest_bytes
-    atom blocks (sized_rest atom block blocks sized)) ∙ sym (block_end atom (length blocks))
+module _ (atom : ℕ) (blocks : List Block) (sized : AreSized atom blocks) where
+  length-newest_bytes : length (newest_bytes blocks) ≡ length blocks * atom
+  unfolding newest_bytes
+  length-newest_bytes = length-joined atom (length blocks) (map (λ block. block.newest) blocks)
+      (even_newest atom blocks sized)
 
-pub block_at-newest_bytes : (atom : ℕ) (blocks : List Block) (b : ℕ) → AreSized atom blocks
-    → b < length blocks → block_at atom (newest_bytes blocks) b ≡ (block_in blocks b).newest
-unfolding newest_bytes joined
-block_at-newest_bytes atom [] b sized inside = absurd (omega arith)
-block_at-newest_bytes atom (block ∷ blocks) zero sized inside =
-    block_at-first atom (block.newest ++ newest_bytes blocks)
-    ∙ take_at block.newest (newest_bytes blocks) atom (sized_first atom block blocks sized)
-block_at-newest_bytes atom (block ∷ blocks) (suc b) sized inside =
-    sym (block_at-next atom (block.newest ++ newest_bytes blocks) b)
-    ∙ ap (λ text. block_at atom text b) (drop_at block.newest
-    (newest_bytes blocks) atom (sized_first atom block blocks sized)) ∙ block_at-newest_bytes
-    atom blocks b (sized_rest atom block blocks sized) (le_of_suc-le-suc inside)
+  block_at-newest_bytes : (b : ℕ) → b < length blocks
+      → block_at atom (newest_bytes blocks) b ≡ (block_in blocks b).newest
+  unfolding newest_bytes
+  block_at-newest_bytes b inside =
+      let values = map (λ block. block.newest) blocks in
+      sym (blocks_of-at atom (length blocks) (joined values) b [] inside)
+      ∙ ap (λ vs. slice_index_or vs b []) (blocks_of-joined atom (length blocks) values
+      (even_newest atom blocks sized))
+      ∙ get_or-map (λ block. block.newest) blocks b (settled []) [] inside
 
 -- a text of the newest values of some blocks is that part of the newest bytes
 pub is_newest_part : (atom s n : ℕ) (blocks : List Block) (text : List ℕ) → AreSized atom blocks
@@ -69,7 +65,7 @@ pub is_newest_part : (atom s n : ℕ) (blocks : List Block) (text : List ℕ) �
 is_newest_part atom s n blocks text sized within is newest = same_blocks atom n text (take (n
     * atom) (drop (s * atom) (newest_bytes blocks))) is (length-part atom s n (newest_bytes blocks)
     (omega (arith, mul-le-mul_right atom within, length-newest_bytes atom blocks sized))) (λ k
-    inside. newest k inside ∙ sym (block_at-newest_bytes atom blocks (s + k) sized (omega arith))
+    inside. newest k inside ∙ sym (block_at-newest_bytes atom blocks sized (s + k) (omega arith))
     ∙ sym (block_at-part atom s n (newest_bytes blocks) k inside))
 
 -- no block is unsure

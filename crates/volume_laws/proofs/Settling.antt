@@ -7,11 +7,11 @@ use Common.{IsWrite, has_lock, place_in, settling, Seals, IsSound, State, open_a
 use Common.{Works}
 use Rattle.disk_zones.specs.Calls.{syncs}
 use Rattle.volume_machine.specs.declared.open.Open.{Open}
-use Rattle.volume_laws.specs.Contents.{IsAllowedAt, IsNow, IsSealed, block_in}
+use Rattle.volume_laws.specs.Contents.{IsAllowedAt, IsNow, block_in}
 use Rattle.volume_laws.specs.Texts.{texts_of}
 use Rattle.volume_laws.proofs.Admits.{idle}
 use Rattle.volume_laws.proofs.Invariant.{KeepsTried, LaneKnows, Logic, Shown, Stays, TriesNothing}
-use Rattle.volume_laws.proofs.Invariant.{goes_stays, live_back, now_kept, shown_kept, tried_go_on}
+use Rattle.volume_laws.proofs.Invariant.{goes_stays, now_kept, shown_by, shown_kept, tried_go_on}
 use Rattle.volume_laws.proofs.Invariant.{tried_stay, writes_stay}
 use Rattle.volume_laws.proofs.PlainBlocks.{block_in-flushed, newest_contained}
 use Rattle.volume_laws.proofs.Reading.{forced_writes, knows_on, knows_with, logic_goes_on}
@@ -58,11 +58,12 @@ SettledBefore old new = (lane : ℕ) (o : Open) → open_at new.lanes lane ≡ S
     × IsForced p.ask × (p.range ≡ o.range) × (p.next ≡ p.range.end)
 
 -- after a sync: each block's atom has the one candidate that it holds
-module _ {K : Type 0} {old new : State K} {plain : ℕ
-    → List ℕ} {left : List Block} (next_left : List Block) (logic : Logic old plain left) (some : 0
-    < old.map.atom) (works : Works old) (stays : Stays old new) (was : old.broken ≡ false)
-    (keeps : KeepsTried old plain new plain) (newest : (b : ℕ) → b < old.map.blocks → (block_in
-    next_left b).newest ≡ (block_in left b).newest) (settled : SettledBefore old new) where
+module _ {K : Type 0} {old new : State K} {plain : ℕ → List ℕ} {left : List Block}
+    (next_left : List Block) (logic : Logic old plain left) (some : 0 < old.map.atom)
+    (works : Works old) (stays : Stays old new) (was : old.broken ≡ false)
+    (keeps : KeepsTried old plain new plain) (newest : (b : ℕ) → b < old.map.blocks
+    → (block_in next_left b).newest ≡ (block_in left b).newest)
+    (settled : SettledBefore old new) where
   renewed : (b : ℕ) (value : List ℕ) → b < old.map.blocks → IsNow old plain left b value
       → IsNow new plain next_left b value
   renewed b value below now = elim (now_kept keeps left b value now) [
@@ -77,44 +78,31 @@ module _ {K : Type 0} {old new : State K} {plain : ℕ
 
   shown_synced : {seals : Seals} {view next : View} → IsSynced view next
       → Shown old seals plain left view → Shown new seals plain next_left next
-  shown_synced {seals = seals} {view = view} {next = next} synced shown = record {
-    current = λ whole b below. subst (λ m. (value : List ℕ) × IsNow new plain next_left b value
-        × IsSealed m seals b value (next.current (place_in m b))) (sym stays.map)
-        (let live = live_back b stays below in
-        let (value, is_now, sealed) = shown.current was b live in (
-          value,
-          renewed b value live.inside is_now,
-          rw (synced.current (place_in old.map b)) sealed,
-        ));
-    candidates = λ b below atom contains. subst (λ m. (value : List ℕ)
-        × IsAllowedAt new plain next_left b value × IsSealed m seals b value atom) (sym stays.map)
-        (let live = live_back b stays below in
-        let (value, is_now, sealed) = shown.current was b live in
-        let same : atom ≡ view.current (place_in old.map b) =
-        synced.candidates (place_in old.map b) atom (rw stays.map at contains) in
-        (value, allowed b value (renewed b value live.inside is_now), rw same sealed));
-    settled = λ lane o is forced is_settled b from to atom contains. rw stays.map
-        (let (p, at, is_forced, range, whole) = settled lane o is forced is_settled in
-        let p_from : p.range.start ≤ b = rw range from in
-        let p_to : b < p.range.end = rw range to in let knows = logic.lanes lane p at in
-        let writes = forced_writes p.ask is_forced in
-        let holds : Holds old lane = knows.holds (omega arith) in
-        let live = ended_live lane logic.sound works was at (writes_lock p.ask writes) holds
-        (omega arith) in
-        let (value, is_now, sealed) = shown.current was b (live b p_from p_to) in
-        let own = own_value lane b value logic some at writes holds p_from p_to
-        (tried_whole b knows whole p_from p_to) is_now in
-        let same : atom ≡ view.current (place_in old.map b) =
-        synced.candidates (place_in old.map b) atom (rw stays.map at contains) in
-        rw (← range, ← own, same) sealed);
-    zone = λ work is. (let was_so = sym stays.work ∙ is in
-        let texts = texts_of seals left work in
-        rw stays.map (zone_renewed seals left next_left old.map.atom new.broken next (works
-        work was_so) was_so (λ b below of. newest b below) (zone_whole old.map.atom work.layout
-        work.zone texts work.phase new.broken next (zone_stays old.map.atom work.layout work.zone
-        texts work.phase false view next (syncs synced) (subst (λ b. ShowsZone old.map.atom
-        work.layout work.zone texts work.phase b view) was (shown.zone work was_so))))));
-  }
+  shown_synced {seals = seals} {view = view} {next = next} synced shown = shown_by stays
+      (λ whole b live. let (value, is_now, sealed) = shown.current was b live in
+      (value, renewed b value live.inside is_now, rw (synced.current (place_in old.map b)) sealed))
+      (λ b live atom contains. let (value, is_now, sealed) = shown.current was b live in (
+        value,
+        allowed b value (renewed b value live.inside is_now),
+        rw (synced.candidates (place_in old.map b) atom contains) sealed,
+      )) (λ lane o is forced is_settled b from to atom contains.
+      let (p, at, is_forced, range, whole) = settled lane o is forced is_settled in
+      let p_from : p.range.start ≤ b = rw range from in
+      let p_to : b < p.range.end = rw range to in let knows = logic.lanes lane p at in
+      let writes = forced_writes p.ask is_forced in
+      let holds : Holds old lane = knows.holds (omega arith) in
+      let live = ended_live lane logic.sound works was at (writes_lock p.ask writes) holds
+      (omega arith) in
+      let (value, is_now, sealed) = shown.current was b (live b p_from p_to) in
+      let own = own_value lane b value logic some at writes holds p_from p_to
+      (tried_whole b knows whole p_from p_to) is_now in
+      rw (← range, ← own, synced.candidates (place_in old.map b) atom contains) sealed)
+      (λ work is. let texts = texts_of seals left work in
+      zone_renewed seals left next_left
+      old.map.atom new.broken next (works work is) is (λ b below of. newest b below) (zone_whole
+      old.map.atom work.layout work.zone texts work.phase new.broken next (zone_stays old.map.atom
+      work.layout work.zone texts work.phase false view next (syncs synced) (subst (λ b. ShowsZone
+      old.map.atom work.layout work.zone texts work.phase b view) was (shown.zone work is)))))
 
 -- what a lane knows of other blocks of the plain disk, where those that it has read are the same
 pub knows_renewed : {K : Type 0} {state : State K} {plain : ℕ → List ℕ} {left next : List Block}
@@ -154,9 +142,8 @@ module _ {K : Type 0} {old new : State K} {plain : ℕ → List ℕ} {left : Lis
       → Logic new plain (map flushed left)
   logic_flushed was sound logic =
       let ended = logic_unflushed (λ whole. was) sound logic in
-      let same : (b : ℕ) → b < new.map.blocks
-      → block_in (map flushed left) b ≡ flushed (block_in left b) = λ b below.
-      block_in-flushed left b (omega (arith, below, ended.are.count)) in record {
+      let same : (b : ℕ) → b < new.map.blocks → block_in (map flushed left) b
+      ≡ flushed (block_in left b) = λ b below. block_in-flushed left b (omega arith) in record {
         sound = sound;
         are = record {
           count = length-map left flushed ∙ ended.are.count;
@@ -174,9 +161,10 @@ module _ {K : Type 0} {old new : State K} {plain : ℕ → List ℕ} {left : Lis
     pub shown_flushed : 0 < old.map.atom → Logic old plain left → old.broken ≡ false → Works old
         → IsSynced view next → Shown old seals plain left view
         → Shown new seals plain (map flushed left) next
-    shown_flushed some logic was works = shown_synced (map flushed left) logic some works
-        (goes_stays goes) was (tried_stay goes.map goes.lane_is (λ k other. refl) (flush_untried
-        is free) (idle goes.lane_is.own)) (λ b below. ap (λ block. block.newest) (block_in-flushed left b (omega arith)))
+    shown_flushed some logic was works =
+        shown_synced (map flushed left) logic some works (goes_stays goes) was (tried_stay
+        goes.map goes.lane_is (λ k other. refl) (flush_untried is free) (idle goes.lane_is.own))
+        (λ b below. ap (λ block. block.newest) (block_in-flushed left b (omega arith)))
         (λ k one at forced settled. elim (same_or_not k lane) [
           | inl same ↦ absurd (cc)
           | inr other ↦ let before = sym (goes.lane_is.others k other) ∙ at in

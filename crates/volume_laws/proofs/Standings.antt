@@ -16,9 +16,8 @@ module _ {atom : ℕ} {seals : Seals} (lawful : AreLawful atom seals) where
   -- what is sealed alike is alike
   sealed_one : (side : Side) (b : ℕ) {one other : List ℕ} → AreBlocks atom 1 one
       → AreBlocks atom 1 other → seals.sealed side b one ≡ seals.sealed side b other → one ≡ other
-  sealed_one side b {one = one} {other = other} are also same =
-      sym (lawful.opens_sealed side b one are) ∙ ap (λ text. seals.opened side b text) same
-      ∙ lawful.opens_sealed side b other also
+  sealed_one side b {one = one} {other = other} are also same = sym (lawful.opens_sealed side b
+      one are) ∙ ap (λ text. seals.opened side b text) same ∙ lawful.opens_sealed side b other also
 
   -- a digest tells one block
   digest_tells : {hash : Hash} (b : ℕ) {told own one other : List ℕ} → AreBlocks atom 1 one
@@ -46,7 +45,8 @@ module _ {atom : ℕ} {seals : Seals} (lawful : AreLawful atom seals) where
       sealed_one Old b are also (rw place at (sym tells ∙ tells_also))
   recovers_one checksum hash work image i b one other place are also tells tells_also =
       digest_tells b are also (rw place at tells) (rw place at tells_also)
-  recovers_one datashift hash work image i b one other place are also tells tells_also = absurd tells
+  recovers_one datashift hash work image i b one other place are also tells tells_also =
+      absurd tells
 
 block_one : {map : Map} {seals : Seals} → AreLawful map.atom seals → (reading : Reading)
     (work : Work) (image : Image) (one other : Content) (b : ℕ)

@@ -30,8 +30,7 @@ starts_by blocks sound fresh apart lawful values count each = record {
     count = count;
     newest = λ b below. (let (value, is, sealed) = each b below in rw is sealed.0);
   };
-  sure = sure_blocks blocks (λ b below. ap (λ block. block.unsure)
-      (each b (omega (arith, below, count))).1);
+  sure = sure_blocks blocks (λ b below. ap (λ block. block.unsure) (each b (omega arith)).1);
   values = values;
   stands = λ b below. (let (value, is, sealed) = each b below in rw is sealed);
 }
@@ -128,10 +127,9 @@ pub plain_starts : {K : Type 0} (start : State K) (seals : Seals) (bytes : List 
     → length bytes ≡ start.disk.atoms * start.map.atom → AreBytes bytes →
     Starts start seals (plain_blocks start bytes) bytes
 plain_starts start seals bytes sound fresh apart whole lawful nothing values long are =
-    starts_by (plain_blocks start bytes) sound fresh apart lawful values
-    (length-settled (blocks_of start.map.atom start.disk.atoms bytes)
-    ∙ length-blocks_of start.map.atom start.disk.atoms bytes ∙ sym whole.blocks)
-    (λ b below. let inside = subst (λ n. b < n) whole.blocks below in
+    starts_by (plain_blocks start bytes) sound fresh apart lawful values (length-settled (blocks_of
+    start.map.atom start.disk.atoms bytes) ∙ length-blocks_of start.map.atom start.disk.atoms bytes
+    ∙ sym whole.blocks) (λ b below. let inside = subst (λ n. b < n) whole.blocks below in
     let is = plain_in start.map.atom start.disk.atoms bytes b inside in (
       block_at start.map.atom bytes b,
       is,
