@@ -102,9 +102,9 @@ module _ {K P Q : Type 0} {seals : Seals} {old new : State K} {plain : ℕ → L
           refused_served session ask number free same
           (λ exchange. step_wrong old.map.atom left here.logic.are.count is) (rw refusing at are))
       by None is = let judged = rw is at step in elim (either old.broken) [
-        | inl was ↦ (let (refusing, same) = match_true old.broken _ _ was judged in
+        | inl was ↦ let (refusing, same) = match_true old.broken _ _ was judged in
             refused_served session ask 5 free same (λ exchange.
-            step_refused old.map.atom left here.logic.are.count is has_bytes) (rw refusing at are))
+            step_refused old.map.atom left here.logic.are.count is has_bytes) (rw refusing at are)
         | inr was ↦ admitted_served free is (match_false old.broken _ _ was judged) are
       ]
 
@@ -240,8 +240,7 @@ module _ {K P Q : Type 0} {seals : Seals} {old new : State K} {plain : ℕ → L
             (λ view after. shown_flushed goes at free has_bytes here.logic step.was here.works);
         map = step.goes.map;
         work = step.goes.work;
-        newest = λ b below of. ap (λ block. block.newest)
-            (block_in-flushed left b (omega arith));
+        newest = λ b below of. ap (λ block. block.newest) (block_in-flushed left b (omega arith));
       }
   flush_served {o = o} device at is step are =
       let free : has_lock o.ask ≡ false = rw is refl in

@@ -44,36 +44,29 @@ settled_is q now p is = elim (either (has_lock q.ask)) [
 ]
 
 -- the lane of the event
-own_fails : (atom : ℕ) (event : Event) (outcome : Outcome) (now : Option Open) (before : Bool) →
-    ((lane session : ℕ) (ask : _) → event ≡ admits lane session ask → now ≡ None) →
-    ((p : Open) → now ≡ Some p → p.failed ≡ before) → (o : Open) →
-    open_after atom event outcome now ≡ Some o → o.failed ≡ has_failed_by event outcome before
-own_fails atom (admits lane session ask) (held grant) now before free was o is =
-    ap (λ x. x.failed) (let e : o ≡ begun atom session ask = cc in e)
-own_fails atom (admits lane session ask) (waits other) now before free was o is =
-    ap (λ x. x.failed) (let e : o ≡ begun atom session ask = cc in e)
-own_fails atom (admits lane session ask) _ now before free was o is =
-    absurd (let none = free lane session ask refl in cc)
-own_fails atom (asks lane) outcome now before free was o is = was o is
-own_fails atom (reads lane len) outcome None before free was o is = absurd (cc)
-own_fails atom (reads lane len) outcome (Some q) before free was o is =
-    let e : o ≡ after_got atom outcome q = cc in ap (λ x. x.failed) e ∙ got_fails atom outcome q
-    ∙ ap (λ b. b || is_failure outcome) (was q refl)
-own_fails atom (writes lane sealed) outcome None before free was o is = absurd (cc)
-own_fails atom (writes lane sealed) outcome (Some q) before free was o is =
-    let e : o ≡ after_put atom sealed outcome q = cc in ap (λ x. x.failed) e
-    ∙ put_fails atom sealed outcome q ∙ ap (λ b. b || is_failure outcome) (was q refl)
-own_fails atom (settles lane) outcome None before free was o is = absurd (cc)
-own_fails atom (settles lane) outcome (Some q) before free was o is =
+own_fails : {K : Type 0} (old : State K) (event : Event) (outcome : Outcome) (now : Option Open)
+    (before : Bool) → open_at old.lanes (lane_of event) ≡ now → Meets old event
+    → ((p : Open) → now ≡ Some p → p.failed ≡ before) → (o : Open)
+    → open_after old.map.atom event outcome now ≡ Some o
+    → o.failed ≡ has_failed_by event outcome before
+unfolding Can
+own_fails old (admits lane session ask) (held grant) now before at meets was o is =
+    ap (λ x. x.failed) (let e : o ≡ begun old.map.atom session ask = cc in e)
+own_fails old (admits lane session ask) (waits other) now before at meets was o is =
+    ap (λ x. x.failed) (let e : o ≡ begun old.map.atom session ask = cc in e)
+own_fails old (admits lane session ask) _ now before at meets was o is =
+    absurd (let none = meets.can in cc)
+own_fails old (asks lane) outcome now before at meets was o is = was o is
+own_fails old (reads lane len) outcome (Some q) before at meets was o is =
+    let e : o ≡ after_got old.map.atom outcome q = cc in ap (λ x. x.failed) e
+    ∙ got_fails old.map.atom outcome q ∙ ap (λ b. b || is_failure outcome) (was q refl)
+own_fails old (writes lane sealed) outcome (Some q) before at meets was o is =
+    let e : o ≡ after_put old.map.atom sealed outcome q = cc in ap (λ x. x.failed) e
+    ∙ put_fails old.map.atom sealed outcome q ∙ ap (λ b. b || is_failure outcome) (was q refl)
+own_fails old (settles lane) outcome (Some q) before at meets was o is =
     ap (λ x. x.failed) (settled_is q (after_sync outcome q) o is) ∙ sync_fails outcome q
     ∙ ap (λ b. b || is_failure outcome) (was q refl)
-own_fails atom (finishes lane) outcome now before free was o is = absurd (cc)
-
-free_admit : {K : Type 0} (old : State K) (event : Event) → Meets old event →
-    (lane session : ℕ) (ask : _) → event ≡ admits lane session ask →
-    open_at old.lanes (lane_of event) ≡ None
-unfolding Can
-free_admit old event meets lane session ask is = rw is (rw is at meets.can)
+own_fails old _ outcome now before at meets was o is = absurd (cc)
 
 event_fails : {K : Type 0} (old new : State K) (lane : ℕ) (event : Event) (outcome : Outcome)
     (before : Bool) → Meets old event → Step old event outcome new →
@@ -84,9 +77,8 @@ event_fails old new lane event outcome before meets step was o is =
     elim (either (nat_eq (lane_of event) lane)) [
       | inl own ↦
           let e : lane_of event ≡ lane = grind (arith, own) in
-          own_fails old.map.atom event outcome (open_at old.lanes (lane_of event)) before
-          (free_admit old event meets) (λ p at. was p (ap (λ n. open_at old.lanes n) (sym e) ∙ at))
-          o (sym goes.lane_is.own ∙ ap (λ n. open_at new.lanes n) e ∙ is) ∙ sym (rw own refl)
+          own_fails old event outcome _ before refl meets (λ p at. was p (rw (← e) at)) o
+          (sym goes.lane_is.own ∙ ap (λ n. open_at new.lanes n) e ∙ is) ∙ sym (rw own refl)
       | inr other ↦ was o (sym (goes.lane_is.others lane (λ same. grind (arith, same, other))) ∙ is)
           ∙ sym (rw other refl)
     ]

@@ -36,9 +36,10 @@ even_newest : (atom : ℕ) (blocks : List Block) → AreSized atom blocks
     → lengths (map (λ block. block.newest) blocks) ≡ replicate (length blocks) atom
 unfolding lengths
 even_newest atom [] sized = refl
-even_newest atom (block ∷ blocks) sized =
-    rw (sized 0 (omega arith), even_newest atom blocks (λ b below. sized (suc b) (suc-le-suc below)))
-    refl
+even_newest atom (block ∷ blocks) sized = rw (
+  sized 0 (omega arith),
+  even_newest atom blocks (λ b below. sized (suc b) (suc-le-suc below)),
+) refl
 
 -- the newest values as one text
 module _ (atom : ℕ) (blocks : List Block) (sized : AreSized atom blocks) where
@@ -53,9 +54,8 @@ module _ (atom : ℕ) (blocks : List Block) (sized : AreSized atom blocks) where
   block_at-newest_bytes b inside =
       let values = map (λ block. block.newest) blocks in
       sym (blocks_of-at atom (length blocks) (joined values) b [] inside)
-      ∙ ap (λ vs. slice_index_or vs b []) (blocks_of-joined atom (length blocks) values
-      (even_newest atom blocks sized))
-      ∙ get_or-map (λ block. block.newest) blocks b (settled []) [] inside
+      ∙ ap (λ vs. slice_index_or vs b []) (blocks_of-joined atom (length blocks) values (even_newest
+      atom blocks sized)) ∙ get_or-map (λ block. block.newest) blocks b (settled []) [] inside
 
 -- a text of the newest values of some blocks is that part of the newest bytes
 pub is_newest_part : (atom s n : ℕ) (blocks : List Block) (text : List ℕ) → AreSized atom blocks

@@ -163,21 +163,19 @@ read_untried {o = o} at reads b value tried = never_both o.ask reads
 -- a piece was read
 module _ {K : Type 0} {old new : State K} {seals : Seals} {plain : ℕ → List ℕ} {left : List Block}
     {view : View} {lane : ℕ} {o : Open} {bytes : List ℕ} (at : open_at old.lanes lane ≡ Some o)
-    (reads : IsRead o.ask) (is : GetsPiece old lane o bytes new) where
-  knows_read : AreLawful old.map.atom seals → 0 < old.map.atom → Shown old seals plain left view
-      → AreLive old o → HasPiece o → Holds old lane → ((k : ℕ) → k < is.piece.count
-      → block_at old.map.atom bytes k ≡ view.current (place_of old.map is.piece + k))
-      → Logic old plain left
+    (reads : IsRead o.ask) (is : GetsPiece old lane o bytes new)
+    (lawful : AreLawful old.map.atom seals) (some : 0 < old.map.atom)
+    (shown : Shown old seals plain left view) (live : AreLive old o) (has : HasPiece o)
+    (holds : Holds old lane) (content : (k : ℕ) → k < is.piece.count
+    → block_at old.map.atom bytes k ≡ view.current (place_of old.map is.piece + k)) where
+  knows_read : Logic old plain left
       → LaneKnows new (now_of old seals plain lane bytes) left lane (moved o is.piece)
-  knows_read lawful some shown live has holds content logic =
+  knows_read logic =
       let knows = logic.lanes lane o at in let opened = opened_piece old seals o bytes in
       let all : now_of old seals plain lane bytes lane ≡ plain lane ++ opened =
       now_is old seals plain lane bytes at in
       let exact : o.range.start + knows.count ≡ o.next = knows.exact has.goes_on in
-      let first : is.piece.first ≡ o.next = is.next.first in
-      let within : o.next + is.piece.count ≤ o.range.end = is.next.within in
-      let begun : o.range.start ≤ o.next = (logic.sound.under_way lane o at).begun in
-      record {
+      let under_way = logic.sound.under_way lane o at in record {
         count = knows.count + is.piece.count;
         are = rw (is.goes.map, all) (blocks_joined old.map.atom knows.count
             is.piece.count (plain lane) opened knows.are (piece_blocks o is.next lawful is.are));
@@ -212,26 +210,25 @@ module _ {K : Type 0} {old new : State K} {seals : Seals} {plain : ℕ → List 
             from to of. (live b from (omega arith)).free (governed_back b (goes_stays is.goes) of);
       }
 
-  pub logic_read : AreLawful old.map.atom seals → 0 < old.map.atom → Shown old seals plain left view
-      → AreLive old o → HasPiece o → Holds old lane → ((k : ℕ) → k < is.piece.count
-      → block_at old.map.atom bytes k ≡ view.current (place_of old.map is.piece + k))
-      → IsSound new → Logic old plain left → Logic new (now_of old seals plain lane bytes) left
-  logic_read lawful some shown live has holds content sound logic =
-      logic_kept is.goes (λ whole. is.was) sound (now_other old seals plain lane bytes) (λ k
-      other held. rw is.goes.entries_are held) (λ one same. let e : one ≡ moved o is.piece = cc in
-      rw e (knows_read lawful some shown live has holds content logic)) logic
+  pub logic_read : IsSound new → Logic old plain left
+      → Logic new (now_of old seals plain lane bytes) left
+  logic_read sound logic =
+      logic_kept is.goes (λ whole. is.was) sound (now_other old seals plain lane bytes)
+      (λ k other held. rw is.goes.entries_are held)
+      (λ one same. let e : one ≡ moved o is.piece = cc in rw e (knows_read logic)) logic
 
-module _ {K : Type 0} {old new : State K} {lane : ℕ} {o : Open} {bytes : List ℕ} (at : open_at
-    old.lanes lane ≡ Some o) (reads : IsRead o.ask) (is : GetsPiece old lane o bytes new) where
-  pub shown_read : {seals : Seals} {plain : ℕ → List ℕ} {left : List Block} {view next : View}
-      → IsUnchanged view next → Shown old seals plain left view
-      → Shown new seals (now_of old seals plain lane bytes) left next
-  shown_read {seals = seals} {plain = plain} same = shown_kept (goes_stays is.goes)
-      (writes_stay is.goes.map is.goes.lane_is (now_other old seals plain lane bytes)
-      (read_untried at reads) (read_untried is.goes.lane_is.own reads)
-      (λ one becomes forced settled. let e : one ≡ moved o is.piece = cc in
-      never_both o.ask reads (forced_writes o.ask (subst (λ p. IsForced p.ask) e forced))))
-      (λ whole. (is.was, same.current)) same.candidates
+pub shown_read : {K : Type 0} {old new : State K} {seals : Seals} {plain : ℕ → List ℕ}
+    {left : List Block} {view next : View} {lane : ℕ} {o : Open} {bytes : List ℕ}
+    → open_at old.lanes lane ≡ Some o → IsRead o.ask → GetsPiece old lane o bytes new
+    → IsUnchanged view next → Shown old seals plain left view
+    → Shown new seals (now_of old seals plain lane bytes) left next
+shown_read {old = old} {seals = seals} {plain = plain} {lane = lane} {o = o} {bytes = bytes} at
+    reads is same = shown_kept (goes_stays is.goes)
+    (writes_stay is.goes.map is.goes.lane_is (now_other old seals plain lane bytes)
+    (read_untried at reads) (read_untried is.goes.lane_is.own reads)
+    (λ one becomes forced settled. let e : one ≡ moved o is.piece = cc in
+    never_both o.ask reads (forced_writes o.ask (subst (λ p. IsForced p.ask) e forced))))
+    (λ whole. (is.was, same.current)) same.candidates
 
 -- what a lane knows of an operation that failed or is settled
 pub knows_with : {K : Type 0} {state : State K} {plain : ℕ → List ℕ} {left : List Block} {lane : ℕ}

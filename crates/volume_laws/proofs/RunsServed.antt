@@ -37,9 +37,9 @@ pub works_after : {K : Type 0} {old new : State K} {event : Event} (outcome : Ou
     → Meets old event → Step old event outcome new → Works old → Works new
 works_after {old = old} {new = new} {event = event} outcome meets step works =
     let goes = event_effects old new event outcome step in
-    works_stay (record { map = goes.map; work = goes.work }) (λ stays. (or_parts old.broken
-    (breaks event outcome) (sym goes.broken_is ∙ stays)).0) goes.lane_is.count (λ lane last. let left =
-    event_left old new event outcome lane step (λ same. omega arith) in
+    works_stay (record { map = goes.map; work = goes.work }) (λ stays.
+    (or_parts old.broken (breaks event outcome) (sym goes.broken_is ∙ stays)).0) goes.lane_is.count
+    (λ lane last. let left = event_left old new event outcome lane step (λ same. omega arith) in
     (left.own, left.holds)) works
 
 -- each event

@@ -106,8 +106,9 @@ module _ {K : Type 0} {old new : State K} {seals : Seals} {plain : ℕ → List 
         writes = rw it.ask it.writes;
         begun = rw it.range (subst (λ p. p.range.start ≤ b) one tried.begun);
         tried = rw (it.goes.map, it.range, own) (omega (arith, length-append (plain lane) opened));
-        value_is = rw (it.goes.map, it.range, own) (was ∙ sym (block_at-front
-            old.map.atom knows.count (plain lane) opened (b - o.range.start) below (omega (arith, knows.are.size))));
+        value_is = rw (it.goes.map, it.range, own) (was ∙ sym
+            (block_at-front old.map.atom knows.count (plain lane) opened (b - o.range.start) below
+            (omega (arith, knows.are.size))));
       }
 
   still_tried : (k b : ℕ) (value : List ℕ) → IsTriedBy old plain k b value
