@@ -1,7 +1,8 @@
 -- What callers see of two joined disks besides what they show as one: both disks, the count of
 -- calls, and the sizes that a header is judged by.
-use Rattle.std.specs.Prelude.{◌≡◌, ◌+◌, ◌<◌, min, Bool, if◌then◌else◌, IsSome, is_some}
+use Rattle.std.specs.Prelude.{◌≡◌, ◌+◌, ◌<◌, ◌≤◌, min, Bool, false, if◌then◌else◌, IsSome, is_some}
 use Rattle.disk_sizes.specs.declared.Sizes.{Sizes}
+use Rattle.sector_disk.specs.Devices.{Device}
 use Rattle.sector_disk.specs.declared.device.Disk.{Ghosts}
 use Rattle.joined_disk.specs.Joined.{Joint, joint_of, joint_told, last_call}
 use Rattle.joined_disk.specs.declared.joined.JoinedDisk.{JoinedDisk}
@@ -24,6 +25,15 @@ sizes_of disk = record {
   main_atoms = disk.used;
   detached = is_some disk.head;
 }
+
+-- A disk of these sizes: the atoms of the main disk, and before them those of a header's disk that is
+-- one of its own, are all that it has.
+pub record HasSizes (sizes : Sizes) (device : Device) : Type 0 where
+  pub atom : sizes.atom ≡ device.size
+  pub header : sizes.header_atoms ≤ device.atoms
+  pub main : sizes.main_atoms ≤ device.atoms
+  pub all : (if sizes.detached then sizes.header_atoms else 0) + sizes.main_atoms ≡ device.atoms
+  pub alone : sizes.detached ≡ false → sizes.header_atoms ≡ sizes.main_atoms
 
 -- One device call more was counted, and what the disks were when they were joined stands. Below the
 -- full count a disk that told its tables tells them after it.

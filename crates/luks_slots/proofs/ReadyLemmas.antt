@@ -5,6 +5,7 @@ use Rattle.std.specs.List.{AllByRecursion, cons_option, filter_map}
 use Rattle.std.proofs.lemmas.List.Elements.{All-head, All-tail}
 use Rattle.std.proofs.Math.Nat.{mul-le-mul_right}
 use Rattle.disk_sizes.specs.declared.Sizes.{Sizes}
+use Rattle.joined_disk.specs.Counts.{HasSizes}
 use Rattle.luks_json.specs.Configs.{origin_of}
 use Rattle.luks_json.specs.Keyslots.{IsDerivation, IsKeyslot}
 use Rattle.luks_json.specs.Metas.{IsMeta}
@@ -21,7 +22,6 @@ use Rattle.luks_rules.specs.Plain.{IsWithin}
 use Rattle.luks_rules.specs.Segments.{bytes_of, in_progress, live_bytes}
 use Rattle.luks_rules.specs.States.{IsSound}
 use Rattle.luks_rules.specs.declared.areas.Area.{Area}
-use Rattle.luks_slots.specs.Devices.{HoldsHeader}
 use Rattle.luks_slots.specs.Slots.{HasRounds, IsReady}
 use Rattle.sector_disk.specs.Devices.{Device as disk_type}
 
@@ -103,7 +103,7 @@ fitting-by m sizes false is sound header front back =
     omega (arith, end, back)
 
 pub ready : (m : Parts) (sizes : Sizes) (device : disk_type) → IsSound m sizes → IsMeta m
-    → HoldsHeader sizes device
+    → HasSizes sizes device
     → AllByRecursion (λ slot. IsReady device.size device.atoms slot.1) m.keyslots
 unfolding areas_of
 ready m sizes device sound meta holds =

@@ -1,16 +1,9 @@
--- The disk that a header's areas lie on, and what reads leave of it.
+-- What reads leave of the disk that a header's areas lie on.
 use Rattle.std.specs.Prelude.{ℕ, ◌≡◌, ◌≤◌, List, ◌++◌, Option, Some}
 use Rattle.std.specs.List.{All}
-use Rattle.disk_sizes.specs.declared.Sizes.{Sizes}
 use Rattle.sector_disk.specs.Cells.{Cell}
 use Rattle.sector_disk.specs.Devices.{Device}
 use Rattle.sector_disk.specs.Steps.{Told}
-
--- a disk of these sizes, whose first atoms are those of the header's disk
-pub record HoldsHeader (sizes : Sizes) (device : Device) : Type 0 where
-  pub atom : sizes.atom ≡ device.size
-  pub header : sizes.header_atoms ≤ device.atoms
-  pub main : sizes.main_atoms ≤ device.atoms
 
 -- the tables after some more calls, none of which changed what the atoms hold
 pub record IsRead (before now : Told) : Type 0 where

@@ -6,7 +6,8 @@ ghost use Rattle.base_terms.specs.Causes.{Rose};
 ghost use Rattle.luks_json.specs.Names.{is_iterations};
 ghost use Rattle.luks_json.specs.declared.digest.Digest.{Digest as digest_type};
 ghost use Rattle.luks_rules.specs.References.{value_at};
-ghost use Rattle.luks_slots.specs.Devices.{HoldsHeader, IsUnwritten};
+ghost use Rattle.joined_disk.specs.Counts.{HasSizes};
+ghost use Rattle.luks_slots.specs.Devices.{IsUnwritten};
 ghost use Rattle.luks_slots.specs.Unlocks.{IsRight, IsUnlocked, matches};
 
 use crate::fault::SlotFault;
@@ -192,10 +193,10 @@ impl Attempt<'_> {
 /// never. Each is tried by one read of its area, at most 258048 bytes, which take memory once for
 /// all of them. Nothing is written.
 ///
-/// The first atoms of the disk are those of the header's disk. Where the disk tells what it holds
-/// the answer is that of its current bytes; `Memory` and `Device`, which comes only where the count
-/// of the disk's faults rose, say nothing of them. A digest of fewer than 20 bytes, or of more than
-/// 64, is that of no key.
+/// The disk is that of the header: of the sizes that it was judged by, which are all its atoms, the
+/// header's own in front. Where the disk tells what it holds the answer is that of its current
+/// bytes; `Memory` and `Device`, which comes only where the count of the disk's faults rose, say
+/// nothing of them. A digest of fewer than 20 bytes, or of more than 64, is that of no key.
 pub fn unlock<D: Disk>(
     alloc: Global,
     valid: &Valid,
@@ -204,7 +205,7 @@ pub fn unlock<D: Disk>(
     digest: u64,
 ) -> Result<Key, SlotFault>
     requires digest { IsSome (value_at valid.now.meta.digests digest) }
-    requires header { HoldsHeader valid.now.sizes (D.device disk.old) }
+    requires header { HasSizes valid.now.sizes (D.device disk.old) }
     ensures unlocked { (d : digest_type) → value_at valid.now.meta.digests digest ≡ Some d →
         IsUnlocked valid.now.meta d pass.now (D.device disk.old) (D.device disk.new) result }
     ensures unwritten { IsUnwritten (D.device disk.old) (D.device disk.new) }

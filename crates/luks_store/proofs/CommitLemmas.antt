@@ -7,6 +7,7 @@ use Rattle.std.proofs.Common.{arith, length-append}
 use Rattle.std.proofs.Math.Nat.{mul-le-mul_right}
 use Rattle.std.proofs.lemmas.List.{append-nil, take_all, take_at, drop_at}
 use Rattle.disk_sizes.specs.declared.Sizes.{Sizes}
+use Rattle.joined_disk.specs.Counts.{HasSizes}
 use Rattle.luks_bin.specs.Copies.{copy_of, text_of, BeginsWithCopy, IsCopy}
 use Rattle.luks_bin.specs.declared.header.BinHeader.{BinHeader}
 use Rattle.disk_areas.specs.Headers.{secondary, IsHeader}
@@ -27,7 +28,7 @@ use Rattle.luks_rules.specs.Rules.{first_fault}
 use Rattle.luks_store.proofs.JudgeLemmas.{judged-ok}
 use Rattle.luks_store.proofs.PageLemmas.{page-atoms, page-place, size-pages}
 use Rattle.luks_store.proofs.StoredLemmas.{is-valid}
-use Rattle.luks_store.specs.Commits.{committed, text_for, CopiesFit, HasSizes, HoldsText}
+use Rattle.luks_store.specs.Commits.{committed, text_for, CopiesFit, HoldsText}
 use Rattle.luks_store.specs.Commits.{IsNext, IsNextStored, IsPrepared}
 use Rattle.luks_store.specs.Devices.{header_room}
 use Rattle.luks_store.specs.Found.{copy_at, copy_from, IsWholeAt}

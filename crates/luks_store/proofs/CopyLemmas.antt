@@ -33,7 +33,7 @@ pub front-there : (h place : ℕ) (all : List ℕ) → h ≤ length all
 front-there h place all within =
     length-drop place (take h all) ∙ ap (λ n. n - place) (length-take-le h all within)
 
-front-part : (h place n : ℕ) (all : List ℕ) → place + n ≤ h
+pub front-part : (h place n : ℕ) (all : List ℕ) → place + n ≤ h
     → take n (drop place (take h all)) ≡ take n (drop place all)
 front-part h place n all within =
     let whole : h ≡ place + (h - place) = omega (arith, within) in

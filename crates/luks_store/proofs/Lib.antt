@@ -13,3 +13,5 @@ pub mod LoadLemmas
 pub mod RepairLemmas
 pub mod StoredLemmas
 pub mod JudgeLemmas
+pub mod SettledLemmas
+pub mod BegunLemmas

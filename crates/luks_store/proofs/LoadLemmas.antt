@@ -13,6 +13,7 @@ use Rattle.luks_store.proofs.CopyLemmas.{Spelt}
 use Rattle.luks_store.proofs.GivenLemmas.{Newer, is_first, is_second, are_same, are_other}
 use Rattle.luks_store.proofs.GivenLemmas.{copy-cut, copy-whole, newer, ok-is}
 use Rattle.luks_store.proofs.PlaceLemmas.{alone, first-is, places}
+use Rattle.luks_store.proofs.StoredLemmas.{is-valid}
 use Rattle.luks_store.proofs.TextLemmas.{meta-same}
 use Rattle.luks_store.proofs.UsesLemmas.{given-used}
 use Rattle.luks_store.specs.Found.{copy_at, IsWholeAt}
@@ -68,6 +69,18 @@ used-stands spelt = λ bytes copies used.
     let here = (copy-whole spelt place (drop place bytes) copies.used at).here in
     subst (λ n. take copies.used.header.hdr_size (drop n bytes) ≡ copies.used.bytes) (sym here)
     (copy-cut place (drop place bytes) copies.used at)
+
+-- ---- the copies of a header that bytes hold
+copies-held : (sizes : Sizes) (r : Result Copies Refusal) (stored : Stored)
+    → ◌>>=◌ {B = Stored} r (λ copies. judged sizes copies) ≡ Ok stored → r ≡ Ok stored.copies
+copies-held sizes (Ok copies) stored is =
+    ap (λ (c : Copies). Ok c) (is-valid sizes copies stored is).same_copies
+copies-held sizes (Err refusal) stored is = absurd cc
+
+pub copies-stored : (sizes : Sizes) (bytes : List ℕ) (stored : Stored)
+    → stored_in sizes bytes ≡ Ok stored → copies_in bytes ≡ Ok stored.copies
+unfolding stored_in
+copies-stored sizes bytes stored is = copies-held sizes (copies_in bytes) stored is
 
 -- ---- the same objects are judged alike
 judged-by : (sizes : Sizes) (a b : Copies) (stored : Stored) (meta : Parts) (o : Option RuleFault)

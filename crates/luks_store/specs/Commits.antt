@@ -4,6 +4,7 @@ use Rattle.std.specs.Prelude.{false, Ok, IsOk}
 use Rattle.disk_areas.specs.Commits.{Follows}
 use Rattle.disk_areas.specs.Headers.{Header, IsHeader}
 use Rattle.disk_sizes.specs.declared.Sizes.{Sizes}
+use Rattle.joined_disk.specs.Counts.{HasSizes}
 use Rattle.luks_bin.specs.Copies.{copy_of, text_of}
 use Rattle.luks_bin.specs.Hidden.{hides_copy}
 use Rattle.luks_bin.specs.Shares.{Agree}
@@ -98,12 +99,6 @@ pub record IsNext (stored : Stored) (parts : Parts) (p : Prepared) : Type 0 wher
   pub whole : IsHeader header_reader (header_of (primary_of p.copies) (secondary_of p.copies))
   pub follows : Follows header_reader (meaning_of stored.copies.used.bytes)
       (meaning_of (primary_of p.copies))
-
--- a disk of these sizes, in which other disks may be joined
-pub record HasSizes (sizes : Sizes) (device : Device) : Type 0 where
-  pub atom : sizes.atom ≡ device.size
-  pub header : sizes.header_atoms ≤ device.atoms
-  pub main : sizes.main_atoms ≤ device.atoms
 
 -- both copies lie on each disk of these sizes
 abbrev pub CopiesFit : Prepared → Type 0

@@ -1,9 +1,11 @@
 -- What reads leave of a disk, and which of its bytes are the header's disk.
 use Rattle.std.specs.Prelude.{ℕ, ◌≡◌, ◌≤◌, ◌%◌, ◌==◌, ◌&&◌, nat_lt, Bool, List, ◌++◌, take, Option}
-use Rattle.std.specs.Prelude.{Some, if◌then◌else◌}
+use Rattle.std.specs.Prelude.{Some, if◌then◌else◌, length, replicate, Contains}
 use Rattle.std.specs.List.{All, list_all}
+use Rattle.base_terms.specs.Blocks.{joined, lengths}
 use Rattle.base_terms.specs.Causes.{Rose}
 use Rattle.disk_sizes.specs.declared.Sizes.{Sizes}
+use Rattle.disk_views.specs.Parts.{cell_in}
 use Rattle.joined_disk.specs.Counts.{joint_in}
 use Rattle.joined_disk.specs.Joined.{Joint, joined_disk}
 use Rattle.joined_disk.specs.declared.joined.JoinedDisk.{JoinedDisk}
@@ -12,7 +14,7 @@ use Rattle.luks_store.specs.declared.fault.ReadFault.{ReadFault}
 use Rattle.luks_store.specs.declared.fault.ReadFault.TheVariants.{Memory, Device}
 use Rattle.luks_store.specs.declared.fault.StoreFault.{StoreFault}
 use Rattle.luks_store.specs.declared.fault.StoreFault.TheVariants as faults
-use Rattle.sector_disk.specs.Cells.{Cell}
+use Rattle.sector_disk.specs.Cells.{Cell, currents}
 use Rattle.sector_disk.specs.Devices.{Device as disk_type}
 use Rattle.sector_disk.specs.Steps.{Told}
 use Rattle.sector_disk.specs.declared.device.Disk.{Ghosts}
@@ -58,6 +60,14 @@ pub record IsUnwritten (old new : Joint) : Type 0 where
   pub later : (joined_disk old).faults ≤ (joined_disk new).faults
   pub head : KeepsBytes old.head new.head
   pub main : KeepsBytes old.main new.main
+
+-- A disk of these sizes whose table this is holds these bytes for certain.
+pub record IsCertain (sizes : Sizes) (bytes : List ℕ) (cells : List Cell) : Type 0 where
+  pub only : (place : ℕ) (value : List ℕ) → Contains (cell_in cells place).candidates value
+      → value ≡ (cell_in cells place).current
+  pub even : lengths (currents cells) ≡ replicate (length cells) sizes.atom
+  pub holds : joined (currents cells) ≡ bytes
+  pub header_atoms : sizes.header_atoms ≤ length cells
 
 -- a read failed only where the count of the disk's faults rose
 abbrev pub IsCauseOf : disk_type → disk_type → ReadFault → Type 0

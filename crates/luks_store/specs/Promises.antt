@@ -1,15 +1,21 @@
 -- What is promised of the copies that are used.
-use Rattle.std.specs.Prelude.{◌≡◌, ℕ, List, take, drop, None, Ok, Err}
-use Rattle.disk_areas.specs.Headers.{found, Gives}
+use Rattle.std.specs.Prelude.{◌≡◌, ℕ, false, List, take, drop, None, Ok, Err}
+use Rattle.disk_areas.specs.Commits.{begun, ShowsCommit}
+use Rattle.disk_areas.specs.Headers.{found, Gives, Header, IsHeader, IsLaidOut, Layout}
+use Rattle.disk_sizes.specs.declared.Sizes.{Sizes}
+use Rattle.disk_views.specs.Views.{view_of_cells}
 use Rattle.luks_bin.specs.Copies.{copy_of}
 use Rattle.luks_bin.specs.declared.header.BinFault.{BinFault}
 use Rattle.luks_copies.specs.Meanings.{header_reader, meaning_of}
+use Rattle.luks_store.specs.Commits.{AreGood}
+use Rattle.luks_store.specs.Devices.{front_of, IsCertain}
 use Rattle.luks_store.specs.Found.{IsWholeAt}
 use Rattle.luks_store.specs.Loads.{objects_in, stored_in, IsStored}
 use Rattle.luks_store.specs.Used.{copies_in, nearest, no_header}
 use Rattle.luks_store.specs.declared.copies.Copies.{Copies}
 use Rattle.luks_store.specs.declared.copies.HeaderCopy.{HeaderCopy}
 use Rattle.luks_store.specs.declared.loaded.Stored.{Stored}
+use Rattle.sector_disk.specs.Cells.{Cell}
 
 -- The copy that is used means the header that the bytes have.
 abbrev pub UsedIsGiven : Type 0
@@ -46,3 +52,15 @@ abbrev pub LoadsByMeaning : Type 0
 LoadsByMeaning = (bytes : List ℕ) (stored : Stored) → IsStored stored
     → Gives header_reader bytes (meaning_of stored.copies.used.bytes)
     → (now : Stored) × (stored_in stored.valid.sizes bytes ≡ Ok now) × (now.valid ≡ stored.valid)
+
+-- A disk that holds its bytes for certain, and in them both copies of the header that they have,
+-- shows the beginning of the commit that follows it, whatever this one is.
+abbrev pub CommitsBegin : Type 0
+CommitsBegin =
+    (sizes : Sizes) (bytes : List ℕ) (cells : List Cell) (stored : Stored) (layout : Layout)
+    (to : Header (List ℕ)) → IsCertain sizes bytes cells
+    → IsLaidOut sizes.atom sizes.header_atoms stored.copies.used.header.hdr_size layout
+    → stored_in sizes (front_of sizes bytes) ≡ Ok stored → AreGood stored.copies
+    → (from : Header (List ℕ)) × IsHeader header_reader from
+    × (from.means ≡ meaning_of stored.copies.used.bytes)
+    × ShowsCommit sizes.atom layout from to begun false (view_of_cells cells)

@@ -3,6 +3,7 @@
 ghost use Rattle.std.specs.Prelude.{◌≡◌, ◌≢◌, ◌+◌, ◌++◌, ◌<◌, ◌↔◌, ℕ, List, None, Ok, true, IfOk};
 ghost use Rattle.std.specs.Prelude.{IsTrue, MatchResult};
 ghost use Rattle.disk_areas.specs.Headers.{IsHeader};
+ghost use Rattle.joined_disk.specs.Counts.{HasSizes};
 ghost use Rattle.luks_bin.specs.Copies.{holds_nul, text_of};
 ghost use Rattle.luks_bin.specs.Fields.{is_size};
 ghost use Rattle.luks_bin.specs.Writing.{IsWritable};
@@ -14,7 +15,7 @@ ghost use Rattle.luks_copies.specs.Held.{primary_of, secondary_of, size_in_bytes
 ghost use Rattle.luks_copies.specs.declared.commit.Stage.TheVariants.{Begun, Ended};
 ghost use Rattle.luks_json.specs.Metas.{meta_from};
 ghost use Rattle.luks_rules.specs.Rules.{first_fault};
-ghost use Rattle.luks_store.specs.Commits.{committed, header_before, text_for, HasSizes};
+ghost use Rattle.luks_store.specs.Commits.{committed, header_before, text_for};
 ghost use Rattle.luks_store.specs.Commits.{HoldsText, IsNext, IsRefused};
 ghost use Rattle.luks_store.specs.Loads.{stored_in};
 

@@ -10,7 +10,7 @@ use std::alloc::AllocError;
 
 /// Why bytes of a disk aren't read.
 #[derive(Clone, Copy, Debug, PartialEq, Eq)]
-pub(crate) enum ReadFault {
+pub enum ReadFault {
     /// Memory ran out.
     Memory,
     /// The read failed.

@@ -1,10 +1,10 @@
 // Laws of the copies that are used, with nothing to run.
 
-ghost use Rattle.luks_store.specs.Promises.{GivenIsUsed, LoadsByMeaning, MetaByMeaning, NoneStands};
-ghost use Rattle.luks_store.specs.Promises.{UsedIsGiven, UsedStands};
+ghost use Rattle.luks_store.specs.Promises.{CommitsBegin, GivenIsUsed, LoadsByMeaning};
+ghost use Rattle.luks_store.specs.Promises.{MetaByMeaning, NoneStands, UsedIsGiven, UsedStands};
 
 use luks_bin::copies_are_spelt;
-use luks_copies::copies_mean_what_they_share;
+use luks_copies::{copies_are_read, copies_mean_what_they_share};
 
 /// The copy that is used means the header that the disk's bytes have, as `disk_areas` speaks of it,
 /// and where they have one it is used; it stands on the disk as it was read. So its laws on
@@ -27,4 +27,14 @@ pub fn metadata_go_by_meaning()
 {
     copies_are_spelt();
     copies_mean_what_they_share();
+}
+
+/// A disk that holds for certain both copies of the header that its bytes have shows the beginning
+/// of a commit, as `disk_areas` speaks of it: so its laws hold of each image that a stop leaves
+/// during a [`crate::Commit`] on a disk that was synced, and loaded with both copies good.
+pub fn commits_begin()
+    ensures { CommitsBegin }
+{
+    copies_are_spelt();
+    copies_are_read();
 }

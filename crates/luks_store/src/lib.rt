@@ -4,8 +4,10 @@
 //! The layer above may rely on `stored_in`: the header that a disk's bytes hold, or why they hold
 //! none. [`load`] answers exactly that and writes nothing. A [`Commit`] leads both copies to the
 //! next metadata, and [`Commit::next`] is what is loaded then; a repair writes the copy that is
-//! older or lacks. What a stop leaves during either is said by `disk_areas`, and
-//! [`used_copies_are_headers`] says that its headers are those that are loaded.
+//! older or lacks. What a stop leaves during either is said by `disk_areas`;
+//! [`used_copies_are_headers`] says that its headers are those that are loaded, and
+//! [`commits_begin`] that a disk shows a commit's beginning once it was synced and both its copies
+//! are good.
 #![tactic(auto)]
 
 mod commit;
@@ -21,7 +23,7 @@ mod used;
 
 pub use commit::{Commit, Prepared};
 pub use copies::{Copies, CopyPlace, CopyState, HeaderCopy};
-pub use fault::StoreFault;
-pub use laws::{metadata_go_by_meaning, used_copies_are_headers};
+pub use fault::{ReadFault, StoreFault};
+pub use laws::{commits_begin, metadata_go_by_meaning, used_copies_are_headers};
 pub use loaded::{Loaded, Stored, load};
 pub use luks_copies::{CommitError, Repair};

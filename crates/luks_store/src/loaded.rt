@@ -8,7 +8,7 @@ ghost use Rattle.luks_store.specs.Loads.{judged, stored_in, Answers, HasCause, I
 ghost use Rattle.luks_store.specs.Used.{AreCopies};
 
 use crate::copies::{Copies, CopyPlace};
-use crate::fault::StoreFault;
+use crate::fault::{ReadFault, StoreFault};
 use crate::reading::read_bytes;
 use crate::used::read_copies;
 use disk_sizes::Sizes;
@@ -101,7 +101,7 @@ impl Loaded {
     ghost use Rattle.std.specs.Prelude.{◌+◌, ◌*◌, ◌≤◌, None, take};
     ghost use Rattle.luks_bin.specs.Hidden.{hides_copy};
     ghost use Rattle.luks_rules.specs.Rules.{first_fault};
-    ghost use Rattle.luks_store.specs.Devices.{header_room};
+    ghost use Rattle.luks_store.specs.Devices.{header_room, IsCauseOf};
     ghost use Rattle.luks_store.specs.Loads.{IsStored};
 
     /// What the disk held: a law, with nothing to run. The metadata break no rule for these sizes,
@@ -128,12 +128,12 @@ impl Loaded {
 
     /// Whether it stands in what the disk has at the primary's place, whatever that is. Where it
     /// stands neither there nor within the copy that is used, that is so of a repair of the primary
-    /// as well. Nothing is written; a read that fails says nothing.
+    /// as well. Nothing is written; want of memory, and a read that fails, say nothing.
     pub fn front_hides_copy<D: Disk>(
         &self,
         alloc: Global,
         disk: &mut JoinedDisk<D>,
-    ) -> Result<bool, StoreFault>
+    ) -> Result<bool, ReadFault>
         requires { sizes_of disk.old ≡ self.now.valid.sizes }
         ensures hides { IfOk result (λ hides. (all : List ℕ)
             → (device_of disk.old).values ≡ Some all
@@ -141,12 +141,12 @@ impl Loaded {
         ensures unwritten { IsUnwritten (joint_in disk.old) (joint_in disk.new) }
         ensures sizes { sizes_of disk.new ≡ sizes_of disk.old }
         ensures cause { IfErr result
-            (λ fault. HasCause (device_of disk.old) (device_of disk.new) fault) }
+            (λ fault. IsCauseOf (device_of disk.old) (device_of disk.new) fault) }
     {
         self.is_stored();
         match read_bytes(alloc, disk, 0, self.stored.copies.used.header.hdr_size) {
             Ok(bytes) => Ok(luks_bin::hides_copy(bytes.as_slice())),
-            Err(fault) => Err(StoreFault::from(fault)),
+            Err(fault) => Err(fault),
         }
     }
 

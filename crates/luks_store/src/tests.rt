@@ -1,6 +1,6 @@
 ghost use Rattle.std.specs.Prelude.{◌≡◌};
 ghost use Rattle.luks_bin.specs.Copies.{holds_nul};
-ghost use Rattle.luks_store.specs.Commits.{HasSizes};
+ghost use Rattle.joined_disk.specs.Counts.{HasSizes};
 ghost use Rattle.luks_store.specs.Devices.{device_of};
 ghost use Rattle.sector_disk.specs.Mem.{atom_of, atoms_of};
 

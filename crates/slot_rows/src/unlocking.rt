@@ -1,7 +1,7 @@
 // Rows on passphrases that are tried.
 
 ghost use Rattle.std.specs.Prelude.{◌≡◌, IfOk};
-ghost use Rattle.luks_slots.specs.Devices.{HoldsHeader};
+ghost use Rattle.joined_disk.specs.Counts.{HasSizes};
 ghost use Rattle.sector_disk.specs.Geometry.{IsDisk};
 
 use crate::volume::{Volume, changed, header_of};
@@ -42,7 +42,7 @@ fn disk_with(alloc: Global, areas: &[u8], atom: u32, atoms: u64) -> Result<RamDi
 
 /// What a passphrase finds on a disk: the key, or why no keyslot gave one.
 fn found(alloc: Global, valid: &Valid, disk: &mut RamDisk, pass: &str) -> Result<String>
-    requires { HoldsHeader valid.now.sizes (⟦<RamDisk as Disk>⟧.device disk.old) }
+    requires { HasSizes valid.now.sizes (⟦<RamDisk as Disk>⟧.device disk.old) }
 {
     let Some(_) = valid.digest(0) else {
         return Err(anyhow!("no digest"));

@@ -1,6 +1,6 @@
 // The volume that rows are about, and what they change of it.
 
-ghost use Rattle.std.specs.Prelude.{◌≡◌, ◌<◌, IfOk};
+ghost use Rattle.std.specs.Prelude.{◌≡◌, ◌<◌, false, IfOk};
 
 use anyhow::{Result, anyhow};
 use disk_sizes::Sizes;
@@ -62,6 +62,7 @@ pub(crate) fn header_of(
     ensures atom { IfOk result (λ valid. valid.sizes.atom ≡ atom) }
     ensures header { IfOk result (λ valid. valid.sizes.header_atoms ≡ atoms) }
     ensures main { IfOk result (λ valid. valid.sizes.main_atoms ≡ atoms) }
+    ensures detached { IfOk result (λ valid. valid.sizes.detached ≡ false) }
 {
     let sizes = Sizes {
         atom,

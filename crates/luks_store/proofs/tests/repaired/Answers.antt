@@ -3,7 +3,8 @@ use Rattle.std.specs.Prelude.{IfSome}
 use Rattle.disk_sizes.specs.declared.Sizes.{Sizes}
 use Rattle.luks_copies.specs.Held.{copy_in, place_in}
 use Rattle.luks_copies.specs.declared.repair.Repair.{Repair}
-use Rattle.luks_store.specs.Commits.{FitsDisks, HasSizes}
+use Rattle.joined_disk.specs.Counts.{HasSizes}
+use Rattle.luks_store.specs.Commits.{FitsDisks}
 use Rattle.luks_store.specs.Devices.{device_of}
 use Rattle.sector_disk.specs.Geometry.{IsAtom, IsInDisk}
 use Rattle.luks_store.proofs.tests.repaired.Goals as goal
@@ -13,7 +14,13 @@ step-first-requires-clause-fits c =
     let of = c.sizes-sizes.ensures in
     let same = c.in_ok-loaded.ensures.sized ∙ sym c.load.ensures.sizes in
     let has = subst (λ (z : Sizes). HasSizes z (device_of c.load.new.disk)) (of.is ∙ sym same)
-    (record { atom = of.atom; header = of.header; main = of.main }) in
+    (record {
+      atom = of.atom;
+      header = of.header;
+      main = of.main;
+      all = of.all;
+      alone = of.alone;
+    }) in
     let fits = subst (λ (o : Option Repair). IfSome o (FitsDisks c.in_ok-loaded.loaded.valid.sizes))
     c.in-Some.is c.in_ok-repair.ensures.fits in
     fits (device_of c.load.new.disk) has (subst IsAtom of.atom of.known)
@@ -26,7 +33,13 @@ step-requires-clause-fits c =
     let new = device_of c.step-first.new.disk in
     let repair = c.in-Some.repair in
     let has = subst (λ (z : Sizes). HasSizes z old) (of.is ∙ sym same)
-    (record { atom = of.atom; header = of.header; main = of.main }) in
+    (record {
+      atom = of.atom;
+      header = of.header;
+      main = of.main;
+      all = of.all;
+      alone = of.alone;
+    }) in
     let fits = subst (λ (o : Option Repair). IfSome o (FitsDisks c.in_ok-loaded.loaded.valid.sizes))
     c.in-Some.is c.in_ok-repair.ensures.fits in
     let there = fits old has (subst IsAtom of.atom of.known) in
