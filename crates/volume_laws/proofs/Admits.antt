@@ -1,10 +1,10 @@
 -- Operations that begin, and those that wait: what holds between events goes on to hold.
 use Rattle.volume_machine.proofs.Common
 use Common.{List, None, Option, [], ap, arith, false, inl, inr, length, nat_eq, refl, suc, sym}
-use Common.{true, ℕ, ◌*◌, ◌-◌, ◌<◌, ◌∙◌, ◌≡◌, ◌≢◌, ◌≤◌, either, AreBlocks, IsUnchanged, View}
-use Common.{IsStanding, Standing, Held, Block, by_admit, entry_of, has_lock, range_of, wrong_ask}
-use Common.{Outcome, held, waits, with_plain, Seals, IsSound, LaneBecomes, State, begun, open_at}
-use Common.{size_of, Holds, IsAdmitted, TellsStanding}
+use Common.{true, ℕ, ◌*◌, ◌-◌, ◌<◌, ◌∙◌, ◌≡◌, ◌≢◌, ◌≤◌, either, IsUnchanged, View, IsStanding}
+use Common.{Standing, Held, Block, by_admit, entry_of, has_lock, range_of, wrong_ask, Outcome, held}
+use Common.{waits, with_plain, Seals, IsSound, LaneBecomes, State, begun, open_at, size_of, Holds}
+use Common.{IsAdmitted, TellsStanding}
 use Rattle.volume_machine.specs.{declared.ask.Ask.Ask, declared.open.Open.Open}
 use Rattle.volume_machine.proofs.{Locking.holds-more, Soundness.begins}
 use Rattle.volume_laws.proofs.Invariant.{LaneKnows, Logic, Shown, TriesNothing, goes_stays}
@@ -24,9 +24,6 @@ module _ (plain : ℕ → List ℕ) (lane : ℕ) (now : List ℕ) where
     | inr differs ↦ absurd (grind (arith, differs))
   ]
 
-no_blocks : (atom : ℕ) (bytes : List ℕ) → bytes ≡ [] → AreBlocks atom 0 bytes
-no_blocks atom bytes none = rw none (record { size = omega arith; are_bytes = λ k. omega arith })
-
 module _ {K : Type 0} {state : State K} {plain : ℕ → List ℕ} {lane : ℕ} where
   -- a lane that knows nothing has tried nothing
   pub untried : 0 < state.map.atom → plain lane ≡ [] → TriesNothing state plain lane
@@ -45,7 +42,7 @@ module _ {K : Type 0} {state : State K} {plain : ℕ → List ℕ} {lane : ℕ} 
       → LaneKnows state plain left lane o
   knows_nothing none first ordered unsettled unfailed = record {
     count = 0;
-    are = no_blocks state.map.atom (plain lane) none;
+    are = rw none (record { size = omega arith; are_bytes = λ k. omega arith });
     least = omega arith;
     most = omega arith;
     exact = λ whole. omega arith;

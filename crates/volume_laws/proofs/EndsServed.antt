@@ -62,9 +62,6 @@ module _ {K P Q : Type 0} {seals : Seals} {old new : State K} {plain : ℕ
     → List ℕ} {left : List Block} (lane : ℕ) {o : Open} (exchanges : List Exchange) (here : Here
     P Q old seals plain left) (fine : IsFine new) (at : open_at old.lanes lane ≡ Some o)
     (holds : Holds old lane) (goes : Ends old new lane) (rests : new.disk ≡ old.disk) where
-  has_bytes : 0 < old.map.atom
-  has_bytes = positive here
-
   known : IsAtom old.map.atom
   known = here.logic.sound.fits.known
 
@@ -117,7 +114,7 @@ module _ {K P Q : Type 0} {seals : Seals} {old new : State K} {plain : ℕ
       let knows = here.logic.lanes lane o at in
       let next = ended_blocks old plain left lane o change knows.count in
       let it : EndsWrite old new plain left lane o change knows.count = record {
-        some = has_bytes;
+        some = positive here;
         logic = here.logic;
         at = at;
         writes = writing;
@@ -167,8 +164,8 @@ module _ {K P Q : Type 0} {seals : Seals} {old new : State K} {plain : ℕ
           λ was. absurd (let breaks = knows.breaks writing failed in cc),
         )) (λ some. inl written-keeps) (λ exchange is_exchange. subst (λ n. PlainStep old.map.atom
         left exchange (changed tried left n (blocks_of old.map.atom knows.count (plain lane))))
-        (sym text.start) (step_unwritten old.map.atom
-        left here.logic.are.count knows.count right has_bytes text.most text.size is_exchange))
+        (sym text.start) (step_unwritten old.map.atom left
+        here.logic.are.count knows.count right (positive here) text.most text.size is_exchange))
 
     -- a write that is done
     written_served : o.failed ≡ false → IsComplete o
@@ -181,7 +178,7 @@ module _ {K P Q : Type 0} {seals : Seals} {old new : State K} {plain : ℕ
         (rw is tt) (λ block value. (let makes = change_makes fua block value in
         (makes.0, makes.1, λ was. makes.2)))
         (λ some. let many : 1 * old.map.atom ≤ knows.count * old.map.atom = grind (arith, some) in
-        kept fua is (omega (arith, has_bytes))) (λ exchange is_exchange.
+        kept fua is (omega (arith, positive here))) (λ exchange is_exchange.
         subst (λ n. PlainStep old.map.atom left exchange (changed (change_of fua) left n (blocks_of
         old.map.atom knows.count (plain lane)))) (sym text.start) (step_written old.map.atom
         left here.logic.are.count knows.count right long text.size (sym all) is_exchange))

@@ -1,13 +1,14 @@
--- When operations fail and volumes break.
+-- When operations fail and volumes break, and the count of faults behind it.
 use Rattle.volume_machine.proofs.Common
 use Common.{Bool, List, None, Option, Some, [], ap, arith, false, inl, inr, nat_eq, refl, sym, true}
-use Common.{ℕ, ◌||◌, ◌∙◌, ◌∷◌, ◌≡◌, either, after_got, after_put, after_sync, open_after, has_lock}
-use Common.{IsFresh, breaks, Event, Outcome, admits, asks, broken, device, done, finishes, got}
-use Common.{held, lane_of, reads, settles, waits, writes, Happening, State, begun, open_at, Meets}
-use Common.{after_settle, IsRun, last_of, Can, Step}
+use Common.{ℕ, ◌||◌, ◌∙◌, ◌∷◌, ◌≡◌, ◌≤◌, either, Rose, after_got, after_put, after_sync, open_after}
+use Common.{has_lock, IsFresh, breaks, is_fault, Event, Outcome, admits, asks, broken, device, done}
+use Common.{got, held, lane_of, reads, settles, waits, writes, Happening, State, begun, open_at}
+use Common.{Meets, after_settle, IsRun, last_of, Can, Step}
 use Rattle.std.proofs.Math.Bool.{or-false}
 use Rattle.volume_machine.specs.declared.open.Open.{Open}
-use Rattle.volume_machine.proofs.EventEffects.{event_effects}
+use Rattle.volume_machine.proofs.EventEffects.{event_effects, event_effects}
+use Rattle.volume_laws.specs.Executing.{BreaksByFaults}
 use Rattle.volume_laws.specs.Promises.{GoesByEvents, breaks_in, fails, fails_in, has_failed_by}
 use Rattle.volume_laws.specs.Promises.{is_failure}
 
@@ -45,10 +46,9 @@ settled_is q now p is = elim (either (has_lock q.ask)) [
 
 -- the lane of the event
 own_fails : {K : Type 0} (old : State K) (event : Event) (outcome : Outcome) (now : Option Open)
-    (before : Bool) → open_at old.lanes (lane_of event) ≡ now → Meets old event
-    → ((p : Open) → now ≡ Some p → p.failed ≡ before) → (o : Open)
-    → open_after old.map.atom event outcome now ≡ Some o
-    → o.failed ≡ has_failed_by event outcome before
+    (before : Bool) → open_at old.lanes (lane_of event) ≡ now → Meets old event → ((p : Open)
+    → now ≡ Some p → p.failed ≡ before) → (o : Open) → open_after old.map.atom event outcome now
+    ≡ Some o → o.failed ≡ has_failed_by event outcome before
 unfolding Can
 own_fails old (admits lane session ask) (held grant) now before at meets was o is =
     ap (λ x. x.failed) (let e : o ≡ begun old.map.atom session ask = cc in e)
@@ -127,3 +127,49 @@ goes_by_events start run fresh is =
       keys = whole.keys_are;
       work = whole.work_is;
     }
+
+-- the count of faults doesn't fall
+pub faults_run : {K : Type 0} (start : State K) (run : List (Happening K)) → IsRun start run
+    → start.disk.faults ≤ (last_of start run).disk.faults
+unfolding IsRun last_of
+faults_run start [] is = omega arith
+faults_run start (one ∷ rest) (meets, step, is) =
+    let first = (event_effects start one.after one.event one.outcome step).disk.later in
+    omega (arith, faults_run one.after rest is)
+
+-- a write or a sync that failed is a fault
+breaks_is_fault : (event : Event) (outcome : Outcome) → breaks event outcome ≡ true
+    → is_fault outcome ≡ true
+breaks_is_fault (writes lane bytes) outcome is = is
+breaks_is_fault (settles lane) outcome is = is
+breaks_is_fault _ outcome is = absurd (cc)
+
+-- a count that rose in a part of a run rose in the whole
+rose_within : (before here later now : ℕ) → before ≤ here → Rose here later → later ≤ now
+    → Rose before now
+rose_within before here later now first (inl rose) behind = inl (omega arith)
+rose_within before here later now first (inr last) behind = inr (omega arith)
+
+rose_run : {K : Type 0} (start : State K) (run : List (Happening K)) → start.broken ≡ false
+    → IsRun start run → (last_of start run).broken ≡ true →
+    Rose start.disk.faults (last_of start run).disk.faults
+unfolding IsRun last_of
+rose_run start [] whole is broke = absurd (cc)
+rose_run start (one ∷ rest) whole (meets, step, is) broke =
+    let first = (event_effects start one.after one.event one.outcome step).disk.later in
+    let behind = faults_run one.after rest is in
+    let goes = event_effects start one.after one.event one.outcome step in
+    let breaks_so : one.after.broken ≡ breaks one.event one.outcome =
+    goes.broken_is ∙ ap (λ b. b || breaks one.event one.outcome) whole in
+    elim (either (breaks one.event one.outcome)) [
+      | inl fault ↦ rose_within start.disk.faults
+          start.disk.faults one.after.disk.faults (last_of one.after rest).disk.faults
+          (omega arith) (goes.disk.rose (breaks_is_fault one.event one.outcome fault)) behind
+      | inr still ↦ rose_within start.disk.faults one.after.disk.faults
+          (last_of one.after rest).disk.faults (last_of one.after rest).disk.faults
+          first (rose_run one.after rest (breaks_so ∙ still) is broke) (omega arith)
+    ]
+
+pub breaks_by_faults : {K : Type 0} (start : State K) (run : List (Happening K)) → IsFresh start
+    → IsRun start run → BreaksByFaults start run
+breaks_by_faults start run fresh is = rose_run start run fresh.unbroken is

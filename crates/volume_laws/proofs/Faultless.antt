@@ -18,7 +18,7 @@ use Rattle.volume_machine.proofs.{EventEffects.event_effects, Soundness.sound_ke
 use Rattle.volume_laws.specs.Executing.{ServesWithoutFaults}
 use Rattle.volume_laws.proofs.{Admits.plain-other, Admits.plain-own, Admits.unanswered}
 use Rattle.volume_laws.proofs.{Answering.read_whole, Answering.wrong_asked}
-use Rattle.volume_laws.proofs.{EventsServed.forced_locks, Failures.settled_is, Faults.faults_run}
+use Rattle.volume_laws.proofs.{EventsServed.forced_locks, Failures.settled_is, Failures.faults_run}
 use Rattle.volume_laws.proofs.{Reading.piece_blocks}
 
 -- a count that rose didn't stay below its last value

@@ -6,7 +6,6 @@ pub mod EventsServed
 pub mod Executions
 pub mod Failures
 pub mod Faultless
-pub mod Faults
 pub mod Finishing
 pub mod Here
 pub mod Invariant
@@ -18,7 +17,6 @@ pub mod Reading
 pub mod RunsServed
 pub mod SealLemmas
 pub mod Settling
-pub mod Tables
 pub mod VolumeStart
 pub mod Writing
 pub mod Workings

@@ -1,5 +1,5 @@
 use Rattle.volume_laws.proofs.Faultless.{serves_without_faults}
-use Rattle.volume_laws.proofs.Faults.{breaks_by_faults}
+use Rattle.volume_laws.proofs.Failures.{breaks_by_faults}
 use Rattle.volume_laws.proofs.laws.runs_fail_by_faults.Goals as goal
 
 pub returns : goal.returns

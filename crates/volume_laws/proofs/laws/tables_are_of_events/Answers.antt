@@ -1,4 +1,4 @@
-use Rattle.volume_laws.proofs.Tables.{tells_run}
+use Rattle.volume_laws.proofs.Executions.{tells_run}
 use Rattle.volume_laws.proofs.laws.tables_are_of_events.Goals as goal
 
 pub returns : goal.returns
