@@ -2,8 +2,8 @@
 use Rattle.volume_machine.proofs.Common
 use Common.{Bool, Contains, List, None, Some, [], ap, arith, drop, false, if◌then◌else◌, inl, inr}
 use Common.{length, refl, subst, sym, take, true, ℕ, ◌*◌, ◌+◌, ◌-◌, ◌/◌, ◌<◌, ◌∙◌, ◌∷◌, ◌≡◌, ◌≤◌}
-use Common.{◌⊎◌, either, Contains-push, blocks_of, changed, IsAtom, Block, Exchange, tried}
-use Common.{values_of, Content, Done, Errno, AreSure, newest_bytes, Answered, IsExchange, by_finish}
+use Common.{◌⊎◌, either, Contains-push, blocks_of, changed, Block, Exchange, tried, values_of}
+use Common.{Content, Done, Errno, AreSure, newest_bytes, Answered, IsExchange, by_finish}
 use Common.{full_reply, IsForced, IsRead, IsWrite, has_lock, range_of, wrong_ask, IsComplete, Seals}
 use Common.{State, open_at, size_of, Holds, AreExchanges}
 use Rattle.plain_disk.specs.Plain.{Step as PlainStep}
@@ -58,13 +58,11 @@ change_makes : (fua : Bool) (block : Block) (value : List ℕ) → ((change_of f
 change_makes true block value = (refl, Contains-push [] value, refl)
 change_makes false block value = (refl, written_contained block value, refl)
 
-module _ {K P Q : Type 0} {seals : Seals} {old new : State K} {plain : ℕ
-    → List ℕ} {left : List Block} (lane : ℕ) {o : Open} (exchanges : List Exchange) (here : Here
-    P Q old seals plain left) (fine : IsFine new) (at : open_at old.lanes lane ≡ Some o)
-    (holds : Holds old lane) (goes : Ends old new lane) (rests : new.disk ≡ old.disk) where
-  known : IsAtom old.map.atom
-  known = here.logic.sound.fits.known
-
+module _ {K P Q : Type 0} {seals : Seals} {old new : State K} {plain : ℕ → List ℕ}
+    {left : List Block} (lane : ℕ) {o : Open} (exchanges : List Exchange)
+    (here : Here P Q old seals plain left) (fine : IsFine new)
+    (at : open_at old.lanes lane ≡ Some o) (holds : Holds old lane) (goes : Ends old new lane)
+    (rests : new.disk ≡ old.disk) where
   proper : wrong_ask old.map.atom (old.map.blocks * old.map.atom) o.ask ≡ None
   proper = (here.logic.sound.under_way lane o at).proper
 
@@ -82,8 +80,8 @@ module _ {K P Q : Type 0} {seals : Seals} {old new : State K} {plain : ℕ
       × AreSure (take (len / old.map.atom) (drop (offset / old.map.atom) left))
   read_right offset len is unfailed ended =
       let atom = old.map.atom in let under_way = here.logic.sound.under_way lane o at in
-      let knows = here.logic.lanes lane o at in
-      let parts = read_whole atom (size_of old.map) offset len known (rw is at proper) in
+      let knows = here.logic.lanes lane o at in let parts =
+      read_whole atom (size_of old.map) offset len here.logic.sound.fits.known (rw is at proper) in
       let text = knows_text lane offset len here.logic at (ap (λ a. range_of atom a) is) parts.1 in
       let count : knows.count ≡ len / atom = text.all unfailed ended in
       let inside : offset / atom + len / atom ≤ length left = omega arith in
@@ -147,7 +145,8 @@ module _ {K P Q : Type 0} {seals : Seals} {old new : State K} {plain : ℕ
     right = rw is at proper
 
     whole : len / old.map.atom * old.map.atom ≡ len
-    whole = (write_whole old.map.atom (size_of old.map) offset len fua known right).1
+    whole = (write_whole
+        old.map.atom (size_of old.map) offset len fua here.logic.sound.fits.known right).1
 
     text : KnowsText old plain lane o offset len (here.logic.lanes lane o at).count
     text = knows_text lane offset len here.logic at (ap (λ a. range_of old.map.atom a) is) whole

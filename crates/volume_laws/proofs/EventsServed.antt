@@ -65,9 +65,6 @@ forced_locks ask forced = writes_lock ask (forced_writes ask forced)
 module _ {K P Q : Type 0} {seals : Seals} {old new : State K} {plain : ℕ → List ℕ}
     {left : List Block} (lane : ℕ) (exchanges : List Exchange)
     (here : Here P Q old seals plain left) (fine : IsFine new) where
-  has_bytes : 0 < old.map.atom
-  has_bytes = positive here
-
   -- an operation that is refused
   refused_served : (session : ℕ) (ask : Ask) (number : ℕ) → open_at old.lanes lane ≡ None
       → new ≡ old → ((exchange : Exchange) → IsExchange (refusal session ask number) exchange
@@ -85,9 +82,9 @@ module _ {K P Q : Type 0} {seals : Seals} {old new : State K} {plain : ℕ → L
       → AreExchanges (by_admit session ask outcome) exchanges
       → Served P Q seals old new (with_plain plain lane []) left exchanges
   admitted_served free proper is are = goes_on (goes_stays is.goes) (legal_none old.map.atom
-      left exchanges (rw (unanswered is) at are)) (here_after here is.goes.map fine.works
-      (λ whole. (sym is.goes.broken_is ∙ whole, refl)) (logic_admitted is here.logic fine.sound
-      proper) (moves_not is.rests here.values) (λ view after. shown_admitted is has_bytes free))
+      left exchanges (rw (unanswered is) at are)) (here_after here is.goes.map fine.works (λ whole.
+      (sym is.goes.broken_is ∙ whole, refl)) (logic_admitted is here.logic fine.sound proper)
+      (moves_not is.rests here.values) (λ view after. shown_admitted is (positive here) free))
 
   pub admit_served : (session : ℕ) (ask : Ask) (outcome : Outcome) → open_at old.lanes lane ≡ None
       → AdmitStep old lane session ask outcome new
@@ -103,8 +100,8 @@ module _ {K P Q : Type 0} {seals : Seals} {old new : State K} {plain : ℕ → L
           (λ exchange. step_wrong old.map.atom left here.logic.are.count is) (rw refusing at are))
       by None is = let judged = rw is at step in elim (either old.broken) [
         | inl was ↦ let (refusing, same) = match_true old.broken _ _ was judged in
-            refused_served session ask 5 free same (λ exchange.
-            step_refused old.map.atom left here.logic.are.count is has_bytes) (rw refusing at are)
+            refused_served session ask 5 free same (λ exchange. step_refused
+            old.map.atom left here.logic.are.count is (positive here)) (rw refusing at are)
         | inr was ↦ admitted_served free is (match_false old.broken _ _ was judged) are
       ]
 
@@ -141,7 +138,7 @@ module _ {K P Q : Type 0} {seals : Seals} {old new : State K} {plain : ℕ → L
       → Served P Q seals old new (after_read seals old lane outcome plain) left exchanges
   read_served (got bytes) are at reads has holds live step =
       silent are (goes_stays step.goes) (λ whole. (step.was, refl))
-      (logic_read at reads step here.lawful has_bytes here.shown (live step.was) has holds
+      (logic_read at reads step here.lawful (positive here) here.shown (live step.was) has holds
       (λ k. block-read old.map.atom (place_of old.map step.piece) step.piece.count bytes here.bytes
       old.disk new.disk k step.call here.values step.are.size) fine.sound here.logic)
       (moves_by_read step.call here.values) (λ view after. shown_read at reads step)
@@ -166,7 +163,7 @@ module _ {K P Q : Type 0} {seals : Seals} {old new : State K} {plain : ℕ → L
         works = here.works;
         whole = whole;
         lawful = here.lawful;
-        some = has_bytes;
+        some = positive here;
         apart = here.apart;
         logic = here.logic;
         at = at;
@@ -195,7 +192,7 @@ module _ {K P Q : Type 0} {seals : Seals} {old new : State K} {plain : ℕ → L
       silent are (goes_stays step.goes) (λ whole. (step.was, refl))
       (logic_tried it fine.sound (λ whole. step.was) (omega arith) (λ whole. omega arith)
       (λ failed. absurd (cc))) (moves_by_written step.piece.count step.call here.values
-      has_bytes step.are.size (piece_in_bytes o here step.was step.next (live step.was) begun)
+      (positive here) step.are.size (piece_in_bytes o here step.was step.next (live step.was) begun)
       (piece_in_tables o here step.was step.next (live step.was) begun))
       (λ view after wrote. shown_written it view after wrote)
   write_served bytes device are at writing has holds live step =
@@ -203,7 +200,7 @@ module _ {K P Q : Type 0} {seals : Seals} {old new : State K} {plain : ℕ → L
       refl refl refl in
       silent are (goes_stays step.goes) (λ whole. absurd (cc)) (logic_tried
       it fine.sound (λ whole. absurd (cc)) (omega arith) (λ whole. absurd (cc)) (λ failed. refl))
-      (moves_by_tried step.piece.count step.call here.values has_bytes step.are.size)
+      (moves_by_tried step.piece.count step.call here.values (positive here) step.are.size)
       (λ view after attempted. shown_tried it view after attempted step.goes.broken_is)
   write_served bytes broken are at writing has holds live step =
       failed_served are at step.goes (λ whole. absurd (cc)) (λ is. refl) (moves_not
@@ -219,7 +216,7 @@ module _ {K P Q : Type 0} {seals : Seals} {old new : State K} {plain : ℕ → L
       → Served P Q seals old new plain left exchanges
   unflushed_served {o = o} at free goes moves thins are = goes_on (goes_stays goes)
       (legal_one old.map.atom left left (answer o.session Flush [] (Errno 5)) exchanges
-      (λ exchange. step_unflushed old.map.atom left here.logic.are.count has_bytes) are)
+      (λ exchange. step_unflushed old.map.atom left here.logic.are.count (positive here)) are)
       (here_after here goes.map fine.works (λ whole. absurd (cc))
       (logic_unflushed goes (λ whole. absurd (cc)) fine.sound here.logic) moves
       (λ view after moved. shown_unflushed goes at free goes.broken_is (thins view after moved)))
@@ -236,8 +233,8 @@ module _ {K P Q : Type 0} {seals : Seals} {old new : State K} {plain : ℕ → L
         legal = legal_one old.map.atom left (map flushed left) (answer o.session Flush [] Done)
             exchanges (λ exchange. step_flushed old.map.atom left here.logic.are.count) are;
         here = here_after here step.goes.map fine.works (λ whole. (step.was, refl)) (logic_flushed
-            goes step.was fine.sound here.logic) (moves_by_sync step.call here.values)
-            (λ view after. shown_flushed goes at free has_bytes here.logic step.was here.works);
+            goes step.was fine.sound here.logic) (moves_by_sync step.call here.values) (λ view
+            after. shown_flushed goes at free (positive here) here.logic step.was here.works);
         map = step.goes.map;
         work = step.goes.work;
         newest = λ b below of. ap (λ block. block.newest) (block_in-flushed left b (omega arith));
@@ -258,8 +255,8 @@ module _ {K P Q : Type 0} {seals : Seals} {old new : State K} {plain : ℕ → L
   settle_served {o = o} done are at forced whole step =
       let goes = rw (forced_locks o.ask forced) at step.goes in
       silent are (goes_stays goes) (λ unbroken. (step.was, refl)) (logic_settled
-      at whole goes step.was fine.sound here.logic) (moves_by_sync step.call here.values)
-      (λ view after. shown_settled at whole goes step.was has_bytes here.logic forced here.works)
+      at whole goes step.was fine.sound here.logic) (moves_by_sync step.call here.values) (λ view
+      after. shown_settled at whole goes step.was (positive here) here.logic forced here.works)
   settle_served {o = o} device are at forced whole step = failed_served are at (rw (forced_locks
       o.ask forced) at step.goes) (λ stays. absurd (cc)) (λ writing. refl) (moves_by_failed_sync
       step.call here.values) (λ view after thinned. (thinned, λ unbroken. absurd (cc)))

@@ -5,37 +5,33 @@ use Common.{ℕ, ◌||◌, ◌∙◌, ◌∷◌, ◌≡◌, ◌≤◌, either, R
 use Common.{has_lock, IsFresh, breaks, is_fault, Event, Outcome, admits, asks, broken, device, done}
 use Common.{got, held, lane_of, reads, settles, waits, writes, Happening, State, begun, open_at}
 use Common.{Meets, after_settle, IsRun, last_of, Can, Step}
-use Rattle.std.proofs.Math.Bool.{or-false}
+use Rattle.std.proofs.Math.Bool.{or-false, or-true}
 use Rattle.volume_machine.specs.declared.open.Open.{Open}
 use Rattle.volume_machine.proofs.EventEffects.{event_effects, event_effects}
 use Rattle.volume_laws.specs.Executing.{BreaksByFaults}
 use Rattle.volume_laws.specs.Promises.{GoesByEvents, breaks_in, fails, fails_in, has_failed_by}
 use Rattle.volume_laws.specs.Promises.{is_failure}
 
-or_true : (b : Bool) → true ≡ (b || true)
-or_true true = refl
-or_true false = refl
-
 -- an operation after an outcome
 got_fails : (atom : ℕ) (outcome : Outcome) (o : Open) →
     (after_got atom outcome o).failed ≡ (o.failed || is_failure outcome)
 got_fails atom (got sealed) o = sym (or-false o.failed)
-got_fails atom device o = or_true o.failed
-got_fails atom broken o = or_true o.failed
+got_fails atom device o = sym (or-true o.failed)
+got_fails atom broken o = sym (or-true o.failed)
 got_fails atom _ o = sym (or-false o.failed)
 
 put_fails : (atom : ℕ) (sealed : List ℕ) (outcome : Outcome) (o : Open) →
     (after_put atom sealed outcome o).failed ≡ (o.failed || is_failure outcome)
 put_fails atom sealed done o = sym (or-false o.failed)
-put_fails atom sealed device o = or_true o.failed
-put_fails atom sealed broken o = or_true o.failed
+put_fails atom sealed device o = sym (or-true o.failed)
+put_fails atom sealed broken o = sym (or-true o.failed)
 put_fails atom sealed _ o = sym (or-false o.failed)
 
 sync_fails : (outcome : Outcome) (o : Open) →
     (after_sync outcome o).failed ≡ (o.failed || is_failure outcome)
 sync_fails done o = sym (or-false o.failed)
-sync_fails device o = or_true o.failed
-sync_fails broken o = or_true o.failed
+sync_fails device o = sym (or-true o.failed)
+sync_fails broken o = sym (or-true o.failed)
 sync_fails _ o = sym (or-false o.failed)
 
 pub settled_is : (q now p : Open) → after_settle q now ≡ Some p → p ≡ now

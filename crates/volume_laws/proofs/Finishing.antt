@@ -131,7 +131,7 @@ module _ {K : Type 0} {old new : State K} {plain : ℕ → List ℕ} {left : Lis
   own_of : (b : ℕ) (value : List ℕ) → IsTriedBy old plain lane b value → (j : ℕ)
       × (j < count) × (b ≡ o.range.start + j) × (value ≡ block_at old.map.atom (plain lane) j)
   own_of b value tried =
-      let one : tried.o ≡ o = (cc) in
+      let one : tried.o ≡ o = cc in
       let begun : o.range.start ≤ b = subst (λ p. p.range.start ≤ b) one tried.begun in
       let enough : suc (b - o.range.start) * old.map.atom ≤ length (plain lane) =
       subst (λ p. suc (b - p.range.start) * old.map.atom ≤ length (plain lane)) one tried.tried in (
@@ -165,7 +165,7 @@ module _ {K : Type 0} {old new : State K} {plain : ℕ → List ℕ} {left : Lis
   read_beside k p i is reading knows below =
       elim (in_piece o.range.start count (p.range.start + i)) [
         | inl (j, lt, same_b) ↦ elim (same_or_not k lane) [
-          | inl same ↦ absurd (let one : p ≡ o = (cc) in
+          | inl same ↦ absurd (let one : p ≡ o = cc in
               never_both p.ask reading (subst (λ q. IsWrite q.ask) (sym one) it.writes))
           | inr other ↦ absurd (held_apart k lane (p.range.start
               + i) it.logic.sound other is (reads_lock p.ask reading) (knows.holds (omega arith))

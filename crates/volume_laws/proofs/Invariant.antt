@@ -148,7 +148,7 @@ module _ {K : Type 0} {old new : State K} {plain now : ℕ → List ℕ} {lane :
   writes_go_on {o = o} {p = p} is becomes ask range settled knows = record {
     tried = tried_go_on is becomes ask range knows;
     settled = λ k one at forced is_settled. elim (same_or_not k lane) [
-      | inl same ↦ rw same (let e : one ≡ p = (cc) in
+      | inl same ↦ rw same (let e : one ≡ p = cc in
           (o, is, rw e (sym ask), rw e (sym range), sym settled ∙ rw (← e) is_settled, knows))
       | inr other ↦ (one, sym (lanes.others k other) ∙ at, refl, refl, is_settled, known k other)
     ];

@@ -5,14 +5,14 @@ use Common.{if◌then◌else◌, inl, inr, length, nat_eq, refl, subst, suc, sym
 use Common.{◌==◌, ◌∙◌, ◌∷◌, ◌≡◌, ◌≢◌, ◌≤◌, MatchBool-at_false, MatchBool-at_true, either}
 use Common.{same_or_not, append-nil, is_of, Map, Alone, Call, after_got, after_put, after_sync}
 use Common.{alone_after, answered_alone, granted_after, idle_lane, open_after, opened_by}
-use Common.{plain_with, with_piece, answers, IsRead, IsWrite, entry_of, has_lock, IsFresh, Event}
-use Common.{Outcome, admits, asks, broken, device, done, finishes, got, held, lane_of, reads}
-use Common.{refused, settles, writes, AgreeOn, rest_of, Happening, no_plain, plain_piece}
-use Common.{with_plain, Seals, IsSound, IsClient, State, begun, open_at, CanRead, CanWrite, Holds}
-use Common.{IsAdmitted, Meets, AreMet, MeetsAlone, alone_of, answers_of, IsRun, answered_by}
-use Common.{last_of, plain_after, plain_in, Can, Step}
-use Rattle.volume_machine.specs.declared.ask.Ask.TheVariants.{Read, Write}
-use Rattle.volume_machine.specs.declared.{ask.Ask.Ask, grant.Grant.Grant, open.Open.Open}
+use Common.{plain_with, with_piece, answers, entry_of, has_lock, IsFresh, Event, Outcome, admits}
+use Common.{asks, broken, device, done, finishes, got, held, lane_of, reads, refused, settles}
+use Common.{writes, AgreeOn, rest_of, Happening, no_plain, plain_piece, with_plain, Seals, IsSound}
+use Common.{IsClient, State, begun, open_at, CanRead, CanWrite, Holds, IsAdmitted, Meets, AreMet}
+use Common.{MeetsAlone, alone_of, answers_of, IsRun, answered_by, last_of, plain_after, plain_in}
+use Common.{Can, Step}
+use Rattle.volume_machine.specs.{declared.ask.Ask.Ask, declared.grant.Grant.Grant}
+use Rattle.volume_machine.specs.{declared.open.Open.Open}
 use Rattle.volume_machine.proofs.EventEffects.{event_effects}
 use Rattle.volume_machine.proofs.Locking.{before-last, find-last, is_of-own}
 use Rattle.volume_machine.proofs.NextPieces.{agrees_itself, agrees_now, next_agrees}
@@ -20,7 +20,7 @@ use Rattle.volume_machine.proofs.Soundness.{sound_kept}
 use Rattle.volume_laws.specs.Lanes.{AreAlone, AreMetByLanes, AreOfClients, AreSteps, IsLane}
 use Rattle.volume_laws.specs.Lanes.{alone_in, answered_under, call_of, own_calls}
 use Rattle.volume_laws.proofs.{Admits.plain-other, Admits.plain-own, Failures.settled_is}
-use Rattle.volume_laws.proofs.{OtherLanes.event_left}
+use Rattle.volume_laws.proofs.{OtherLanes.event_left, Reading.reads_lock, Reading.writes_lock}
 
 -- what a grant told
 record IsTold {K : Type 0} (old new : State K) (lane : ℕ) (ask : Ask) (grant : Grant) : Type 0 where
@@ -43,14 +43,6 @@ put_same atom sealed _ o = (refl, refl)
 sync_same : (outcome : Outcome) (o : Open) → AsksSame o (after_sync outcome o)
 sync_same device o = (refl, refl)
 sync_same _ o = (refl, refl)
-
-reads_lock : (ask : Ask) → IsRead ask → has_lock ask ≡ true
-reads_lock (Read offset len) is = refl
-reads_lock _ is = absurd is
-
-writes_lock : (ask : Ask) → IsWrite ask → has_lock ask ≡ true
-writes_lock (Write offset len fua) is = refl
-writes_lock _ is = absurd is
 
 module _ {K : Type 0} {old new : State K} where
   admit_told : {lane session : ℕ} {ask : Ask} {grant : Grant} → IsSound old →

@@ -58,16 +58,9 @@ held_apart {state = state} lane other b {o = o} {p = p} sound differ is has hold
     (sound.under_way other p others_is).range_is in
     holders-apart lane other (entry_of state.map.atom lane o.ask)
     (entry_of state.map.atom other p.ask) state.entries differ (entry_is lane sound is has)
-    (entry_is other sound others_is (writes_lock p.ask writes)) holds others_hold (
-      (
-        b,
-        (
-          (rw (← range) from, rw (← range) to),
-          (rw (← others_range) others_from, rw (← others_range) others_to),
-        ),
-      ),
-      inr (writes_alone p.ask writes),
-    )
+    (entry_is other sound others_is (writes_lock p.ask writes)) holds others_hold
+    (rw (← range, ← others_range)
+    ((b, ((from, to), (others_from, others_to))), inr (writes_alone p.ask writes)))
 
 -- a block that another lane has tried isn't one that this lane holds
 pub tried_apart : {K : Type 0} {state : State K} {plain : ℕ → List ℕ} {left : List Block}

@@ -27,8 +27,7 @@ pub own_value : {K : Type 0} {state : State K} {plain : ℕ → List ℕ} {left 
     → value ≡ block_at state.map.atom (plain lane) (b - o.range.start)
 own_value lane b value {o = o} logic some is writes holds from to enough (inl (k, tried)) =
     elim (same_or_not lane k) [
-      | inl same ↦ let one : tried.o ≡ o = (cc) in
-          rw (same, ← one) tried.value_is
+      | inl same ↦ let one : tried.o ≡ o = cc in rw (same, ← one) tried.value_is
       | inr differ ↦ absurd (tried_apart
           lane k b logic some differ is (writes_lock o.ask writes) holds from to tried)
     ]
@@ -129,7 +128,7 @@ knows_renewed knows same = record {
 flush_untried : {K : Type 0} {state : State K} {plain : ℕ → List ℕ} {lane : ℕ} {o : Open}
     → open_at state.lanes lane ≡ Some o → has_lock o.ask ≡ false → TriesNothing state plain lane
 flush_untried {o = o} is free b value tried =
-    let one : tried.o ≡ o = (cc) in
+    let one : tried.o ≡ o = cc in
     let locks = writes_lock o.ask (subst (λ p. IsWrite p.ask) one tried.writes) in cc
 
 module _ {K : Type 0} {old new : State K} {plain : ℕ → List ℕ} {left : List Block} {lane : ℕ}
@@ -194,7 +193,7 @@ module _ {K : Type 0} {old new : State K} {plain : ℕ → List ℕ} {left : Lis
   shown_settled some logic forced works = shown_synced left logic some works (goes_stays goes)
       was (tried_go_on goes.map goes.lane_is (λ k other. refl) is refl refl refl refl)
       (λ b below. refl) (λ k one at is_forced settled. elim (same_or_not k lane) [
-        | inl same ↦ let e : one ≡ settling o = (cc) in
+        | inl same ↦ let e : one ≡ settling o = cc in
             (o, ap (λ n. open_at old.lanes n) same ∙ is, forced, ap (λ p. p.range) (sym e), whole)
         | inr other ↦ let before = sym (goes.lane_is.others k other) ∙ at in
             (one, before, is_forced, refl, (logic.lanes k one before).kept settled)

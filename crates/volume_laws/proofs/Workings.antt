@@ -36,7 +36,7 @@ module _ {K : Type 0} {state : State K} (lane : ℕ) {o : Open} (sound : IsSound
   -- an operation that has come to its end
   pub ended_live : o.range.start < o.next → AreLive state o
   ended_live some = apart_live (λ work is working same.
-      let one : working.o ≡ o = (cc) in
+      let one : working.o ≡ o = cc in
       omega (arith, subst (λ p. p.next ≡ p.range.start) one working.next))
 
 -- the zone at hand after an event of another lane

@@ -93,7 +93,7 @@ module _ {K : Type 0} {old new : State K} {seals : Seals} {plain : ℕ → List 
   own_still : (b : ℕ) (value : List ℕ) → IsTriedBy old plain lane b value
       → IsTriedBy new now lane b value
   own_still b value tried =
-      let one : tried.o ≡ o = (cc) in
+      let one : tried.o ≡ o = cc in
       let most : suc (b - o.range.start) * old.map.atom ≤ length (plain lane) =
       subst (λ p. suc (b - p.range.start) * old.map.atom ≤ length (plain lane)) one tried.tried in
       let was : value ≡ block_at old.map.atom (plain lane) (b - o.range.start) = subst (λ p. value
