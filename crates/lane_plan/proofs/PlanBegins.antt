@@ -5,6 +5,7 @@ use Rattle.volume_machine.proofs.Common.{le-max_right, take-take, Map, Op, Alone
 use Rattle.volume_machine.proofs.Common.{answered_alone, Answered, range_of, wrong_ask, Seals}
 use Rattle.volume_machine.proofs.Common.{begun, CanRead, CanWrite, MeetsAlone}
 use Rattle.volume_machine.specs.declared.{ask.Ask.Ask, grant.Grant.Grant, open.Open.Open}
+use Rattle.volume_machine.proofs.Soundness.{ordered, proper-inside}
 use Rattle.lane_plan.specs.Calls.{ask_of, event_of, outcome_of}
 use Rattle.lane_plan.specs.Plans.{Awaits, Follows, Goes, HasRest, IsBack, IsGrantFor, IsShape}
 use Rattle.lane_plan.specs.Plans.{IsSupplied, IsTold, MayAnswer, asks, begins, bytes_of, calls_left}
@@ -14,7 +15,7 @@ use Rattle.lane_plan.specs.declared.plan.Stage.TheVariants.{Beginning, Refusing,
 use Rattle.lane_plan.specs.declared.{calls.Answer.Answer, calls.Call.Call, plan.Plan.Plan}
 use Rattle.lane_plan.specs.declared.{plan.Shape.Shape}
 use Rattle.lane_plan.proofs.PlanCourse.{none-yet, some-left}
-use Rattle.lane_plan.proofs.PlanSizes.{body-long, inside, ordered, size-none, some-atom}
+use Rattle.lane_plan.proofs.PlanSizes.{body-long, size-none, some-atom}
 use Rattle.plain_disk.specs.declared.operation.Op.TheVariants as Ops
 use Rattle.lane_plan.specs.declared.calls.Answer.TheVariants as Answers
 use Rattle.lane_plan.specs.declared.calls.Call.TheVariants as Calls
@@ -107,7 +108,7 @@ back-begun plan now op alone grant supplied operation granted plain fit is =
         blocks = fit.blocks;
         proper = supplied.proper;
         range_is = refl;
-        inside = inside plan.shape.atom plan.shape.blocks plan.operation.ask
+        inside = proper-inside plan.shape.atom plan.shape.blocks plan.operation.ask
             (some-atom plan.shape.atom supplied.known.known) supplied.proper;
         starts = omega arith;
         within = ordered plan.shape.atom plan.operation.ask;

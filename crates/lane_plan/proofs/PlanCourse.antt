@@ -23,9 +23,8 @@ use Rattle.lane_plan.specs.declared.calls.Call.TheVariants as Calls
 
 -- no byte was read or written yet
 pub none-yet : (whole : List ℕ) (op : Op) → HasPlain whole op []
-none-yet whole (Ops.Read offset len) = refl
-none-yet whole (Ops.Write offset body fua) = refl
 none-yet whole Ops.Flush = refl
+none-yet whole _ = refl
 
 -- with all pieces an operation has all its bytes
 pub all-bytes : {shape : Shape} {o : Open} {op : Op} {alone : Alone} {map : Map} →

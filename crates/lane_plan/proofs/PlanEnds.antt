@@ -60,9 +60,8 @@ some-settled false now after is = absurd (cc)
 
 none-settled : (ask : Ask) (after : Open) → (if has_lock ask then Some after else None) ≡ None →
     ask ≡ Flush
-none-settled (Read offset len) after is = absurd (cc)
-none-settled (Write offset len fua) after is = absurd (cc)
 none-settled Flush after is = refl
+none-settled _ after is = absurd (cc)
 
 -- what it leaves of an operation that locks, and that it answers nothing then
 settled-open : (outcome : Outcome) (o : Open) (operation : Option Open) → operation ≡ Some o →

@@ -99,9 +99,8 @@ passed-moved : (map : Map) (o : Open) (piece : Piece) (atom : ℕ) (sealed : Lis
     passed atom sealed o ≡ moved o piece
 passed-moved map o piece atom sealed next some size =
     let count : length sealed / atom ≡ piece.count = rw size (mul-div_left piece.count some) in
-    ap (λ (k : ℕ). the-open o k) (omega arith) where
-      the-open : Open → ℕ → Open
-      the-open o k = record o { next = k }
+    let at : o.next + length sealed / atom ≡ piece.first + piece.count = omega arith in
+    ap (λ n. record o { next = n }) at
 
 pub mapped : (f : Open → Open) {o now : Open} {x : Option Open} → x ≡ Some o → f o ≡ now →
     option_map f x ≡ Some now

@@ -2,11 +2,12 @@
 use Rattle.volume_machine.proofs.Common.{List, None, ap, arith, inl, inr, length, length-take, min}
 use Rattle.volume_machine.proofs.Common.{mul-le-mul_right, refl, suc, take, ℕ, ◌*◌, ◌+◌, ◌-◌, ◌/◌}
 use Rattle.volume_machine.proofs.Common.{◌<◌, ◌^◌, ◌≡◌, ◌≤◌, le-min, cases_lt, IsAtom, Map, Piece}
-use Rattle.volume_machine.proofs.Common.{wrong_range_of, Op, range_of, wrong_ask, IsPieceOf}
+use Rattle.volume_machine.proofs.Common.{Op, range_of, wrong_ask, IsPieceOf}
 use Rattle.std.proofs.lemmas.Grind.{common_steps}
-use Rattle.plain_disk.proofs.RangeLemmas.{blocks_within, range_of_proper, whole_blocks}
+use Rattle.plain_disk.proofs.RangeLemmas.{range_of_proper, whole_blocks}
 use Rattle.volume_machine.specs.declared.ask.Ask.TheVariants.{Flush, Read, Write}
 use Rattle.volume_machine.specs.declared.{ask.Ask.Ask, open.Open.Open}
+use Rattle.volume_machine.proofs.Soundness.{proper-range}
 use Rattle.lane_plan.specs.Calls.{ask_of}
 use Rattle.lane_plan.specs.Plans.{HasRest, IsPart, bytes_of, part_of}
 use Rattle.plain_disk.specs.declared.operation.Op.TheVariants as Ops
@@ -14,16 +15,6 @@ use Rattle.plain_disk.specs.declared.operation.Op.TheVariants as Ops
 pub some-atom : (atom : ℕ) → IsAtom atom → 0 < atom
 some-atom atom (inl is) = omega arith
 some-atom atom (inr is) = omega arith
-
--- the blocks of an operation are in order
-pub ordered : (atom : ℕ) (ask : Ask) → (range_of atom ask).start ≤ (range_of atom ask).end
-ordered atom (Read offset len) = omega arith
-ordered atom (Write offset len fua) = omega arith
-ordered atom Flush = omega arith
-
-proper-read : (atom size offset len : ℕ) → wrong_ask atom size (Read offset len) ≡ None →
-    wrong_range_of atom size offset len 22 ≡ None
-proper-read atom size offset len proper = grind (arith, common_steps)
 
 counted : (start count atom len : ℕ) → count * atom ≡ len → (start + count - start) * atom ≡ len
 counted start count atom len is = let e : start + count - start ≡ count = omega arith in rw e is
@@ -33,20 +24,10 @@ pub total : (atom size : ℕ) (ask : Ask) → wrong_ask atom size ask ≡ None �
     ((range_of atom ask).end - (range_of atom ask).start) * atom ≡ bytes_of ask
 total atom size (Read offset len) proper =
     counted (offset / atom) (len / atom) atom len (whole_blocks atom
-    len (range_of_proper atom size offset len 22 (proper-read atom size offset len proper)).whole)
+    len (range_of_proper atom size offset len 22 (proper-range atom size offset len proper)).whole)
 total atom size (Write offset len fua) proper = counted (offset / atom) (len / atom)
     atom len (whole_blocks atom len (range_of_proper atom size offset len 28 proper).whole)
 total atom size Flush proper = omega arith
-
--- and lie in the volume
-pub inside : (atom blocks : ℕ) (ask : Ask) → 0 < atom → wrong_ask atom (blocks * atom) ask ≡ None →
-    (range_of atom ask).end ≤ blocks
-inside atom blocks (Read offset len) some proper =
-    blocks_within atom blocks offset len some (range_of_proper atom (blocks * atom) offset len 22
-    (proper-read atom (blocks * atom) offset len proper))
-inside atom blocks (Write offset len fua) some proper = blocks_within
-    atom blocks offset len some (range_of_proper atom (blocks * atom) offset len 28 proper)
-inside atom blocks Flush some proper = omega arith
 
 -- what pieces need of the buffer is as long as the operation
 pub body-long : (body whole : List ℕ) → take (length body) whole ≡ body → length body ≤ length whole

@@ -52,6 +52,6 @@ module _ {K : Type 0} (old : State K) (lane session : ℕ) (ask : Ask) where
           entered.0,
           tells (IsStanding old.entries (entry_of old.map.atom lane ask)) entered.1,
         )) (λ same. (same.0, tells (λ stands. stands ≡ Held) same.1)) locks;
-        goes = goes-to old new lane new.entries _ _ _ _ (ap (λ x. Some x) begins) refl goes;
+        goes = goes-to (ap (λ x. Some x) begins) refl goes;
         rests = rests;
       }))

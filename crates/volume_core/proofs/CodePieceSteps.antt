@@ -1,9 +1,9 @@
 -- What the calls on a piece find, and the steps that they are.
-use Rattle.volume_machine.proofs.Common.{List, Some, ap, arith, length, length-take-le, subst, take}
-use Rattle.volume_machine.proofs.Common.{ℕ, ◌||◌, ◌≡◌, ◌≤◌, Map, Piece, is_fault, Outcome, broken}
-use Rattle.volume_machine.proofs.Common.{device, done, got, reads, settles, writes, ArePieceBytes}
-use Rattle.volume_machine.proofs.Common.{IsPieceOf, rest_of, size_of_piece, State, open_at, CanRead}
-use Rattle.volume_machine.proofs.Common.{CanWrite, Goes, Meets, after_settle, Can, Step}
+use Rattle.volume_machine.proofs.Common
+use Common.{List, Some, ap, arith, length, length-take-le, subst, take, ℕ, ◌||◌, ◌≡◌, ◌≤◌, Map}
+use Common.{Piece, is_fault, Outcome, broken, device, done, got, reads, settles, writes}
+use Common.{ArePieceBytes, IsPieceOf, rest_of, size_of_piece, State, open_at, CanRead, CanWrite}
+use Common.{Goes, Meets, ReadStep, SettleStep, WriteStep, after_settle, Can, Step}
 use Rattle.volume_machine.specs.declared.open.Open.{Open}
 use Rattle.volume_machine.proofs.NextPieces.{next_is_one}
 use Rattle.volume_core.specs.Calls.{Reads, Syncs, Writes}
@@ -43,39 +43,33 @@ module _ {K : Type 0} (old new : State K) (lane : ℕ) (o after : Open) where
       Reads old.map old.broken o outcome after old.disk new.disk →
       Goes old new lane old.entries (Some after) old.broken → Step old (reads lane len) outcome new
   unfolding Step
-  read-step len (got bytes) is call goes = (
-    o,
-    is,
-    record {
-      was = call.was;
-      piece = call.piece;
-      next = call.next;
-      are = call.call.0;
-      call = call.call.1;
-      goes = goes-to old new lane old.entries _ _ _ _ (ap (λ x. Some x) call.leaves) call.was goes;
-    },
-  )
-  read-step len device is call goes = (
-    o,
-    is,
-    record {
-      was = call.was;
-      piece = call.piece;
-      next = call.next;
-      bytes = call.call.0;
-      call = call.call.1;
-      goes = goes-to old new lane old.entries _ _ _ _ (ap (λ x. Some x) call.leaves) call.was goes;
-    },
-  )
-  read-step len broken is call goes = (
-    o,
-    is,
-    record {
-      was = call.was;
-      goes = goes-to old new lane old.entries _ _ _ _ (ap (λ x. Some x) call.leaves) call.was goes;
-      rests = call.rests;
-    },
-  )
+  read-step len (got bytes) is call goes =
+      let step : ReadStep old lane o (got bytes) new = record {
+        was = call.was;
+        piece = call.piece;
+        next = call.next;
+        are = call.call.0;
+        call = call.call.1;
+        goes = goes-to (ap (λ x. Some x) call.leaves) call.was goes;
+      } in
+      (o, is, step)
+  read-step len device is call goes =
+      let step : ReadStep old lane o device new = record {
+        was = call.was;
+        piece = call.piece;
+        next = call.next;
+        bytes = call.call.0;
+        call = call.call.1;
+        goes = goes-to (ap (λ x. Some x) call.leaves) call.was goes;
+      } in
+      (o, is, step)
+  read-step len broken is call goes =
+      let step : ReadStep old lane o broken new = record {
+        was = call.was;
+        goes = goes-to (ap (λ x. Some x) call.leaves) call.was goes;
+        rests = call.rests;
+      } in
+      (o, is, step)
   read-step len _ is call goes = absurd call
 
   pub write-step : (bytes : List ℕ) (outcome : Outcome) → open_at old.lanes lane ≡ Some o →
@@ -83,42 +77,33 @@ module _ {K : Type 0} (old new : State K) (lane : ℕ) (o after : Open) where
       Goes old new lane old.entries (Some after) (old.broken || is_fault outcome) →
       Step old (writes lane bytes) outcome new
   unfolding Step
-  write-step bytes done is call goes = (
-    o,
-    is,
-    record {
-      was = call.was;
-      piece = call.piece;
-      next = call.next;
-      are = call.call.0;
-      call = call.call.1;
-      goes = goes-to old new lane old.entries _ _ _ _ (ap (λ x. Some x) call.leaves)
-          (ap (λ b. b || is_fault done) call.was) goes;
-    },
-  )
-  write-step bytes device is call goes = (
-    o,
-    is,
-    record {
-      was = call.was;
-      piece = call.piece;
-      next = call.next;
-      are = call.call.0;
-      call = call.call.1;
-      goes = goes-to old new lane old.entries _ _ _ _ (ap (λ x. Some x) call.leaves)
-          (ap (λ b. b || is_fault device) call.was) goes;
-    },
-  )
-  write-step bytes broken is call goes = (
-    o,
-    is,
-    record {
-      was = call.was;
-      goes = goes-to old new lane old.entries _ _ _ _ (ap (λ x. Some x) call.leaves)
-          (ap (λ b. b || is_fault broken) call.was) goes;
-      rests = call.rests;
-    },
-  )
+  write-step bytes done is call goes =
+      let step : WriteStep old lane o bytes done new = record {
+        was = call.was;
+        piece = call.piece;
+        next = call.next;
+        are = call.call.0;
+        call = call.call.1;
+        goes = goes-to (ap (λ x. Some x) call.leaves) (ap (λ b. b || is_fault done) call.was) goes;
+      } in
+      (o, is, step)
+  write-step bytes device is call goes =
+      let step : WriteStep old lane o bytes device new = record {
+        was = call.was;
+        piece = call.piece;
+        next = call.next;
+        are = call.call.0;
+        call = call.call.1;
+        goes = goes-to (ap (λ x. Some x) call.leaves) (ap (λ b. b || is_fault device) call.was) goes;
+      } in
+      (o, is, step)
+  write-step bytes broken is call goes =
+      let step : WriteStep old lane o bytes broken new = record {
+        was = call.was;
+        goes = goes-to (ap (λ x. Some x) call.leaves) (ap (λ b. b || is_fault broken) call.was) goes;
+        rests = call.rests;
+      } in
+      (o, is, step)
   write-step bytes _ is call goes = absurd call
 
   pub settle-step : (outcome : Outcome) → open_at old.lanes lane ≡ Some o →
@@ -126,34 +111,20 @@ module _ {K : Type 0} (old new : State K) (lane : ℕ) (o after : Open) where
       Goes old new lane old.entries (after_settle after after) (old.broken || is_fault outcome) →
       Step old (settles lane) outcome new
   unfolding Step
-  settle-step done is (was, call, leaves) goes = (
-    o,
-    is,
-    record {
-      was = was;
-      call = call;
-      goes = goes-to old new lane old.entries _ _ _ _ (ap (λ x. after_settle x x) leaves)
-          (ap (λ b. b || is_fault done) was) goes;
-    },
-  )
-  settle-step device is (was, call, leaves) goes = (
-    o,
-    is,
-    record {
-      was = was;
-      call = call;
-      goes = goes-to old new lane old.entries _ _ _ _ (ap (λ x. after_settle x x) leaves)
-          (ap (λ b. b || is_fault device) was) goes;
-    },
-  )
-  settle-step broken is call goes = (
-    o,
-    is,
-    record {
-      was = call.was;
-      goes = goes-to old new lane old.entries _ _ _ _ (ap (λ x. after_settle x x) call.leaves)
-          (ap (λ b. b || is_fault broken) call.was) goes;
-      rests = call.rests;
-    },
-  )
+  settle-step done is (was, call, leaves) goes =
+      let now = goes-to (ap (λ x. after_settle x x) leaves) (ap (λ b. b || is_fault done) was) goes in
+      let step : SettleStep old lane o done new = record { was = was; call = call; goes = now } in
+      (o, is, step)
+  settle-step device is (was, call, leaves) goes =
+      let now = goes-to (ap (λ x. after_settle x x) leaves) (ap (λ b. b || is_fault device) was) goes in
+      let step : SettleStep old lane o device new = record { was = was; call = call; goes = now } in
+      (o, is, step)
+  settle-step broken is call goes =
+      let step : SettleStep old lane o broken new = record {
+        was = call.was;
+        goes = goes-to (ap (λ x. after_settle x x) call.leaves)
+            (ap (λ b. b || is_fault broken) call.was) goes;
+        rests = call.rests;
+      } in
+      (o, is, step)
   settle-step _ is call goes = absurd call

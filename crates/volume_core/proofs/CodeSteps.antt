@@ -62,7 +62,7 @@ volume-kept sector old new event outcome is meets step =
     }
 
 -- a lane's operation became this
-pub goes-to : {K : Type 0} (old new : State K) (lane : ℕ) (entries : List Entry)
-    (one now : Option Open) (was is : Bool) → one ≡ now → was ≡ is →
+pub goes-to : {K : Type 0} {old new : State K} {lane : ℕ} {entries : List Entry}
+    {one now : Option Open} {was is : Bool} → one ≡ now → was ≡ is →
     Goes old new lane entries one was → Goes old new lane entries now is
-goes-to old new lane entries one now was is same also goes = rw (← same, ← also) goes
+goes-to same also goes = rw (← same, ← also) goes
