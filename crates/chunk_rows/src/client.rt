@@ -37,11 +37,14 @@ fn take_content(alloc: Global, reading: &mut Reading, data: &[u8]) -> Result<Opt
     Ok(None)
 }
 
-/// The error that some data tell.
+/// The error that some data tell, whose number isn't 0.
 fn error_of(alloc: Global, data: &[u8]) -> Result<Option<String>> {
     match data {
         [a, b, c, d, 0, 0] => {
             let number = u32::from_be_bytes([*a, *b, *c, *d]);
+            if number == 0 {
+                return Ok(None);
+            }
             Ok(Some(format!(in alloc; "error {number}")?))
         }
         _ => Ok(None),
@@ -66,19 +69,21 @@ fn take_chunk(
     head: &ChunkHead,
     data: &[u8],
 ) -> Result<Option<String>> {
-    match head.chunk {
+    let error = match head.chunk {
         ChunkType::OffsetData => return take_content(alloc, reading, data),
-        ChunkType::Nothing if data.is_empty() => {}
-        ChunkType::Error => reading.found = error_of(alloc, data)?,
-        ChunkType::ErrorOffset => reading.found = error_at_of(alloc, data)?,
-        ChunkType::Nothing | ChunkType::Other(_) => {
-            return Ok(Some(format!(in alloc;
-                "type {} with {} bytes",
-                head.chunk.number(),
-                data.len()
-            )?));
-        }
+        ChunkType::Nothing if data.is_empty() => return Ok(None),
+        ChunkType::Error => error_of(alloc, data)?,
+        ChunkType::ErrorOffset => error_at_of(alloc, data)?,
+        ChunkType::Nothing | ChunkType::Other(_) => None,
+    };
+    if error.is_none() {
+        return Ok(Some(format!(in alloc;
+            "type {} with {} bytes",
+            head.chunk.number(),
+            data.len()
+        )?));
     }
+    reading.found = error;
     Ok(None)
 }
 

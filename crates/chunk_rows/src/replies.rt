@@ -3,8 +3,8 @@
 use crate::client::read;
 use crate::words::{bytes_of, content_at};
 use anyhow::{Context, Result, anyhow};
-use nbd_chunks::{Chunk, Outcome, Payload, ReadReply};
-use nbd_wire::{ErrorAt, error_data};
+use nbd_chunks::{Chunk, Outcome, ReadReply};
+use nbd_wire::ErrorAt;
 use std::alloc::Global;
 
 /// The most bytes of a row that is tried with each of them missing.
@@ -54,30 +54,23 @@ fn content_reply<'a>(offset: u64, bytes: &'a [u8]) -> Result<ReadReply<'a>> {
 fn reply_of<'a>(wanted: Wanted, offset: u64, content: &'a [u8]) -> Result<ReadReply<'a>> {
     match wanted {
         Wanted::Content(_) => content_reply(offset, content),
-        Wanted::Error(number) => Ok(ReadReply {
+        Wanted::Error(number) if number != 0 => Ok(ReadReply {
             offset,
             outcome: Outcome::Error(number),
         }),
-        Wanted::ErrorAt(at) => Ok(ReadReply {
+        Wanted::ErrorAt(at) if at.error != 0 => Ok(ReadReply {
             offset,
             outcome: Outcome::ErrorAt(at),
         }),
+        Wanted::Error(_) | Wanted::ErrorAt(_) => Err(anyhow!("an error of number 0")),
     }
 }
 
 /// The bytes of a chunk.
 fn text_of(alloc: Global, chunk: &Chunk, cookie: u64) -> Result<Vec<u8>> {
     let mut text = Vec::new(alloc);
-    text.extend_from_slice(&chunk.head(cookie).write())?;
-    match chunk.payload {
-        Payload::Nothing => {}
-        Payload::Data { offset, bytes } => {
-            text.extend_from_slice(&offset.to_be_bytes())?;
-            text.extend_from_slice(bytes)?;
-        }
-        Payload::Error(number) => text.extend_from_slice(&error_data(number))?,
-        Payload::ErrorAt(at) => text.extend_from_slice(&at.write())?,
-    }
+    text.extend_from_slice(chunk.front(cookie).as_slice())?;
+    text.extend_from_slice(chunk.bytes())?;
     Ok(text)
 }
 

@@ -7,6 +7,7 @@ use Rattle.std.proofs.Common.{◌⊎◌, ◌≢◌, ◌==◌, take_all, arith, i
 use Rattle.std.proofs.Common.{length-drop, length-take-le, take-append-drop}
 use native.Mathlib.Nat.{suc-mul}
 use Rattle.nbd_chunks.specs.Parts.{Held, Part, nothing, bytes_at, failed, failed_at, AreHeld}
+use Rattle.nbd_chunks.specs.Parts.{bytes_of}
 use Rattle.nbd_chunks.specs.Replies.{Answer, Covers, Hold, IsDoneOnce, Spell, content, error}
 use Rattle.nbd_chunks.specs.Replies.{error_at, IsAnswer, parts_of, parts_before, chunks_of}
 
@@ -92,16 +93,10 @@ chunks-held whole offset (content []) is = (tt, tt)
 chunks-held whole offset (content (byte ∷ bytes)) is =
     parts-held (parts_before whole (length (byte ∷ bytes))) (2 ^ 20) offset (byte ∷ bytes)
     (before-fewer whole (length (byte ∷ bytes)) (omega arith)) is.0 is.1
-chunks-held whole offset (error number) is = (is.2, tt)
-chunks-held whole offset (error_at number at) is = ((is.2, is.3), tt)
+chunks-held whole offset (error number) is = (is, tt)
+chunks-held whole offset (error_at number at) is = (is, tt)
 
 -- the bytes that these hold, and the answer that they are
-bytes_of : Held → List ℕ
-bytes_of nothing = []
-bytes_of (bytes_at offset bytes) = bytes
-bytes_of (failed number) = []
-bytes_of (failed_at number at) = []
-
 bytes_in : List Held → List ℕ
 bytes_in [] = []
 bytes_in (held ∷ helds) = bytes_of held ++ bytes_in helds
@@ -115,7 +110,7 @@ answer_in (failed_at number at ∷ helds) = error_at number at
 
 covers-bytes : (helds : List Held) (offset : ℕ) (bytes : List ℕ) → Covers offset bytes helds
     → bytes ≡ bytes_in helds
-unfolding Covers bytes_in bytes_of
+unfolding Covers bytes_in
 covers-bytes [] offset bytes covers = covers
 covers-bytes (held ∷ helds) offset bytes covers =
     covers.2

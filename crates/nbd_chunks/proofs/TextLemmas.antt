@@ -1,16 +1,16 @@
 -- The texts of chunks are told apart.
 use Rattle.std.proofs.Common.{◌≡◌, ℕ, ◌+◌, ◌^◌, ◌<◌, Bool, true, false, List, [], ◌∷◌, ◌++◌, length}
 use Rattle.std.proofs.Common.{take, drop, ap, ap₂, ◌∙◌, refl, sym, arith, take_at, drop_at}
-use Rattle.std.proofs.Common.{append_assoc, append-nil}
+use Rattle.std.proofs.Common.{append_assoc, append-nil, length-append}
 use Rattle.nbd_wire.specs.declared.chunks.ChunkHead.{ChunkHead}
 use Rattle.nbd_wire.specs.declared.chunks.ErrorAt.{ErrorAt}
-use Rattle.nbd_wire.specs.Chunks.{IsChunkHead, chunk_head_text, error_data_text}
+use Rattle.nbd_wire.specs.Chunks.{IsChunkHead, IsError, chunk_head_text, error_data_text}
 use Rattle.nbd_wire.specs.Chunks.{error_at_text}
 use Rattle.nbd_wire.specs.Fields.{u16_text, u32_text, u64_text}
 use Rattle.nbd_wire.proofs.ChunkLemmas.{chunk-once, chunk-size, error-once}
 use Rattle.nbd_wire.proofs.FieldLemmas.{u32-first, u64-first}
 use Rattle.nbd_chunks.specs.Parts.{Held, Part, nothing, bytes_at, failed, failed_at, AreHeld}
-use Rattle.nbd_chunks.specs.Parts.{IsHeld}
+use Rattle.nbd_chunks.specs.Parts.{IsHeld, bytes_of}
 use Rattle.nbd_chunks.specs.Parts.{bits_of, head_of, held_length, held_text, part_text, parts_text}
 use Rattle.nbd_chunks.specs.Parts.{type_of}
 use Rattle.nbd_chunks.specs.Replies.{IsDoneOnce}
@@ -48,7 +48,7 @@ at-size : (at : ErrorAt) → length (error_at_text at) ≡ 14
 unfolding error_at_text u16_text u32_text u64_text
 at-size at = refl
 
-at-same : (m n o p : ℕ) → (m < 2 ^ 32) × (o < 2 ^ 64) → (n < 2 ^ 32) × (p < 2 ^ 64)
+at-same : (m n o p : ℕ) → IsError m × (o < 2 ^ 64) → IsError n × (p < 2 ^ 64)
     → error_at_text (record { error = m; offset = o })
     ≡ error_at_text (record { error = n; offset = p })
     → failed_at m o ≡ failed_at n p
@@ -67,7 +67,7 @@ held-once (bytes_at o xs) (bytes_at p ys) r s ix iy type size e =
     (ap₂ bytes_at same.0 same.1, same.2)
 held-once (failed m) (failed n) r s ix iy type size e =
     let same = split-at _ _ r s 6 (error-size m) (error-size n) e in
-    (ap failed (error-same m n ix iy same.0), same.1)
+    (ap failed (error-same m n ix.1 iy.1 same.0), same.1)
 held-once (failed_at m o) (failed_at n p) r s ix iy type size e =
     let same = split-at _ _ r s 14 (at-size _) (at-size _) e in
     (at-same m n o p ix iy same.0, same.1)
@@ -176,3 +176,30 @@ parts-once cookie (x ∷ (a ∷ xs)) (y ∷ (b ∷ ys)) r s fits ix iy dx dy e =
     ∙ append_assoc (part_text cookie y) (parts_text cookie (b ∷ ys)) s) in
     let behind = parts-once cookie (a ∷ xs) (b ∷ ys) r s fits ix.1 iy.1 dx.1 dy.1 same.1 in
     (ap₂ (λ (p : Part) (ps : List Part). p ∷ ps) same.0 behind.0, behind.1)
+
+-- the text of a chunk, of which a front was put together
+pub front-text : (cookie : ℕ) (part : Part) (held : Held) (head front behind : List ℕ)
+    → part.held ≡ held → head ≡ chunk_head_text (head_of cookie part) → front ≡ head ++ behind
+    → behind ++ bytes_of held ≡ held_text held
+    → front ++ bytes_of part.held ≡ part_text cookie part
+unfolding part_text
+front-text cookie part held head front behind same head_is front_is text =
+    ap (λ f. f ++ bytes_of part.held) front_is
+    ∙ append_assoc head behind (bytes_of part.held)
+    ∙ ap (λ (h : Held). head ++ (behind ++ bytes_of h)) same
+    ∙ ap (λ t. head ++ t) text
+    ∙ ap (λ (h : Held). head ++ held_text h) (sym same)
+    ∙ ap (λ h. h ++ held_text part.held) head_is
+
+-- such a front, put into one array behind whose end are zeros
+pub front-joined : (head behind first second zeros rest : List ℕ) → first ≡ head → second ≡ behind
+    → length head ≡ 20
+    → take (20 + length behind) (take 20 (first ++ zeros) ++ (second ++ rest)) ≡ head ++ behind
+front-joined head behind first second zeros rest first_is second_is size =
+    let size_first : length first ≡ 20 = ap length first_is ∙ size in
+    let size_second : length second ≡ length behind = ap length second_is in
+    ap (λ f. take (20 + length behind) (f ++ (second ++ rest))) (take_at first zeros 20 size_first)
+    ∙ ap (take (20 + length behind)) (sym (append_assoc first second rest))
+    ∙ take_at (first ++ second) rest (20 + length behind)
+    (omega (arith, length-append first second, size_first, size_second))
+    ∙ ap₂ (λ a b. a ++ b) first_is second_is

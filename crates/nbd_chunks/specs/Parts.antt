@@ -5,7 +5,8 @@ use Rattle.nbd_wire.specs.declared.chunks.ChunkHead.{ChunkHead}
 use Rattle.nbd_wire.specs.declared.chunks.ChunkType.{ChunkType}
 use Rattle.nbd_wire.specs.declared.chunks.ChunkType.TheVariants.{Nothing, OffsetData, Error}
 use Rattle.nbd_wire.specs.declared.chunks.ChunkType.TheVariants.{ErrorOffset}
-use Rattle.nbd_wire.specs.Chunks.{chunk_head_text, error_data_text, error_at_text}
+use Rattle.std.specs.Coded.{Unit-prop, le_prop, ×_prop}
+use Rattle.nbd_wire.specs.Chunks.{IsError, chunk_head_text, error_data_text, error_at_text}
 use Rattle.nbd_wire.specs.Fields.{u64_text}
 
 -- What a chunk holds: nothing, bytes at an offset, the number of an error, or that and the offset
@@ -63,12 +64,25 @@ unfoldable pub parts_text : ℕ → List Part → List ℕ
 parts_text cookie [] = []
 parts_text cookie (part ∷ parts) = part_text cookie part ++ parts_text cookie parts
 
+-- the bytes of the export that a chunk holds
+abbrev pub bytes_of : Held → List ℕ
+bytes_of nothing = []
+bytes_of (bytes_at offset bytes) = bytes
+bytes_of (failed number) = []
+bytes_of (failed_at number offset) = []
+
 -- the numbers of a chunk are in their ranges
 abbrev pub IsHeld : Held → Type 0
 IsHeld nothing = Unit {0}
 IsHeld (bytes_at offset bytes) = (offset < 2 ^ 64) × (8 + length bytes < 2 ^ 32)
-IsHeld (failed number) = number < 2 ^ 32
-IsHeld (failed_at number offset) = (number < 2 ^ 32) × (offset < 2 ^ 64)
+IsHeld (failed number) = IsError number
+IsHeld (failed_at number offset) = IsError number × (offset < 2 ^ 64)
+
+pub held-prop : (held : Held) → IsProp (IsHeld held)
+held-prop nothing = Unit-prop
+held-prop (bytes_at offset bytes) = ×_prop le_prop le_prop
+held-prop (failed number) = ×_prop le_prop le_prop
+held-prop (failed_at number offset) = ×_prop (×_prop le_prop le_prop) le_prop
 
 unfoldable pub AreHeld : List Part → Type 0
 AreHeld [] = Unit {0}

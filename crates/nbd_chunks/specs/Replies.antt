@@ -2,6 +2,8 @@
 -- replies" of the NBD protocol document).
 use Rattle.std.specs.Prelude.{ℕ, zero, suc, ◌≡◌, ◌⊎◌, ◌+◌, ◌-◌, ◌/◌, ◌^◌, ◌<◌, Bool, true, false}
 use Rattle.std.specs.Prelude.{List, [], ◌∷◌, ◌++◌, length, map, take, drop}
+use Rattle.std.specs.Coded.{le_prop, ×_prop}
+use Rattle.nbd_wire.specs.Chunks.{IsError}
 use Rattle.nbd_chunks.specs.Parts.{Held, Part, nothing, bytes_at, failed, failed_at}
 
 -- what a READ comes to: the bytes of its range, or an error, with or without the offset where it
@@ -32,7 +34,8 @@ Hold offset helds (content bytes) =
 Hold offset helds (error number) = helds ≡ failed number ∷ []
 Hold offset helds (error_at number at) = helds ≡ failed_at number at ∷ []
 
--- the chunks spell the answer to a READ from an offset on
+-- the chunks spell the answer to a READ from an offset on: all bytes of a content, which has as many
+-- as the READ asked for where the answer is that READ's
 pub record Spell (offset : ℕ) (parts : List Part) (answer : Answer) : Type 0 where
   pub done : IsDoneOnce parts
   pub hold : Hold offset (map (λ part. part.held) parts) answer
@@ -59,24 +62,13 @@ chunks_of whole offset (error number) = record { done = true; held = failed numb
 chunks_of whole offset (error_at number at) =
     record { done = true; held = failed_at number at } ∷ []
 
--- the numbers of an answer, 0 where it hasn't them
-abbrev pub content_length : Answer → ℕ
-content_length (content bytes) = length bytes
-content_length (error number) = 0
-content_length (error_at number at) = 0
-
-abbrev pub error_number : Answer → ℕ
-error_number (content bytes) = 0
-error_number (error number) = number
-error_number (error_at number at) = number
-
-abbrev pub error_offset : Answer → ℕ
-error_offset (content bytes) = 0
-error_offset (error number) = 0
-error_offset (error_at number at) = at
-
--- they are in their ranges: a content ends within 2^64, and fits into one chunk
+-- the numbers of an answer are in their ranges: a content ends within 2^64, and fits into one chunk
 abbrev pub IsAnswer : ℕ → Answer → Type 0
-IsAnswer offset answer =
-    (offset + content_length answer < 2 ^ 64) × (8 + content_length answer < 2 ^ 32)
-    × (error_number answer < 2 ^ 32) × (error_offset answer < 2 ^ 64)
+IsAnswer offset (content bytes) = (offset + length bytes < 2 ^ 64) × (8 + length bytes < 2 ^ 32)
+IsAnswer offset (error number) = IsError number
+IsAnswer offset (error_at number at) = IsError number × (at < 2 ^ 64)
+
+pub answer-prop : (offset : ℕ) (answer : Answer) → IsProp (IsAnswer offset answer)
+answer-prop offset (content bytes) = ×_prop le_prop le_prop
+answer-prop offset (error number) = ×_prop le_prop le_prop
+answer-prop offset (error_at number at) = ×_prop (×_prop le_prop le_prop) le_prop

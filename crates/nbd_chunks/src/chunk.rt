@@ -1,9 +1,11 @@
-ghost use Rattle.std.specs.Prelude.{◌≡◌, ◌^◌, ◌<◌};
+ghost use Rattle.std.specs.Prelude.{◌≡◌, ◌++◌};
 ghost use Rattle.nbd_wire.specs.Chunks.{IsChunkHead};
-ghost use Rattle.nbd_chunks.specs.Parts.{bits_of, head_of, held_length, type_of};
+ghost use Rattle.nbd_chunks.specs.Parts.{IsHeld, bits_of, bytes_of, head_of, held-prop, held_length};
+ghost use Rattle.nbd_chunks.specs.Parts.{part_text, type_of};
 ghost use Rattle.nbd_chunks.specs.Payloads.{held_by};
 
-use nbd_wire::{ChunkFlags, ChunkHead, ChunkType, ErrorAt};
+use crate::Front;
+use nbd_wire::{ChunkFlags, ChunkHead, ChunkType, ErrorAt, error_data};
 
 /// What a chunk holds ("Structured reply types").
 #[derive(Clone, Copy, Debug)]
@@ -33,7 +35,7 @@ impl<'a> Payload<'a> {
 
     /// How many bytes of data a chunk has that holds this: with the offset, where there is one.
     pub fn data_length(&self) -> u32
-        requires { held_length (held_by self.now) < 2 ^ 32 }
+        requires { IsHeld (held_by self.now) }
         ensures { result ≡ held_length (held_by self.now) }
     {
         match self {
@@ -51,7 +53,7 @@ pub struct Chunk<'a> {
     /// Whether it is the last one.
     pub done: bool,
     pub payload: Payload<'a>,
-    ghost fits: { held_length (held_by payload) < 2 ^ 32 },
+    ghost fits: { IsHeld (held_by payload) } by { held-prop (held_by payload) },
 }
 
 impl<'a> Chunk<'a> {
@@ -67,6 +69,30 @@ impl<'a> Chunk<'a> {
             chunk: self.payload.chunk_type(),
             cookie,
             length: self.payload.data_length(),
+        }
+    }
+
+    /// The chunk's text in front of its bytes of the export: its head, and the offset of these
+    /// bytes, or the error.
+    pub fn front(&self, cookie: u64) -> Front
+        ensures { result ++ bytes_of (held_by self.now.payload) ≡ part_text cookie (part_by self.now) }
+    {
+        let head = self.head(cookie).write();
+        match self.payload {
+            Payload::Nothing => Front::joined(&head, &[]),
+            Payload::Data { offset, .. } => Front::joined(&head, &offset.to_be_bytes()),
+            Payload::Error(number) => Front::joined(&head, &error_data(number)),
+            Payload::ErrorAt(at) => Front::joined(&head, &at.write()),
+        }
+    }
+
+    /// The chunk's bytes of the export, none of one that holds none.
+    pub fn bytes(&self) -> &'a [u8]
+        ensures { result.now ≡ bytes_of (held_by self.now.payload) }
+    {
+        match self.payload {
+            Payload::Data { bytes, .. } => bytes,
+            Payload::Nothing | Payload::Error(_) | Payload::ErrorAt(_) => &[],
         }
     }
 }

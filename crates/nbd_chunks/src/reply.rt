@@ -1,6 +1,6 @@
 ghost use Rattle.std.specs.Prelude.{◌≡◌, [], ◌∷◌, MatchOption};
 ghost use Rattle.nbd_chunks.specs.Outcomes.{answer_by};
-ghost use Rattle.nbd_chunks.specs.Replies.{IsAnswer, chunks_of, content};
+ghost use Rattle.nbd_chunks.specs.Replies.{IsAnswer, answer-prop, chunks_of, content};
 
 use crate::{Chunk, Payload};
 use nbd_wire::ErrorAt;
@@ -13,7 +13,7 @@ const MOST: usize = 1 << 20;
 pub enum Outcome<'a> {
     /// The bytes of its range.
     Content(&'a [u8]),
-    /// The number of an error.
+    /// The number of an error, which isn't 0.
     Error(u32),
     /// The same, and the offset in the export where it came.
     ErrorAt(ErrorAt),
@@ -24,7 +24,7 @@ pub enum Outcome<'a> {
 pub struct ReadReply<'a> {
     pub offset: u64,
     pub outcome: Outcome<'a>,
-    ghost fits: { IsAnswer offset (answer_by outcome) },
+    ghost fits: { IsAnswer offset (answer_by outcome) } by { answer-prop offset (answer_by outcome) },
 }
 
 impl<'a> ReadReply<'a> {

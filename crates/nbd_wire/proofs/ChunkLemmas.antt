@@ -66,7 +66,7 @@ pub error-once : (a b : ErrorAt) → IsErrorAt a → IsErrorAt b → error_at_te
     → a ≡ b
 unfolding error_at_text
 error-once a b ia ib e =
-    let error = u32-first _ _ _ _ ia.error ib.error e in
+    let error = u32-first _ _ _ _ ia.error.1 ib.error.1 e in
     let none = u16-first _ _ _ _ (omega arith) (omega arith) error.1 in
     let offset = u64-first _ _ _ _ ia.offset ib.offset none.1 in
     let same : ◌≡◌ {A = ErrorAt} (record { error = a.error; offset = a.offset })
@@ -90,3 +90,9 @@ error-bare bytes found n is hn e here =
     let behind : u16_text 0 ++ (u64_text found.offset ++ []) ≡ drop 4 bytes = ap (drop 4) e in
     (u16-first n 0 (drop 6 bytes) (u64_text found.offset ++ []) hn (omega arith)
     (field-behind bytes (u16_text n) (drop 6 bytes) 4 6 (omega arith) here refl ∙ sym behind)).0
+
+-- the number that stands in one
+pub error-number : (bytes : List ℕ) (found : ErrorAt) (n : ℕ) → IsErrorAt found → n < 2 ^ 32
+    → error_at_text found ≡ bytes → u32_text n ≡ slice_range bytes 0 4 → n ≡ found.error
+unfolding error_at_text
+error-number bytes found n is hn e here = u32-front found.error n _ bytes is.error.1 hn e here

@@ -40,13 +40,17 @@ chunk_head_text head =
     message (u32_text chunk_magic ∷ u16_text head.flags.bits ∷ u16_text (chunk_number head.chunk)
     ∷ u64_text head.cookie ∷ u32_text head.length ∷ [])
 
+-- the number of an error in a chunk, which is never 0
+abbrev pub IsError : ℕ → Type 0
+IsError number = (0 < number) × (number < 2 ^ 32)
+
 -- the data of an ERROR: u32 error, u16 length of a text for people, which isn't there
 unfoldable pub error_data_text : ℕ → List ℕ
 error_data_text error = message (u32_text error ∷ u16_text 0 ∷ [])
 
 -- that of an ERROR_OFFSET: the same, and the u64 offset in the export where it came
 pub record IsErrorAt (at : ErrorAt) : Type 0 where
-  pub error : at.error < 2 ^ 32
+  pub error : IsError at.error
   pub offset : at.offset < 2 ^ 64
 
 unfoldable pub error_at_text : ErrorAt → List ℕ

@@ -128,17 +128,18 @@ impl ChunkHead {
     }
 }
 
-/// The data of an error, without a text for people ("NBD_REPLY_TYPE_ERROR").
+/// The data of an error, whose number isn't 0, without a text for people ("NBD_REPLY_TYPE_ERROR").
 #[tactic(auto, unfolding(crate::specs::Chunks::error_data_text, crate::specs::Fields::u16_text, crate::specs::Fields::u32_text))]
 pub fn error_data(error: u32) -> [u8; 6]
+    requires { 0 < error }
     ensures { result ≡ error_data_text error }
 {
     let e = error.to_be_bytes();
     [e[0], e[1], e[2], e[3], 0, 0]
 }
 
-/// The data of an error at an offset in the export, without a text for people
-/// ("NBD_REPLY_TYPE_ERROR_OFFSET").
+/// The data of an error, whose number isn't 0, at an offset in the export, without a text for
+/// people ("NBD_REPLY_TYPE_ERROR_OFFSET").
 #[derive(Clone, Copy, Debug, PartialEq, Eq)]
 pub struct ErrorAt {
     pub error: u32,
@@ -146,7 +147,8 @@ pub struct ErrorAt {
 }
 
 impl ErrorAt {
-    /// The error that these bytes spell. None where a text for people is announced.
+    /// The error that these bytes spell. None where a text for people is announced, or the number
+    /// is 0.
     pub fn read(bytes: &[u8; 14]) -> Option<ErrorAt>
         ensures taken { IfSome result
             (λ found. IsErrorAt found × (error_at_text found ≡ bytes.now)) }
@@ -156,8 +158,12 @@ impl ErrorAt {
         if u16_at(bytes, 4) != 0 {
             return None;
         }
+        let error = u32_at(bytes, 0);
+        if error == 0 {
+            return None;
+        }
         Some(ErrorAt {
-            error: u32_at(bytes, 0),
+            error,
             offset: u64_at(bytes, 6),
         })
     }
@@ -165,6 +171,7 @@ impl ErrorAt {
     /// The bytes of the data.
     #[tactic(auto, unfolding(crate::specs::Chunks::error_at_text, crate::specs::Fields::u16_text, crate::specs::Fields::u32_text, crate::specs::Fields::u64_text))]
     pub fn write(self) -> [u8; 14]
+        requires { 0 < self.error }
         ensures { result ≡ error_at_text self }
     {
         let e = self.error.to_be_bytes();

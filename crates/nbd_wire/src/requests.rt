@@ -1,4 +1,4 @@
-ghost use Rattle.std.specs.Prelude.{◌≡◌, ◌≢◌, ◌↔◌, ◌<◌, ◌≤◌, ◌^◌, IsTrue, IfOk, IfErr, take};
+ghost use Rattle.std.specs.Prelude.{◌≡◌, ◌≢◌, ◌↔◌, ◌<◌, ◌^◌, IsTrue, IfOk, IfErr, take};
 ghost use Rattle.std.specs.Int.{IsBitSet};
 ghost use Rattle.nbd_wire.specs.Fields.{u32_text};
 ghost use Rattle.nbd_wire.specs.Requests.{IsRequestHead, command_number, command_of, request_text};
@@ -64,7 +64,7 @@ impl CommandFlags {
     /// "Force unit access".
     pub const FUA: CommandFlags = CommandFlags { bits: 1 };
 
-    /// "No hole".
+    /// "No hole": zeroes are to be written without making one.
     pub const NO_HOLE: CommandFlags = CommandFlags { bits: 2 };
 
     /// "Don't fragment".
@@ -77,25 +77,11 @@ impl CommandFlags {
         self.bits & 1 != 0
     }
 
-    /// Zeroes are to be written without making a hole.
-    pub fn has_no_hole(self) -> bool
-        ensures { IsTrue result ↔ IsBitSet self.bits 1 }
-    {
-        self.bits & 2 != 0
-    }
-
     /// What is read is to come in one chunk.
     pub fn has_df(self) -> bool
         ensures { IsTrue result ↔ IsBitSet self.bits 2 }
     {
         self.bits & 4 != 0
-    }
-
-    /// Whether there is a flag other than these three.
-    pub fn has_other(self) -> bool
-        ensures { IsTrue result ↔ (8 ≤ self.bits) }
-    {
-        self.bits >= 8
     }
 
     /// Whether a request of this type may have these flags: FUA with every type, NO_HOLE with a

@@ -169,8 +169,7 @@ fn a_request_is_read_and_answered(rt: HostRuntime) -> Result<(), Fail> {
     assert_eq!(rt; RequestHead::read(WRITE), Ok(head));
     assert_eq!(rt; head.write(), *WRITE);
     assert!(rt; head.flags.has_fua());
-    assert!(rt; !head.flags.has_no_hole());
-    assert!(rt; !head.flags.has_other());
+    assert!(rt; !head.flags.has_df());
     let mut other = *WRITE;
     other[3] = 0x14;
     assert_eq!(rt;

@@ -24,7 +24,9 @@ slice_bounds-payload-end c =
     omega (arith, more, size)
 
 pub invariant_of-first : goal.invariant_of-first
-invariant_of-first c = record { fits = front-fits c.args.bytes.now c.if-bytes-le-MOST.false }
+invariant_of-first c = record {
+  fits = (omega (arith, c.requires.0), front-fits c.args.bytes.now c.if-bytes-le-MOST.false);
+}
 
 pub returns : goal.returns
 returns c =
