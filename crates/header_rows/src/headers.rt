@@ -81,3 +81,15 @@ pub(crate) fn read(rt: &HostRuntime, size: &str, columns: &[&str]) -> Result<Str
         Err(e) => told(rt.alloc(), &e),
     }
 }
+
+/// Reads a text and writes it again: its fault, or the text that is written.
+pub(crate) fn rewrite(rt: &HostRuntime, size: &str, columns: &[&str]) -> Result<String> {
+    let bytes = bytes_of_row(rt, columns)?;
+    match meta_of_row(rt, number(size)?, bytes.as_slice())? {
+        Ok(meta) => match String::from_utf8(meta.write(rt.alloc())?.into_vec()) {
+            Ok(text) => Ok(text),
+            Err(_) => Err(anyhow!("a text that isn't UTF-8")),
+        },
+        Err(e) => told(rt.alloc(), &e),
+    }
+}

@@ -8,6 +8,7 @@
 //! - `put` lists what an object holds that every kind of member was put into: outcome, the object;
 //! - `meta SIZE` reads the text of a header's copy of so many bytes and writes it again: outcome,
 //!   the text's file, and then pairs of what is replaced in it and by what;
+//! - `rewrites SIZE` does so, and has the text that is written for its outcome;
 //! - `check SIZE ATOM HEADER MAIN` judges it besides, for disks of so many atoms; HEADER is
 //!   `attached` where the header lies on the main disk.
 //!
@@ -33,6 +34,7 @@ fn outcome(rt: &HostRuntime, columns: &[&str]) -> Result<String> {
     let words: Vec<&str> = first.split(' ').collect(alloc)?;
     match words.as_slice() {
         ["meta", size] => headers::read(rt, size, columns),
+        ["rewrites", size] => headers::rewrite(rt, size, columns),
         ["check", size, sizes @ ..] => checks::judge(rt, size, sizes, columns),
         words => members::read(alloc, words, columns),
     }
