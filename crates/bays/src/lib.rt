@@ -12,8 +12,6 @@ mod link;
 mod mem_bay;
 mod mem_link;
 mod names;
-#[cfg(test)]
-mod tests;
 
 pub use bay::{Bay, BayFault};
 pub use link::Link;

@@ -11,8 +11,6 @@
 mod file_disk;
 mod file_system;
 mod positioned_file;
-#[cfg(test)]
-mod tests;
 
 pub use file_disk::FileDisk;
 pub use file_system::{FileSystem, LockableFile, open_for_reading, open_locked};

@@ -21,8 +21,6 @@ mod output_stream;
 mod seeds;
 mod sink;
 mod source;
-#[cfg(test)]
-mod tests;
 
 pub use counted::{Counted, answered};
 pub use entropy_source::{EntropySource, OsSeeds};

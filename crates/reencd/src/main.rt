@@ -1,22 +1,12 @@
 //! The program: it gives the words of its command line, the machine's bay and standard output to
-//! `reenc_tool::run`, and ends with the status. Everything that matters is in the library; what
-//! stands here is the trusted edge to the machine.
+//! `reenc_tool::run`, and ends with the status. Everything that matters is in the libraries.
 #![tactic(auto)]
 
-mod door;
-mod host_bay;
-mod host_file;
-mod host_link;
-mod network;
 mod notices;
-mod streams;
-#[cfg(test)]
-mod tests;
 
 use file_disk::FileSystem;
-use host_bay::HostBay;
+use host_edge::{HostBay, Network};
 use io_edge::{OpenGate, OsSeeds, Seeds, Sink, StdSink};
-use network::Network;
 use notices::explain;
 use reenc_tool::{Cause, StoreFault, run};
 use std::alloc::Global;
@@ -49,8 +39,8 @@ fn main(rt: HostRuntime) -> ExitCode {
     ExitCode::from(cause.status())
 }
 
-/// Runs the command of the words over the machine's bay, and gives why it ended as it did, and why no
-/// header was read.
+/// Runs the command of the words over the machine's bay, and gives why it ended as it did, and why
+/// no header was read.
 fn command<'w, W: Threads + Wait + Sync, R: FileSystem + Network + Drop, S: Seeds, O: Sink>(
     rt: &W,
     alloc: Global,

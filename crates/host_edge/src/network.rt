@@ -1,7 +1,7 @@
 ghost use Rattle.std.specs.Prelude.{ℕ, List, Result};
 ghost use Rattle.std.specs.declared.io.Error.{Error};
-ghost use Rattle.reencd.specs.declared.streams.HostReader.{HostReader};
-ghost use Rattle.reencd.specs.declared.streams.HostWriter.{HostWriter};
+ghost use Rattle.host_edge.specs.declared.streams.HostReader.{HostReader};
+ghost use Rattle.host_edge.specs.declared.streams.HostWriter.{HostWriter};
 
 use crate::streams::{HostReader, HostWriter};
 use std::io::{self, ErrorKind};

@@ -1,9 +1,9 @@
 use Rattle.std.proofs.Common.{◌≡◌, ◌∙◌, Ok, sym, subst, arith}
 use Rattle.std.proofs.lemmas.Grind.{common_steps}
-use Rattle.reencd.specs.Doors.{SharesDoor}
-use Rattle.reencd.specs.Shares.{share_of}
-use Rattle.reencd.proofs.ShareLemmas.{all_more}
-use Rattle.reencd.proofs.host_bay.HostBay.share_door.Goals as goal
+use Rattle.host_edge.specs.Doors.{SharesDoor}
+use Rattle.host_edge.specs.Shares.{share_of}
+use Rattle.host_edge.proofs.ShareLemmas.{all_more}
+use Rattle.host_edge.proofs.host_bay.HostBay.share_door.Goals as goal
 
 pub loop-k-preserved : goal.loop-k-preserved
 loop-k-preserved g c = record {

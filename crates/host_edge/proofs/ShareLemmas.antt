@@ -7,7 +7,7 @@ use Rattle.std.proofs.lemmas.Bool.{ltb-true, eqb-true, eqb-false}
 use Rattle.std.proofs.lemmas.List.{get_or_append_left, get_or_push}
 use Rattle.bays.specs.Bays.{AreBounded, IsShare}
 use Rattle.bays.specs.Stories.{LinkState}
-use Rattle.reencd.specs.Shares.{share_of, AreShared}
+use Rattle.host_edge.specs.Shares.{share_of, AreShared}
 
 -- so many sessions are a link's share
 share_is : (workers sessions k : ℕ) → IsShare workers sessions k (share_of workers sessions k)

@@ -6,10 +6,10 @@ ghost use Rattle.bays.specs.Bays.{AreBounded, FaultCounts, HasBayCause};
 ghost use Rattle.file_disk.specs.Opening.{OpensLocked, OpensToRead};
 ghost use Rattle.file_disk.specs.Sizes.{whole_atoms};
 ghost use Rattle.sector_disk.specs.Geometry.{IsAtom};
-ghost use Rattle.reencd.specs.Doors.{HaveDoors, Listens, SharesDoor};
-ghost use Rattle.reencd.specs.Shares.{AreShared, share_of};
-ghost use Rattle.reencd.specs.Untold.{CountsOne, FaultIs, untold_bay, untold_link};
-ghost use Rattle.reencd.specs.declared.door.Door.{Door};
+ghost use Rattle.host_edge.specs.Doors.{HaveDoors, Listens, SharesDoor};
+ghost use Rattle.host_edge.specs.Shares.{AreShared, share_of};
+ghost use Rattle.host_edge.specs.Untold.{CountsOne, FaultIs, untold_bay, untold_link};
+ghost use Rattle.host_edge.specs.declared.door.Door.{Door};
 
 use crate::door::Door;
 use crate::host_file::HostFile;
@@ -145,8 +145,8 @@ impl<R: FileSystem + Network + Drop> HostBay<R> {
         ensures count { IfOk result (λ links. length links.items ≡ workers) }
         ensures shared { IfOk result
             (λ links. AreShared (λ link. link.left) workers sessions links.items) }
-        ensures doors { IfOk result
-            (λ links. HaveDoors R.Listener.shares (λ link. link.door) door.now workers links.items) }
+        ensures doors { IfOk result (λ links. HaveDoors
+            R.Listener.shares (λ link. link.door) door.now workers links.items) }
         ensures refused { IfErr result (λ error. (error_kind error ≡ ErrorKind.OutOfMemory)
             ⊎ SharesDoor R.Listener.shares door.now (Err error)) }
     {

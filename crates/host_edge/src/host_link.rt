@@ -1,13 +1,13 @@
-ghost use Rattle.std.specs.Prelude.{◌≡◌, ◌+◌, ◌^◌, ◌<◌, ◌⊎◌, [], None, Ok, Err, IfOk, IfErr, IfSome, IfNone};
-ghost use Rattle.std.specs.Prelude.{IsErr};
+ghost use Rattle.std.specs.Prelude.{◌≡◌, ◌+◌, ◌^◌, ◌<◌, ◌⊎◌, [], None, Ok, Err, IfOk, IfErr};
+ghost use Rattle.std.specs.Prelude.{IfSome, IfNone, IsErr};
 ghost use Rattle.std.specs.Io.Buffered.{reader_buffer, reader_inner};
 ghost use Rattle.std.specs.IoError.{error_kind};
 ghost use Rattle.std.specs.declared.io.Error.{Error};
 ghost use Rattle.base_terms.specs.Causes.{HasCause};
 ghost use Rattle.bays.specs.Stories.{CountsGiven, HasNoneAhead};
 ghost use Rattle.io_edge.specs.Faults.{Counts};
-ghost use Rattle.reencd.specs.Doors.{MeetsAt};
-ghost use Rattle.reencd.specs.Untold.{untold_link};
+ghost use Rattle.host_edge.specs.Doors.{MeetsAt};
+ghost use Rattle.host_edge.specs.Untold.{untold_link};
 
 use crate::door::Door;
 use crate::network::{Listener, Network};
@@ -122,7 +122,8 @@ impl<R: Network> Link for HostLink<R> {
         ensures cause { HasCause self.old.faults self.new.faults result }
         ensures faults { Counts self.old.faults self.new.faults result }
         ensures door { self.new.door ≡ self.old.door }
-        ensures met { IfOk result (λ given. IfSome given (λ c. MeetsAt R.Listener.meets self.old.door
+        ensures met { IfOk result (λ given. IfSome given
+            (λ c. MeetsAt R.Listener.meets self.old.door
             (Ok (reader_inner c.0.inner, c.1.inner.writer)))) }
         ensures unread { IfOk result (λ given. IfSome given
             (λ c. reader_buffer c.0.inner ≡ [])) }

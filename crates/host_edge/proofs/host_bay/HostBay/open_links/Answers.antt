@@ -1,7 +1,7 @@
 use Rattle.std.proofs.Common.{arith}
-use Rattle.reencd.specs.Untold.{untold_link}
-use Rattle.reencd.proofs.ShareLemmas.{bounded_where}
-use Rattle.reencd.proofs.host_bay.HostBay.open_links.Goals as goal
+use Rattle.host_edge.specs.Untold.{untold_link}
+use Rattle.host_edge.proofs.ShareLemmas.{bounded_where}
+use Rattle.host_edge.proofs.host_bay.HostBay.open_links.Goals as goal
 
 pub returns-in-Ok-clause-bound : goal.returns-in-Ok-clause-bound
 returns-in-Ok-clause-bound g c =

@@ -1,5 +1,6 @@
 -- How the sessions of a command are dealt to its links.
-use Rattle.std.specs.Prelude.{ℕ, ◌≡◌, ◌+◌, ◌-◌, ◌/◌, ◌<◌, nat_lt, if◌then◌else◌, List, slice_index_or}
+use Rattle.std.specs.Prelude.{ℕ, ◌≡◌, ◌+◌, ◌-◌, ◌/◌, ◌<◌, nat_lt, if◌then◌else◌, List}
+use Rattle.std.specs.Prelude.{slice_index_or}
 
 -- how many of the numbers below `sessions` are `k`, `k + workers`, `k + 2 * workers` and so on
 abbrev pub share_of : ℕ → ℕ → ℕ → ℕ

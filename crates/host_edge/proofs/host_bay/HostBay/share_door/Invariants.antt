@@ -1,7 +1,7 @@
 use Rattle.std.proofs.Common.{◌≡◌, ◌<◌, ℕ, Ok, length, slice_index_or}
-use Rattle.reencd.specs.Doors.{SharesDoor}
-use Rattle.reencd.specs.Shares.{share_of}
-use Rattle.reencd.proofs.host_bay.HostBay.share_door.Given as goal
+use Rattle.host_edge.specs.Doors.{SharesDoor}
+use Rattle.host_edge.specs.Shares.{share_of}
+use Rattle.host_edge.proofs.host_bay.HostBay.share_door.Given as goal
 
 abbrev pub invariant-loop-k : goal.invariant-loop-k
 invariant-loop-k g l = record {
@@ -9,5 +9,6 @@ invariant-loop-k g l = record {
   shared : (j : ℕ) (link : _) → j < l.k →
       (slice_index_or l.links.items j link).left ≡ share_of l.workers l.sessions j;
   doors : (j : ℕ) (link : _) → j < l.k →
-      SharesDoor g.R.Listener.Listener.shares l.door (Ok (slice_index_or l.links.items j link).door);
+      SharesDoor g.R.Listener.Listener.shares l.door
+      (Ok (slice_index_or l.links.items j link).door);
 }

@@ -12,7 +12,7 @@ pub enum Door<L: Drop> {
 }
 
 impl<L: Listener> Door<L> {
-    ghost use Rattle.reencd.specs.Doors.{MeetsAt, SharesDoor};
+    ghost use Rattle.host_edge.specs.Doors.{MeetsAt, SharesDoor};
 
     /// The two ends of the next client's connection.
     pub fn meet(&self) -> io::Result<(HostReader, HostWriter)>

@@ -2,12 +2,12 @@
 use Rattle.std.specs.Prelude.{ℕ, ◌≡◌, ◌⊎◌, ◌<◌, List, slice_index_or, Result, Ok, Err}
 use Rattle.std.specs.IoError.{error_kind}
 use Rattle.std.specs.declared.io.Error.{Error}
-use Rattle.reencd.specs.declared.door.Door.{Door}
-use Rattle.reencd.specs.declared.door.Door.TheVariants.{Standard, Listening}
-use Rattle.reencd.specs.declared.streams.HostReader.{HostReader}
-use Rattle.reencd.specs.declared.streams.HostReader.TheVariants as Readers
-use Rattle.reencd.specs.declared.streams.HostWriter.{HostWriter}
-use Rattle.reencd.specs.declared.streams.HostWriter.TheVariants as Writers
+use Rattle.host_edge.specs.declared.door.Door.{Door}
+use Rattle.host_edge.specs.declared.door.Door.TheVariants.{Standard, Listening}
+use Rattle.host_edge.specs.declared.streams.HostReader.{HostReader}
+use Rattle.host_edge.specs.declared.streams.HostReader.TheVariants as Readers
+use Rattle.host_edge.specs.declared.streams.HostWriter.{HostWriter}
+use Rattle.host_edge.specs.declared.streams.HostWriter.TheVariants as Writers
 
 -- the next client at a door: the standard streams, or one that its listener met
 abbrev pub MeetsAt : {L : Type 0} → (L → Result (HostReader × HostWriter) Error → Type 0) →
@@ -30,8 +30,8 @@ abbrev pub HaveDoors : {L K : Type 0} → (L → Result L Error → Type 0) → 
 HaveDoors shares door_of door workers links = (k : ℕ) (link : _) → k < workers →
     SharesDoor shares door (Ok (door_of (slice_index_or links k link)))
 
--- why there are no links to the clients of an address: it can't be listened at, or another handle of
--- its listener can't be had
+-- why there are no links to the clients of an address: it can't be listened at, or another handle
+-- of its listener can't be had
 abbrev pub Listens : {L : Type 0} → (Result L Error → Type 0) → (L → Result L Error → Type 0) →
     Error → Type 0
 Listens listens shares error =

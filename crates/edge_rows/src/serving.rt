@@ -1,0 +1,91 @@
+// Sessions of clients with a disk.
+
+use crate::calls::{Answer, read, sync, write};
+use anyhow::{Result, anyhow};
+use base_terms::{Bytes, DEVICE_ERROR, INVALID, zeros};
+use bays::Link;
+use nbd_session::{Export, Port, Submitted, serve_session};
+use plain_disk::{Op, Reply};
+use sector_disk::Disk;
+use std::alloc::{AllocError, Global};
+
+/// A port to a disk in atoms of 512 bytes. Each operation is one device call.
+#[derive(Drop)]
+pub(crate) struct DiskPort<D: Disk + Drop> {
+    pub(crate) disk: D,
+}
+
+/// What an operation is answered whose device call was answered so.
+fn reply(answer: Answer) -> Reply {
+    match answer {
+        Answer::Done => Reply::Done,
+        Answer::Failed => Reply::Errno(DEVICE_ERROR),
+        Answer::Unmet => Reply::Errno(INVALID),
+    }
+}
+
+impl<D: Disk + Drop> DiskPort<D> {
+    /// Answers a read.
+    fn content(
+        &mut self,
+        alloc: Global,
+        offset: u64,
+        length: u32,
+    ) -> std::result::Result<Reply, AllocError> {
+        let mut content = zeros(alloc, length as usize)?;
+        match read(&mut self.disk, offset, &mut content) {
+            Answer::Done => Ok(Reply::Content(Bytes::new(content))),
+            refused => Ok(reply(refused)),
+        }
+    }
+}
+
+impl<D: Disk + Drop> Port for DiskPort<D> {
+    ghost did = { λ _ _ _. Unit {0} };
+
+    ghost is_spent = { λ _. Unit {0} };
+
+    fn submit(
+        &mut self,
+        alloc: Global,
+        op: Op,
+        spare: Bytes,
+    ) -> std::result::Result<Submitted, AllocError> {
+        let reply = match op {
+            Op::Read { offset, length } => self.content(alloc, offset, length)?,
+            Op::Write { offset, body, .. } => {
+                reply(write(&mut self.disk, offset, body.as_slice()))
+            }
+            Op::Flush => reply(sync(&mut self.disk)),
+        };
+        Ok(Submitted::Replied(reply, spare))
+    }
+
+    ghost did_none = { λ _. tt };
+
+    ghost did_more = { λ _ _ _ _ _ _ _. tt };
+}
+
+/// Serves the next client of a link, with an export of so many bytes, and tells how that ended, how
+/// many bytes were taken and how many were put.
+pub(crate) fn serve<L: Link, P: Port>(
+    alloc: Global,
+    link: &mut L,
+    port: &mut P,
+    size: u64,
+) -> Result<String> {
+    match link.next() {
+        Ok(Some((mut source, mut sink))) => {
+            let export = Export {
+                number: 0,
+                size,
+                atom: 512,
+            };
+            let end = serve_session(alloc, &mut source, &mut sink, port, &export);
+            link.done(source, sink);
+            Ok(format!(in alloc; "{:?}, {} taken, {} put", end.ending, end.taken, end.put)?)
+        }
+        Ok(None) => Err(anyhow!("the link is at its end")),
+        Err(_) => Err(anyhow!("the link fails")),
+    }
+}

@@ -1,0 +1,22 @@
+//! The machine as a bay: its files and block devices are disks and keys, and its network, or
+//! standard input and output, is where clients come from. It stands on the system's calls, which
+//! tell nothing of content; the layer above may rely on each disk, key and link being what those
+//! calls gave by the name or the address that was asked for, on sessions being dealt to the links
+//! in turn, and on a failure being counted where the system refused something. What the system
+//! refuses, and where clients may connect, is said on standard error.
+#![tactic(auto)]
+
+mod door;
+mod host_bay;
+mod host_file;
+mod host_link;
+mod network;
+mod notices;
+mod streams;
+
+pub use door::Door;
+pub use host_bay::HostBay;
+pub use host_file::HostFile;
+pub use host_link::{HostLink, HostSink, HostSource};
+pub use network::{Listener, Network, accept};
+pub use streams::{HostReader, HostWriter};
