@@ -34,7 +34,7 @@ use volume_core::Volume;
 /// The spare buffer is for the content of a read, and `part` for pieces of at most 1 MiB of an
 /// operation that has more than one; what is in them isn't used. Where they aren't long enough
 /// memory is taken, before the admit and only where the operation isn't refused. Where there is
-/// none, nothing was done.
+/// none, nothing was done, and both buffers are gone: `part` is an empty one.
 ///
 /// With the reply comes a buffer for another use, where the volume still has one: that of a write's
 /// body, or the spare one. Else an empty one comes.
@@ -60,6 +60,7 @@ pub fn execute<D: Disk, C: SectorCipher + Copy>(
     ensures keys { volume.new.keys ≡ volume.old.keys }
     ensures lanes { length volume.new.lanes ≡ length volume.old.lanes }
     ensures err { OnErr result (volume.new ≡ volume.old) }
+    ensures gone { OnErr result (part.new ≡ []) }
     ensures memory { OnErr result (IsReadyFor volume.old (ask_of op)) }
     ensures short { OnErr result
         (HasRoom volume.old.map.atom (ask_of op) spare part.old → ⊥) }
