@@ -46,9 +46,9 @@ pub record IsUnderWay (map : Map) (o : Open) : Type 0 where
   pub inside : o.range.end ≤ map.blocks
 
 -- The table has the entry of each lane's operation and no other, and room for all lanes'. A block
--- of an open zone is one of the zone at hand, on a broken volume too: every fault behind the commit
--- that opens a zone breaks the volume, and takes the zone's entry out of the table, but its work
--- stays in the state.
+-- of an open zone is one of the zone at hand, on a broken volume too. As decided of the events to
+-- come, every fault behind the commit that opens a zone breaks the volume, and takes the zone's
+-- entry out of the table, but its work stays in the state.
 pub record IsSound {K : Type 0} (state : State K) : Type 0 where
   pub fits : MapFits state.map state.disk.atoms
   pub room : state.room ≡ length state.lanes
