@@ -17,8 +17,6 @@ mod laws;
 mod loaded;
 mod reading;
 mod repair;
-#[cfg(test)]
-mod tests;
 mod used;
 
 pub use commit::{Commit, Prepared};
