@@ -94,13 +94,15 @@ module _ {K : Type 0} (old new : State K) (lane : ℕ) (o after : Open) where
         next = call.next;
         are = call.call.0;
         call = call.call.1;
-        goes = goes-to (ap (λ x. Some x) call.leaves) (ap (λ b. b || is_fault device) call.was) goes;
+        goes = goes-to (ap (λ x. Some x) call.leaves)
+            (ap (λ b. b || is_fault device) call.was) goes;
       } in
       (o, is, step)
   write-step bytes broken is call goes =
       let step : WriteStep old lane o bytes broken new = record {
         was = call.was;
-        goes = goes-to (ap (λ x. Some x) call.leaves) (ap (λ b. b || is_fault broken) call.was) goes;
+        goes = goes-to (ap (λ x. Some x) call.leaves)
+            (ap (λ b. b || is_fault broken) call.was) goes;
         rests = call.rests;
       } in
       (o, is, step)
@@ -112,11 +114,13 @@ module _ {K : Type 0} (old new : State K) (lane : ℕ) (o after : Open) where
       Step old (settles lane) outcome new
   unfolding Step
   settle-step done is (was, call, leaves) goes =
-      let now = goes-to (ap (λ x. after_settle x x) leaves) (ap (λ b. b || is_fault done) was) goes in
+      let now = goes-to (ap (λ x. after_settle x x) leaves)
+      (ap (λ b. b || is_fault done) was) goes in
       let step : SettleStep old lane o done new = record { was = was; call = call; goes = now } in
       (o, is, step)
   settle-step device is (was, call, leaves) goes =
-      let now = goes-to (ap (λ x. after_settle x x) leaves) (ap (λ b. b || is_fault device) was) goes in
+      let now = goes-to (ap (λ x. after_settle x x) leaves)
+      (ap (λ b. b || is_fault device) was) goes in
       let step : SettleStep old lane o device new = record { was = was; call = call; goes = now } in
       (o, is, step)
   settle-step broken is call goes =
