@@ -2,12 +2,12 @@
 //! tab between two columns; a line that is empty or begins with `#` is none. Bytes are in
 //! hexadecimal, in words, and `+N` is the next N bytes of the content.
 //!
-//! `data/replies.rows`: what the READ comes to, `DF` where it is to be in one chunk, the cookie, the
-//! offset, and then each chunk. A client reads the chunks again: it is to find what the READ came
-//! to, to take no byte behind them, and to find nothing where they are cut, at each byte of a short
-//! row. `data/readings.rows`: what a client finds in some bytes, under cookie 2 and from offset 512
-//! on. `data/requests.rows`: the head of a request, whether structured replies were agreed on, and
-//! whether the request may have its flags.
+//! `data/replies.rows`: what the READ comes to, `DF` where it is to be in one chunk, the cookie,
+//! the offset, and then each chunk. A client reads the chunks again: it is to find what the READ
+//! came to, to take no byte behind them, and to find nothing where they are cut, at each byte of a
+//! short row. `data/readings.rows`: what a client finds in some bytes, under cookie 2 and from
+//! offset 512 on. `data/requests.rows`: the head of a request, whether structured replies were
+//! agreed on, and whether the request may have its flags.
 //!
 //! Prints each row that comes to something else, and how many rows there are.
 #![tactic(auto)]

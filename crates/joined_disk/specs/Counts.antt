@@ -26,8 +26,8 @@ sizes_of disk = record {
   detached = is_some disk.head;
 }
 
--- A disk of these sizes: the atoms of the main disk, and before them those of a header's disk that is
--- one of its own, are all that it has.
+-- A disk of these sizes: the atoms of the main disk, and before them those of a header's disk that
+-- is one of its own, are all that it has.
 pub record HasSizes (sizes : Sizes) (device : Device) : Type 0 where
   pub atom : sizes.atom ≡ device.size
   pub header : sizes.header_atoms ≤ device.atoms

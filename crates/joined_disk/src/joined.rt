@@ -24,7 +24,8 @@ use std::snapshot::Snapshot;
 /// it; a call on both disks marks both alike, and the head is called first. So the tables of both
 /// disks stand in one order, also once they are apart again. It keeps no marks of its own, and once
 /// its count stands at `2^64 - 1` it tells its tables no more. After a call on the head that failed
-/// the main disk isn't called. Its faults are those of both, whose count stands still at `2^64 - 1`.
+/// the main disk isn't called. Its faults are those of both, whose count stands still at `2^64 -
+/// 1`.
 #[derive(Drop)]
 pub struct JoinedDisk<D: Disk> {
     head: Option<D>,
@@ -127,8 +128,8 @@ impl<D: Disk> JoinedDisk<D> {
         self.head.is_some()
     }
 
-    /// The sizes that a header on it is judged by. The atoms of the main disk, and before them those
-    /// of a header's disk that is one of its own, are all that there are.
+    /// The sizes that a header on it is judged by. The atoms of the main disk, and before them
+    /// those of a header's disk that is one of its own, are all that there are.
     pub fn sizes(&self) -> Sizes
         ensures is { result ≡ sizes_of self.now }
         ensures atom { result.atom ≡ (joined_disk (joint_in self.now)).size }

@@ -34,8 +34,8 @@ Hold offset helds (content bytes) =
 Hold offset helds (error number) = helds ≡ failed number ∷ []
 Hold offset helds (error_at number at) = helds ≡ failed_at number at ∷ []
 
--- the chunks spell the answer to a READ from an offset on: all bytes of a content, which has as many
--- as the READ asked for where the answer is that READ's
+-- the chunks spell the answer to a READ from an offset on: all bytes of a content, which has as
+-- many as the READ asked for where the answer is that READ's
 pub record Spell (offset : ℕ) (parts : List Part) (answer : Answer) : Type 0 where
   pub done : IsDoneOnce parts
   pub hold : Hold offset (map (λ part. part.held) parts) answer

@@ -1,6 +1,7 @@
 ghost use Rattle.std.specs.Prelude.{◌≡◌, ◌++◌};
 ghost use Rattle.nbd_wire.specs.Chunks.{IsChunkHead};
-ghost use Rattle.nbd_chunks.specs.Parts.{IsHeld, bits_of, bytes_of, head_of, held-prop, held_length};
+ghost use Rattle.nbd_chunks.specs.Parts.{IsHeld, bits_of, bytes_of, head_of, held-prop};
+ghost use Rattle.nbd_chunks.specs.Parts.{held_length};
 ghost use Rattle.nbd_chunks.specs.Parts.{part_text, type_of};
 ghost use Rattle.nbd_chunks.specs.Payloads.{held_by};
 
@@ -75,7 +76,8 @@ impl<'a> Chunk<'a> {
     /// The chunk's text in front of its bytes of the export: its head, and the offset of these
     /// bytes, or the error.
     pub fn front(&self, cookie: u64) -> Front
-        ensures { result ++ bytes_of (held_by self.now.payload) ≡ part_text cookie (part_by self.now) }
+        ensures { result ++ bytes_of (held_by self.now.payload)
+            ≡ part_text cookie (part_by self.now) }
     {
         let head = self.head(cookie).write();
         match self.payload {

@@ -24,7 +24,8 @@ pub enum Outcome<'a> {
 pub struct ReadReply<'a> {
     pub offset: u64,
     pub outcome: Outcome<'a>,
-    ghost fits: { IsAnswer offset (answer_by outcome) } by { answer-prop offset (answer_by outcome) },
+    ghost fits: { IsAnswer offset (answer_by outcome) } by { answer-prop offset
+        (answer_by outcome) },
 }
 
 impl<'a> ReadReply<'a> {

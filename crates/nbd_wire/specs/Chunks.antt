@@ -1,5 +1,5 @@
--- The chunks of a structured reply ("Structured reply chunk message" and "Structured reply types" of
--- the NBD protocol document).
+-- The chunks of a structured reply ("Structured reply chunk message" and "Structured reply types"
+-- of the NBD protocol document).
 use Rattle.std.specs.Prelude.{ℕ, ◌≡◌, ◌<◌, ◌^◌, ◌+◌, ◌==◌, if◌then◌else◌, List, [], ◌∷◌}
 use Rattle.nbd_wire.specs.declared.chunks.ChunkHead.{ChunkHead}
 use Rattle.nbd_wire.specs.declared.chunks.ChunkType.{ChunkType}

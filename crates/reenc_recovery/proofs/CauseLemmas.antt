@@ -19,4 +19,5 @@ refused_volume m sizes key p (causes.CopiesDiffer seqid place) placed refusal = 
 refused_volume m sizes key p (causes.Json fault) placed refusal = absurd refusal
 refused_volume m sizes key p (causes.Rule fault) placed refusal = absurd refusal
 refused_volume m sizes key p causes.InProgress placed refusal = absurd refusal
-refused_volume m sizes key p (causes.KeyDiffers computed stored) placed refusal = (p, placed, refusal)
+refused_volume m sizes key p (causes.KeyDiffers computed stored) placed refusal =
+    (p, placed, refusal)

@@ -62,7 +62,8 @@ both_within : (atom size atoms : ℕ) → 0 < atom → size / atom * atom ≡ si
     → 2 * size ≤ atoms * atom → size / atom + size / atom ≤ atoms
 both_within atom size atoms some whole room =
     le_of_mul-le-mul_right
-    (let both : (size / atom + size / atom) * atom ≡ 2 * size = twice atom (size / atom) size whole in
+    (let both : (size / atom + size / atom) * atom ≡ 2 * size =
+    twice atom (size / atom) size whole in
     let within : (size / atom + size / atom) * atom ≤ atoms * atom = omega (arith, both, room) in
     within)
     some
@@ -173,7 +174,8 @@ module _ (seen : RepairsAreSeen) (begins : RepairsBegin) (goes : RepairsGoOn)
   stands : (written broken : Bool) (cells : List Cell) → Shown written broken cells
       → StandsStill sizes first cells
   stands written broken cells shown stored stored_is image spared old_key new_key contents under =
-      let same = same_stored (stored_in sizes (front_of sizes first)) stored header stored_is held in
+      let same =
+      same_stored (stored_in sizes (front_of sizes first)) stored header stored_is held in
       let mine = subst (λ (s : Stored). IsSpared sizes s cells image) same spared in
       each sizes header both layout mine.handed bad written broken first cells image
       (repaired mine.handed mine.past) shown (left cells image mine) found.stored old_key new_key
@@ -498,7 +500,8 @@ openings_keep seen begins goes each mean used sizes header p (Some repair) old n
           let since = settled old run.read run.first mid.0 mid.1 in (
             since.0,
             since.1,
-            by_the_thin seen begins goes each mean used sizes header p repair old run.read shows found
+            by_the_thin seen begins goes each mean used sizes header p repair old run.read shows
+                found
                 run.first mid.0 mid.1 last.written last.write late.0 late.1 new last.sync now is,
           ))
     ]

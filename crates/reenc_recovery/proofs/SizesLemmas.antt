@@ -1,5 +1,6 @@
 -- The sizes that a disk of two tells are those of all its atoms.
-use Rattle.std.proofs.Common.{◌≡◌, ℕ, ◌+◌, Option, Some, None, is_some, if◌then◌else◌, refl, sym, ap}
+use Rattle.std.proofs.Common.{◌≡◌, ℕ, ◌+◌, Option, Some, None, is_some, if◌then◌else◌, refl, sym}
+use Rattle.std.proofs.Common.{ap}
 use Rattle.joined_disk.specs.Counts.{joint_in, sizes_of}
 use Rattle.joined_disk.specs.Joined.{in_front, joined_disk}
 use Rattle.joined_disk.specs.declared.joined.JoinedDisk.{JoinedDisk}

@@ -1,5 +1,6 @@
 -- What a stop leaves while a volume is opened: each image stands for the same content.
-use Rattle.std.specs.Prelude.{ℕ, ◌≡◌, ◌*◌, ◌≤◌, ◌++◌, List, ◌∷◌, length, map, replicate, Option, Some}
+use Rattle.std.specs.Prelude.{ℕ, ◌≡◌, ◌*◌, ◌≤◌, ◌++◌, List, ◌∷◌, length, map, replicate, Option}
+use Rattle.std.specs.Prelude.{Some}
 use Rattle.std.specs.Prelude.{Ok, Result}
 use Rattle.std.specs.List.{All}
 use Rattle.base_terms.specs.Blocks.{joined, lengths}

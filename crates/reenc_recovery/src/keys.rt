@@ -1,6 +1,7 @@
 // The keys of a volume's sides, and the ciphers of its segments under them.
 
-ghost use Rattle.std.specs.Prelude.{◌≡◌, ◌≢◌, ◌≤◌, ◌⊎◌, ℕ, true, List, [], length, Some, IfOk, IfErr};
+ghost use Rattle.std.specs.Prelude.{◌≡◌, ◌≢◌, ◌≤◌, ◌⊎◌, ℕ, true, List, [], length, Some, IfOk};
+ghost use Rattle.std.specs.Prelude.{IfErr};
 ghost use Rattle.std.specs.Prelude.{IfSome, IsSome, MatchResult};
 ghost use Rattle.luks_json.specs.Names.{is_iterations};
 ghost use Rattle.luks_json.specs.Segments.{is_sector_size};

@@ -70,8 +70,8 @@ pub fn repairs_keep_contents()
 }
 
 /// While a volume is opened each image of each table that its disks tell, from that of the first
-/// sync on, stands for what their bytes stood for when the opening began, as long as no torn copy of
-/// the header is valid: behind the reads, and behind each call of a repair, done or failed.
+/// sync on, stands for what their bytes stood for when the opening began, as long as no torn copy
+/// of the header is valid: behind the reads, and behind each call of a repair, done or failed.
 pub fn openings_keep_contents()
     ensures reads { ReadsKeepContents }
     ensures repairs { OpeningsKeepContents }

@@ -3,12 +3,12 @@
 //!
 //! The layer above may rely on one relation, `StandsFor`: an image of the disks stands for a
 //! content under a passphrase, block by block. No code computes it. An image stands for at most one
-//! content, [`images_stand_for_one`]. Under the same keys, what is written in front of the keyslots'
-//! areas leaves it, as long as the header says the same, [`contents_stay_behind_headers`], and so
-//! does each image that a stop leaves of a repair, [`repairs_keep_contents`], and of an opening's
-//! sync, reads and repair, [`openings_keep_contents`]. A volume that was opened by the header and a
-//! key of its disks is one from which runs start as from the plain disk of that content,
-//! [`opened_volumes_start`].
+//! content, [`images_stand_for_one`]. Under the same keys, what is written in front of the
+//! keyslots' areas leaves it, as long as the header says the same,
+//! [`contents_stay_behind_headers`], and so does each image that a stop leaves of a repair,
+//! [`repairs_keep_contents`], and of an opening's sync, reads and repair,
+//! [`openings_keep_contents`]. A volume that was opened by the header and a key of its disks is one
+//! from which runs start as from the plain disk of that content, [`opened_volumes_start`].
 #![tactic(auto)]
 
 mod fault;
