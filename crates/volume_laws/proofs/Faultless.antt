@@ -52,8 +52,8 @@ record IsFine {K : Type 0} (state : State K) (seals : Seals) (plain : ℕ → Li
   lanes : (lane : ℕ) (o : Open) → open_at state.lanes lane ≡ Some o →
       HasHad state.map.atom (plain lane) o
 
-fine_after : {K : Type 0} {old new : State K} {seals : Seals} {plain now : ℕ
-    → List ℕ} {lane : ℕ} {entries : List Entry} {next : Option Open} {is_broken : Bool}
+fine_after : {K : Type 0} {old new : State K} {seals : Seals} {plain now : ℕ → List ℕ} {lane : ℕ}
+    {entries : List Entry} {next : Option Open} {is_broken : Bool}
     → IsFine old seals plain → IsSound new → Goes old new lane entries next is_broken
     → is_broken ≡ false → ((k : ℕ) → k ≢ lane → now k ≡ plain k)
     → ((o : Open) → next ≡ Some o → HasHad old.map.atom (now lane) o) → IsFine new seals now
@@ -215,8 +215,8 @@ module _ {K : Type 0} {old new : State K} {seals : Seals} {plain : ℕ → List 
         full = rw (unanswered admitted) (none_full old.map.atom (size_of old.map));
       }
 
-fine_event : {K : Type 0} {old new : State K} {seals : Seals} {plain : ℕ
-    → List ℕ} (event : Event) (outcome : Outcome) → IsFine old seals plain → Meets old event
+fine_event : {K : Type 0} {old new : State K} {seals : Seals} {plain : ℕ → List ℕ}
+    (event : Event) (outcome : Outcome) → IsFine old seals plain → Meets old event
     → Step old event outcome new → (Rose old.disk.faults new.disk.faults → ⊥) → FineAfter
     old new seals (plain_after seals old event outcome plain) (answered_by old event outcome plain)
 unfolding Can Step answered_by plain_after

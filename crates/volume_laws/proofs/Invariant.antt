@@ -182,8 +182,8 @@ module _ {K : Type 0} {old new : State K} {plain now : ℕ → List ℕ}
   allowed_kept (inr (lane, tried)) = inr (lane, keeps.kept lane b value tried)
 
 -- what the disk shows, said of the places that its blocks had before
-pub shown_by : {K : Type 0} {old new : State K} {now : ℕ
-    → List ℕ} {left : List Block} {seals : Seals} {next : View} → Stays old new
+pub shown_by : {K : Type 0} {old new : State K} {now : ℕ → List ℕ} {left : List Block}
+    {seals : Seals} {next : View} → Stays old new
     → (new.broken ≡ false → (b : ℕ) → IsLive old b → (value : List ℕ) × IsNow new now left b value
     × IsSealed old.map seals b value (next.current (place_in old.map b))) → ((b : ℕ)
     → IsLive old b → (atom : List ℕ) → Contains (next.candidates (place_in old.map b)) atom
