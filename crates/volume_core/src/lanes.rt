@@ -7,8 +7,8 @@ use std::alloc::{AllocError, Global};
 use std::marker::Model;
 use volume_machine::Open;
 
-/// All that a volume keeps of its lanes, as a number: how many they are. It is taken before there is
-/// a volume: no lane has an operation yet, and nothing is locked.
+/// All that a volume keeps of its lanes, as a number: how many they are. It is taken before there
+/// is a volume: no lane has an operation yet, and nothing is locked.
 #[derive(Drop)]
 pub struct Lanes {
     table: Table,
