@@ -2,7 +2,7 @@
 
 use crate::station::Station;
 use anyhow::{Result, anyhow};
-use host_edge::HostBay;
+use bays::Bay;
 use std::alloc::Global;
 use std::fs;
 use std::io::{self, Read, Write};
@@ -37,11 +37,15 @@ fn ask(rt: HostRuntime, alloc: Global, address: SocketAddr, sent: &[u8]) -> io::
 
 /// Serves the disk that is held to a client that sends the bytes of `client_sends.hex`, and tells
 /// how that ended, and whether the client gets those of `client_gets.hex` alone.
-pub(crate) fn serve_client<W: Threads>(
+pub(crate) fn serve_client<W: Threads, B: Bay + Drop>(
     threads: &W,
     rt: HostRuntime,
-    station: &mut Station<HostBay<HostRuntime>>,
-) -> Result<String> {
+    station: &mut Station<B>,
+) -> Result<String>
+where
+    B::Disk: Drop,
+    B::Link: Drop,
+{
     let alloc = rt.alloc();
     let sent = bytes_in(&rt, "client_sends.hex")?;
     let wanted = bytes_in(&rt, "client_gets.hex")?;

@@ -50,13 +50,25 @@ mod streams;
 mod words;
 
 use anyhow::{Result, anyhow};
+use bays::Bay;
+use file_disk::FileSystem;
+use host_edge::{HostBay, Network};
 use std::fs;
 use std::process::ExitCode;
 use std::thread::Threads;
 use steps::Edges;
 
 /// Whether the step of a line has its outcome.
-fn holds<W: Threads>(threads: &W, rt: &HostRuntime, edges: &mut Edges, line: &str) -> Result<bool> {
+fn holds<W: Threads, B: Bay + Drop>(
+    threads: &W,
+    rt: &HostRuntime,
+    edges: &mut Edges<B>,
+    line: &str,
+) -> Result<bool>
+where
+    B::Disk: Drop,
+    B::Link: Drop,
+{
     let Some((step, wanted)) = line.split_once('\t') else {
         return Err(anyhow!("a step without an outcome: {line}"));
     };
@@ -68,15 +80,24 @@ fn holds<W: Threads>(threads: &W, rt: &HostRuntime, edges: &mut Edges, line: &st
     Ok(found.as_str() == wanted)
 }
 
-fn main(rt: HostRuntime) -> Result<ExitCode> {
-    let text = fs::read_to_string(&rt, "edge.rows")?;
-    let mut edges = Edges::new(rt)?;
+/// Does the steps of all lines over a bay of the machine.
+fn try_steps<W: Threads, B: Bay + Drop>(
+    threads: &W,
+    rt: &HostRuntime,
+    machine: B,
+) -> Result<ExitCode>
+where
+    B::Disk: Drop,
+    B::Link: Drop,
+{
+    let text = fs::read_to_string(rt, "edge.rows")?;
+    let mut edges = Edges::new(rt.alloc(), machine)?;
     let mut steps: u64 = 0;
     let mut failed: u64 = 0;
     for line in text.as_str().lines() {
         if !line.is_empty() && !line.starts_with('#') {
             steps = steps.saturating_add(1);
-            if !holds(&rt, &rt, &mut edges, line)? {
+            if !holds(threads, rt, &mut edges, line)? {
                 failed = failed.saturating_add(1);
             }
         }
@@ -87,4 +108,18 @@ fn main(rt: HostRuntime) -> Result<ExitCode> {
     } else {
         ExitCode::FAILURE
     })
+}
+
+/// Does them over any machine's bay.
+fn on_machine<W: Threads, R: FileSystem + Network + Drop>(
+    threads: &W,
+    rt: &HostRuntime,
+    bay: HostBay<R>,
+) -> Result<ExitCode> {
+    try_steps(threads, rt, bay)
+}
+
+fn main(rt: HostRuntime) -> Result<ExitCode> {
+    let bay = HostBay::new(rt, rt.stdin(), rt.stdout(), rt.stderr());
+    on_machine(&rt, &rt, bay)
 }

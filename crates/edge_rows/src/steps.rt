@@ -10,27 +10,31 @@ use crate::station::Station;
 use crate::streams::on_stream;
 use crate::words::byte_of;
 use anyhow::Result;
-use bays::MemBay;
-use host_edge::HostBay;
+use bays::{Bay, MemBay};
+use std::alloc::Global;
 use std::net::TcpListener;
 use std::thread::Threads;
 
 /// What steps act on.
 #[derive(Drop)]
-pub(crate) struct Edges {
+pub(crate) struct Edges<B: Bay + Drop> {
     edge: Edge,
-    machine: Station<HostBay<HostRuntime>>,
+    machine: Station<B>,
     memory: Station<MemBay>,
 }
 
-impl Edges {
-    pub(crate) fn new(rt: HostRuntime) -> Result<Edges> {
-        let machine = HostBay::new(rt, rt.stdin(), rt.stdout(), rt.stderr());
-        let memory = bay_of(rt.alloc(), &[])?;
+impl<B: Bay + Drop> Edges<B>
+where
+    B::Disk: Drop,
+    B::Link: Drop,
+{
+    /// Nothing yet, and a bay of the machine.
+    pub(crate) fn new(alloc: Global, machine: B) -> Result<Edges<B>> {
+        let memory = bay_of(alloc, &[])?;
         Ok(Edges {
             edge: Edge::Nothing,
-            machine: Station::new(rt.alloc(), machine),
-            memory: Station::new(rt.alloc(), memory),
+            machine: Station::new(alloc, machine),
+            memory: Station::new(alloc, memory),
         })
     }
 
