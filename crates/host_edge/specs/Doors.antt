@@ -1,6 +1,5 @@
 -- Where a link's clients come in, and what is had of it.
 use Rattle.std.specs.Prelude.{ℕ, ◌≡◌, ◌⊎◌, ◌<◌, List, slice_index_or, Result, Ok, Err}
-use Rattle.std.specs.IoError.{error_kind}
 use Rattle.std.specs.declared.io.Error.{Error}
 use Rattle.host_edge.specs.declared.door.Door.{Door}
 use Rattle.host_edge.specs.declared.door.Door.TheVariants.{Standard, Listening}

@@ -24,8 +24,8 @@ use std::snapshot::Snapshot;
 /// it; a call on both disks marks both alike, and the head is called first. So the tables of both
 /// disks stand in one order, also once they are apart again. It keeps no marks of its own, and once
 /// its count stands at `2^64 - 1` it tells its tables no more. After a call on the head that failed
-/// the main disk isn't called. Its faults are those of both, whose count stands still at `2^64 -
-/// 1`.
+/// the main disk isn't called. Its faults are those of both, whose count stands still at
+/// `2^64 - 1`.
 #[derive(Drop)]
 pub struct JoinedDisk<D: Disk> {
     head: Option<D>,

@@ -167,6 +167,7 @@ commits-begin spelt reads =
       header_of stored.copies.used.bytes both.second.bytes,
       are_header spelt reads front stored.copies both,
       refl,
+      refl,
       record {
         first = shows_copy sizes layout size bytes cells certain laid primary
             stored.copies.used.bytes false

@@ -54,7 +54,8 @@ LoadsByMeaning = (bytes : List ℕ) (stored : Stored) → IsStored stored
     → (now : Stored) × (stored_in stored.valid.sizes bytes ≡ Ok now) × (now.valid ≡ stored.valid)
 
 -- A disk that holds its bytes for certain, and in them both copies of the header that they have,
--- shows the beginning of the commit that follows it, whatever this one is.
+-- shows the beginning of the commit that follows it, whatever this one is. The header that it begins
+-- from has the used copy's bytes as its first copy.
 abbrev pub CommitsBegin : Type 0
 CommitsBegin =
     (sizes : Sizes) (bytes : List ℕ) (cells : List Cell) (stored : Stored) (layout : Layout)
@@ -63,4 +64,5 @@ CommitsBegin =
     → stored_in sizes (front_of sizes bytes) ≡ Ok stored → AreGood stored.copies
     → (from : Header (List ℕ)) × IsHeader header_reader from
     × (from.means ≡ meaning_of stored.copies.used.bytes)
+    × (from.first ≡ stored.copies.used.bytes)
     × ShowsCommit sizes.atom layout from to begun false (view_of_cells cells)

@@ -3,9 +3,9 @@
 //! its first word on, each word's low byte first.
 //!
 //! The layer above may rely on one definition, `bytes_of_seed`: how the first bytes of the stream
-//! follow from a seed. What is drawn for one thing and then for another are pieces of these, and
-//! more bytes begin with the fewer ones, [`streams_go_on`]. Nothing is claimed of how hard it is to
-//! foretell them.
+//! follow from a seed. What is drawn for one thing and then for another are pieces of these: behind
+//! whole words of four bytes more bytes begin with the fewer ones, [`streams_go_on`]. Nothing is
+//! claimed of how hard it is to foretell them.
 #![tactic(auto)]
 
 ghost use Rattle.std.specs.Prelude.{◌≡◌, IfOk};

@@ -30,8 +30,8 @@ unfolding last_of
 last-joined old [] ys = refl
 last-joined old (x ∷ xs) ys = last-joined x.after xs ys
 
-pub answered-joined : {K : Type 0} (seals : Seals) (old : State K) (plain : ℕ
-    → List ℕ) (xs ys : List (Happening K)) → answered_in seals old plain (xs ++ ys) ≡ answered_in
+pub answered-joined : {K : Type 0} (seals : Seals) (old : State K) (plain : ℕ → List ℕ)
+    (xs ys : List (Happening K)) → answered_in seals old plain (xs ++ ys) ≡ answered_in
     seals old plain xs ++ answered_in seals (last_of old xs) (plain_in seals old plain xs) ys
 unfolding answered_in last_of plain_in
 answered-joined seals old plain [] ys = refl
