@@ -3,13 +3,13 @@ use Rattle.std.proofs.Common.{◌≡◌, ℕ, zero, suc, ◌+◌, ◌-◌, ◌*�
 use Rattle.std.proofs.Common.{length}
 use Rattle.std.proofs.Common.{take, drop, replicate, sym, ◌∙◌, ap, ap₂, arith, length-append}
 use Rattle.std.proofs.Common.{length-drop}
-use Rattle.std.proofs.lemmas.List.{drop_at, take_at}
 use Rattle.std.proofs.Math.Seq.{take-append-add}
 use Rattle.base_terms.specs.Blocks.{joined, lengths}
 use Rattle.disk_areas.specs.Areas.{Image, text_from}
-use Rattle.disk_views.proofs.Blockwise.{block_at-drop, block_at-first, block_at-next, block_end}
+use Rattle.disk_views.proofs.Blockwise.{block_at-drop, block_end}
 use Rattle.disk_views.proofs.Blockwise.{same_blocks}
-use Rattle.disk_views.specs.Parts.{block_at, value_in}
+use Rattle.disk_views.specs.Parts.{block_at}
+use Rattle.luks_store.proofs.SettledLemmas.{even_head, even_tail, none_even}
 
 -- the first atoms of a text are the text of the first atoms
 pub front_text : (atom start n k : ℕ) (image : Image)
@@ -30,39 +30,10 @@ front_text atom start (suc n) k image whole =
     (λ place from below. whole place (omega (arith, from)) (omega (arith, below))))
 
 -- the atoms of an image, one behind the other
-even_head : (atom n : ℕ) (value : List ℕ) (image : List (List ℕ))
-    → lengths (value ∷ image) ≡ replicate (suc n) atom → length value ≡ atom
-unfolding lengths
-even_head atom n value image even = cc
-
-even_tail : (atom n : ℕ) (value : List ℕ) (image : List (List ℕ))
-    → lengths (value ∷ image) ≡ replicate (suc n) atom → lengths image ≡ replicate n atom
-unfolding lengths
-even_tail atom n value image even = cc
-
-none_even : (atom n : ℕ) → lengths [] ≡ replicate (suc n) atom → ⊥
-unfolding lengths
-none_even atom n even = cc
-
 some_even : (atom : ℕ) (value : List ℕ) (image : List (List ℕ))
     → lengths (value ∷ image) ≡ replicate zero atom → ⊥
 unfolding lengths
 some_even atom value image even = cc
-
-pub atom_of_joined : (atom n : ℕ) (image : List (List ℕ)) (place : ℕ)
-    → lengths image ≡ replicate n atom → place < n
-    → block_at atom (joined image) place ≡ value_in image place
-unfolding joined
-atom_of_joined atom zero image place even below = absurd (omega (arith, below))
-atom_of_joined atom (suc n) [] place even below = absurd (none_even atom n even)
-atom_of_joined atom (suc n) (value ∷ image) zero even below =
-    block_at-first atom (value ++ joined image)
-    ∙ take_at value (joined image) atom (even_head atom n value image even)
-atom_of_joined atom (suc n) (value ∷ image) (suc place) even below =
-    sym (block_at-next atom (value ++ joined image) place)
-    ∙ ap (λ bytes. block_at atom bytes place)
-    (drop_at value (joined image) atom (even_head atom n value image even))
-    ∙ atom_of_joined atom n image place (even_tail atom n value image even) (omega (arith, below))
 
 pub long_joined : (atom n : ℕ) (image : List (List ℕ)) → lengths image ≡ replicate n atom
     → length (joined image) ≡ n * atom

@@ -23,7 +23,8 @@ use Rattle.reenc_recovery.specs.Images.{StandsUnder}
 use Rattle.reenc_recovery.specs.Repairing.{IsLeft, IsRepaired, ShowsRepairOf}
 use Rattle.reenc_recovery.proofs.FrameLemmas.{stands_still}
 use Rattle.reenc_recovery.proofs.ImageLemmas.{OnePlacement}
-use Rattle.reenc_recovery.proofs.JoinedLemmas.{atom_of_joined, front_text, long_joined, same_behind}
+use Rattle.luks_store.proofs.SettledLemmas.{atom_of_joined}
+use Rattle.reenc_recovery.proofs.JoinedLemmas.{front_text, long_joined, same_behind}
 use Rattle.sector_disk.specs.Cells.{Cell}
 
 module _ (sizes : Sizes) (stored : Stored) (header : Header (List ℕ)) (layout : Layout)

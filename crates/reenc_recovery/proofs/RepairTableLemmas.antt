@@ -25,7 +25,7 @@ use Rattle.luks_copies.specs.declared.repair.Repair.{Repair}
 use Rattle.luks_copies.specs.declared.repair.RepairStage.TheVariants.{Broken, Written}
 use Rattle.luks_rules.specs.Areas.{areas_begin}
 use Rattle.luks_store.proofs.PageLemmas.{page-place, size-pages}
-use Rattle.luks_store.specs.Devices.{front_of}
+use Rattle.luks_store.specs.Devices.{front_of, IsCertain}
 use Rattle.luks_store.specs.Loads.{stored_in}
 use Rattle.luks_store.specs.Promises.{UsedStands}
 use Rattle.luks_store.specs.declared.loaded.Stored.{Stored}
@@ -33,7 +33,7 @@ use Rattle.reenc_meta.specs.declared.placement.Placement.{Placement}
 use Rattle.reenc_recovery.specs.Calls.{SyncsAndReads, WritesRepair}
 use Rattle.reenc_recovery.specs.Promises.{RepairGoesOn, RepairsBegin, RepairsGoOn}
 use Rattle.reenc_recovery.specs.Promises.{RepairsKeepContents}
-use Rattle.reenc_recovery.specs.Repairing.{IsCertain, IsLeft, IsRepaired, ShowsRepairOf}
+use Rattle.reenc_recovery.specs.Repairing.{IsLeft, IsRepaired, ShowsRepairOf}
 use Rattle.reenc_recovery.specs.Tables.{IsFoundOn, IsSpared, OpeningsKeepContents, ShowsSizes}
 use Rattle.reenc_recovery.specs.Tables.{StandsSince, StandsStill, header_in}
 use Rattle.reenc_recovery.proofs.ImageLemmas.{same_stored}

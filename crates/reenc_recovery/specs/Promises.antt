@@ -5,14 +5,14 @@ use Rattle.disk_areas.specs.Commits.{TriesCopy, WritesCopy, other}
 use Rattle.disk_areas.specs.Headers.{Copy, Handed, Header, IsLaidOut, Layout, byte_of, text_of}
 use Rattle.disk_sizes.specs.declared.Sizes.{Sizes}
 use Rattle.disk_views.specs.Views.{IsSynced, IsThinned, view_of_cells}
-use Rattle.luks_store.specs.Devices.{front_of}
+use Rattle.luks_store.specs.Devices.{front_of, IsCertain}
 use Rattle.luks_store.specs.Loads.{IsStored, stored_in}
 use Rattle.luks_store.specs.declared.loaded.Stored.{Stored}
 use Rattle.reenc_meta.specs.Placements.{IsPlacementOf}
 use Rattle.reenc_meta.specs.Places.{IsRightFor}
 use Rattle.reenc_meta.specs.declared.placement.Placement.{Placement}
 use Rattle.reenc_recovery.specs.Images.{StandsUnder}
-use Rattle.reenc_recovery.specs.Repairing.{IsCertain, IsLeft, IsRepaired, ShowsRepairOf}
+use Rattle.reenc_recovery.specs.Repairing.{IsLeft, IsRepaired, ShowsRepairOf}
 use Rattle.sector_disk.specs.Cells.{Cell}
 
 -- Each image that a stop leaves of a disk during a repair stands for what the bytes of the disk

@@ -11,7 +11,7 @@ use Rattle.luks_copies.specs.Meanings.{header_reader, meaning_of}
 use Rattle.luks_rules.specs.Areas.{areas_begin}
 use Rattle.luks_store.specs.Devices.{front_of}
 use Rattle.luks_store.specs.declared.loaded.Stored.{Stored}
-use Rattle.sector_disk.specs.Cells.{Cell, IsImage, currents}
+use Rattle.sector_disk.specs.Cells.{Cell, IsImage}
 
 -- A header that was loaded, as the laws of repairs speak of it: both copies' texts, of which one is
 -- written anew, lie in front of all else on its disk.
@@ -24,14 +24,6 @@ pub record IsRepaired (sizes : Sizes) (stored : Stored) (header : Header (List �
   pub begin : areas_begin stored.valid.meta.config
       ≡ (layout.second.start + layout.second.count) * sizes.atom
   pub sizes_are : stored.valid.sizes ≡ sizes
-
--- A disk whose table this is holds these bytes for certain.
-pub record IsCertain (sizes : Sizes) (first : List ℕ) (cells : List Cell) : Type 0 where
-  pub only : (place : ℕ) (value : List ℕ) → Contains (cell_in cells place).candidates value
-      → value ≡ (cell_in cells place).current
-  pub even : lengths (currents cells) ≡ replicate (length cells) sizes.atom
-  pub holds : joined (currents cells) ≡ first
-  pub header_atoms : sizes.header_atoms ≤ length cells
 
 -- The disk shows a repair of one copy, and behind both copies what it held for certain.
 pub record ShowsRepairOf (sizes : Sizes) (layout : Layout) (header : Header (List ℕ))
