@@ -21,7 +21,8 @@ module _ (sizes : Sizes) (layout : Layout) (size : ℕ) (first : List ℕ) (cell
           (text_of header (other bad)) false stands;
       now = λ done. absurd (cc);
     };
-    now = λ whole place from below. current_is sizes layout size first cells certain laid place below;
+    now = λ whole place from below. current_is sizes layout size first cells certain laid place
+        below;
     behind = λ place from below value has.
         certain.only place value has
         ∙ current_is sizes layout size first cells certain laid place below;

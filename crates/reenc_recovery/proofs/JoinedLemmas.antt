@@ -1,7 +1,7 @@
 -- The bytes of an image, atom by atom.
 use Rattle.std.proofs.Common.{◌≡◌, ℕ, zero, suc, ◌+◌, ◌-◌, ◌*◌, ◌<◌, ◌≤◌, List, [], ◌∷◌, ◌++◌}
 use Rattle.std.proofs.Common.{length}
-use Rattle.std.proofs.Common.{take, drop, replicate, sym, ◌∙◌, ap, ap₂, arith, length-append}
+use Rattle.std.proofs.Common.{take, drop, replicate, refl, sym, ◌∙◌, ap, ap₂, arith, length-append}
 use Rattle.std.proofs.Common.{length-drop}
 use Rattle.std.proofs.Math.Seq.{take-append-add}
 use Rattle.base_terms.specs.Blocks.{joined, lengths}
@@ -10,6 +10,7 @@ use Rattle.disk_views.proofs.Blockwise.{block_at-drop, block_end}
 use Rattle.disk_views.proofs.Blockwise.{same_blocks}
 use Rattle.disk_views.specs.Parts.{block_at}
 use Rattle.luks_store.proofs.SettledLemmas.{even_head, even_tail, none_even}
+use Rattle.sector_disk.specs.Cells.{AreSized, Cell, IsImage}
 
 -- the first atoms of a text are the text of the first atoms
 pub front_text : (atom start n k : ℕ) (image : Image)
@@ -34,6 +35,16 @@ some_even : (atom : ℕ) (value : List ℕ) (image : List (List ℕ))
     → lengths (value ∷ image) ≡ replicate zero atom → ⊥
 unfolding lengths
 some_even atom value image even = cc
+
+-- each image of a table whose candidates have an atom's bytes is one of whole atoms
+pub even_image : (atom : ℕ) (cells : List Cell) (image : List (List ℕ)) → AreSized atom cells
+    → IsImage cells image → lengths image ≡ replicate (length cells) atom
+unfolding IsImage lengths
+even_image atom [] [] sized is = refl
+even_image atom [] (value ∷ image) sized is = absurd is
+even_image atom (cell ∷ cells) [] sized is = absurd is
+even_image atom (cell ∷ cells) (value ∷ image) sized is =
+    ap₂ (λ x xs. x ∷ xs) (sized.0 value is.0) (even_image atom cells image sized.1 is.1)
 
 pub long_joined : (atom n : ℕ) (image : List (List ℕ)) → lengths image ≡ replicate n atom
     → length (joined image) ≡ n * atom

@@ -8,7 +8,6 @@ mod OpenedLemmas
 mod RepairGoesLemmas
 mod RepairLemmas
 mod RepairTableLemmas
-mod SizesLemmas
 mod StandingLemmas
 mod TableLemmas
 mod WritingLemmas

@@ -1,7 +1,8 @@
 -- Each image during a repair stands for what the disk's bytes stood for before it.
 use Rattle.std.proofs.Common.{◌≡◌, ℕ, ◌+◌, ◌-◌, ◌*◌, ◌≤◌, Bool, List, length, take, drop, Ok}
+use Rattle.std.proofs.Common.{replicate}
 use Rattle.std.proofs.Common.{sym, ◌∙◌, ap, subst, arith}
-use Rattle.base_terms.specs.Blocks.{joined}
+use Rattle.base_terms.specs.Blocks.{joined, lengths}
 use Rattle.disk_areas.specs.Areas.{content_of}
 use Rattle.disk_areas.specs.Headers.{Copy, Gives, Handed, Header, IsGenuine, IsLaidOut, IsReader}
 use Rattle.disk_areas.specs.Headers.{Layout}
@@ -24,14 +25,17 @@ use Rattle.reenc_recovery.specs.Repairing.{IsLeft, IsRepaired, ShowsRepairOf}
 use Rattle.reenc_recovery.proofs.FrameLemmas.{stands_still}
 use Rattle.reenc_recovery.proofs.ImageLemmas.{OnePlacement}
 use Rattle.luks_store.proofs.SettledLemmas.{atom_of_joined}
-use Rattle.reenc_recovery.proofs.JoinedLemmas.{front_text, long_joined, same_behind}
-use Rattle.sector_disk.specs.Cells.{Cell}
+use Rattle.reenc_recovery.proofs.JoinedLemmas.{even_image, front_text, long_joined, same_behind}
+use Rattle.sector_disk.specs.Cells.{AreSized, Cell}
 
 module _ (sizes : Sizes) (stored : Stored) (header : Header (List ℕ)) (layout : Layout)
     (handed : Handed) (bad : Copy) (written broken : Bool) (first : List ℕ) (cells : List Cell)
     (image : List (List ℕ)) (repaired : IsRepaired sizes stored header layout handed)
     (shows : ShowsRepairOf sizes layout header bad written broken first cells)
-    (left : IsLeft sizes header handed cells image) where
+    (sized : AreSized sizes.atom cells) (left : IsLeft sizes header handed cells image) where
+  even : lengths image ≡ replicate (length cells) sizes.atom
+  even = even_image sizes.atom cells image sized left.is
+
   laid_in_all : IsLaidOut sizes.atom (length cells) (header_reader.size header.means) layout
   laid_in_all =
       let laid = repaired.laid in
@@ -50,7 +54,7 @@ module _ (sizes : Sizes) (stored : Stored) (header : Header (List ℕ)) (layout 
       (view_of_cells cells) (value_in image)
   front_image taken =
       let all = taken sizes.atom (header_reader.size header.means) layout cells image left.is
-      left.even laid_in_all in
+      even laid_in_all in
       let more = shows.header_atoms in
       record {
         laid = repaired.laid;
@@ -63,7 +67,7 @@ module _ (sizes : Sizes) (stored : Stored) (header : Header (List ℕ)) (layout 
       → content_of sizes.header_atoms (value_in image) ≡ front_of sizes (joined image)
   front_is taken =
       let all = taken sizes.atom (header_reader.size header.means) layout cells image left.is
-      left.even laid_in_all in
+      even laid_in_all in
       let more = shows.header_atoms in
       let rest = length cells - sizes.header_atoms in
       let whole : sizes.header_atoms + rest ≡ length cells = omega (arith, more) in
@@ -91,8 +95,8 @@ module _ (sizes : Sizes) (stored : Stored) (header : Header (List ℕ)) (layout 
       let within : n ≤ length cells = laid_in_all.within in
       subst (λ (k : ℕ). drop k (joined image) ≡ drop k first) (sym repaired.begin)
       (same_behind sizes.atom (length cells) n (joined image) first within
-      (long_joined sizes.atom (length cells) image left.even) shows.long
-      (λ place from below. atom_of_joined sizes.atom (length cells) image place left.even below
+      (long_joined sizes.atom (length cells) image even) shows.long
+      (λ place from below. atom_of_joined sizes.atom (length cells) image place even below
       ∙ shows.behind place from below (value_in image place)
       (image_in cells image place left.is below)))
 

@@ -30,7 +30,7 @@ use Rattle.luks_store.specs.Loads.{stored_in}
 use Rattle.luks_store.specs.Promises.{UsedStands}
 use Rattle.luks_store.specs.declared.loaded.Stored.{Stored}
 use Rattle.reenc_meta.specs.declared.placement.Placement.{Placement}
-use Rattle.reenc_recovery.specs.Calls.{SyncsAndReads, WritesRepair}
+use Rattle.reenc_recovery.specs.Calls.{SyncsAndReads, TellsSized, WritesRepair}
 use Rattle.reenc_recovery.specs.Promises.{RepairGoesOn, RepairsBegin, RepairsGoOn}
 use Rattle.reenc_recovery.specs.Promises.{RepairsKeepContents}
 use Rattle.reenc_recovery.specs.Repairing.{IsLeft, IsRepaired, ShowsRepairOf}
@@ -41,7 +41,7 @@ use Rattle.reenc_recovery.proofs.TableLemmas.{IsSettledSince, StillSince, curren
 use Rattle.reenc_recovery.proofs.TableLemmas.{reads_keep, stands_later, still_joined, still_none}
 use Rattle.reenc_recovery.proofs.TableLemmas.{still_one}
 use Rattle.reenc_recovery.proofs.WritingLemmas.{IsWriting, SomeWriting, writing}
-use Rattle.sector_disk.specs.Cells.{Cell, content, currents, synced}
+use Rattle.sector_disk.specs.Cells.{AreSized, Cell, content, currents, synced}
 use Rattle.sector_disk.specs.Devices.{Device, SyncCall, failed_call, succeeded}
 use Rattle.sector_disk.specs.Geometry.{IsAtom}
 use Rattle.sector_disk.specs.Steps.{Told, then_table}
@@ -166,19 +166,20 @@ module _ (seen : RepairsAreSeen) (begins : RepairsBegin) (goes : RepairsGoOn)
       → IsLeft sizes both spared.handed cells image
   left cells image spared = record {
     is = spared.is;
-    even = spared.even;
     genuine = subst (λ (n : ℕ). IsGenuine header_reader n spared.handed
         (front_of sizes (joined image))) (sym means_size) spared.genuine;
   }
 
-  stands : (written broken : Bool) (cells : List Cell) → Shown written broken cells
-      → StandsStill sizes first cells
-  stands written broken cells shown stored stored_is image spared old_key new_key contents under =
+  stands : (written broken : Bool) (cells : List Cell) → AreSized atom cells
+      → Shown written broken cells → StandsStill sizes first cells
+  stands written broken cells sized shown stored stored_is image spared old_key new_key contents
+      under =
       let same =
       same_stored (stored_in sizes (front_of sizes first)) stored header stored_is held in
       let mine = subst (λ (s : Stored). IsSpared sizes s cells image) same spared in
       each sizes header both layout mine.handed bad written broken first cells image
-      (repaired mine.handed mine.past) shown (left cells image mine) found.stored old_key new_key
+      (repaired mine.handed mine.past) shown sized (left cells image mine) found.stored old_key
+      new_key
       contents p held found.placed found.right under
 
   -- ---- its calls
@@ -245,8 +246,8 @@ module _ (seen : RepairsAreSeen) (begins : RepairsBegin) (goes : RepairsGoOn)
   by_try : (from to : Device) (mid now : Told) → from.size ≡ old.size → from.atoms ≡ old.atoms
       → ((told : Told) → from.told ≡ Some told → length told.now ≡ old.atoms)
       → WritesRepair repair from to failed_call → from.told ≡ Some mid → to.told ≡ Some now
-      → Shown false false mid.now → StillSince sizes first mid now
-  by_try from to mid now same_size same_atoms even call mid_is now_is shown =
+      → Shown false false mid.now → AreSized atom now.now → StillSince sizes first mid now
+  by_try from to mid now same_size same_atoms even call mid_is now_is shown sized =
       let view = (seen one two bad size layout from to now
       (room_for from same_size same_atoms even) now_is).1 (as_written from to failed_call call) in
       let other_told = same_told from.told view.0 mid view.1 mid_is in
@@ -258,8 +259,8 @@ module _ (seen : RepairsAreSeen) (begins : RepairsBegin) (goes : RepairsGoOn)
         | inl same ↦
             (let one_now = same_told from.told now mid (sym same ∙ now_is) mid_is in
             still_none sizes first mid now one_now
-            (subst (λ (t : Told). StandsStill sizes first t.now) (sym one_now)
-            (stands false false mid.now shown)))
+            (stands false false now.now sized
+            (subst (λ (t : Told). Shown false false t.now) (sym one_now) shown)))
         | inr moves ↦
             (let moved = moves now now_is in
             let one_told = same_told from.told moved.0 mid moved.1 mid_is in
@@ -268,15 +269,15 @@ module _ (seen : RepairsAreSeen) (begins : RepairsBegin) (goes : RepairsGoOn)
             ∙ ap (λ (t : Told). length t.now) one_told in
             still_one sizes first mid now
             (subst (λ (t : Told). now ≡ then_table t now.now) one_told moved.2.one)
-            (stands false true now.now ((on mid.now now.now count).tried shown step)))
+            (stands false true now.now sized ((on mid.now now.now count).tried shown step)))
       ]
 
   -- the sync behind it, done and failed
   by_sync : (from to : Device) (mid now : Told) → from.size ≡ old.size → from.atoms ≡ old.atoms
       → ((told : Told) → from.told ≡ Some told → length told.now ≡ old.atoms)
       → SyncCall from to succeeded → from.told ≡ Some mid → to.told ≡ Some now
-      → Shown true false mid.now → StillSince sizes first mid now
-  by_sync from to mid now same_size same_atoms even call mid_is now_is shown =
+      → Shown true false mid.now → AreSized atom now.now → StillSince sizes first mid now
+  by_sync from to mid now same_size same_atoms even call mid_is now_is shown sized =
       let moved = call.told now now_is in
       let one_told = same_told from.told moved.0 mid moved.1 mid_is in
       let cells : now.now ≡ map synced mid.now =
@@ -285,14 +286,14 @@ module _ (seen : RepairsAreSeen) (begins : RepairsBegin) (goes : RepairsGoOn)
       ap length cells ∙ length-map mid.now synced in
       still_one sizes first mid now
       (subst (λ (t : Told). now ≡ then_table t now.now) one_told moved.2.one)
-      (stands true false now.now ((on mid.now now.now count).synced shown
+      (stands true false now.now sized ((on mid.now now.now count).synced shown
       (synced_view mid.now now.now cells)))
 
   by_thin : (from to : Device) (mid now : Told) → from.size ≡ old.size → from.atoms ≡ old.atoms
       → ((told : Told) → from.told ≡ Some told → length told.now ≡ old.atoms)
       → SyncCall from to failed_call → from.told ≡ Some mid → to.told ≡ Some now
-      → Shown true false mid.now → StillSince sizes first mid now
-  by_thin from to mid now same_size same_atoms even call mid_is now_is shown =
+      → Shown true false mid.now → AreSized atom now.now → StillSince sizes first mid now
+  by_thin from to mid now same_size same_atoms even call mid_is now_is shown sized =
       let view = (seen one two bad size layout from to now
       (room_for from same_size same_atoms even) now_is).3 call in
       let other_told = same_told from.told view.0 mid view.1 mid_is in
@@ -302,8 +303,8 @@ module _ (seen : RepairsAreSeen) (begins : RepairsBegin) (goes : RepairsGoOn)
         | inl same ↦
             (let one_now = same_told from.told now mid (sym same ∙ now_is) mid_is in
             still_none sizes first mid now one_now
-            (subst (λ (t : Told). StandsStill sizes first t.now) (sym one_now)
-            (stands true false mid.now shown)))
+            (stands true false now.now sized
+            (subst (λ (t : Told). Shown true false t.now) (sym one_now) shown)))
         | inr moves ↦
             (let moved = moves now now_is in
             let one_told = same_told from.told moved.0 mid moved.1 mid_is in
@@ -312,7 +313,7 @@ module _ (seen : RepairsAreSeen) (begins : RepairsBegin) (goes : RepairsGoOn)
             ∙ ap (λ (t : Told). length t.now) one_told in
             still_one sizes first mid now
             (subst (λ (t : Told). now ≡ then_table t now.now) one_told moved.2.one)
-            (stands true true now.now ((on mid.now now.now count).thinned shown step)))
+            (stands true true now.now sized ((on mid.now now.now count).thinned shown step)))
       ]
 
 -- ---- the opening
@@ -385,17 +386,23 @@ module _ (seen : RepairsAreSeen) (begins : RepairsBegin) (goes : RepairsGoOn)
   read_atoms = run.unwritten.atoms ∙ run.sync.atoms
 
   -- the write failed
-  tried : (new : Device) → WritesRepair repair (joined_disk read) new failed_call → (now : Told)
-      → new.told ≡ Some now → StandsSince sizes was.0 now
-  tried new call now now_is =
+  sized_at : (to : Device) (now : Told) → to.size ≡ device.size → TellsSized to
+      → to.told ≡ Some now → AreSized sizes.atom now.now
+  sized_at to now same sized now_is =
+      subst (λ (n : ℕ). AreSized n now.now) (same ∙ sym shows.atom) (sized now now_is)
+
+  tried : (new : Device) → WritesRepair repair (joined_disk read) new failed_call → TellsSized new
+      → (now : Told) → new.told ≡ Some now → StandsSince sizes was.0 now
+  tried new call sized now now_is =
       stands_later sizes was.0 mid now was.2
       (by_try seen begins goes each sizes header p repair device shows found first held writes.bad
       writes.one writes.two writes.is (joined_disk read) new mid now read_size read_atoms
-      (many_read sizes old read shows run) call mid_is now_is begun)
+      (many_read sizes old read shows run) call mid_is now_is begun
+      (sized_at new now (call.size ∙ read_size) sized now_is))
 
   -- it was done
   module _ (written : Device) (write : WritesRepair repair (joined_disk read) written succeeded)
-      (late : Told) (late_is : written.told ≡ Some late) where
+      (tells : TellsSized written) (late : Told) (late_is : written.told ≡ Some late) where
     after : ShowsRepairOf sizes (layout_of sizes.atom header.copies.used.header.hdr_size)
         (header_of writes.one writes.two) writes.bad true false first late.now
         × (length late.now ≡ length mid.now) × (late ≡ then_table mid late.now)
@@ -408,7 +415,8 @@ module _ (seen : RepairsAreSeen) (begins : RepairsBegin) (goes : RepairsGoOn)
     still_late =
         still_one sizes first mid late after.2
         (stands seen begins goes each sizes header p repair device shows found first held writes.bad
-        writes.one writes.two writes.is true false late.now after.0)
+        writes.one writes.two writes.is true false late.now
+        (sized_at written late (write.size ∙ read_size) tells late_is) after.0)
 
     many_written : (told : Told) → written.told ≡ Some told → length told.now ≡ device.atoms
     many_written told told_is =
@@ -417,24 +425,26 @@ module _ (seen : RepairsAreSeen) (begins : RepairsBegin) (goes : RepairsGoOn)
         ∙ many_read sizes old read shows run mid mid_is
 
     by_the_sync : (new : Device) → RepairCall Written (copy_in repair) (place_in repair) written new
-        succeeded → (now : Told) → new.told ≡ Some now → StandsSince sizes was.0 now
-    by_the_sync new call now now_is =
+        succeeded → TellsSized new → (now : Told) → new.told ≡ Some now
+        → StandsSince sizes was.0 now
+    by_the_sync new call sized now now_is =
         stands_later sizes was.0 mid now was.2
         (still_joined sizes first mid late now still_late
         (by_sync seen begins goes each sizes header p repair device shows found first held
         writes.bad writes.one writes.two writes.is written new late now
         (write.size ∙ read_size) (write.atoms ∙ read_atoms) many_written call late_is now_is
-        after.0))
+        after.0 (sized_at new now (call.size ∙ write.size ∙ read_size) sized now_is)))
 
     by_the_thin : (new : Device) → RepairCall Written (copy_in repair) (place_in repair) written new
-        failed_call → (now : Told) → new.told ≡ Some now → StandsSince sizes was.0 now
-    by_the_thin new call now now_is =
+        failed_call → TellsSized new → (now : Told) → new.told ≡ Some now
+        → StandsSince sizes was.0 now
+    by_the_thin new call sized now now_is =
         stands_later sizes was.0 mid now was.2
         (still_joined sizes first mid late now still_late
         (by_thin seen begins goes each sizes header p repair device shows found first held
         writes.bad writes.one writes.two writes.is written new late now
         (write.size ∙ read_size) (write.atoms ∙ read_atoms) many_written call late_is now_is
-        after.0))
+        after.0 (sized_at new now (call.size ∙ write.size ∙ read_size) sized now_is)))
 
 -- ---- where a table is told, so was each before it
 before_sync : (from to : Device) → SyncCall from to succeeded → (now : Told)
@@ -465,13 +475,13 @@ before_try repair from to call now now_is =
 pub openings_keep : RepairsAreSeen → RepairsBegin → RepairsGoOn → RepairsKeepContents
     → MeanTheSame → UsedStands → OpeningsKeepContents
 openings_keep seen begins goes each mean used sizes header p None old new (Ok done) shows found run
-    now is =
+    sized now is =
     reads_keep sizes old run.read run.first now
     (ap (λ (d : Device). d.told) (sym run.run) ∙ is)
 openings_keep seen begins goes each mean used sizes header p None old new (Err failed) shows found
-    run now is = absurd run.run
+    run sized now is = absurd run.run
 openings_keep seen begins goes each mean used sizes header p (Some repair) old new (Ok done) shows
-    found run now is =
+    found run sized now is =
     let last = run.run in
     let late = before_sync last.written new last.sync now is in
     let mid = before_write repair (joined_disk run.read) last.written last.write late.0 late.1 in
@@ -479,10 +489,11 @@ openings_keep seen begins goes each mean used sizes header p (Some repair) old n
       since.0,
       since.1,
       by_the_sync seen begins goes each mean used sizes header p repair old run.read shows found
-          run.first mid.0 mid.1 last.written last.write late.0 late.1 new last.sync now is,
+          run.first mid.0 mid.1 last.written last.write last.sized late.0 late.1 new last.sync sized
+          now is,
     )
 openings_keep seen begins goes each mean used sizes header p (Some repair) old new (Err failed)
-    shows found run now is =
+    shows found run sized now is =
     elim run.run as (λ _. (before : Told) × ((joined_disk old).told ≡ Some before)
     × StandsSince sizes before now) [
       | inl call ↦
@@ -491,7 +502,7 @@ openings_keep seen begins goes each mean used sizes header p (Some repair) old n
             since.0,
             since.1,
             tried seen begins goes each mean used sizes header p repair old run.read shows found
-                run.first mid.0 mid.1 new call now is,
+                run.first mid.0 mid.1 new call sized now is,
           ))
       | inr last ↦
           (let late = before_thin last.written new last.sync now is in
@@ -502,6 +513,7 @@ openings_keep seen begins goes each mean used sizes header p (Some repair) old n
             since.1,
             by_the_thin seen begins goes each mean used sizes header p repair old run.read shows
                 found
-                run.first mid.0 mid.1 last.written last.write late.0 late.1 new last.sync now is,
+                run.first mid.0 mid.1 last.written last.write last.sized late.0 late.1 new last.sync
+                sized now is,
           ))
     ]

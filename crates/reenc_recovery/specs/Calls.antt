@@ -9,7 +9,9 @@ use Rattle.luks_copies.specs.declared.repair.RepairStage.TheVariants.{Broken, Wr
 use Rattle.luks_store.specs.Commits.{AreGood, Repairs}
 use Rattle.luks_store.specs.Devices.{IsUnwritten}
 use Rattle.luks_store.specs.declared.copies.Copies.{Copies}
+use Rattle.sector_disk.specs.Cells.{AreSized}
 use Rattle.sector_disk.specs.Devices.{Device, SyncCall, failed_call, succeeded}
+use Rattle.sector_disk.specs.Steps.{Told}
 
 -- ---- the repair
 -- which repair a header asks for: none where both copies are good
@@ -22,11 +24,16 @@ abbrev pub WritesRepair : Repair → Device → Device → Result (Unit {0}) Fai
 WritesRepair repair old new result =
     RepairCall Broken (copy_in repair) (place_in repair) old new result
 
+-- each candidate of the table that it tells has an atom's bytes, as the law of each disk says
+abbrev pub TellsSized : Device → Type 0
+TellsSized device = (told : Told) → device.told ≡ Some told → AreSized device.size told.now
+
 -- The write was done, and the sync that follows it was done or failed.
 pub record SyncsRepair (repair : Repair) (old new : Device) (result : Result (Unit {0}) Failed) :
     Type 0 where
   pub written : Device
   pub write : WritesRepair repair old written succeeded
+  pub sized : TellsSized written
   pub sync : RepairCall Written (copy_in repair) (place_in repair) written new result
 
 -- Its calls, of which the last one was done or failed; there is none where no repair is asked for.

@@ -13,7 +13,7 @@ use Rattle.reenc_meta.specs.Places.{IsRightFor}
 use Rattle.reenc_meta.specs.declared.placement.Placement.{Placement}
 use Rattle.reenc_recovery.specs.Images.{StandsUnder}
 use Rattle.reenc_recovery.specs.Repairing.{IsLeft, IsRepaired, ShowsRepairOf}
-use Rattle.sector_disk.specs.Cells.{Cell}
+use Rattle.sector_disk.specs.Cells.{AreSized, Cell}
 
 -- Each image that a stop leaves of a disk during a repair stands for what the bytes of the disk
 -- stood for before it, under the same keys.
@@ -23,7 +23,7 @@ RepairsKeepContents =
     (bad : Copy) (written broken : Bool) (first : List ℕ) (cells : List Cell)
     (image : List (List ℕ)) → IsRepaired sizes stored header layout handed
     → ShowsRepairOf sizes layout header bad written broken first cells
-    → IsLeft sizes header handed cells image → IsStored stored
+    → AreSized sizes.atom cells → IsLeft sizes header handed cells image → IsStored stored
     → (old new : List ℕ) (contents : List (List ℕ)) (p : Placement)
     → stored_in sizes (front_of sizes first) ≡ Ok stored
     → IsPlacementOf stored.valid.meta sizes p → IsRightFor stored.valid.meta sizes p

@@ -1,7 +1,6 @@
 -- What a disk shows while a copy of its header is written anew.
 use Rattle.std.specs.Prelude.{ℕ, ◌≡◌, ◌+◌, ◌*◌, ◌<◌, ◌≤◌, Bool, false, List, length, Contains}
-use Rattle.std.specs.Prelude.{replicate}
-use Rattle.base_terms.specs.Blocks.{joined, lengths}
+use Rattle.base_terms.specs.Blocks.{joined}
 use Rattle.disk_areas.specs.Commits.{HasPast, ShowsRepair}
 use Rattle.disk_areas.specs.Headers.{Copy, Handed, Header, IsGenuine, IsHeader, IsLaidOut, Layout}
 use Rattle.disk_sizes.specs.declared.Sizes.{Sizes}
@@ -41,6 +40,5 @@ pub record ShowsRepairOf (sizes : Sizes) (layout : Layout) (header : Header (Lis
 pub record IsLeft (sizes : Sizes) (header : Header (List ℕ)) (handed : Handed)
     (cells : List Cell) (image : List (List ℕ)) : Type 0 where
   pub is : IsImage cells image
-  pub even : lengths image ≡ replicate (length cells) sizes.atom
   pub genuine : IsGenuine header_reader (header_reader.size header.means) handed
       (front_of sizes (joined image))

@@ -18,7 +18,7 @@ use Rattle.luks_store.specs.declared.loaded.Stored.{Stored}
 use Rattle.reenc_meta.specs.Placements.{IsPlacementOf}
 use Rattle.reenc_meta.specs.Places.{IsRightFor}
 use Rattle.reenc_meta.specs.declared.placement.Placement.{Placement}
-use Rattle.reenc_recovery.specs.Calls.{IsRepairFor, OpeningRun, SyncsAndReads}
+use Rattle.reenc_recovery.specs.Calls.{IsRepairFor, OpeningRun, SyncsAndReads, TellsSized}
 use Rattle.reenc_recovery.specs.Images.{StandsUnder}
 use Rattle.sector_disk.specs.Cells.{Cell, IsImage, content, currents, synced}
 use Rattle.sector_disk.specs.Devices.{Device}
@@ -30,13 +30,12 @@ use Rattle.sector_disk.specs.Steps.{Told}
 abbrev pub header_in : Stored → Header (List ℕ)
 header_in stored = header_of stored.copies.used.bytes stored.copies.used.bytes
 
--- An image of a table, of whole atoms, in which no torn copy of this header is valid: a copy that
--- is valid at a copy's place is one of some texts that mean this header or an older one, and
--- nothing else in front of the secondary is a copy.
+-- An image of a table in which no torn copy of this header is valid: a copy that is valid at a
+-- copy's place is one of some texts that mean this header or an older one, and nothing else in
+-- front of the secondary is a copy.
 pub record IsSpared (sizes : Sizes) (stored : Stored) (cells : List Cell)
     (image : List (List ℕ)) : Type 0 where
   pub is : IsImage cells image
-  pub even : lengths image ≡ replicate (length cells) sizes.atom
   pub handed : Handed
   pub past : HasPast header_reader (header_in stored) handed
   pub genuine : IsGenuine header_reader stored.copies.used.header.hdr_size handed
@@ -101,4 +100,4 @@ OpeningsKeepContents =
     (sizes : Sizes) (header : Stored) (p : Placement) (repair : Option Repair) (old : Joint)
     (new : Device) (result : Result (Unit {0}) Failed) → ShowsSizes sizes (joined_disk old)
     → IsFoundOn sizes header p repair (joined_disk old) → OpeningRun repair old new result
-    → TellsSince sizes (joined_disk old) new
+    → TellsSized new → TellsSince sizes (joined_disk old) new

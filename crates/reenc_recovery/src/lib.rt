@@ -15,7 +15,6 @@ mod fault;
 mod judging;
 mod keys;
 mod laws;
-mod sizes;
 
 pub use fault::OpenCause;
 pub use keys::SideKeys;
@@ -23,4 +22,3 @@ pub use laws::{
     contents_stay_behind_headers, images_stand_for_one, opened_volumes_start,
     openings_keep_contents, repairs_keep_contents,
 };
-pub use sizes::sizes_are_of_all_atoms;

@@ -16,9 +16,9 @@ returns-clause-goes_on c =
 
 pub returns-clause-each : goal.returns-clause-each
 returns-clause-each c =
-    λ sizes stored header layout handed bad written broken first cells image repaired shows left
-    is_stored old new contents p held is right stands.
+    λ sizes stored header layout handed bad written broken first cells image repaired shows sized
+    left is_stored old new contents p held is right stands.
     repair_stands sizes stored header layout handed bad written broken first cells image repaired
-    shows left c.copies_are_read.ensures c.images_are_taken.ensures
+    shows sized left c.copies_are_read.ensures c.images_are_taken.ensures
     c.repairs_keep_headers.ensures.gives c.metadata_go_by_meaning.ensures.loads
     c.placements_are_one.ensures is_stored old new contents p held is right stands
