@@ -20,7 +20,7 @@ use Rattle.reenc_recovery.specs.Keys.{IsKeyOf}
 use Rattle.reenc_recovery.proofs.ImageLemmas.{OnePlacement, same_stored}
 use Rattle.volume_machine.specs.Pieces.{place_in}
 
-same_from : (n k : ℕ) (one other : List ℕ) → n ≤ k → drop n one ≡ drop n other
+pub same_from : (n k : ℕ) (one other : List ℕ) → n ≤ k → drop n one ≡ drop n other
     → drop k one ≡ drop k other
 same_from n k one other behind same =
     let whole : k ≡ n + (k - n) = omega (arith, behind) in

@@ -12,7 +12,7 @@ use Rattle.disk_sizes.specs.declared.Sizes.{Sizes}
 use Rattle.reenc_recovery.specs.Calls.{SyncsAndReads}
 use Rattle.reenc_recovery.specs.Images.{StandsUnder}
 use Rattle.reenc_recovery.specs.Tables.{StandsSince, StandsStill, TellsSince}
-use Rattle.sector_disk.specs.Cells.{Cell, IsImage, content, currents, synced}
+use Rattle.sector_disk.specs.Cells.{AreSettled, Cell, IsImage, content, currents, synced}
 use Rattle.sector_disk.specs.Steps.{Told, then_table}
 
 -- ---- a table of which each atom is certain
@@ -104,6 +104,16 @@ pub reads_keep : (sizes : Sizes) (old read : Joint) → SyncsAndReads old read
 reads_keep sizes old read run now is =
     let has = settled old read run now is in
     (has.0, has.1, stands_settled sizes has.0 now has.2)
+
+-- ---- what a sync leaves
+all_settled : (cells : List Cell) → AreSettled (map synced cells)
+unfolding AreSettled
+all_settled [] = tt
+all_settled (cell ∷ cells) = (refl, all_settled cells)
+
+pub settled-synced : (cells table : List Cell) → table ≡ map synced cells → AreSettled table
+settled-synced cells table same =
+    subst (λ (t : List Cell). AreSettled t) (sym same) (all_settled cells)
 
 -- ---- some calls more
 pub record StillSince (sizes : Sizes) (first : List ℕ) (mid now : Told) : Type 0 where

@@ -1,20 +1,25 @@
 -- The repair that a header asks for, as the laws of repairs speak of it.
-use Rattle.std.proofs.Common.{◌≡◌, inl, inr, ℕ, ◌*◌, ◌≤◌, List, length, take, drop, Ok, refl, sym}
-use Rattle.std.proofs.Common.{◌∙◌, arith}
+use Rattle.std.proofs.Common.{◌≡◌, inl, inr, ℕ, ◌*◌, ◌/◌, ◌%◌, ◌≤◌, List, length, take, drop, Ok}
+use Rattle.std.proofs.Common.{refl, sym, ◌∙◌, ap, arith}
 use Rattle.disk_areas.specs.Commits.{other}
 use Rattle.disk_areas.specs.Headers.{Copy, IsHeader, byte_of, primary, secondary, text_of}
 use Rattle.disk_sizes.specs.declared.Sizes.{Sizes}
-use Rattle.luks_copies.specs.Held.{copy_in, place_in}
+use Rattle.luks_copies.specs.Held.{copy_in, place_in, repair_stage_in}
 use Rattle.luks_copies.specs.Meanings.{header_of, header_reader, meaning_of}
 use Rattle.luks_copies.specs.Promises.{MeanTheSame}
 use Rattle.luks_copies.specs.declared.repair.Repair.{Repair}
+use Rattle.luks_copies.specs.declared.repair.RepairStage.TheVariants.{Broken}
 use Rattle.luks_rules.specs.Areas.{areas_begin, header_bytes}
+use Rattle.luks_store.proofs.PageLemmas.{page-place, size-pages}
 use Rattle.luks_store.specs.Commits.{Repairs}
 use Rattle.luks_store.specs.Devices.{front_of}
 use Rattle.luks_store.specs.Loads.{IsStored, stored_in}
 use Rattle.luks_store.specs.Promises.{UsedStands}
+use Rattle.luks_store.specs.Used.{AreCopies}
+use Rattle.luks_store.specs.declared.copies.Copies.{Copies}
 use Rattle.luks_store.specs.declared.loaded.Stored.{Stored}
 use Rattle.reenc_recovery.proofs.StandingLemmas.{used_stands}
+use Rattle.sector_disk.specs.Geometry.{IsAtom}
 
 -- The repair writes one copy of a header, whose other one stands at its place.
 pub record IsWriting (header : Stored) (repair : Repair) (first : List ℕ) (bad : Copy)
@@ -80,3 +85,24 @@ writing mean stands sizes header repair first stored begin room held repairs =
             };
           })
     ]
+
+-- ---- where a repair begins
+pub repair_begun : (copies : Copies) (repair : Repair) → AreCopies copies → Repairs copies repair
+    → repair_stage_in repair ≡ Broken
+repair_begun copies repair are is = elim are.stands [
+  | inl (good, here) ↦ (is.1 good).1.begun
+  | inr (worse, good, here) ↦ (is.0 worse).begun
+]
+
+-- its place is a whole atom
+pub repair_place : (copies : Copies) (repair : Repair) (atom : ℕ) → AreCopies copies
+    → Repairs copies repair → IsAtom atom
+    → place_in repair / atom * atom ≡ place_in repair
+repair_place copies repair atom are is known = elim are.stands [
+  | inl (good, here) ↦
+      page-place atom (place_in repair) known
+      (ap (λ n. n % 4096) (is.1 good).1.at
+      ∙ size-pages copies.used.header.hdr_size are.whole.one_of_nine)
+  | inr (worse, good, here) ↦
+      page-place atom (place_in repair) known (ap (λ n. n % 4096) (is.0 worse).at)
+]

@@ -1,5 +1,5 @@
 -- The device calls of an opening, in their order.
-use Rattle.std.specs.Prelude.{◌≡◌, ◌⊎◌, Option, Some, None, Result, Ok, Err}
+use Rattle.std.specs.Prelude.{◌≡◌, ◌⊎◌, ◌/◌, length, Option, Some, None, Result, Ok, Err}
 use Rattle.base_terms.specs.declared.failed.Failed.{Failed}
 use Rattle.joined_disk.specs.Joined.{Joint, joined_disk}
 use Rattle.luks_copies.specs.Held.{copy_in, place_in}
@@ -11,6 +11,7 @@ use Rattle.luks_store.specs.Devices.{IsUnwritten}
 use Rattle.luks_store.specs.declared.copies.Copies.{Copies}
 use Rattle.sector_disk.specs.Cells.{AreSized}
 use Rattle.sector_disk.specs.Devices.{Device, SyncCall, failed_call, succeeded}
+use Rattle.sector_disk.specs.Geometry.{IsInDisk}
 use Rattle.sector_disk.specs.Steps.{Told}
 
 -- ---- the repair
@@ -18,6 +19,11 @@ use Rattle.sector_disk.specs.Steps.{Told}
 abbrev pub IsRepairFor : Copies → Option Repair → Type 0
 IsRepairFor copies None = AreGood copies
 IsRepairFor copies (Some repair) = Repairs copies repair
+
+-- the copy that it writes lies on the disk
+abbrev pub RepairFits : Device → Repair → Type 0
+RepairFits device repair =
+    IsInDisk device.size device.atoms (place_in repair / device.size) (length (copy_in repair))
 
 -- its write
 abbrev pub WritesRepair : Repair → Device → Device → Result (Unit {0}) Failed → Type 0

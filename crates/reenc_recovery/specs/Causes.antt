@@ -1,18 +1,23 @@
 -- Why a volume isn't opened.
-use Rattle.std.specs.Prelude.{◌≡◌, ℕ, List, Option, true}
+use Rattle.std.specs.Prelude.{◌≡◌, ℕ, List, Option, true, Result, Ok, Err}
+use Rattle.base_terms.specs.Causes.{Rose}
 use Rattle.disk_sizes.specs.declared.Sizes.{Sizes}
 use Rattle.luks_json.specs.declared.digest.Digest.{Digest}
 use Rattle.luks_json.specs.declared.meta.Parts.{Parts}
 use Rattle.luks_rules.specs.Segments.{in_progress}
 use Rattle.luks_rules.specs.declared.extents.Extent.{Extent}
+use Rattle.luks_bin.specs.Shares.{DifferFirst}
+use Rattle.luks_store.specs.Used.{Refusal, differ, no_header, rule, text}
 use Rattle.luks_store.specs.declared.fault.StoreFault.{StoreFault}
 use Rattle.luks_store.specs.declared.fault.StoreFault.TheVariants as faults
+use Rattle.luks_store.specs.declared.loaded.Stored.{Stored}
 use Rattle.reenc_meta.specs.Placements.{IsPlacementOf}
 use Rattle.reenc_meta.specs.declared.placement.Placement.{Placement}
 use Rattle.reenc_recovery.specs.Keys.{Differs, IsComputed}
 use Rattle.reenc_recovery.specs.declared.fault.OpenCause.{OpenCause}
 use Rattle.reenc_recovery.specs.declared.fault.OpenCause.TheVariants as causes
 use Rattle.sector_cipher.specs.declared.spec.Spec.{Spec}
+use Rattle.sector_disk.specs.Devices.{Device}
 
 -- why no header is loaded, as a cause of an opening
 abbrev pub cause_of : StoreFault → OpenCause
@@ -42,3 +47,25 @@ abbrev pub IsRefusedVolume : Parts → Sizes → Option (List ℕ) → OpenCause
 IsRefusedVolume m sizes key causes.InProgress = in_progress m.config ≡ true
 IsRefusedVolume m sizes key cause =
     (p : Placement) × IsPlacementOf m sizes p × IsNoKey m p.new key cause
+
+-- Why disks whose bytes hold this header, or none, open no volume under a key; want of memory and a
+-- device call that failed say nothing.
+abbrev pub IsCauseIn : Sizes → Option (List ℕ) → Result Stored Refusal → OpenCause → Type 0
+IsCauseIn sizes key held causes.Memory = Unit {0}
+IsCauseIn sizes key held causes.Device = Unit {0}
+IsCauseIn sizes key held (causes.NoHeader primary secondary) =
+    held ≡ Err (no_header primary secondary)
+IsCauseIn sizes key held (causes.CopiesDiffer seqid place) =
+    (a : List ℕ) × (b : List ℕ) × (held ≡ Err (differ seqid a b)) × DifferFirst a b place
+IsCauseIn sizes key held (causes.Json fault) = held ≡ Err (text fault)
+IsCauseIn sizes key held (causes.Rule fault) = held ≡ Err (rule fault)
+IsCauseIn sizes key held causes.InProgress =
+    (stored : Stored) × (held ≡ Ok stored) × (in_progress stored.valid.meta.config ≡ true)
+IsCauseIn sizes key held (causes.KeyDiffers computed digest) =
+    (stored : Stored) × (held ≡ Ok stored)
+    × IsRefusedVolume stored.valid.meta sizes key (causes.KeyDiffers computed digest)
+
+-- a device call failed only where the count of the disk's faults rose
+abbrev pub HasCauseIn : Device → Device → OpenCause → Type 0
+HasCauseIn old new causes.Device = Rose old.faults new.faults
+HasCauseIn old new _ = Unit {0}

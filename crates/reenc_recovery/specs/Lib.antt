@@ -6,3 +6,4 @@ pub mod Openings
 pub mod Promises
 pub mod Repairing
 pub mod Tables
+pub mod Volumes

@@ -1,10 +1,11 @@
 -- What is known of a volume whose header and keys passed all checks.
-use Rattle.std.specs.Prelude.{ℕ, ◌≡◌, ◌<◌, List, Option, Ok}
+use Rattle.std.specs.Prelude.{ℕ, ◌≡◌, ◌*◌, ◌<◌, ◌≤◌, List, Option, Ok}
 use Rattle.disk_sizes.specs.declared.Sizes.{Sizes}
 use Rattle.disk_views.specs.Parts.{value_in}
 use Rattle.luks_json.specs.declared.meta.Parts.{Parts}
+use Rattle.luks_rules.specs.Areas.{areas_begin, header_bytes}
 use Rattle.luks_store.specs.Devices.{front_of}
-use Rattle.luks_store.specs.Loads.{stored_in}
+use Rattle.luks_store.specs.Loads.{IsStored, stored_in}
 use Rattle.luks_store.specs.declared.loaded.Stored.{Stored}
 use Rattle.plain_disk.specs.Plain.{Block}
 use Rattle.reenc_meta.specs.Places.{IsRightFor}
@@ -33,6 +34,19 @@ pub record IsOpening {C : Type 0} (sector : C → ℕ) (sealed opened : C → �
         keys.new
     pub old_tweak : keys.old_tweak ≡ tweak_by p.old.encryption
     pub new_tweak : keys.new_tweak ≡ tweak_by p.new.encryption
+
+-- Its header breaks no rule for disks of these sizes, on which both its copies have room in front
+-- of its areas; it says where the volume lies, of which no zone is open, and the keys are those of
+-- its segments.
+pub record HasPassed {C : Type 0} (sector : C → ℕ) (sealed opened : C → ℕ → List ℕ → List ℕ)
+    (sizes : Sizes) (key : Option (List ℕ)) (header : Stored) (p : Placement) (keys : Keys C) :
+    Type 0 where
+  pub stored : IsStored header
+  pub sizes_are : header.valid.sizes ≡ sizes
+  pub begin : areas_begin header.valid.meta.config ≡ 2 * header.copies.used.header.hdr_size
+  pub room : 2 * header.copies.used.header.hdr_size ≤ header_bytes sizes
+  pub opening : IsOpening sector sealed opened header.valid.meta sizes key p keys
+  pub closed : p.map.zone ≡ 0
 
 -- A volume was opened of disks that hold these bytes: by the header that they hold, and this key.
 pub record IsOpened {C : Type 0} (sector : C → ℕ) (sealed opened : C → ℕ → List ℕ → List ℕ)

@@ -3,10 +3,12 @@
 ghost use Rattle.std.specs.Prelude.{◌≡◌};
 
 use base_terms::Bytes;
+use joined_disk::JoinedDisk;
 use json_members::JsonFault;
 use luks_bin::BinFault;
 use luks_rules::RuleFault;
 use luks_store::StoreFault;
+use sector_disk::Disk;
 use std::alloc::AllocError;
 
 /// Why a volume isn't opened, in the order in which it is tested.
@@ -39,6 +41,13 @@ pub enum OpenCause {
         computed: Bytes,
         stored: Bytes,
     },
+}
+
+/// A volume wasn't opened: the disks are handed back.
+#[derive(Drop)]
+pub struct OpenFault<D: Disk> {
+    pub disk: JoinedDisk<D>,
+    pub cause: OpenCause,
 }
 
 impl From<StoreFault> for OpenCause {

@@ -42,6 +42,7 @@ pub(crate) fn judge_volume(
     ensures opens { IfOk result (λ o. IsOpening ⟦<Context as SectorCipher>⟧.sector
         ⟦<Context as SectorCipher>⟧.sealed ⟦<Context as SectorCipher>⟧.opened
         valid.now.meta valid.now.sizes keys.now.new o.placement o.keys) }
+    ensures closed { IfOk result (λ o. o.placement.map.zone ≡ 0) }
     ensures refused { IfErr result
         (IsRefusedVolume valid.now.meta valid.now.sizes keys.now.new) }
 {

@@ -9,16 +9,27 @@
 //! [`repairs_keep_contents`], and of an opening's sync, reads and repair,
 //! [`openings_keep_contents`]. A volume that was opened by the header and a key of its disks is one
 //! from which runs start as from the plain disk of that content, [`opened_volumes_start`].
+//!
+//! [`open_volume`] makes a volume of joined disks of which nothing is being converted: a sync, the
+//! reads of the header with all checks of it and of the key, and where a copy of the header lacks
+//! or is older the write of that copy, and a sync. Nothing is written before all checks have
+//! passed, and from the first sync on each image that a stop leaves stands for the same content
+//! under the same keys, as long as no torn copy of the header is valid.
 #![tactic(auto)]
 
+mod checking;
 mod fault;
 mod judging;
 mod keys;
 mod laws;
+mod opening;
+mod repairing;
+mod telling;
 
-pub use fault::OpenCause;
+pub use fault::{OpenCause, OpenFault};
 pub use keys::SideKeys;
 pub use laws::{
     contents_stay_behind_headers, images_stand_for_one, opened_volumes_start,
     openings_keep_contents, repairs_keep_contents,
 };
+pub use opening::open_volume;

@@ -1,0 +1,189 @@
+-- The volume that an opening makes, and the calls that led to it.
+use Rattle.std.proofs.Common.{◌≡◌, ℕ, ◌*◌, ◌/◌, List, length, drop, replicate, Option, Some, None}
+use Rattle.std.proofs.Common.{Ok, refl, sym, ◌∙◌, ap, subst}
+use Rattle.base_terms.specs.Blocks.{lengths, pasted}
+use Rattle.cipher_laws.specs.Bytes.{AreBytes}
+use Rattle.disk_areas.specs.Headers.{IsReader}
+use Rattle.disk_sizes.specs.declared.Sizes.{Sizes}
+use Rattle.joined_disk.specs.Joined.{Joint, joined_disk}
+use Rattle.luks_copies.specs.Held.{copy_in, place_in}
+use Rattle.luks_copies.specs.Meanings.{header_reader}
+use Rattle.luks_copies.specs.Promises.{MeanTheSame}
+use Rattle.luks_copies.specs.declared.repair.Repair.{Repair}
+use Rattle.luks_json.specs.declared.meta.Parts.{Parts}
+use Rattle.luks_rules.specs.Areas.{areas_begin}
+use Rattle.luks_rules.specs.declared.valid.Checked.{Checked}
+use Rattle.luks_store.specs.Devices.{front_of}
+use Rattle.luks_store.specs.Loads.{stored_in}
+use Rattle.luks_store.specs.Promises.{LoadsByMeaning, UsedStands}
+use Rattle.luks_store.specs.declared.loaded.Stored.{Stored}
+use Rattle.reenc_meta.specs.declared.placement.Placement.{Placement}
+use Rattle.reenc_recovery.specs.Calls.{IsRepairFor, OpeningRun, SyncsAndReads}
+use Rattle.reenc_recovery.specs.Openings.{HasPassed, IsOpened, IsOpening, StartsAsImage}
+use Rattle.reenc_recovery.specs.Tables.{ShowsSizes}
+use Rattle.reenc_recovery.specs.Volumes.{HoldsOn, IsOpenedOf, KeepsContents}
+use Rattle.reenc_recovery.proofs.FrameLemmas.{stands_still}
+use Rattle.reenc_recovery.proofs.ImageLemmas.{OnePlacement}
+use Rattle.reenc_recovery.proofs.RewriteLemmas.{after_write}
+use Rattle.reenc_recovery.proofs.TableLemmas.{settled, settled-synced}
+use Rattle.reenc_recovery.proofs.WritingLemmas.{repair_place}
+use Rattle.sector_disk.specs.Cells.{AreSettled, content, currents}
+use Rattle.sector_disk.specs.Devices.{Device, succeeded}
+use Rattle.sector_disk.specs.Steps.{Told}
+use Rattle.volume_laws.specs.Promises.{TellsSettled}
+use Rattle.volume_machine.specs.Beginnings.{new_volume}
+use Rattle.volume_machine.specs.States.{State}
+use Rattle.volume_machine.specs.declared.keys.Keys.{Keys}
+
+-- ---- what the disks hold
+values_read : (old read : Joint) → SyncsAndReads old read
+    → (joined_disk read).values ≡ (joined_disk old).values
+values_read old read run = run.unwritten.values ∙ run.sync.values
+
+size_read : (old read : Joint) → SyncsAndReads old read
+    → (joined_disk read).size ≡ (joined_disk old).size
+size_read old read run = run.unwritten.size ∙ run.sync.size
+
+-- each atom is certain after it
+settled_after : (repair : Option Repair) (old : Joint) (new : Device)
+    → OpeningRun repair old new succeeded → (told : Told) → new.told ≡ Some told
+    → AreSettled told.now
+settled_after None old new run told is =
+    let since = settled old run.read run.first told
+    (ap (λ (d : Device). d.told) (sym run.run) ∙ is) in
+    settled-synced since.0.now told.now since.2.cells
+settled_after (Some repair) old new run told is =
+    let last = run.run in
+    let moved = last.sync.told told is in
+    settled-synced moved.0.now told.now moved.2.step
+
+-- the volume at hand is the one that was made
+pub opened_of : {C : Type 0} (sector : C → ℕ) (sealed opened : C → ℕ → List ℕ → List ℕ)
+    (sizes : Sizes) (key : Option (List ℕ)) (old : Joint) (made volume : State (Keys C))
+    → volume ≡ made → IsOpenedOf sector sealed opened sizes key old made
+    → IsOpenedOf sector sealed opened sizes key old volume
+opened_of {C} sector sealed opened sizes key old made volume is opening =
+    subst (λ (v : State (Keys C)). IsOpenedOf sector sealed opened sizes key old v) (sym is) opening
+
+module _ {C : Type 0} (sector : C → ℕ) (sealed opened : C → ℕ → List ℕ → List ℕ) (sizes : Sizes)
+    (key : Option (List ℕ)) (header : Stored) (p : Placement) (keys : Keys C)
+    (passed : HasPassed sector sealed opened sizes key header p keys) where
+  -- nothing was written
+  holds_unwritten : (first : List ℕ) → stored_in sizes (front_of sizes first) ≡ Ok header
+      → HoldsOn sizes header first first
+  holds_unwritten first held = record {
+    was = held;
+    stored = header;
+    held = held;
+    same = refl;
+    behind = refl;
+  }
+
+  -- what the disks hold after the repair's calls
+  pub holds_after : IsReader header_reader → MeanTheSame → UsedStands → LoadsByMeaning
+      → (repair : Option Repair) (old : Joint) (new : Device)
+      → ShowsSizes sizes (joined_disk old) → IsRepairFor header.copies repair
+      → OpeningRun repair old new succeeded → (first : List ℕ)
+      → (joined_disk old).values ≡ Some first
+      → stored_in sizes (front_of sizes first) ≡ Ok header
+      → (now : List ℕ) × (new.values ≡ Some now) × HoldsOn sizes header first now
+  holds_after is_reader mean stands loads None old new shows asked run first is held = (
+    first,
+    ap (λ (d : Device). d.values) run.run ∙ values_read old run.read run.first ∙ is,
+    holds_unwritten first held,
+  )
+  holds_after is_reader mean stands loads (Some repair) old new shows asked run first is held =
+      let last = run.run in
+      let read_is = values_read old run.read run.first ∙ is in
+      let at = (joined_disk run.read).size in
+      let same_size : at ≡ sizes.atom = size_read old run.read run.first ∙ sym shows.atom in
+      let place = place_in repair / at * at in
+      let place_is : place ≡ place_in repair =
+      ap (λ n. place_in repair / n * n) same_size
+      ∙ repair_place header.copies repair sizes.atom passed.stored.copies asked shows.known in (
+        pasted first place (copy_in repair),
+        last.sync.values ∙ last.write.values first read_is,
+        after_write is_reader mean stands loads sizes header repair first passed.stored
+            passed.sizes_are passed.begin passed.room (shows.whole first is) held place place_is
+            asked,
+      )
+
+  opening_at : (m : Parts) → header.valid.meta ≡ m
+      → IsOpening sector sealed opened m sizes key p keys
+  opening_at m same =
+      subst (λ (n : Parts). IsOpening sector sealed opened n sizes key p keys) same passed.opening
+
+  keeps : OnePlacement → (first now : List ℕ) → HoldsOn sizes header first now
+      → KeepsContents sizes first now
+  keeps placed first now holds old new content =
+      let later = opening_at holds.stored.valid.meta (ap (λ (c : Checked). c.meta) (sym holds.same))
+      in (
+        stands_still placed sizes old new first now content header holds.stored p holds.was
+            passed.opening.placed passed.opening.right holds.held holds.same holds.behind,
+        stands_still placed sizes old new now first content holds.stored header p holds.held
+            later.placed later.right holds.was (sym holds.same)
+            (subst (λ (m : Parts). drop (areas_begin m.config) first
+            ≡ drop (areas_begin m.config) now)
+            (ap (λ (c : Checked). c.meta) (sym holds.same)) (sym holds.behind)),
+      )
+
+  -- the volume
+  module _ (repair : Option Repair) (old : Joint) (new : Device) (lanes : ℕ)
+      (atom : p.map.atom ≡ new.size)
+      (run : OpeningRun repair old new succeeded)
+      (agrees : (told : Told) → new.told ≡ Some told → new.values ≡ Some (content told.now))
+      (even : (told : Told) → new.told ≡ Some told
+      → lengths (currents told.now) ≡ replicate new.atoms new.size)
+      (long : (all : List ℕ) → new.values ≡ Some all → length all ≡ new.atoms * new.size)
+      (bytes : (all : List ℕ) → new.values ≡ Some all → AreBytes all) where
+    abbrev volume : State (Keys C)
+    volume = new_volume p.map keys lanes new
+
+    tells_settled : (now : List ℕ) → new.values ≡ Some now → TellsSettled volume now
+    tells_settled now values told is = (
+      settled_after repair old new run told is,
+      (let e : Some now ≡ Some (content told.now) = sym values ∙ agrees told is in cc),
+      even told is ∙ ap (λ n. replicate new.atoms n) (sym atom),
+    )
+
+    pub volume_of : IsReader header_reader → MeanTheSame → UsedStands → LoadsByMeaning
+        → OnePlacement → ShowsSizes sizes (joined_disk old) → IsRepairFor header.copies repair
+        → ((first : List ℕ) → (joined_disk old).values ≡ Some first
+        → stored_in sizes (front_of sizes first) ≡ Ok header)
+        → ((now : List ℕ) → IsOpened sector sealed opened sizes key now volume
+        → volume.disk.values ≡ Some now
+        → length now ≡ volume.disk.atoms * volume.map.atom → AreBytes now
+        → StartsAsImage sealed opened sizes key now volume)
+        → IsOpenedOf sector sealed opened sizes key old volume
+    volume_of is_reader mean stands loads placed shows asked found start = record {
+      header = header;
+      placement = p;
+      opening = passed.opening;
+      map = refl;
+      repair = repair;
+      asked = asked;
+      calls = run;
+      held = λ first is.
+          (let has = holds_after is_reader mean stands loads repair old new shows asked run first is
+          (found first is) in
+          let now = has.0 in
+          let holds = has.2 in
+          let still : IsOpened sector sealed opened sizes key now volume = record {
+            stored = holds.stored;
+            header = holds.held;
+            placement = p;
+            opening = opening_at holds.stored.valid.meta
+                (ap (λ (c : Checked). c.meta) (sym holds.same));
+            map = refl;
+          } in
+          record {
+            was = found first is;
+            now = now;
+            values = has.1;
+            still = still;
+            settled = tells_settled now has.1;
+            keeps = keeps placed first now holds;
+            starts = start now still has.1
+                (long now has.1 ∙ ap (λ n. new.atoms * n) (sym atom)) (bytes now has.1);
+          });
+    }

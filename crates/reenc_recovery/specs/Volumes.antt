@@ -1,0 +1,101 @@
+-- What a volume is that was opened, and what an opening leaves that made none.
+use Rattle.std.specs.Prelude.{◌≡◌, ◌⊎◌, ◌↔◌, ℕ, List, drop, Option, Some, Ok}
+use Rattle.disk_sizes.specs.declared.Sizes.{Sizes}
+use Rattle.joined_disk.specs.Joined.{Joint, joined_disk}
+use Rattle.luks_copies.specs.declared.repair.Repair.{Repair}
+use Rattle.luks_rules.specs.Areas.{areas_begin}
+use Rattle.luks_store.specs.Devices.{front_of}
+use Rattle.luks_store.specs.Loads.{stored_in}
+use Rattle.luks_store.specs.declared.loaded.Stored.{Stored}
+use Rattle.reenc_meta.specs.declared.placement.Placement.{Placement}
+use Rattle.reenc_recovery.specs.Calls.{IsRepairFor, OpeningRun, SyncsAndReads}
+use Rattle.reenc_recovery.specs.Images.{StandsUnder}
+use Rattle.reenc_recovery.specs.Openings.{IsOpened, IsOpening, StartsAsImage}
+use Rattle.reenc_recovery.specs.Tables.{TellsSince}
+use Rattle.reenc_recovery.specs.declared.fault.OpenCause.{OpenCause}
+use Rattle.reenc_recovery.specs.declared.fault.OpenCause.TheVariants as causes
+use Rattle.sector_disk.specs.Devices.{Device, SyncCall, failed_call, succeeded}
+use Rattle.volume_laws.specs.Promises.{TellsSettled}
+use Rattle.volume_machine.specs.States.{State}
+use Rattle.volume_machine.specs.declared.keys.Keys.{Keys}
+
+-- ---- what disks hold
+-- They held this header, and hold one of the same metadata; behind both copies stands what stood
+-- there.
+pub record HoldsOn (sizes : Sizes) (header : Stored) (first now : List ℕ) : Type 0 where
+  pub was : stored_in sizes (front_of sizes first) ≡ Ok header
+  pub stored : Stored
+  pub held : stored_in sizes (front_of sizes now) ≡ Ok stored
+  pub same : stored.valid ≡ header.valid
+  pub behind : drop (areas_begin header.valid.meta.config) now
+      ≡ drop (areas_begin header.valid.meta.config) first
+
+-- what they stood for, and nothing else, they stand for, under the same keys
+abbrev pub KeepsContents : Sizes → List ℕ → List ℕ → Type 0
+KeepsContents sizes first now = (old new : List ℕ) (content : List (List ℕ))
+    → StandsUnder sizes old new first content ↔ StandsUnder sizes old new now content
+
+-- ---- a volume that was opened
+-- Its disks held this header when the opening began. It is one that is opened of what they hold
+-- now, for certain, and this stands for what they stood for then; runs start from it as from the
+-- plain disk of this content.
+pub record IsVolumeOf {C : Type 0} (sector : C → ℕ) (sealed opened : C → ℕ → List ℕ → List ℕ)
+    (sizes : Sizes) (key : Option (List ℕ)) (header : Stored) (first : List ℕ)
+    (volume : State (Keys C)) : Type 0 where
+  pub was : stored_in sizes (front_of sizes first) ≡ Ok header
+  pub now : List ℕ
+  pub values : volume.disk.values ≡ Some now
+  pub still : IsOpened sector sealed opened sizes key now volume
+  pub settled : TellsSettled volume now
+  pub keeps : KeepsContents sizes first now
+  pub starts : StartsAsImage sealed opened sizes key now volume
+
+-- A volume was opened of disks, under this key: it lies where their header says, and its keys are
+-- the ciphers of its segments under this key, which is that of their digest. The disks were synced,
+-- their header was read, and the copy that lacked or was older was written anew, and synced.
+pub record IsOpenedOf {C : Type 0} (sector : C → ℕ) (sealed opened : C → ℕ → List ℕ → List ℕ)
+    (sizes : Sizes) (key : Option (List ℕ)) (old : Joint) (volume : State (Keys C)) : Type 0 where
+  pub header : Stored
+  pub placement : Placement
+  pub opening : IsOpening sector sealed opened header.valid.meta sizes key placement volume.keys
+  pub map : volume.map ≡ placement.map
+  pub repair : Option Repair
+  pub asked : IsRepairFor header.copies repair
+  pub calls : OpeningRun repair old volume.disk succeeded
+  pub held : (first : List ℕ) → (joined_disk old).values ≡ Some first
+      → IsVolumeOf sector sealed opened sizes key header first volume
+
+-- ---- an opening that made none
+-- The disks weren't called: memory for the lanes was wanted.
+abbrev pub IsUncalled : Joint → Device → OpenCause → Type 0
+IsUncalled old new cause = (new ≡ joined_disk old) × (cause ≡ causes.Memory)
+
+-- The first sync failed.
+abbrev pub IsUnsynced : Joint → Device → OpenCause → Type 0
+IsUnsynced old new cause =
+    SyncCall (joined_disk old) new failed_call × (cause ≡ causes.Device)
+
+-- The disks were synced, and then only read.
+pub record IsOnlyRead (sizes : Sizes) (old : Joint) (new : Device) : Type 0 where
+  pub read : Joint
+  pub first : SyncsAndReads old read
+  pub same : new ≡ joined_disk read
+  pub tables : TellsSince sizes (joined_disk old) new
+
+-- All checks passed, and a call of the repair that the header asks for failed.
+pub record IsUnrepaired (sizes : Sizes) (old : Joint) (new : Device) (cause : OpenCause) : Type 0
+  where
+    pub header : Stored
+    pub held : (first : List ℕ) → (joined_disk old).values ≡ Some first
+        → stored_in sizes (front_of sizes first) ≡ Ok header
+    pub repair : Repair
+    pub asked : IsRepairFor header.copies (Some repair)
+    pub calls : OpeningRun (Some repair) old new failed_call
+    pub by : cause ≡ causes.Device
+    pub tables : TellsSince sizes (joined_disk old) new
+
+abbrev pub IsUnopened : Sizes → Joint → Device → OpenCause → Type 0
+IsUnopened sizes old new cause =
+    IsUncalled old new cause
+    ⊎ (IsUnsynced old new cause
+    ⊎ (IsOnlyRead sizes old new ⊎ IsUnrepaired sizes old new cause))
