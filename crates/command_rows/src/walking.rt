@@ -11,7 +11,7 @@ use anyhow::{Result, anyhow};
 use base_terms::{Bytes, INVALID, zeros};
 use io_edge::ListSink;
 use plain_disk::{Op, PlainDisk, Reply};
-use reenc_tool::{Ending, SessionEnd};
+use reenc_tool::{Ended, Ending, SessionEnd};
 use sector_disk::{Disk, MemDisk};
 use std::alloc::Global;
 use std::sync::Wait;
@@ -308,7 +308,8 @@ fn compared(
     if found.as_str() != wanted.as_str() {
         return Ok(found);
     }
-    let Some(disk) = ended.disk else {
+    let Ended { disk, .. } = ended;
+    let Some(disk) = disk else {
         return Err(anyhow!("no disk is handed back"));
     };
     match differs_at(alloc, disk, &plain)? {
