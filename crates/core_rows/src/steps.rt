@@ -40,35 +40,61 @@ pub(crate) fn perform(
     subject: Subject,
     words: &[&str],
 ) -> Result<(Subject, String)> {
-    if let ["disk", words @ ..] = words {
-        return made(alloc, Subject::Disk(new_disk(alloc, words)?));
+    match begun(alloc, words)? {
+        Some(begun) => Ok(begun),
+        None => acted(alloc, subject, words),
     }
-    if let ["plain_disk", words @ ..] = words {
-        return made(alloc, Subject::Plain(new_plain(alloc, words)?));
+}
+
+/// What a step leaves that acts on nothing, and its outcome.
+fn begun(alloc: Global, words: &[&str]) -> Result<Option<(Subject, String)>> {
+    if let Some(subject) = new_subject(alloc, words)? {
+        return Ok(Some(made(alloc, subject)?));
     }
-    if let ["ram", words @ ..] = words {
-        return made(alloc, Subject::Ram(new_ram(alloc, words)?));
+    match apart(alloc, words)? {
+        Some(told) => Ok(Some((Subject::Nothing, told))),
+        None => Ok(None),
     }
-    if let Some(told) = apart(alloc, words)? {
-        return Ok((Subject::Nothing, told));
+}
+
+/// A disk that a step makes.
+fn new_subject(alloc: Global, words: &[&str]) -> Result<Option<Subject>> {
+    match words {
+        ["disk", words @ ..] => Ok(Some(Subject::Disk(new_disk(alloc, words)?))),
+        ["plain_disk", words @ ..] => Ok(Some(Subject::Plain(new_plain(alloc, words)?))),
+        ["ram", words @ ..] => Ok(Some(Subject::Ram(new_ram(alloc, words)?))),
+        _ => Ok(None),
     }
+}
+
+/// Does a step on what is there.
+fn acted(alloc: Global, subject: Subject, words: &[&str]) -> Result<(Subject, String)> {
     match subject {
         Subject::Nothing => Err(anyhow!("a step without a disk")),
-        Subject::Plain(mut disk) => {
-            let told = on_plain(alloc, &mut disk, words)?;
-            Ok((Subject::Plain(disk), told))
-        }
-        Subject::Ram(mut disk) => {
-            let told = on_any(alloc, &mut disk, words)?;
-            Ok((Subject::Ram(disk), told))
-        }
+        Subject::Plain(disk) => on_plain_disk(alloc, disk, words),
+        Subject::Ram(disk) => on_ram(alloc, disk, words),
         Subject::Disk(disk) => on_disk(alloc, disk, words),
         Subject::Volume(volume) => on_volume(alloc, volume, words),
-        Subject::Lane(mut lane) => {
-            let told = on_lane(alloc, &mut lane, words)?;
-            Ok((Subject::Lane(lane), told))
-        }
+        Subject::Lane(lane) => of_lane(alloc, lane, words),
     }
+}
+
+fn on_plain_disk(alloc: Global, disk: PlainDisk, words: &[&str]) -> Result<(Subject, String)> {
+    let mut disk = disk;
+    let told = on_plain(alloc, &mut disk, words)?;
+    Ok((Subject::Plain(disk), told))
+}
+
+fn on_ram(alloc: Global, disk: RamDisk, words: &[&str]) -> Result<(Subject, String)> {
+    let mut disk = disk;
+    let told = on_any(alloc, &mut disk, words)?;
+    Ok((Subject::Ram(disk), told))
+}
+
+fn of_lane(alloc: Global, lane: Lane<MemDisk>, words: &[&str]) -> Result<(Subject, String)> {
+    let mut lane = lane;
+    let told = on_lane(alloc, &mut lane, words)?;
+    Ok((Subject::Lane(lane), told))
 }
 
 /// What a step tells that acts on nothing.
