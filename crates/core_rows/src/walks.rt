@@ -18,7 +18,7 @@ use volume_machine::Ask;
 const WHOLE: u32 = 3_145_728;
 
 /// How many operations each volume executes.
-const TURNS: u32 = 40;
+const TURNS: u32 = 120;
 
 /// The map of a volume of 3 MiB in conversion, whose boundary is so many blocks past its middle.
 fn half_way(is_large: bool, direction: Direction, past: u64) -> Map
