@@ -108,9 +108,12 @@ impl<W: WritePair> GatheringWriter<W> {
         ensures more { result ≡ n - length self.old.held.items }
     {
         let held = self.held.len();
-        let len = n.min(held);
-        remove_front(&mut self.held, len);
-        n - len
+        if n < held {
+            remove_front(&mut self.held, n);
+            return 0;
+        }
+        self.held.clear();
+        n - held
     }
 }
 
