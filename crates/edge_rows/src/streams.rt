@@ -145,17 +145,25 @@ fn slow_stream(alloc: Global, room: usize, most: usize) -> Slow {
     }
 }
 
+/// The answer of a stream that tells of an error its kind alone.
+fn done(answer: Result<(), ErrorKind>) -> io::Result<()> {
+    match answer {
+        Ok(()) => Ok(()),
+        Err(kind) => Err(io::Error::from(kind)),
+    }
+}
+
 /// What is written to a slow stream by a writer that gathers pieces, and how many calls the first
 /// one of them makes.
 fn gathered(alloc: Global, most: usize) -> Result<String> {
     let pieces: [&[u8]; 5] = [b"abc", b"defghijklmno", b"p", b"qr", b"stuvw"];
     let mut writer = GatheringWriter::new(alloc, 4, slow_stream(alloc, 100, most))?;
-    writer.write_all(b"ABC")?;
+    done(writer.write_all(b"ABC"))?;
     let calls = writer.writer().calls;
     for piece in pieces {
-        writer.write_all(piece)?;
+        done(writer.write_all(piece))?;
     }
-    writer.flush()?;
+    done(writer.flush())?;
     match str::from_utf8(writer.writer().text.as_slice()) {
         Ok(text) => Ok(format!(in alloc; "{calls} {text}")?),
         Err(_) => Err(anyhow!("no text is written")),
@@ -169,7 +177,7 @@ fn dropped(alloc: Global) -> Result<String> {
         taken: taken.clone()?,
     };
     let mut writer = GatheringWriter::new(alloc, 8, counting)?;
-    writer.write_all(b"abcde")?;
+    done(writer.write_all(b"abcde"))?;
     let before = taken.get();
     drop(writer);
     Ok(format!(in alloc; "{before} {}", taken.get())?)

@@ -1,5 +1,5 @@
 -- What stands at the end of a text.
-use Rattle.std.proofs.Common.{◌≡◌, ◌≤◌, ℕ, List, [], ◌++◌, length, take, drop, refl, sym, ap}
+use Rattle.std.proofs.Common.{◌≤◌, ℕ, List, [], ◌++◌, length, take, drop, sym}
 use Rattle.std.proofs.Common.{append-nil, Result, Ok, Err, arith}
 use Rattle.std.proofs.lemmas.List.{drop_all}
 use Rattle.io_edge.specs.Outlet.{IsRear, HoldsBackRear}

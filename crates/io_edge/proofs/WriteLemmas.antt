@@ -7,6 +7,7 @@ use Rattle.std.proofs.lemmas.List.{drop_all, take_all, length-drop, take-append-
 use Rattle.std.proofs.lemmas.List.{take-append-drop}
 use Rattle.std.proofs.Math.Seq.{take-add, take-append-add}
 use Rattle.std.specs.declared.io.Error.{Error}
+use Rattle.std.specs.declared.io.ErrorKind.{ErrorKind}
 use Rattle.io_edge.specs.Outlet.{HoldsBackRear, IsRear}
 use Rattle.io_edge.specs.Calls.{Written, Wrote, bytes_of, taken_of, IsRefusal, IsRefused}
 use Rattle.io_edge.specs.Calls.{WritesSome, WritesThrough, FlushesThrough}
@@ -83,7 +84,7 @@ module _ {S : Type 0} (writes : S → List ℕ → Result ℕ Error → S → Ty
 
   -- one write that was refused
   pub some_refused : (old new : S) (slice held piece : List ℕ) (answer : Result ℕ Error)
-      (said : Error) → slice ≡ held → writes old (slice ++ piece) answer new →
+      (said : ErrorKind) → slice ≡ held → writes old (slice ++ piece) answer new →
       IsRefusal (record { piece = held ++ piece; answer = answer }) →
       taken_of (held ++ piece) answer ≡ [] → WritesSome writes old held piece (Err said) new held
   unfolding WritesSome
@@ -137,7 +138,7 @@ module _ {S : Type 0} (writes : S → List ℕ → Result ℕ Error → S → Ty
 
   -- the write behind those before was refused
   pub through_refused : (old mid new : S) (old_held held left piece : List ℕ) (at count : ℕ)
-      (said : Error) → HasWritten old old_held piece at count mid held → at ≤ length piece →
+      (said : ErrorKind) → HasWritten old old_held piece at count mid held → at ≤ length piece →
       WritesSome writes mid held (take (length piece - at) (drop at piece)) (Err said) new left →
       WritesThrough writes old old_held piece false new left
   unfolding HasWritten WritesThrough WritesSome Wrote IsRefused
@@ -188,3 +189,20 @@ module _ {S : Type 0} (writes : S → List ℕ → Result ℕ Error → S → Ty
   through_rear old new old_held held done (calls, wrote, (k, within, bytes, how)) =
       let none = sym (take_all k [] (omega arith)) in
       (bytes_of calls, sym (append-nil old_held) ∙ ap (λ x. old_held ++ x) none ∙ bytes)
+
+  -- all that was held back was written, and then a flush was answered, whose outcome alone is told
+  pub flushed : (flushes : S → Bool → S → Type 0) (old mid new : S) (old_held held : List ℕ)
+      (done told : Bool) → WritesThrough writes old old_held [] true mid held → held ≡ [] →
+      flushes mid done new → told ≡ done →
+      FlushesThrough writes flushes old old_held told new held
+  unfolding FlushesThrough
+  flushed flushes old mid new old_held held done told through none call same =
+      inl (mid, through, none, subst (λ how. flushes mid how new) (sym same) call)
+
+  -- nothing was held back
+  pub flushed_at_once : (flushes : S → Bool → S → Type 0) (old new : S) (held : List ℕ)
+      (done told : Bool) → held ≡ [] → flushes old done new → told ≡ done →
+      FlushesThrough writes flushes old held told new held
+  flushed_at_once flushes old new held done told none call same =
+      let nothing = through_held old held held [] (sym (append-nil held)) in
+      flushed flushes old old new held held done told nothing none call same

@@ -62,7 +62,7 @@ module _ {S : Type 0} (writes : S → List ℕ → Result ℕ Error → S → Ty
 
   -- of what was held back and the piece behind it one write took a front, with n bytes of the
   -- piece, or nothing, where it was refused
-  unfoldable pub WritesSome : S → List ℕ → List ℕ → Result ℕ Error → S → List ℕ → Type 0
+  unfoldable pub WritesSome : S → List ℕ → List ℕ → Result ℕ ErrorKind → S → List ℕ → Type 0
   WritesSome old old_held piece result new held = (answer : Result ℕ Error)
       × writes old (old_held ++ piece) answer new
       × MatchResult result

@@ -1,5 +1,5 @@
 -- What callers see of the objects in memory, and what these tell.
-use Rattle.std.specs.Prelude.{ℕ, ◌+◌, ◌%◌, List, length, slice_index, Option, Some}
+use Rattle.std.specs.Prelude.{ℕ, ◌+◌, ◌%◌, List, length, slice_index, Some}
 use Rattle.io_edge.specs.FaultPlan.{Plan}
 use Rattle.io_edge.specs.Intake.{Intake}
 use Rattle.io_edge.specs.Outlet.{Outlet}

@@ -1,4 +1,4 @@
-ghost use Rattle.std.specs.Prelude.{◌≡◌, ◌≢◌, ◌↔◌, IsTrue};
+ghost use Rattle.std.specs.Prelude.{◌≡◌, ◌≢◌, ◌↔◌, IsTrue, is_ok};
 ghost use Rattle.io_edge.specs.Calls.{IsInterrupted};
 
 use std::io::{self, ErrorKind};
@@ -10,5 +10,15 @@ pub fn is_interrupted<T>(answer: &io::Result<T>) -> bool
     match answer {
         Ok(_) => false,
         Err(error) => error.kind() == ErrorKind::Interrupted,
+    }
+}
+
+/// The answer, of whose error the kind alone is kept.
+pub fn kind_of<T>(answer: io::Result<T>) -> Result<T, ErrorKind>
+    ensures { is_ok result ≡ is_ok answer }
+{
+    match answer {
+        Ok(value) => Ok(value),
+        Err(error) => Err(error.kind()),
     }
 }

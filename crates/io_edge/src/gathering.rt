@@ -8,7 +8,7 @@ ghost use Rattle.io_edge.specs.Calls.{WritesSome, WritesThrough, FlushesThrough}
 ghost use Rattle.io_edge.specs.Outlet.{HoldsBackRear, IsRear};
 
 use crate::OutputStream;
-use crate::calls::is_interrupted;
+use crate::calls::kind_of;
 use std::alloc::Global;
 use std::io::{self, ErrorKind};
 
@@ -63,7 +63,7 @@ impl<W: WritePair> GatheringWriter<W> {
 
     /// Writes what is held back and the bytes behind it, all of it or up to where the writer
     /// refuses.
-    fn write_through(&mut self, bytes: &[u8]) -> io::Result<()>
+    fn write_through(&mut self, bytes: &[u8]) -> Result<(), ErrorKind>
         ensures through { WritesThrough W.writes self.old.writer self.old.held.items bytes.now
             (is_ok result) self.new.writer self.new.held.items }
         ensures empty { OnOk result (self.new.held.items ≡ []) }
@@ -78,24 +78,25 @@ impl<W: WritePair> GatheringWriter<W> {
                 Err(error) => return Err(error),
             }
         }
-        Err(io::Error::from(ErrorKind::Other))
+        Err(ErrorKind::Other)
     }
 
     /// Writes a front of what is held back and of the piece behind it, and says how many bytes of
     /// the piece; none where a signal interrupts the write.
-    fn write_some(&mut self, piece: &[u8]) -> io::Result<usize>
+    fn write_some(&mut self, piece: &[u8]) -> Result<usize, ErrorKind>
         ensures within { IfOk result (λ n. n ≤ length piece.now) }
         ensures some { WritesSome W.writes self.old.writer self.old.held.items piece.now result
             self.new.writer self.new.held.items }
     {
         match self.writer.write_pair(self.held.as_slice(), piece) {
-            Ok(0) => Err(io::Error::from(ErrorKind::WriteZero)),
+            Ok(0) => Err(ErrorKind::WriteZero),
             Ok(n) => Ok(self.leave(n)),
             Err(error) => {
-                if error.kind() == ErrorKind::Interrupted {
+                let kind = error.kind();
+                if kind == ErrorKind::Interrupted {
                     return Ok(0);
                 }
-                Err(error)
+                Err(kind)
             }
         }
     }
@@ -137,7 +138,7 @@ impl<W: WritePair> OutputStream for GatheringWriter<W> {
     ghost flushes = { λ old done new. FlushesThrough W.writes W.flushes old.writer old.held.items
         done new.writer new.held.items };
 
-    fn write_all(&mut self, bytes: &[u8]) -> io::Result<()> {
+    fn write_all(&mut self, bytes: &[u8]) -> Result<(), ErrorKind> {
         if bytes.len() <= self.held.capacity() - self.held.len() {
             let Ok(()) = self.held.extend_from_slice(bytes) else {
                 unreachable!()
@@ -147,10 +148,13 @@ impl<W: WritePair> OutputStream for GatheringWriter<W> {
         self.write_through(bytes)
     }
 
-    fn flush(&mut self) -> io::Result<()> {
+    fn flush(&mut self) -> Result<(), ErrorKind> {
+        if self.held.is_empty() {
+            return kind_of(self.writer.flush());
+        }
         match self.write_through(&[]) {
-            Ok(()) => self.writer.flush(),
-            Err(error) => Err(error),
+            Ok(()) => kind_of(self.writer.flush()),
+            Err(kind) => Err(kind),
         }
     }
 }

@@ -3,11 +3,13 @@ ghost use Rattle.base_terms.specs.Causes.{HasCause};
 ghost use Rattle.io_edge.specs.Faults.{Counts};
 ghost use Rattle.io_edge.specs.Outlet.{HoldsBackRear, IsRear};
 
+use crate::calls::kind_of;
 use crate::{Counted, Sink, answered};
 use base_terms::Failed;
-use std::io::{self, Stdout, Write};
+use std::io::{ErrorKind, Stdout, Write};
 
-/// A stream of the system that bytes are written to. What its calls do is a matter of the stream.
+/// A stream of the system that bytes are written to. What its calls do is a matter of the stream;
+/// of an error they tell the kind, which is all that is asked of one, and is small.
 pub trait OutputStream: Drop {
     /// What was written to it and has not gone out to the system.
     ghost held_back: { Self → List ℕ };
@@ -21,12 +23,12 @@ pub trait OutputStream: Drop {
 
     /// Writes all bytes, or fails; after a failure a front of them may have been written. The last
     /// of what was written may be held back until it is flushed.
-    fn write_all(&mut self, bytes: &[u8]) -> io::Result<()>
+    fn write_all(&mut self, bytes: &[u8]) -> Result<(), ErrorKind>
         ensures holds { HoldsBackRear (held_back self.old) (held_back self.new) bytes.now result }
         ensures writes { writes self.old bytes.now (is_ok result) self.new };
 
     /// Writes what is held back, and lets it go out.
-    fn flush(&mut self) -> io::Result<()>
+    fn flush(&mut self) -> Result<(), ErrorKind>
         ensures out { OnOk result (held_back self.new ≡ []) }
         ensures holds { IsRear (held_back self.new) (held_back self.old) }
         ensures flushes { flushes self.old (is_ok result) self.new };
@@ -41,12 +43,12 @@ impl OutputStream for Stdout {
     ghost flushes = { λ _ _ _. Unit {0} };
 
     #[tactic(auto, using(crate::proofs::OutletLemmas::holds_nothing))]
-    fn write_all(&mut self, bytes: &[u8]) -> io::Result<()> {
-        Write::write_all(self, bytes)
+    fn write_all(&mut self, bytes: &[u8]) -> Result<(), ErrorKind> {
+        kind_of(Write::write_all(self, bytes))
     }
 
-    fn flush(&mut self) -> io::Result<()> {
-        Write::flush(self)
+    fn flush(&mut self) -> Result<(), ErrorKind> {
+        kind_of(Write::flush(self))
     }
 }
 
