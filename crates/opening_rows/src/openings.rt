@@ -91,7 +91,7 @@ fn opened(
         old: None,
         new: key,
     };
-    let (text, disks) = told(alloc, open_volume(alloc, disks, keys, 1))?;
+    let (text, disks) = told(alloc, open_volume(alloc, disks, &keys, 1))?;
     let (head, main, disks) = calls_of(disks)?;
     let text = format!(in alloc;
         "{text} in {} and {} calls",

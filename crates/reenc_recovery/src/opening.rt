@@ -32,20 +32,20 @@ use volume_core::{Lanes, Volume};
 /// checked, and the key is compared with the digest of the segment; and last a copy of the header
 /// that lacks or is older is written anew, and synced. So each atom of the volume's disks is
 /// certain. Nothing is written before all checks have passed, and no memory is taken then. Where no
-/// volume is opened the disks are handed back.
+/// volume is opened the disks are handed back; the keys are the caller's, whatever is answered.
 ///
 /// Whether a copy of the header could lie hidden in front of its second one isn't tested: there is
 /// no cause for it, and the promise on what a stop leaves is one of images without such a copy.
 pub fn open_volume<D: Disk>(
     alloc: Global,
     disk: JoinedDisk<D>,
-    keys: SideKeys,
+    keys: &SideKeys,
     lanes: u32,
 ) -> Result<Volume<JoinedDisk<D>, Context>, OpenFault<D>>
     requires { 0 < lanes }
     ensures opened { IfOk result (IsOpenedOf ⟦<Context as SectorCipher>⟧.sector
         ⟦<Context as SectorCipher>⟧.sealed ⟦<Context as SectorCipher>⟧.opened (sizes_of disk)
-        keys.new (joint_in disk)) }
+        keys.now.new (joint_in disk)) }
     ensures tables { IfOk result
         (λ volume. TellsSince (sizes_of disk) (device_of disk) volume.disk) }
     ensures lanes { IfOk result
@@ -57,7 +57,7 @@ pub fn open_volume<D: Disk>(
     ensures cause { IfErr result
         (λ fault. HasCauseIn (device_of disk) (device_of fault.disk) fault.cause) }
     ensures refused { IfErr result (λ fault. (all : List ℕ) → (device_of disk).values ≡ Some all →
-        IsCauseIn (sizes_of disk) keys.new
+        IsCauseIn (sizes_of disk) keys.now.new
         (stored_in (sizes_of disk) (front_of (sizes_of disk) all)) fault.cause) }
 {
     copies_are_read();
@@ -88,7 +88,7 @@ pub fn open_volume<D: Disk>(
             });
         }
     }
-    let checked = match check(alloc, &mut disk, &keys) {
+    let checked = match check(alloc, &mut disk, keys) {
         Ok(checked) => checked,
         Err(cause) => return Err(OpenFault { disk, cause }),
     };

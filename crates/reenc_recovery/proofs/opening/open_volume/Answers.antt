@@ -59,7 +59,7 @@ returns-in-Err-check-clause-cause g c =
 
 pub returns-in-Err-check-clause-refused : goal.returns-in-Err-check-clause-refused
 returns-in-Err-check-clause-refused g c =
-    refused_later (sizes_of c.args.disk) (sizes_of c.sync.new.self) c.args.keys.new
+    refused_later (sizes_of c.args.disk) (sizes_of c.sync.new.self) c.args.keys.now.new
     c.in-Err-check.cause (device_of c.args.disk) (device_of c.sync.new.self)
     c.in-Ok-sync.ensures.sizes c.in-Ok-sync.ensures.call c.in-Err-check.ensures.refused
 
@@ -68,13 +68,13 @@ returns-in-Err-check-clause-refused g c =
 pub mend-requires-clause-begun : goal.mend-requires-clause-begun
 mend-requires-clause-begun g c =
     let checked = c.in-Ok-check.checked in
-    let is = is_checked _ _ _ (sizes_of c.args.disk) (sizes_of c.sync.new.self) c.args.keys.new
+    let is = is_checked _ _ _ (sizes_of c.args.disk) (sizes_of c.sync.new.self) c.args.keys.now.new
     checked.header checked.opening.placement checked.opening.keys checked.repair
     (joint_in c.args.disk) (joint_in c.sync.new.self) (joint_in c.check.new.disk)
     c.in-Ok-sync.ensures.sizes c.in-Ok-sync.ensures.call c.in-Ok-check.ensures.unwritten
     c.in-Ok-check.ensures.passed c.in-Ok-check.ensures.repair c.in-Ok-check.ensures.fits
     c.in-Ok-check.ensures.held in
-    begun _ _ _ (sizes_of c.args.disk) c.args.keys.new checked.header checked.opening.placement
+    begun _ _ _ (sizes_of c.args.disk) c.args.keys.now.new checked.header checked.opening.placement
     checked.opening.keys checked.repair (joint_in c.args.disk) (joint_in c.check.new.disk) is
 
 pub mend-requires-clause-fits : goal.mend-requires-clause-fits
@@ -90,13 +90,13 @@ mend-requires-clause-fits g c =
     let known =
     subst (λ (z : Sizes). IsAtom z.atom) c.sizes-sizes.ensures.is c.sizes-sizes.ensures.known in
     let checked = c.in-Ok-check.checked in
-    let is = is_checked _ _ _ (sizes_of c.args.disk) (sizes_of c.sync.new.self) c.args.keys.new
+    let is = is_checked _ _ _ (sizes_of c.args.disk) (sizes_of c.sync.new.self) c.args.keys.now.new
     checked.header checked.opening.placement checked.opening.keys checked.repair
     (joint_in c.args.disk) (joint_in c.sync.new.self) (joint_in c.check.new.disk)
     c.in-Ok-sync.ensures.sizes c.in-Ok-sync.ensures.call c.in-Ok-check.ensures.unwritten
     c.in-Ok-check.ensures.passed c.in-Ok-check.ensures.repair c.in-Ok-check.ensures.fits
     c.in-Ok-check.ensures.held in
-    fits _ _ _ (sizes_of c.args.disk) c.args.keys.new checked.header checked.opening.placement
+    fits _ _ _ (sizes_of c.args.disk) c.args.keys.now.new checked.header checked.opening.placement
     checked.opening.keys checked.repair (joint_in c.args.disk) (joint_in c.check.new.disk) is has
     known
 
@@ -110,14 +110,14 @@ returns-in-Err-mend-clause-unopened g c =
     c.sizes-sizes.ensures.known c.sizes-sizes.ensures.header c.sizes-sizes.ensures.whole
     c.disks_tell_lawfully.ensures.agrees c.disks_tell_lawfully.ensures.even) in
     let checked = c.in-Ok-check.checked in
-    let is = is_checked _ _ _ (sizes_of c.args.disk) (sizes_of c.sync.new.self) c.args.keys.new
+    let is = is_checked _ _ _ (sizes_of c.args.disk) (sizes_of c.sync.new.self) c.args.keys.now.new
     checked.header checked.opening.placement checked.opening.keys checked.repair
     (joint_in c.args.disk) (joint_in c.sync.new.self) (joint_in c.check.new.disk)
     c.in-Ok-sync.ensures.sizes c.in-Ok-sync.ensures.call c.in-Ok-check.ensures.unwritten
     c.in-Ok-check.ensures.passed c.in-Ok-check.ensures.repair c.in-Ok-check.ensures.fits
     c.in-Ok-check.ensures.held in
     inr (inr
-    (inr (unrepaired _ _ _ (sizes_of c.args.disk) c.args.keys.new checked.header
+    (inr (unrepaired _ _ _ (sizes_of c.args.disk) c.args.keys.now.new checked.header
     checked.opening.placement
     checked.opening.keys checked.repair (joint_in c.args.disk) (joint_in c.check.new.disk) is
     c.openings_keep_contents.ensures.repairs shows (device_of c.mend.new.disk)
@@ -147,7 +147,7 @@ opened-requires-clause-atom g c =
     c.sizes-sizes.ensures.known c.sizes-sizes.ensures.header c.sizes-sizes.ensures.whole
     c.disks_tell_lawfully.ensures.agrees c.disks_tell_lawfully.ensures.even) in
     let checked = c.in-Ok-check.checked in
-    let is = is_checked _ _ _ (sizes_of c.args.disk) (sizes_of c.sync.new.self) c.args.keys.new
+    let is = is_checked _ _ _ (sizes_of c.args.disk) (sizes_of c.sync.new.self) c.args.keys.now.new
     checked.header checked.opening.placement checked.opening.keys checked.repair
     (joint_in c.args.disk) (joint_in c.sync.new.self) (joint_in c.check.new.disk)
     c.in-Ok-sync.ensures.sizes c.in-Ok-sync.ensures.call c.in-Ok-check.ensures.unwritten
@@ -155,7 +155,7 @@ opened-requires-clause-atom g c =
     c.in-Ok-check.ensures.held in
     let size =
     c.in-Ok-mend.ensures.size
-    ∙ size_read _ _ _ (sizes_of c.args.disk) c.args.keys.new checked.header
+    ∙ size_read _ _ _ (sizes_of c.args.disk) c.args.keys.now.new checked.header
     checked.opening.placement
     checked.opening.keys checked.repair (joint_in c.args.disk) (joint_in c.check.new.disk) is in
     let atom = is.passed.opening.right.atom ∙ shows.atom ∙ sym size in
@@ -164,7 +164,7 @@ opened-requires-clause-atom g c =
 pub opened-requires-clause-map : goal.opened-requires-clause-map
 opened-requires-clause-map g c =
     let checked = c.in-Ok-check.checked in
-    let is = is_checked _ _ _ (sizes_of c.args.disk) (sizes_of c.sync.new.self) c.args.keys.new
+    let is = is_checked _ _ _ (sizes_of c.args.disk) (sizes_of c.sync.new.self) c.args.keys.now.new
     checked.header checked.opening.placement checked.opening.keys checked.repair
     (joint_in c.args.disk) (joint_in c.sync.new.self) (joint_in c.check.new.disk)
     c.in-Ok-sync.ensures.sizes c.in-Ok-sync.ensures.call c.in-Ok-check.ensures.unwritten
@@ -174,7 +174,7 @@ opened-requires-clause-map g c =
     ∙ c.sizes-sizes.ensures.all in
     let atoms =
     c.in-Ok-mend.ensures.atoms
-    ∙ atoms_read _ _ _ (sizes_of c.args.disk) c.args.keys.new checked.header
+    ∙ atoms_read _ _ _ (sizes_of c.args.disk) c.args.keys.now.new checked.header
     checked.opening.placement
     checked.opening.keys checked.repair (joint_in c.args.disk) (joint_in c.check.new.disk) is in
     subst (λ (n : ℕ). MapFits checked.opening.placement.map n) (all ∙ sym atoms)
@@ -183,7 +183,7 @@ opened-requires-clause-map g c =
 pub opened-requires-clause-zone : goal.opened-requires-clause-zone
 opened-requires-clause-zone g c =
     let checked = c.in-Ok-check.checked in
-    let is = is_checked _ _ _ (sizes_of c.args.disk) (sizes_of c.sync.new.self) c.args.keys.new
+    let is = is_checked _ _ _ (sizes_of c.args.disk) (sizes_of c.sync.new.self) c.args.keys.now.new
     checked.header checked.opening.placement checked.opening.keys checked.repair
     (joint_in c.args.disk) (joint_in c.sync.new.self) (joint_in c.check.new.disk)
     c.in-Ok-sync.ensures.sizes c.in-Ok-sync.ensures.call c.in-Ok-check.ensures.unwritten
@@ -194,13 +194,13 @@ opened-requires-clause-zone g c =
 pub opened-requires-clause-keys : goal.opened-requires-clause-keys
 opened-requires-clause-keys g c =
     let checked = c.in-Ok-check.checked in
-    let is = is_checked _ _ _ (sizes_of c.args.disk) (sizes_of c.sync.new.self) c.args.keys.new
+    let is = is_checked _ _ _ (sizes_of c.args.disk) (sizes_of c.sync.new.self) c.args.keys.now.new
     checked.header checked.opening.placement checked.opening.keys checked.repair
     (joint_in c.args.disk) (joint_in c.sync.new.self) (joint_in c.check.new.disk)
     c.in-Ok-sync.ensures.sizes c.in-Ok-sync.ensures.call c.in-Ok-check.ensures.unwritten
     c.in-Ok-check.ensures.passed c.in-Ok-check.ensures.repair c.in-Ok-check.ensures.fits
     c.in-Ok-check.ensures.held in
-    keys_fit _ _ _ checked.header.valid.meta (sizes_of c.args.disk) c.args.keys.new
+    keys_fit _ _ _ checked.header.valid.meta (sizes_of c.args.disk) c.args.keys.now.new
     checked.opening.placement checked.opening.keys is.passed.opening
 
 pub returns-clause-opened : goal.returns-clause-opened
@@ -211,7 +211,7 @@ returns-clause-opened g c =
     c.sizes-sizes.ensures.known c.sizes-sizes.ensures.header c.sizes-sizes.ensures.whole
     c.disks_tell_lawfully.ensures.agrees c.disks_tell_lawfully.ensures.even) in
     let checked = c.in-Ok-check.checked in
-    let is = is_checked _ _ _ (sizes_of c.args.disk) (sizes_of c.sync.new.self) c.args.keys.new
+    let is = is_checked _ _ _ (sizes_of c.args.disk) (sizes_of c.sync.new.self) c.args.keys.now.new
     checked.header checked.opening.placement checked.opening.keys checked.repair
     (joint_in c.args.disk) (joint_in c.sync.new.self) (joint_in c.check.new.disk)
     c.in-Ok-sync.ensures.sizes c.in-Ok-sync.ensures.call c.in-Ok-check.ensures.unwritten
@@ -219,7 +219,7 @@ returns-clause-opened g c =
     c.in-Ok-check.ensures.held in
     let size =
     c.in-Ok-mend.ensures.size
-    ∙ size_read _ _ _ (sizes_of c.args.disk) c.args.keys.new checked.header
+    ∙ size_read _ _ _ (sizes_of c.args.disk) c.args.keys.now.new checked.header
     checked.opening.placement
     checked.opening.keys checked.repair (joint_in c.args.disk) (joint_in c.check.new.disk) is in
     let atom = is.passed.opening.right.atom ∙ shows.atom ∙ sym size in
@@ -227,11 +227,11 @@ returns-clause-opened g c =
     ∙ ap (λ n. new_volume checked.opening.placement.map checked.opening.keys n
     (device_of c.mend.new.disk)) c.in-Ok.ensures in
     let run =
-    runs _ _ _ (sizes_of c.args.disk) c.args.keys.new checked.header checked.opening.placement
+    runs _ _ _ (sizes_of c.args.disk) c.args.keys.now.new checked.header checked.opening.placement
     checked.opening.keys checked.repair (joint_in c.args.disk) (joint_in c.check.new.disk) is
     (device_of c.mend.new.disk) succeeded c.in-Ok-mend.ensures.run in
-    opened_of _ _ _ (sizes_of c.args.disk) c.args.keys.new (joint_in c.args.disk) _ _ volume
-    (volume_of _ _ _ (sizes_of c.args.disk) c.args.keys.new checked.header
+    opened_of _ _ _ (sizes_of c.args.disk) c.args.keys.now.new (joint_in c.args.disk) _ _ volume
+    (volume_of _ _ _ (sizes_of c.args.disk) c.args.keys.now.new checked.header
     checked.opening.placement checked.opening.keys is.passed checked.repair (joint_in c.args.disk)
     (device_of c.mend.new.disk) c.args.lanes atom run c.disks_tell_lawfully-2.ensures.agrees
     c.disks_tell_lawfully-2.ensures.even c.disks_tell_lawfully-2.ensures.whole
@@ -239,7 +239,7 @@ returns-clause-opened g c =
     c.copies_mean_what_they_share.ensures c.used_copies_are_headers.ensures.stands
     c.metadata_go_by_meaning.ensures.loads c.placements_are_one.ensures shows is.asked is.held
     (λ now still values long bytes.
-    c.opened_volumes_start.ensures (sizes_of c.args.disk) c.args.keys.new now _ still
+    c.opened_volumes_start.ensures (sizes_of c.args.disk) c.args.keys.now.new now _ still
     (subst (λ v. IsSound v) volume c.opened.ensures.sound)
     (subst (λ v. IsFresh v) volume c.opened.ensures.fresh) values long bytes))
 
@@ -251,7 +251,7 @@ returns-clause-tables g c =
     c.sizes-sizes.ensures.known c.sizes-sizes.ensures.header c.sizes-sizes.ensures.whole
     c.disks_tell_lawfully.ensures.agrees c.disks_tell_lawfully.ensures.even) in
     let checked = c.in-Ok-check.checked in
-    let is = is_checked _ _ _ (sizes_of c.args.disk) (sizes_of c.sync.new.self) c.args.keys.new
+    let is = is_checked _ _ _ (sizes_of c.args.disk) (sizes_of c.sync.new.self) c.args.keys.now.new
     checked.header checked.opening.placement checked.opening.keys checked.repair
     (joint_in c.args.disk) (joint_in c.sync.new.self) (joint_in c.check.new.disk)
     c.in-Ok-sync.ensures.sizes c.in-Ok-sync.ensures.call c.in-Ok-check.ensures.unwritten
@@ -261,7 +261,7 @@ returns-clause-tables g c =
     ∙ ap (λ n. new_volume checked.opening.placement.map checked.opening.keys n
     (device_of c.mend.new.disk)) c.in-Ok.ensures in
     subst (λ v. TellsSince (sizes_of c.args.disk) (device_of c.args.disk) v.disk) (sym volume)
-    (tells _ _ _ (sizes_of c.args.disk) c.args.keys.new checked.header checked.opening.placement
+    (tells _ _ _ (sizes_of c.args.disk) c.args.keys.now.new checked.header checked.opening.placement
     checked.opening.keys checked.repair (joint_in c.args.disk) (joint_in c.check.new.disk) is
     c.openings_keep_contents.ensures.repairs shows (device_of c.mend.new.disk) succeeded
     c.in-Ok-mend.ensures.run c.disks_tell_lawfully-2.ensures.sized)
