@@ -1,15 +1,18 @@
 -- What a volume is that was opened, and what an opening leaves that made none.
-use Rattle.std.specs.Prelude.{◌≡◌, ◌⊎◌, ◌↔◌, ℕ, List, drop, Option, Some, Ok}
+use Rattle.std.specs.Prelude.{◌≡◌, ◌⊎◌, ◌↔◌, ℕ, false, List, drop, Option, Some, Ok}
 use Rattle.disk_sizes.specs.declared.Sizes.{Sizes}
 use Rattle.joined_disk.specs.Joined.{Joint, joined_disk}
 use Rattle.luks_copies.specs.declared.repair.Repair.{Repair}
 use Rattle.luks_rules.specs.Areas.{areas_begin}
+use Rattle.luks_rules.specs.Segments.{in_progress}
 use Rattle.luks_store.specs.Devices.{front_of}
 use Rattle.luks_store.specs.Loads.{stored_in}
 use Rattle.luks_store.specs.declared.loaded.Stored.{Stored}
+use Rattle.reenc_meta.specs.Placements.{IsPlacementOf}
 use Rattle.reenc_meta.specs.declared.placement.Placement.{Placement}
 use Rattle.reenc_recovery.specs.Calls.{IsRepairFor, OpeningRun, SyncsAndReads}
 use Rattle.reenc_recovery.specs.Images.{StandsUnder}
+use Rattle.reenc_recovery.specs.Keys.{IsKeyOf, used_by}
 use Rattle.reenc_recovery.specs.Openings.{IsOpened, IsOpening, StartsAsImage}
 use Rattle.reenc_recovery.specs.Tables.{TellsSince}
 use Rattle.reenc_recovery.specs.declared.fault.OpenCause.{OpenCause}
@@ -82,20 +85,25 @@ pub record IsOnlyRead (sizes : Sizes) (old : Joint) (new : Device) : Type 0 wher
   pub same : new ≡ joined_disk read
   pub tables : TellsSince sizes (joined_disk old) new
 
--- All checks passed, and a call of the repair that the header asks for failed.
-pub record IsUnrepaired (sizes : Sizes) (old : Joint) (new : Device) (cause : OpenCause) : Type 0
-  where
-    pub header : Stored
-    pub held : (first : List ℕ) → (joined_disk old).values ≡ Some first
-        → stored_in sizes (front_of sizes first) ≡ Ok header
-    pub repair : Repair
-    pub asked : IsRepairFor header.copies (Some repair)
-    pub calls : OpeningRun (Some repair) old new failed_call
-    pub by : cause ≡ causes.Device
-    pub tables : TellsSince sizes (joined_disk old) new
+-- All checks passed, and a call of the repair that the header asks for failed: nothing is being
+-- converted by the header, which places the volume, and the key is that of its segment's digest.
+pub record IsUnrepaired (sizes : Sizes) (key : Option (List ℕ)) (old : Joint) (new : Device)
+    (cause : OpenCause) : Type 0 where
+  pub header : Stored
+  pub held : (first : List ℕ) → (joined_disk old).values ≡ Some first
+      → stored_in sizes (front_of sizes first) ≡ Ok header
+  pub idle : in_progress header.valid.meta.config ≡ false
+  pub placement : Placement
+  pub placed : IsPlacementOf header.valid.meta sizes placement
+  pub key_is : IsKeyOf header.valid.meta placement.new (used_by placement.new.encryption key)
+  pub repair : Repair
+  pub asked : IsRepairFor header.copies (Some repair)
+  pub calls : OpeningRun (Some repair) old new failed_call
+  pub by : cause ≡ causes.Device
+  pub tables : TellsSince sizes (joined_disk old) new
 
-abbrev pub IsUnopened : Sizes → Joint → Device → OpenCause → Type 0
-IsUnopened sizes old new cause =
+abbrev pub IsUnopened : Sizes → Option (List ℕ) → Joint → Device → OpenCause → Type 0
+IsUnopened sizes key old new cause =
     IsUncalled old new cause
     ⊎ (IsUnsynced old new cause
-    ⊎ (IsOnlyRead sizes old new ⊎ IsUnrepaired sizes old new cause))
+    ⊎ (IsOnlyRead sizes old new ⊎ IsUnrepaired sizes key old new cause))
