@@ -3,6 +3,7 @@ use Rattle.std.proofs.Common.{◌≡◌, ℕ, ◌+◌, ◌*◌, ◌^◌, ◌<◌
 use Rattle.std.proofs.Common.{List, Option, Result, Ok, refl, sym, ◌∙◌, ap, subst}
 use Rattle.disk_sizes.specs.declared.Sizes.{Sizes}
 use Rattle.luks_rules.specs.Areas.{header_bytes}
+use Rattle.luks_rules.specs.States.{IsSound}
 use Rattle.luks_rules.specs.declared.valid.Checked.{Checked}
 use Rattle.luks_store.specs.Devices.{header_room}
 use Rattle.luks_store.specs.Loads.{HasCause, IsStored, Says}
@@ -41,15 +42,18 @@ disk_of sizes now atoms same known all fits =
 pub has_passed : {C : Type 0} (sector : C → ℕ) (sealed opened : C → ℕ → List ℕ → List ℕ)
     (sizes : Sizes) (key : Option (List ℕ)) (header : Stored) (valid : Checked) (p : Placement)
     (keys : Keys C) → valid ≡ header.valid → IsStored header → header.valid.sizes ≡ sizes
+    → IsSound valid.meta valid.sizes
     → header.valid.meta.config.json_size + 4096 ≡ header.copies.used.header.hdr_size
     → 2 * header.copies.used.header.hdr_size ≤ header_room header.valid.sizes
     → header_room sizes ≡ header_bytes sizes
     → IsOpening sector sealed opened valid.meta valid.sizes key p keys
     → p.map.zone ≡ 0 → HasPassed sector sealed opened sizes key header p keys
-has_passed sector sealed opened sizes key header valid p keys is stored same size room one opening
-    closed = record {
+has_passed sector sealed opened sizes key header valid p keys is stored same sound size room one
+    opening closed = record {
       stored = stored;
       sizes_are = same;
+      sound = subst (λ (z : Sizes). IsSound header.valid.meta z) same
+          (subst (λ (v : Checked). IsSound v.meta v.sizes) is sound);
       begin = ap (λ n. 2 * n) size;
       room = subst (λ (n : ℕ). 2 * header.copies.used.header.hdr_size ≤ n)
           (ap (λ (z : Sizes). header_room z) same ∙ one) room;

@@ -5,6 +5,7 @@ mod CipherLemmas
 mod FrameLemmas
 mod ImageLemmas
 mod JoinedLemmas
+mod KeepLemmas
 mod MendLemmas
 mod OpenCauseLemmas
 mod OpenLemmas

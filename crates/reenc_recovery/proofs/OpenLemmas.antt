@@ -145,6 +145,7 @@ module _ {C : Type 0} (sector : C → ℕ) (sealed opened : C → ℕ → List �
   found = record {
     stored = is.passed.stored;
     sizes_are = is.passed.sizes_are;
+    sound = is.passed.sound;
     begin = is.passed.begin;
     room = is.passed.room;
     placed = is.passed.opening.placed;

@@ -1,4 +1,5 @@
--- Each image during a repair stands for what the disk's bytes stood for before it.
+-- Each image during a repair holds the metadata that the disk's bytes held before it, and what they
+-- had behind both copies.
 use Rattle.std.proofs.Common.{◌≡◌, ℕ, ◌+◌, ◌-◌, ◌*◌, ◌≤◌, Bool, List, length, take, drop, Ok}
 use Rattle.std.proofs.Common.{replicate}
 use Rattle.std.proofs.Common.{sym, ◌∙◌, ap, subst, arith}
@@ -13,6 +14,7 @@ use Rattle.disk_views.specs.Parts.{value_in}
 use Rattle.disk_views.specs.Views.{view_of_cells}
 use Rattle.luks_copies.specs.Meanings.{header_reader, meaning_of}
 use Rattle.luks_rules.specs.Areas.{areas_begin}
+use Rattle.luks_rules.specs.States.{IsSound}
 use Rattle.luks_store.specs.Devices.{front_of}
 use Rattle.luks_store.specs.Loads.{stored_in, IsStored}
 use Rattle.luks_store.specs.Promises.{LoadsByMeaning}
@@ -20,12 +22,12 @@ use Rattle.luks_store.specs.declared.loaded.Stored.{Stored}
 use Rattle.reenc_meta.specs.Placements.{IsPlacementOf}
 use Rattle.reenc_meta.specs.Places.{IsRightFor}
 use Rattle.reenc_meta.specs.declared.placement.Placement.{Placement}
-use Rattle.reenc_recovery.specs.Images.{StandsUnder}
+use Rattle.reenc_recovery.specs.Images.{HoldsOn, StandsAs}
+use Rattle.reenc_recovery.specs.Promises.{ContentsStay, ContentsStayFor, RepairsHoldOn}
 use Rattle.reenc_recovery.specs.Repairing.{IsLeft, IsRepaired, ShowsRepairOf}
-use Rattle.reenc_recovery.proofs.FrameLemmas.{stands_still}
-use Rattle.reenc_recovery.proofs.ImageLemmas.{OnePlacement}
 use Rattle.luks_store.proofs.SettledLemmas.{atom_of_joined}
 use Rattle.reenc_recovery.proofs.JoinedLemmas.{even_image, front_text, long_joined, same_behind}
+use Rattle.reenc_recovery.proofs.KeepLemmas.{stands_as}
 use Rattle.sector_disk.specs.Cells.{AreSized, Cell}
 
 module _ (sizes : Sizes) (stored : Stored) (header : Header (List ℕ)) (layout : Layout)
@@ -100,17 +102,36 @@ module _ (sizes : Sizes) (stored : Stored) (header : Header (List ℕ)) (layout 
       ∙ shows.behind place from below (value_in image place)
       (image_in cells image place left.is below)))
 
-  pub repair_stands : IsReader header_reader → ImageTaken → RepairGives → LoadsByMeaning
-      → OnePlacement → IsStored stored → (old new : List ℕ) (contents : List (List ℕ))
-      (p : Placement) → stored_in sizes (front_of sizes first) ≡ Ok stored
-      → IsPlacementOf stored.valid.meta sizes p → IsRightFor stored.valid.meta sizes p
-      → StandsUnder sizes old new first contents
-      → StandsUnder sizes old new (joined image) contents
-  repair_stands is_reader taken gives loads placed is_stored old new contents p held is right stands
-      =
+  pub repair_holds : IsReader header_reader → ImageTaken → RepairGives → LoadsByMeaning
+      → IsStored stored → stored_in sizes (front_of sizes first) ≡ Ok stored
+      → HoldsOn sizes stored first (joined image)
+  repair_holds is_reader taken gives loads is_stored held =
       let found = loads (front_of sizes (joined image)) stored is_stored
       (header_stays is_reader taken gives) in
-      stands_still placed sizes old new first (joined image) contents stored found.0 p held is right
-      (subst (λ (s : Sizes). stored_in s (front_of sizes (joined image)) ≡ Ok found.0)
-      repaired.sizes_are found.1)
-      found.2 rest_stays stands
+      record {
+        was = held;
+        stored = found.0;
+        held = subst (λ (s : Sizes). stored_in s (front_of sizes (joined image)) ≡ Ok found.0)
+            repaired.sizes_are found.1;
+        same = found.2;
+        behind = rest_stays;
+      }
+
+-- ---- what its images stand for
+abbrev pub RepairsStand : Type 0
+RepairsStand =
+    (sizes : Sizes) (stored : Stored) (header : Header (List ℕ)) (layout : Layout) (handed : Handed)
+    (bad : Copy) (written broken : Bool) (first : List ℕ) (cells : List Cell)
+    (image : List (List ℕ)) (p : Placement) → IsRepaired sizes stored header layout handed
+    → ShowsRepairOf sizes layout header bad written broken first cells
+    → AreSized sizes.atom cells → IsLeft sizes header handed cells image → IsStored stored
+    → stored_in sizes (front_of sizes first) ≡ Ok stored
+    → IsPlacementOf stored.valid.meta sizes p → IsRightFor stored.valid.meta sizes p
+    → IsSound stored.valid.meta sizes → StandsAs sizes stored first (joined image)
+
+pub repairs_stand : RepairsHoldOn → ContentsStay → ContentsStayFor → RepairsStand
+repairs_stand each stay stay_for = λ sizes stored header layout handed bad written broken first
+    cells image p repaired shows sized left is_stored held is right sound.
+    stands_as stay stay_for sizes stored p first (joined image) is right sound
+    (each sizes stored header layout handed bad written broken first cells image repaired shows
+    sized left is_stored held)

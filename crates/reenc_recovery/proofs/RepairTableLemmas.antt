@@ -31,12 +31,13 @@ use Rattle.luks_store.specs.Promises.{UsedStands}
 use Rattle.luks_store.specs.declared.loaded.Stored.{Stored}
 use Rattle.reenc_meta.specs.declared.placement.Placement.{Placement}
 use Rattle.reenc_recovery.specs.Calls.{SyncsAndReads, TellsSized, WritesRepair}
+use Rattle.reenc_recovery.specs.Images.{StandsAs}
 use Rattle.reenc_recovery.specs.Promises.{RepairGoesOn, RepairsBegin, RepairsGoOn}
-use Rattle.reenc_recovery.specs.Promises.{RepairsKeepContents}
 use Rattle.reenc_recovery.specs.Repairing.{IsLeft, IsRepaired, ShowsRepairOf}
 use Rattle.reenc_recovery.specs.Tables.{IsFoundOn, IsSpared, OpeningsKeepContents, ShowsSizes}
 use Rattle.reenc_recovery.specs.Tables.{StandsSince, StandsStill, header_in}
 use Rattle.reenc_recovery.proofs.ImageLemmas.{same_stored}
+use Rattle.reenc_recovery.proofs.RepairLemmas.{RepairsStand}
 use Rattle.reenc_recovery.proofs.TableLemmas.{IsSettledSince, StillSince, currents-synced, settled}
 use Rattle.reenc_recovery.proofs.TableLemmas.{reads_keep, stands_later, still_joined, still_none}
 use Rattle.reenc_recovery.proofs.TableLemmas.{still_one}
@@ -100,7 +101,7 @@ many cells atoms atom even =
 
 -- ---- the repair
 module _ (seen : RepairsAreSeen) (begins : RepairsBegin) (goes : RepairsGoOn)
-    (each : RepairsKeepContents) (sizes : Sizes) (header : Stored) (p : Placement)
+    (each : RepairsStand) (sizes : Sizes) (header : Stored) (p : Placement)
     (repair : Repair) (old : Device) (shows : ShowsSizes sizes old)
     (found : IsFoundOn sizes header p (Some repair) old) (first : List ℕ)
     (held : stored_in sizes (front_of sizes first) ≡ Ok header) (bad : Copy) (one two : List ℕ)
@@ -172,15 +173,14 @@ module _ (seen : RepairsAreSeen) (begins : RepairsBegin) (goes : RepairsGoOn)
 
   stands : (written broken : Bool) (cells : List Cell) → AreSized atom cells
       → Shown written broken cells → StandsStill sizes first cells
-  stands written broken cells sized shown stored stored_is image spared old_key new_key contents
-      under =
+  stands written broken cells sized shown stored stored_is image spared =
       let same =
       same_stored (stored_in sizes (front_of sizes first)) stored header stored_is held in
       let mine = subst (λ (s : Stored). IsSpared sizes s cells image) same spared in
-      each sizes header both layout mine.handed bad written broken first cells image
-      (repaired mine.handed mine.past) shown sized (left cells image mine) found.stored old_key
-      new_key
-      contents p held found.placed found.right under
+      subst (λ (s : Stored). StandsAs sizes s first (joined image)) (sym same)
+      (each sizes header both layout mine.handed bad written broken first cells image p
+      (repaired mine.handed mine.past) shown sized (left cells image mine) found.stored held
+      found.placed found.right found.sound)
 
   -- ---- its calls
   room_for : (device : Device) → device.size ≡ old.size → device.atoms ≡ old.atoms
@@ -347,7 +347,7 @@ many_read sizes old read shows run told is =
     ∙ many has.0.now (joined_disk old).atoms (joined_disk old).size (shows.even has.0 has.1)
 
 module _ (seen : RepairsAreSeen) (begins : RepairsBegin) (goes : RepairsGoOn)
-    (each : RepairsKeepContents) (mean : MeanTheSame) (used : UsedStands) (sizes : Sizes)
+    (each : RepairsStand) (mean : MeanTheSame) (used : UsedStands) (sizes : Sizes)
     (header : Stored) (p : Placement) (repair : Repair) (old read : Joint)
     (shows : ShowsSizes sizes (joined_disk old))
     (found : IsFoundOn sizes header p (Some repair) (joined_disk old))
@@ -472,7 +472,7 @@ before_try repair from to call now now_is =
       | inr moves ↦ (let moved = moves now now_is in (moved.0, moved.1))
     ]
 
-pub openings_keep : RepairsAreSeen → RepairsBegin → RepairsGoOn → RepairsKeepContents
+pub openings_keep : RepairsAreSeen → RepairsBegin → RepairsGoOn → RepairsStand
     → MeanTheSame → UsedStands → OpeningsKeepContents
 openings_keep seen begins goes each mean used sizes header p None old new (Ok done) shows found run
     sized now is =

@@ -21,7 +21,7 @@ use Rattle.luks_store.specs.Loads.{IsStored, stored_in}
 use Rattle.luks_store.specs.Promises.{LoadsByMeaning, UsedStands}
 use Rattle.luks_store.specs.declared.copies.CopyState.TheVariants.{Good}
 use Rattle.luks_store.specs.declared.loaded.Stored.{Stored}
-use Rattle.reenc_recovery.specs.Volumes.{HoldsOn}
+use Rattle.reenc_recovery.specs.Images.{HoldsOn}
 use Rattle.reenc_recovery.proofs.FrameLemmas.{same_from}
 use Rattle.reenc_recovery.proofs.StandingLemmas.{used_stands}
 

@@ -10,8 +10,9 @@ use Rattle.base_terms.specs.Blocks.{joined}
 use Rattle.joined_disk.specs.Joined.{Joint, joined_disk}
 use Rattle.disk_sizes.specs.declared.Sizes.{Sizes}
 use Rattle.reenc_recovery.specs.Calls.{SyncsAndReads}
-use Rattle.reenc_recovery.specs.Images.{StandsUnder}
+use Rattle.reenc_recovery.specs.Images.{StandsAs}
 use Rattle.reenc_recovery.specs.Tables.{StandsSince, StandsStill, TellsSince}
+use Rattle.reenc_recovery.proofs.KeepLemmas.{stands_unwritten}
 use Rattle.sector_disk.specs.Cells.{AreSettled, Cell, IsImage, content, currents, synced}
 use Rattle.sector_disk.specs.Steps.{Told, then_table}
 
@@ -47,10 +48,11 @@ joined-one cells image is = sym (ap (λ values. joined values) is)
 
 pub still_settled : (sizes : Sizes) (cells table : List Cell) → table ≡ map synced cells
     → StandsStill sizes (content cells) table
-still_settled sizes cells table same stored held image spared old new contents stands =
-    subst (λ (bytes : List ℕ). StandsUnder sizes old new bytes contents)
+still_settled sizes cells table same stored held image spared =
+    subst (λ (bytes : List ℕ). StandsAs sizes stored (content cells) bytes)
     (joined-one cells image
-    (one_image cells image (subst (λ (t : List Cell). IsImage t image) same spared.is))) stands
+    (one_image cells image (subst (λ (t : List Cell). IsImage t image) same spared.is)))
+    (stands_unwritten sizes stored (content cells) held)
 
 -- ---- the sync and the reads
 pub record IsSettledSince (before now : Told) : Type 0 where

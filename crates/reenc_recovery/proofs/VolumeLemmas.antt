@@ -1,5 +1,5 @@
 -- The volume that an opening makes, and the calls that led to it.
-use Rattle.std.proofs.Common.{◌≡◌, ℕ, ◌*◌, ◌/◌, List, length, drop, replicate, Option, Some, None}
+use Rattle.std.proofs.Common.{◌≡◌, ℕ, ◌*◌, ◌/◌, List, length, replicate, Option, Some, None}
 use Rattle.std.proofs.Common.{Ok, refl, sym, ◌∙◌, ap, subst}
 use Rattle.base_terms.specs.Blocks.{lengths, pasted}
 use Rattle.cipher_laws.specs.Bytes.{AreBytes}
@@ -11,7 +11,6 @@ use Rattle.luks_copies.specs.Meanings.{header_reader}
 use Rattle.luks_copies.specs.Promises.{MeanTheSame}
 use Rattle.luks_copies.specs.declared.repair.Repair.{Repair}
 use Rattle.luks_json.specs.declared.meta.Parts.{Parts}
-use Rattle.luks_rules.specs.Areas.{areas_begin}
 use Rattle.luks_rules.specs.declared.valid.Checked.{Checked}
 use Rattle.luks_store.specs.Devices.{front_of}
 use Rattle.luks_store.specs.Loads.{stored_in}
@@ -19,11 +18,12 @@ use Rattle.luks_store.specs.Promises.{LoadsByMeaning, UsedStands}
 use Rattle.luks_store.specs.declared.loaded.Stored.{Stored}
 use Rattle.reenc_meta.specs.declared.placement.Placement.{Placement}
 use Rattle.reenc_recovery.specs.Calls.{IsRepairFor, OpeningRun, SyncsAndReads}
+use Rattle.reenc_recovery.specs.Images.{HoldsOn}
 use Rattle.reenc_recovery.specs.Openings.{HasPassed, IsOpened, IsOpening, StartsAsImage}
+use Rattle.reenc_recovery.specs.Promises.{ContentsStay, ContentsStayFor}
 use Rattle.reenc_recovery.specs.Tables.{ShowsSizes}
-use Rattle.reenc_recovery.specs.Volumes.{HoldsOn, IsOpenedOf, KeepsContents}
-use Rattle.reenc_recovery.proofs.FrameLemmas.{stands_still}
-use Rattle.reenc_recovery.proofs.ImageLemmas.{OnePlacement}
+use Rattle.reenc_recovery.specs.Volumes.{IsOpenedOf}
+use Rattle.reenc_recovery.proofs.KeepLemmas.{holds_unwritten, stands_as}
 use Rattle.reenc_recovery.proofs.RewriteLemmas.{after_write}
 use Rattle.reenc_recovery.proofs.TableLemmas.{settled, settled-synced}
 use Rattle.reenc_recovery.proofs.WritingLemmas.{repair_place}
@@ -68,17 +68,6 @@ opened_of {C} sector sealed opened sizes key old made volume is opening =
 module _ {C : Type 0} (sector : C → ℕ) (sealed opened : C → ℕ → List ℕ → List ℕ) (sizes : Sizes)
     (key : Option (List ℕ)) (header : Stored) (p : Placement) (keys : Keys C)
     (passed : HasPassed sector sealed opened sizes key header p keys) where
-  -- nothing was written
-  holds_unwritten : (first : List ℕ) → stored_in sizes (front_of sizes first) ≡ Ok header
-      → HoldsOn sizes header first first
-  holds_unwritten first held = record {
-    was = held;
-    stored = header;
-    held = held;
-    same = refl;
-    behind = refl;
-  }
-
   -- what the disks hold after the repair's calls
   pub holds_after : IsReader header_reader → MeanTheSame → UsedStands → LoadsByMeaning
       → (repair : Option Repair) (old : Joint) (new : Device)
@@ -90,7 +79,7 @@ module _ {C : Type 0} (sector : C → ℕ) (sealed opened : C → ℕ → List �
   holds_after is_reader mean stands loads None old new shows asked run first is held = (
     first,
     ap (λ (d : Device). d.values) run.run ∙ values_read old run.read run.first ∙ is,
-    holds_unwritten first held,
+    holds_unwritten sizes header first held,
   )
   holds_after is_reader mean stands loads (Some repair) old new shows asked run first is held =
       let last = run.run in
@@ -113,20 +102,6 @@ module _ {C : Type 0} (sector : C → ℕ) (sealed opened : C → ℕ → List �
   opening_at m same =
       subst (λ (n : Parts). IsOpening sector sealed opened n sizes key p keys) same passed.opening
 
-  keeps : OnePlacement → (first now : List ℕ) → HoldsOn sizes header first now
-      → KeepsContents sizes first now
-  keeps placed first now holds old new content =
-      let later = opening_at holds.stored.valid.meta (ap (λ (c : Checked). c.meta) (sym holds.same))
-      in (
-        stands_still placed sizes old new first now content header holds.stored p holds.was
-            passed.opening.placed passed.opening.right holds.held holds.same holds.behind,
-        stands_still placed sizes old new now first content holds.stored header p holds.held
-            later.placed later.right holds.was (sym holds.same)
-            (subst (λ (m : Parts). drop (areas_begin m.config) first
-            ≡ drop (areas_begin m.config) now)
-            (ap (λ (c : Checked). c.meta) (sym holds.same)) (sym holds.behind)),
-      )
-
   -- the volume
   module _ (repair : Option Repair) (old : Joint) (new : Device) (lanes : ℕ)
       (atom : p.map.atom ≡ new.size)
@@ -147,7 +122,8 @@ module _ {C : Type 0} (sector : C → ℕ) (sealed opened : C → ℕ → List �
     )
 
     pub volume_of : IsReader header_reader → MeanTheSame → UsedStands → LoadsByMeaning
-        → OnePlacement → ShowsSizes sizes (joined_disk old) → IsRepairFor header.copies repair
+        → ContentsStay → ContentsStayFor → ShowsSizes sizes (joined_disk old)
+        → IsRepairFor header.copies repair
         → ((first : List ℕ) → (joined_disk old).values ≡ Some first
         → stored_in sizes (front_of sizes first) ≡ Ok header)
         → ((now : List ℕ) → IsOpened sector sealed opened sizes key now volume
@@ -155,7 +131,7 @@ module _ {C : Type 0} (sector : C → ℕ) (sealed opened : C → ℕ → List �
         → length now ≡ volume.disk.atoms * volume.map.atom → AreBytes now
         → StartsAsImage sealed opened sizes key now volume)
         → IsOpenedOf sector sealed opened sizes key old volume
-    volume_of is_reader mean stands loads placed shows asked found start = record {
+    volume_of is_reader mean stands loads stay stay_for shows asked found start = record {
       header = header;
       placement = p;
       opening = passed.opening;
@@ -177,12 +153,12 @@ module _ {C : Type 0} (sector : C → ℕ) (sealed opened : C → ℕ → List �
             map = refl;
           } in
           record {
-            was = found first is;
             now = now;
             values = has.1;
             still = still;
             settled = tells_settled now has.1;
-            keeps = keeps placed first now holds;
+            stands = stands_as stay stay_for sizes header p first now passed.opening.placed
+                passed.opening.right passed.sound holds;
             starts = start now still has.1
                 (long now has.1 ∙ ap (λ n. new.atoms * n) (sym atom)) (bytes now has.1);
           });

@@ -1,8 +1,9 @@
 -- What an image of a volume's disks stands for: a content, block by block. The image is the bytes
 -- of both disks, the header's in front where it has one of its own. No code computes this.
-use Rattle.std.specs.Prelude.{ℕ, ◌≡◌, ◌<◌, List, length, Some, Ok}
+use Rattle.std.specs.Prelude.{ℕ, ◌≡◌, ◌<◌, ◌↔◌, List, length, drop, Some, Ok}
 use Rattle.disk_sizes.specs.declared.Sizes.{Sizes}
 use Rattle.disk_views.specs.Parts.{block_at, value_in}
+use Rattle.luks_rules.specs.Areas.{areas_begin}
 use Rattle.luks_store.specs.Devices.{front_of}
 use Rattle.luks_store.specs.Loads.{stored_in}
 use Rattle.luks_store.specs.declared.loaded.Stored.{Stored}
@@ -51,3 +52,27 @@ pub record StandsFor (sizes : Sizes) (pass image : List ℕ) (content : List (Li
     pub stands : StandsUnder sizes old new image content
     pub old_is : key_for stands.stored.valid.meta image pass stands.placement.old ≡ Some old
     pub new_is : key_for stands.stored.valid.meta image pass stands.placement.new ≡ Some new
+
+-- ---- two images
+-- The first holds this header. The other holds one of the same metadata, and behind both copies
+-- what the first has there.
+pub record HoldsOn (sizes : Sizes) (header : Stored) (first now : List ℕ) : Type 0 where
+  pub was : stored_in sizes (front_of sizes first) ≡ Ok header
+  pub stored : Stored
+  pub held : stored_in sizes (front_of sizes now) ≡ Ok stored
+  pub same : stored.valid ≡ header.valid
+  pub behind : drop (areas_begin header.valid.meta.config) now
+      ≡ drop (areas_begin header.valid.meta.config) first
+
+-- what the first stands for, and nothing else, the other stands for: under the same keys, and under
+-- the same passphrase
+pub record KeepsContents (sizes : Sizes) (first now : List ℕ) : Type 0 where
+  pub keys : (old new : List ℕ) (content : List (List ℕ))
+      → StandsUnder sizes old new first content ↔ StandsUnder sizes old new now content
+  pub passphrase : (pass : List ℕ) (content : List (List ℕ))
+      → StandsFor sizes pass first content ↔ StandsFor sizes pass now content
+
+-- both
+pub record StandsAs (sizes : Sizes) (header : Stored) (first now : List ℕ) : Type 0 where
+  pub holds : HoldsOn sizes header first now
+  pub keeps : KeepsContents sizes first now

@@ -4,6 +4,7 @@ use Rattle.disk_sizes.specs.declared.Sizes.{Sizes}
 use Rattle.disk_views.specs.Parts.{value_in}
 use Rattle.luks_json.specs.declared.meta.Parts.{Parts}
 use Rattle.luks_rules.specs.Areas.{areas_begin, header_bytes}
+use Rattle.luks_rules.specs.States.{IsSound}
 use Rattle.luks_store.specs.Devices.{front_of}
 use Rattle.luks_store.specs.Loads.{IsStored, stored_in}
 use Rattle.luks_store.specs.declared.loaded.Stored.{Stored}
@@ -43,6 +44,7 @@ pub record HasPassed {C : Type 0} (sector : C → ℕ) (sealed opened : C → �
     Type 0 where
   pub stored : IsStored header
   pub sizes_are : header.valid.sizes ≡ sizes
+  pub sound : IsSound header.valid.meta sizes
   pub begin : areas_begin header.valid.meta.config ≡ 2 * header.copies.used.header.hdr_size
   pub room : 2 * header.copies.used.header.hdr_size ≤ header_bytes sizes
   pub opening : IsOpening sector sealed opened header.valid.meta sizes key p keys

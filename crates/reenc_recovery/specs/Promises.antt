@@ -1,33 +1,50 @@
 -- What is promised of images, and of what a repair leaves.
-use Rattle.std.specs.Prelude.{ℕ, ◌≡◌, Bool, true, false, List, length, take, drop, Ok}
+use Rattle.std.specs.Prelude.{ℕ, ◌≡◌, ◌↔◌, Bool, true, false, List, length, take, drop, Ok}
 use Rattle.base_terms.specs.Blocks.{joined}
 use Rattle.disk_areas.specs.Commits.{TriesCopy, WritesCopy, other}
 use Rattle.disk_areas.specs.Headers.{Copy, Handed, Header, IsLaidOut, Layout, byte_of, text_of}
 use Rattle.disk_sizes.specs.declared.Sizes.{Sizes}
 use Rattle.disk_views.specs.Views.{IsSynced, IsThinned, view_of_cells}
+use Rattle.luks_rules.specs.States.{IsSound}
 use Rattle.luks_store.specs.Devices.{front_of, IsCertain}
 use Rattle.luks_store.specs.Loads.{IsStored, stored_in}
 use Rattle.luks_store.specs.declared.loaded.Stored.{Stored}
 use Rattle.reenc_meta.specs.Placements.{IsPlacementOf}
 use Rattle.reenc_meta.specs.Places.{IsRightFor}
 use Rattle.reenc_meta.specs.declared.placement.Placement.{Placement}
-use Rattle.reenc_recovery.specs.Images.{StandsUnder}
+use Rattle.reenc_recovery.specs.Images.{HoldsOn, StandsFor, StandsUnder}
 use Rattle.reenc_recovery.specs.Repairing.{IsLeft, IsRepaired, ShowsRepairOf}
 use Rattle.sector_disk.specs.Cells.{AreSized, Cell}
 
--- Each image that a stop leaves of a disk during a repair stands for what the bytes of the disk
--- stood for before it, under the same keys.
-abbrev pub RepairsKeepContents : Type 0
-RepairsKeepContents =
+-- What is written in front of the keyslots' areas leaves what an image stands for under the keys of
+-- its sides, as long as its header says the same. `p` is where the header places the volume.
+abbrev pub ContentsStay : Type 0
+ContentsStay =
+    (sizes : Sizes) (header : Stored) (p : Placement) (first now : List ℕ)
+    → IsPlacementOf header.valid.meta sizes p → IsRightFor header.valid.meta sizes p
+    → HoldsOn sizes header first now → (old new : List ℕ) (content : List (List ℕ))
+    → StandsUnder sizes old new first content ↔ StandsUnder sizes old new now content
+
+-- and under a passphrase
+abbrev pub ContentsStayFor : Type 0
+ContentsStayFor =
+    (sizes : Sizes) (header : Stored) (p : Placement) (first now : List ℕ)
+    → IsPlacementOf header.valid.meta sizes p → IsRightFor header.valid.meta sizes p
+    → IsSound header.valid.meta sizes → HoldsOn sizes header first now
+    → (pass : List ℕ) (content : List (List ℕ))
+    → StandsFor sizes pass first content ↔ StandsFor sizes pass now content
+
+-- Each image that a stop leaves of a disk during a repair holds the metadata that the bytes of the
+-- disk held before it, and behind both copies what these had there.
+abbrev pub RepairsHoldOn : Type 0
+RepairsHoldOn =
     (sizes : Sizes) (stored : Stored) (header : Header (List ℕ)) (layout : Layout) (handed : Handed)
     (bad : Copy) (written broken : Bool) (first : List ℕ) (cells : List Cell)
     (image : List (List ℕ)) → IsRepaired sizes stored header layout handed
     → ShowsRepairOf sizes layout header bad written broken first cells
     → AreSized sizes.atom cells → IsLeft sizes header handed cells image → IsStored stored
-    → (old new : List ℕ) (contents : List (List ℕ)) (p : Placement)
     → stored_in sizes (front_of sizes first) ≡ Ok stored
-    → IsPlacementOf stored.valid.meta sizes p → IsRightFor stored.valid.meta sizes p
-    → StandsUnder sizes old new first contents → StandsUnder sizes old new (joined image) contents
+    → HoldsOn sizes stored first (joined image)
 
 -- The calls of a repair lead from what it shows to what it shows; one that fails leaves what a stop
 -- may leave.

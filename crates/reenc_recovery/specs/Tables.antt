@@ -12,6 +12,7 @@ use Rattle.joined_disk.specs.Joined.{Joint, joined_disk}
 use Rattle.luks_copies.specs.Meanings.{header_of, header_reader}
 use Rattle.luks_copies.specs.declared.repair.Repair.{Repair}
 use Rattle.luks_rules.specs.Areas.{areas_begin, header_bytes}
+use Rattle.luks_rules.specs.States.{IsSound}
 use Rattle.luks_store.specs.Devices.{front_of}
 use Rattle.luks_store.specs.Loads.{IsStored, stored_in}
 use Rattle.luks_store.specs.declared.loaded.Stored.{Stored}
@@ -19,7 +20,7 @@ use Rattle.reenc_meta.specs.Placements.{IsPlacementOf}
 use Rattle.reenc_meta.specs.Places.{IsRightFor}
 use Rattle.reenc_meta.specs.declared.placement.Placement.{Placement}
 use Rattle.reenc_recovery.specs.Calls.{IsRepairFor, OpeningRun, SyncsAndReads, TellsSized}
-use Rattle.reenc_recovery.specs.Images.{StandsUnder}
+use Rattle.reenc_recovery.specs.Images.{StandsAs}
 use Rattle.sector_disk.specs.Cells.{Cell, IsImage, content, currents, synced}
 use Rattle.sector_disk.specs.Devices.{Device}
 use Rattle.sector_disk.specs.Geometry.{IsAtom}
@@ -41,13 +42,13 @@ pub record IsSpared (sizes : Sizes) (stored : Stored) (cells : List Cell)
   pub genuine : IsGenuine header_reader stored.copies.used.header.hdr_size handed
       (front_of sizes (joined image))
 
--- Each such image of a table stands for what these bytes stand for, under the same keys.
+-- Each such image of a table holds the metadata that these bytes hold, and what they have behind
+-- both copies; it stands for what they stand for, under the same keys and the same passphrase.
 abbrev pub StandsStill : Sizes → List ℕ → List Cell → Type 0
 StandsStill sizes first cells =
     (stored : Stored) → stored_in sizes (front_of sizes first) ≡ Ok stored
     → (image : List (List ℕ)) → IsSpared sizes stored cells image
-    → (old new : List ℕ) (contents : List (List ℕ)) → StandsUnder sizes old new first contents
-    → StandsUnder sizes old new (joined image) contents
+    → StandsAs sizes stored first (joined image)
 
 -- ---- tables
 -- The tables since an opening began: that of its first sync, by which each atom is certain, and
@@ -81,6 +82,7 @@ pub record IsFoundOn (sizes : Sizes) (header : Stored) (p : Placement) (repair :
     (device : Device) : Type 0 where
   pub stored : IsStored header
   pub sizes_are : header.valid.sizes ≡ sizes
+  pub sound : IsSound header.valid.meta sizes
   pub begin : areas_begin header.valid.meta.config ≡ 2 * header.copies.used.header.hdr_size
   pub room : 2 * header.copies.used.header.hdr_size ≤ header_bytes sizes
   pub placed : IsPlacementOf header.valid.meta sizes p

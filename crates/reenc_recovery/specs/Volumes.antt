@@ -1,9 +1,8 @@
 -- What a volume is that was opened, and what an opening leaves that made none.
-use Rattle.std.specs.Prelude.{◌≡◌, ◌⊎◌, ◌↔◌, ℕ, false, List, drop, Option, Some, Ok}
+use Rattle.std.specs.Prelude.{◌≡◌, ◌⊎◌, ℕ, false, List, Option, Some, Ok}
 use Rattle.disk_sizes.specs.declared.Sizes.{Sizes}
 use Rattle.joined_disk.specs.Joined.{Joint, joined_disk}
 use Rattle.luks_copies.specs.declared.repair.Repair.{Repair}
-use Rattle.luks_rules.specs.Areas.{areas_begin}
 use Rattle.luks_rules.specs.Segments.{in_progress}
 use Rattle.luks_store.specs.Devices.{front_of}
 use Rattle.luks_store.specs.Loads.{stored_in}
@@ -11,7 +10,7 @@ use Rattle.luks_store.specs.declared.loaded.Stored.{Stored}
 use Rattle.reenc_meta.specs.Placements.{IsPlacementOf}
 use Rattle.reenc_meta.specs.declared.placement.Placement.{Placement}
 use Rattle.reenc_recovery.specs.Calls.{IsRepairFor, OpeningRun, SyncsAndReads}
-use Rattle.reenc_recovery.specs.Images.{StandsUnder}
+use Rattle.reenc_recovery.specs.Images.{StandsAs}
 use Rattle.reenc_recovery.specs.Keys.{IsKeyOf, used_by}
 use Rattle.reenc_recovery.specs.Openings.{IsOpened, IsOpening, StartsAsImage}
 use Rattle.reenc_recovery.specs.Tables.{TellsSince}
@@ -22,35 +21,18 @@ use Rattle.volume_laws.specs.Promises.{TellsSettled}
 use Rattle.volume_machine.specs.States.{State}
 use Rattle.volume_machine.specs.declared.keys.Keys.{Keys}
 
--- ---- what disks hold
--- They held this header, and hold one of the same metadata; behind both copies stands what stood
--- there.
-pub record HoldsOn (sizes : Sizes) (header : Stored) (first now : List ℕ) : Type 0 where
-  pub was : stored_in sizes (front_of sizes first) ≡ Ok header
-  pub stored : Stored
-  pub held : stored_in sizes (front_of sizes now) ≡ Ok stored
-  pub same : stored.valid ≡ header.valid
-  pub behind : drop (areas_begin header.valid.meta.config) now
-      ≡ drop (areas_begin header.valid.meta.config) first
-
--- what they stood for, and nothing else, they stand for, under the same keys
-abbrev pub KeepsContents : Sizes → List ℕ → List ℕ → Type 0
-KeepsContents sizes first now = (old new : List ℕ) (content : List (List ℕ))
-    → StandsUnder sizes old new first content ↔ StandsUnder sizes old new now content
-
 -- ---- a volume that was opened
 -- Its disks held this header when the opening began. It is one that is opened of what they hold
--- now, for certain, and this stands for what they stood for then; runs start from it as from the
--- plain disk of this content.
+-- now, for certain, and this holds the same metadata and stands for what they stood for then; runs
+-- start from it as from the plain disk of this content.
 pub record IsVolumeOf {C : Type 0} (sector : C → ℕ) (sealed opened : C → ℕ → List ℕ → List ℕ)
     (sizes : Sizes) (key : Option (List ℕ)) (header : Stored) (first : List ℕ)
     (volume : State (Keys C)) : Type 0 where
-  pub was : stored_in sizes (front_of sizes first) ≡ Ok header
   pub now : List ℕ
   pub values : volume.disk.values ≡ Some now
   pub still : IsOpened sector sealed opened sizes key now volume
   pub settled : TellsSettled volume now
-  pub keeps : KeepsContents sizes first now
+  pub stands : StandsAs sizes header first now
   pub starts : StartsAsImage sealed opened sizes key now volume
 
 -- A volume was opened of disks, under this key: it lies where their header says, and its keys are

@@ -1,6 +1,7 @@
 // The checks of an opening, which come before anything is written.
 
 ghost use Rattle.std.specs.Prelude.{◌≡◌, true, IfErr, IfOk};
+ghost use Rattle.luks_rules.specs.States.{IsSound};
 ghost use Rattle.reenc_meta.specs.Placements.{all_atoms};
 ghost use Rattle.reenc_recovery.specs.Causes.{IsRefusedVolume};
 ghost use Rattle.reenc_recovery.specs.Keys.{tweak_by};
@@ -43,9 +44,11 @@ pub(crate) fn judge_volume(
         ⟦<Context as SectorCipher>⟧.sealed ⟦<Context as SectorCipher>⟧.opened
         valid.now.meta valid.now.sizes keys.now.new o.placement o.keys) }
     ensures closed { IfOk result (λ o. o.placement.map.zone ≡ 0) }
+    ensures sound { IfOk result (λ _. IsSound valid.now.meta valid.now.sizes) }
     ensures refused { IfErr result
         (IsRefusedVolume valid.now.meta valid.now.sizes keys.now.new) }
 {
+    valid.is_sound();
     let Some(placement) = place_idle(valid) else {
         return Err(OpenCause::InProgress);
     };

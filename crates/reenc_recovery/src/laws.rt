@@ -1,19 +1,12 @@
 // Laws of images and of opened volumes, with nothing to run.
 
-ghost use Rattle.std.specs.Prelude.{◌≡◌, ◌*◌, ℕ, List, Option, Some, Ok, drop, length};
+ghost use Rattle.std.specs.Prelude.{◌≡◌, ◌*◌, ℕ, List, Option, Some, length};
 ghost use Rattle.cipher_laws.specs.Bytes.{AreBytes};
 ghost use Rattle.disk_sizes.specs.declared.Sizes.{Sizes};
-ghost use Rattle.luks_rules.specs.Areas.{areas_begin};
-ghost use Rattle.luks_store.specs.Devices.{front_of};
-ghost use Rattle.luks_store.specs.Loads.{stored_in};
-ghost use Rattle.luks_store.specs.declared.loaded.Stored.{Stored};
-ghost use Rattle.reenc_meta.specs.Placements.{IsPlacementOf};
-ghost use Rattle.reenc_meta.specs.Places.{IsRightFor};
-ghost use Rattle.reenc_meta.specs.declared.placement.Placement.{Placement as placement};
 ghost use Rattle.reenc_recovery.specs.Images.{StandsFor, StandsUnder};
 ghost use Rattle.reenc_recovery.specs.Openings.{IsOpened, StartsAsImage};
-ghost use Rattle.reenc_recovery.specs.Promises.{RepairsBegin, RepairsGoOn};
-ghost use Rattle.reenc_recovery.specs.Promises.{RepairsKeepContents};
+ghost use Rattle.reenc_recovery.specs.Promises.{ContentsStay, ContentsStayFor};
+ghost use Rattle.reenc_recovery.specs.Promises.{RepairsBegin, RepairsGoOn, RepairsHoldOn};
 ghost use Rattle.reenc_recovery.specs.Tables.{OpeningsKeepContents, ReadsKeepContents};
 ghost use Rattle.volume_machine.specs.Beginnings.{IsFresh};
 ghost use Rattle.volume_machine.specs.Sound.{IsSound};
@@ -23,6 +16,7 @@ ghost use Rattle.volume_machine.specs.declared.keys.Keys.{Keys};
 use cipher_laws::SectorCipher;
 use disk_areas::{images_are_taken, repairs_keep_headers};
 use luks_copies::{calls_are_seen, copies_are_read, copies_mean_what_they_share};
+use luks_slots::keys_are_behind_headers;
 use luks_store::{metadata_go_by_meaning, used_copies_are_headers};
 use reenc_meta::placements_are_one;
 use volume_laws::{keys_seal_lawfully, volumes_start};
@@ -38,40 +32,36 @@ pub fn images_stand_for_one()
     placements_are_one();
 }
 
-/// What is written in front of the keyslots' areas leaves what an image stands for under the keys
-/// of its sides, as long as its header says the same: so it is with each call of a repair. `p` is
-/// where the header places the volume.
+/// What is written in front of the keyslots' areas leaves what an image stands for, under the keys
+/// of its sides and under a passphrase, as long as its header says the same: so it is with each
+/// call of a repair.
 pub fn contents_stay_behind_headers()
-    ensures { (sizes : Sizes) (old new first image : List ℕ) (content : List (List ℕ))
-        (stored now : Stored) (p : placement) →
-        stored_in sizes (front_of sizes first) ≡ Ok stored →
-        IsPlacementOf stored.valid.meta sizes p → IsRightFor stored.valid.meta sizes p →
-        stored_in sizes (front_of sizes image) ≡ Ok now → now.valid ≡ stored.valid →
-        drop (areas_begin stored.valid.meta.config) image
-        ≡ drop (areas_begin stored.valid.meta.config) first →
-        StandsUnder sizes old new first content → StandsUnder sizes old new image content }
+    ensures keys { ContentsStay }
+    ensures passphrase { ContentsStayFor }
 {
     placements_are_one();
+    keys_are_behind_headers();
 }
 
-/// Each image that a stop leaves of a repair stands for what the disk's bytes stood for before it,
-/// as long as no torn copy of the header is valid; and the repair's calls lead from what is known
-/// of the disk to what is known of it.
+/// Each image that a stop leaves of a repair holds the metadata that the disk's bytes held before
+/// it, and behind both copies what these had there, as long as no torn copy of the header is valid;
+/// so it stands for the same, [`contents_stay_behind_headers`]. And the repair's calls lead from
+/// what is known of the disk to what is known of it.
 pub fn repairs_keep_contents()
     ensures begins { RepairsBegin }
-    ensures each { RepairsKeepContents }
+    ensures each { RepairsHoldOn }
     ensures goes_on { RepairsGoOn }
 {
     copies_are_read();
     images_are_taken();
     repairs_keep_headers();
     metadata_go_by_meaning();
-    placements_are_one();
 }
 
 /// While a volume is opened each image of each table that its disks tell, from that of the first
-/// sync on, stands for what their bytes stood for when the opening began, as long as no torn copy
-/// of the header is valid: behind the reads, and behind each call of a repair, done or failed.
+/// sync on, stands for what their bytes stood for when the opening began, under the same keys and
+/// the same passphrase, as long as no torn copy of the header is valid: behind the reads, and
+/// behind each call of a repair, done or failed.
 pub fn openings_keep_contents()
     ensures reads { ReadsKeepContents }
     ensures repairs { OpeningsKeepContents }
@@ -79,6 +69,7 @@ pub fn openings_keep_contents()
     calls_are_seen();
     copies_mean_what_they_share();
     used_copies_are_headers();
+    contents_stay_behind_headers();
     repairs_keep_contents();
 }
 

@@ -44,8 +44,8 @@ pub returns-in-Ok-repair-clause-passed : goal.returns-in-Ok-repair-clause-passed
 returns-in-Ok-repair-clause-passed g c =
     has_passed _ _ _ (sizes_of c.args.disk.now) c.args.keys.now.new c.in-Ok.header
     c.valid.result.now c.in-Ok-judge_volume.opening.placement c.in-Ok-judge_volume.opening.keys
-    c.valid.ensures c.is_stored.ensures.stored c.in-Ok.ensures.sized c.is_stored.ensures.size
-    c.is_stored.ensures.room
+    c.valid.ensures c.is_stored.ensures.stored c.in-Ok.ensures.sized
+    c.in-Ok-judge_volume.ensures.sound c.is_stored.ensures.size c.is_stored.ensures.room
     (subst (λ (z : Sizes). header_room z ≡ header_bytes z) c.sizes-sizes.ensures.is
     (room_of c.sizes-sizes.result c.sizes-sizes.ensures.alone))
     c.in-Ok-judge_volume.ensures.opens c.in-Ok-judge_volume.ensures.closed

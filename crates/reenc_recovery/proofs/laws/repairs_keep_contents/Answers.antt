@@ -1,6 +1,6 @@
 use Rattle.reenc_recovery.proofs.BeginLemmas.{begins}
 use Rattle.reenc_recovery.proofs.RepairGoesLemmas.{repair_goes_on}
-use Rattle.reenc_recovery.proofs.RepairLemmas.{repair_stands}
+use Rattle.reenc_recovery.proofs.RepairLemmas.{repair_holds}
 use Rattle.reenc_recovery.proofs.laws.repairs_keep_contents.Goals as goal
 
 pub returns-clause-begins : goal.returns-clause-begins
@@ -17,8 +17,7 @@ returns-clause-goes_on c =
 pub returns-clause-each : goal.returns-clause-each
 returns-clause-each c =
     λ sizes stored header layout handed bad written broken first cells image repaired shows sized
-    left is_stored old new contents p held is right stands.
-    repair_stands sizes stored header layout handed bad written broken first cells image repaired
+    left is_stored held.
+    repair_holds sizes stored header layout handed bad written broken first cells image repaired
     shows sized left c.copies_are_read.ensures c.images_are_taken.ensures
-    c.repairs_keep_headers.ensures.gives c.metadata_go_by_meaning.ensures.loads
-    c.placements_are_one.ensures is_stored old new contents p held is right stands
+    c.repairs_keep_headers.ensures.gives c.metadata_go_by_meaning.ensures.loads is_stored held

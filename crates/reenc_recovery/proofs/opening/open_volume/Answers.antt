@@ -237,7 +237,8 @@ returns-clause-opened g c =
     c.disks_tell_lawfully-2.ensures.even c.disks_tell_lawfully-2.ensures.whole
     c.disks_tell_lawfully-2.ensures.bytes c.copies_are_read.ensures
     c.copies_mean_what_they_share.ensures c.used_copies_are_headers.ensures.stands
-    c.metadata_go_by_meaning.ensures.loads c.placements_are_one.ensures shows is.asked is.held
+    c.metadata_go_by_meaning.ensures.loads c.contents_stay_behind_headers.ensures.keys
+    c.contents_stay_behind_headers.ensures.passphrase shows is.asked is.held
     (λ now still values long bytes.
     c.opened_volumes_start.ensures (sizes_of c.args.disk) c.args.keys.now.new now _ still
     (subst (λ v. IsSound v) volume c.opened.ensures.sound)
