@@ -52,20 +52,18 @@ pub record IsOpenedOf {C : Type 0} (sector : C → ℕ) (sealed opened : C → �
 
 -- ---- an opening that made none
 -- The disks weren't called: memory for the lanes was wanted.
-abbrev pub IsUncalled : Joint → Device → OpenCause → Type 0
-IsUncalled old new cause = (new ≡ joined_disk old) × (cause ≡ causes.Memory)
+abbrev pub IsUncalled : Joint → Joint → OpenCause → Type 0
+IsUncalled old new cause = (new ≡ old) × (cause ≡ causes.Memory)
 
 -- The first sync failed.
-abbrev pub IsUnsynced : Joint → Device → OpenCause → Type 0
+abbrev pub IsUnsynced : Joint → Joint → OpenCause → Type 0
 IsUnsynced old new cause =
-    SyncCall (joined_disk old) new failed_call × (cause ≡ causes.Device)
+    SyncCall (joined_disk old) (joined_disk new) failed_call × (cause ≡ causes.Device)
 
 -- The disks were synced, and then only read.
-pub record IsOnlyRead (sizes : Sizes) (old : Joint) (new : Device) : Type 0 where
-  pub read : Joint
-  pub first : SyncsAndReads old read
-  pub same : new ≡ joined_disk read
-  pub tables : TellsSince sizes (joined_disk old) new
+pub record IsOnlyRead (sizes : Sizes) (old new : Joint) : Type 0 where
+  pub calls : SyncsAndReads old new
+  pub tables : TellsSince sizes (joined_disk old) (joined_disk new)
 
 -- All checks passed, and a call of the repair that the header asks for failed: nothing is being
 -- converted by the header, which places the volume, and the key is that of its segment's digest.
@@ -84,8 +82,10 @@ pub record IsUnrepaired (sizes : Sizes) (key : Option (List ℕ)) (old : Joint) 
   pub by : cause ≡ causes.Device
   pub tables : TellsSince sizes (joined_disk old) new
 
-abbrev pub IsUnopened : Sizes → Option (List ℕ) → Joint → Device → OpenCause → Type 0
-IsUnopened sizes key old new cause =
-    IsUncalled old new cause
-    ⊎ (IsUnsynced old new cause
-    ⊎ (IsOnlyRead sizes old new ⊎ IsUnrepaired sizes key old new cause))
+-- What is left of disks that had the first of these sizes and have the second. Where nothing was
+-- written they are the same; where a call of the repair failed nothing is said of them.
+abbrev pub IsUnopened : Sizes → Sizes → Option (List ℕ) → Joint → Joint → OpenCause → Type 0
+IsUnopened sizes later key old new cause =
+    ((later ≡ sizes)
+    × (IsUncalled old new cause ⊎ (IsUnsynced old new cause ⊎ IsOnlyRead sizes old new)))
+    ⊎ IsUnrepaired sizes key old (joined_disk new) cause

@@ -36,6 +36,7 @@ pub(crate) fn check<D: Disk>(
     keys: &SideKeys,
 ) -> Result<Checked, OpenCause>
     ensures unwritten { IsUnwritten (joint_in disk.old) (joint_in disk.new) }
+    ensures sizes { sizes_of disk.new ≡ sizes_of disk.old }
     ensures passed { IfOk result (λ c. HasPassed ⟦<Context as SectorCipher>⟧.sector
         ⟦<Context as SectorCipher>⟧.sealed ⟦<Context as SectorCipher>⟧.opened
         (sizes_of disk.old) keys.now.new c.header c.opening.placement c.opening.keys) }

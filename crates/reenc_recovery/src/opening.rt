@@ -51,8 +51,8 @@ pub fn open_volume<D: Disk>(
         (λ volume. volume ≡ new_volume volume.map volume.keys lanes volume.disk) }
     ensures fresh { IfOk result IsFresh }
     ensures sound { IfOk result IsSound }
-    ensures unopened { IfErr result (λ fault. IsUnopened (sizes_of disk) keys.now.new
-        (joint_in disk) (device_of fault.disk) fault.cause) }
+    ensures unopened { IfErr result (λ fault. IsUnopened (sizes_of disk) (sizes_of fault.disk)
+        keys.now.new (joint_in disk) (joint_in fault.disk) fault.cause) }
     ensures cause { IfErr result
         (λ fault. HasCauseIn (device_of disk) (device_of fault.disk) fault.cause) }
     ensures refused { IfErr result (λ fault. (all : List ℕ) → (device_of disk).values ≡ Some all →

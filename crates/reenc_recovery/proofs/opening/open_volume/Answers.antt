@@ -18,7 +18,7 @@ use Rattle.volume_machine.specs.Sound.{IsSound, MapFits}
 
 -- memory for the lanes was wanted
 pub returns-in-Err-clause-unopened : goal.returns-in-Err-clause-unopened
-returns-in-Err-clause-unopened g c = inl (refl, refl)
+returns-in-Err-clause-unopened g c = inl (refl, inl (refl, refl))
 
 pub returns-in-Err-clause-cause : goal.returns-in-Err-clause-cause
 returns-in-Err-clause-cause g c = tt
@@ -28,7 +28,8 @@ returns-in-Err-clause-refused g c = λ all is. tt
 
 -- the first sync failed
 pub returns-in-Err-sync-clause-unopened : goal.returns-in-Err-sync-clause-unopened
-returns-in-Err-sync-clause-unopened g c = inr (inl (c.in-Err-sync.ensures.call, refl))
+returns-in-Err-sync-clause-unopened g c =
+    inl (c.in-Err-sync.ensures.sizes, inr (inl (c.in-Err-sync.ensures.call, refl)))
 
 pub returns-in-Err-sync-clause-cause : goal.returns-in-Err-sync-clause-cause
 returns-in-Err-sync-clause-cause g c = c.in-Err-sync.ensures.call.cause.failed refl
@@ -44,13 +45,15 @@ returns-in-Err-check-clause-unopened g c =
       sync = c.in-Ok-sync.ensures.call;
       unwritten = c.in-Err-check.ensures.unwritten;
     } in
-    inr (inr (inl (record {
-      read = joint_in c.check.new.disk;
-      first = first;
-      same = refl;
-      tables = c.openings_keep_contents.ensures.reads (sizes_of c.args.disk) (joint_in c.args.disk)
-          (joint_in c.check.new.disk) first;
-    })))
+    let sizes = c.in-Err-check.ensures.sizes ∙ c.in-Ok-sync.ensures.sizes in
+    inl (
+      sizes,
+      inr (inr (record {
+        calls = first;
+        tables = c.openings_keep_contents.ensures.reads (sizes_of c.args.disk) (joint_in c.args.disk)
+            (joint_in c.check.new.disk) first;
+      })),
+    )
 
 pub returns-in-Err-check-clause-cause : goal.returns-in-Err-check-clause-cause
 returns-in-Err-check-clause-cause g c =
@@ -116,12 +119,11 @@ returns-in-Err-mend-clause-unopened g c =
     c.in-Ok-sync.ensures.sizes c.in-Ok-sync.ensures.call c.in-Ok-check.ensures.unwritten
     c.in-Ok-check.ensures.passed c.in-Ok-check.ensures.repair c.in-Ok-check.ensures.fits
     c.in-Ok-check.ensures.held in
-    inr (inr
-    (inr (unrepaired _ _ _ (sizes_of c.args.disk) c.args.keys.now.new checked.header
+    inr (unrepaired _ _ _ (sizes_of c.args.disk) c.args.keys.now.new checked.header
     checked.opening.placement
     checked.opening.keys checked.repair (joint_in c.args.disk) (joint_in c.check.new.disk) is
     c.openings_keep_contents.ensures.repairs shows (device_of c.mend.new.disk)
-    c.in-Err-mend.ensures.run c.disks_tell_lawfully-in-Err-mend.ensures.sized)))
+    c.in-Err-mend.ensures.run c.disks_tell_lawfully-in-Err-mend.ensures.sized)
 
 pub returns-in-Err-mend-clause-cause : goal.returns-in-Err-mend-clause-cause
 returns-in-Err-mend-clause-cause g c =
