@@ -10,6 +10,7 @@ mod MendLemmas
 mod OpenCauseLemmas
 mod OpenLemmas
 mod OpenedLemmas
+mod PassphraseLemmas
 mod RepairGoesLemmas
 mod RepairLemmas
 mod RepairTableLemmas

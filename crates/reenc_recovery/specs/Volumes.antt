@@ -3,6 +3,7 @@ use Rattle.std.specs.Prelude.{◌≡◌, ◌⊎◌, ℕ, false, List, Option, So
 use Rattle.disk_sizes.specs.declared.Sizes.{Sizes}
 use Rattle.joined_disk.specs.Joined.{Joint, joined_disk}
 use Rattle.luks_copies.specs.declared.repair.Repair.{Repair}
+use Rattle.luks_json.specs.declared.meta.Parts.{Parts}
 use Rattle.luks_rules.specs.Segments.{in_progress}
 use Rattle.luks_store.specs.Devices.{front_of}
 use Rattle.luks_store.specs.Loads.{stored_in}
@@ -11,7 +12,7 @@ use Rattle.reenc_meta.specs.Placements.{IsPlacementOf}
 use Rattle.reenc_meta.specs.declared.placement.Placement.{Placement}
 use Rattle.reenc_recovery.specs.Calls.{IsRepairFor, OpeningRun, SyncsAndReads}
 use Rattle.reenc_recovery.specs.Images.{StandsAs}
-use Rattle.reenc_recovery.specs.Keys.{IsKeyOf, used_by}
+use Rattle.reenc_recovery.specs.Keys.{IsKeyOf, key_for, used_by}
 use Rattle.reenc_recovery.specs.Openings.{IsOpened, IsOpening, StartsAsImage}
 use Rattle.reenc_recovery.specs.Tables.{TellsSince}
 use Rattle.reenc_recovery.specs.declared.fault.OpenCause.{OpenCause}
@@ -34,6 +35,14 @@ pub record IsVolumeOf {C : Type 0} (sector : C → ℕ) (sealed opened : C → �
   pub settled : TellsSettled volume now
   pub stands : StandsAs sizes header first now
   pub starts : StartsAsImage sealed opened sizes key now volume
+
+-- where metadata place a volume, a key that was handed in is the one that an image's keyslots give
+-- to a passphrase for the segment of each side
+abbrev pub AreUnlocked : Sizes → Parts → List ℕ → List ℕ → Option (List ℕ) → Type 0
+AreUnlocked sizes m image pass key =
+    (p : Placement) → IsPlacementOf m sizes p
+    → (key_for m image pass p.old ≡ Some (used_by p.old.encryption key))
+    × (key_for m image pass p.new ≡ Some (used_by p.new.encryption key))
 
 -- A volume was opened of disks, under this key: it lies where their header says, and its keys are
 -- the ciphers of its segments under this key, which is that of their digest. The disks were synced,

@@ -3,11 +3,13 @@
 ghost use Rattle.std.specs.Prelude.{◌≡◌, ◌*◌, ℕ, List, Option, Some, length};
 ghost use Rattle.cipher_laws.specs.Bytes.{AreBytes};
 ghost use Rattle.disk_sizes.specs.declared.Sizes.{Sizes};
+ghost use Rattle.luks_store.specs.declared.loaded.Stored.{Stored};
 ghost use Rattle.reenc_recovery.specs.Images.{StandsFor, StandsUnder};
 ghost use Rattle.reenc_recovery.specs.Openings.{IsOpened, StartsAsImage};
 ghost use Rattle.reenc_recovery.specs.Promises.{ContentsStay, ContentsStayFor};
 ghost use Rattle.reenc_recovery.specs.Promises.{RepairsBegin, RepairsGoOn, RepairsHoldOn};
 ghost use Rattle.reenc_recovery.specs.Tables.{OpeningsKeepContents, ReadsKeepContents};
+ghost use Rattle.reenc_recovery.specs.Volumes.{AreUnlocked, IsVolumeOf};
 ghost use Rattle.volume_machine.specs.Beginnings.{IsFresh};
 ghost use Rattle.volume_machine.specs.Sound.{IsSound};
 ghost use Rattle.volume_machine.specs.States.{State};
@@ -84,4 +86,18 @@ pub fn opened_volumes_start<C: SectorCipher>()
 {
     keys_seal_lawfully::<C>();
     volumes_start::<C>();
+}
+
+/// The content from which runs of a volume start that was opened is what its disks stood for under
+/// a passphrase, where the key that was handed in is the one that their keyslots gave to it then.
+/// With what they stand for under it while the volume is opened, [`openings_keep_contents`], this
+/// is one content from the first sync on.
+pub fn opened_volumes_go_by_passphrases<C: SectorCipher>()
+    ensures { (sizes : Sizes) (key : Option (List ℕ)) (header : Stored) (first : List ℕ)
+        (volume : State (Keys C)) →
+        (is : IsVolumeOf C.sector C.sealed C.opened sizes key header first volume) →
+        (pass : List ℕ) → AreUnlocked sizes header.valid.meta first pass key →
+        StandsFor sizes pass first is.starts.content }
+{
+    placements_are_one();
 }

@@ -29,7 +29,7 @@ mod telling;
 pub use fault::{OpenCause, OpenFault};
 pub use keys::SideKeys;
 pub use laws::{
-    contents_stay_behind_headers, images_stand_for_one, opened_volumes_start,
-    openings_keep_contents, repairs_keep_contents,
+    contents_stay_behind_headers, images_stand_for_one, opened_volumes_go_by_passphrases,
+    opened_volumes_start, openings_keep_contents, repairs_keep_contents,
 };
 pub use opening::open_volume;
