@@ -11,7 +11,8 @@ use luks_store::StoreFault;
 use sector_disk::Disk;
 use std::alloc::AllocError;
 
-/// Why a volume isn't opened, in the order in which it is tested.
+/// Why a volume isn't opened: the first of the causes from `NoHeader` on that the disks and the key
+/// give, unless memory was wanted or a device call failed before.
 #[derive(Debug, Drop)]
 pub enum OpenCause {
     /// Memory ran out.
@@ -35,8 +36,9 @@ pub enum OpenCause {
     /// A conversion is under way.
     InProgress,
     /// A key that was handed in isn't the one of its segment's digest: what PBKDF2 computes of it,
-    /// which is nothing where there is no key, or none of a length for the segment's cipher, or the
-    /// digest's length is none of a key's digest; and the digest that is stored.
+    /// which is nothing where there is no key, and may be nothing where it has no length for the
+    /// segment's cipher, or the digest's length is none of a key's digest; and the digest that is
+    /// stored.
     KeyDiffers {
         computed: Bytes,
         stored: Bytes,

@@ -3,18 +3,19 @@
 //!
 //! The layer above may rely on one relation, `StandsFor`: an image of the disks stands for a
 //! content under a passphrase, block by block. No code computes it. An image stands for at most one
-//! content, [`images_stand_for_one`]. Under the same keys, what is written in front of the
-//! keyslots' areas leaves it, as long as the header says the same,
-//! [`contents_stay_behind_headers`], and so does each image that a stop leaves of a repair,
-//! [`repairs_keep_contents`], and of an opening's sync, reads and repair,
-//! [`openings_keep_contents`]. A volume that was opened by the header and a key of its disks is one
-//! from which runs start as from the plain disk of that content, [`opened_volumes_start`].
+//! content, [`images_stand_for_one`]. What is written in front of the keyslots' areas leaves it,
+//! under the same keys and under the same passphrase, as long as the header says the same,
+//! [`contents_stay_behind_headers`]. So it is with each image that a stop leaves of a repair,
+//! [`repairs_keep_contents`], and of an opening from its first sync on, [`openings_keep_contents`],
+//! as long as no torn copy of the header is valid and none stands in front of the second one. A
+//! volume that was opened by the header and a key of its disks is one from which runs start as from
+//! the plain disk of that content, [`opened_volumes_start`]; where the key is that of a passphrase
+//! it is the one that the disks stood for under this, [`opened_volumes_go_by_passphrases`].
 //!
 //! [`open_volume`] makes a volume of joined disks of which nothing is being converted: a sync, the
 //! reads of the header with all checks of it and of the key, and where a copy of the header lacks
 //! or is older the write of that copy, and a sync. Nothing is written before all checks have
-//! passed, and from the first sync on each image that a stop leaves stands for the same content
-//! under the same keys, as long as no torn copy of the header is valid.
+//! passed. Where no volume is opened it says why, and what is left of the disks.
 #![tactic(auto)]
 
 mod checking;

@@ -27,10 +27,10 @@ use std::alloc::{AllocError, Global};
 use volume_core::{Lanes, Volume};
 
 /// The volume that lies under the header of joined disks, of which nothing is being converted, with
-/// so many lanes, whose memory is taken first. The disks are synced; then the header is read and
-/// checked, and the key is compared with the digest of the segment; and last a copy of the header
-/// that lacks or is older is written anew, and synced. So each atom of the volume's disks is
-/// certain. Nothing is written before all checks have passed, and no memory is taken then. Where no
+/// so many lanes. The disks are synced; then the header is read and checked, and the key is
+/// compared with the digest of the segment; and last a copy of the header that lacks or is older is
+/// written anew, and synced. So each atom of the volume's disks is certain. Nothing is written
+/// before all checks have passed, and memory is never wanted once something was written. Where no
 /// volume is opened the disks are handed back; the keys are the caller's, whatever is answered.
 ///
 /// Whether a copy of the header could lie hidden in front of its second one isn't tested: there is
