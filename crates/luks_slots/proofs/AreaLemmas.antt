@@ -1,6 +1,6 @@
 -- The bytes of a new keyslot's area.
-use Rattle.std.proofs.Common.{◌≡◌, ℕ, zero, suc, ◌+◌, ◌-◌, ◌*◌, ◌<◌, ◌≤◌, List, ◌++◌, length, take}
-use Rattle.std.proofs.Common.{drop, replicate}
+use Rattle.std.proofs.Common.{◌≡◌, inl, inr, ℕ, zero, suc, ◌+◌, ◌-◌, ◌*◌, ◌<◌, ◌≤◌, List, ◌++◌}
+use Rattle.std.proofs.Common.{length, take, drop, replicate}
 use Rattle.std.proofs.Common.{refl, sym, ◌∙◌, ap, subst, arith}
 use Rattle.std.proofs.Math.Seq.{drop-append-add, take-append-add}
 use Rattle.std.proofs.lemmas.List.{drop-append-le, drop-drop, drop-replicate, length-append}
@@ -10,6 +10,12 @@ use Rattle.af_split.specs.Af.{chain, split_of, stripe_of}
 use Rattle.luks_slots.specs.NewSlots.{padded}
 use Rattle.luks_slots.specs.Stripes.{rounded, split_len}
 use Rattle.pbkdf2_hmac.specs.declared.Hash.{Hash}
+use Rattle.sector_disk.specs.Geometry.{IsAtom}
+
+-- an atom has bytes
+pub some-atom : (atom : ℕ) → IsAtom atom → 0 < atom
+some-atom atom (inl is) = omega (arith, is)
+some-atom atom (inr is) = omega (arith, is)
 
 -- the chain and the split look at no stripe behind those that they take in
 chain-front : (h : Hash) (size : ℕ) (xs ys : List ℕ) (n : ℕ) → n * size ≤ length xs

@@ -14,16 +14,18 @@ use Rattle.luks_json.specs.Names.{is_iterations}
 use Rattle.luks_json.specs.declared.digest.Digest.{Digest}
 use Rattle.luks_json.specs.declared.keyslot.Luks2.{Luks2}
 use Rattle.luks_json.specs.declared.meta.Parts.{Parts}
+use Rattle.luks_slots.proofs.AreaLemmas.{some-atom}
 use Rattle.luks_slots.proofs.GapLemmas.{least-rounded, not-before, whole-rounded}
 use Rattle.luks_slots.specs.Functions.{functions_of}
 use Rattle.luks_slots.specs.Gaps.{IsLowest}
 use Rattle.luks_slots.specs.NewSlots.{area_bytes, area_key_of, area_len, salt_len, slot_for}
-use Rattle.luks_slots.specs.NewSlots.{IsAdded}
+use Rattle.luks_slots.specs.NewSlots.{IsAdded, IsSlotAt}
 use Rattle.luks_slots.specs.Slots.{fits, functions_for}
 use Rattle.luks_slots.specs.Stripes.{area_key, rounded, sectors_len, split_len, stored_key}
 use Rattle.luks_slots.specs.Stripes.{stripes_in}
 use Rattle.luks_slots.specs.Unlocks.{key_in}
 use Rattle.luks_slots.specs.declared.functions.Functions.{Functions}
+use Rattle.luks_slots.specs.declared.new_slot.NewSlot.{NewSlot}
 use Rattle.pbkdf2_hmac.specs.declared.Hash.TheVariants.{Sha256}
 use Rattle.sector_cipher.specs.Context.{opened_under}
 use Rattle.sector_cipher.specs.declared.spec.Spec.TheVariants.{AesXtsPlain64}
@@ -106,42 +108,47 @@ within-pages n atom known some =
 pub iterations : (rounds : ℕ) → 1 ≤ rounds → rounds ≤ 268435456 → is_iterations rounds ≡ true
 iterations rounds some most = rw (le-leb 1 rounds some, le-leb rounds 268435456 most) refl
 
-pub added : (m : Parts) (atom : ℕ) (pass : List ℕ) (rounds : ℕ) (key drawn : List ℕ)
-    (offset size : ℕ) (keyslot : Luks2) (area : List ℕ)
-    → IsAtom atom → 0 < atom → is_iterations rounds ≡ true → 1 ≤ length key → length key ≤ 64
-    → ((i : ℕ) → slice_index (take salt_len drawn) i < 256) → size ≡ area_len (length key)
-    → IsLowest m [] atom size offset
+pub made : (offset atom : ℕ) (pass : List ℕ) (rounds : ℕ) (key drawn : List ℕ)
+    (keyslot : Luks2) (area : List ℕ)
+    → IsAtom atom → IsLuks2 keyslot
     → keyslot ≡ slot_for offset (length key) rounds (take salt_len drawn)
     → area ≡ area_bytes atom pass rounds key drawn
     → length area ≡ rounded (sectors_len (length key)) atom
     → merged Sha256 (length key) 4000 (take (split_len (length key))
     (opened_under AesXtsPlain64 (area_key_of pass drawn rounds) 512 0
     (take (sectors_len (length key)) area))) ≡ key
-    → IsAdded m atom pass rounds key drawn (record { keyslot = keyslot; area = area })
+    → IsSlotAt offset atom pass rounds key drawn (record { keyslot = keyslot; area = area })
 unfolding slot_for
-added m atom pass rounds key drawn offset size keyslot area known some count one most below sized
-    low is bytes long undone =
+made offset atom pass rounds key drawn keyslot area known text is bytes long undone =
+    let some = some-atom atom known in
     let at : keyslot.area.offset ≡ offset = ap (λ (s : Luks2). s.area.offset) is in
-    let own : keyslot ≡ slot_for keyslot.area.offset (length key) rounds (take salt_len drawn) =
-    is ∙ ap (λ o. slot_for o (length key) rounds (take salt_len drawn)) (sym at) in
     let room : keyslot.area.size ≡ area_len (length key) = ap (λ (s : Luks2). s.area.size) is in
-    let within = low.free.within in
-    let pages = not-before (split_len (length key)) 4096 (omega arith) in
-    let fits : offset < 2 ^ 64 = omega (arith, within, sized, pages, one) in
     let least = not-before (sectors_len (length key)) atom some in
     let most_bytes = within-pages (split_len (length key)) atom known some in
     record {
-      place = subst (λ n. IsLowest m [] atom n keyslot.area.offset) sized
-          (subst (λ o. IsLowest m [] atom size o) (sym at) low);
-      slot = own;
-      has_text = subst (λ (s : Luks2). IsLuks2 s) (sym is)
-          (has-text offset (length key) rounds (take salt_len drawn) fits most count below);
+      slot = is;
+      has_text = text;
       bytes = bytes;
       whole = subst (λ n. n % atom ≡ 0) (sym long)
           (whole-rounded (sectors_len (length key)) atom);
       within = omega (arith, long, room, most_bytes);
-      opens = λ other d image fit stands.
-          subst (λ (s : Luks2). key_in other d image pass s ≡ Some key) (sym own)
-          (opens other d image pass key drawn area keyslot.area.offset rounds fit stands
+      opens = λ m d image fit stands.
+          subst (λ (s : Luks2). key_in m d image pass s ≡ Some key) (sym is)
+          (opens m d image pass key drawn area offset rounds fit
+          (subst (λ o. take (length area) (drop o image) ≡ area) at stands)
           (omega (arith, long, least)) undone);
+    }
+
+-- a keyslot at the lowest place is an added one
+pub added : (m : Parts) (atom : ℕ) (pass : List ℕ) (rounds : ℕ) (key drawn : List ℕ)
+    (offset size : ℕ) (new : NewSlot) → size ≡ area_len (length key)
+    → IsLowest m [] atom size offset → IsSlotAt offset atom pass rounds key drawn new
+    → IsAdded m atom pass rounds key drawn new
+unfolding slot_for
+added m atom pass rounds key drawn offset size new sized low made =
+    let at : new.keyslot.area.offset ≡ offset = ap (λ (s : Luks2). s.area.offset) made.slot in
+    record {
+      place = subst (λ n. IsLowest m [] atom n new.keyslot.area.offset) sized
+          (subst (λ o. IsLowest m [] atom size o) (sym at) low);
+      made = subst (λ o. IsSlotAt o atom pass rounds key drawn new) (sym at) made;
     }

@@ -75,20 +75,24 @@ abbrev pub StandsIn : List ℕ → NewSlot → Type 0
 StandsIn image new = take (length new.area) (drop new.keyslot.area.offset image) ≡ new.area
 
 -- ---- answers
--- A keyslot that a passphrase opens to a key. Its area takes the lowest place that has room, in
--- whole atoms, and no byte behind it. Wherever its bytes stand there the passphrase unseals the key
--- from them, for each digest of whose segments the key can be one.
-pub record IsAdded (m : Parts) (atom : ℕ) (pass : List ℕ) (rounds : ℕ) (key drawn : List ℕ)
+-- A keyslot that a passphrase opens to a key, whose area lies at an offset and has no byte behind
+-- it. Wherever its bytes stand there the passphrase unseals the key from them, for each digest of
+-- whose segments the key can be one.
+pub record IsSlotAt (offset atom : ℕ) (pass : List ℕ) (rounds : ℕ) (key drawn : List ℕ)
     (new : NewSlot) : Type 0 where
-  pub place : IsLowest m [] atom (area_len (length key)) new.keyslot.area.offset
-  pub slot : new.keyslot
-      ≡ slot_for new.keyslot.area.offset (length key) rounds (take salt_len drawn)
+  pub slot : new.keyslot ≡ slot_for offset (length key) rounds (take salt_len drawn)
   pub has_text : IsLuks2 new.keyslot
   pub bytes : new.area ≡ area_bytes atom pass rounds key drawn
   pub whole : length new.area % atom ≡ 0
   pub within : length new.area ≤ new.keyslot.area.size
-  pub opens : (other : Parts) (d : Digest) (image : List ℕ) → fits other d (length key) ≡ true
-      → StandsIn image new → key_in other d image pass new.keyslot ≡ Some key
+  pub opens : (m : Parts) (d : Digest) (image : List ℕ) → fits m d (length key) ≡ true
+      → StandsIn image new → key_in m d image pass new.keyslot ≡ Some key
+
+-- The same, whose area takes the lowest place that has room, in whole atoms.
+pub record IsAdded (m : Parts) (atom : ℕ) (pass : List ℕ) (rounds : ℕ) (key drawn : List ℕ)
+    (new : NewSlot) : Type 0 where
+  pub place : IsLowest m [] atom (area_len (length key)) new.keyslot.area.offset
+  pub made : IsSlotAt new.keyslot.area.offset atom pass rounds key drawn new
 
 -- why no keyslot is made
 abbrev pub IsAddFault : Parts → ℕ → ℕ → SlotFault → Type 0

@@ -3,8 +3,9 @@
 ghost use Rattle.std.specs.Prelude.{◌≡◌, ◌++◌, ◌*◌, ◌%◌, ◌≤◌, length, take, drop, IfOk};
 ghost use Rattle.std.specs.Prelude.{MatchResult};
 ghost use Rattle.af_split.specs.Af.{merged, split_of};
-ghost use Rattle.luks_slots.specs.NewSlots.{area_bytes, area_key_of, drawn_len, salt_len, slot_for};
-ghost use Rattle.luks_slots.specs.NewSlots.{IsAdded, IsAddFault};
+ghost use Rattle.luks_json.specs.Keyslots.{IsLuks2};
+ghost use Rattle.luks_slots.specs.NewSlots.{area_bytes, area_key_of, area_len, drawn_len, salt_len};
+ghost use Rattle.luks_slots.specs.NewSlots.{IsAdded, IsAddFault, IsSlotAt, slot_for};
 ghost use Rattle.luks_slots.specs.Stripes.{rounded, sectors_len, split_len};
 ghost use Rattle.pbkdf2_hmac.specs.Pbkdf2.{derived_key};
 ghost use Rattle.pbkdf2_hmac.specs.declared.Hash.TheVariants.{Sha256};
@@ -41,6 +42,14 @@ pub struct NewSlot {
     pub area: Bytes,
 }
 
+/// The bytes of the area of a keyslot for a key of so many bytes, at most 64: whole pages.
+pub fn area_size(key_size: usize) -> u64
+    requires { key_size ≤ 64 }
+    ensures { result ≡ area_len key_size }
+{
+    ((key_size * STRIPES).div_ceil(PAGE) * PAGE) as u64
+}
+
 fn text(alloc: Global, text: &str) -> Result<Text, AllocError>
     ensures { IfOk result (λ t. t ≡ text.now) }
 {
@@ -74,14 +83,13 @@ fn make_slot(
     requires { key_size ≤ 64 }
     ensures { IfOk result (λ slot. slot ≡ slot_for offset key_size rounds salt.now) }
 {
-    let size = (key_size * STRIPES).div_ceil(PAGE) * PAGE;
     Ok(Luks2 {
         key_size: key_size as u64,
         area: SlotArea {
             encryption: text(alloc, "aes-xts-plain64")?,
             key_size: MOST_BYTES as u64,
             offset,
-            size: size as u64,
+            size: area_size(key_size),
             rest: Object::empty(alloc),
         },
         kdf: make_kdf(alloc, rounds, salt)?,
@@ -93,6 +101,30 @@ fn make_slot(
         priority: None,
         rest: Object::empty(alloc),
     })
+}
+
+/// The object of the keyslot of a key of so many bytes, at most 64, whose area lies at an offset:
+/// PBKDF2 with SHA-256 in so many rounds under this salt, 4000 stripes, and `aes-xts-plain64`.
+///
+/// # Errors
+///
+/// Memory was wanted.
+pub fn slot_object(
+    alloc: Global,
+    offset: u64,
+    key_size: usize,
+    rounds: u32,
+    salt: &[u8],
+) -> Result<Luks2, AllocError>
+    requires key_size { key_size ≤ 64 }
+    requires some_rounds { 1 ≤ rounds }
+    requires most_rounds { rounds ≤ MOST_ROUNDS }
+    ensures is { IfOk result (λ slot. slot ≡ slot_for offset key_size rounds salt.now) }
+    ensures has_text { IfOk result IsLuks2 }
+{
+    bytes_are_below_256(salt);
+    let slot = make_slot(alloc, offset, key_size, rounds, salt)?;
+    Ok(slot)
 }
 
 /// Seals sectors where they lie, numbered from 0: what the same cipher unseals again.
@@ -202,43 +234,55 @@ fn make_area(
     Ok(area)
 }
 
-/// The keyslot of a key, its area at the lowest place that has room.
-fn make(
+/// A keyslot of a key, whose area lies at an offset.
+fn make_at(
     alloc: Global,
-    valid: &Valid,
+    offset: u64,
+    atom: u32,
     pass: &[u8],
     rounds: u32,
     key: &[u8],
     drawn: &[u8],
-) -> Result<NewSlot, SlotFault>
+) -> Result<NewSlot, AllocError>
     requires some_rounds { 1 ≤ rounds }
     requires most_rounds { rounds ≤ MOST_ROUNDS }
     requires some { 1 ≤ length key.now }
     requires most { length key.now ≤ 64 }
     requires drawn { length drawn.now ≡ drawn_len (length key.now) }
-    requires atom { IsAtom valid.now.sizes.atom }
-    ensures { MatchResult result
-        (λ new. IsAdded valid.now.meta valid.now.sizes.atom pass.now rounds key.now drawn.now new)
-        (λ e. IsAddFault valid.now.meta valid.now.sizes.atom (length key.now) e) }
+    requires atom { IsAtom atom }
+    ensures { IfOk result (λ new. IsSlotAt offset atom pass.now rounds key.now drawn.now new) }
 {
-    let size = (key.len() * STRIPES).div_ceil(PAGE) * PAGE;
-    let offset = match find_gap(alloc, valid, &[], size as u64) {
-        Ok(offset) => offset,
-        Err(fault) => return Err(fault),
-    };
     let (salt, _) = drawn.split_at(SALT);
-    bytes_are_below_256(salt);
-    let keyslot = match make_slot(alloc, offset, key.len(), rounds, salt) {
-        Ok(keyslot) => keyslot,
-        Err(_) => return Err(SlotFault::Memory),
-    };
-    match make_area(alloc, valid.sizes().atom, pass, rounds, key, drawn) {
-        Ok(area) => Ok(NewSlot {
-            keyslot,
-            area: Bytes::new(area),
-        }),
-        Err(_) => Err(SlotFault::Memory),
-    }
+    let keyslot = slot_object(alloc, offset, key.len(), rounds, salt)?;
+    let area = make_area(alloc, atom, pass, rounds, key, drawn)?;
+    Ok(NewSlot {
+        keyslot,
+        area: Bytes::new(area),
+    })
+}
+
+/// A keyslot that a passphrase opens to a key, as [`add`] makes it, whose area lies at an offset.
+/// That no other area has a byte of it is the caller's to see to.
+///
+/// # Errors
+///
+/// Memory was wanted.
+pub fn slot_at(
+    alloc: Global,
+    offset: u64,
+    atom: u32,
+    pass: &[u8],
+    rounds: u32,
+    key: &Key,
+    drawn: &[u8],
+) -> Result<NewSlot, AllocError>
+    requires some_rounds { 1 ≤ rounds }
+    requires most_rounds { rounds ≤ MOST_ROUNDS }
+    requires drawn { length drawn.now ≡ drawn_len (length key.now) }
+    requires atom { IsAtom atom }
+    ensures { IfOk result (λ new. IsSlotAt offset atom pass.now rounds key.now drawn.now new) }
+{
+    make_at(alloc, offset, atom, pass, rounds, key.as_slice(), drawn)
 }
 
 /// A keyslot that a passphrase opens to a key, by PBKDF2 with SHA-256 in so many rounds, 1 to
@@ -262,5 +306,13 @@ pub fn add(
         (λ new. IsAdded valid.now.meta valid.now.sizes.atom pass.now rounds key.now drawn.now new)
         (λ e. IsAddFault valid.now.meta valid.now.sizes.atom (length key.now) e) }
 {
-    make(alloc, valid, pass, rounds, key.as_slice(), drawn)
+    let size = area_size(key.as_slice().len());
+    let offset = match find_gap(alloc, valid, &[], size) {
+        Ok(offset) => offset,
+        Err(fault) => return Err(fault),
+    };
+    match slot_at(alloc, offset, valid.sizes().atom, pass, rounds, key, drawn) {
+        Ok(new) => Ok(new),
+        Err(_) => Err(SlotFault::Memory),
+    }
 }

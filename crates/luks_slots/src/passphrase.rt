@@ -8,42 +8,19 @@ ghost use Rattle.luks_json.specs.declared.digest.Digest.{Digest as digest_type};
 ghost use Rattle.luks_rules.specs.References.{value_at};
 ghost use Rattle.joined_disk.specs.Counts.{HasSizes};
 ghost use Rattle.luks_slots.specs.Devices.{IsUnwritten};
-ghost use Rattle.luks_slots.specs.Unlocks.{IsRight, IsUnlocked, matches};
+ghost use Rattle.luks_slots.specs.Unlocks.{IsRight, IsUnlocked};
 
 use crate::fault::SlotFault;
-use crate::functions::hash_function;
-use crate::key::{Key, MOST_BYTES};
+use crate::key::Key;
+use crate::key_digest::is_key_of;
 use crate::slots::{has_rank, list_refusals, opening_functions};
 use crate::stripes::{MOST_STRIPES, unseal_key};
 use base_terms::{Failed, zeros};
 use json_members::Listed;
 use luks_json::{Derivation, Digest, Keyslot, Luks2, Parts, Priority};
 use luks_rules::{Valid, lists_number};
-use pbkdf2_hmac::derive;
 use sector_disk::Disk;
 use std::alloc::Global;
-
-/// The fewest bytes of a digest that tells a key.
-const FEWEST_DIGEST_BYTES: usize = 20;
-
-/// Whether PBKDF2 makes of a key what a digest stores, in its whole length, which must be 20 to 64
-/// bytes. A digest that was read has as many iterations as PBKDF2 may have.
-#[tactic(auto, unfolding(crate::specs::Unlocks::matches))]
-pub fn is_key_of(digest: &Digest, key: &Key) -> bool
-    requires { is_iterations digest.now.iterations ≡ true }
-    ensures { result ≡ matches digest.now key.now }
-{
-    let stored = digest.digest.as_slice();
-    if stored.len() < FEWEST_DIGEST_BYTES || MOST_BYTES < stored.len() {
-        return false;
-    }
-    let mut made = [0; MOST_BYTES];
-    let made = &mut made[..stored.len()];
-    let hash = hash_function(digest.hash);
-    let salt = digest.salt.as_slice();
-    derive(hash, key.as_slice(), salt, digest.iterations as u32, made);
-    &*made == stored
-}
 
 /// What keyslots are tried with: their header's objects, the digest of the key, and a passphrase.
 #[derive(Clone, Copy)]

@@ -1,20 +1,15 @@
-use Rattle.std.proofs.Common.{◌≡◌, ◌<◌, ◌*◌, inl, inr, ℕ, List, ◌++◌, length, take, drop}
+use Rattle.std.proofs.Common.{◌≡◌, ◌*◌, ℕ, List, ◌++◌, length, take, drop}
 use Rattle.std.proofs.Common.{replicate, ◌∙◌, sym, ap, arith}
 use Rattle.std.proofs.Math.Seq.{take-append_seam}
 use Rattle.std.proofs.lemmas.Grind.{common_steps}
 use Rattle.af_split.specs.Af.{split_of}
-use Rattle.luks_slots.proofs.AreaLemmas.{area-padded}
+use Rattle.luks_slots.proofs.AreaLemmas.{area-padded, some-atom}
 use Rattle.luks_slots.specs.NewSlots.{area_bytes, area_key_of, salt_len}
 use Rattle.luks_slots.specs.Stripes.{rounded, sectors_len, split_len}
 use Rattle.pbkdf2_hmac.specs.declared.Hash.TheVariants.{Sha256}
 use Rattle.sector_cipher.specs.Context.{sealed_under}
 use Rattle.sector_cipher.specs.declared.spec.Spec.TheVariants.{AesXtsPlain64}
-use Rattle.sector_disk.specs.Geometry.{IsAtom}
 use Rattle.luks_slots.proofs.new_slot.make_area.Goals as goal
-
-some-atom : (atom : ℕ) → IsAtom atom → 0 < atom
-some-atom atom (inl e) = omega (arith, e)
-some-atom atom (inr e) = omega (arith, e)
 
 pub returns-clause-bytes : goal.returns-clause-bytes
 unfolding area_bytes
