@@ -24,7 +24,7 @@ mod slots;
 mod stripes;
 
 pub use fault::{Refusal, SlotFault};
-pub use functions::{cipher_spec, hash_function};
+pub use functions::cipher_spec;
 pub use gap::find_gap;
 pub use key::Key;
 pub use key_digest::{FEWEST_DIGEST_BYTES, MOST_DIGEST_BYTES, derive_digest, is_key_of};

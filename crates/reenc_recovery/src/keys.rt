@@ -1,15 +1,13 @@
 // The keys of a volume's sides, and the ciphers of its segments under them.
 
-ghost use Rattle.std.specs.Prelude.{◌≡◌, ◌≢◌, ◌≤◌, ◌⊎◌, ℕ, true, List, [], length, Some, IfOk};
-ghost use Rattle.std.specs.Prelude.{IfErr};
+ghost use Rattle.std.specs.Prelude.{◌≡◌, ◌≢◌, ◌⊎◌, ℕ, true, List, [], length, Some, IfOk, IfErr};
 ghost use Rattle.std.specs.Prelude.{IfSome, IsSome, MatchResult};
 ghost use Rattle.luks_json.specs.Names.{is_iterations};
 ghost use Rattle.luks_json.specs.Segments.{is_sector_size};
 ghost use Rattle.luks_json.specs.declared.digest.Digest.{Digest as digest_type};
 ghost use Rattle.luks_rules.specs.References.{value_at};
 ghost use Rattle.luks_rules.specs.States.{IsUnder};
-ghost use Rattle.luks_slots.specs.Functions.{named_cipher, named_hash};
-ghost use Rattle.pbkdf2_hmac.specs.Pbkdf2.{derived_key};
+ghost use Rattle.luks_slots.specs.Functions.{named_cipher};
 ghost use Rattle.luks_slots.specs.Unlocks.{matches};
 ghost use Rattle.reenc_recovery.specs.Causes.{IsNoKey, IsRefused};
 ghost use Rattle.reenc_recovery.specs.Keys.{IsCipherOf, IsKeyOf, used_by};
@@ -20,15 +18,9 @@ use base_terms::Bytes;
 use cipher_laws::SectorCipher;
 use luks_json::{Digest, Encryption};
 use luks_rules::{Extent, Valid};
-use luks_slots::{Key, cipher_spec, hash_function};
-use pbkdf2_hmac::derive;
+use luks_slots::{FEWEST_DIGEST_BYTES, Key, MOST_DIGEST_BYTES, cipher_spec, derive_digest};
 use sector_cipher::Context;
 use std::alloc::{AllocError, Global};
-
-/// The fewest and the most bytes of a digest of a key.
-const FEWEST_DIGEST_BYTES: usize = 20;
-
-const MOST_DIGEST_BYTES: usize = 64;
 
 /// The keys of a volume's sides, as its keyslots gave them. A linear side has none; a volume of
 /// which nothing is being converted has its key in `new`, and of it `old` is never looked at.
@@ -36,19 +28,6 @@ const MOST_DIGEST_BYTES: usize = 64;
 pub struct SideKeys {
     pub old: Option<Key>,
     pub new: Option<Key>,
-}
-
-/// What PBKDF2 makes of a key to be compared with a digest.
-fn derive_digest(digest: &Digest, key: &Key, made: &mut [u8])
-    requires rounds { is_iterations digest.now.iterations ≡ true }
-    requires some { 1 ≤ length made.old }
-    requires most { length made.old ≤ 64 }
-    ensures { made.new ≡ derived_key (named_hash digest.now.hash) key.now digest.now.salt
-        digest.now.iterations (length made.old) }
-{
-    let hash = hash_function(digest.hash);
-    let salt = digest.salt.as_slice();
-    derive(hash, key.as_slice(), salt, digest.iterations as u32, made);
 }
 
 /// That a key isn't the one of a digest, with copies of what was computed and of what is stored.
