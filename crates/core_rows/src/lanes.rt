@@ -3,19 +3,17 @@
 ghost use Rattle.std.specs.Prelude.{◌<◌, length};
 ghost use Rattle.volume_machine.specs.States.{IsIdle};
 
-use crate::calls::ask_of;
-use crate::words::byte_of;
+use crate::operations::{asked, op_of};
 use anyhow::{Result, anyhow};
 use base_terms::{Buffer, Bytes};
 use lane_plan::{Call, Plan, Shape};
 use plain_disk::{Op, Reply};
 use sector_cipher::Context;
 use sector_disk::Disk;
-use std::alloc::{AllocError, Global};
+use std::alloc::Global;
 use std::mem;
 use volume_core::Volume;
 use volume_lane::execute;
-use volume_machine::Ask;
 
 /// A volume on which no operation is under way, and the buffers that came with the last reply.
 #[derive(Drop)]
@@ -40,37 +38,12 @@ impl<D: Disk> Lane<D> {
         }
     }
 
-    /// Executes an operation, whose write is of one byte over and over.
-    pub(crate) fn execute(&mut self, alloc: Global, ask: Ask, byte: u8) -> Result<Reply> {
-        let op = op_of(alloc, ask, byte)?;
+    /// Executes an operation.
+    pub(crate) fn execute(&mut self, alloc: Global, op: Op) -> Result<Reply> {
         let spare = mem::replace(&mut self.spare, Bytes::new(Vec::new(alloc)));
         let (reply, buffer) = execute(alloc, &mut self.volume, 3, op, spare, &mut self.part)?;
         self.spare = buffer;
         Ok(reply)
-    }
-}
-
-/// An operation, whose write is of one byte over and over.
-pub(crate) fn op_of(alloc: Global, ask: Ask, byte: u8) -> std::result::Result<Op, AllocError> {
-    match ask {
-        Ask::Read { offset, length } => Ok(Op::Read { offset, length }),
-        Ask::Write {
-            offset,
-            length,
-            fua,
-        } => {
-            let body = Bytes::new(vec![in alloc; byte; length as usize]?);
-            Ok(Op::Write { offset, body, fua })
-        }
-        Ask::Flush => Ok(Op::Flush),
-    }
-}
-
-/// What words ask for: of a write the last one is the byte.
-pub(crate) fn asked(words: &[&str]) -> Result<(Ask, u8)> {
-    match words {
-        [word, offset, length, byte] => Ok((ask_of(&[*word, *offset, *length])?, byte_of(byte)?)),
-        words => Ok((ask_of(words)?, 0)),
     }
 }
 
@@ -92,6 +65,7 @@ pub(crate) fn told(alloc: Global, reply: &Reply) -> Result<String> {
         }
         Reply::Done => Ok(String::from_str(alloc, "Done")?),
         Reply::Errno(number) => Ok(format!(in alloc; "Error({number})")?),
+        Reply::ErrnoAt(number, place) => Ok(format!(in alloc; "Error({number}, {place})")?),
     }
 }
 
@@ -104,15 +78,15 @@ pub(crate) fn on_lane<D: Disk>(
     if let ["part"] = words {
         return Ok(format!(in alloc; "{}", lane.part.len())?);
     }
-    let (ask, byte) = asked(words)?;
-    told(alloc, &lane.execute(alloc, ask, byte)?)
+    let reply = lane.execute(alloc, op_of(alloc, words)?)?;
+    told(alloc, &reply)
 }
 
 /// The plan of an operation of session 7 on a volume of 4 MiB in blocks of 512 bytes: whether it
 /// begins with the admit of just that, and how long its buffer for pieces is.
 pub(crate) fn planned(alloc: Global, words: &[&str]) -> Result<String> {
-    let (ask, byte) = asked(words)?;
-    let op = op_of(alloc, ask, byte)?;
+    let op = op_of(alloc, words)?;
+    let ask = asked(&op);
     let shape = Shape {
         atom: 512,
         blocks: 8192,

@@ -3,9 +3,9 @@
 //! begins with `#` is none. A step acts on what the one before it left:
 //!
 //! - `disk ATOM ATOMS ROOM FAILS..` makes a disk in memory; its device calls of these numbers fail;
-//! - `plain_disk BLOCK BLOCKS` makes a plain disk in memory, which answers an ASK, with the byte of
-//!   a write behind it; `newest BLOCK` tells the value of a block, and `wrong SIZE ASK` the number
-//!   with which an operation is refused by a disk of so many bytes in blocks of 512;
+//! - `plain_disk BLOCK BLOCKS` makes a plain disk in memory, which answers an OPERATION;
+//!   `newest BLOCK` tells the value of a block, and `wrong SIZE OPERATION` the number with which it
+//!   is refused by a disk of so many bytes in blocks of 512;
 //! - `ram ATOM ATOMS` makes one that never fails;
 //! - `size`, `fill FIRST COUNT BYTE`, `ends`, `sync`, `mark NUMBER` and `faults` are the calls of
 //!   a disk, where `fill` writes a byte over and over, and `ends` tells the first and the last byte
@@ -19,9 +19,10 @@
 //!   length in bytes; `Unmet` tells that a call's conditions aren't met;
 //! - `progress` and `map` tell of the volume;
 //! - `lane` makes a volume of a disk whose first lane executes operations one after the other:
-//!   an ASK, with the byte of a write behind it; `part` tells the length of its buffer for pieces;
-//! - `plan ASK` tells whether the plan of such an operation begins with its admit, and how long its
-//!   buffer for pieces is, on a volume of 4 MiB in blocks of 512 bytes;
+//!   an OPERATION is an ASK, with the byte of a write behind it, or `zeroes` or `kept_zeroes` with
+//!   offset and length; `part` tells the length of its buffer for pieces;
+//! - `plan OPERATION` tells whether the plan of such an operation begins with its admit, and how
+//!   long its buffer for pieces is, on a volume of 4 MiB in blocks of 512 bytes;
 //! - `walk ATOM DIRECTION PAST` has a lane execute many operations on a volume in the middle of a
 //!   conversion, so many blocks past it, beside one plain disk;
 //! - `pieces DIRECTION ZONE START END` tells the pieces of these blocks of such a conversion, and
@@ -36,6 +37,7 @@ mod calls;
 mod disks;
 mod events;
 mod lanes;
+mod operations;
 mod orders;
 mod plain;
 mod sides;

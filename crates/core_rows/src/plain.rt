@@ -1,6 +1,7 @@
 // One plain disk in memory.
 
-use crate::lanes::{asked, op_of, told};
+use crate::lanes::told;
+use crate::operations::op_of;
 use crate::words::number;
 use anyhow::{Result, anyhow};
 use plain_disk::{PlainDisk, wrong};
@@ -38,8 +39,7 @@ pub(crate) fn on_plain(alloc: Global, disk: &mut PlainDisk, words: &[&str]) -> R
         ["size"] => Ok(format!(in alloc; "{} blocks of {}", disk.blocks(), disk.atom())?),
         ["newest", block] => newest(alloc, disk, number(block)?),
         words => {
-            let (ask, byte) = asked(words)?;
-            let op = op_of(alloc, ask, byte)?;
+            let op = op_of(alloc, words)?;
             told(alloc, &disk.step(alloc, &op)?)
         }
     }
@@ -50,7 +50,6 @@ pub(crate) fn refusal(alloc: Global, words: &[&str]) -> Result<String> {
     let [size, words @ ..] = words else {
         return Err(anyhow!("no operation"));
     };
-    let (ask, byte) = asked(words)?;
-    let op = op_of(alloc, ask, byte)?;
+    let op = op_of(alloc, words)?;
     Ok(format!(in alloc; "{:?}", wrong(&op, 512, number(size)?))?)
 }

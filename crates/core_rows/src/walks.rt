@@ -3,16 +3,16 @@
 ghost use Rattle.std.specs.Prelude.{◌≡◌, ◌*◌, ◌≤◌};
 ghost use Rattle.volume_machine.specs.Sound.{MapFits};
 
-use crate::lanes::{Lane, op_of};
+use crate::lanes::Lane;
 use crate::sides::{direction_of, xts_keys};
 use crate::words::number;
 use anyhow::{Result, anyhow};
-use plain_disk::{PlainDisk, Reply};
+use base_terms::Bytes;
+use plain_disk::{Op, PlainDisk, Reply};
 use sector_disk::RamDisk;
 use segment_map::{Direction, Map};
 use std::alloc::Global;
 use volume_core::Volume;
-use volume_machine::Ask;
 
 /// How many bytes a volume has.
 const WHOLE: u32 = 3_145_728;
@@ -69,6 +69,7 @@ fn is_same(one: &Reply, other: &Reply) -> bool {
         (Reply::Content(one), Reply::Content(other)) => one.as_slice() == other.as_slice(),
         (Reply::Done, Reply::Done) => true,
         (Reply::Errno(one), Reply::Errno(other)) => one == other,
+        (Reply::ErrnoAt(one, at), Reply::ErrnoAt(other, place)) => one == other && at == place,
         _ => false,
     }
 }
@@ -82,9 +83,9 @@ struct Pair {
 
 impl Pair {
     /// Whether both answer an operation alike.
-    fn agrees(&mut self, alloc: Global, ask: Ask, byte: u8) -> Result<bool> {
-        let wanted = self.plain.step(alloc, &op_of(alloc, ask, byte)?)?;
-        let reply = self.lane.execute(alloc, ask, byte)?;
+    fn agrees(&mut self, alloc: Global, op: Op) -> Result<bool> {
+        let wanted = self.plain.step(alloc, &op)?;
+        let reply = self.lane.execute(alloc, op)?;
         Ok(is_same(&reply, &wanted))
     }
 }
@@ -105,32 +106,32 @@ impl Numbers {
     }
 }
 
-/// An operation, and the byte that it writes. Most are of some blocks, few of more than a piece,
-/// and few are wrong.
-fn draw(numbers: &mut Numbers, atom: u64, blocks: u64) -> (Ask, u8) {
+/// An operation. Most are of some blocks, few of more than a piece, and few are wrong.
+fn draw(alloc: Global, numbers: &mut Numbers, atom: u64, blocks: u64) -> Result<Op> {
     let most = if numbers.below(50) == 0 { blocks } else { 16 };
     let place = numbers.below(blocks.saturating_add(1)).wrapping_mul(atom);
     let stray = u64::from(numbers.below(32) == 0);
     let offset = place.wrapping_add(stray);
     let length = numbers.below(most).wrapping_mul(atom);
-    let kind = numbers.below(8);
+    let length = u32::try_from(length).unwrap_or(0);
+    let kind = numbers.below(10);
+    let fua = kind % 2 == 1;
     if kind == 0 {
-        return (Ask::Flush, 0);
+        return Ok(Op::Flush);
     }
     if kind < 4 {
-        let length = u32::try_from(length).unwrap_or(0);
-        return (Ask::Read { offset, length }, 0);
+        return Ok(Op::Read { offset, length });
     }
-    let fua = kind == 7;
-    let byte = (numbers.below(256) % 256) as u8;
-    (
-        Ask::Write {
+    if kind < 6 {
+        return Ok(Op::Zeroes {
             offset,
             length,
             fua,
-        },
-        byte,
-    )
+        });
+    }
+    let byte = (numbers.below(256) % 256) as u8;
+    let body = Bytes::new(vec![in alloc; byte; length as usize]?);
+    Ok(Op::Write { offset, body, fua })
 }
 
 /// The first of many operations on a volume in conversion that is answered otherwise than one plain
@@ -151,26 +152,26 @@ fn differs_at(alloc: Global, map: Map) -> Result<Option<u32>>
         lane: converted(alloc, map)?,
         plain: PlainDisk::new(alloc, atom, blocks)?,
     };
-    let zeros = Ask::Write {
+    let zeroes = Op::Zeroes {
         offset: 0,
-        length: u64::from(WHOLE),
+        length: WHOLE,
         fua: false,
     };
-    if !pair.agrees(alloc, zeros, 0)? {
+    if !pair.agrees(alloc, zeroes)? {
         return Ok(Some(0));
     }
     let mut numbers = Numbers { state: boundary };
     for turn in 0..TURNS {
-        let (ask, byte) = draw(&mut numbers, u64::from(atom), blocks);
-        if !pair.agrees(alloc, ask, byte)? {
+        let op = draw(alloc, &mut numbers, u64::from(atom), blocks)?;
+        if !pair.agrees(alloc, op)? {
             return Ok(Some(turn));
         }
     }
-    let whole = Ask::Read {
+    let whole = Op::Read {
         offset: 0,
         length: WHOLE,
     };
-    Ok(if pair.agrees(alloc, whole, 0)? {
+    Ok(if pair.agrees(alloc, whole)? {
         None
     } else {
         Some(TURNS)

@@ -1,5 +1,6 @@
 -- Plans before their grant, and what a grant makes of them.
 use Rattle.volume_machine.proofs.Common.{List, None, Some, [], ap, arith, false, length, max, refl}
+use Rattle.volume_machine.proofs.Common.{replicate, subst, true}
 use Rattle.volume_machine.proofs.Common.{sym, take, ℕ, ◌*◌, ◌+◌, ◌-◌, ◌<◌, ◌∙◌, ◌≡◌, ◌≤◌}
 use Rattle.volume_machine.proofs.Common.{le-max_right, take-take, Map, Op, Alone, alone_after}
 use Rattle.volume_machine.proofs.Common.{answered_alone, Answered, range_of, wrong_ask, Seals}
@@ -8,9 +9,9 @@ use Rattle.volume_machine.specs.declared.{ask.Ask.Ask, grant.Grant.Grant, open.O
 use Rattle.volume_machine.proofs.Soundness.{ordered, proper-inside}
 use Rattle.lane_plan.specs.Calls.{ask_of, event_of, outcome_of}
 use Rattle.lane_plan.specs.Plans.{Awaits, Follows, Goes, HasRest, IsBack, IsGrantFor, IsShape}
-use Rattle.lane_plan.specs.Plans.{IsSupplied, IsTold, MayAnswer, asks, begins, bytes_of, calls_left}
-use Rattle.lane_plan.specs.Plans.{finishes, first_call, left_at, part_of, reads, refuses, settles}
-use Rattle.lane_plan.specs.Plans.{shape_of, writes}
+use Rattle.lane_plan.specs.Plans.{IsSupplied, IsTold, MayAnswer, asks, begins, buffered, calls_left}
+use Rattle.lane_plan.specs.Plans.{finishes, first_call, is_zeroes, left_at, part_of, reads}
+use Rattle.lane_plan.specs.Plans.{refuses, settles, shape_of, writes}
 use Rattle.lane_plan.specs.declared.plan.Stage.TheVariants.{Beginning, Refusing, Waiting}
 use Rattle.lane_plan.specs.declared.{calls.Answer.Answer, calls.Call.Call, plan.Plan.Plan}
 use Rattle.lane_plan.specs.declared.{plan.Shape.Shape}
@@ -91,7 +92,7 @@ opened o grant = record {
 }
 
 back-begun : (plan : Plan) (now : Open) (op : Op) (alone : Alone) (grant : Grant)
-    → IsSupplied plan.shape plan.operation plan.whole plan.part op
+    → IsSupplied plan.shape plan.operation plan.zeroes plan.whole plan.part op
     → alone.operation ≡ Some (begun plan.shape.atom plan.operation.session plan.operation.ask)
     → alone.granted ≡ Some grant.map → alone.plain ≡ [] → IsGrantFor plan grant → now
     ≡ opened plan.operation grant → IsBack (record plan { operation = now }) op alone grant.map
@@ -117,6 +118,7 @@ back-begun plan now op alone grant supplied operation granted plain fit is =
         size = ap (λ xs. length xs) plain
             ∙ size-none (range_of plan.shape.atom plan.operation.ask).start plan.shape.atom;
       };
+      writes = supplied.writes;
       plain = rw plain (none-yet plan.whole op);
       rest = λ some. supplied.rest;
       part = λ some. supplied.room;
@@ -167,19 +169,22 @@ pub awaits-refusal : {seals : Seals} (plan : Plan) (op : Op) {alone : Alone} (se
 awaits-refusal plan op session none session_is asked stage =
     rw (← session_is, ← asked) (refuses stage asked none)
 
--- the buffer of an operation, made long enough
+-- the buffer of an operation, made long enough, with zeros where it is to have them
 body-in : (op : Op) (before whole : List ℕ) (len : ℕ) →
     ((offset : ℕ) (body : List ℕ) (fua : Rattle.std.proofs.Common.Bool) →
     op ≡ Ops.Write offset body fua → take (length body) before ≡ body) →
-    len ≡ bytes_of (ask_of op) → length whole ≡ max (length before) len →
-    take (length before) whole ≡ before → HasRest whole op
-body-in (Ops.Read offset size) before whole len body is long front =
+    (is_zeroes op ≡ true → take len whole ≡ replicate len 0) →
+    len ≡ buffered op → length whole ≡ max (length before) len →
+    (is_zeroes op ≡ false → take (length before) whole ≡ before) → HasRest whole op
+body-in (Ops.Read offset size) before whole len body zeros is long front =
     omega (arith, le-max_right (length before) len)
-body-in (Ops.Write offset text fua) before whole len body is long front =
+body-in (Ops.Write offset text fua) before whole len body zeros is long front =
     let has = body offset text fua refl in let short = body-long text before has in
     sym (take-take (length text) (length before) whole short)
-    ∙ ap (λ xs. take (length text) xs) front ∙ has
-body-in Ops.Flush before whole len body is long front = tt
+    ∙ ap (λ xs. take (length text) xs) (front refl) ∙ has
+body-in (Ops.Zeroes offset n fua) before whole len body zeros is long front =
+    subst (λ k. take k whole ≡ replicate k 0) is (zeros refl)
+body-in Ops.Flush before whole len body zeros is long front = tt
 
 pub awaits-admit : {seals : Seals} (plan : Plan)
     (op : Op) {alone : Alone} (session : ℕ) (shape : Shape) (before part : List ℕ) (len room : ℕ)
@@ -188,16 +193,20 @@ pub awaits-admit : {seals : Seals} (plan : Plan)
     → IsShape shape → wrong_ask shape.atom (shape.blocks * shape.atom) (ask_of op) ≡ None
     → ((offset : ℕ) (body : List ℕ) (fua : Rattle.std.proofs.Common.Bool)
     → op ≡ Ops.Write offset body fua → take (length body) before ≡ body)
-    → len ≡ bytes_of (ask_of op) → length plan.whole ≡ max (length before) len
-    → take (length before) plan.whole ≡ before → length plan.part ≡ max (length part) room → room
-    ≡ part_of shape.atom (ask_of op) → Awaits seals plan op alone (Calls.Admit session (ask_of op))
+    → plan.zeroes ≡ is_zeroes op → (is_zeroes op ≡ true → take len plan.whole ≡ replicate len 0)
+    → len ≡ buffered op → length plan.whole ≡ max (length before) len
+    → (is_zeroes op ≡ false → take (length before) plan.whole ≡ before)
+    → length plan.part ≡ max (length part) room → room ≡ part_of shape.atom (ask_of op)
+    → Awaits seals plan op alone (Calls.Admit session (ask_of op))
 awaits-admit plan op session shape before part len room none session_is asked stage
-    shape_is known proper body len_is long front as_long room_is =
-    let supplied : IsSupplied plan.shape plan.operation plan.whole plan.part op = record {
+    shape_is known proper body zeroes_is zeros len_is long front as_long room_is =
+    let supplied : IsSupplied plan.shape plan.operation plan.zeroes plan.whole plan.part op =
+    record {
       known = rw shape_is known;
       asks = asked;
+      writes = zeroes_is;
       proper = rw (shape_is, asked) proper;
-      rest = body-in op before plan.whole len body len_is long front;
+      rest = body-in op before plan.whole len body zeros len_is long front;
       room = rw (shape_is, asked) (omega (arith, le-max_right (length part) room));
     } in
     rw (← session_is, ← asked) (begins stage supplied none)

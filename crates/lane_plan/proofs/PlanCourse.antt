@@ -1,23 +1,28 @@
 -- The next call of an operation all of whose pieces so far were made.
 use Rattle.volume_machine.proofs.Common
-use Common.{List, [], ap, arith, drop, false, inl, inr, length, length-append, length-drop}
+use Common.{List, None, [], ap, arith, drop, false, if◌then◌else◌, inl, inr, length}
+use Common.{either, length-append, length-drop, length-replicate, min, mul-le-mul_right, nat_lt}
+use Common.{replicate, wrong_ask, le-min, take-take}
 use Common.{length-take-le, refl, subst, sym, take, true, ℕ, ◌*◌, ◌++◌, ◌+◌, ◌-◌, ◌<◌, ◌∙◌, ◌≡◌}
 use Common.{◌≤◌, ◌⊎◌, cases_lt, drop-append-le, nil_from_length, take-append-drop, take-append-le}
 use Common.{AreBytes, Map, Piece, Op, Alone, IsForced, IsRead, IsWrite, has_lock, IsPieceOf}
 use Common.{KeysFit, Seals, key_of, number_of, seals_of, CanSettle}
-use Rattle.std.proofs.Math.Seq.{take-add}
+use Rattle.std.proofs.Math.{Nat.mul-lt-mul_of_pos_right, Seq.take-add}
+use Rattle.std.proofs.lemmas.List.{drop-replicate, take-replicate}
 use Rattle.cipher_laws.specs.Laws.{UndoesSectors}
 use Rattle.volume_machine.specs.Fronts.{Front}
 use Rattle.volume_machine.specs.declared.ask.Ask.TheVariants.{Flush, Read, Write}
 use Rattle.volume_machine.specs.declared.{ask.Ask.Ask, keys.Keys.Keys, open.Open.Open}
-use Rattle.volume_machine.proofs.KeyLemmas.{side-whole}
+use Rattle.volume_machine.proofs.{KeyLemmas.side-whole, Soundness.proper-range}
+use Rattle.plain_disk.proofs.RangeLemmas.{range_of_proper, whole_blocks}
 use Rattle.lane_plan.specs.Calls.{ask_of}
-use Rattle.lane_plan.specs.Plans.{Awaits, HasPlain, HasRest, IsBack, IsOnly, IsPart, IsSealed}
-use Rattle.lane_plan.specs.Plans.{IsUnderWay, Moves, MustSettle, bytes_of, finishes, place_in}
-use Rattle.lane_plan.specs.Plans.{reads, settles, writes}
+use Rattle.lane_plan.specs.Plans.{Awaits, HasPlain, HasRead, HasRest, IsBack, IsOnly, IsPart}
+use Rattle.lane_plan.specs.Plans.{IsSealed, IsUnderWay, Moves, MustSettle, bytes_of, finishes}
+use Rattle.lane_plan.specs.Plans.{is_zeroes, place_in, reads, settles, source_in, writes}
 use Rattle.lane_plan.specs.declared.plan.Stage.TheVariants.{Ending, Moving, Settling}
 use Rattle.lane_plan.specs.declared.{plan.Plan.Plan, plan.Shape.Shape}
-use Rattle.lane_plan.proofs.PlanSizes.{fits-part, rest-long, size-none, stays-within, total}
+use Rattle.lane_plan.proofs.PlanSizes.{fits-part, rest-long, size-none, some-atom}
+use Rattle.lane_plan.proofs.PlanSizes.{source-within, stays-within, total}
 use Rattle.plain_disk.specs.declared.operation.Op.TheVariants as Ops
 use Rattle.lane_plan.specs.declared.calls.Call.TheVariants as Calls
 
@@ -61,6 +66,42 @@ last-settles {plan} {map} back must ends =
     settles map refl back.course back.plain (can-settle plan.operation plan.operation.ask refl must
     ends back.course.unfailed back.course.unsettled) ends
 
+-- a read stands behind the bytes that were read
+short-read : (atom size offset len : ℕ) → wrong_ask atom size (Read offset len) ≡ None
+    → len ≤ 33554432
+short-read atom size offset len proper = elim (either (nat_lt 33554432 len)) [
+  | inl long ↦ absurd (let wrong = rw long at proper in cc)
+  | inr short ↦ grind (arith, short)
+]
+
+pub has-read : {shape : Shape} {o : Open} {op : Op} {alone : Alone} {map : Map}
+    → IsUnderWay shape o op alone map → (offset len : ℕ) → o.ask ≡ Read offset len
+    → HasRead (o.next * shape.atom) offset len alone.plain
+has-read {shape} {o} {alone} course offset len is =
+    let size = shape.blocks * shape.atom in let proper = rw is at course.proper in
+    let start : o.range.start * shape.atom ≡ offset = rw (course.range_is, is) (whole_blocks
+    shape.atom offset (range_of_proper shape.atom size offset len 22
+    (proper-range shape.atom size offset len proper)).start) in
+    let apart : o.next ≡ o.range.start + (o.next - o.range.start) = omega arith in
+    let split : o.next * shape.atom ≡ o.range.start * shape.atom + (o.next - o.range.start)
+    * shape.atom = ap (λ k. k * shape.atom) apart ∙ grind arith in
+    let most : o.next * shape.atom ≤ size = mul-le-mul_right shape.atom (omega arith) in
+    record {
+      short = short-read shape.atom size offset len proper;
+      place_is = omega arith;
+      small = omega (arith, course.known.small);
+    }
+
+-- before the last piece some of its bytes weren't read
+pub some-unread : {shape : Shape} {o : Open} {op : Op} {alone : Alone} {map : Map}
+    → IsUnderWay shape o op alone map → o.next < o.range.end → (offset len : ℕ)
+    → o.ask ≡ Read offset len → length alone.plain < len
+some-unread {shape} {o} course left offset len is =
+    let fewer : o.next - o.range.start < o.range.end - o.range.start =
+    omega (arith, left, course.starts) in
+    let bytes = mul-lt-mul_of_pos_right fewer (some-atom shape.atom course.known.known) in
+    omega (arith, course.size, all-bytes course ∙ ap (λ a. bytes_of a) is, bytes)
+
 pub last-finishes : {seals : Seals} {plan : Plan} {op : Op} {alone : Alone} {map : Map}
     → IsBack plan op alone map → (MustSettle plan.operation.ask → ⊥) → plan.operation.next
     ≡ plan.operation.range.end → Awaits seals (record plan { stage = Ending }) op alone Calls.Finish
@@ -78,6 +119,8 @@ last-finishes {plan} {map} back free ends = finishes refl (record {
   };
   plain = back.plain;
   total = λ unfailed. whole-size back.course ends;
+  read = has-read back.course;
+  unread = λ failed offset len is. absurd (cc (failed, back.course.unfailed));
 })
 
 -- a piece is all of the operation, or a part
@@ -110,6 +153,7 @@ moves-on {plan} room whole part back next plain kept = record {
   stage = refl;
   course = back.course;
   next = next;
+  writes = back.writes;
   plain = plain;
   rest = λ other. (rw ((kept other).1) (back.rest (some-left plan.operation next)));
   part = λ other. (rw ((kept other).0) (back.part (some-left plan.operation next)));
@@ -117,14 +161,18 @@ moves-on {plan} room whole part back next plain kept = record {
 
 -- and fits there
 fits-in : {plan : Plan} {op : Op} {alone : Alone} {map : Map} {piece : Piece} (buffer : List ℕ)
-    → IsBack plan op alone map → IsPieceOf map plan.operation piece
+    → IsBack plan op alone map → IsPieceOf map plan.operation piece → IsRead plan.operation.ask
     → (IsPart plan.operation piece → buffer ≡ plan.part) → (IsOnly plan.operation piece
     → buffer ≡ plan.whole) → piece.count * plan.shape.atom ≤ length buffer
-fits-in {plan} {op} {map} {piece} buffer back next part only =
+fits-in {plan} {op} {map} {piece} buffer back next reading part only =
     let left = some-left plan.operation next in let bytes = all-bytes back.course in
     elim (only-or-part back.course next) [
       | inl all ↦ let asks = ap (λ a. bytes_of a) back.course.asks in
-          rw (only all, all) (omega (arith, rest-long plan.whole op (back.rest left)))
+          rw (only all, all) (omega (
+            arith,
+            rest-long plan.whole op
+                (subst (λ a. IsRead a) back.course.asks reading) (back.rest left),
+          ))
       | inr other ↦ let fits = fits-part map plan.operation
           piece plan.shape.atom next back.course.atom back.course.starts bytes other in
           rw (part other) (omega (arith, back.part left))
@@ -148,7 +196,7 @@ next-read {seals} {plan} {new} {op} {alone} {map} {piece} {buffer} {len} back ne
     subst (λ (p : Plan). Awaits seals p op alone (Calls.Read buffer len)) (sym is)
     (reads map piece buffer len (moves-on (length buffer) new.whole new.part back next plain
     (λ other. (ap (λ xs. length xs) (part other).0, same other))) reading size
-    (rw size (fits-in buffer back next (λ other. (part other).0) (λ all. (only all).0))))
+    (rw size (fits-in buffer back next reading (λ other. (part other).0) (λ all. (only all).0))))
 
 -- the bytes before a piece and its own are among the operation's
 pub ends-within : {shape : Shape} {o : Open} {op : Op} {alone : Alone} {map : Map} {piece : Piece} →
@@ -181,19 +229,35 @@ front-and-part body plain from len front is within =
     ap (λ k. take k body) sum ∙ take-add from len body
     ∙ ap (λ xs. xs ++ take len (drop from body)) (ap (λ k. take k body) is ∙ front)
 
+-- the zeros of a piece stand at the front of the buffer, and anywhere among all of them
+zeros-of-front : (n at len : ℕ) (whole : List ℕ)
+    → take (min n 1048576) whole ≡ replicate (min n 1048576) 0 → at + len ≤ n → len ≤ 1048576
+    → take len whole ≡ take len (drop at (replicate n 0))
+zeros-of-front n at len whole rest within few =
+    let short : len ≤ min n 1048576 = le-min (omega arith) few in
+    sym (take-take len (min n 1048576) whole short) ∙ ap (λ xs. take len xs) rest
+    ∙ take-replicate len (min n 1048576) 0 short ∙ sym (ap (λ xs. take len xs)
+    (drop-replicate at n 0) ∙ take-replicate len (n - at) 0 (omega arith))
+
 -- the next bytes of the body stand behind those before them
-next-of-body : (whole : List ℕ) (op : Op) (plain : List ℕ) (from len : ℕ)
-    → IsWrite (ask_of op) → HasRest whole op → HasPlain whole op plain → from ≡ length plain
-    → from + len ≤ bytes_of (ask_of op) → HasPlain whole op (plain ++ take len (drop from whole))
-next-of-body whole (Ops.Write offset body fua) plain from len writing rest so_far is within =
-    rw (part-of-front body whole from len rest within)
-    (front-and-part body plain from len so_far is within)
-next-of-body whole _ plain from len writing rest so_far is within = absurd writing
+next-of-body : (whole : List ℕ) (op : Op) (plain : List ℕ) (from at len : ℕ)
+    → IsWrite (ask_of op) → HasRest whole op → HasPlain whole op plain → at ≡ length plain
+    → at + len ≤ bytes_of (ask_of op) → from ≡ (if is_zeroes op then 0 else at) → len ≤ 1048576
+    → HasPlain whole op (plain ++ take len (drop from whole))
+next-of-body whole (Ops.Write offset body fua) plain from at len writing rest so_far is within
+    source few = rw (source, part-of-front body whole at len rest within)
+    (front-and-part body plain at len so_far is within)
+next-of-body whole (Ops.Zeroes offset n fua) plain from at len writing rest so_far is within source
+    few = rw (source, zeros-of-front n at len whole rest within few)
+    (front-and-part (replicate n 0) plain at len so_far is
+    (rw (length-replicate {A = ℕ} n 0) within))
+next-of-body whole _ plain from at len writing rest so_far is within source few = absurd writing
 
 -- what was tried of a body doesn't lie in the buffer
 pub of-body : (whole other : List ℕ) (op : Op) (plain : List ℕ) → IsWrite (ask_of op) →
     HasPlain whole op plain → HasPlain other op plain
 of-body whole other (Ops.Write offset body fua) plain writing so_far = so_far
+of-body whole other (Ops.Zeroes offset len fua) plain writing so_far = so_far
 of-body whole other _ plain writing so_far = absurd writing
 
 -- the next piece of the body, as it was sealed
@@ -201,7 +265,7 @@ sealed-piece : {C : Type 0} (sector : C → ℕ) (seal unseal : C → ℕ → Li
     → List ℕ) (keys : Keys C) (plan : Plan) (op : Op) (alone : Alone) (map : Map) (piece : Piece)
     (from len : ℕ) (sealed : List ℕ) → ((c : C) → UndoesSectors (sector c) (unseal c) (seal c))
     → KeysFit sector keys plan.shape.atom plan.shape.blocks → IsBack plan op alone map
-    → IsPieceOf map plan.operation piece → IsWrite (ask_of op) → from ≡ place_in plan piece
+    → IsPieceOf map plan.operation piece → IsWrite (ask_of op) → from ≡ source_in plan piece
     → len ≡ piece.count * plan.shape.atom → AreBytes (take len (drop from plan.whole))
     → sealed ≡ (seals_of seal unseal plan.shape.atom keys).sealed piece.side piece.first
     (take len (drop from plan.whole)) → length sealed ≡ len → AreBytes sealed → IsSealed (seals_of
@@ -210,9 +274,17 @@ sealed-piece sector seal unseal keys plan op alone map piece from len sealed und
     writing from_is len_is bytes made size are =
     let rest = back.rest (some-left plan.operation next) in
     let asks = ap (λ a. bytes_of a) back.course.asks in
-    let within : from + len ≤ bytes_of (ask_of op) = omega (arith, ends-within back.course next) in
-    let part : length (take len (drop from plan.whole)) ≡ len = length-take-le len (drop
-    from plan.whole) (omega (arith, length-drop from plan.whole, rest-long plan.whole op rest)) in
+    let place = place_in plan piece in
+    let source : from ≡ (if is_zeroes op then 0 else place) =
+    from_is ∙ ap (λ b. if b then 0 else place) back.writes in
+    let within : place + len ≤ bytes_of (ask_of op) = omega (arith, ends-within back.course next) in
+    let few : len ≤ 1048576 = rw len_is (rw back.course.atom at next.limit) in
+    let part : length (take len (drop from plan.whole)) ≡ len = length-take-le len
+    (drop from plan.whole) (omega (
+      arith,
+      length-drop from plan.whole,
+      source-within plan.whole op from place len writing rest source within few,
+    )) in
     let opened = ap (λ xs. (seals_of seal unseal plan.shape.atom keys).opened
     piece.side piece.first xs) made ∙ undoes (key_of keys piece.side) (number_of
     keys plan.shape.atom piece.side piece.first) (take len (drop from plan.whole)) (record {
@@ -225,9 +297,9 @@ sealed-piece sector seal unseal keys plan op alone map piece from len sealed und
       are_bytes = are;
       opened_size = ap (λ xs. length xs) opened ∙ part ∙ len_is;
       so_far = subst (λ xs. HasPlain plan.whole op (alone.plain ++ xs)) (sym opened)
-          (next-of-body plan.whole op alone.plain from len writing rest back.plain
-          (from_is ∙ ap (λ k. (k - plan.operation.range.start) * plan.shape.atom) next.first
-          ∙ sym back.course.size) within);
+          (next-of-body plan.whole op alone.plain from place len writing rest back.plain
+          (ap (λ k. (k - plan.operation.range.start) * plan.shape.atom) next.first
+          ∙ sym back.course.size) within source few);
     }
 
 -- the write of it
@@ -236,7 +308,7 @@ pub next-write : {C : Type 0} (sector : C → ℕ) (seal unseal : C → ℕ → 
     (prepared : Front) (from len : ℕ) → ((c : C) → UndoesSectors (sector c) (unseal c) (seal c))
     → KeysFit sector keys plan.shape.atom plan.shape.blocks
     → IsBack plan op alone map → IsPieceOf map plan.operation piece
-    → IsWrite plan.operation.ask → from ≡ place_in plan piece → len ≡ piece.count * plan.shape.atom
+    → IsWrite plan.operation.ask → from ≡ source_in plan piece → len ≡ piece.count * plan.shape.atom
     → prepared.bytes ≡ (seals_of seal unseal plan.shape.atom keys).sealed piece.side piece.first
     (take len (drop from plan.whole)) → length prepared.bytes ≡ len → AreBytes prepared.bytes
     → AreBytes (take len (drop from plan.whole)) → (IsPart plan.operation piece

@@ -1,20 +1,25 @@
 -- Plans whose operation is refused, has failed, is settled, or has finished.
 use Rattle.volume_machine.proofs.Common
 use Common.{Bool, List, None, Option, Some, [], ap, arith, false, if◌then◌else◌, inl, inr, length}
+use Common.{length-replicate, replicate, ◌*◌, ◌^◌, either}
 use Common.{refl, subst, sym, take, true, ℕ, ◌<◌, ◌∙◌, ◌∷◌, ◌≡◌, ◌≤◌, ◌⊎◌, Map, Op, Content, Done}
 use Common.{Errno, Alone, after_sync, settled_as, Answered, Asked, by_finish, by_settle}
-use Common.{flush_reply, full_reply, tried_by, has_lock, Outcome, broken, device, done, failing}
-use Common.{settling, Seals, after_settle}
-use Rattle.plain_disk.specs.declared.operation.Reply.{Reply}
+use Common.{flush_reply, full_reply, tried_by, IsRead, has_lock, Outcome}
+use Common.{CanSettle, broken, device, done, failing, settling, Seals, after_settle}
+use Rattle.plain_disk.specs.Outcomes.{IsReplyTo}
+use Rattle.plain_disk.specs.declared.operation.{Reply.Reply, Reply.TheVariants.ErrnoAt}
+use Rattle.volume_machine.specs.Answers.{failed_at, failed_reply}
 use Rattle.volume_machine.specs.declared.ask.Ask.TheVariants.{Flush, Read, Write}
 use Rattle.volume_machine.specs.declared.{ask.Ask.Ask, open.Open.Open}
 use Rattle.lane_plan.specs.Calls.{ask_of}
 use Rattle.lane_plan.specs.Plans.{Follows, Goes, HasPlain, IsAnswered, IsEnding, IsFailure, IsTold}
-use Rattle.lane_plan.specs.Plans.{IsUnderWay, begins, bytes_of, calls_left, finishes, left_at}
+use Rattle.lane_plan.specs.Plans.{IsUnderWay, begins, bytes_of, calls_left}
+use Rattle.lane_plan.specs.Plans.{failure_of, finishes, left_at}
 use Rattle.lane_plan.specs.Plans.{reads, refuses, settles, writes}
 use Rattle.lane_plan.specs.declared.{calls.Answer.Answer, plan.Plan.Plan, plan.Stage.Stage}
 use Rattle.lane_plan.specs.declared.{plan.Stage.TheVariants.Ending, plan.Stage.TheVariants.Settling}
-use Rattle.lane_plan.proofs.{PlanBegins.follows-call, PlanCourse.none-yet, PlanCourse.whole-size}
+use Rattle.lane_plan.proofs.{PlanBegins.follows-call, PlanCourse.none-yet, PlanCourse.has-read}
+use Rattle.lane_plan.proofs.PlanCourse.{some-left, some-unread, whole-size}
 use Rattle.lane_plan.proofs.{PlanMoves.mapped, PlanMoves.with-opened, PlanSizes.body-long}
 use Rattle.plain_disk.specs.declared.operation.Op.TheVariants as Ops
 use Rattle.lane_plan.specs.declared.calls.Answer.TheVariants as Answers
@@ -26,20 +31,24 @@ asked-as : (whole : List ℕ) (op : Op) (plain : List ℕ) → HasPlain whole op
     Asked (ask_of op) plain op
 asked-as whole (Ops.Read offset len) plain has = refl
 asked-as whole (Ops.Write offset body fua) plain has = (body, refl, refl, has)
+asked-as whole (Ops.Zeroes offset len fua) plain has =
+    (replicate len 0, refl, length-replicate {A = ℕ} len 0, has)
 asked-as whole Ops.Flush plain has = refl
 
 -- an operation that was answered
 answered-so : (o : Open) (plain whole : List ℕ) (op : Op) (reply : Reply) (after : Alone)
-    (answered : List Answered) → o.ask ≡ ask_of op → HasPlain whole op plain → after.operation
-    ≡ None → answered ≡ record { session = o.session; ask = o.ask; plain = plain; reply = reply }
-    ∷ [] → IsAnswered o.session op reply after answered
-answered-so o plain whole op reply after answered asked has over only = record {
+    (answered : List Answered) → o.ask ≡ ask_of op → HasPlain whole op plain → IsReplyTo op reply
+    → after.operation ≡ None
+    → answered ≡ record { session = o.session; ask = o.ask; plain = plain; reply = reply } ∷ []
+    → IsAnswered o.session op reply after answered
+answered-so o plain whole op reply after answered asked has is_reply over only = record {
   over = over;
   one = record { session = o.session; ask = o.ask; plain = plain; reply = reply };
   only = only;
   session_is = refl;
   tried = tried_by o.ask plain;
   exchange = record { op = rw asked (asked-as whole op plain has); reply = refl; tried = refl };
+  is_reply = is_reply;
 }
 
 -- one that its admit refused
@@ -47,9 +56,10 @@ pub goes-refused : (seals : Seals) (plan : Plan) (number : ℕ) → Goes seals p
     (Answers.Refused number) (record plan { whole = [] }) (Nexts.Reply (Errno number) plan.whole)
 unfolding Goes
 goes-refused seals plan number op alone _ lane (refuses stage asked none) may =
-    answered-so plan.operation [] [] op (Errno number) _ _ asked (none-yet [] op) none refl
+    answered-so plan.operation [] [] op (Errno number) _ _ asked (none-yet [] op) may none refl
 goes-refused seals plan number op alone _ lane (begins stage supplied none) may =
-    answered-so plan.operation [] [] op (Errno number) _ _ supplied.asks (none-yet [] op) none refl
+    answered-so plan.operation [] [] op (Errno number) _ _ supplied.asks (none-yet [] op) may none
+    refl
 goes-refused seals plan number op alone _ lane _ may = absurd may
 
 -- a settle ends a flush, and no other
@@ -71,56 +81,79 @@ settled-open outcome o operation is has = (rw (is, has) refl, rw (is, has) refl)
 
 -- the finish follows
 finish-follows : {seals : Seals} (plan : Plan) (now : Open) {op : Op} {alone : Alone}
-    (answered : List Answered) → answered ≡ [] → IsEnding now plan.whole op alone → Follows seals
-    (record plan { operation = now; stage = Ending }) op alone answered (Nexts.Call Calls.Finish)
+    (answered : List Answered) → answered ≡ [] → IsEnding plan.shape.atom now plan.whole op alone →
+    Follows seals (record plan { operation = now; stage = Ending }) op alone answered
+    (Nexts.Call Calls.Finish)
 finish-follows plan now answered none ending = follows-call answered none (finishes refl ending)
 
--- an operation that can end where it failed
-ending-failed : (plan : Plan) (now : Open) (op : Op) (alone : Alone) (map : Map)
-    → (has_lock plan.operation.ask ≡ true) × (now ≡ failing plan.operation) → plan.operation.ask
-    ≡ ask_of op → alone.operation ≡ Some (failing plan.operation) → alone.granted ≡ Some map
-    → HasPlain plan.whole op alone.plain → IsEnding now plan.whole op alone
-ending-failed plan now op alone map (has, is) asked operation granted plain = rw is (record {
+-- an operation that can end where it failed: a read behind the bytes that it had, before others
+ending-failed : (plan : Plan) (now : Open) (op : Op) {before : Alone} (alone : Alone) (map : Map)
+    → (has_lock plan.operation.ask ≡ true) × (now ≡ failing plan.operation)
+    → IsUnderWay plan.shape plan.operation op before map
+    → alone.operation ≡ Some (failing plan.operation) → alone.granted ≡ Some map
+    → HasPlain plan.whole op alone.plain
+    → ((offset len : ℕ) → plan.operation.ask ≡ Read offset len → (alone.plain ≡ before.plain)
+    × (plan.operation.next < plan.operation.range.end))
+    → IsEnding plan.shape.atom now plan.whole op alone
+ending-failed plan now op alone map (has, is) course operation granted plain goes = rw is (record {
   operation = operation;
   map = map;
   granted = granted;
-  asks = asked;
+  asks = course.asks;
   can = record { locks = has; ends = inl refl };
   plain = plain;
   total = λ unfailed. absurd (cc);
+  read = λ offset len asked. rw (goes offset len asked).0 (has-read course offset len asked);
+  unread = λ failed offset len asked. let it = goes offset len asked in
+      rw it.0 (some-unread course it.1 offset len asked);
 })
+
+settles-no-read : {P : Type 0} (o : Open) → CanSettle o → (offset len : ℕ)
+    → o.ask ≡ Read offset len → P
+settles-no-read o (inl flush) offset len asked = absurd (cc)
+settles-no-read o (inr forced) offset len asked = absurd (rw asked at forced.0)
 
 pub goes-failed : (seals : Seals) (plan : Plan) (now : Open) (answer : Answer) → IsFailure answer
     → (has_lock plan.operation.ask ≡ true) × (now ≡ failing plan.operation) → Goes
     seals plan answer (record plan { operation = now; stage = Ending }) (Nexts.Call Calls.Finish)
 unfolding Goes
 goes-failed seals plan now Answers.Device fails is op alone _ lane (reads map _ _ _ moves _ _ _)
-    may = finish-follows plan now _ refl (ending-failed plan now op _ map is moves.course.asks
-    (mapped _ moves.course.operation refl) moves.course.granted moves.plain)
+    may = finish-follows plan now _ refl (ending-failed plan now op _ map is moves.course
+    (mapped _ moves.course.operation refl) moves.course.granted moves.plain
+    (λ offset len asked. (refl, some-left plan.operation moves.next)))
 goes-failed seals plan now Answers.Device fails is op alone _ lane (writes map
     piece prepared moves writing sealed) may = finish-follows plan now _ refl (ending-failed plan
-    now op _ map is moves.course.asks (mapped _ moves.course.operation refl) moves.course.granted
+    now op _ map is moves.course (mapped _ moves.course.operation refl) moves.course.granted
     (subst (λ xs. HasPlain plan.whole op xs) (sym (with-opened seals alone map plan.operation
-    piece prepared.bytes moves.course.operation moves.course.granted moves.next)) sealed.so_far))
-goes-failed seals plan now Answers.Device fails is op alone _ lane (settles map _ course plain _ _)
-    may = let it = settled-open device plan.operation alone.operation course.operation is.0 in
-    finish-follows plan now _ it.1 (ending-failed plan now op _ map is course.asks it.0
-    course.granted plain)
+    piece prepared.bytes moves.course.operation moves.course.granted moves.next)) sealed.so_far)
+    (λ offset len asked. absurd (rw asked at writing)))
+goes-failed seals plan now Answers.Device fails is op alone _ lane (settles map _ course plain can
+    _) may = let it = settled-open device plan.operation alone.operation course.operation is.0 in
+    finish-follows plan now _ it.1 (ending-failed plan now op _ map is course it.0
+    course.granted plain (settles-no-read plan.operation can))
 goes-failed seals plan now Answers.Broken fails is op alone _ lane (reads map _ _ _ moves _ _ _)
-    may = finish-follows plan now _ refl (ending-failed plan now op _ map is moves.course.asks
-    (mapped _ moves.course.operation refl) moves.course.granted moves.plain)
+    may = finish-follows plan now _ refl (ending-failed plan now op _ map is moves.course
+    (mapped _ moves.course.operation refl) moves.course.granted moves.plain
+    (λ offset len asked. (refl, some-left plan.operation moves.next)))
 goes-failed seals plan now Answers.Broken fails is op alone _ lane (writes map _ _ moves _ _) may =
-    finish-follows plan now _ refl (ending-failed plan now op _ map is moves.course.asks
-    (mapped _ moves.course.operation refl) moves.course.granted moves.plain)
-goes-failed seals plan now Answers.Broken fails is op alone _ lane (settles map _ course plain _ _)
-    may = let it = settled-open broken plan.operation alone.operation course.operation is.0 in
-    finish-follows plan now _ it.1 (ending-failed plan now op _ map is course.asks it.0
-    course.granted plain)
+    finish-follows plan now _ refl (ending-failed plan now op _ map is moves.course
+    (mapped _ moves.course.operation refl) moves.course.granted moves.plain
+    (λ offset len asked. (refl, some-left plan.operation moves.next)))
+goes-failed seals plan now Answers.Broken fails is op alone _ lane (settles map _ course plain can
+    _) may = let it = settled-open broken plan.operation alone.operation course.operation is.0 in
+    finish-follows plan now _ it.1 (ending-failed plan now op _ map is course it.0
+    course.granted plain (settles-no-read plan.operation can))
 goes-failed seals plan now Answers.Device fails is op alone _ lane _ may = absurd may
 goes-failed seals plan now Answers.Broken fails is op alone _ lane _ may = absurd may
 goes-failed seals plan now _ fails is op alone _ lane _ may = absurd fails
 
 -- a flush that was settled
+flush-replies : (op : Op) (outcome : Outcome) → ask_of op ≡ Flush
+    → IsReplyTo op (flush_reply outcome)
+flush-replies Ops.Flush done flush = tt
+flush-replies _ done flush = absurd (cc)
+flush-replies op _ flush = (omega arith, omega arith)
+
 flushed : (plan : Plan) (op : Op) (alone : Alone) (map : Map) (outcome : Outcome) →
     IsUnderWay plan.shape plan.operation op alone map → plan.operation.ask ≡ Flush →
     (answered : List Answered) (after : Alone) → answered ≡ by_settle alone.operation outcome →
@@ -128,7 +161,9 @@ flushed : (plan : Plan) (op : Op) (alone : Alone) (map : Map) (outcome : Outcome
     IsAnswered plan.operation.session op (flush_reply outcome) after answered
 flushed plan op alone map outcome course flush answered after answered_is after_is = answered-so
     plan.operation [] [] op (flush_reply outcome) after answered course.asks (none-yet [] op)
-    (after_is ∙ rw (course.operation, flush) refl) (answered_is ∙ rw (course.operation, flush) refl)
+    (flush-replies op outcome (sym course.asks ∙ flush))
+    (after_is ∙ rw (course.operation, flush) refl)
+    (answered_is ∙ rw (course.operation, flush) refl)
 
 pub ends-failed : (seals : Seals) (plan : Plan) (answer : Answer) → IsFailure answer →
     after_settle plan.operation (failing plan.operation) ≡ None →
@@ -163,6 +198,8 @@ goes-settled seals plan now at is op alone _ lane (settles map _ course plain _ 
       can = record { locks = has; ends = inr (record { pieces = ends; kept = λ forced. refl }) };
       plain = plain;
       total = λ unfailed. whole-size course ends;
+      read = has-read course;
+      unread = λ failed offset len asked. absurd (cc (failed, course.unfailed));
     }))
 goes-settled seals plan now at is op alone _ lane (finishes stage ending) may = absurd (cc)
 goes-settled seals plan now at is op alone _ lane _ may = absurd may
@@ -176,15 +213,43 @@ ends-settled seals plan at is op alone _ lane (settles map _ course _ _ _) may =
 ends-settled seals plan at is op alone _ lane (finishes stage ending) may = absurd (cc)
 ends-settled seals plan at is op alone _ lane _ may = absurd may
 
+-- how an operation is answered by its finish
+abbrev pub end_reply : Open → List ℕ → Reply
+end_reply o plain = if o.failed then failed_reply o.ask plain else full_reply o.ask plain
+
+-- a content is all of a read, and an error's place is in its range
+ends-as : {atom : ℕ} {o : Open} {whole : List ℕ} (op : Op) {alone : Alone}
+    → IsEnding atom o whole op alone → IsReplyTo op (end_reply o alone.plain)
+ends-as {atom} {o} op {alone} ending = elim (either o.failed) [
+  | inl failed ↦ rw (failed, ending.asks) (fails-as op ending.asks failed)
+  | inr unfailed ↦ rw (unfailed, ending.asks) (full-as op ending.asks unfailed)
+]
+  where
+    fails-as : (op : Op) → o.ask ≡ ask_of op → o.failed ≡ true
+        → IsReplyTo op (failed_reply (ask_of op) alone.plain)
+    fails-as (Ops.Read offset len) asks failed =
+        let it = ending.read offset len asks in
+        let left = ending.unread failed offset len asks in
+        ((omega arith, omega arith), (omega arith, omega arith, omega arith))
+    fails-as _ asks failed = (omega arith, omega arith)
+
+    full-as : (op : Op) → o.ask ≡ ask_of op → o.failed ≡ false
+        → IsReplyTo op (full_reply (ask_of op) alone.plain)
+    full-as (Ops.Read offset len) asks unfailed =
+        let total : length alone.plain ≡ len = ending.total unfailed ∙ ap (λ a. bytes_of a) asks in
+        let it = ending.read offset len asks in (total, it.short, omega arith)
+    full-as _ asks unfailed = tt
+
 -- an operation that has finished
 pub goes-finished : (seals : Seals) (plan : Plan) (whole spare : List ℕ) (reply : Reply) →
-    plan.stage ≡ Ending → ((op : Op) (alone : Alone) → IsEnding plan.operation plan.whole op alone →
-    reply ≡ (if plan.operation.failed then Errno 5
-    else full_reply plan.operation.ask alone.plain)) →
+    plan.stage ≡ Ending → ((op : Op) (alone : Alone) →
+    IsEnding plan.shape.atom plan.operation plan.whole op alone →
+    reply ≡ end_reply plan.operation alone.plain) →
     Goes seals plan Answers.Done (record plan { whole = whole }) (Nexts.Reply reply spare)
 unfolding Goes
 goes-finished seals plan whole spare reply at is op alone _ lane (finishes stage ending) may =
-    answered-so plan.operation alone.plain plan.whole op reply _ _ ending.asks ending.plain refl
+    answered-so plan.operation alone.plain plan.whole op reply _ _ ending.asks ending.plain
+    (rw (is op alone ending) (ends-as op ending)) refl
     (ap (λ x. by_finish x alone.plain) ending.operation ∙ (rw (is op alone ending) refl))
 goes-finished seals plan whole spare reply at is op alone _ lane (settles _ stage _ _ _ _) may =
     absurd (cc)
@@ -197,7 +262,7 @@ plain-read whole (Ops.Read at n) plain offset len is has = has
 plain-read whole _ plain offset len is has = absurd (cc)
 
 read-ending : (plan : Plan) (op : Op) (alone : Alone) (offset len : ℕ) →
-    IsEnding plan.operation plan.whole op alone → plan.operation.failed ≡ false →
+    IsEnding plan.shape.atom plan.operation plan.whole op alone → plan.operation.failed ≡ false →
     plan.operation.ask ≡ Read offset len →
     (length alone.plain ≡ len) × (take (length alone.plain) plan.whole ≡ alone.plain)
 read-ending plan op alone offset len ending unfailed is = (
@@ -206,9 +271,9 @@ read-ending plan op alone offset len ending unfailed is = (
 )
 
 pub content-is : (plan : Plan) (op : Op) (alone : Alone) (offset len : ℕ) →
-    IsEnding plan.operation plan.whole op alone → plan.operation.failed ≡ false →
-    plan.operation.ask ≡ Read offset len → Content (take len plan.whole)
-    ≡ (if plan.operation.failed then Errno 5 else full_reply plan.operation.ask alone.plain)
+    IsEnding plan.shape.atom plan.operation plan.whole op alone → plan.operation.failed ≡ false →
+    plan.operation.ask ≡ Read offset len →
+    Content (take len plan.whole) ≡ end_reply plan.operation alone.plain
 content-is plan op alone offset len ending unfailed is =
     let (size, front) = read-ending plan op alone offset len ending unfailed is in
     rw (unfailed, is) (ap (λ xs. Content xs) (ap (λ k. take k plan.whole) (sym size) ∙ front))
@@ -224,10 +289,37 @@ has-content seals plan offset len (op, alone, _, finishes stage ending, may) at 
     omega (arith, body-long alone.plain plan.whole front)
 has-content seals plan offset len (op, alone, _, _, may) at unfailed is = absurd may
 
+-- that of an operation that failed
+failure-by : {atom : ℕ} {o : Open} {whole : List ℕ} {op : Op} {alone : Alone} (ask : Ask)
+    → IsEnding atom o whole op alone → o.ask ≡ ask
+    → failed_at ask (o.next * atom) ≡ failed_reply ask alone.plain
+failure-by (Read offset len) ending is = ap (λ n. ErrnoAt 5 n) (ending.read offset len is).place_is
+failure-by _ ending is = refl
+
+pub failure-is : (plan : Plan) (op : Op) (alone : Alone)
+    → IsEnding plan.shape.atom plan.operation plan.whole op alone → plan.operation.failed ≡ true
+    → failure_of plan.operation plan.shape.atom ≡ end_reply plan.operation alone.plain
+failure-is plan op alone ending failed = rw failed (failure-by plan.operation.ask ending refl)
+
+-- its place can be counted
+place-by : {atom : ℕ} {o : Open} {whole : List ℕ} {op : Op} {alone : Alone} (ask : Ask)
+    → IsEnding atom o whole op alone → o.ask ≡ ask → IsRead ask → o.next * atom < 2 ^ 64
+place-by (Read offset len) ending is reading = omega (arith, (ending.read offset len is).small)
+place-by _ ending is reading = absurd reading
+
+pub has-place-at : (seals : Seals) (plan : Plan) → IsTold seals plan Answers.Done
+    → plan.stage ≡ Ending → IsRead plan.operation.ask
+    → plan.operation.next * plan.shape.atom < 2 ^ 64
+unfolding IsTold
+has-place-at seals plan (op, alone, _, settles _ stage _ _ _ _, may) at reading = absurd (cc)
+has-place-at seals plan (op, alone, _, finishes stage ending, may) at reading =
+    place-by plan.operation.ask ending refl reading
+has-place-at seals plan (op, alone, _, _, may) at reading = absurd may
+
 -- that of any other
 pub done-is : (o : Open) (plain : List ℕ) → o.failed ≡ false →
     ((offset : ℕ) × (len : ℕ) × (fua : Bool) × (o.ask ≡ Write offset len fua)) ⊎ (o.ask ≡ Flush) →
-    Done ≡ (if o.failed then Errno 5 else full_reply o.ask plain)
+    Done ≡ end_reply o plain
 done-is o plain unfailed (inl (offset, len, fua, is)) = rw (unfailed, is) refl
 done-is o plain unfailed (inr is) = rw (unfailed, is) refl
 

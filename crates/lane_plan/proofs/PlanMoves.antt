@@ -25,6 +25,7 @@ pub record AwaitsPiece (plan : Plan) (map : Map) (piece : Piece) (room : ℕ) : 
 
 pub record AwaitsRead (plan : Plan) (map : Map) (piece : Piece) (room len : ℕ) : Type 0 where
   pub awaits : AwaitsPiece plan map piece room
+  pub reading : IsRead plan.operation.ask
   pub size : len ≡ piece.count * plan.shape.atom
   pub within : len ≤ room
 
@@ -36,6 +37,7 @@ told-got seals plan buffer len
     (op, alone, _, reads map piece lent n moves reading size within, may) =
     let it : AwaitsRead plan map piece (length buffer) len = record {
       awaits = record { op = op; alone = alone; moves = rw may.1 moves };
+      reading = reading;
       size = may.0 ∙ size;
       within = omega arith;
     } in
@@ -158,6 +160,7 @@ back-moved old now op alone after map piece room o more moves same is operation 
             (piece.first + piece.count) old.shape.atom course.starts (omega arith) in
             omega arith);
       };
+      writes = moves.writes;
       plain = rw plain has;
       rest = λ less. (kept (other less)).0;
       part = λ less. (rw ((kept (other less)).1) (moves.part (other less)));
@@ -288,7 +291,8 @@ pub has-place : {plan : Plan} {map : Map} {piece : Piece} {room len : ℕ} →
 has-place {plan} {piece} it part =
     let moves = it.awaits.moves in let course = moves.course in
     let ends = ends-within course moves.next in
-    let long = rest-long plan.whole it.awaits.op (moves.rest part) in
+    let long = rest-long plan.whole it.awaits.op (subst (λ a. IsRead a) course.asks it.reading)
+    (moves.rest part) in
     let most : (plan.operation.range.end - plan.operation.range.start) * plan.shape.atom
     ≤ plan.shape.blocks * plan.shape.atom = mul-le-mul_right plan.shape.atom (omega arith) in
     record {

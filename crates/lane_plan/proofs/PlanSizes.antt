@@ -1,15 +1,16 @@
 -- The sizes of operations, of their pieces, and of the buffers for them.
 use Rattle.volume_machine.proofs.Common.{List, None, ap, arith, inl, inr, length, length-take, min}
-use Rattle.volume_machine.proofs.Common.{mul-le-mul_right, refl, suc, take, ℕ, ◌*◌, ◌+◌, ◌-◌, ◌/◌}
-use Rattle.volume_machine.proofs.Common.{◌<◌, ◌^◌, ◌≡◌, ◌≤◌, le-min, cases_lt, IsAtom, Map, Piece}
-use Rattle.volume_machine.proofs.Common.{Op, range_of, wrong_ask, IsPieceOf}
+use Rattle.volume_machine.proofs.Common.{mul-le-mul_right, refl, replicate, suc, take, ℕ, ◌*◌, ◌+◌}
+use Rattle.volume_machine.proofs.Common.{if◌then◌else◌, ◌-◌, ◌/◌, ◌<◌, ◌^◌, ◌≡◌, ◌≤◌, le-min}
+use Rattle.volume_machine.proofs.Common.{length-replicate, cases_lt, IsAtom, Map, Piece, Op, IsRead}
+use Rattle.volume_machine.proofs.Common.{IsWrite, range_of, wrong_ask, IsPieceOf}
 use Rattle.std.proofs.lemmas.Grind.{common_steps}
 use Rattle.plain_disk.proofs.RangeLemmas.{range_of_proper, whole_blocks}
 use Rattle.volume_machine.specs.declared.ask.Ask.TheVariants.{Flush, Read, Write}
 use Rattle.volume_machine.specs.declared.{ask.Ask.Ask, open.Open.Open}
 use Rattle.volume_machine.proofs.Soundness.{proper-range}
 use Rattle.lane_plan.specs.Calls.{ask_of}
-use Rattle.lane_plan.specs.Plans.{HasRest, IsPart, bytes_of, part_of}
+use Rattle.lane_plan.specs.Plans.{HasRest, IsPart, bytes_of, is_zeroes, part_of}
 use Rattle.plain_disk.specs.declared.operation.Op.TheVariants as Ops
 
 pub some-atom : (atom : ℕ) → IsAtom atom → 0 < atom
@@ -34,10 +35,22 @@ pub body-long : (body whole : List ℕ) → take (length body) whole ≡ body �
 body-long body whole is = let m =
     length-take (length body) whole in grind (arith, common_steps, ap (λ xs. length xs) is, m)
 
-pub rest-long : (whole : List ℕ) (op : Op) → HasRest whole op → bytes_of (ask_of op) ≤ length whole
-rest-long whole (Ops.Read offset len) rest = rest
-rest-long whole (Ops.Write offset body fua) rest = body-long body whole rest
-rest-long whole Ops.Flush rest = omega arith
+pub rest-long : (whole : List ℕ) (op : Op) → IsRead (ask_of op) → HasRest whole op
+    → bytes_of (ask_of op) ≤ length whole
+rest-long whole (Ops.Read offset len) reading rest = rest
+rest-long whole _ reading rest = absurd reading
+
+-- and has the bytes of a piece that is written, of zeros at its front
+pub source-within : (whole : List ℕ) (op : Op) (from at len : ℕ) → IsWrite (ask_of op)
+    → HasRest whole op → from ≡ (if is_zeroes op then 0 else at)
+    → at + len ≤ bytes_of (ask_of op) → len ≤ 1048576 → from + len ≤ length whole
+source-within whole (Ops.Write offset body fua) from at len writing rest is within few =
+    omega (arith, body-long body whole rest)
+source-within whole (Ops.Zeroes offset n fua) from at len writing rest is within few =
+    let zeros = length-replicate {A = ℕ} (min n 1048576) 0 in
+    let most : len ≤ min n 1048576 = le-min (omega arith) few in
+    omega (arith, body-long (replicate (min n 1048576) 0) whole (rw zeros rest), zeros)
+source-within whole _ from at len writing rest is within few = absurd writing
 
 -- pieces in a row
 pub size-more : (start at count next atom : ℕ) → start ≤ at → next ≡ at + count →

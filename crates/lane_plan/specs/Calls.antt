@@ -11,10 +11,11 @@ use Rattle.volume_machine.specs.Events.{Outcome, held, waits, refused, got, done
 use Rattle.volume_machine.specs.declared.ask.Ask.{Ask}
 use Rattle.volume_machine.specs.declared.ask.Ask.TheVariants.{Read, Write, Flush}
 
--- what an operation asks for
+-- what an operation asks for: zeroes, as a write of so many bytes
 abbrev pub ask_of : Op → Ask
 ask_of (Ops.Read offset len) = Read offset len
 ask_of (Ops.Write offset body fua) = Write offset (length body) fua
+ask_of (Ops.Zeroes offset len fua) = Write offset len fua
 ask_of Ops.Flush = Flush
 
 -- a call on a lane as an event

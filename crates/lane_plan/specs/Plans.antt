@@ -1,11 +1,14 @@
 -- How a lane stands by its own calls alone, while a plan awaits the answer to the last of them.
 use Rattle.std.specs.Prelude.{ℕ, ◌≡◌, ◌≢◌, ◌+◌, ◌-◌, ◌*◌, ◌^◌, ◌<◌, ◌≤◌, ◌++◌, true, false, List}
-use Rattle.std.specs.Prelude.{[], ◌∷◌, length, take, min, Some, None}
+use Rattle.std.specs.Prelude.{[], ◌∷◌, length, take, min, replicate, Bool, if◌then◌else◌, Some}
+use Rattle.std.specs.Prelude.{None}
 use Rattle.cipher_laws.specs.Bytes.{AreBytes}
 use Rattle.plain_disk.specs.declared.operation.Op.{Op}
 use Rattle.plain_disk.specs.declared.operation.Op.TheVariants as Ops
+use Rattle.plain_disk.specs.Outcomes.{IsErrorNumber, IsReplyTo}
 use Rattle.plain_disk.specs.declared.operation.Reply.{Reply}
 use Rattle.sector_disk.specs.Geometry.{IsAtom}
+use Rattle.segment_map.specs.Maps.{most_bytes}
 use Rattle.segment_map.specs.declared.map.Map.{Map}
 use Rattle.segment_map.specs.declared.map.Piece.{Piece}
 use Rattle.lane_plan.specs.Calls.{ask_of, event_of, outcome_of}
@@ -21,7 +24,7 @@ use Rattle.lane_plan.specs.declared.plan.Stage.{Stage}
 use Rattle.lane_plan.specs.declared.plan.Stage.TheVariants.{Refusing, Beginning, Waiting, Moving}
 use Rattle.lane_plan.specs.declared.plan.Stage.TheVariants.{Settling, Ending}
 use Rattle.volume_machine.specs.Alone.{Alone, MeetsAlone, alone_after, answered_alone}
-use Rattle.volume_machine.specs.Answers.{Answered, IsExchange}
+use Rattle.volume_machine.specs.Answers.{Answered, IsExchange, failed_at}
 use Rattle.volume_machine.specs.Asks.{IsRead, IsWrite, has_lock, range_of, wrong_ask}
 use Rattle.volume_machine.specs.Fronts.{Front}
 use Rattle.volume_machine.specs.Pieces.{IsPieceOf}
@@ -63,38 +66,57 @@ bytes_of (Read offset len) = len
 bytes_of (Write offset len fua) = len
 bytes_of Flush = 0
 
--- and how many of them come in its content
-abbrev pub content_of : Ask → ℕ
-content_of (Read offset len) = len
-content_of (Write offset len fua) = 0
-content_of Flush = 0
+-- it writes zeros
+abbrev pub is_zeroes : Op → Bool
+is_zeroes (Ops.Read offset len) = false
+is_zeroes (Ops.Write offset body fua) = false
+is_zeroes (Ops.Zeroes offset len fua) = true
+is_zeroes Ops.Flush = false
+
+-- how many bytes of an operation the spare buffer is to have: its content, and of zeroes no more
+-- than the longest piece
+abbrev pub spare_of : Op → ℕ
+spare_of (Ops.Read offset len) = len
+spare_of (Ops.Write offset body fua) = 0
+spare_of (Ops.Zeroes offset len fua) = min len most_bytes
+spare_of Ops.Flush = 0
+
+-- and how many its buffer has, which of a write is its body
+abbrev pub buffered : Op → ℕ
+buffered (Ops.Write offset body fua) = length body
+buffered op = spare_of op
 
 -- the longest piece that an operation may have besides others
 abbrev pub part_of : ℕ → Ask → ℕ
-part_of atom ask = min (bytes_of ask - atom) 1048576
+part_of atom ask = min (bytes_of ask - atom) most_bytes
 
--- both buffers are long enough for an operation: the spare one for its content, the other for its
--- pieces
-pub record HasRoom (atom : ℕ) (ask : Ask) (spare part : List ℕ) : Type 0 where
-  pub content : content_of ask ≤ length spare
-  pub pieces : part_of atom ask ≤ length part
+-- both buffers are long enough for an operation: the spare one for its content or its zeros, the
+-- other for its pieces
+pub record HasRoom (atom : ℕ) (op : Op) (spare part : List ℕ) : Type 0 where
+  pub content : spare_of op ≤ length spare
+  pub pieces : part_of atom (ask_of op) ≤ length part
 
 -- what of an operation stands in its buffer: the bytes that were read
 abbrev pub HasPlain : List ℕ → Op → List ℕ → Type 0
 HasPlain whole (Ops.Read offset len) plain = take (length plain) whole ≡ plain
 HasPlain whole (Ops.Write offset body fua) plain = take (length plain) body ≡ plain
+HasPlain whole (Ops.Zeroes offset len fua) plain = take (length plain) (replicate len 0) ≡ plain
 HasPlain whole Ops.Flush plain = plain ≡ []
 
--- and what its pieces need of it: room for the content, or the body
+-- and what its pieces need of it: room for the content, or the body, or the zeros of a piece
 abbrev pub HasRest : List ℕ → Op → Type 0
 HasRest whole (Ops.Read offset len) = len ≤ length whole
 HasRest whole (Ops.Write offset body fua) = take (length body) whole ≡ body
+HasRest whole (Ops.Zeroes offset len fua) =
+    take (min len most_bytes) whole ≡ replicate (min len most_bytes) 0
 HasRest whole Ops.Flush = Unit {0}
 
 -- an operation that isn't wrong, before its grant, with its buffers
-pub record IsSupplied (shape : Shape) (o : Open) (whole part : List ℕ) (op : Op) : Type 0 where
+pub record IsSupplied (shape : Shape) (o : Open) (zeroes : Bool) (whole part : List ℕ)
+    (op : Op) : Type 0 where
   pub known : IsShape shape
   pub asks : o.ask ≡ ask_of op
+  pub writes : zeroes ≡ is_zeroes op
   pub proper : wrong_ask shape.atom (shape.blocks * shape.atom) o.ask ≡ None
   pub rest : HasRest whole op
   pub room : part_of shape.atom o.ask ≤ length part
@@ -127,6 +149,7 @@ IsPart o piece = piece.count ≢ o.range.end - o.range.start
 -- all pieces up to the next one were made, and the buffers are back
 pub record IsBack (plan : Plan) (op : Op) (alone : Alone) (map : Map) : Type 0 where
   pub course : IsUnderWay plan.shape plan.operation op alone map
+  pub writes : plan.zeroes ≡ is_zeroes op
   pub plain : HasPlain plan.whole op alone.plain
   pub rest : plan.operation.next < plan.operation.range.end → HasRest plan.whole op
   pub part : plan.operation.next < plan.operation.range.end →
@@ -138,6 +161,7 @@ pub record Moves (plan : Plan) (op : Op) (alone : Alone) (map : Map) (piece : Pi
   pub stage : plan.stage ≡ Moving map piece
   pub course : IsUnderWay plan.shape plan.operation op alone map
   pub next : IsPieceOf map plan.operation piece
+  pub writes : plan.zeroes ≡ is_zeroes op
   pub plain : HasPlain plan.whole op alone.plain
   pub rest : IsPart plan.operation piece → HasRest plan.whole op
   pub part : IsPart plan.operation piece → part_of plan.shape.atom plan.operation.ask ≤ room
@@ -150,8 +174,14 @@ pub record IsSealed (seals : Seals) (atom : ℕ) (whole : List ℕ) (op : Op) (p
   pub opened_size : length (seals.opened piece.side piece.first sealed) ≡ piece.count * atom
   pub so_far : HasPlain whole op (plain ++ seals.opened piece.side piece.first sealed)
 
+-- a read of a length that may be served stands, at this byte, behind the bytes that were read
+pub record HasRead (place offset len : ℕ) (plain : List ℕ) : Type 0 where
+  pub short : len ≤ 33554432
+  pub place_is : place ≡ offset + length plain
+  pub small : place < 2 ^ 63
+
 -- all its calls but the finish were made
-pub record IsEnding (o : Open) (whole : List ℕ) (op : Op) (alone : Alone) : Type 0 where
+pub record IsEnding (atom : ℕ) (o : Open) (whole : List ℕ) (op : Op) (alone : Alone) : Type 0 where
   pub operation : alone.operation ≡ Some o
   pub map : Map
   pub granted : alone.granted ≡ Some map
@@ -159,15 +189,26 @@ pub record IsEnding (o : Open) (whole : List ℕ) (op : Op) (alone : Alone) : Ty
   pub can : CanFinish o
   pub plain : HasPlain whole op alone.plain
   pub total : o.failed ≡ false → length alone.plain ≡ bytes_of o.ask
+  pub read : (offset : ℕ) (len : ℕ) → o.ask ≡ Read offset len →
+      HasRead (o.next * atom) offset len alone.plain
+  pub unread : o.failed ≡ true → (offset : ℕ) (len : ℕ) → o.ask ≡ Read offset len →
+      length alone.plain < len
+
+-- the error of an operation that has failed: of a read with the offset of the piece that wasn't
+-- read
+abbrev pub failure_of : Open → ℕ → Reply
+failure_of o atom = failed_at o.ask (o.next * atom)
 
 -- The plan of an operation awaits the answer to this call, which was made on a lane that stood so.
 pub data Awaits (seals : Seals) (plan : Plan) (op : Op) (alone : Alone) : Call → Type 0 where
   refuses : plan.stage ≡ Refusing → plan.operation.ask ≡ ask_of op → alone.operation ≡ None →
       Awaits seals plan op alone (Calls.Admit plan.operation.session plan.operation.ask)
-  begins : plan.stage ≡ Beginning → IsSupplied plan.shape plan.operation plan.whole plan.part op →
+  begins : plan.stage ≡ Beginning →
+      IsSupplied plan.shape plan.operation plan.zeroes plan.whole plan.part op →
       alone.operation ≡ None →
       Awaits seals plan op alone (Calls.Admit plan.operation.session plan.operation.ask)
-  asks : plan.stage ≡ Waiting → IsSupplied plan.shape plan.operation plan.whole plan.part op →
+  asks : plan.stage ≡ Waiting →
+      IsSupplied plan.shape plan.operation plan.zeroes plan.whole plan.part op →
       alone.operation ≡ Some (begun plan.shape.atom plan.operation.session plan.operation.ask) →
       alone.granted ≡ None → alone.plain ≡ [] →
       has_lock plan.operation.ask ≡ true → Awaits seals plan op alone Calls.Ask
@@ -184,7 +225,7 @@ pub data Awaits (seals : Seals) (plan : Plan) (op : Op) (alone : Alone) : Call �
       IsUnderWay plan.shape plan.operation op alone map → HasPlain plan.whole op alone.plain →
       CanSettle plan.operation → plan.operation.next ≡ plan.operation.range.end →
       Awaits seals plan op alone Calls.Settle
-  finishes : plan.stage ≡ Ending → IsEnding plan.operation plan.whole op alone →
+  finishes : plan.stage ≡ Ending → IsEnding plan.shape.atom plan.operation plan.whole op alone →
       Awaits seals plan op alone Calls.Finish
 
 -- a grant of the plan's blocks, in a volume of its shape
@@ -193,13 +234,14 @@ pub record IsGrantFor (plan : Plan) (grant : Grant) : Type 0 where
   pub blocks : grant.map.blocks ≡ plan.shape.blocks
   pub range_is : grant.range ≡ range_of plan.shape.atom plan.operation.ask
 
--- What a call may answer. A plan that will be refused is; a buffer comes back as long as it was.
+-- What a call may answer. A plan that will be refused is, with the number of an error; a buffer
+-- comes back as long as it was.
 abbrev pub MayAnswer : Plan → Call → Answer → Type 0
 MayAnswer plan (Calls.Admit session ask) (Answers.Held grant) = (WillBeRefused plan → ⊥)
     × IsGrantFor plan grant
 MayAnswer plan (Calls.Admit session ask) (Answers.Waiting lane) = (WillBeRefused plan → ⊥)
     × (has_lock ask ≡ true)
-MayAnswer plan (Calls.Admit session ask) (Answers.Refused number) = Unit {0}
+MayAnswer plan (Calls.Admit session ask) (Answers.Refused number) = IsErrorNumber number
 MayAnswer plan Calls.Ask (Answers.Held grant) = IsGrantFor plan grant
 MayAnswer plan Calls.Ask (Answers.Waiting lane) = Unit {0}
 MayAnswer plan (Calls.Read buffer len) (Answers.Got back n) = (n ≡ len)
@@ -224,6 +266,7 @@ pub record IsAnswered (session : ℕ) (op : Op) (reply : Reply) (alone : Alone)
   pub session_is : one.session ≡ session
   pub tried : ℕ
   pub exchange : IsExchange one (record { op = op; reply = reply; tried = tried })
+  pub is_reply : IsReplyTo op reply
 
 -- What comes next on a lane that stands so, where the last call has answered these operations: a
 -- call that meets its conditions, or the reply.
@@ -275,6 +318,10 @@ MustSettle Flush = Unit {0}
 -- where a piece's bytes stand in the operation's
 abbrev pub place_in : Plan → Piece → ℕ
 place_in plan piece = (piece.first - plan.operation.range.start) * plan.shape.atom
+
+-- where the bytes that a piece writes begin in the buffer: zeros stand at its front alone
+abbrev pub source_in : Plan → Piece → ℕ
+source_in plan piece = if plan.zeroes then 0 else place_in plan piece
 
 -- the whole buffer has a place for a piece
 pub record HasPlace (plan : Plan) (piece : Piece) (len : ℕ) : Type 0 where

@@ -1,7 +1,7 @@
 // Bytes at the front of buffers.
 
 ghost use Rattle.std.specs.Prelude.{◌≡◌, ◌+◌, ◌*◌, ◌<◌, ◌≤◌, ◌++◌, [], length, take, max, IfOk};
-ghost use Rattle.std.specs.Prelude.{OnErr};
+ghost use Rattle.std.specs.Prelude.{OnErr, true, false, replicate};
 ghost use Rattle.sector_disk.specs.Geometry.{IsAtom};
 ghost use Rattle.volume_machine.specs.Seals.{KeysFit, seals_of};
 
@@ -34,6 +34,29 @@ pub(crate) fn grown(buffer: Buffer, len: usize) -> Result<Buffer, AllocError>
     let mut longer = buffer;
     longer.grow(len)?;
     Ok(longer)
+}
+
+/// Makes the first bytes of a buffer zeros, where it is to have zeros.
+#[inline(always)]
+pub(crate) fn with_zeros(buffer: Buffer, len: usize, zeroes: bool) -> Buffer
+    requires { len ≤ length buffer }
+    ensures zeros { zeroes ≡ true → take len result ≡ replicate len 0 }
+    ensures same { zeroes ≡ false → result ≡ buffer }
+    ensures length { length result ≡ length buffer }
+{
+    let mut buffer = buffer;
+    if zeroes {
+        zero_front(buffer.as_mut_slice(), len);
+    }
+    buffer
+}
+
+fn zero_front(bytes: &mut [u8], len: usize)
+    requires { len ≤ length bytes.old }
+    ensures front { take len bytes.new ≡ replicate len 0 }
+    ensures length { length bytes.new ≡ length bytes.old }
+{
+    bytes[..len].fill(0);
 }
 
 /// Puts bytes in place of as many of a buffer's own from `at` on.

@@ -3,12 +3,12 @@
 ghost use Rattle.std.specs.Prelude.{◌≡◌, ◌<◌, ℕ, Bool, List, length, take};
 ghost use Rattle.plain_disk.specs.declared.operation.Op.TheVariants as Ops;
 ghost use Rattle.lane_plan.specs.Calls.{ask_of};
-ghost use Rattle.lane_plan.specs.Plans.{bytes_of, content_of};
+ghost use Rattle.lane_plan.specs.Plans.{buffered, bytes_of, is_zeroes, spare_of};
 
 mod ends;
 mod pieces;
 
-use crate::buffers::grown;
+use crate::buffers::{grown, with_zeros};
 use crate::{Answer, Call, Next};
 use base_terms::{Buffer, Bytes};
 use block_range::BlockRange;
@@ -53,15 +53,17 @@ pub struct Plan {
     stage: Stage,
     // as the volume has it, from its grant on
     operation: Open,
-    // the content or the body, but while an only piece is being made
+    // the content, the body, or the zeros of a piece, but while an only piece is being made
     whole: Buffer,
+    // zeros are written, which the front of the whole buffer has for any piece
+    zeroes: bool,
     // for pieces that aren't all of the operation
     part: Buffer,
 }
 
 impl Plan {
-    ghost use Rattle.std.specs.Prelude.{◌≡◌, ◌≢◌, ◌*◌, ◌⊎◌, Bool, ℕ, List, length, take, None};
-    ghost use Rattle.std.specs.Prelude.{IfOk, OnErr};
+    ghost use Rattle.std.specs.Prelude.{◌≡◌, ◌≢◌, ◌*◌, ◌≤◌, ◌⊎◌, Bool, ℕ, List, length, take, max};
+    ghost use Rattle.std.specs.Prelude.{None, IfOk, OnErr};
     ghost use Rattle.plain_disk.specs.declared.operation.Op.TheVariants as Ops;
     ghost use Rattle.volume_machine.specs.Alone.{Alone};
     ghost use Rattle.volume_machine.specs.Asks.{wrong_ask};
@@ -69,15 +71,15 @@ impl Plan {
     ghost use Rattle.lane_plan.specs.Calls.{ask_of};
     ghost use Rattle.lane_plan.specs.Plans.{Awaits, Goes, HasBegun, IsFewer, IsShape, IsTold};
     ghost use Rattle.lane_plan.specs.Plans.{HasRoom, IsWaiting, WillBeRefused, first_call, part_in};
-    ghost use Rattle.lane_plan.specs.Plans.{session_of};
-    ghost use Rattle.lane_plan.specs.Plans.{shape_of};
+    ghost use Rattle.lane_plan.specs.Plans.{part_of, session_of, shape_of};
     ghost use Rattle.lane_plan.specs.declared.calls.Call.TheVariants as Calls;
 
     /// The plan of an operation on a volume of this shape, with all the memory that it needs. A
-    /// read's content comes in the spare buffer, made long enough; an operation of more than a
-    /// block has a buffer of at most 1 MiB besides, for pieces that aren't all of it. A wrong
-    /// operation has none, and neither has a flush. Memory is wanted only where one of the two
-    /// buffers isn't long enough.
+    /// read's content comes in the spare buffer, made long enough. Zeros that are to be written
+    /// stand at its front, no more of them than the longest piece of 1 MiB has. An operation of
+    /// more than a block has a buffer besides, for pieces that aren't all of it, which isn't made
+    /// longer than 1 MiB. A wrong operation has none, and neither has a flush. Memory is wanted
+    /// only where one of the two buffers isn't long enough.
     #[inline(always)]
     pub fn new(
         alloc: Global,
@@ -95,20 +97,33 @@ impl Plan {
             wrong_ask shape.atom (shape.blocks * shape.atom) (ask_of op) ≢ None) }
         ensures shape { IfOk result (λ plan. shape_of plan ≡ shape) }
         ensures session { IfOk result (λ plan. session_of plan ≡ session) }
+        ensures pieces { IfOk result (λ plan.
+            length (part_in plan) ≤ max (length part) (part_of shape.atom (ask_of op))) }
         ensures memory { OnErr result
             (wrong_ask shape.atom (shape.blocks * shape.atom) (ask_of op) ≡ None) }
-        ensures short { OnErr result (HasRoom shape.atom (ask_of op) spare part → ⊥) }
+        ensures short { OnErr result (HasRoom shape.atom op spare part → ⊥) }
     {
         let ask = ask_of(&op);
         let Shape { atom, blocks } = shape;
         if ask.wrong(atom, blocks * u64::from(atom)).is_some() {
             return Ok(Plan::refused(alloc, session, op, spare, part, shape));
         }
-        let len = len_of(ask);
-        let room = len.saturating_sub(atom as usize).min(MOST_BYTES);
+        let room = len_of(ask).saturating_sub(atom as usize).min(MOST_BYTES);
+        let zeroes = is_zeroes(&op);
+        let len = buffered(&op);
         let whole = grown(whole_of(op, spare), len)?;
         let part = grown(part, room)?;
-        Ok(Plan::of(alloc, session, ask, whole, part, shape, Stage::Beginning))
+        let whole = with_zeros(whole, len, zeroes);
+        Ok(Plan::of(
+            alloc,
+            session,
+            ask,
+            whole,
+            zeroes,
+            part,
+            shape,
+            Stage::Beginning,
+        ))
     }
 
     /// The plan of an operation that will be refused: it is wrong, or the volume is known to be
@@ -127,10 +142,21 @@ impl Plan {
         ensures first { first_call result ≡ Calls.Admit session (ask_of op) }
         ensures shape { shape_of result ≡ shape }
         ensures session { session_of result ≡ session }
+        ensures pieces { part_in result ≡ part }
     {
         let ask = ask_of(&op);
+        let zeroes = is_zeroes(&op);
         let whole = whole_of(op, spare);
-        Plan::of(alloc, session, ask, whole, part, shape, Stage::Refusing)
+        Plan::of(
+            alloc,
+            session,
+            ask,
+            whole,
+            zeroes,
+            part,
+            shape,
+            Stage::Refusing,
+        )
     }
 
     /// A plan at its first stage.
@@ -140,6 +166,7 @@ impl Plan {
         session: u64,
         ask: Ask,
         whole: Buffer,
+        zeroes: bool,
         part: Buffer,
         shape: Shape,
         stage: Stage,
@@ -149,6 +176,7 @@ impl Plan {
         ensures shape { result.shape ≡ shape }
         ensures stage { result.stage ≡ stage }
         ensures whole { result.whole ≡ whole }
+        ensures zeroes { result.zeroes ≡ zeroes }
         ensures part { result.part ≡ part }
     {
         Plan {
@@ -157,6 +185,7 @@ impl Plan {
             stage,
             operation: Open::new(session, ask, BlockRange { start: 0, end: 0 }),
             whole,
+            zeroes,
             part,
         }
     }
@@ -217,20 +246,39 @@ impl Plan {
     }
 }
 
-/// The buffer of an operation: that of its body, or the spare one for its content.
+/// The buffer of an operation: that of its body, or the spare one for its content or its zeros.
 #[inline(always)]
 fn whole_of(op: Op, spare: Bytes) -> Buffer
     ensures body { (offset : ℕ) (body : List ℕ) (fua : Bool) → op ≡ Ops.Write offset body fua →
         take (length body) result ≡ body }
-    ensures short { length result < bytes_of (ask_of op) → length spare < content_of (ask_of op) }
+    ensures short { length result < buffered op → length spare < spare_of op }
 {
     match op {
         Op::Write { body, .. } => body.into_buffer(),
-        Op::Read { .. } | Op::Flush => spare.into_buffer(),
+        Op::Read { .. } | Op::Zeroes { .. } | Op::Flush => spare.into_buffer(),
     }
 }
 
-/// What an operation asks for.
+/// Whether an operation writes zeros.
+fn is_zeroes(op: &Op) -> bool
+    ensures { result ≡ is_zeroes op.now }
+{
+    matches!(op, Op::Zeroes { .. })
+}
+
+/// How many bytes of an operation its buffer has: of zeroes no more than the longest piece.
+fn buffered(op: &Op) -> usize
+    ensures { result ≡ buffered op.now }
+{
+    match op {
+        Op::Read { length, .. } => *length as usize,
+        Op::Write { body, .. } => body.len(),
+        Op::Zeroes { length, .. } => (*length as usize).min(MOST_BYTES),
+        Op::Flush => 0,
+    }
+}
+
+/// What an operation asks for: zeroes, as a write of so many bytes.
 fn ask_of(op: &Op) -> Ask
     ensures { result ≡ ask_of op.now }
 {
@@ -242,6 +290,15 @@ fn ask_of(op: &Op) -> Ask
         Op::Write { offset, body, fua } => Ask::Write {
             offset: *offset,
             length: body.len() as u64,
+            fua: *fua,
+        },
+        Op::Zeroes {
+            offset,
+            length,
+            fua,
+        } => Ask::Write {
+            offset: *offset,
+            length: u64::from(*length),
             fua: *fua,
         },
         Op::Flush => Ask::Flush,

@@ -1,3 +1,4 @@
 pub mod BlockLemmas
+pub mod MeaningLemmas
 pub mod RangeLemmas
 pub mod StepLemmas

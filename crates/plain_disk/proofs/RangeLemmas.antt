@@ -4,7 +4,7 @@ use Rattle.std.proofs.Math.Nat.{mod-add-div, mul-le-mul_right, le_of_mul-le-mul_
 use Rattle.std.proofs.lemmas.Grind.{common_steps}
 use Rattle.base_terms.specs.ErrorNumbers.{device_error, invalid}
 use Rattle.plain_disk.specs.declared.operation.Op.{Op}
-use Rattle.plain_disk.specs.declared.operation.Op.TheVariants.{Read, Write, Flush}
+use Rattle.plain_disk.specs.declared.operation.Op.TheVariants.{Read, Write, Zeroes, Flush}
 use Rattle.plain_disk.specs.Operations.{wrong_of, wrong_range_of, IsRange}
 
 -- a range that isn't refused lies within the disk
@@ -29,6 +29,7 @@ pub wrong_is_no_fault : (atom size : ℕ) (op : Op) (number : ℕ)
     → wrong_of atom size op ≡ Some number → number ≢ device_error
 wrong_is_no_fault atom size (Read offset len) number wrong = grind (arith, common_steps)
 wrong_is_no_fault atom size (Write offset body fua) number wrong = grind (arith, common_steps)
+wrong_is_no_fault atom size (Zeroes offset len fua) number wrong = grind (arith, common_steps)
 wrong_is_no_fault atom size Flush number wrong = absurd (cc)
 
 -- whole blocks, counted in blocks

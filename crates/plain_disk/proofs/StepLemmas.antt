@@ -1,18 +1,19 @@
 -- Why what the disk in memory does is a step of the plain disk.
-use Rattle.std.proofs.Common.{◌≡◌, ◌≢◌, ℕ, ◌+◌, ◌-◌, ◌*◌, ◌/◌, ◌<◌, Bool, List, [], length, take}
-use Rattle.std.proofs.Common.{drop, map, slice_index_or, Option, Some, None, Result, Ok, Err, IfOk}
-use Rattle.std.proofs.Common.{refl, sym, ◌∙◌, ap, ap₂, subst, arith}
+use Rattle.std.proofs.Common.{◌≡◌, ℕ, ◌+◌, ◌-◌, ◌*◌, ◌/◌, ◌<◌, Bool, List, [], length, take}
+use Rattle.std.proofs.Common.{drop, map, replicate, slice_index_or, Option, Some, None, Result, Ok}
+use Rattle.std.proofs.Common.{inl, inr, Err, IfOk, refl, sym, ◌∙◌, ap, ap₂, subst, arith}
 use Rattle.std.specs.declared.alloc.AllocError.{AllocError}
-use Rattle.std.proofs.lemmas.List.{length-map}
+use Rattle.std.proofs.lemmas.List.{length-map, length-replicate}
 use Rattle.base_terms.specs.Blocks.{pasted, joined, blocks_of, changed}
 use Rattle.base_terms.specs.ErrorNumbers.{device_error}
 use Rattle.base_terms.proofs.BlockLemmas.{held_changed, blocks_of-pasted, joined-blocks_of}
 use Rattle.base_terms.proofs.BlockLemmas.{block_at}
 use Rattle.plain_disk.specs.declared.operation.Op.{Op}
-use Rattle.plain_disk.specs.declared.operation.Op.TheVariants.{Read, Write, Flush}
+use Rattle.plain_disk.specs.declared.operation.Op.TheVariants.{Read, Write, Zeroes, Flush}
 use Rattle.plain_disk.specs.declared.operation.Reply.{Reply}
 use Rattle.plain_disk.specs.declared.operation.Reply.TheVariants.{Content, Done, Errno}
 use Rattle.plain_disk.specs.Operations.{wrong_of, IsRange}
+use Rattle.plain_disk.specs.Outcomes.{IsDeviceError}
 use Rattle.plain_disk.specs.Plain.{Block, Step, ProperStep, WriteStep, newest_bytes, flushed}
 use Rattle.plain_disk.specs.Plain.{settled_blocks}
 use Rattle.plain_disk.specs.Machine.{Machine, AreBlocksOf, Steps, put, refusal_of, proper_reply}
@@ -20,6 +21,7 @@ use Rattle.plain_disk.specs.Machine.{reply_unless, reply_to}
 use Rattle.plain_disk.proofs.BlockLemmas.{change, change_newest, change_sure, sure-take, sure-drop}
 use Rattle.plain_disk.proofs.BlockLemmas.{sure-changed, newest-flushed, sure-flushed}
 use Rattle.plain_disk.proofs.BlockLemmas.{newest_of_settled, sure_of_settled}
+use Rattle.plain_disk.proofs.MeaningLemmas.{meaning_step, meaning_wrong}
 use Rattle.plain_disk.proofs.RangeLemmas.{wrong_is_no_fault, whole_blocks, blocks_within}
 
 -- as many blocks as values
@@ -127,21 +129,27 @@ write_steps old new offset body fua is atom count newest = record {
 }
 
 -- no reply is an error of the device
-pub reply_is_no_fault : (machine : Machine) (op : Op) → reply_to machine op ≢ Errno device_error
+pub reply_is_no_fault : (machine : Machine) (op : Op) → IsDeviceError (reply_to machine op) → ⊥
 unfolding reply_to
 reply_is_no_fault machine op = by_refusal (refusal_of machine op) refl
   where
-    proper : (op : Op) → proper_reply machine.newest op ≢ Errno device_error
-    proper (Read offset len) is = absurd (cc)
-    proper (Write offset body fua) is = absurd (cc)
-    proper Flush is = absurd (cc)
+    proper : (op : Op) → IsDeviceError (proper_reply machine.newest op) → ⊥
+    proper (Read offset len) (inl is) = absurd (cc)
+    proper (Read offset len) (inr is) = let e = is.1 in absurd (cc)
+    proper (Write offset body fua) (inl is) = absurd (cc)
+    proper (Write offset body fua) (inr is) = let e = is.1 in absurd (cc)
+    proper (Zeroes offset len fua) (inl is) = absurd (cc)
+    proper (Zeroes offset len fua) (inr is) = let e = is.1 in absurd (cc)
+    proper Flush (inl is) = absurd (cc)
+    proper Flush (inr is) = let e = is.1 in absurd (cc)
 
     by_refusal : (wrong : Option ℕ) → refusal_of machine op ≡ wrong
-        → reply_unless wrong (proper_reply machine.newest op) ≢ Errno device_error
-    by_refusal None is same = proper op same
-    by_refusal (Some number) is same = wrong_is_no_fault machine.atom
+        → IsDeviceError (reply_unless wrong (proper_reply machine.newest op)) → ⊥
+    by_refusal None is fault = proper op fault
+    by_refusal (Some number) is (inl same) = wrong_is_no_fault machine.atom
         (length machine.newest * machine.atom) op number is
         (let e : number ≡ device_error = cc in e)
+    by_refusal (Some number) is (inr same) = let e = same.1 in absurd (cc)
 
 -- the values of a text into which whole blocks were put
 pub written_values : (atom count offset : ℕ) (text body : List ℕ) → 0 < atom →
@@ -229,3 +237,45 @@ written_steps old new op offset body text fua is same proper atom count newest =
     count
     (newest ∙ ap (λ xs. changed put old.newest (offset / old.atom)
     (blocks_of old.atom (length xs / old.atom) xs)) same))
+
+-- what zeroes that aren't wrong leave: they are a write of so many zero bytes
+pub zeroed_steps : (old new : Machine) (op : Op) (offset len : ℕ) (fua : Bool)
+    → op ≡ Zeroes offset len fua → refusal_of old op ≡ None
+    → new.atom ≡ old.atom → length new.newest ≡ length old.newest
+    → new.newest ≡ changed put old.newest (offset / old.atom)
+    (blocks_of old.atom (len / old.atom) (replicate len 0))
+    → Steps old new op Done
+zeroed_steps old new op offset len fua is proper atom count newest =
+    let body = replicate len 0 in
+    let zeroes = Zeroes offset len fua in
+    let right : refusal_of old (Write offset body fua) ≡ None =
+    meaning_wrong old.atom (length old.newest * old.atom) zeroes
+    ∙ subst (λ o. refusal_of old o ≡ None) is proper in
+    let writes = write_steps old new offset body fua right atom count
+    (newest ∙ ap (λ n. changed put old.newest (offset / old.atom)
+    (blocks_of old.atom (n / old.atom) body)) (sym (length-replicate {A = ℕ} len 0))) in
+    rw is (record {
+      atom = atom;
+      count = count;
+      legal = λ blocks are.
+          let (n, left, step, after) = writes.legal blocks are in (
+            n,
+            left,
+            meaning_step old.atom blocks left zeroes Done n step,
+            after,
+          );
+    })
+
+-- the values of a text into which zeros were put
+pub zeroed_values : (atom count offset len : ℕ) (text : List ℕ) → 0 < atom →
+    length text ≡ count * atom → IsRange atom (count * atom) offset len
+    → blocks_of atom count (pasted text offset (replicate len 0))
+    ≡ changed put (blocks_of atom count text) (offset / atom)
+    (blocks_of atom (len / atom) (replicate len 0))
+zeroed_values atom count offset len text some long range =
+    let size = length-replicate {A = ℕ} len 0 in
+    subst (λ n. blocks_of atom count (pasted text offset (replicate len 0))
+    ≡ changed put (blocks_of atom count text) (offset / atom)
+    (blocks_of atom (n / atom) (replicate len 0))) size
+    (written_values atom count offset text (replicate len 0) some long
+    (subst (λ n. IsRange atom (count * atom) offset n) (sym size) range))

@@ -3,7 +3,7 @@ use Rattle.std.specs.Prelude.{ℕ, ◌≡◌, ◌*◌, ◌^◌, ◌<◌, List, l
 use Rattle.std.specs.Prelude.{None}
 use Rattle.base_terms.specs.Blocks.{joined}
 use Rattle.plain_disk.specs.declared.operation.Op.{Op}
-use Rattle.plain_disk.specs.declared.operation.Op.TheVariants.{Read, Write, Flush}
+use Rattle.plain_disk.specs.declared.operation.Op.TheVariants.{Read, Write, Zeroes, Flush}
 use Rattle.plain_disk.specs.declared.operation.Reply.{Reply}
 use Rattle.plain_disk.specs.declared.operation.Reply.TheVariants.{Content, Done, Errno}
 use Rattle.plain_disk.specs.Operations.{wrong_of}
@@ -33,6 +33,7 @@ refusal_of machine op = wrong_of machine.atom (length machine.newest * machine.a
 abbrev pub proper_reply : List (List ℕ) → Op → Reply
 proper_reply newest (Read offset len) = Content (take len (drop offset (joined newest)))
 proper_reply newest (Write offset body fua) = Done
+proper_reply newest (Zeroes offset len fua) = Done
 proper_reply newest Flush = Done
 
 -- a number, where there is one, goes before the reply

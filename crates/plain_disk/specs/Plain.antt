@@ -1,12 +1,12 @@
 -- One plain disk that is asked one operation after the other.
 use Rattle.std.specs.Prelude.{ℕ, ◌≡◌, ◌*◌, ◌/◌, ◌%◌, ◌≤◌, Bool, true, false, if◌then◌else◌, List}
-use Rattle.std.specs.Prelude.{[], ◌∷◌, ◌++◌, length, take, drop, map, MatchOption}
+use Rattle.std.specs.Prelude.{[], ◌∷◌, ◌++◌, length, take, drop, map, replicate, MatchOption}
 use Rattle.base_terms.specs.Blocks.{joined, blocks_of, changed}
 use Rattle.base_terms.specs.ErrorNumbers.{device_error}
 use Rattle.plain_disk.specs.declared.operation.Op.{Op}
-use Rattle.plain_disk.specs.declared.operation.Op.TheVariants.{Read, Write, Flush}
+use Rattle.plain_disk.specs.declared.operation.Op.TheVariants.{Read, Write, Zeroes, Flush}
 use Rattle.plain_disk.specs.declared.operation.Reply.{Reply}
-use Rattle.plain_disk.specs.declared.operation.Reply.TheVariants.{Content, Done, Errno}
+use Rattle.plain_disk.specs.declared.operation.Reply.TheVariants.{Content, Done, Errno, ErrnoAt}
 use Rattle.plain_disk.specs.Operations.{wrong_of}
 
 -- a block: its newest value, the values before it back to the flushed one, which comes first, and
@@ -68,19 +68,26 @@ WriteStep atom old offset body fua Done n new =
 WriteStep atom old offset body fua (Errno number) n new =
     (number ≡ device_error) × (n ≤ length body) × (n % atom ≡ 0)
     × (new ≡ changed tried old (offset / atom) (blocks_of atom (n / atom) body))
+WriteStep atom old offset body fua (ErrnoAt number place) n new = ⊥
 
--- an operation that isn't wrong goes by its kind and its reply
+-- an operation that isn't wrong goes by its kind and its reply; wherever a read failed, its error
+-- is that of the device
 unfoldable pub ProperStep : ℕ → List Block → Op → Reply → ℕ → List Block → Type 0
 ProperStep atom old (Read offset len) (Content bytes) n new =
     (new ≡ old) × (bytes ≡ take len (drop offset (newest_bytes old)))
     × AreSure (take (len / atom) (drop (offset / atom) old))
 ProperStep atom old (Read offset len) Done n new = ⊥
 ProperStep atom old (Read offset len) (Errno number) n new = (number ≡ device_error) × (new ≡ old)
+ProperStep atom old (Read offset len) (ErrnoAt number place) n new =
+    (number ≡ device_error) × (new ≡ old)
 ProperStep atom old (Write offset body fua) reply n new =
     WriteStep atom old offset body fua reply n new
+ProperStep atom old (Zeroes offset len fua) reply n new =
+    WriteStep atom old offset (replicate len 0) fua reply n new
 ProperStep atom old Flush (Content bytes) n new = ⊥
 ProperStep atom old Flush Done n new = new ≡ map flushed old
 ProperStep atom old Flush (Errno number) n new = (number ≡ device_error) × (new ≡ old)
+ProperStep atom old Flush (ErrnoAt number place) n new = ⊥
 
 -- one operation: a wrong one is refused with its number and does nothing
 unfoldable pub Step : ℕ → List Block → Exchange → List Block → Type 0

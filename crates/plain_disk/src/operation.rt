@@ -6,22 +6,26 @@ use base_terms::{Bytes, INVALID, NO_SPACE};
 /// The most bytes that one read may ask for.
 pub const MAX_READ: u32 = 33_554_432;
 
-/// What a client asks of a disk. Offsets and lengths are in bytes. With `fua` ("force unit access")
-/// a write is answered once it is certain to be kept.
+/// What a client asks of a disk. Offsets and lengths are in bytes. `Zeroes` is the write of so many
+/// zero bytes. With `fua` ("force unit access") a write is answered once it is certain to be kept.
 #[derive(Debug, Drop)]
 pub enum Op {
     Read { offset: u64, length: u32 },
     Write { offset: u64, body: Bytes, fua: bool },
+    Zeroes { offset: u64, length: u32, fua: bool },
     Flush,
 }
 
-/// What an operation is answered: the content of a read, that it is done, or the number of an error
-/// (5 an error of the device, 12 want of memory, 22 an invalid argument, 28 no space).
+/// What an operation is answered: the content of a read, that any other is done, or the number of
+/// an error (5 an error of the device, 12 want of memory, 22 an invalid argument, 28 no space).
+/// `ErrnoAt` is a read's, by a piece that failed: the number, and the offset in bytes at which that
+/// piece begins.
 #[derive(Debug, Drop)]
 pub enum Reply {
     Content(Bytes),
     Done,
     Errno(u32),
+    ErrnoAt(u32, u64),
 }
 
 /// The number with which an operation on a disk of `size` bytes in blocks of `atom` bytes is
@@ -42,6 +46,9 @@ pub fn wrong(op: &Op, atom: u32, size: u64) -> Option<u32>
         }
         Op::Write { offset, body, .. } => {
             wrong_range(atom, size, *offset, body.len() as u64, NO_SPACE)
+        }
+        Op::Zeroes { offset, length, .. } => {
+            wrong_range(atom, size, *offset, u64::from(*length), NO_SPACE)
         }
         Op::Flush => None,
     }

@@ -1,10 +1,10 @@
-ghost use Rattle.std.specs.Prelude.{◌≡◌, ◌≢◌, ◌+◌, ◌*◌, ◌/◌, ◌^◌, ◌<◌, ◌≤◌, [], length, take, drop};
+ghost use Rattle.std.specs.Prelude.{◌≡◌, ◌+◌, ◌*◌, ◌/◌, ◌^◌, ◌<◌, ◌≤◌, [], length, take, drop};
 ghost use Rattle.std.specs.Prelude.{replicate, None, IfOk, OnErr, slice_index_or};
-ghost use Rattle.base_terms.specs.Blocks.{joined, blocks_of, changed};
-ghost use Rattle.base_terms.specs.ErrorNumbers.{device_error};
+ghost use Rattle.base_terms.specs.Blocks.{joined, blocks_of, changed, pasted};
 ghost use Rattle.plain_disk.specs.Machine.{Machine, IsWhole, AreBlocksOf, Steps, refusal_of};
 ghost use Rattle.plain_disk.specs.Machine.{reply_to, put};
 ghost use Rattle.plain_disk.specs.Operations.{IsRange, TakesMemory};
+ghost use Rattle.plain_disk.specs.Outcomes.{IsDeviceError};
 ghost use Rattle.plain_disk.specs.Plain.{settled_blocks};
 
 use crate::{Op, Reply, wrong};
@@ -82,13 +82,13 @@ impl PlainDisk {
     /// Executes one operation and answers it.
     ///
     /// An operation that is wrong is refused with its number and does nothing. A read is answered
-    /// with the newest bytes, a write or a flush is done.
+    /// with the newest bytes; a write, of zeros too, or a flush is done.
     ///
     /// Only a read that isn't wrong takes memory, for its content.
     pub fn step(&mut self, alloc: Global, op: &Op) -> Result<Reply, AllocError>
         ensures reply { IfOk result (λ reply. reply ≡ reply_to self.old op.now) }
         ensures legal { IfOk result (λ reply. Steps self.old self.new op.now reply) }
-        ensures no_device_error { IfOk result (λ reply. reply ≢ Reply.Errno device_error) }
+        ensures no_device_error { IfOk result (λ reply. IsDeviceError reply → ⊥) }
         ensures err { OnErr result (self.new ≡ self.old) }
         ensures memory { OnErr result ((refusal_of self.old op.now ≡ None) × TakesMemory op.now) }
     {
@@ -99,6 +99,10 @@ impl PlainDisk {
             Op::Read { offset, length } => self.read(alloc, *offset, *length),
             Op::Write { offset, body, .. } => {
                 self.write(*offset, body.as_slice());
+                Ok(Reply::Done)
+            }
+            Op::Zeroes { offset, length, .. } => {
+                self.zero(*offset, *length);
                 Ok(Reply::Done)
             }
             Op::Flush => Ok(Reply::Done),
@@ -138,4 +142,25 @@ impl PlainDisk {
     {
         paste(&mut self.bytes, offset as usize, body);
     }
+
+    /// Puts zeros in place of so many bytes of whole blocks from `offset` on.
+    fn zero(&mut self, offset: u64, len: u32)
+        requires { IsRange self.old.atom (length self.old.newest * self.old.atom) offset len }
+        ensures atom { self.new.atom ≡ self.old.atom }
+        ensures count { length self.new.newest ≡ length self.old.newest }
+        ensures newest { self.new.newest ≡ changed put self.old.newest (offset / self.old.atom)
+            (blocks_of self.old.atom (len / self.old.atom) (replicate len 0)) }
+    {
+        paste_zeros(&mut self.bytes, offset as usize, len as usize);
+    }
+}
+
+/// Puts so many zeros in place of a vector's own bytes from `at` on.
+#[tactic(auto, unfolding(base_terms::specs::Blocks::pasted))]
+fn paste_zeros(bytes: &mut Vec<u8>, at: usize, len: usize)
+    requires { at + len ≤ length bytes.old.items }
+    ensures items { bytes.new.items ≡ pasted bytes.old.items at (replicate len 0) }
+    ensures len { length bytes.new.items ≡ length bytes.old.items }
+{
+    bytes[at..at + len].fill(0);
 }

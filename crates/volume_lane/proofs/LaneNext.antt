@@ -83,6 +83,7 @@ executed seals old now run alone answered session op reply course it = record {
         (sym (course.answers plain ∙ it.only))
         (tagged-one it.one session it.tried op reply it.session_is it.exchange);
   };
+  is_reply = it.is_reply;
   idle = idle-now now ((course.lane no_plain).operation ∙ it.over) course.others;
   map = course.map;
   keys = course.keys;
@@ -294,8 +295,7 @@ way-fits seals old now plan session op call way =
 -- pieces of one operation are all read or all written
 other-kind : (op : Op) → IsRead (ask_of op) → IsWrite (ask_of op) → ⊥
 other-kind (Ops.Read offset len) reading writing = writing
-other-kind (Ops.Write offset body fua) reading writing = reading
-other-kind Ops.Flush reading writing = reading
+other-kind _ reading writing = reading
 
 pub no-write : {K : Type 0} (seals : Seals) (old mid now : State K) (plan new : Plan) (session : ℕ)
     (op : Op) (buffer : List ℕ) (len : ℕ) (call : Call) →

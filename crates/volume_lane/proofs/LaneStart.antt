@@ -3,6 +3,7 @@ use Rattle.std.proofs.Common.{◌≡◌, ◌≢◌, inl, inr, ◌<◌, ℕ, Bool
 use Rattle.std.proofs.Common.{length, find, Option, Some, None, Contains, MatchOption, MatchBool}
 use Rattle.std.proofs.Common.{nat_eq, refl, sym, ◌∙◌, ap, subst, arith}
 use Rattle.block_range.specs.declared.BlockRange.{BlockRange}
+use Rattle.plain_disk.specs.Outcomes.{IsErrorNumber}
 use Rattle.plain_disk.specs.declared.operation.Op.{Op}
 use Rattle.range_lock.specs.declared.Entry.{Entry}
 use Rattle.range_lock.specs.declared.Standing.TheVariants.{Held}
@@ -20,7 +21,7 @@ use Rattle.lane_plan.specs.declared.calls.Next.{Next}
 use Rattle.lane_plan.specs.declared.plan.Plan.{Plan}
 use Rattle.lane_plan.specs.declared.plan.Shape.{Shape}
 use Rattle.volume_machine.proofs.Locking.{either}
-use Rattle.volume_machine.proofs.Soundness.{match_true, match_false}
+use Rattle.std.proofs.lemmas.Bool.{MatchBool-at_false, MatchBool-at_true}
 use Rattle.volume_machine.specs.Alone.{alone_after, answered_alone, idle_lane}
 use Rattle.volume_machine.specs.Asks.{entry_of, has_lock, range_of, wrong_ask}
 use Rattle.volume_machine.specs.Events.{Outcome, admits, held, refused, waits}
@@ -28,7 +29,9 @@ use Rattle.volume_machine.specs.Seals.{Seals}
 use Rattle.volume_machine.specs.Sound.{IsSound}
 use Rattle.volume_machine.specs.States.{IsIdle, State, size_of}
 use Rattle.volume_machine.specs.Steps.{IsAdmitted, IsGrant, IsReadyFor, Step, TellsStanding}
+use Rattle.std.proofs.lemmas.Grind.{common_steps}
 use Rattle.volume_machine.specs.declared.ask.Ask.{Ask}
+use Rattle.volume_machine.specs.declared.ask.Ask.TheVariants.{Flush, Read, Write}
 use Rattle.volume_machine.specs.declared.grant.Grant.{Grant}
 use Rattle.volume_lane.specs.Calling.{AnswersAdmit, IsAdmit}
 use Rattle.volume_lane.specs.Course.{IsAt, IsPlanFor}
@@ -100,13 +103,40 @@ never-waits old new session ask lane sound idle step =
     (has_lock ask)
     (empty old old.entries refl sound idle) is.enters
 
+-- an operation that is refused has an error's number
+wrong-some : (atom size n : ℕ) (ask : Ask) → wrong_ask atom size ask ≡ Some n → IsErrorNumber n
+wrong-some atom size n (Read offset len) wrong =
+    (grind (arith, common_steps), grind (arith, common_steps))
+wrong-some atom size n (Write offset len fua) wrong =
+    (grind (arith, common_steps), grind (arith, common_steps))
+wrong-some atom size n Flush wrong = absurd (cc)
+
+refused-by : {K : Type 0} (old new : State K) (session n : ℕ) (ask : Ask) (wrong : Option ℕ)
+    (was : Bool) → wrong_ask old.map.atom (size_of old.map) ask ≡ wrong → MatchOption wrong
+    (MatchBool was ((refused n ≡ refused 5) × (new ≡ old))
+    (IsAdmitted old 0 session ask (refused n) new))
+    (λ number. (refused n ≡ refused number) × (new ≡ old)) → IsErrorNumber n
+refused-by old new session n ask None true is step = let five : n ≡ 5 = cc (step.0) in
+    (omega arith, omega arith)
+refused-by old new session n ask None false is step = absurd (elim (either (has_lock ask)) [
+  | inl has ↦ (MatchBool-at_true _ _ has step.enters).1
+  | inr has_none ↦ (MatchBool-at_false _ _ has_none step.enters).1
+])
+refused-by old new session n ask (Some m) was is step = let same : n ≡ m = cc (step.0) in
+    rw same (wrong-some old.map.atom (size_of old.map) m ask is)
+
+some-refused : {K : Type 0} (old new : State K) (session n : ℕ) (ask : Ask)
+    → Step old (admits 0 session ask) (refused n) new → IsErrorNumber n
+unfolding Step
+some-refused old new session n ask step = refused-by old new session n ask _ old.broken refl step
+
 -- what its grant tells
 grant-told : {K : Type 0} (old new : State K) (session : ℕ) (ask : Ask) (grant : Grant)
     → IsAdmitted old 0 session ask (held grant) new →
     IsGrant old (range_of old.map.atom ask) grant
 grant-told old new session ask grant is = elim (either (has_lock ask)) [
-  | inl has ↦ (match_true (has_lock ask) _ _ has is.enters).1.1
-  | inr has_none ↦ (match_false (has_lock ask) _ _ has_none is.enters).1.1
+  | inl has ↦ (MatchBool-at_true _ _ has is.enters).1.1
+  | inr has_none ↦ (MatchBool-at_false _ _ has_none is.enters).1.1
 ]
 
 granted-for : {K : Type 0} (old new : State K) (plan : Plan) (session : ℕ) (op : Op) (grant : Grant)
@@ -162,7 +192,8 @@ starts seals old now plan new session op (Answers.Refused number) next planned i
     let course =
     first-one seals old now session ask (refused number) planned.sound idle some step_so in
     let follows =
-    goes op idle_lane (Calls.Admit session ask) 0 (planned.awaits seals idle_lane refl) tt in
+    goes op idle_lane (Calls.Admit session ask) 0 (planned.awaits seals idle_lane refl)
+    (some-refused old now session number ask step_so) in
     comes seals old now _ (alone_after old.map.atom seals idle_lane event (refused number)) old.map
     (answered_alone idle_lane event (refused number)) new session op next course
     (λ silent. absurd (cc)) (session_is ∙ planned.session_is)
@@ -211,8 +242,14 @@ told-first seals old now plan session op (Answers.Held grant) planned step answe
       planned.awaits seals idle_lane refl,
       (λ will. planned.refuses will ready, granted-for old now plan session op grant planned is),
     )
-told-first seals old now plan session op (Answers.Refused number) planned step answers =
-    (op, idle_lane, Calls.Admit session (ask_of op), planned.awaits seals idle_lane refl, tt)
+told-first seals old now plan session op (Answers.Refused number) planned step answers = (
+  op,
+  idle_lane,
+  Calls.Admit session (ask_of op),
+  planned.awaits seals idle_lane refl,
+  some-refused old now session number (ask_of op)
+      (first-step old now plan session op (refused number) planned step),
+)
 told-first seals old now plan session op (Answers.Waiting lane) planned step answers =
     absurd answers
 told-first seals old now plan session op (Answers.Got buffer len) planned step answers =

@@ -2,6 +2,7 @@
 -- are.
 use Rattle.std.specs.Prelude.{ℕ, suc, ◌≡◌, ◌≢◌, ◌<◌, List, [], ◌∷◌, length, Some, None}
 use Rattle.plain_disk.specs.declared.operation.Op.{Op}
+use Rattle.plain_disk.specs.Outcomes.{IsReplyTo}
 use Rattle.plain_disk.specs.declared.operation.Reply.{Reply}
 use Rattle.segment_map.specs.declared.map.Map.{Map}
 use Rattle.lane_plan.specs.Calls.{ask_of, event_of}
@@ -58,6 +59,7 @@ pub record HasExecuted {K : Type 0} (seals : Seals) (old new : State K) (session
   pub n : ℕ
   pub executes : Executes seals old new run
       (record { session = session; exchange = record { op = op; reply = reply; tried = n } } ∷ [])
+  pub is_reply : IsReplyTo op reply
   pub idle : IsIdle new
   pub map : new.map ≡ old.map
   pub keys : new.keys ≡ old.keys

@@ -3,6 +3,7 @@
 ghost use Rattle.std.specs.Prelude.{ℕ, ◌≡◌, ◌<◌, List, [], ◌∷◌, length, IfOk, OnErr};
 ghost use Rattle.lane_plan.specs.Calls.{ask_of};
 ghost use Rattle.lane_plan.specs.Plans.{HasRoom};
+ghost use Rattle.plain_disk.specs.Outcomes.{IsReplyTo};
 ghost use Rattle.plain_disk.specs.declared.operation.Op.{Op};
 ghost use Rattle.volume_laws.specs.Executing.{Executes};
 ghost use Rattle.volume_machine.specs.Runs.{Happening};
@@ -29,12 +30,15 @@ use volume_core::Volume;
 /// A wrong operation is refused with its number, and else one on a broken volume with 5. Else its
 /// pieces of at most 1 MiB are read or written in order, up to the first that fails; a write with
 /// `fua` of some bytes, and a flush, end in a sync. The reply is error 5 exactly where one of these
-/// calls failed, and a failed write or sync breaks the volume.
+/// calls failed, and a failed write or sync breaks the volume. Of a read that failed the reply says
+/// at which piece, and a content is as long as its read. Zeroes go as a write of so many zero
+/// bytes.
 ///
-/// The spare buffer is for the content of a read, and `part` for pieces of at most 1 MiB of an
-/// operation that has more than one; what is in them isn't used. Where they aren't long enough
-/// memory is taken, before the admit and only where the operation isn't refused. Where there is
-/// none, nothing was done, and both buffers are gone: `part` is an empty one.
+/// The spare buffer is for the content of a read, or for the zeros of a piece of at most 1 MiB, and
+/// `part` for pieces of at most 1 MiB of an operation that has more than one; what is in them isn't
+/// used. Where they aren't long enough memory is taken, before the admit and only where the
+/// operation isn't refused. Where there is none, nothing was done, and both buffers are gone:
+/// `part` is an empty one.
 ///
 /// With the reply comes a buffer for another use, where the volume still has one: that of a write's
 /// body, or the spare one. Else an empty one comes.
@@ -55,6 +59,7 @@ pub fn execute<D: Disk, C: SectorCipher + Copy>(
           session = session;
           exchange = record { op = op; reply = done.0; tried = n };
         } ∷ [])) }
+    ensures reply { IfOk result (λ done. IsReplyTo op done.0) }
     ensures idle { IsIdle volume.new }
     ensures map { volume.new.map ≡ volume.old.map }
     ensures keys { volume.new.keys ≡ volume.old.keys }
@@ -63,7 +68,7 @@ pub fn execute<D: Disk, C: SectorCipher + Copy>(
     ensures gone { OnErr result (part.new ≡ []) }
     ensures memory { OnErr result (IsReadyFor volume.old (ask_of op)) }
     ensures short { OnErr result
-        (HasRoom volume.old.map.atom (ask_of op) spare part.old → ⊥) }
+        (HasRoom volume.old.map.atom op spare part.old → ⊥) }
 {
     let pieces = mem::replace(part, Buffer::empty(alloc));
     let mut plan = plan_for(alloc, volume, session, op, spare, pieces)?;
@@ -84,7 +89,7 @@ fn plan_for<D: Disk, C: SectorCipher + Copy>(
 ) -> Result<Plan, AllocError>
     ensures plan { IfOk result (λ plan. IsPlanFor volume.now plan session op) }
     ensures memory { OnErr result (IsReadyFor volume.now (ask_of op)) }
-    ensures short { OnErr result (HasRoom volume.now.map.atom (ask_of op) spare part → ⊥) }
+    ensures short { OnErr result (HasRoom volume.now.map.atom op spare part → ⊥) }
 {
     let Map { atom, blocks, .. } = volume.map();
     let shape = Shape { atom, blocks };

@@ -88,7 +88,7 @@ module _ {K : Type 0} {old new : State K} {lane session : ℕ} {ask : Ask} {outc
       → IsSound new → wrong_ask old.map.atom (size_of old.map) ask ≡ None
       → Logic new (with_plain plain lane []) left
   logic_admitted {plain = plain} logic sound proper =
-      let under_way = begins old.map session ask logic.sound.fits.known proper in
+      let under_way = begins old.map session ask proper in
       logic_kept is.goes (λ whole. whole) sound (plain-other plain lane []) holds_admitted
       (λ o same. let e : o ≡ begun old.map.atom session ask = cc in
       rw e (knows_nothing (plain-own plain lane []) refl (omega arith) refl refl)) logic

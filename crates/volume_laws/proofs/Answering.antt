@@ -7,7 +7,9 @@ use Common.{IsAtom, block_at-take, wrong_of, wrong_range_of, Block, Exchange, fl
 use Common.{written, written_for_good, Op, Content, Done, Errno, AreSure, Legal, ProperStep}
 use Common.{newest_bytes, Answered, Asked, IsExchange, refusal, wrong_ask, AreExchanges}
 use Rattle.disk_views.proofs.Entries.{blocks_of-at, length-blocks_of}
-use Rattle.plain_disk.specs.{Plain.Step, Plain.WriteStep, declared.operation.Reply.Reply}
+use Rattle.plain_disk.specs.declared.operation.{Reply.Reply, Reply.TheVariants.ErrnoAt}
+use Rattle.plain_disk.specs.{Operations.meaning_of, Plain.Step, Plain.WriteStep}
+use Rattle.plain_disk.proofs.MeaningLemmas.{meaning_proper, meaning_wrong}
 use Rattle.volume_machine.specs.declared.ask.Ask.{Ask}
 use Rattle.volume_machine.specs.declared.ask.Ask.TheVariants.{Flush, Read, Write}
 
@@ -38,7 +40,8 @@ legal_one atom left next one (exchange ∷ (other ∷ exchanges)) step are = abs
 pub wrong_asked : (atom size : ℕ) (ask : Ask) (plain : List ℕ) (op : Op) → Asked ask plain op
     → wrong_of atom size op ≡ wrong_ask atom size ask
 wrong_asked atom size (Read offset len) plain op is = rw is refl
-wrong_asked atom size (Write offset len fua) plain op (body, is, long, begins) = rw (is, long) refl
+wrong_asked atom size (Write offset len fua) plain op (body, is, long, begins) =
+    sym (meaning_wrong atom size op) ∙ rw (is, long) refl
 wrong_asked atom size Flush plain op is = rw is refl
 
 -- the first blocks of a text are those of its front
@@ -91,13 +94,14 @@ module _ (atom : ℕ) (left : List Block) {blocks : ℕ} (count : length left �
   unfolding Step
   step_wrong {number = number} wrong is = rw (judged (Some number) wrong is) (is.reply, refl)
 
-  -- an operation that isn't wrong goes by its kind
+  -- an operation that isn't wrong goes by what it means
   proper_goes : {one : Answered} (next : List Block)
       → wrong_ask atom (blocks * atom) one.ask ≡ None → IsExchange one exchange
-      → ProperStep atom left exchange.op exchange.reply exchange.tried next
+      → ProperStep atom left (meaning_of exchange.op) exchange.reply exchange.tried next
       → Step atom left exchange next
   unfolding Step
-  proper_goes next proper is goes = rw (judged None proper is) goes
+  proper_goes next proper is goes = rw (judged None proper is)
+      (meaning_proper atom left next exchange.op exchange.reply exchange.tried goes)
 
   -- refused on a broken volume
   pub step_refused : {session : ℕ} {ask : Ask} → wrong_ask atom (blocks * atom) ask ≡ None
@@ -107,7 +111,7 @@ module _ (atom : ℕ) (left : List Block) {blocks : ℕ} (count : length left �
       proper_goes left proper is (goes ask is)
     where
       goes : (ask : Ask) → IsExchange (refusal session ask 5) exchange
-          → ProperStep atom left exchange.op exchange.reply exchange.tried left
+          → ProperStep atom left (meaning_of exchange.op) exchange.reply exchange.tried left
       goes (Read offset len) is = rw (is.op, is.reply) (refl, refl)
       goes (Write offset len fua) is =
           let (body, op, long, begins) = is.op in
@@ -131,9 +135,9 @@ module _ (atom : ℕ) (left : List Block) {blocks : ℕ} (count : length left �
   step_read proper right is =
       proper_goes left proper is (rw (is.op, is.reply) (refl, right.0, right.1))
 
-  pub step_unread : {session offset len : ℕ} {plain : List ℕ}
+  pub step_unread : {session offset len place : ℕ} {plain : List ℕ}
       → wrong_ask atom (blocks * atom) (Read offset len) ≡ None
-      → IsExchange (answer session (Read offset len) plain (Errno 5)) exchange
+      → IsExchange (answer session (Read offset len) plain (ErrnoAt 5 place)) exchange
       → Step atom left exchange left
   unfolding ProperStep
   step_unread proper is = proper_goes left proper is (rw (is.op, is.reply) (refl, refl))

@@ -1,28 +1,30 @@
 -- Which operations are answered 5.
 use Rattle.volume_machine.proofs.Common
 use Common.{Bool, List, None, Option, Some, [], ap, false, if◌then◌else◌, inl, inr, refl, subst}
-use Common.{sym, true, ℕ, ◌++◌, ◌↔◌, ◌∙◌, ◌∷◌, ◌≡◌, either, Errno, Answered, by_admit, by_finish}
-use Common.{by_settle, flush_reply, full_reply, has_lock, wrong_ask, IsFresh, Event, Outcome}
-use Common.{admits, broken, device, done, finishes, refused, settles, Happening, no_plain, Seals}
-use Common.{State, open_at, size_of, AdmitStep, Meets, SettleStep, IsRun, answered_by, last_of}
-use Common.{plain_in, Step}
+use Common.{length, sym, true, ℕ, ◌++◌, ◌+◌, ◌↔◌, ◌∷◌, ◌≡◌, either, Done, Answered, by_admit}
+use Common.{by_finish, by_settle, flush_reply, full_reply, has_lock, wrong_ask, IsFresh, Event}
+use Common.{Outcome, admits, broken, device, done, finishes, refused, settles, Happening, no_plain}
+use Common.{Seals, State, open_at, size_of, AdmitStep, Meets, SettleStep, IsRun, answered_by}
+use Common.{last_of, plain_in, Step}
+use Rattle.volume_machine.specs.Answers.{failed_reply}
 use Rattle.volume_machine.specs.declared.ask.Ask.{Ask}
-use Rattle.volume_machine.specs.declared.ask.Ask.TheVariants.{Flush, Read, Write}
+use Rattle.volume_machine.specs.declared.ask.Ask.TheVariants.{Read}
 use Rattle.volume_machine.specs.declared.open.Open.{Open}
+use Rattle.plain_disk.specs.Outcomes.{IsDeviceError}
 use Rattle.volume_laws.specs.Promises.{DeviceErrorsAreExact, GoesByEvents, fails_in, has_failed}
 use Rattle.volume_laws.specs.Promises.{is_failure}
 use Rattle.volume_laws.proofs.{Admits.unanswered, Executions.run-front, Failures.goes_by_events}
 
 -- an event amid a run
-run-event : {K : Type 0} (old : State K) (earlier later : List (Happening K)) (one : Happening K)
-    → IsRun old (earlier ++ one ∷ later) → Meets (last_of old earlier) one.event
+pub run-event : {K : Type 0} (old : State K) (earlier later : List (Happening K))
+    (one : Happening K) → IsRun old (earlier ++ one ∷ later) → Meets (last_of old earlier) one.event
     × Step (last_of old earlier) one.event one.outcome one.after
 unfolding IsRun last_of
 run-event old [] later one (meets, step, is) = (meets, step)
 run-event old (x ∷ earlier) later one (meets, step, is) = run-event x.after earlier later one is
 
 -- an operation that is answered by an admit was refused
-one_answered : (x y : Answered) → x ∷ [] ≡ y ∷ [] → y ≡ x
+pub one_answered : (x y : Answered) → x ∷ [] ≡ y ∷ [] → y ≡ x
 one_answered x y same = cc
 
 refused_by : (session : ℕ) (ask : Ask) (outcome : Outcome) (answered : Answered)
@@ -34,27 +36,31 @@ admit_exact : {K : Type 0} (old new : State K) (lane session : ℕ) (ask : Ask) 
     (answered : Answered) → AdmitStep old lane session ask outcome new
     → by_admit session ask outcome ≡ answered ∷ [] →
     wrong_ask old.map.atom (size_of old.map) answered.ask ≡ None
-    → (answered.reply ≡ Errno 5) ↔ (old.broken ≡ true)
+    → IsDeviceError answered.reply ↔ (old.broken ≡ true)
 admit_exact old new lane session ask outcome answered step is proper =
     let right : wrong_ask old.map.atom (size_of old.map) ask ≡ None =
     rw (← refused_by session ask outcome answered is) proper in let judged = rw right at step in
     elim (either old.broken) [
       | inl broke ↦ let refusal = rw broke at judged in
           let one = one_answered _ answered (rw refusal.0 at is) in
-          (λ five. broke, λ broke. ap (λ a. a.reply) one)
+          (λ five. broke, λ broke. inl (ap (λ a. a.reply) one))
       | inr whole ↦ absurd (let none = unanswered (rw whole at judged) in cc)
     ]
 
 -- a flush that is answered by its settle
+done_is_none : IsDeviceError Done → ⊥
+done_is_none (inl is) = cc
+done_is_none (inr (place, is)) = cc
+
 settle_exact : {K : Type 0} (old new : State K) (lane : ℕ) (o : Open) (outcome : Outcome)
     → SettleStep old lane o outcome new
-    → (flush_reply outcome ≡ Errno 5) ↔ (is_failure outcome ≡ true)
-settle_exact old new lane o done step = (λ five. absurd (cc), λ failed. absurd (cc))
-settle_exact old new lane o device step = (λ five. refl, λ failed. refl)
-settle_exact old new lane o broken step = (λ five. refl, λ failed. refl)
+    → IsDeviceError (flush_reply outcome) ↔ (is_failure outcome ≡ true)
+settle_exact old new lane o done step = (λ five. absurd (done_is_none five), λ failed. absurd (cc))
+settle_exact old new lane o device step = (λ five. refl, λ failed. inl refl)
+settle_exact old new lane o broken step = (λ five. refl, λ failed. inl refl)
 settle_exact old new lane o _ step = absurd step
 
-by_settle_is : (o : Open) (outcome : Outcome) (answered : Answered)
+pub by_settle_is : (o : Open) (outcome : Outcome) (answered : Answered)
     → by_settle (Some o) outcome ≡ answered ∷ [] → answered.reply ≡ flush_reply outcome
 by_settle_is o outcome answered is = elim (either (has_lock o.ask)) [
   | inl has ↦ absurd (let none = rw has at is in cc)
@@ -62,20 +68,25 @@ by_settle_is o outcome answered is = elim (either (has_lock o.ask)) [
 ]
 
 -- an operation that is answered by its finish
-not_five : (ask : Ask) (plain : List ℕ) → full_reply ask plain ≡ Errno 5 → ⊥
-not_five (Read offset len) plain is = cc
-not_five (Write offset len fua) plain is = cc
-not_five Flush plain is = cc
+not_five : (ask : Ask) (plain : List ℕ) → IsDeviceError (full_reply ask plain) → ⊥
+not_five (Read offset len) plain (inl is) = cc
+not_five (Read offset len) plain (inr (place, is)) = cc
+not_five _ plain is = done_is_none is
+
+is_five : (ask : Ask) (plain : List ℕ) → IsDeviceError (failed_reply ask plain)
+is_five (Read offset len) plain = inr (offset + length plain, refl)
+is_five _ plain = inl refl
 
 finish_exact : (failed : Bool) (ask : Ask) (plain : List ℕ)
-    → ((if failed then Errno 5 else full_reply ask plain) ≡ Errno 5) ↔ (failed ≡ true)
-finish_exact true ask plain = (λ five. refl, λ failed. refl)
+    → IsDeviceError (if failed then failed_reply ask plain else full_reply ask plain)
+    ↔ (failed ≡ true)
+finish_exact true ask plain = (λ five. refl, λ failed. is_five ask plain)
 finish_exact false ask plain = (λ five. absurd (not_five ask plain five), λ failed. absurd (cc))
 
 finish_answers : {K : Type 0} (old : State K) (lane : ℕ) (plain : List ℕ) (before : Bool)
     (now : Option Open) (answered : Answered) → open_at old.lanes lane ≡ now →
     ((o : Open) → open_at old.lanes lane ≡ Some o → o.failed ≡ before)
-    → by_finish now plain ≡ answered ∷ [] → (answered.reply ≡ Errno 5) ↔ (before ≡ true)
+    → by_finish now plain ≡ answered ∷ [] → IsDeviceError answered.reply ↔ (before ≡ true)
 finish_answers old lane plain before None answered at fails is = absurd (cc)
 finish_answers old lane plain before (Some o) answered at fails is =
     rw (one_answered _ answered is, ← fails o at) (finish_exact o.failed o.ask plain)
@@ -85,7 +96,7 @@ event_exact : {K : Type 0} (start : State K) (earlier : List (Happening K)) (pla
     GoesByEvents start earlier → Step (last_of start earlier) event outcome new
     → answered_by (last_of start earlier) event outcome plain ≡ answered ∷ [] →
     wrong_ask (last_of start earlier).map.atom (size_of (last_of start earlier).map) answered.ask
-    ≡ None → (answered.reply ≡ Errno 5) ↔ (has_failed start earlier event outcome ≡ true)
+    ≡ None → IsDeviceError answered.reply ↔ (has_failed start earlier event outcome ≡ true)
 unfolding Step answered_by
 event_exact start earlier plain new (admits lane session ask) outcome answered goes step is proper =
     admit_exact (last_of start earlier) new lane session ask outcome answered step is proper

@@ -7,6 +7,8 @@ use Common.{Content, Done, Errno, AreSure, newest_bytes, Answered, IsExchange, b
 use Common.{full_reply, IsForced, IsRead, IsWrite, has_lock, range_of, wrong_ask, IsComplete, Seals}
 use Common.{State, open_at, size_of, Holds, AreExchanges}
 use Rattle.plain_disk.specs.Plain.{Step as PlainStep}
+use Rattle.plain_disk.specs.declared.operation.Reply.TheVariants.{ErrnoAt}
+use Rattle.volume_machine.specs.Answers.{failed_reply}
 use Rattle.volume_machine.specs.declared.ask.Ask.{Ask}
 use Rattle.volume_machine.specs.declared.ask.Ask.TheVariants.{Flush, Read, Write}
 use Rattle.volume_machine.specs.declared.open.Open.{Open}
@@ -193,10 +195,11 @@ module _ {K P Q : Type 0} {seals : Seals} {old new : State K} {plain : ℕ → L
   -- an operation that ends is answered
   end_by : (ask : Ask) → o.ask ≡ ask → has_lock ask ≡ true
       → (o.failed ≡ true) ⊎ ((o.failed ≡ false) × IsComplete o) → AreExchanges (answer o.session
-      ask (plain lane) (if o.failed then Errno 5 else full_reply ask (plain lane)) ∷ []) exchanges
+      ask (plain lane) (if o.failed then failed_reply ask (plain lane)
+      else full_reply ask (plain lane)) ∷ []) exchanges
       → Served P Q seals old new plain left exchanges
-  end_by (Read offset len) is has (inl failed) are =
-      read_ended (answer o.session (Read offset len) (plain lane) (Errno 5)) (rw is tt) (λ exchange.
+  end_by (Read offset len) is has (inl failed) are = read_ended (answer o.session (Read offset len)
+      (plain lane) (ErrnoAt 5 (offset + length (plain lane)))) (rw is tt) (λ exchange.
       step_unread old.map.atom left here.logic.are.count (rw is at proper)) (rw failed at are)
   end_by (Read offset len) is has (inr (unfailed, complete)) are =
       read_ended (answer o.session (Read offset len) (plain lane) (Content (plain lane))) (rw is tt)

@@ -1,17 +1,16 @@
 -- Each event goes on from a moment of a run to another, and answers as the plain disk does.
 use Rattle.volume_machine.proofs.Common
 use Common.{Bool, List, None, Option, Some, [], ap, arith, false, inl, inr, map, refl, sym, true, ℕ}
-use Common.{◌++◌, ◌<◌, ◌∙◌, ◌∷◌, ◌≡◌, either, IsThinned, View, Piece, Block, Exchange, flushed}
-use Common.{Done, Errno, Legal, IsExchange, by_admit, flush_reply, refusal, IsForced, IsRead}
-use Common.{IsWrite, has_lock, wrong_ask, Outcome, broken, device, done, got, ArePieceBytes}
-use Common.{IsPieceOf, failing, moved, place_of, after_read, after_write, with_plain, Seals}
-use Common.{IsSound, IsGoverned, State, open_at, size_of, AdmitStep, Goes, HasPiece, Holds}
+use Common.{◌<◌, ◌∙◌, ◌∷◌, ◌≡◌, MatchBool-at_false, MatchBool-at_true, either, IsThinned, View}
+use Common.{Piece, Block, Exchange, flushed, Done, Errno, Legal, IsExchange, by_admit, flush_reply}
+use Common.{refusal, IsForced, IsRead, IsWrite, has_lock, wrong_ask, Outcome, broken, device, done}
+use Common.{got, ArePieceBytes, IsPieceOf, failing, place_of, after_read, after_write, with_plain}
+use Common.{Seals, IsSound, IsGoverned, State, open_at, size_of, AdmitStep, Goes, HasPiece, Holds}
 use Common.{IsAdmitted, ReadStep, SettleStep, WriteStep, Works, AreExchanges}
 use Rattle.disk_views.proofs.DeviceViews.{block-read}
 use Rattle.plain_disk.specs.Plain.{Step as PlainStep}
 use Rattle.volume_machine.specs.{declared.ask.Ask.Ask, declared.ask.Ask.TheVariants.Flush}
 use Rattle.volume_machine.specs.{declared.open.Open.Open}
-use Rattle.volume_machine.proofs.Soundness.{match_false, match_true}
 use Rattle.volume_laws.specs.Contents.{block_in}
 use Rattle.volume_laws.proofs.Admits.{logic_admitted, logic_forgets, shown_admitted, shown_forgets}
 use Rattle.volume_laws.proofs.Admits.{unanswered}
@@ -99,10 +98,10 @@ module _ {K P Q : Type 0} {seals : Seals} {old new : State K} {plain : ℕ → L
           refused_served session ask number free same
           (λ exchange. step_wrong old.map.atom left here.logic.are.count is) (rw refusing at are))
       by None is = let judged = rw is at step in elim (either old.broken) [
-        | inl was ↦ let (refusing, same) = match_true old.broken _ _ was judged in
+        | inl was ↦ let (refusing, same) = MatchBool-at_true _ _ was judged in
             refused_served session ask 5 free same (λ exchange. step_refused
             old.map.atom left here.logic.are.count is (positive here)) (rw refusing at are)
-        | inr was ↦ admitted_served free is (match_false old.broken _ _ was judged) are
+        | inr was ↦ admitted_served free is (MatchBool-at_false _ _ was judged) are
       ]
 
   -- an event that answers nothing, by what it does to the operations and to the disk

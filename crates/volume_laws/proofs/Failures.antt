@@ -7,7 +7,7 @@ use Common.{got, held, lane_of, reads, settles, waits, writes, Happening, State,
 use Common.{Meets, after_settle, IsRun, last_of, Can, Step}
 use Rattle.std.proofs.Math.Bool.{or-false, or-true}
 use Rattle.volume_machine.specs.declared.open.Open.{Open}
-use Rattle.volume_machine.proofs.EventEffects.{event_effects, event_effects}
+use Rattle.volume_machine.proofs.EventEffects.{event_effects}
 use Rattle.volume_laws.specs.Executing.{BreaksByFaults}
 use Rattle.volume_laws.specs.Promises.{GoesByEvents, breaks_in, fails, fails_in, has_failed_by}
 use Rattle.volume_laws.specs.Promises.{is_failure}

@@ -1,6 +1,6 @@
 -- Runs in which no count of faults moves.
 use Rattle.volume_machine.proofs.Common
-use Common.{Bool, List, MatchBool, MatchOption, None, Option, Some, [], arith, false, if◌then◌else◌}
+use Common.{Bool, List, MatchBool, MatchOption, None, Option, Some, [], arith, false}
 use Common.{inl, inr, length, length-append, refl, subst, sym, true, ℕ, ◌*◌, ◌++◌, ◌+◌, ◌-◌, ◌/◌}
 use Common.{◌<◌, ◌^◌, ◌∙◌, ◌∷◌, ◌≡◌, ◌≢◌, ◌⊎◌, MatchBool-at_false, same_or_not, Rose, Entry, Piece}
 use Common.{wrong_of, Exchange, Content, Done, Errno, Answered, Asked, IsExchange, by_admit}
@@ -12,6 +12,7 @@ use Common.{IsSound, State, begun, open_at, size_of, CanSettle, FinishStep, Goes
 use Common.{ReadStep, SettleStep, WriteStep, AreExchanges, IsRun, answered_by, answered_in, last_of}
 use Common.{plain_after, Can, Step}
 use Rattle.plain_disk.specs.Outcomes.{AreServed, IsServed}
+use Rattle.plain_disk.proofs.MeaningLemmas.{meaning_served}
 use Rattle.volume_machine.specs.declared.ask.Ask.TheVariants.{Flush, Read, Write}
 use Rattle.volume_machine.specs.declared.{ask.Ask.Ask, open.Open.Open}
 use Rattle.volume_machine.proofs.{EventEffects.event_effects, Soundness.sound_kept}
@@ -289,7 +290,8 @@ exchange_served atom size answered exchange is full = served_by (wrong_ask atom 
     full_served : (ask : Ask) → Asked ask answered.plain exchange.op → IsFull answered ask
         → IsServed exchange.op exchange.reply
     full_served (Read offset len) op parts = rw (op, is.reply, parts.0) parts.1
-    full_served (Write offset len fua) (body, op, long, begins) full_so = rw (op, is.reply) full_so
+    full_served (Write offset len fua) (body, op, long, begins) full_so =
+        meaning_served exchange.op exchange.reply (rw (op, is.reply) full_so)
     full_served Flush op full_so = rw (op, is.reply) full_so
 
     served_by : (wrong : Option ℕ) → wrong_of atom size exchange.op ≡ wrong

@@ -5,8 +5,8 @@ use Common.{if◌then◌else◌, inl, inr, length, nat_eq, refl, subst, suc, sym
 use Common.{◌==◌, ◌∙◌, ◌∷◌, ◌≡◌, ◌≢◌, ◌≤◌, MatchBool-at_false, MatchBool-at_true, either}
 use Common.{same_or_not, append-nil, is_of, Map, Alone, Call, after_got, after_put, after_sync}
 use Common.{alone_after, answered_alone, granted_after, idle_lane, open_after, opened_by}
-use Common.{plain_with, with_piece, answers, entry_of, has_lock, IsFresh, Event, Outcome, admits}
-use Common.{asks, broken, device, done, finishes, got, held, lane_of, reads, refused, settles}
+use Common.{plain_with, with_piece, entry_of, has_lock, IsFresh, Event, Outcome, admits}
+use Common.{asks, device, done, finishes, got, held, lane_of, reads, refused, settles}
 use Common.{writes, AgreeOn, rest_of, Happening, no_plain, plain_piece, with_plain, Seals, IsSound}
 use Common.{IsClient, State, begun, open_at, CanRead, CanWrite, Holds, IsAdmitted, Meets, AreMet}
 use Common.{MeetsAlone, alone_of, answers_of, IsRun, answered_by, last_of, plain_after, plain_in}
@@ -35,12 +35,12 @@ got_same : (atom : ℕ) (outcome : Outcome) (o : Open) → AsksSame o (after_got
 got_same atom device o = (refl, refl)
 got_same atom _ o = (refl, refl)
 
-put_same : (atom : ℕ) (sealed : List ℕ) (outcome : Outcome) (o : Open) →
+pub put_same : (atom : ℕ) (sealed : List ℕ) (outcome : Outcome) (o : Open) →
     AsksSame o (after_put atom sealed outcome o)
 put_same atom sealed device o = (refl, refl)
 put_same atom sealed _ o = (refl, refl)
 
-sync_same : (outcome : Outcome) (o : Open) → AsksSame o (after_sync outcome o)
+pub sync_same : (outcome : Outcome) (o : Open) → AsksSame o (after_sync outcome o)
 sync_same device o = (refl, refl)
 sync_same _ o = (refl, refl)
 
@@ -166,7 +166,7 @@ own_step seals old new plain event outcome alone sound is meets step =
     }
 
 -- every other lane is what it was
-other_plain : {K : Type 0} (seals : Seals) (old : State K) (plain : ℕ → List ℕ) (event : Event)
+pub other_plain : {K : Type 0} (seals : Seals) (old : State K) (plain : ℕ → List ℕ) (event : Event)
     (outcome : Outcome) (lane : ℕ) → lane ≢ lane_of event →
     plain_after seals old event outcome plain lane ≡ plain lane
 unfolding plain_after

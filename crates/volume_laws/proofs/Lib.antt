@@ -1,10 +1,12 @@
 pub mod Admits
 pub mod Answering
+mod Besides
 pub mod DeviceErrors
 pub mod EndsServed
 pub mod EventsServed
 pub mod Executions
-pub mod Failures
+pub mod FailedPieces
+mod Failures
 pub mod Faultless
 pub mod Finishing
 pub mod Here

@@ -1,6 +1,6 @@
 -- What an event leaves of other lanes.
 use Rattle.volume_machine.proofs.Common
-use Common.{inl, inr, length, sym, ℕ, ◌∙◌, ◌≡◌, ◌≢◌, either, IsStandingOf, Held, entry_of, has_lock}
+use Common.{inl, inr, length, sym, ℕ, ◌≡◌, ◌≢◌, either, IsStandingOf, Held, entry_of, has_lock}
 use Common.{entered, entries_after, Event, Outcome, admits, asks, finishes, lane_of, reads, refused}
 use Common.{settles, writes, State, open_at, Holds, Meets, Can, Step}
 use Rattle.volume_machine.specs.declared.ask.Ask.{Ask}

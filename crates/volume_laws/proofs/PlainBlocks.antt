@@ -2,7 +2,7 @@
 use Rattle.volume_machine.proofs.Common
 use Common.{Contains, List, [], ap, arith, drop, false, le_of_suc-le-suc, length, length-take, map}
 use Common.{mul-le-mul_right, refl, replicate, slice_index_or, suc, suc-le-suc, sym, take, zero, ℕ}
-use Common.{◌*◌, ◌++◌, ◌+◌, ◌<◌, ◌∙◌, ◌∷◌, ◌≡◌, ◌≤◌, get_or-drop, get_or-map, get_or-take}
+use Common.{◌*◌, ◌+◌, ◌<◌, ◌∙◌, ◌∷◌, ◌≡◌, ◌≤◌, get_or-drop, get_or-map, get_or-take}
 use Common.{Contains-append_left, Contains-push, blocks_of, changed, joined, lengths, block_at}
 use Common.{IsOutside, block_at-part, length-part, same_blocks, Block, flushed, settled, values_of}
 use Common.{written, AreSure, newest_bytes}

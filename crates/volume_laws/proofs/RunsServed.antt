@@ -1,6 +1,6 @@
 -- Runs of events: their operations are those of one plain disk, and a stop leaves what it allows.
 use Rattle.volume_machine.proofs.Common
-use Common.{Contains, List, Some, [], ap, arith, inl, inr, refl, subst, sym, ℕ, ◌++◌, ◌<◌, ◌||◌}
+use Common.{Contains, List, Some, [], ap, arith, inl, inr, refl, subst, sym, ℕ, ◌++◌, ◌<◌}
 use Common.{◌∙◌, ◌∷◌, ◌≡◌, cell_in, value_in, View, view_of_bytes, view_of_cells, Block, Exchange}
 use Common.{values_of, Legal, by_settle, IsRead, IsWrite, breaks, Event, Outcome, admits, asks}
 use Common.{finishes, reads, settles, writes, place_in, Happening, no_plain, Seals, State, open_at}

@@ -9,10 +9,10 @@ use Common.{AreLawful, Seals, AreApart, IsSound, MapFits, State}
 use Rattle.sector_disk.proofs.ImageLemmas.{blocks_of-joined}
 use Rattle.disk_views.proofs.Entries.{blocks_of-at, length-blocks_of}
 use Rattle.volume_machine.proofs.NextPieces.{on_disk}
-use Rattle.volume_laws.specs.Contents.{IsSealed, IsSealed, StandsFor, StandsFor, block_in, block_in}
-use Rattle.volume_laws.specs.Contents.{blocks_from, opened_block, opened_blocks, plain_blocks}
-use Rattle.volume_laws.specs.Promises.{Starts, Starts, StartsCovered, TellsSettled}
-use Rattle.volume_laws.proofs.PlainBlocks.{newest_contained, sure_blocks, sure_blocks}
+use Rattle.volume_laws.specs.Contents.{IsSealed, StandsFor, block_in, blocks_from}
+use Rattle.volume_laws.specs.Contents.{opened_block, opened_blocks, plain_blocks}
+use Rattle.volume_laws.specs.Promises.{Starts, StartsCovered, TellsSettled}
+use Rattle.volume_laws.proofs.PlainBlocks.{newest_contained, sure_blocks}
 
 -- a volume starts from bytes that each block's atom has sealed
 starts_by : {K : Type 0} {start : State K} {seals : Seals} {bytes : List ℕ} (blocks : List Block)
@@ -144,7 +144,7 @@ current_in [] place = refl
 current_in (cell ∷ cells) zero = refl
 current_in (cell ∷ cells) (suc place) = current_in cells place
 
-settled_cell : (cells : List Cell) (place : ℕ) (atom : List ℕ) → AreSettled cells
+pub settled_cell : (cells : List Cell) (place : ℕ) (atom : List ℕ) → AreSettled cells
     → Contains (cell_in cells place).candidates atom → atom ≡ (cell_in cells place).current
 unfolding AreSettled
 settled_cell [] place atom settled has = absurd (omega arith)

@@ -1,18 +1,21 @@
 -- What is promised of every run of events.
 use Rattle.std.specs.Prelude.{length, ℕ, ◌≡◌, ◌*◌, ◌↔◌, Bool, true, false, ◌==◌, ◌||◌}
-use Rattle.std.specs.Prelude.{if◌then◌else◌, List, [], ◌∷◌, replicate, Some, None}
+use Rattle.std.specs.Prelude.{if◌then◌else◌, List, [], ◌∷◌, replicate, Option, Some, None}
+use Rattle.std.specs.Prelude.{option_map}
 use Rattle.base_terms.specs.Blocks.{lengths}
 use Rattle.base_terms.specs.ErrorNumbers.{device_error}
+use Rattle.plain_disk.specs.Outcomes.{IsDeviceError}
 use Rattle.plain_disk.specs.Plain.{Block, Exchange, AreSure, Legal}
-use Rattle.plain_disk.specs.declared.operation.Reply.TheVariants.{Errno}
+use Rattle.plain_disk.specs.declared.operation.Reply.{Reply}
+use Rattle.plain_disk.specs.declared.operation.Reply.TheVariants.{ErrnoAt}
 use Rattle.sector_disk.specs.Cells.{AreSettled, content, currents}
 use Rattle.sector_disk.specs.Steps.{Told}
 use Rattle.volume_machine.specs.Asks.{wrong_ask}
 use Rattle.volume_laws.specs.Contents.{AreBlocksOf, StandsFor, StandsNow, StopsAllowed, Covers}
 use Rattle.volume_machine.specs.Beginnings.{IsFresh}
 use Rattle.volume_machine.specs.Effects.{breaks}
-use Rattle.volume_machine.specs.Events.{Event, admits, asks, settles, finishes, lane_of, Outcome}
-use Rattle.volume_machine.specs.Events.{device, broken}
+use Rattle.volume_machine.specs.Events.{Event, admits, asks, reads, settles, finishes, lane_of}
+use Rattle.volume_machine.specs.Events.{Outcome, device, broken}
 use Rattle.volume_machine.specs.Answers.{Answered, AreExchanges}
 use Rattle.volume_machine.specs.Runs.{Happening, IsRun, last_of, answered_by, answered_in, plain_in}
 use Rattle.volume_machine.specs.Runs.{no_plain}
@@ -124,6 +127,36 @@ has_failed start earlier (settles lane) outcome = is_failure outcome
 has_failed start earlier (finishes lane) outcome = fails_in lane false earlier
 has_failed start earlier _ outcome = false
 
+-- the offset at which the lane's next piece begins
+abbrev pub next_of : Option Open → ℕ
+next_of None = 0
+next_of (Some o) = o.next
+
+abbrev pub next_place : {K : Type 0} → State K → ℕ → ℕ
+next_place state lane = next_of (open_at state.lanes lane) * state.map.atom
+
+-- where the read of the event's lane has failed, given where it had before: at the piece that the
+-- event was to read
+abbrev pub failed_by : Event → Outcome → ℕ → Option ℕ → Option ℕ
+failed_by (admits lane session ask) outcome place before = None
+failed_by (reads lane len) outcome place before =
+    if is_failure outcome then Some place else before
+failed_by _ outcome place before = before
+
+-- the same of any lane's read in a run
+unfoldable pub failed_piece_in : {K : Type 0} → State K → ℕ → Option ℕ → List (Happening K)
+    → Option ℕ
+failed_piece_in old lane before [] = before
+failed_piece_in old lane before (one ∷ rest) =
+    failed_piece_in one.after lane
+    (if lane_of one.event == lane then failed_by one.event one.outcome (next_place old lane) before
+    else before) rest
+
+-- the piece at which the read failed that this event answers
+abbrev pub failed_piece : {K : Type 0} → State K → List (Happening K) → Event → Option ℕ
+failed_piece start earlier (finishes lane) = failed_piece_in start lane None earlier
+failed_piece start earlier _ = None
+
 -- an operation that isn't wrong and is answered by this event is answered 5 exactly where it has
 -- failed
 abbrev pub DeviceErrorsAreExact : {K : Type 0} → Seals → State K → List (Happening K) → Happening K
@@ -132,4 +165,19 @@ DeviceErrorsAreExact seals start earlier one = (answered : Answered) →
     answered_by (last_of start earlier) one.event one.outcome
     (plain_in seals start no_plain earlier) ≡ answered ∷ [] →
     wrong_ask start.map.atom (size_of start.map) answered.ask ≡ None →
-    (answered.reply ≡ Errno device_error) ↔ (has_failed start earlier one.event one.outcome ≡ true)
+    IsDeviceError answered.reply ↔ (has_failed start earlier one.event one.outcome ≡ true)
+
+-- the error of a reply that says where it was, with its place
+abbrev pub placed_error : Reply → Option (ℕ × ℕ)
+placed_error (ErrnoAt number place) = Some (number, place)
+placed_error _ = None
+
+-- what is answered by this event has a place exactly where it is a read of which a piece failed: 5,
+-- where that piece begins
+abbrev pub PlacesAreExact : {K : Type 0} → Seals → State K → List (Happening K) → Happening K
+    → Type 0
+PlacesAreExact seals start earlier one = (answered : Answered) →
+    answered_by (last_of start earlier) one.event one.outcome
+    (plain_in seals start no_plain earlier) ≡ answered ∷ [] →
+    placed_error answered.reply
+    ≡ option_map (λ place. (device_error, place)) (failed_piece start earlier one.event)

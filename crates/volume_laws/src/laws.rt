@@ -21,7 +21,8 @@ ghost use Rattle.volume_laws.specs.Executing.{Executes, StopsAlong, TellsRun, Se
 ghost use Rattle.volume_laws.specs.Executing.{BreaksByFaults};
 ghost use Rattle.volume_laws.specs.Lanes.{AreAlone, AreMetByLanes, AreSteps, alone_in};
 ghost use Rattle.volume_laws.specs.Promises.{Starts, StartsCovered, TellsSettled, ServesEachRun};
-ghost use Rattle.volume_laws.specs.Promises.{GoesByEvents, DeviceErrorsAreExact};
+ghost use Rattle.volume_laws.specs.Promises.{GoesByEvents, DeviceErrorsAreExact, PlacesAreExact};
+ghost use Rattle.volume_laws.specs.Rest.{KeepsRest};
 ghost use Rattle.volume_machine.specs.Answers.{AreExchanges, Tagged, untagged};
 ghost use Rattle.volume_machine.specs.Runs.{Happening, IsRun, last_of, answered_in, no_plain};
 ghost use Rattle.volume_machine.specs.Beginnings.{ChangeNothing};
@@ -67,11 +68,16 @@ pub fn failures_go_by_events<C: SectorCipher>()
 
 /// A read, a write or a flush that isn't wrong is answered 5 exactly where its admit found the
 /// volume broken, or one of its pieces or its settle answered that the device failed or the volume
-/// is broken. So it is for each event of a run that answers an operation.
+/// is broken. So it is for each event of a run that answers an operation. The answer has a place
+/// exactly where it is a read's of which a piece failed so: that at which the piece begins.
 pub fn device_errors_are_exact<C: SectorCipher>()
-    ensures { (start : State (Keys C)) (seals : Seals) (earlier later : List (Happening (Keys C)))
-        (one : Happening (Keys C)) → IsFresh start → IsRun start (earlier ++ one ∷ later) →
-        DeviceErrorsAreExact seals start earlier one }
+    ensures reply { (start : State (Keys C)) (seals : Seals)
+        (earlier later : List (Happening (Keys C))) (one : Happening (Keys C)) → IsFresh start →
+        IsRun start (earlier ++ one ∷ later) → DeviceErrorsAreExact seals start earlier one }
+    ensures place { (start : State (Keys C)) (seals : Seals)
+        (earlier later : List (Happening (Keys C))) (one : Happening (Keys C)) → IsSound start →
+        IsFresh start → AreLawful start.map.atom seals → IsRun start (earlier ++ one ∷ later) →
+        PlacesAreExact seals start earlier one }
 {}
 
 /// An event of one lane leaves every other lane's operation as it was, and what another lane holds
@@ -157,6 +163,19 @@ pub fn runs_stop_anywhere<C: SectorCipher>()
 pub fn tables_are_of_events<C: SectorCipher>()
     ensures { (start : State (Keys C)) (run : List (Happening (Keys C))) (now : Told) →
         IsRun start run → (last_of start run).disk.told ≡ Some now → TellsRun start run now }
+{}
+
+/// Where a disk tells its tables, a run keeps each atom in whose place no live block lies: it holds
+/// what it held, and a stop leaves there only that or what it might have left before. So where all
+/// atoms were certain at the start, each image that a stop leaves has there what they held: the
+/// header, its keyslots, and whatever else lies beside the volume. It holds of a broken volume too.
+///
+/// Where no zone is at hand each block is live. Where one is, its own blocks aren't, so that their
+/// places are kept too, and the areas that its steps reach: what these write is no event of a run.
+pub fn runs_leave_the_rest<C: SectorCipher>()
+    ensures { (start : State (Keys C)) (run : List (Happening (Keys C))) (now : Told) →
+        IsSound start → Works start → IsRun start run →
+        (last_of start run).disk.told ≡ Some now → KeepsRest start now }
 {}
 
 /// Where the count of faults stood, each operation of a run got its content or is done, or was

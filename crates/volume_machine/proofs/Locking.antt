@@ -1,8 +1,8 @@
 -- Lemmas on the table of locks: who has an entry, who holds, and that holders don't conflict.
 use Rattle.volume_machine.proofs.Common
 use Common.{after_first, before_first, All, Bool, List, MatchOption, None, Option, Some, [], arith}
-use Common.{false, find, inl, inr, length, add-one, one-add, refl, suc, true, ℕ, ◌++◌, ◌+◌, ◌∙◌}
-use Common.{◌∷◌, ◌≡◌, ◌≢◌, ◌⊎◌, All-cons, All-head, All-nil, All-tail, Conflicts, IsStanding}
+use Common.{false, find, inl, inr, length, add-one, one-add, refl, suc, true, ℕ, ◌++◌, ◌∙◌}
+use Common.{◌∷◌, ◌≡◌, ◌≢◌, All-cons, All-head, All-nil, All-tail, Conflicts, IsStanding}
 use Common.{IsStandingOf, is_of, without, Entry, Held}
 pub use Common.{either, same_or_not}
 

@@ -1,9 +1,9 @@
 -- Each event keeps what holds of a volume between events.
 use Rattle.volume_machine.proofs.Common
-use Common.{after_first, Bool, List, MatchBool, None, Option, Some, [], ap, arith, false, find}
+use Common.{after_first, Bool, List, None, Option, Some, [], ap, arith, false, find}
 use Common.{if◌then◌else◌, inl, inr, length, length-append, refl, suc, sym, true, zero, ℕ, ◌*◌}
-use Common.{◌++◌, ◌+◌, ◌/◌, ◌<◌, ◌∙◌, ◌∷◌, ◌≡◌, ◌≢◌, ◌≤◌, ◌⊎◌, MatchBool-at_false}
-use Common.{MatchBool-at_true, either, same_or_not, IsAtom, has_entry, is_of, without, Entry, Map}
+use Common.{◌++◌, ◌+◌, ◌<◌, ◌∙◌, ◌∷◌, ◌≡◌, ◌≢◌, ◌≤◌, MatchBool-at_false}
+use Common.{MatchBool-at_true, either, same_or_not, has_entry, is_of, without, Entry, Map}
 use Common.{wrong_range_of, entry_of, has_lock, range_of, wrong_ask, Event, Outcome, admits, asks}
 use Common.{broken, device, done, finishes, got, reads, settles, writes, failing, settling, IsSound}
 use Common.{IsUnderWay, entry_in, locks, State, begun, open_at, size_of, AdmitStep, Goes}
@@ -14,12 +14,6 @@ use Rattle.plain_disk.proofs.RangeLemmas.{blocks_within, range_of_proper}
 use Rattle.volume_machine.proofs.Locking.{after-last, after-more, after-none, after-without}
 use Rattle.volume_machine.proofs.Locking.{find-last, find-left, find-more, find-without}
 use Rattle.volume_machine.proofs.Locking.{is_of-other, is_of-own, length-without}
-
-pub match_true : (b : Bool) (A B : Type 0) → b ≡ true → MatchBool b A B → A
-match_true b A B is = MatchBool-at_true A B is
-
-pub match_false : (b : Bool) (A B : Type 0) → b ≡ false → MatchBool b A B → B
-match_false b A B is = MatchBool-at_false A B is
 
 -- one where a lane's operation has an entry
 abbrev ones : Option Open → ℕ
@@ -104,9 +98,9 @@ proper-inside atom blocks (Write offset len fua) some proper = blocks_within
 proper-inside atom blocks Flush some proper = omega arith
 
 -- an operation that isn't wrong, as it begins, and as it goes on
-pub begins : (map : Map) (session : ℕ) (ask : Ask) → IsAtom map.atom
-    → wrong_ask map.atom (size_of map) ask ≡ None → IsUnderWay map (begun map.atom session ask)
-begins map session ask known proper = record {
+pub begins : (map : Map) (session : ℕ) (ask : Ask) → wrong_ask map.atom (size_of map) ask ≡ None
+    → IsUnderWay map (begun map.atom session ask)
+begins map session ask proper = record {
   proper = proper;
   range_is = refl;
   begun = omega arith;
@@ -188,7 +182,7 @@ module _ {K : Type 0} {old : State K} (sound : IsSound old) where
           | inr other ↦ after-more (is_of k) old.entries e (not_own k other) (sound.once k)
         ];
         under_way = λ o is. let same : o ≡ begun old.map.atom session ask = cc in
-            rw same (begins old.map session ask sound.fits.known proper);
+            rw same (begins old.map session ask proper);
       }
 
   -- an operation left
@@ -220,7 +214,7 @@ module _ {K : Type 0} {old : State K} (new : State K) (lane : ℕ) (sound : IsSo
         | inr none ↦
             rw ((MatchBool-at_false _ _ none is.enters).0) (stays sound (rw (free, none) refl)
             (rw (free, none) refl) (λ o same. let e : o ≡ begun old.map.atom session ask = cc in
-            rw e (begins old.map session ask sound.fits.known proper)))
+            rw e (begins old.map session ask proper)))
       ])
 
   sound_admit : (session : ℕ) (ask : Ask) (outcome : Outcome) (wrong : Option ℕ)

@@ -1,13 +1,14 @@
 -- Operations that were answered, and what they are to a plain disk.
-use Rattle.std.specs.Prelude.{ℕ, ◌≡◌, ◌==◌, if◌then◌else◌, List, [], ◌∷◌, length, take, Option}
-use Rattle.std.specs.Prelude.{Some, None}
+use Rattle.std.specs.Prelude.{ℕ, ◌≡◌, ◌+◌, ◌==◌, if◌then◌else◌, List, [], ◌∷◌, length, take}
+use Rattle.std.specs.Prelude.{Option, Some, None}
 use Rattle.base_terms.specs.ErrorNumbers.{device_error}
 use Rattle.plain_disk.specs.declared.operation.Op.{Op}
 use Rattle.plain_disk.specs.declared.operation.Op.TheVariants as Ops
 use Rattle.plain_disk.specs.declared.operation.Reply.{Reply}
-use Rattle.plain_disk.specs.declared.operation.Reply.TheVariants.{Content, Done, Errno}
+use Rattle.plain_disk.specs.declared.operation.Reply.TheVariants.{Content, Done, Errno, ErrnoAt}
+use Rattle.plain_disk.specs.Operations.{meaning_of}
 use Rattle.plain_disk.specs.Plain.{Exchange}
-use Rattle.volume_machine.specs.Asks.{has_lock}
+use Rattle.volume_machine.specs.Asks.{has_lock, offset_of}
 use Rattle.volume_machine.specs.Events.{Event, admits, settles, finishes, Outcome, refused, done}
 use Rattle.volume_machine.specs.declared.ask.Ask.{Ask}
 use Rattle.volume_machine.specs.declared.ask.Ask.TheVariants.{Read, Write, Flush}
@@ -41,8 +42,17 @@ by_settle (Some o) outcome =
     if has_lock o.ask then []
     else record { session = o.session; ask = o.ask; plain = []; reply = flush_reply outcome } ∷ []
 
+-- the error of a device, of a read with its place
+abbrev pub failed_at : Ask → ℕ → Reply
+failed_at (Read offset len) place = ErrnoAt device_error place
+failed_at _ place = Errno device_error
+
 -- every other at its finish: by 5 where one of its events answered that the device failed or the
--- volume is broken, a read else by its pieces joined
+-- volume is broken, and of a read with the place of the piece at which that was, behind the bytes
+-- that were read; a read else by its pieces joined
+abbrev pub failed_reply : Ask → List ℕ → Reply
+failed_reply ask plain = failed_at ask (offset_of ask + length plain)
+
 abbrev pub full_reply : Ask → List ℕ → Reply
 full_reply (Read offset len) plain = Content plain
 full_reply _ plain = Done
@@ -54,7 +64,7 @@ by_finish (Some o) plain =
       session = o.session;
       ask = o.ask;
       plain = plain;
-      reply = if o.failed then Errno device_error else full_reply o.ask plain;
+      reply = if o.failed then failed_reply o.ask plain else full_reply o.ask plain;
     } ∷ []
 
 -- what an event answers, of its lane's open operation and what that has in plain
@@ -64,12 +74,12 @@ answers (settles lane) outcome operation plain = by_settle operation outcome
 answers (finishes lane) outcome operation plain = by_finish operation plain
 answers _ outcome operation plain = []
 
--- the operation is the one that was asked for; the body of a write begins with the bytes that were
--- tried
+-- the operation is the one that was asked for, a write that of its bytes or of so many zeros; they
+-- begin with the bytes that were tried
 abbrev pub Asked : Ask → List ℕ → Op → Type 0
 Asked (Read offset len) plain op = op ≡ Ops.Read offset len
 Asked (Write offset len fua) plain op =
-    (body : List ℕ) × (op ≡ Ops.Write offset body fua) × (length body ≡ len) ×
+    (body : List ℕ) × (meaning_of op ≡ Ops.Write offset body fua) × (length body ≡ len) ×
     (take (length plain) body ≡ plain)
 Asked Flush plain op = op ≡ Ops.Flush
 

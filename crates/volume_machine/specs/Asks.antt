@@ -17,6 +17,12 @@ range_of atom (Write offset len fua) =
     record { start = offset / atom; end = offset / atom + len / atom }
 range_of atom Flush = record { start = 0; end = 0 }
 
+-- the offset from which on it reads or writes
+abbrev pub offset_of : Ask → ℕ
+offset_of (Read offset len) = offset
+offset_of (Write offset len fua) = offset
+offset_of Flush = 0
+
 -- a read has its blocks with others, a write for itself
 abbrev pub kind_of : Ask → Kind
 kind_of (Read offset len) = Shared

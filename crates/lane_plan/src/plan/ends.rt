@@ -1,5 +1,9 @@
 // How an operation ends.
 
+ghost use Rattle.std.specs.Prelude.{◌≡◌, ◌*◌, ◌<◌, ◌^◌};
+ghost use Rattle.volume_machine.specs.Asks.{IsRead};
+ghost use Rattle.lane_plan.specs.Plans.{failure_of};
+
 use super::{Plan, Stage};
 use crate::buffers::taken;
 use crate::{Call, Next};
@@ -73,7 +77,7 @@ impl Plan {
         ensures session { self.new.operation.session ≡ self.old.operation.session }
     {
         if self.operation.failed {
-            return self.reply(Reply::Errno(DEVICE_ERROR));
+            return self.reply(failure(self.operation, self.shape.atom));
         }
         match self.operation.ask {
             Ask::Read { length, .. } => {
@@ -93,5 +97,17 @@ impl Plan {
         let buffer = taken(self.alloc, &mut self.whole);
         let len = buffer.len();
         Next::Reply(reply, buffer.into_text(len))
+    }
+}
+
+/// The error of an operation that has failed on blocks of `atom` bytes: of a read with the offset
+/// of the piece that wasn't read.
+fn failure(operation: Open, atom: u32) -> Reply
+    requires { IsRead operation.ask → operation.next * atom < 2 ^ 64 }
+    ensures { result ≡ failure_of operation atom }
+{
+    match operation.ask {
+        Ask::Read { .. } => Reply::ErrnoAt(DEVICE_ERROR, operation.next * u64::from(atom)),
+        Ask::Write { .. } | Ask::Flush => Reply::Errno(DEVICE_ERROR),
     }
 }

@@ -22,7 +22,7 @@ impl Plan {
     ghost use Rattle.volume_machine.specs.Seals.{KeysFit, Seals, seals_of};
     ghost use Rattle.lane_plan.specs.Plans.{Awaits, Goes, HasPlace, IsBack, IsBegun, IsOnly};
     ghost use Rattle.lane_plan.specs.Plans.{IsPart};
-    ghost use Rattle.lane_plan.specs.Plans.{IsTakenIn, IsTold, calls_left, place_in};
+    ghost use Rattle.lane_plan.specs.Plans.{IsTakenIn, IsTold, calls_left, place_in, source_in};
     ghost use Rattle.lane_plan.specs.declared.calls.Answer.TheVariants as Answers;
     ghost use Rattle.lane_plan.specs.declared.calls.Next.TheVariants as Nexts;
 
@@ -49,7 +49,7 @@ impl Plan {
         match self.operation.ask {
             Ask::Read { .. } => Call::Read(self.lent(piece), len),
             Ask::Write { .. } => {
-                let from = self.place_of(piece);
+                let from = self.source_of(piece);
                 Call::Write(self.prepared(keys, piece, from, len))
             }
             Ask::Flush => unreachable!(),
@@ -99,7 +99,8 @@ impl Plan {
         taken(self.alloc, &mut self.part)
     }
 
-    /// The next piece of a body, which begins at byte `from` of it, sealed.
+    /// The next piece of a body or of zeros, which begins at byte `from` of the whole buffer,
+    /// sealed.
     #[inline(always)]
     fn prepared<C: SectorCipher>(
         &mut self,
@@ -160,6 +161,19 @@ impl Plan {
         ensures { result ≡ place_in self.now piece }
     {
         (piece.first - self.operation.range.start) as usize * self.shape.atom as usize
+    }
+
+    /// Where the bytes that a piece writes begin in the whole buffer: zeros stand at its front
+    /// alone.
+    fn source_of(&self, piece: Piece) -> usize
+        requires order { self.now.operation.range.start ≤ piece.first }
+        requires small { place_in self.now piece < 2 ^ 63 }
+        ensures { result ≡ source_in self.now piece }
+    {
+        if self.zeroes {
+            return 0;
+        }
+        self.place_of(piece)
     }
 
     /// The next call once a piece was read.

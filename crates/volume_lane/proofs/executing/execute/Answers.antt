@@ -5,6 +5,10 @@ returns-clause-executes g c =
     let it = c.carry_out-done.ensures c.args.session c.args.op c.in_ok-plan.ensures.plan in
     (it.run, it.n, it.executes)
 
+pub returns-clause-reply : goal.returns-clause-reply
+returns-clause-reply g c =
+    (c.carry_out-done.ensures c.args.session c.args.op c.in_ok-plan.ensures.plan).is_reply
+
 pub returns-clause-idle : goal.returns-clause-idle
 returns-clause-idle g c =
     (c.carry_out-done.ensures c.args.session c.args.op c.in_ok-plan.ensures.plan).idle

@@ -1,11 +1,18 @@
-use Rattle.volume_machine.proofs.Common.{refl}
-use Rattle.lane_plan.proofs.PlanEnds.{content-is, done-is, goes-finished, has-content}
+use Rattle.volume_machine.proofs.Common.{◌∙◌}
+use Rattle.lane_plan.proofs.PlanEnds.{content-is, done-is, failure-is, goes-finished, has-content}
+use Rattle.lane_plan.proofs.PlanEnds.{has-place-at}
 use Rattle.lane_plan.proofs.plan.Plan.finished.Goals as goal
 
 pub returns-then-self-clause-goes : goal.returns-then-self-clause-goes
 returns-then-self-clause-goes c = λ seals. rw (c.reply.ensures.next, c.reply.ensures.is)
     (goes-finished seals c.args.self.now _ _ _ c.requires.stage
-    (λ op alone ending. rw c.if-self.true refl))
+    (λ op alone ending. c.failure.ensures
+    ∙ failure-is c.args.self.now op alone ending c.if-self.true))
+
+pub failure-requires : goal.failure-requires
+failure-requires c = λ reading.
+    let (seals, told) = c.requires.told in
+    has-place-at seals c.args.self.now told c.requires.stage reading
 
 pub into_text-content-requires : goal.into_text-content-requires
 into_text-content-requires c =

@@ -14,9 +14,9 @@ pub returns-in-Write-clause-awaits : goal.returns-in-Write-clause-awaits
 returns-in-Write-clause-awaits g c =
     λ op alone back. next-write g.C.SectorCipher.sector g.C.SectorCipher.sealed
     g.C.SectorCipher.opened c.args.keys.now c.args.self.now c.prepared.new.self
-    op alone c.args.map c.next_piece-piece.result c.prepared.result c.place_of-from.result
+    op alone c.args.map c.next_piece-piece.result c.prepared.result c.source_of-from.result
     _ g.met.C.SectorCipher.unseal_undoes_seal c.requires.fits back (rw c.rest.ensures
-    at c.next_piece-piece.ensures) (rw c.in-Write.is tt) c.place_of-from.ensures refl
+    at c.next_piece-piece.ensures) (rw c.in-Write.is tt) c.source_of-from.ensures refl
     c.prepared.ensures.bytes c.prepared.ensures.length c.prepared.ensures.are_bytes
     c.prepared.ensures.plain c.prepared.ensures.room c.prepared.ensures.rest c.prepared.ensures.same
 
