@@ -2,7 +2,7 @@
 
 use crate::words::{bytes_of, content_at};
 use anyhow::{Result, anyhow};
-use nbd_wire::{ChunkHead, ChunkType, ErrorAt};
+use nbd_wire::{ChunkHead, ChunkType, ErrorAt, error_number, offset_and_content};
 use std::alloc::Global;
 
 /// What a client knows of a reply.
@@ -18,10 +18,9 @@ struct Reading {
 
 /// Takes the data of a chunk with bytes. Says what is wrong with it.
 fn take_content(alloc: Global, reading: &mut Reading, data: &[u8]) -> Result<Option<String>> {
-    let Some((offset, bytes)) = data.split_first_chunk::<8>() else {
+    let Some((offset, bytes)) = offset_and_content(data) else {
         return Ok(Some(String::from_str(alloc, "no offset")?));
     };
-    let offset = u64::from_be_bytes(*offset);
     if offset != reading.next || bytes.is_empty() {
         return Ok(Some(format!(in alloc;
             "{} bytes at {offset} for those at {}",
@@ -39,15 +38,12 @@ fn take_content(alloc: Global, reading: &mut Reading, data: &[u8]) -> Result<Opt
 
 /// The error that some data tell, whose number isn't 0.
 fn error_of(alloc: Global, data: &[u8]) -> Result<Option<String>> {
-    match data {
-        [a, b, c, d, 0, 0] => {
-            let number = u32::from_be_bytes([*a, *b, *c, *d]);
-            if number == 0 {
-                return Ok(None);
-            }
-            Ok(Some(format!(in alloc; "error {number}")?))
-        }
-        _ => Ok(None),
+    let Some((data, [])) = data.split_first_chunk::<6>() else {
+        return Ok(None);
+    };
+    match error_number(data) {
+        Some(number) => Ok(Some(format!(in alloc; "error {number}")?)),
+        None => Ok(None),
     }
 }
 

@@ -35,20 +35,21 @@ fn ask(rt: HostRuntime, alloc: Global, address: SocketAddr, sent: &[u8]) -> io::
     Ok(answer)
 }
 
-/// Serves the disk that is held to a client that sends the bytes of `client_sends.hex`, and tells
-/// how that ended, and whether the client gets those of `client_gets.hex` alone.
+/// Serves the disk that is held to a client that sends the bytes of `NAME_sends.hex`, and tells how
+/// that ended, and whether the client gets those of `NAME_gets.hex` alone.
 pub(crate) fn serve_client<W: Threads, B: Bay + Drop>(
     threads: &W,
     rt: HostRuntime,
     station: &mut Station<B>,
+    name: &str,
 ) -> Result<String>
 where
     B::Disk: Drop,
     B::Link: Drop,
 {
     let alloc = rt.alloc();
-    let sent = bytes_in(&rt, "client_sends.hex")?;
-    let wanted = bytes_in(&rt, "client_gets.hex")?;
+    let sent = bytes_in(&rt, format!(in alloc; "{name}_sends.hex")?.as_str())?;
+    let wanted = bytes_in(&rt, format!(in alloc; "{name}_gets.hex")?.as_str())?;
     let address = free_address(&rt)?;
     let text = address.to_string(alloc)?;
     station.perform(alloc, &["links", text.as_str(), "1", "1"])?;

@@ -22,9 +22,9 @@
 //! - `opens NAME ATOM` opens a disk without a bay, and tells why it doesn't open;
 //! - `key NAME` asks the bay for a key file, `links ADDRESS WORKERS SESSIONS` for links to an
 //!   address, and `taken` for links where somebody listens;
-//! - `client` serves the disk that is held to a client over TCP, in a thread of its own, which
-//!   sends the bytes of `data/client_sends.hex`, and tells how the session ended, how many bytes
-//!   were taken and put, and whether the client got those of `data/client_gets.hex` and no others;
+//! - `client NAME` serves the disk that is held to a client over TCP, in a thread of its own, which
+//!   sends the bytes of `data/NAME_sends.hex`, and tells how the session ended, how many bytes were
+//!   taken and put, and whether the client got those of `data/NAME_gets.hex` and no others;
 //! - `refusing` makes device calls of a file that refuses all, `willing` of one that refuses none;
 //! - `deaf GONE` asks a link for clients whose listener fails once it met so many that went away;
 //! - `memory bay FAILS..` makes a bay in memory, with a disk `x`, a key file `k`, the address

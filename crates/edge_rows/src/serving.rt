@@ -1,11 +1,16 @@
 // Sessions of clients with a disk.
 
+ghost use Rattle.std.specs.Prelude.{IfOk};
+ghost use Rattle.plain_disk.specs.Outcomes.{IsReplyTo, MayBeDone};
+ghost use Rattle.plain_disk.specs.declared.operation.Op.{Op};
+ghost use Rattle.plain_disk.specs.declared.operation.Op.TheVariants as Ops;
+
 use crate::calls::{Answer, read, sync, write};
 use anyhow::{Result, anyhow};
 use base_terms::{Bytes, DEVICE_ERROR, INVALID, zeros};
 use bays::Link;
 use nbd_session::{Export, Port, Submitted, serve_session};
-use plain_disk::{Op, Reply};
+use plain_disk::{MAX_READ, Op, Reply};
 use sector_disk::Disk;
 use std::alloc::{AllocError, Global};
 
@@ -15,8 +20,10 @@ pub(crate) struct DiskPort<D: Disk + Drop> {
     pub(crate) disk: D,
 }
 
-/// What an operation is answered whose device call was answered so.
-fn reply(answer: Answer) -> Reply {
+/// What an operation without a content is answered whose device call was answered so.
+fn reply(answer: Answer) -> Reply
+    ensures { (op : Op) → MayBeDone op → IsReplyTo op result }
+{
     match answer {
         Answer::Done => Reply::Done,
         Answer::Failed => Reply::Errno(DEVICE_ERROR),
@@ -25,18 +32,24 @@ fn reply(answer: Answer) -> Reply {
 }
 
 impl<D: Disk + Drop> DiskPort<D> {
-    /// Answers a read.
+    /// Answers a read, of at most 32 MiB.
     fn content(
         &mut self,
         alloc: Global,
         offset: u64,
         length: u32,
-    ) -> std::result::Result<Reply, AllocError> {
-        let mut content = zeros(alloc, length as usize)?;
-        match read(&mut self.disk, offset, &mut content) {
-            Answer::Done => Ok(Reply::Content(Bytes::new(content))),
-            refused => Ok(reply(refused)),
+    ) -> std::result::Result<Reply, AllocError>
+        ensures { IfOk result (λ reply. IsReplyTo (Ops.Read offset length) reply) }
+    {
+        if length > MAX_READ || offset > u64::MAX - u64::from(length) {
+            return Ok(Reply::Errno(INVALID));
         }
+        let mut content = zeros(alloc, length as usize)?;
+        Ok(match read(&mut self.disk, offset, &mut content) {
+            Answer::Done => Reply::Content(Bytes::new(content)),
+            Answer::Failed => Reply::Errno(DEVICE_ERROR),
+            Answer::Unmet => Reply::Errno(INVALID),
+        })
     }
 }
 
@@ -54,6 +67,10 @@ impl<D: Disk + Drop> Port for DiskPort<D> {
         let reply = match op {
             Op::Read { offset, length } => self.content(alloc, offset, length)?,
             Op::Write { offset, body, .. } => {
+                reply(write(&mut self.disk, offset, body.as_slice()))
+            }
+            Op::Zeroes { offset, length, .. } => {
+                let body = zeros(alloc, length as usize)?;
                 reply(write(&mut self.disk, offset, body.as_slice()))
             }
             Op::Flush => reply(sync(&mut self.disk)),

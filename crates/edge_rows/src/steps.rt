@@ -55,7 +55,7 @@ where
             ["willing"] => answers(alloc, false),
             ["deaf", gone] => unheard(alloc, rt.stderr(), u32::from(byte_of(gone)?)),
             ["taken"] => self.taken(rt),
-            ["client"] => serve_client(threads, *rt, &mut self.machine),
+            ["client", name] => serve_client(threads, *rt, &mut self.machine, name),
             words => self.machine.perform(alloc, words),
         }
     }

@@ -1,4 +1,5 @@
-ghost use Rattle.std.specs.Prelude.{◌≡◌, ◌≢◌, ◌↔◌, IsTrue, is_ok};
+ghost use Rattle.std.specs.Prelude.{◌≡◌, ◌↔◌, IsTrue, MatchResult, Ok, Err, is_ok};
+ghost use Rattle.std.specs.IoError.{error_kind};
 ghost use Rattle.io_edge.specs.Calls.{IsInterrupted};
 
 use std::io::{self, ErrorKind};
@@ -15,7 +16,9 @@ pub fn is_interrupted<T>(answer: &io::Result<T>) -> bool
 
 /// The answer, of whose error the kind alone is kept.
 pub fn kind_of<T>(answer: io::Result<T>) -> Result<T, ErrorKind>
-    ensures { is_ok result ≡ is_ok answer }
+    ensures done { is_ok result ≡ is_ok answer }
+    ensures kind { MatchResult answer (λ value. result ≡ Ok value)
+        (λ error. result ≡ Err (error_kind error)) }
 {
     match answer {
         Ok(value) => Ok(value),

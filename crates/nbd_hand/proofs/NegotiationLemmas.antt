@@ -14,8 +14,8 @@ use Rattle.nbd_hand.specs.declared.options.ClientOption.{ClientOption}
 use Rattle.nbd_hand.specs.declared.options.Course.TheVariants.{Begins, Ends}
 use Rattle.nbd_hand.specs.declared.options.Verdict.{Verdict}
 use Rattle.nbd_hand.specs.declared.options.Verdict.TheVariants.{Tell, Names, Inform, Agree, Refuse}
-use Rattle.nbd_hand.specs.declared.options.Verdict.TheVariants.{Abort, Unknown}
-use Rattle.nbd_hand.specs.Grammar.{AreOptions, answers_to, last_answer}
+use Rattle.nbd_hand.specs.declared.options.Verdict.TheVariants.{Structure, Abort, Unknown}
+use Rattle.nbd_hand.specs.Grammar.{AreOptions, agreed_after, answers_to, last_answer}
 use Rattle.nbd_stream.specs.Moments.{Moment, Talks}
 use Rattle.nbd_hand.specs.Negotiation.{FlagsAre, Answers, Negotiates, ending_in, course_to}
 use Rattle.nbd_hand.specs.Options.{course_of, verdict_of}
@@ -122,19 +122,24 @@ agreed flags options last taken whole front ended = record {
   ended = ended;
 }
 
+-- what is agreed on by these flags, before any option
+abbrev pub by_flags : ℕ → Agreed
+by_flags flags = record { no_zeroes = no_zeroes flags; structured = false }
+
 agreed-messages : (export : Export) (flags : ℕ)
     (options : List ClientOption) (last : Option ClientOption)
     (taken whole front : List ℕ) (ended : Bool) →
-    greeting ∷ ([] ++ (answers_to export (no_zeroes flags) options ++ last_answer export
-    (no_zeroes flags) last))
+    greeting ∷ ([] ++ (answers_to export (by_flags flags) options ++ last_answer export
+    (agreed_after (by_flags flags) options) last))
     ≡ messages_of export (agreed flags options last taken whole front ended)
 agreed-messages export flags options last taken whole front ended = refl
 
-abbrev pub HasAgreed : Export → Bool → Moment → Moment → Result Agreed Ending → Type 0
-HasAgreed export no_zeroes a b result =
+abbrev pub HasAgreed : Export → Agreed → Moment → Moment → Result Agreed Ending → Type 0
+HasAgreed export first a b result =
     (options : List ClientOption) × (last : Option ClientOption) × (taken : List ℕ)
     × (whole : List ℕ) × (front : List ℕ) × (ended : Bool)
-    × Answers export no_zeroes 0 a b (course_to result) options last taken whole front ended
+    × IfOk result (λ said. said ≡ agreed_after first options)
+    × Answers export first 0 a b (course_to result) options last taken whole front ended
 
 still : (options : List ClientOption) → 0 + length options ≡ length options
 still options = omega arith
@@ -156,10 +161,10 @@ begins-unended options (Some option) n taken ended are =
 agreed-case : (result : Result Agreed Ending) (flags : ℕ) (options : List ClientOption)
     (last : Option ClientOption)
     (taken whole front : List ℕ) (ended : Bool) → flags < 4 →
-    IfOk result (λ said. said.no_zeroes ≡ no_zeroes flags) →
+    IfOk result (λ said. said ≡ agreed_after (by_flags flags) options) →
     AreOptions (course_to result) options last (0 + length options) taken ended →
     MatchResult result
-    (λ said. (said.no_zeroes ≡ no_zeroes flags)
+    (λ said. (said ≡ agreed_after (by_flags flags) options)
     × IsBegun (agreed flags options last taken whole front ended))
     (λ ending. IsUnserved negotiating (agreed flags options last taken whole front ended)
     ending)
@@ -180,13 +185,12 @@ agreed-case (Err ending) flags options last taken whole front ended fit is are =
 
 -- the options were answered, up to the last one
 pub goes-agreed : (export : Export) (a b : Reach) (m : Moment) (s s' : Outlet) (p p' : ℕ)
-    (flags : ClientFlags) (left_out : Bool)
+    (flags : ClientFlags) (first : Agreed)
     (result : Result Agreed Ending) → HasPut s s' p p' greeting (Ok tt) →
-    HasFlagsOf a b (Ok flags) →
-    left_out ≡ no_zeroes flags.bits → IfOk result (λ said. said.no_zeroes ≡ left_out) →
-    HasAgreed export left_out (with_sink b s' p') m result →
+    HasFlagsOf a b (Ok flags) → first ≡ by_flags flags.bits →
+    HasAgreed export first (with_sink b s' p') m result →
     HasNegotiated export (with_sink a s p) m result
-goes-agreed export a b m s s' p p' flags left_out result put came is said answered =
+goes-agreed export a b m s s' p p' flags first result put came is answered =
     let options = answered.0 in
     let last = answered.1 in
     let taken = answered.2 in
@@ -196,7 +200,7 @@ goes-agreed export a b m s s' p p' flags left_out result put came is said answer
     let bits = flags.bits in
     let answers = subst (λ z.
     Answers export z 0 (with_sink b s' p') m (course_to result) options last taken whole front
-    ended) is answered.6 in
+    ended) is answered.7 in
     let before : Talks (with_sink a s p) (with_sink b s' p') None (u32_text bits) (greeting ∷ [])
     greeting [] false =
     subst (λ (w : List ℕ).
@@ -218,7 +222,8 @@ goes-agreed export a b m s s' p p' flags left_out result put came is said answer
       record {
         talks = talks;
         by_case = agreed-case result bits options last taken whole front ended came.2.by_case.1
-            (subst (λ z. IfOk result (λ said. said.no_zeroes ≡ z)) is said) answers.options_are;
+            (subst (λ z. IfOk result (λ said. said ≡ agreed_after z options)) is answered.6)
+            answers.options_are;
       },
     )
 
@@ -236,6 +241,7 @@ verdict-spent Tell is = cc
 verdict-spent Names is = cc
 verdict-spent Inform is = cc
 verdict-spent Agree is = cc
+verdict-spent Structure is = cc
 verdict-spent (Refuse reply) is = cc
 verdict-spent Abort is = cc
 verdict-spent Unknown is = cc

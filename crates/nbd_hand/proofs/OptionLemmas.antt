@@ -15,10 +15,11 @@ use Rattle.nbd_hand.specs.declared.options.Verdict.{Verdict}
 use Rattle.nbd_hand.specs.declared.options.Verdict.TheVariants as Verdicts
 use Rattle.nbd_stream.specs.Endings.{IsCount}
 use Rattle.nbd_hand.specs.Grammar.{IsOption, StopsOptions, EndsOptions, SpellsOptions, CourseIs}
-use Rattle.nbd_hand.specs.Grammar.{course_after, answers_to, last_answer}
+use Rattle.nbd_hand.specs.declared.negotiation.Agreed.{Agreed}
+use Rattle.nbd_hand.specs.Grammar.{agreed_after, course_after, answers_to, last_answer}
 use Rattle.nbd_stream.specs.Moments.{Moment, Talks, trouble_of, calm}
 use Rattle.nbd_hand.specs.Negotiation.{Answers, ending_in}
-use Rattle.nbd_hand.specs.Options.{verdict_of, course_of, answer_of}
+use Rattle.nbd_hand.specs.Options.{agreed_by, verdict_of, course_of, answer_of}
 use Rattle.nbd_hand.specs.Taking.{OptionIs}
 use Rattle.nbd_stream.specs.Traffic.{Reach}
 use Rattle.nbd_stream.proofs.MomentLemmas.{with_sink}
@@ -39,21 +40,23 @@ stops-count (TooMany m) ended bytes n stops fewer = absurd stops
 stops-count WriteFault ended bytes n stops fewer = absurd stops
 stops-count _ ended bytes n stops fewer = fewer
 
-abbrev pub HasAnswered : Export → Bool → Moment → Moment → Course → Type 0
-HasAnswered export no_zeroes a b course =
+-- options were answered, of which what was agreed on before became this
+abbrev pub HasAnswered : Export → Agreed → Agreed → Moment → Moment → Course → Type 0
+HasAnswered export agreed next a b course =
     (options : List ClientOption) × (last : Option ClientOption) × (taken : List ℕ)
     × (whole : List ℕ) × (front : List ℕ) × (ended : Bool)
     × (course ≡ GoesOn → length options ≡ 1)
+    × (next ≡ agreed_after agreed options)
     × ((n : ℕ) → n < 65536 →
-    Answers export no_zeroes n a b course options last taken whole front ended)
+    Answers export agreed n a b course options last taken whole front ended)
 
 -- the session ended where an option was to come
-pub answers-stop : (export : Export) (no_zeroes : Bool) (a b : Reach) (s : Outlet) (p : ℕ)
+pub answers-stop : (export : Export) (agreed : Agreed) (a b : Reach) (s : Outlet) (p : ℕ)
     (ending : Ending) →
     ((bytes : List ℕ) × (ended : Bool) × OptionIs a b (Err ending) bytes ended) →
-    HasAnswered export no_zeroes (with_sink a s p) (with_sink b s p) (Ends ending)
-unfolding SpellsOptions answers_to
-answers-stop export no_zeroes a b s p ending next = (
+    HasAnswered export agreed agreed (with_sink a s p) (with_sink b s p) (Ends ending)
+unfolding SpellsOptions answers_to agreed_after
+answers-stop export agreed a b s p ending next = (
   [],
   None,
   next.0,
@@ -61,6 +64,7 @@ answers-stop export no_zeroes a b s p ending next = (
   [],
   next.1,
   (λ e. absurd (cc)),
+  refl,
   λ n fewer. record {
     talks = talks-stopped a b s p ending next.0 next.1 next.2.takes next.2.at_end next.2.by_case.0;
     options_are = record {
@@ -86,39 +90,39 @@ unfolding SpellsOptions
 spells-none = refl
 
 -- the answer of one option, also of the last one
-answer-one : (export : Export) (no_zeroes : Bool) (option : ClientOption) (verdict : Verdict) →
+answer-one : (export : Export) (agreed : Agreed) (option : ClientOption) (verdict : Verdict) →
     verdict ≡ verdict_of option.option option.body →
-    answer_of export no_zeroes option.option verdict ∷ [] ≡ answers_to export no_zeroes
+    answer_of export agreed option.option verdict ∷ [] ≡ answers_to export agreed
     (option ∷ [])
 unfolding answers_to
-answer-one export no_zeroes option verdict is =
-    ap (λ v. answer_of export no_zeroes option.option v ∷ []) is
+answer-one export agreed option verdict is =
+    ap (λ v. answer_of export agreed option.option v ∷ []) is
 
-answer-first : (export : Export) (no_zeroes : Bool) (option : ClientOption) →
-    answers_to export no_zeroes (option ∷ []) ≡ answers_to export no_zeroes
-    (option ∷ []) ++ last_answer export no_zeroes None
-answer-first export no_zeroes option = sym (append-nil (answers_to export no_zeroes (option ∷ [])))
+answer-first : (export : Export) (agreed : Agreed) (option : ClientOption) →
+    answers_to export agreed (option ∷ []) ≡ answers_to export agreed (option ∷ [])
+    ++ last_answer export (agreed_after agreed (option ∷ [])) None
+answer-first export agreed option = sym (append-nil (answers_to export agreed (option ∷ [])))
 
-answer-last : (export : Export) (no_zeroes : Bool) (option : ClientOption) →
-    answers_to export no_zeroes (option ∷ []) ≡ answers_to export no_zeroes [] ++ last_answer export
-    no_zeroes (Some option)
-unfolding answers_to
-answer-last export no_zeroes option = refl
+answer-last : (export : Export) (agreed : Agreed) (option : ClientOption) →
+    answers_to export agreed (option ∷ []) ≡ answers_to export agreed []
+    ++ last_answer export (agreed_after agreed []) (Some option)
+unfolding answers_to agreed_after
+answer-last export agreed option = refl
 
 -- an option came, and its answer was put or not
-pub record OptionTalks (export : Export) (no_zeroes : Bool) (a b : Moment) (option : ClientOption)
+pub record OptionTalks (export : Export) (agreed : Agreed) (a b : Moment) (option : ClientOption)
     (result : Option Ending) : Type 0 where
   pub taken : List ℕ
   pub whole : List ℕ
   pub front : List ℕ
   pub is : IsOption taken option.option option.body
-  pub talks : Talks a b result taken (answers_to export no_zeroes (option ∷ [])) whole front false
+  pub talks : Talks a b result taken (answers_to export agreed (option ∷ [])) whole front false
 
 -- the negotiation goes on behind it, or doesn't since its answer didn't go out
-goes-on : (export : Export) (no_zeroes : Bool) (a b : Moment) (option : ClientOption) →
-    course_after option ≡ GoesOn →
-    OptionTalks export no_zeroes a b option None → HasAnswered export no_zeroes a b GoesOn
-goes-on export no_zeroes a b option goes talk = (
+goes-on : (export : Export) (agreed next : Agreed) (a b : Moment) (option : ClientOption) →
+    course_after option ≡ GoesOn → next ≡ agreed_after agreed (option ∷ []) →
+    OptionTalks export agreed a b option None → HasAnswered export agreed next a b GoesOn
+goes-on export agreed next a b option goes changes talk = (
   option ∷ [],
   None,
   talk.taken,
@@ -126,9 +130,10 @@ goes-on export no_zeroes a b option goes talk = (
   talk.front,
   false,
   (λ e. refl),
+  changes,
   λ n fewer. record {
     talks = subst (λ ms. Talks a b None talk.taken ms talk.whole talk.front false)
-        (answer-first export no_zeroes option) talk.talks;
+        (answer-first export agreed option) talk.talks;
     options_are = record {
       text = talk.taken;
       bytes = [];
@@ -139,11 +144,11 @@ goes-on export no_zeroes a b option goes talk = (
   },
 )
 
-goes-no_further : (export : Export) (no_zeroes : Bool) (a b : Moment) (option : ClientOption) →
-    course_after option ≡ GoesOn →
-    OptionTalks export no_zeroes a b option (Some WriteFault) →
-    HasAnswered export no_zeroes a b (Ends WriteFault)
-goes-no_further export no_zeroes a b option goes talk = (
+goes-no_further : (export : Export) (agreed next : Agreed) (a b : Moment) (option : ClientOption) →
+    course_after option ≡ GoesOn → next ≡ agreed_after agreed (option ∷ []) →
+    OptionTalks export agreed a b option (Some WriteFault) →
+    HasAnswered export agreed next a b (Ends WriteFault)
+goes-no_further export agreed next a b option goes changes talk = (
   option ∷ [],
   None,
   talk.taken,
@@ -151,9 +156,10 @@ goes-no_further export no_zeroes a b option goes talk = (
   talk.front,
   false,
   (λ e. absurd (cc)),
+  changes,
   λ n fewer. record {
     talks = subst (λ ms. Talks a b (Some WriteFault) talk.taken ms talk.whole talk.front false)
-        (answer-first export no_zeroes option) talk.talks;
+        (answer-first export agreed option) talk.talks;
     options_are = record {
       text = talk.taken;
       bytes = [];
@@ -165,12 +171,13 @@ goes-no_further export no_zeroes a b option goes talk = (
 )
 
 -- the option is the last one
-comes-last : (export : Export) (no_zeroes : Bool) (a b : Moment) (option : ClientOption)
-    (course : Course) → (course ≡ GoesOn → ⊥) →
-    (talk : OptionTalks export no_zeroes a b option (ending_in course)) →
+comes-last : (export : Export) (agreed next : Agreed) (a b : Moment) (option : ClientOption)
+    (course : Course) → (course ≡ GoesOn → ⊥) → next ≡ agreed →
+    (talk : OptionTalks export agreed a b option (ending_in course)) →
     ((n : ℕ) → n < 65536 → CourseIs course (Some option) n false talk.taken) →
-    HasAnswered export no_zeroes a b course
-comes-last export no_zeroes a b option course other talk is = (
+    HasAnswered export agreed next a b course
+unfolding agreed_after
+comes-last export agreed next a b option course other stays talk is = (
   [],
   Some option,
   talk.taken,
@@ -178,9 +185,10 @@ comes-last export no_zeroes a b option course other talk is = (
   talk.front,
   false,
   (λ e. absurd (other e)),
+  stays,
   λ n fewer. record {
     talks = subst (λ ms. Talks a b (ending_in course) talk.taken ms talk.whole talk.front false)
-        (answer-last export no_zeroes option) talk.talks;
+        (answer-last export agreed option) talk.talks;
     options_are = record {
       text = [];
       bytes = talk.taken;
@@ -191,11 +199,11 @@ comes-last export no_zeroes a b option course other talk is = (
   },
 )
 
-enough : (export : Export) (no_zeroes : Bool) (a b : Moment) (option : ClientOption)
+enough : (export : Export) (agreed : Agreed) (a b : Moment) (option : ClientOption)
     (ending : Ending) → trouble_of ending ≡ calm →
-    OptionTalks export no_zeroes a b option None →
-    OptionTalks export no_zeroes a b option (Some ending)
-enough export no_zeroes a b option ending calm_is talk = record {
+    OptionTalks export agreed a b option None →
+    OptionTalks export agreed a b option (Some ending)
+enough export agreed a b option ending calm_is talk = record {
   taken = talk.taken;
   whole = talk.whole;
   front = talk.front;
@@ -204,53 +212,60 @@ enough export no_zeroes a b option ending calm_is talk = record {
 }
 
 -- an option's answer was put
-answered-by : (export : Export) (no_zeroes : Bool) (a b : Moment) (option : ClientOption)
-    (verdict : Verdict) →
-    course_of verdict ≡ course_after option → OptionTalks export no_zeroes a b option None →
-    HasAnswered export no_zeroes a b (course_of verdict)
-answered-by export no_zeroes a b option Verdicts.Tell is talk =
-    comes-last export no_zeroes a b option Begins (λ e. absurd (cc)) talk
+answered-by : (export : Export) (agreed next : Agreed) (a b : Moment) (option : ClientOption)
+    (verdict : Verdict) → next ≡ agreed_by verdict agreed →
+    next ≡ agreed_after agreed (option ∷ []) → course_of verdict ≡ course_after option →
+    OptionTalks export agreed a b option None →
+    HasAnswered export agreed next a b (course_of verdict)
+answered-by export agreed next a b option Verdicts.Tell by changes is talk =
+    comes-last export agreed next a b option Begins (λ e. absurd (cc)) by talk
     (λ n fewer. (talk.is, sym is, fewer))
-answered-by export no_zeroes a b option Verdicts.Names is talk =
-    goes-on export no_zeroes a b option (sym is) talk
-answered-by export no_zeroes a b option Verdicts.Inform is talk =
-    goes-on export no_zeroes a b option (sym is) talk
-answered-by export no_zeroes a b option Verdicts.Agree is talk =
-    comes-last export no_zeroes a b option Begins (λ e. absurd (cc)) talk
+answered-by export agreed next a b option Verdicts.Names by changes is talk =
+    goes-on export agreed next a b option (sym is) changes talk
+answered-by export agreed next a b option Verdicts.Inform by changes is talk =
+    goes-on export agreed next a b option (sym is) changes talk
+answered-by export agreed next a b option Verdicts.Agree by changes is talk =
+    comes-last export agreed next a b option Begins (λ e. absurd (cc)) by talk
     (λ n fewer. (talk.is, sym is, fewer))
-answered-by export no_zeroes a b option (Verdicts.Refuse reply) is talk =
-    goes-on export no_zeroes a b option (sym is) talk
-answered-by export no_zeroes a b option Verdicts.Abort is talk =
-    let all = enough export no_zeroes a b option Aborted refl talk in
-    comes-last export no_zeroes a b option (Ends Aborted) (λ e. absurd (cc)) all
+answered-by export agreed next a b option Verdicts.Structure by changes is talk =
+    goes-on export agreed next a b option (sym is) changes talk
+answered-by export agreed next a b option (Verdicts.Refuse reply) by changes is talk =
+    goes-on export agreed next a b option (sym is) changes talk
+answered-by export agreed next a b option Verdicts.Abort by changes is talk =
+    let all = enough export agreed a b option Aborted refl talk in
+    comes-last export agreed next a b option (Ends Aborted) (λ e. absurd (cc)) by all
     (λ n fewer. (all.is, inl (sym is), fewer))
-answered-by export no_zeroes a b option Verdicts.Unknown is talk =
-    let all = enough export no_zeroes a b option UnknownExport refl talk in
-    comes-last export no_zeroes a b option (Ends UnknownExport) (λ e. absurd (cc)) all
+answered-by export agreed next a b option Verdicts.Unknown by changes is talk =
+    let all = enough export agreed a b option UnknownExport refl talk in
+    comes-last export agreed next a b option (Ends UnknownExport) (λ e. absurd (cc)) by all
     (λ n fewer. (all.is, inl (sym is), fewer))
 
 -- an option's answer didn't go out
-unanswered-by : (export : Export) (no_zeroes : Bool) (a b : Moment) (option : ClientOption)
-    (verdict : Verdict) →
-    course_of verdict ≡ course_after option → (verdict ≡ Verdicts.Unknown → ⊥) →
-    OptionTalks export no_zeroes a b option (Some WriteFault) →
-    HasAnswered export no_zeroes a b (Ends WriteFault)
-unanswered-by export no_zeroes a b option Verdicts.Tell is known talk =
-    comes-last export no_zeroes a b option (Ends WriteFault) (λ e. absurd (cc)) talk
+unanswered-by : (export : Export) (agreed next : Agreed) (a b : Moment) (option : ClientOption)
+    (verdict : Verdict) → next ≡ agreed_by verdict agreed →
+    next ≡ agreed_after agreed (option ∷ []) → course_of verdict ≡ course_after option →
+    (verdict ≡ Verdicts.Unknown → ⊥) →
+    OptionTalks export agreed a b option (Some WriteFault) →
+    HasAnswered export agreed next a b (Ends WriteFault)
+unanswered-by export agreed next a b option Verdicts.Tell by changes is known talk =
+    comes-last export agreed next a b option (Ends WriteFault) (λ e. absurd (cc)) by talk
     (λ n fewer. (talk.is, inr (refl, inl (sym is)), fewer))
-unanswered-by export no_zeroes a b option Verdicts.Names is known talk =
-    goes-no_further export no_zeroes a b option (sym is) talk
-unanswered-by export no_zeroes a b option Verdicts.Inform is known talk =
-    goes-no_further export no_zeroes a b option (sym is) talk
-unanswered-by export no_zeroes a b option Verdicts.Agree is known talk =
-    comes-last export no_zeroes a b option (Ends WriteFault) (λ e. absurd (cc)) talk
+unanswered-by export agreed next a b option Verdicts.Names by changes is known talk =
+    goes-no_further export agreed next a b option (sym is) changes talk
+unanswered-by export agreed next a b option Verdicts.Inform by changes is known talk =
+    goes-no_further export agreed next a b option (sym is) changes talk
+unanswered-by export agreed next a b option Verdicts.Agree by changes is known talk =
+    comes-last export agreed next a b option (Ends WriteFault) (λ e. absurd (cc)) by talk
     (λ n fewer. (talk.is, inr (refl, inl (sym is)), fewer))
-unanswered-by export no_zeroes a b option (Verdicts.Refuse reply) is known talk =
-    goes-no_further export no_zeroes a b option (sym is) talk
-unanswered-by export no_zeroes a b option Verdicts.Abort is known talk =
-    comes-last export no_zeroes a b option (Ends WriteFault) (λ e. absurd (cc)) talk
+unanswered-by export agreed next a b option Verdicts.Structure by changes is known talk =
+    goes-no_further export agreed next a b option (sym is) changes talk
+unanswered-by export agreed next a b option (Verdicts.Refuse reply) by changes is known talk =
+    goes-no_further export agreed next a b option (sym is) changes talk
+unanswered-by export agreed next a b option Verdicts.Abort by changes is known talk =
+    comes-last export agreed next a b option (Ends WriteFault) (λ e. absurd (cc)) by talk
     (λ n fewer. (talk.is, inr (refl, inr (sym is)), fewer))
-unanswered-by export no_zeroes a b option Verdicts.Unknown is known talk = absurd (known refl)
+unanswered-by export agreed next a b option Verdicts.Unknown by changes is known talk =
+    absurd (known refl)
 
 -- an option was taken
 option-took : (a b : Reach) (s : Outlet) (p : ℕ) (option : ClientOption) (bytes : List ℕ)
@@ -265,32 +280,41 @@ differ is = absurd (cc)
 abbrev pub HasTaken : Reach → Reach → ClientOption → Type 0
 HasTaken a b option = (bytes : List ℕ) × (ended : Bool) × OptionIs a b (Ok option) bytes ended
 
-pub answered : (export : Export) (no_zeroes : Bool) (a b : Reach) (s s' : Outlet) (p p' : ℕ)
-    (option : ClientOption) (verdict : Verdict) →
+-- what becomes of what was agreed on is told by the option
+agreed-so : (agreed next : Agreed) (option : ClientOption) (verdict : Verdict) →
+    next ≡ agreed_by verdict agreed → verdict ≡ verdict_of option.option option.body →
+    next ≡ agreed_after agreed (option ∷ [])
+unfolding agreed_after
+agreed-so agreed next option verdict by is = by ∙ ap (λ v. agreed_by v agreed) is
+
+pub answered : (export : Export) (agreed after : Agreed) (a b : Reach) (s s' : Outlet) (p p' : ℕ)
+    (option : ClientOption) (verdict : Verdict) → after ≡ agreed_by verdict agreed →
     HasTaken a b option → verdict ≡ verdict_of option.option option.body →
-    HasPut s s' p p' (answer_of export no_zeroes option.option verdict) (Ok tt) →
-    HasAnswered export no_zeroes (with_sink a s p) (with_sink b s' p') (course_of verdict)
-answered export no_zeroes a b s s' p p' option verdict next is put =
-    answered-by export no_zeroes _ _ option verdict (ap course_of is) (record {
+    HasPut s s' p p' (answer_of export agreed option.option verdict) (Ok tt) →
+    HasAnswered export agreed after (with_sink a s p) (with_sink b s' p') (course_of verdict)
+answered export agreed after a b s s' p p' option verdict by next is put =
+    answered-by export agreed after _ _ option verdict by
+    (agreed-so agreed after option verdict by is) (ap course_of is) (record {
       taken = next.0;
-      whole = answer_of export no_zeroes option.option verdict;
+      whole = answer_of export agreed option.option verdict;
       front = [];
       is = next.2.by_case.0;
       talks = subst (λ ms. Talks (with_sink a s p) (with_sink b s' p') None next.0 ms
-          (answer_of export no_zeroes option.option verdict) [] false)
-          (answer-one export no_zeroes option verdict is)
+          (answer_of export agreed option.option verdict) [] false)
+          (answer-one export agreed option verdict is)
           (talks-answered _ _ _ None next.0 _ _ [] false
           (option-took a b s p option next.0 next.1 next.2) (talks-put b s s' p p' _ put));
     })
 
-pub unanswered : (export : Export) (no_zeroes : Bool) (a b : Reach) (s s' : Outlet) (p p' : ℕ)
-    (option : ClientOption) (verdict : Verdict) (e : Failed) →
+pub unanswered : (export : Export) (agreed after : Agreed) (a b : Reach) (s s' : Outlet) (p p' : ℕ)
+    (option : ClientOption) (verdict : Verdict) (e : Failed) → after ≡ agreed_by verdict agreed →
     HasTaken a b option → verdict ≡ verdict_of option.option option.body →
     (verdict ≡ Verdicts.Unknown → false ≡ true) →
-    HasPut s s' p p' (answer_of export no_zeroes option.option verdict) (Err e) →
-    HasAnswered export no_zeroes (with_sink a s p) (with_sink b s' p') (Ends WriteFault)
-unanswered export no_zeroes a b s s' p p' option verdict e next is known put =
-    unanswered-by export no_zeroes _ _ option verdict (ap course_of is) (λ u. differ (known u))
+    HasPut s s' p p' (answer_of export agreed option.option verdict) (Err e) →
+    HasAnswered export agreed after (with_sink a s p) (with_sink b s' p') (Ends WriteFault)
+unanswered export agreed after a b s s' p p' option verdict e by next is known put =
+    unanswered-by export agreed after _ _ option verdict by
+    (agreed-so agreed after option verdict by is) (ap course_of is) (λ u. differ (known u))
     (record {
       taken = next.0;
       whole = put.0;
@@ -298,19 +322,30 @@ unanswered export no_zeroes a b s s' p p' option verdict e next is known put =
       is = next.2.by_case.0;
       talks = subst (λ ms. Talks (with_sink a s p) (with_sink b s' p') (Some WriteFault) next.0 ms
           put.0 put.1 false)
-          (answer-one export no_zeroes option verdict is)
+          (answer-one export agreed option verdict is)
           (talks-answered _ _ _ (Some WriteFault) next.0 _ _ put.1 false
           (option-took a b s p option next.0 next.1 next.2) (talks-unput b s s' p p' _ e put));
     })
 
-answers_to-append : (export : Export) (no_zeroes : Bool) (xs ys : List ClientOption) →
-    answers_to export no_zeroes (xs ++ ys) ≡ answers_to export no_zeroes xs ++ answers_to export
-    no_zeroes ys
-unfolding answers_to
-answers_to-append export no_zeroes [] ys = refl
-answers_to-append export no_zeroes (x ∷ xs) ys =
-    ap (λ t. answer_of export no_zeroes x.option (verdict_of x.option x.body) ∷ t)
-    (answers_to-append export no_zeroes xs ys)
+answers_to-append : (export : Export) (agreed : Agreed) (xs ys : List ClientOption) →
+    answers_to export agreed (xs ++ ys) ≡ answers_to export agreed xs
+    ++ answers_to export (agreed_after agreed xs) ys
+unfolding answers_to agreed_after
+answers_to-append export agreed [] ys = refl
+answers_to-append export agreed (x ∷ xs) ys =
+    ap (λ t. answer_of export agreed x.option (verdict_of x.option x.body) ∷ t)
+    (answers_to-append export (agreed_by (verdict_of x.option x.body) agreed) xs ys)
+
+pub agreed_after-append : (agreed : Agreed) (xs ys : List ClientOption) →
+    agreed_after (agreed_after agreed xs) ys ≡ agreed_after agreed (xs ++ ys)
+unfolding agreed_after
+agreed_after-append agreed [] ys = refl
+agreed_after-append agreed (x ∷ xs) ys =
+    agreed_after-append (agreed_by (verdict_of x.option x.body) agreed) xs ys
+
+pub agreed_after-none : (agreed : Agreed) → agreed ≡ agreed_after agreed []
+unfolding agreed_after
+agreed_after-none agreed = refl
 
 SpellsOptions-append : (xs ys : List ClientOption) (a b : List ℕ) → SpellsOptions xs a →
     SpellsOptions ys b → SpellsOptions (xs ++ ys) (a ++ b)
@@ -327,10 +362,10 @@ SpellsOptions-append (x ∷ xs) ys a b first second = (
 )
 
 -- nothing was answered yet
-pub answers-none : (export : Export) (no_zeroes : Bool) (m : Moment) →
-    Answers export no_zeroes 0 m m GoesOn [] None [] [] [] false
+pub answers-none : (export : Export) (agreed : Agreed) (m : Moment) →
+    Answers export agreed 0 m m GoesOn [] None [] [] [] false
 unfolding answers_to
-answers-none export no_zeroes m = record {
+answers-none export agreed m = record {
   talks = talks-none m;
   options_are = record {
     text = [];
@@ -343,25 +378,27 @@ answers-none export no_zeroes m = record {
 }
 
 -- options were answered, and then others
-pub answers-more : (export : Export) (no_zeroes : Bool) (a b c : Moment) (course : Course) (k : ℕ)
+pub answers-more : (export : Export) (agreed : Agreed) (a b c : Moment) (course : Course) (k : ℕ)
     (xs ys : List ClientOption) (last : Option ClientOption)
     (ts us vs ws front : List ℕ) (ended : Bool) →
-    Answers export no_zeroes 0 a b GoesOn xs None ts vs [] false → k ≡ length xs →
-    Answers export no_zeroes k b c course ys last us ws front ended →
-    Answers export no_zeroes 0 a c course (xs ++ ys) last (ts ++ us) (vs ++ ws) front ended
-answers-more export no_zeroes a b c course k xs ys last ts us vs ws front ended first is second =
+    Answers export agreed 0 a b GoesOn xs None ts vs [] false → k ≡ length xs →
+    Answers export (agreed_after agreed xs) k b c course ys last us ws front ended →
+    Answers export agreed 0 a c course (xs ++ ys) last (ts ++ us) (vs ++ ws) front ended
+answers-more export agreed a b c course k xs ys last ts us vs ws front ended first is second =
     let o = first.options_are in
     let p = second.options_are in
     let text : ts ≡ o.text = o.parts ∙ ap (λ x. o.text ++ x) o.course_is ∙ append-nil o.text in
-    let said : (answers_to export no_zeroes xs ++ last_answer export no_zeroes None)
-    ++ (answers_to export no_zeroes ys ++ last_answer export no_zeroes last)
-    ≡ answers_to export no_zeroes (xs ++ ys) ++ last_answer export no_zeroes last =
-    ap (λ x. x ++ (answers_to export no_zeroes ys ++ last_answer export no_zeroes last))
-    (append-nil (answers_to export no_zeroes xs))
-    ∙ sym (append_assoc (answers_to export no_zeroes xs) (answers_to export no_zeroes ys)
-    (last_answer export no_zeroes last))
-    ∙ ap (λ x. x ++ last_answer export no_zeroes last)
-    (sym (answers_to-append export no_zeroes xs ys)) in
+    let middle = agreed_after agreed xs in
+    let answer = last_answer export (agreed_after middle ys) last in
+    let said : (answers_to export agreed xs ++ last_answer export middle None)
+    ++ (answers_to export middle ys ++ answer) ≡ answers_to export agreed (xs ++ ys)
+    ++ last_answer export (agreed_after agreed (xs ++ ys)) last =
+    ap (λ x. x ++ (answers_to export middle ys ++ answer))
+    (append-nil (answers_to export agreed xs))
+    ∙ sym (append_assoc (answers_to export agreed xs) (answers_to export middle ys) answer)
+    ∙ ap (λ x. x ++ answer) (sym (answers_to-append export agreed xs ys))
+    ∙ ap (λ y. answers_to export agreed (xs ++ ys) ++ last_answer export y last)
+    (agreed_after-append agreed xs ys) in
     let count : k + length ys ≡ 0 + length (xs ++ ys) = omega (arith, length-append xs ys, is) in
     record {
       talks = subst (λ ms. Talks a c (ending_in course) (ts ++ us) ms (vs ++ ws) front ended) said
@@ -383,16 +420,17 @@ last-none None n ended bytes is = (refl, is)
 last-none (Some option) n ended bytes is = absurd is
 
 -- and the negotiation goes on
-pub answers-on : (export : Export) (no_zeroes : Bool) (a b : Moment) (n : ℕ)
+pub answers-on : (export : Export) (agreed : Agreed) (a b : Moment) (n : ℕ)
     (xs : List ClientOption) (last : Option ClientOption) (ts vs front : List ℕ) (ended : Bool) →
-    Answers export no_zeroes n a b GoesOn xs last ts vs front ended →
-    Answers export no_zeroes n a b GoesOn xs None ts vs [] false
-answers-on export no_zeroes a b n xs last ts vs front ended answers =
+    Answers export agreed n a b GoesOn xs last ts vs front ended →
+    Answers export agreed n a b GoesOn xs None ts vs [] false
+answers-on export agreed a b n xs last ts vs front ended answers =
     let o = answers.options_are in
     let none = last-none last (n + length xs) ended o.bytes o.course_is in
     record {
       talks = subst (λ l. Talks a b None ts
-          (answers_to export no_zeroes xs ++ last_answer export no_zeroes l) vs [] false) none.0
+          (answers_to export agreed xs ++ last_answer export (agreed_after agreed xs) l) vs []
+          false) none.0
           (talks-on a b ts _ vs front ended answers.talks);
       options_are = record {
         text = o.text;
@@ -404,11 +442,11 @@ answers-on export no_zeroes a b n xs last ts vs front ended answers =
     }
 
 -- the most options were answered
-pub answers-too_many : (export : Export) (no_zeroes : Bool) (a b : Moment) (xs : List ClientOption)
+pub answers-too_many : (export : Export) (agreed : Agreed) (a b : Moment) (xs : List ClientOption)
     (ts vs : List ℕ) →
-    Answers export no_zeroes 0 a b GoesOn xs None ts vs [] false → length xs ≡ 65536 →
-    Answers export no_zeroes 0 a b (Ends (TooMany 65536)) xs None ts vs [] false
-answers-too_many export no_zeroes a b xs ts vs answers count =
+    Answers export agreed 0 a b GoesOn xs None ts vs [] false → length xs ≡ 65536 →
+    Answers export agreed 0 a b (Ends (TooMany 65536)) xs None ts vs [] false
+answers-too_many export agreed a b xs ts vs answers count =
     let o = answers.options_are in
     record {
       talks = talks-enough a b (TooMany 65536) ts _ vs [] refl answers.talks;

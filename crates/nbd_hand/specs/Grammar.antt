@@ -1,6 +1,6 @@
 -- Options and how they come to an end, on whole strings of bytes.
 use Rattle.std.specs.Prelude.{ℕ, ◌≡◌, ◌≢◌, ◌<◌, ◌≤◌, ◌^◌, ◌⊎◌, Bool, true, List, [], ◌∷◌, ◌++◌}
-use Rattle.std.specs.Prelude.{length, take, map, Option, Some, None}
+use Rattle.std.specs.Prelude.{length, take, Option, Some, None}
 use Rattle.nbd_stream.specs.declared.ending.Ending.{Ending}
 use Rattle.nbd_stream.specs.declared.ending.Ending.TheVariants.{Aborted, Closed, Truncated}
 use Rattle.nbd_stream.specs.declared.ending.Ending.TheVariants.{BadFlags, BadMagic, TooLong}
@@ -11,7 +11,8 @@ use Rattle.nbd_hand.specs.declared.export.Export.{Export}
 use Rattle.nbd_hand.specs.declared.options.ClientOption.{ClientOption}
 use Rattle.nbd_hand.specs.declared.options.Course.{Course}
 use Rattle.nbd_hand.specs.declared.options.Course.TheVariants.{GoesOn, Begins, Ends}
-use Rattle.nbd_hand.specs.Options.{verdict_of, course_of, answer_of}
+use Rattle.nbd_hand.specs.declared.negotiation.Agreed.{Agreed}
+use Rattle.nbd_hand.specs.Options.{agreed_by, verdict_of, course_of, answer_of}
 use Rattle.nbd_wire.specs.declared.options.OptionHead.{OptionHead}
 use Rattle.nbd_wire.specs.declared.options.OptionType.{OptionType}
 use Rattle.nbd_wire.specs.Fields.{u32_text, u64_text}
@@ -113,13 +114,22 @@ pub record AreOptions (course : Course) (options : List ClientOption) (last : Op
   pub spells : SpellsOptions options text
   pub course_is : CourseIs course last n ended bytes
 
+-- what was agreed on after options, each by what had been before it
+abbrev pub agreed_with : ClientOption → Agreed → Agreed
+agreed_with option agreed = agreed_by (verdict_of option.option option.body) agreed
+
+unfoldable pub agreed_after : Agreed → List ClientOption → Agreed
+agreed_after agreed [] = agreed
+agreed_after agreed (option ∷ options) = agreed_after (agreed_with option agreed) options
+
 -- the answers to options
-unfoldable pub answers_to : Export → Bool → List ClientOption → List (List ℕ)
-answers_to export no_zeroes options =
-    map (λ option. answer_of export no_zeroes option.option (verdict_of option.option option.body))
-    options
+unfoldable pub answers_to : Export → Agreed → List ClientOption → List (List ℕ)
+answers_to export agreed [] = []
+answers_to export agreed (option ∷ options) =
+    answer_of export agreed option.option (verdict_of option.option option.body)
+    ∷ answers_to export (agreed_with option agreed) options
 
 -- the answer to the option that came last, if one did
-abbrev pub last_answer : Export → Bool → Option ClientOption → List (List ℕ)
-last_answer export no_zeroes None = []
-last_answer export no_zeroes (Some option) = answers_to export no_zeroes (option ∷ [])
+abbrev pub last_answer : Export → Agreed → Option ClientOption → List (List ℕ)
+last_answer export agreed None = []
+last_answer export agreed (Some option) = answers_to export agreed (option ∷ [])

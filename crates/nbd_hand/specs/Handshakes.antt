@@ -7,7 +7,8 @@ use Rattle.nbd_stream.specs.declared.ending.Ending.TheVariants.{WriteFault}
 use Rattle.nbd_hand.specs.declared.export.Export.{Export}
 use Rattle.nbd_hand.specs.declared.options.ClientOption.{ClientOption}
 use Rattle.nbd_hand.specs.declared.options.Course.TheVariants.{Begins, Ends}
-use Rattle.nbd_hand.specs.Grammar.{StopsFlags, AreOptions, answers_to, last_answer}
+use Rattle.nbd_hand.specs.declared.negotiation.Agreed.{Agreed}
+use Rattle.nbd_hand.specs.Grammar.{StopsFlags, AreOptions, agreed_after, answers_to, last_answer}
 use Rattle.nbd_wire.specs.Fields.{u32_text}
 use Rattle.nbd_wire.specs.Handshake.{greeting_text}
 
@@ -39,11 +40,18 @@ no_zeroes flags = not (bit_and flags 2 == 0)
 unfoldable pub greeting : List ℕ
 greeting = greeting_text (record { flags = record { bits = 3 } })
 
+-- what is agreed on by the client's flags, and after the options that came then
+abbrev pub agreed_at_first : Handshake → Agreed
+agreed_at_first hand = record { no_zeroes = no_zeroes hand.flags; structured = false }
+
+abbrev pub agreed_in : Handshake → Agreed
+agreed_in hand = agreed_after (agreed_at_first hand) hand.options
+
 -- all that a handshake answers, message after message
 abbrev pub messages_of : Export → Handshake → List (List ℕ)
 messages_of export hand =
-    greeting ∷ (answers_to export (no_zeroes hand.flags) hand.options ++ last_answer export
-    (no_zeroes hand.flags) hand.last)
+    greeting ∷ (answers_to export (agreed_at_first hand) hand.options ++ last_answer export
+    (agreed_in hand) hand.last)
 
 -- the client gave its flags, and then these bytes
 pub record HasFlags (hand : Handshake) (rest : List ℕ) : Type 0 where

@@ -7,9 +7,9 @@ use Rattle.nbd_hand.specs.declared.negotiation.Agreed.{Agreed}
 use Rattle.nbd_hand.specs.declared.options.ClientOption.{ClientOption}
 use Rattle.nbd_hand.specs.declared.options.Course.{Course}
 use Rattle.nbd_hand.specs.declared.options.Course.TheVariants.{GoesOn, Begins, Ends}
-use Rattle.nbd_hand.specs.Grammar.{StopsFlags, AreOptions, answers_to, last_answer}
+use Rattle.nbd_hand.specs.Grammar.{StopsFlags, AreOptions, agreed_after, answers_to, last_answer}
 use Rattle.nbd_stream.specs.Moments.{Moment, Talks, trouble_of}
-use Rattle.nbd_hand.specs.Handshakes.{Handshake, IsBegun, IsUnserved, messages_of, no_zeroes}
+use Rattle.nbd_hand.specs.Handshakes.{Handshake, IsBegun, IsUnserved, agreed_in, messages_of}
 use Rattle.nbd_stream.specs.Taking.{StopsBy}
 use Rattle.nbd_stream.specs.Traffic.{Reach, Takes, HasEnded}
 use Rattle.nbd_wire.specs.declared.handshake.ClientFlags.{ClientFlags}
@@ -32,12 +32,13 @@ ending_in GoesOn = None
 ending_in Begins = None
 ending_in (Ends ending) = Some ending
 
--- options were taken and answered, behind `n` earlier ones
-pub record Answers (export : Export) (no_zeroes : Bool) (n : ℕ) (old new : Moment) (course : Course)
+-- options were taken and answered, behind `n` earlier ones after which this had been agreed on
+pub record Answers (export : Export) (agreed : Agreed) (n : ℕ) (old new : Moment) (course : Course)
     (options : List ClientOption)
     (last : Option ClientOption) (taken whole front : List ℕ) (ended : Bool) : Type 0 where
   pub talks : Talks old new (ending_in course) taken
-      (answers_to export no_zeroes options ++ last_answer export no_zeroes last) whole front ended
+      (answers_to export agreed options ++ last_answer export (agreed_after agreed options) last)
+      whole front ended
   pub options_are : AreOptions course options last (n + length options) taken ended
 
 -- the course after which a negotiation has this result
@@ -46,11 +47,11 @@ course_to (Ok agreed) = Begins
 course_to (Err ending) = Ends ending
 
 -- options were taken and answered up to the one that begins the requests, or the session ended
-abbrev pub Agrees : Export → Bool → Moment → Moment → Result Agreed Ending → List ClientOption →
+abbrev pub Agrees : Export → Agreed → Moment → Moment → Result Agreed Ending → List ClientOption →
     Option ClientOption →
     List ℕ → List ℕ → List ℕ → Bool → Type 0
-Agrees export no_zeroes old new result options last taken whole front ended =
-    Answers export no_zeroes 0 old new (course_to result) options last taken whole front ended
+Agrees export agreed old new result options last taken whole front ended =
+    Answers export agreed 0 old new (course_to result) options last taken whole front ended
 
 -- the client agreed on the export, and on what its flags say, or the session ended before
 pub record Negotiates (export : Export) (old new : Moment) (result : Result Agreed Ending)
@@ -58,5 +59,5 @@ pub record Negotiates (export : Export) (old new : Moment) (result : Result Agre
   pub talks : Talks old new (ending_in (course_to result)) hand.taken (messages_of export hand)
       hand.whole hand.front hand.ended
   pub by_case : MatchResult result
-      (λ agreed. (agreed.no_zeroes ≡ no_zeroes hand.flags) × IsBegun hand)
+      (λ agreed. (agreed ≡ agreed_in hand) × IsBegun hand)
       (λ ending. IsUnserved hand.stage hand ending)

@@ -7,7 +7,8 @@ use Rattle.nbd_hand.specs.declared.options.Course.{Course}
 use Rattle.nbd_hand.specs.declared.options.Course.TheVariants.{GoesOn, Begins, Ends}
 use Rattle.nbd_hand.specs.declared.options.Verdict.{Verdict}
 use Rattle.nbd_hand.specs.declared.options.Verdict.TheVariants.{Tell, Names, Inform, Agree, Refuse}
-use Rattle.nbd_hand.specs.declared.options.Verdict.TheVariants.{Abort, Unknown}
+use Rattle.nbd_hand.specs.declared.options.Verdict.TheVariants.{Structure, Abort, Unknown}
+use Rattle.nbd_hand.specs.declared.negotiation.Agreed.{Agreed}
 use Rattle.nbd_hand.specs.Exports.{export_data, block_sizes}
 use Rattle.nbd_wire.specs.declared.options.OptionType.{OptionType}
 use Rattle.nbd_wire.specs.declared.options.OptionType.TheVariants as Types
@@ -29,9 +30,10 @@ is_same (x ∷ xs) (y ∷ ys) = (x == y) && is_same xs ys
 abbrev pub is_ours : List ℕ → Bool
 is_ours name = (length name == 0) || is_same name (codes "volume")
 
--- what becomes of LIST, which has no data
-abbrev pub verdict_on_list : List ℕ → Verdict
-verdict_on_list body = if length body == 0 then Names else Refuse Replies.Invalid
+-- what becomes of LIST and STRUCTURED_REPLY, which have no data
+abbrev pub verdict_without_data : Verdict → List ℕ → Verdict
+verdict_without_data granted body =
+    if length body == 0 then granted else Refuse Replies.Invalid
 
 -- What becomes of INFO and GO: refused for their data, for a name of more than 4096 bytes, or for
 -- another name, in this order; else granted.
@@ -44,13 +46,14 @@ abbrev pub verdict_on_info : Verdict → Option (List ℕ) → Verdict
 verdict_on_info granted None = Refuse Replies.Invalid
 verdict_on_info granted (Some name) = verdict_on_name granted name
 
--- what becomes of an option: all others than these five aren't supported
+-- what becomes of an option: all others than these six aren't supported
 abbrev pub verdict_of : OptionType → List ℕ → Verdict
 verdict_of Types.ExportName body = if is_ours body then Tell else Unknown
 verdict_of Types.Abort body = Abort
-verdict_of Types.List body = verdict_on_list body
+verdict_of Types.List body = verdict_without_data Names body
 verdict_of Types.Info body = verdict_on_info Inform (info_name body)
 verdict_of Types.Go body = verdict_on_info Agree (info_name body)
+verdict_of Types.StructuredReply body = verdict_without_data Structure body
 verdict_of _ body = Refuse Replies.Unsup
 
 -- what comes after an option
@@ -59,30 +62,41 @@ course_of Tell = Begins
 course_of Names = GoesOn
 course_of Inform = GoesOn
 course_of Agree = Begins
+course_of Structure = GoesOn
 course_of (Refuse reply) = GoesOn
 course_of Abort = Ends Aborted
 course_of Unknown = Ends UnknownExport
 
+-- what was agreed on after an option, by what became of it and what had been before
+abbrev pub agreed_by : Verdict → Agreed → Agreed
+agreed_by Structure agreed = record agreed { structured = true }
+agreed_by _ agreed = agreed
+
 -- the answer to EXPORT_NAME, which ends in 124 zeros unless both sides agreed to leave them out
-abbrev pub told_text : Export → Bool → List ℕ
-told_text export true = export_text (export_data export)
-told_text export false = export_text (export_data export) ++ replicate 124 0
+abbrev pub zeros_behind : (no_zeroes : Bool) → List ℕ
+zeros_behind true = []
+zeros_behind false = replicate 124 0
+
+abbrev pub told_text : Export → Agreed → List ℕ
+told_text export agreed =
+    export_text (export_data export agreed.structured) ++ zeros_behind agreed.no_zeroes
 
 -- the answer to INFO and GO: the export, the sizes of its blocks, and the acknowledgement
-abbrev pub informed_text : Export → OptionType → List ℕ
-informed_text export option =
+abbrev pub informed_text : Export → Agreed → OptionType → List ℕ
+informed_text export agreed option =
     info_replies_text (record {
       option = option;
-      export = export_data export;
+      export = export_data export agreed.structured;
       blocks = block_sizes export;
     })
 
--- the answer to an option; an export that isn't there has none
-abbrev pub answer_of : Export → Bool → OptionType → Verdict → List ℕ
-answer_of export no_zeroes option Tell = told_text export no_zeroes
-answer_of export no_zeroes option Names = list_replies_text (codes "volume")
-answer_of export no_zeroes option Inform = informed_text export option
-answer_of export no_zeroes option Agree = informed_text export option
-answer_of export no_zeroes option (Refuse reply) = option_reply_text (reply_head option reply 0)
-answer_of export no_zeroes option Abort = option_reply_text (reply_head option Replies.Ack 0)
-answer_of export no_zeroes option Unknown = []
+-- the answer to an option, by what was agreed on before it; an export that isn't there has none
+abbrev pub answer_of : Export → Agreed → OptionType → Verdict → List ℕ
+answer_of export agreed option Tell = told_text export agreed
+answer_of export agreed option Names = list_replies_text (codes "volume")
+answer_of export agreed option Inform = informed_text export agreed option
+answer_of export agreed option Agree = informed_text export agreed option
+answer_of export agreed option Structure = option_reply_text (reply_head option Replies.Ack 0)
+answer_of export agreed option (Refuse reply) = option_reply_text (reply_head option reply 0)
+answer_of export agreed option Abort = option_reply_text (reply_head option Replies.Ack 0)
+answer_of export agreed option Unknown = []

@@ -16,16 +16,23 @@ pub struct Export {
 }
 
 impl Export {
-    /// The size and the flags: flushes and forced writes are served, on any number of connections.
-    pub fn data(&self) -> ExportData
-        ensures { result ≡ export_data self.now }
+    /// The size and the flags: flushes, forced writes and zeroes are served, on any number of
+    /// connections, and reads in one chunk where structured replies were agreed on.
+    pub fn data(&self, structured: bool) -> ExportData
+        ensures { result ≡ export_data self.now structured }
     {
+        let flags = TransmissionFlags::HAS_FLAGS
+            .union(TransmissionFlags::SEND_FLUSH)
+            .union(TransmissionFlags::SEND_FUA)
+            .union(TransmissionFlags::SEND_WRITE_ZEROES)
+            .union(TransmissionFlags::CAN_MULTI_CONN);
         ExportData {
             size: self.size,
-            flags: TransmissionFlags::HAS_FLAGS
-                .union(TransmissionFlags::SEND_FLUSH)
-                .union(TransmissionFlags::SEND_FUA)
-                .union(TransmissionFlags::CAN_MULTI_CONN),
+            flags: if structured {
+                flags.union(TransmissionFlags::SEND_DF)
+            } else {
+                flags
+            },
         }
     }
 

@@ -2,6 +2,7 @@ ghost use Rattle.std.specs.Prelude.{◌≡◌, ◌<◌, ◌⊎◌, ℕ, Bool, Li
 ghost use Rattle.std.specs.Prelude.{Err, IfOk, IsOk, OnOk};
 ghost use Rattle.nbd_stream.specs.Moments.{moment};
 ghost use Rattle.nbd_hand.specs.Negotiation.{Agrees, Answers, FlagsAre, Negotiates};
+ghost use Rattle.nbd_hand.specs.Grammar.{agreed_after};
 ghost use Rattle.nbd_hand.specs.Options.{answer_of, verdict_of};
 ghost use Rattle.nbd_stream.specs.Putting.{IsOut, Puts};
 ghost use Rattle.nbd_hand.specs.Handshakes.{Handshake};
@@ -32,6 +33,25 @@ const MAX_OPTIONS: u64 = 65536;
 pub struct Agreed {
     /// The zeros behind the answer to EXPORT_NAME were to be left out.
     pub no_zeroes: bool,
+    /// READs are answered by chunks ("structured replies").
+    pub structured: bool,
+}
+
+impl Agreed {
+    ghost use Rattle.nbd_hand.specs.Options.{agreed_by};
+
+    /// What is agreed on after an option of which this became.
+    fn with(self, verdict: Verdict) -> Agreed
+        ensures { result ≡ agreed_by verdict self }
+    {
+        match verdict {
+            Verdict::Structure => Agreed {
+                structured: true,
+                ..self
+            },
+            _ => self,
+        }
+    }
 }
 
 /// Greets the client, takes its flags, and answers its options up to the one by which it chooses
@@ -64,7 +84,13 @@ pub fn negotiate<S: Source, K: Sink>(
         Err(_) => return Err(Ending::WriteFault),
     }
     match take_flags(source, &mut tally.taken) {
-        Ok(flags) => agree(alloc, source, sink, export, flags.has_no_zeroes(), tally),
+        Ok(flags) => {
+            let agreed = Agreed {
+                no_zeroes: flags.has_no_zeroes(),
+                structured: false,
+            };
+            agree(alloc, source, sink, export, agreed, tally)
+        }
         Err(ending) => Err(ending),
     }
 }
@@ -91,23 +117,24 @@ fn agree<S: Source, K: Sink>(
     source: &mut S,
     sink: &mut K,
     export: &Export,
-    no_zeroes: bool,
+    first: Agreed,
     tally: &mut Tally,
 ) -> Result<Agreed, Ending>
     requires { IsOut (K.outlet sink.old) }
     ensures out { (result ≡ Err Ending.WriteFault) ⊎ IsOut (K.outlet sink.new) }
-    ensures agreed { IfOk result (λ agreed. agreed.no_zeroes ≡ no_zeroes) }
     ensures agrees { (options : List ClientOption) × (last : Option ClientOption) × (taken : List ℕ)
         × (whole : List ℕ) × (front : List ℕ) × (ended : Bool)
-        × Agrees export.now no_zeroes
+        × IfOk result (λ agreed. agreed ≡ agreed_after first options)
+        × Agrees export.now first
         (moment (S.intake source.old) (K.outlet sink.old) tally.old.taken tally.old.put)
         (moment (S.intake source.new) (K.outlet sink.new) tally.new.taken tally.new.put)
         result options last taken whole front ended }
 {
+    let mut agreed = first;
     for number in 0..MAX_OPTIONS {
-        match answer_next(alloc, source, sink, export, no_zeroes, tally) {
+        match answer_next(alloc, source, sink, export, &mut agreed, tally) {
             Course::GoesOn => {}
-            Course::Begins => return Ok(Agreed { no_zeroes }),
+            Course::Begins => return Ok(agreed),
             Course::Ends(ending) => return Err(ending),
         }
     }
@@ -120,7 +147,7 @@ fn answer_next<S: Source, K: Sink>(
     source: &mut S,
     sink: &mut K,
     export: &Export,
-    no_zeroes: bool,
+    agreed: &mut Agreed,
     tally: &mut Tally,
 ) -> Course
     requires { IsOut (K.outlet sink.old) }
@@ -128,7 +155,8 @@ fn answer_next<S: Source, K: Sink>(
     ensures answers { (options : List ClientOption) × (last : Option ClientOption)
         × (taken : List ℕ) × (whole : List ℕ) × (front : List ℕ) × (ended : Bool)
         × (result ≡ Course.GoesOn → length options ≡ 1)
-        × ((n : ℕ) → n < 65536 → Answers export.now no_zeroes n
+        × (agreed.new ≡ agreed_after agreed.old options)
+        × ((n : ℕ) → n < 65536 → Answers export.now agreed.old n
         (moment (S.intake source.old) (K.outlet sink.old) tally.old.taken tally.old.put)
         (moment (S.intake source.new) (K.outlet sink.new) tally.new.taken tally.new.put)
         result options last taken whole front ended) }
@@ -138,24 +166,19 @@ fn answer_next<S: Source, K: Sink>(
         Err(ending) => return Course::Ends(ending),
     };
     let verdict = judge(option.option, option.body.as_slice());
-    match put_answer(
-        sink,
-        export,
-        no_zeroes,
-        option.option,
-        verdict,
-        &mut tally.put,
-    ) {
+    let before = *agreed;
+    *agreed = before.with(verdict);
+    match put_answer(sink, export, before, option.option, verdict, &mut tally.put) {
         Ok(()) => verdict.course(),
         Err(_) => Course::Ends(Ending::WriteFault),
     }
 }
 
-/// Puts the answer to an option.
+/// Puts the answer to an option, by what was agreed on before it.
 fn put_answer<K: Sink>(
     sink: &mut K,
     export: &Export,
-    no_zeroes: bool,
+    agreed: Agreed,
     option: OptionType,
     verdict: Verdict,
     put: &mut u64,
@@ -164,28 +187,31 @@ fn put_answer<K: Sink>(
     ensures out { OnOk result (IsOut (K.outlet sink.new)) }
     ensures answer { (whole : List ℕ) × (front : List ℕ)
         × Puts (K.outlet sink.old) (K.outlet sink.new) put.old put.new
-        (answer_of export.now no_zeroes option verdict) result whole front }
+        (answer_of export.now agreed option verdict) result whole front }
     ensures silent { verdict ≡ Verdict.Unknown → IsOk result }
 {
     match verdict {
         Verdict::Tell => {
-            if no_zeroes {
-                put_message(sink, &export.data().write(), put)
+            let data = export.data(agreed.structured);
+            if agreed.no_zeroes {
+                put_message(sink, &data.write(), put)
             } else {
-                put_message(sink, &export.data().write_with_zeroes(), put)
+                put_message(sink, &data.write_with_zeroes(), put)
             }
         }
         Verdict::Names => put_message(sink, &list_replies(), put),
         Verdict::Inform | Verdict::Agree => {
             let replies = InfoReplies {
                 option,
-                export: export.data(),
+                export: export.data(agreed.structured),
                 blocks: export.blocks(),
             };
             put_message(sink, &replies.write(), put)
         }
         Verdict::Refuse(reply) => put_option_reply(sink, option, reply, put),
-        Verdict::Abort => put_option_reply(sink, option, ReplyType::Ack, put),
+        Verdict::Structure | Verdict::Abort => {
+            put_option_reply(sink, option, ReplyType::Ack, put)
+        }
         Verdict::Unknown => Ok(()),
     }
 }

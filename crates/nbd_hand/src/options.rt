@@ -1,6 +1,6 @@
 ghost use Rattle.std.specs.Prelude.{◌≡◌, ◌≢◌, ℕ, Bool, List, IsTrue, false};
 ghost use Rattle.nbd_hand.specs.Options.{course_of, is_ours, verdict_of, verdict_on_info};
-ghost use Rattle.nbd_hand.specs.Options.{verdict_on_list, verdict_on_name};
+ghost use Rattle.nbd_hand.specs.Options.{verdict_on_name, verdict_without_data};
 ghost use Rattle.nbd_wire.specs.InfoData.{info_name};
 ghost use Rattle.nbd_hand.specs.Taking.{OptionIs};
 ghost use Rattle.nbd_stream.specs.Traffic.{reach};
@@ -41,6 +41,8 @@ pub enum Verdict {
     Inform,
     /// GO: the same, and the requests begin.
     Agree,
+    /// STRUCTURED_REPLY: it is acknowledged, and reads will be answered by chunks.
+    Structure,
     /// It is refused by this reply.
     Refuse(ReplyType),
     /// ABORT: it is acknowledged, and the session ends.
@@ -64,7 +66,9 @@ impl Verdict {
     {
         match self {
             Verdict::Tell | Verdict::Agree => Course::Begins,
-            Verdict::Names | Verdict::Inform | Verdict::Refuse(_) => Course::GoesOn,
+            Verdict::Names | Verdict::Inform | Verdict::Structure | Verdict::Refuse(_) => {
+                Course::GoesOn
+            }
             Verdict::Abort => Course::Ends(Ending::Aborted),
             Verdict::Unknown => Course::Ends(Ending::UnknownExport),
         }
@@ -115,19 +119,20 @@ pub fn judge(option: OptionType, body: &[u8]) -> Verdict
             }
         }
         OptionType::Abort => Verdict::Abort,
-        OptionType::List => judge_list(body),
+        OptionType::List => judge_without_data(body, Verdict::Names),
         OptionType::Info => judge_info(body, Verdict::Inform),
         OptionType::Go => judge_info(body, Verdict::Agree),
+        OptionType::StructuredReply => judge_without_data(body, Verdict::Structure),
         _ => Verdict::Refuse(ReplyType::Unsup),
     }
 }
 
-/// What becomes of LIST, which has no data.
-fn judge_list(body: &[u8]) -> Verdict
-    ensures { result ≡ verdict_on_list body.now }
+/// What becomes of LIST or STRUCTURED_REPLY, which has no data and is granted by that verdict.
+fn judge_without_data(body: &[u8], granted: Verdict) -> Verdict
+    ensures { result ≡ verdict_without_data granted body.now }
 {
     if body.is_empty() {
-        Verdict::Names
+        granted
     } else {
         Verdict::Refuse(ReplyType::Invalid)
     }

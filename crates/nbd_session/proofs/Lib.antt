@@ -1,6 +1,9 @@
+mod ChunkLemmas
 mod DecidedRequests
+mod FitLemmas
 mod ReadingLemmas
 mod ReplyLemmas
 mod RequestLemmas
 mod SessionLemmas
+mod SpellingLemmas
 mod TakenLemmas

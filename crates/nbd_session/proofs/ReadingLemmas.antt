@@ -1,7 +1,7 @@
 -- An input is read in one way.
 use Rattle.std.proofs.Common.{◌≡◌, ℕ, ◌+◌, ◌^◌, ◌<◌, nat_lt, Bool, true, false, List, [], ◌∷◌, ◌++◌}
-use Rattle.std.proofs.Common.{Option, Some, None, length, take, ap, ◌∙◌, refl, sym, subst, arith}
-use Rattle.std.proofs.Common.{append_assoc, append-nil, length-append, ⊎_elim}
+use Rattle.std.proofs.Common.{Option, Some, None, length, take, ap, ap₂, ◌∙◌, refl, sym, subst}
+use Rattle.std.proofs.Common.{arith, append_assoc, append-nil, length-append, ⊎_elim}
 use Rattle.std.proofs.lemmas.Bool.{lt-ltb, le-ltb}
 use Rattle.std.proofs.lemmas.Nat.{from_be_bytes-to_be_bytes_4}
 use Rattle.std.specs.Int.{w32, from_be_bytes}
@@ -12,8 +12,8 @@ use Rattle.nbd_hand.specs.declared.options.ClientOption.{ClientOption}
 use Rattle.nbd_hand.specs.declared.options.Course.{Course}
 use Rattle.nbd_hand.specs.declared.options.Course.TheVariants.{Begins, Ends}
 use Rattle.nbd_stream.specs.Endings.{IsByInput}
-use Rattle.nbd_hand.specs.Grammar.{StopsFlags, SpellsOptions, AreOptions}
-use Rattle.nbd_hand.specs.Handshakes.{Stage, greeted, negotiating, served, HasFlags}
+use Rattle.nbd_hand.specs.Grammar.{StopsFlags, SpellsOptions, AreOptions, agreed_after}
+use Rattle.nbd_hand.specs.Handshakes.{Stage, greeted, negotiating, served, HasFlags, no_zeroes}
 use Rattle.nbd_session.specs.Grammar.{AreRequests}
 use Rattle.nbd_session.specs.Reading.{Asked, asked_of, Reads, AreOneReading, ReadsOnce}
 use Rattle.nbd_session.specs.Session.{Log, IsInput, handshake_of}
@@ -103,11 +103,12 @@ options-spelled [] text is = is
 options-spelled (option ∷ options) text is =
     (is.0, is.1, is.2, (is.3, is.4), options-spelled options is.1 is.5)
 
-requests-spelled : (turns : List Turn) (text : List ℕ) → Spells turns text →
-    Spelled Requests.IsWhole (asked_of turns) text
+requests-spelled : (structured : Bool) (turns : List Turn) (text : List ℕ) →
+    Spells structured turns text → Spelled (Requests.IsWhole structured) (asked_of turns) text
 unfolding Spells Spelled Requests.IsWhole asked_of
-requests-spelled [] text is = is
-requests-spelled (turn ∷ turns) text is = (is.0, is.1, is.2, is.3, requests-spelled turns is.1 is.5)
+requests-spelled structured [] text is = is
+requests-spelled structured (turn ∷ turns) text is =
+    (is.0, is.1, is.2, is.3.message, requests-spelled structured turns is.1 is.4)
 
 asked_of-length : (turns : List Turn) → length (asked_of turns) ≡ length turns
 unfolding asked_of
@@ -141,16 +142,17 @@ options-tail course options last taken rest ended are by at_end =
       at_end = at_end;
     }
 
-abbrev RequestsTail : List Turn → Ending → List ℕ → List ℕ → Type 0
-RequestsTail turns ending taken all =
-    Tail {M = Asked} {E = Ending} Requests.IsWhole Requests.IsEnd 0 (asked_of turns) ending taken
-    all
+abbrev RequestsTail : Bool → List Turn → Ending → List ℕ → List ℕ → Type 0
+RequestsTail structured turns ending taken all =
+    Tail {M = Asked} {E = Ending} (Requests.IsWhole structured) (Requests.IsEnd structured) 0
+    (asked_of turns) ending taken all
 
-requests-tail : (ending : Ending) (turns : List Turn) (taken rest : List ℕ) (ended : Bool) →
-    AreRequests (Some ending) turns (length turns) taken ended → IsByInput ending →
+requests-tail : (structured : Bool) (ending : Ending) (turns : List Turn) (taken rest : List ℕ)
+    (ended : Bool) →
+    AreRequests structured (Some ending) turns (length turns) taken ended → IsByInput ending →
     (ended ≡ true → rest ≡ []) →
-    RequestsTail turns ending taken (taken ++ rest)
-requests-tail ending turns taken rest ended are by at_end =
+    RequestsTail structured turns ending taken (taken ++ rest)
+requests-tail structured ending turns taken rest ended are by at_end =
     let count : length turns ≡ 0 + length (asked_of turns) = omega (arith, asked_of-length turns) in
     record {
       text = are.text;
@@ -159,8 +161,8 @@ requests-tail ending turns taken rest ended are by at_end =
       ended = ended;
       taken_is = are.parts;
       parts = refl;
-      spells = requests-spelled turns are.text are.spells;
-      last = subst (λ (n : ℕ). Requests.IsEnd ending n ended are.bytes) count
+      spells = requests-spelled structured turns are.text are.spells;
+      last = subst (λ (n : ℕ). Requests.IsEnd structured ending n ended are.bytes) count
           (record { ends = are.ends.0; count = are.ends.1; by_input = by });
       at_end = at_end;
     }
@@ -181,13 +183,21 @@ options-once options options' course course' last last' taken taken' all a b =
     let ends = end-same course course' last last' once.1 in
     (once.0, ends.0, ends.1, once.2)
 
-requests-once : (turns turns' : List Turn) (ending ending' : Ending) (taken taken' all : List ℕ) →
-    RequestsTail turns ending taken all → RequestsTail turns' ending' taken' all →
+requests-once : (structured : Bool) (turns turns' : List Turn) (ending ending' : Ending)
+    (taken taken' all : List ℕ) →
+    RequestsTail structured turns ending taken all →
+    RequestsTail structured turns' ending' taken' all →
     (asked_of turns ≡ asked_of turns') × (ending ≡ ending') × (taken ≡ taken')
-requests-once turns turns' ending ending' taken taken' all a b =
-    tail-once Requests.IsWhole Requests.IsEnd (2 ^ 32) Requests.decide Requests.few
-    Requests.whole-decides Requests.last-decides 0 (asked_of turns) (asked_of turns') ending
-    ending' taken taken' all a b
+requests-once structured turns turns' ending ending' taken taken' all a b =
+    tail-once (Requests.IsWhole structured) (Requests.IsEnd structured) (2 ^ 32)
+    (Requests.decide structured) (Requests.few structured) (Requests.whole-decides structured)
+    (Requests.last-decides structured) 0 (asked_of turns) (asked_of turns') ending ending' taken
+    taken' all a b
+
+-- what is agreed on is told by the flags and the options
+abbrev agreed-by : ℕ → List ClientOption → Bool
+agreed-by flags options =
+    (agreed_after (record { no_zeroes = no_zeroes flags; structured = false }) options).structured
 
 -- an input behind the client's flags
 behind-flags : (log : Log) (rest behind input : List ℕ) → HasFlags (handshake_of log) rest →
@@ -231,7 +241,7 @@ record Served (log : Log) (ending : Ending) (input : List ℕ) : Type 0 where
   taken_is : log.taken ≡ u32_text log.flags ++ (chosen ++ asked)
   input_is : input ≡ u32_text log.flags ++ (chosen ++ behind)
   options : OptionsTail log.options Begins log.last chosen (chosen ++ behind)
-  requests : RequestsTail log.turns ending asked behind
+  requests : RequestsTail (agreed-by log.flags log.options) log.turns ending asked behind
 
 data Stood (log : Log) (ending : Ending) (input : List ℕ) : Type 0 where
   at_flags : Greeted log ending input → Stood log ending input
@@ -280,7 +290,8 @@ stood-at served log ending input rest at parts at_end by is =
           ∙ ap (λ t. u32_text log.flags ++ t) (append_assoc chosen asked rest);
       options = options-tail Begins log.options log.last chosen (asked ++ rest) false is.3 tt
           (λ e. absurd (cc));
-      requests = requests-tail ending log.turns asked rest log.ended is.4 by at_end;
+      requests = requests-tail (agreed-by log.flags log.options) ending log.turns asked rest
+          log.ended is.4 by at_end;
     })
 
 stood : (log : Log) (ending : Ending) (input : List ℕ) → Reads log ending input →
@@ -370,9 +381,14 @@ one-reading log log' ending ending' input (at_requests a) (at_requests b) =
     b.options) in
     let behind : a.behind ≡ b.behind =
     (split a.chosen b.chosen a.behind b.behind flags.1 (ap length once.3)).1 in
-    let requests = requests-once log.turns log'.turns ending ending' a.asked b.asked a.behind
-    a.requests
-    (subst (λ (t : List ℕ). RequestsTail log'.turns ending' b.asked t) (sym behind) b.requests) in (
+    let agreed : agreed-by log.flags log.options ≡ agreed-by log'.flags log'.options =
+    ap₂ agreed-by flags.0 once.0 in
+    let requests = requests-once (agreed-by log.flags log.options) log.turns log'.turns ending
+    ending' a.asked b.asked a.behind a.requests
+    (subst (λ (s : Bool). RequestsTail s log'.turns ending' b.asked a.behind) (sym agreed)
+    (subst
+    (λ (t : List ℕ). RequestsTail (agreed-by log'.flags log'.options) log'.turns ending' b.asked t)
+    (sym behind) b.requests)) in (
       record {
         stage = a.stage ∙ sym b.stage;
         flags = flags.0;

@@ -1,6 +1,6 @@
 -- A whole session of its parts.
-use Rattle.std.proofs.Common.{◌≡◌, ℕ, ◌^◌, ◌<◌, Bool, List, [], ◌++◌, Some, Ok, Err, ap, ◌∙◌}
-use Rattle.std.proofs.Common.{refl, sym, subst, arith, append_assoc, append-nil}
+use Rattle.std.proofs.Common.{◌≡◌, ℕ, ◌^◌, ◌<◌, Bool, List, [], ◌++◌, length, Some, Ok, Err, ap}
+use Rattle.std.proofs.Common.{◌∙◌, refl, sym, subst, arith, append_assoc, append-nil}
 use Rattle.nbd_stream.specs.declared.ending.Ending.{Ending}
 use Rattle.nbd_hand.specs.declared.export.Export.{Export}
 use Rattle.nbd_session.specs.Grammar.{AreRequests}
@@ -77,7 +77,7 @@ pub session-served : (export : Export) (a b c : Moment) (agreed : Agreed) (endin
     (hand : Handshake) (turns : List Turn) (taken whole front : List ℕ) (ended : Bool) →
     a.taken ≡ 0 → a.put ≡ 0 → c.taken < 2 ^ 64 → c.put < 2 ^ 64 →
     Negotiates export a b (Ok agreed) hand →
-    Serves 0 b c (Some ending) turns taken whole front ended →
+    Serves agreed.structured 0 b c (Some ending) turns taken whole front ended →
     IsSession export (record {
       number = export.number;
       ending = ending;
@@ -106,8 +106,11 @@ session-served export a b c agreed ending hand turns taken whole front ended non
               ∙ append_assoc (u32_text hand.flags) begun.0 taken;
         },
         begun.2,
-        subst (λ (k : ℕ). AreRequests (Some ending) turns k taken ended) (omega arith)
-            serves.requests_are,
+        subst (λ (s : Bool). AreRequests s (Some ending) turns (length turns) taken ended)
+            (ap (λ (a : Agreed). a.structured) n.by_case.0)
+            (subst
+            (λ (k : ℕ). AreRequests agreed.structured (Some ending) turns k taken ended)
+            (omega arith) serves.requests_are),
       );
       talks = talks;
       taken = omega (arith, talks.traffic.counted_in);

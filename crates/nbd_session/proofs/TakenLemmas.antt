@@ -1,8 +1,7 @@
 -- A request of which head and data were taken one after the other.
-use Rattle.std.proofs.Common.{◌≡◌, ℕ, ◌+◌, ◌<◌, ◌≤◌, Bool, true, false, nat_lt, if◌then◌else◌, List}
+use Rattle.std.proofs.Common.{◌≡◌, ℕ, ◌+◌, ◌<◌, Bool, true, false, nat_lt, if◌then◌else◌, List}
 use Rattle.std.proofs.Common.{◌++◌, Option, Some, None, length, ap, ◌∙◌, refl, sym, subst, arith}
 use Rattle.std.proofs.Common.{inr, length-append}
-use Rattle.std.proofs.lemmas.Bool.{lt-ltb, le-ltb}
 use Rattle.base_terms.specs.Causes.{Rose}
 use Rattle.base_terms.specs.ErrorNumbers.{invalid, no_memory}
 use Rattle.plain_disk.specs.declared.operation.Op.{Op}
@@ -14,8 +13,10 @@ use Rattle.nbd_stream.specs.Moments.{calm, trouble_of}
 use Rattle.nbd_stream.specs.Taking.{StopsBy, TakesUpTo}
 use Rattle.nbd_stream.specs.Traffic.{Reach, Takes, HasEnded}
 use Rattle.nbd_stream.proofs.HeadLemmas.{takes_more, HeadTaken, rear-ended, HasData}
+use Rattle.nbd_session.specs.declared.forms.Form.{Form}
 use Rattle.nbd_session.specs.declared.requests.Next.{Next}
 use Rattle.nbd_session.specs.declared.requests.Next.TheVariants.{Ask, Refuse, Stop}
+use Rattle.nbd_session.specs.Forms.{form_of}
 use Rattle.nbd_session.specs.Grammar.{StopsRequests}
 use Rattle.nbd_session.specs.Requests.{ending_by, ending_of, data_length, data_length_by}
 use Rattle.nbd_session.specs.Requests.{operation_of, operation_by, IsMessage, IsLastHead, IsRefusal}
@@ -23,29 +24,30 @@ use Rattle.nbd_session.specs.Taking.{NextCase, NextIs, BehindHead}
 use Rattle.nbd_wire.specs.declared.requests.CommandType.{CommandType}
 use Rattle.nbd_wire.specs.declared.requests.CommandType.TheVariants.{Read, Write, Disc, Flush}
 use Rattle.nbd_wire.specs.declared.requests.RequestHead.{RequestHead}
-use Rattle.nbd_wire.specs.Requests.{IsRequestHead, request_text}
+use Rattle.nbd_wire.specs.Requests.{IsRequestHead, are_allowed, request_text}
 use Rattle.nbd_wire.proofs.RequestLemmas.{request-size}
 
-next-earlier : (a b c : Reach) (result : Next) (bytes : List ℕ) (ended : Bool) →
+next-earlier : (structured : Bool) (a b c : Reach) (result : Next) (bytes : List ℕ) (ended : Bool) →
     b.source.faults ≡ a.source.faults →
-    NextCase b c result bytes ended → NextCase a c result bytes ended
-next-earlier a b c (Ask cookie op) bytes ended held is = (is.0, is.1 ∙ held)
-next-earlier a b c (Refuse cookie number) bytes ended held is = (is.0, is.1, is.2, is.3 ∙ held)
-next-earlier a b c (Stop ending) bytes ended held is =
+    NextCase structured b c result bytes ended → NextCase structured a c result bytes ended
+next-earlier structured a b c (Ask cookie form op) bytes ended held is = (is.0, is.1 ∙ held)
+next-earlier structured a b c (Refuse cookie form number) bytes ended held is =
+    (is.0, is.1, is.2, is.3 ∙ held)
+next-earlier structured a b c (Stop ending) bytes ended held is =
     (subst (λ (f : ℕ). StopsBy f c.source.faults (trouble_of ending)) held is.0, is.1)
 
 -- a request's head, and then what is behind it
-pub next-joined : (a b c : Reach) (head : RequestHead) (result : Next) →
+pub next-joined : (structured : Bool) (a b c : Reach) (head : RequestHead) (result : Next) →
     HeadTaken a b (request_text head) →
-    ((body : List ℕ) × (ended : Bool) × BehindHead head b c result body ended) →
-    (bytes : List ℕ) × (ended : Bool) × NextIs a c result bytes ended
-next-joined a b c head result taken more = (
+    ((body : List ℕ) × (ended : Bool) × BehindHead structured head b c result body ended) →
+    (bytes : List ℕ) × (ended : Bool) × NextIs structured a c result bytes ended
+next-joined structured a b c head result taken more = (
   request_text head ++ more.0,
   more.1,
   record {
     takes = takes_more a b c (request_text head) more.0 taken.takes more.2.takes;
     at_end = λ e. rear-ended a b c (request_text head) taken (more.2.at_end e);
-    by_case = next-earlier a b c result (request_text head ++ more.0) more.1 taken.held
+    by_case = next-earlier structured a b c result (request_text head ++ more.0) more.1 taken.held
         more.2.by_case;
   },
 )
@@ -82,11 +84,11 @@ unfolding ending_of
 last-stops head ending brings = last-stops_by head.command head.length ending brings
 
 -- a request's head brought an ending
-pub next-last : (a b : Reach) (head : RequestHead) (ending : Ending) →
+pub next-last : (structured : Bool) (a b : Reach) (head : RequestHead) (ending : Ending) →
     HeadTaken a b (request_text head) → IsRequestHead head →
     ending_of head ≡ Some ending → (bytes : List ℕ) × (ended : Bool)
-    × NextIs a b (Stop ending) bytes ended
-next-last a b head ending taken is brings =
+    × NextIs structured a b (Stop ending) bytes ended
+next-last structured a b head ending taken is brings =
     let stops = last-stops head ending brings in (
       request_text head,
       false,
@@ -101,15 +103,17 @@ next-last a b head ending taken is brings =
       },
     )
 
-abbrev pub HasBehind : RequestHead → Reach → Reach → Next → Type 0
-HasBehind head b c result = (body : List ℕ) × (ended : Bool) × BehindHead head b c result body ended
+abbrev pub HasBehind : Bool → RequestHead → Reach → Reach → Next → Type 0
+HasBehind structured head b c result =
+    (body : List ℕ) × (ended : Bool) × BehindHead structured head b c result body ended
 
 -- a request that is whole with its data
-pub message-of : (head : RequestHead) (body : List ℕ) (asked : Option Op) → IsRequestHead head →
-    ending_of head ≡ None →
-    length body ≡ data_length head → asked ≡ operation_of head body →
-    IsMessage (request_text head ++ body) head.cookie asked
-message-of head body asked is goes_on size asks = record {
+pub message-of : (structured : Bool) (head : RequestHead) (body : List ℕ) (asked : Option Op)
+    (form : Form) → IsRequestHead head → ending_of head ≡ None →
+    length body ≡ data_length head → asked ≡ operation_of structured head body →
+    form ≡ form_of structured head →
+    IsMessage structured (request_text head ++ body) head.cookie asked form
+message-of structured head body asked form is goes_on size asks form_is = record {
   head = head;
   body = body;
   is_head = is;
@@ -118,31 +122,34 @@ message-of head body asked is goes_on size asks = record {
   goes_on = goes_on;
   cookie_is = refl;
   asks = asks;
+  form_is = form_is;
 }
 
-pub behind-asks : (b c : Reach) (head : RequestHead) (body : List ℕ) (op : Op) →
-    IsRequestHead head → ending_of head ≡ None →
-    Some op ≡ operation_of head body → HasData b c (data_length head) (Whole body) →
-    HasBehind head b c (Ask head.cookie op)
-behind-asks b c head body op is goes_on asks more = (
+pub behind-asks : (structured : Bool) (b c : Reach) (head : RequestHead) (body : List ℕ)
+    (form : Form) (op : Op) → IsRequestHead head → ending_of head ≡ None →
+    form ≡ form_of structured head → Some op ≡ operation_of structured head body →
+    HasData b c (data_length head) (Whole body) →
+    HasBehind structured head b c (Ask head.cookie form op)
+behind-asks structured b c head body form op is goes_on form_is asks more = (
   more.0,
   false,
   record {
     takes = more.1.takes;
     at_end = λ e. absurd (cc);
     by_case = (
-      message-of head more.0 (Some op) is goes_on more.1.by_case.1
-          (asks ∙ ap (operation_of head) more.1.by_case.0),
+      message-of structured head more.0 (Some op) form is goes_on more.1.by_case.1
+          (asks ∙ ap (operation_of structured head) more.1.by_case.0) form_is,
       more.1.by_case.2,
     );
   },
 )
 
-pub behind-refuses : (b c : Reach) (head : RequestHead) (body : List ℕ) → IsRequestHead head →
-    ending_of head ≡ None →
-    None ≡ operation_of head body → HasData b c (data_length head) (Whole body) →
-    HasBehind head b c (Refuse head.cookie invalid)
-behind-refuses b c head body is goes_on asks more = (
+pub behind-refuses : (structured : Bool) (b c : Reach) (head : RequestHead) (body : List ℕ)
+    (form : Form) → IsRequestHead head → ending_of head ≡ None →
+    form ≡ form_of structured head → None ≡ operation_of structured head body →
+    HasData b c (data_length head) (Whole body) →
+    HasBehind structured head b c (Refuse head.cookie form invalid)
+behind-refuses structured b c head body form is goes_on form_is asks more = (
   more.0,
   false,
   record {
@@ -150,8 +157,8 @@ behind-refuses b c head body is goes_on asks more = (
     at_end = λ e. absurd (cc);
     by_case = (
       None,
-      message-of head more.0 None is goes_on more.1.by_case.1
-          (asks ∙ ap (operation_of head) more.1.by_case.0),
+      message-of structured head more.0 None form is goes_on more.1.by_case.1
+          (asks ∙ ap (operation_of structured head) more.1.by_case.0) form_is,
       refl,
       more.1.by_case.2,
     );
@@ -159,12 +166,12 @@ behind-refuses b c head body is goes_on asks more = (
 )
 
 -- the input ended in a request's data
-pub behind-cut : (b c : Reach) (head : RequestHead) (n : ℕ) (bytes : List ℕ) → IsRequestHead head →
-    ending_of head ≡ None →
+pub behind-cut : (structured : Bool) (b c : Reach) (head : RequestHead) (n : ℕ) (bytes : List ℕ) →
+    IsRequestHead head → ending_of head ≡ None →
     Takes b c bytes → length bytes ≡ n → n < data_length head → HasEnded b.source c.source →
     c.source.faults ≡ b.source.faults →
-    HasBehind head b c (Stop (Truncated (28 + n)))
-behind-cut b c head n bytes is goes_on takes size fewer ended held = (
+    HasBehind structured head b c (Stop (Truncated (28 + n)))
+behind-cut structured b c head n bytes is goes_on takes size fewer ended held = (
   bytes,
   true,
   record {
@@ -191,11 +198,11 @@ behind-cut b c head n bytes is goes_on takes size fewer ended held = (
 )
 
 -- the source failed in a request's data
-pub behind-fault : (b c : Reach) (head : RequestHead) (bytes : List ℕ) → IsRequestHead head →
-    ending_of head ≡ None →
+pub behind-fault : (structured : Bool) (b c : Reach) (head : RequestHead) (bytes : List ℕ) →
+    IsRequestHead head → ending_of head ≡ None →
     Takes b c bytes → length bytes < data_length head → Rose b.source.faults c.source.faults →
-    HasBehind head b c (Stop ReadFault)
-behind-fault b c head bytes is goes_on takes fewer rose = (
+    HasBehind structured head b c (Stop ReadFault)
+behind-fault structured b c head bytes is goes_on takes fewer rose = (
   bytes,
   false,
   record {
@@ -217,31 +224,34 @@ behind-fault b c head bytes is goes_on takes fewer rose = (
 )
 
 -- a request's data was dropped
-pub behind-dropped : (b c : Reach) (head : RequestHead) (number : ℕ) → IsRequestHead head →
-    ending_of head ≡ None →
-    ((body : List ℕ) → length body ≡ data_length head → IsRefusal (operation_of head body) number) →
+pub behind-dropped : (structured : Bool) (b c : Reach) (head : RequestHead) (form : Form)
+    (number : ℕ) → IsRequestHead head → ending_of head ≡ None → form ≡ form_of structured head →
+    ((body : List ℕ) → length body ≡ data_length head →
+    IsRefusal (operation_of structured head body) number) →
     ((bytes : List ℕ) × TakesUpTo b c (data_length head) Fillings.Whole bytes) →
-    HasBehind head b c (Refuse head.cookie number)
-behind-dropped b c head number is goes_on refused more = (
+    HasBehind structured head b c (Refuse head.cookie form number)
+behind-dropped structured b c head form number is goes_on form_is refused more = (
   more.0,
   false,
   record {
     takes = more.1.takes;
     at_end = λ e. absurd (cc);
     by_case = (
-      operation_of head more.0,
-      message-of head more.0 (operation_of head more.0) is goes_on more.1.count refl,
+      operation_of structured head more.0,
+      message-of structured head more.0 (operation_of structured head more.0) form is goes_on
+          more.1.count refl form_is,
       refused more.0 more.1.count,
       more.1.fewer,
     );
   },
 )
 
--- another flag than "force unit access" is refused
-pub flags-refused : (head : RequestHead) (body : List ℕ) → 1 < head.flags.bits →
-    IsRefusal (operation_of head body) invalid
+-- a flag that the type may not have is refused
+pub flags-refused : (structured : Bool) (head : RequestHead) (body : List ℕ) →
+    are_allowed structured head.command head.flags.bits ≡ false →
+    IsRefusal (operation_of structured head body) invalid
 unfolding operation_of
-flags-refused head body more = rw (lt-ltb 1 head.flags.bits more) refl
+flags-refused structured head body other = rw other refl
 
 data-operation : (command : CommandType) (flags offset len : ℕ) (body : List ℕ) →
     0 < data_length_by command len →
@@ -252,9 +262,10 @@ data-operation Flush flags offset len body some = refl
 data-operation _ flags offset len body some = absurd (omega arith)
 
 -- a request with data is an operation, for which memory may be wanted
-pub memory-refused : (head : RequestHead) (body : List ℕ) → head.flags.bits ≤ 1 →
-    0 < data_length head → IsRefusal (operation_of head body) no_memory
+pub memory-refused : (structured : Bool) (head : RequestHead) (body : List ℕ) →
+    are_allowed structured head.command head.flags.bits ≡ true → 0 < data_length head →
+    IsRefusal (operation_of structured head body) no_memory
 unfolding operation_of data_length
-memory-refused head body flags some =
-    rw (le-ltb 1 head.flags.bits flags)
+memory-refused structured head body allowed some =
+    rw allowed
     (data-operation head.command head.flags.bits head.offset head.length body some)

@@ -7,6 +7,7 @@ use Rattle.nbd_stream.specs.declared.ending.Ending.TheVariants.{Disconnected, Cl
 use Rattle.nbd_stream.specs.declared.ending.Ending.TheVariants.{BadMagic, TooLong, TooMany}
 use Rattle.nbd_stream.specs.declared.ending.Ending.TheVariants.{PortSpent, ReadFault, WriteFault}
 use Rattle.nbd_stream.specs.Endings.{IsCount}
+use Rattle.nbd_session.specs.declared.forms.Form.{Form}
 use Rattle.nbd_session.specs.Requests.{IsMessage, IsCutRequest, IsLastHead}
 use Rattle.nbd_session.specs.Turns.{Turn, Spells}
 use Rattle.nbd_wire.specs.Fields.{u32_text}
@@ -25,23 +26,24 @@ StopsRequests ReadFault ended bytes = IsCutRequest bytes
 StopsRequests _ ended bytes = ⊥
 
 -- these bytes are behind the last request that was answered
-abbrev pub EndsRequests : Ending → Bool → List ℕ → Type 0
-EndsRequests (TooMany m) ended bytes = bytes ≡ []
-EndsRequests WriteFault ended bytes = bytes ≡ []
-EndsRequests PortSpent ended bytes = (cookie : ℕ) × (op : Op) × IsMessage bytes cookie (Some op)
-EndsRequests ending ended bytes = StopsRequests ending ended bytes
+abbrev pub EndsRequests : (structured : Bool) → Ending → Bool → List ℕ → Type 0
+EndsRequests structured (TooMany m) ended bytes = bytes ≡ []
+EndsRequests structured WriteFault ended bytes = bytes ≡ []
+EndsRequests structured PortSpent ended bytes = (cookie : ℕ) × (op : Op) × (form : Form)
+    × IsMessage structured bytes cookie (Some op) form
+EndsRequests structured ending ended bytes = StopsRequests ending ended bytes
 
 -- how the requests came to an end, or that they go on
-abbrev pub RequestsEnd : Option Ending → ℕ → Bool → List ℕ → Type 0
-RequestsEnd None n ended bytes = bytes ≡ []
-RequestsEnd (Some ending) n ended bytes = EndsRequests ending ended bytes
+abbrev pub RequestsEnd : (structured : Bool) → Option Ending → ℕ → Bool → List ℕ → Type 0
+RequestsEnd structured None n ended bytes = bytes ≡ []
+RequestsEnd structured (Some ending) n ended bytes = EndsRequests structured ending ended bytes
     × IsCount (2 ^ 32) ending n
 
 -- These bytes are some requests, of `n` in all, with what comes then.
-pub record AreRequests (result : Option Ending) (turns : List Turn) (n : ℕ) (taken : List ℕ)
-    (ended : Bool) : Type 0 where
+pub record AreRequests (structured : Bool) (result : Option Ending) (turns : List Turn) (n : ℕ)
+    (taken : List ℕ) (ended : Bool) : Type 0 where
   pub text : List ℕ
   pub bytes : List ℕ
   pub parts : taken ≡ text ++ bytes
-  pub spells : Spells turns text
-  pub ends : RequestsEnd result n ended bytes
+  pub spells : Spells structured turns text
+  pub ends : RequestsEnd structured result n ended bytes

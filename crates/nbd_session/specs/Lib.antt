@@ -1,3 +1,4 @@
+pub mod Forms
 pub mod Grammar
 pub mod Ports
 pub mod Reading
@@ -5,5 +6,6 @@ pub mod Replies
 pub mod Requests
 pub mod Serving
 pub mod Session
+pub mod Spelling
 pub mod Taking
 pub mod Turns

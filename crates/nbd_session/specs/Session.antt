@@ -8,7 +8,7 @@ use Rattle.nbd_hand.specs.declared.options.ClientOption.{ClientOption}
 use Rattle.nbd_hand.specs.declared.options.Course.TheVariants.{Begins}
 use Rattle.nbd_hand.specs.Grammar.{AreOptions}
 use Rattle.nbd_hand.specs.Handshakes as Handshakes
-use Rattle.nbd_hand.specs.Handshakes.{Stage, served, Handshake, HasFlags, IsUnserved}
+use Rattle.nbd_hand.specs.Handshakes.{Stage, served, Handshake, HasFlags, IsUnserved, agreed_in}
 use Rattle.nbd_session.specs.declared.ending.SessionEnd.{SessionEnd}
 use Rattle.nbd_session.specs.Grammar.{AreRequests}
 use Rattle.nbd_session.specs.Turns.{Turn, replies_to}
@@ -51,7 +51,8 @@ abbrev pub IsInput : Stage → Log → Ending → Type 0
 IsInput served log ending =
     (chosen : List ℕ) × (asked : List ℕ) × HasFlags (handshake_of log) (chosen ++ asked)
     × AreOptions Begins log.options log.last (length log.options) chosen false
-    × AreRequests (Some ending) log.turns (length log.turns) asked log.ended
+    × AreRequests (agreed_in (handshake_of log)).structured (Some ending) log.turns
+    (length log.turns) asked log.ended
 IsInput stage log ending = (log.turns ≡ []) × IsUnserved stage (handshake_of log) ending
 
 -- The log is that of a session that ended so, from one moment to another.

@@ -1,24 +1,28 @@
 //! A session with one client by the NBD protocol ("Fixed newstyle negotiation" and "Transmission"
 //! of its document), as a function of the bytes that the client sends. After the handshake of
-//! `nbd_hand` the client asks for reads, writes and flushes, each of which is submitted to a port
-//! and answered by a simple reply; a request of another type or with an unknown flag is answered 22
-//! here. Every input has its ending.
+//! `nbd_hand` the client asks for reads, writes, zeroes and flushes, each of which is submitted to
+//! a port and answered: by a simple reply, or a read by chunks where structured replies were agreed
+//! on. A request of another type, or with a flag that its type may not have, is answered 22 here.
+//! Every input has its ending.
 //!
 //! The layer above may rely on three clauses of `serve_session`. The bytes that were put are the
 //! answers to the bytes that were taken and the port's replies, however the bytes came in pieces,
 //! and the operations that the port was asked are those of the bytes, in order (`session`). All
 //! that was put has gone out at the end, unless the sink failed (`out`). A session ends as by a
 //! spent port only where the port is spent (`spent`). By `reading_is_unique` the bytes leave no
-//! choice in what was asked and how the session ended. A session keeps one buffer, of at most 32
-//! MiB, for the bodies and contents of its operations.
+//! choice in what was asked and how the session ended; by `reads_are_spelt` the chunks of each READ
+//! spell what it came to. A session keeps one buffer, of at most 32 MiB, for the bodies and
+//! contents of its operations.
 #![tactic(auto)]
 
 mod ending;
+mod forms;
 mod port;
 mod reading;
 mod replies;
 mod requests;
 mod session;
+mod spelling;
 #[cfg(test)]
 mod tests;
 
@@ -28,3 +32,4 @@ pub use nbd_stream::Ending;
 pub use port::{Port, Submitted};
 pub use reading::reading_is_unique;
 pub use session::serve_session;
+pub use spelling::reads_are_spelt;

@@ -1,13 +1,15 @@
-ghost use Rattle.std.specs.Prelude.{◌≡◌, ◌<◌, ◌≤◌, ◌+◌, ◌^◌, ℕ, Bool, List, length, None};
+ghost use Rattle.std.specs.Prelude.{◌≡◌, ◌<◌, ◌≤◌, ◌+◌, ◌^◌, ℕ, Bool, true, List, length};
+ghost use Rattle.std.specs.Prelude.{None};
 ghost use Rattle.nbd_session.specs.Requests.{ending_of, data_length, operation_of, IsRefusal};
 ghost use Rattle.nbd_session.specs.Taking.{BehindHead, NextIs};
 ghost use Rattle.nbd_stream.specs.Traffic.{reach};
-ghost use Rattle.nbd_wire.specs.Requests.{IsRequestHead};
+ghost use Rattle.nbd_wire.specs.Requests.{IsRequestHead, are_allowed};
 
+use crate::forms::Form;
 use base_terms::{Buffer, Bytes, INVALID, NO_MEMORY};
 use io_edge::Source;
 use nbd_stream::{Data, Ending, Filled, take_data, take_head, take_past};
-use nbd_wire::{CommandFlags, CommandType, RequestHead};
+use nbd_wire::{CommandType, RequestHead};
 use plain_disk::{MAX_READ, Op};
 use std::alloc::Global;
 
@@ -21,20 +23,30 @@ const MAX_WRITE: u32 = MAX_READ;
 /// with the number of an error, or the end.
 #[derive(Debug, Drop)]
 pub enum Next {
-    Ask { cookie: u64, op: Op },
-    Refuse { cookie: u64, number: u32 },
+    Ask {
+        cookie: u64,
+        form: Form,
+        op: Op,
+    },
+    Refuse {
+        cookie: u64,
+        form: Form,
+        number: u32,
+    },
     Stop(Ending),
 }
 
 /// Takes the next request from the source, a write's body into the spare buffer, and counts the
-/// bytes that it took.
+/// bytes that it took. Whether structured replies were agreed on decides which flags a read may
+/// have, and how it is answered.
 pub fn next_request<S: Source>(
     alloc: Global,
     source: &mut S,
+    structured: bool,
     spare: &mut Buffer,
     taken: &mut u64,
 ) -> Next
-    ensures { (bytes : List ℕ) × (ended : Bool) × NextIs
+    ensures { (bytes : List ℕ) × (ended : Bool) × NextIs structured
         (reach (S.intake source.old) taken.old)
         (reach (S.intake source.new) taken.new)
         result bytes ended }
@@ -49,7 +61,7 @@ pub fn next_request<S: Source>(
         Err(bad) => return Next::Stop(Ending::BadMagic(bad.number)),
     };
     match ending(&head) {
-        None => behind_head(alloc, source, &head, spare, taken),
+        None => behind_head(alloc, source, &head, structured, spare, taken),
         Some(ending) => Next::Stop(ending),
     }
 }
@@ -59,41 +71,50 @@ fn behind_head<S: Source>(
     alloc: Global,
     source: &mut S,
     head: &RequestHead,
+    structured: bool,
     spare: &mut Buffer,
     taken: &mut u64,
 ) -> Next
     requires head { IsRequestHead head.now }
     requires goes_on { ending_of head.now ≡ None }
-    ensures { (body : List ℕ) × (ended : Bool) × BehindHead head.now
+    ensures { (body : List ℕ) × (ended : Bool) × BehindHead structured head.now
         (reach (S.intake source.old) taken.old)
         (reach (S.intake source.new) taken.new)
         result body ended }
 {
     let cookie = head.cookie;
-    if head.flags.bits > CommandFlags::FUA.bits {
-        return refuse(source, head, INVALID, taken);
+    let form = Form::of(head, structured);
+    if !head.flags.are_allowed(head.command, structured) {
+        return refuse(source, head, structured, INVALID, taken);
     }
     match take_data(alloc, source, data_length(head), spare, taken) {
-        Data::Whole(body) => match operation(head, body) {
-            Some(op) => Next::Ask { cookie, op },
+        Data::Whole(body) => match operation(head, structured, body) {
+            Some(op) => Next::Ask { cookie, form, op },
             None => Next::Refuse {
                 cookie,
+                form,
                 number: INVALID,
             },
         },
-        Data::NoMemory => refuse(source, head, NO_MEMORY, taken),
+        Data::NoMemory => refuse(source, head, structured, NO_MEMORY, taken),
         Data::Ended(n) => Next::Stop(Ending::Truncated((HEAD + n) as u64)),
         Data::Fault => Next::Stop(Ending::ReadFault),
     }
 }
 
 /// Drops the data of a request that is answered with the number of an error.
-fn refuse<S: Source>(source: &mut S, head: &RequestHead, number: u32, taken: &mut u64) -> Next
+fn refuse<S: Source>(
+    source: &mut S,
+    head: &RequestHead,
+    structured: bool,
+    number: u32,
+    taken: &mut u64,
+) -> Next
     requires head { IsRequestHead head.now }
     requires goes_on { ending_of head.now ≡ None }
     requires refused { (body : List ℕ) → length body ≡ data_length head.now →
-        IsRefusal (operation_of head.now body) number }
-    ensures { (body : List ℕ) × (ended : Bool) × BehindHead head.now
+        IsRefusal (operation_of structured head.now body) number }
+    ensures { (body : List ℕ) × (ended : Bool) × BehindHead structured head.now
         (reach (S.intake source.old) taken.old)
         (reach (S.intake source.new) taken.new)
         result body ended }
@@ -101,6 +122,7 @@ fn refuse<S: Source>(source: &mut S, head: &RequestHead, number: u32, taken: &mu
     match take_past(source, data_length(head) as usize, taken) {
         Filled::Whole => Next::Refuse {
             cookie: head.cookie,
+            form: Form::of(head, structured),
             number,
         },
         Filled::Ended(n) => Next::Stop(Ending::Truncated((HEAD + n) as u64)),
@@ -131,12 +153,11 @@ fn data_length(head: &RequestHead) -> u32
     }
 }
 
-/// The operation of a request without another flag than "force unit access"; None of a type that
-/// isn't served.
+/// The operation of a request whose flags its type may have; None of a type that isn't served.
 #[tactic(auto, unfolding(crate::specs::Requests::operation_of))]
-fn operation(head: &RequestHead, body: Bytes) -> Option<Op>
-    requires { head.now.flags.bits ≤ 1 }
-    ensures { result ≡ operation_of head.now body }
+fn operation(head: &RequestHead, structured: bool, body: Bytes) -> Option<Op>
+    requires { are_allowed structured head.now.command head.now.flags.bits ≡ true }
+    ensures { result ≡ operation_of structured head.now body }
 {
     match head.command {
         CommandType::Read => Some(Op::Read {
@@ -146,7 +167,12 @@ fn operation(head: &RequestHead, body: Bytes) -> Option<Op>
         CommandType::Write => Some(Op::Write {
             offset: head.offset,
             body,
-            fua: head.flags.bits == CommandFlags::FUA.bits,
+            fua: head.flags.has_fua(),
+        }),
+        CommandType::WriteZeroes => Some(Op::Zeroes {
+            offset: head.offset,
+            length: head.length,
+            fua: head.flags.has_fua(),
         }),
         CommandType::Flush => Some(Op::Flush),
         _ => None,

@@ -8,7 +8,9 @@ mod requests;
 use self::blocks::Blocks;
 use self::cases::{CLIENT, Case, PIECES, PORTS, SERVER, SINKS, SOURCES};
 use self::messages::bytes_of;
-use self::requests::{BUFFERS, FORCED, NO_REQUESTS, REFUSED_RANGES, REFUSED_TYPES};
+use self::requests::{
+    BUFFERS, CHUNKED, FORCED, NO_REQUESTS, REFUSED_RANGES, REFUSED_TYPES, ZEROED,
+};
 use crate::{Ending, Export, SessionEnd, serve_session};
 use base_terms::Failed;
 use io_edge::{ListSink, ListSource, Sink};
@@ -159,6 +161,18 @@ fn a_request_that_is_none_ends_the_session(rt: HostRuntime) -> Result<(), Fail> 
 #[test]
 fn a_forced_write_is_submitted_so(rt: HostRuntime) -> Result<(), Fail> {
     assert_eq!(rt; first_unmet(rt.alloc(), FORCED)?, None);
+    Ok(())
+}
+
+#[test]
+fn zeroes_are_submitted_so(rt: HostRuntime) -> Result<(), Fail> {
+    assert_eq!(rt; first_unmet(rt.alloc(), ZEROED)?, None);
+    Ok(())
+}
+
+#[test]
+fn reads_are_answered_by_chunks_where_that_was_agreed(rt: HostRuntime) -> Result<(), Fail> {
+    assert_eq!(rt; first_unmet(rt.alloc(), CHUNKED)?, None);
     Ok(())
 }
 

@@ -1,7 +1,7 @@
 -- The data of INFO and GO: what is read of it, and its text.
-use Rattle.std.proofs.Common.{◌≡◌, ℕ, ◌+◌, ◌-◌, ◌*◌, ◌/◌, ◌^◌, ◌<◌, ◌≤◌, ◌==◌, nat_lt}
+use Rattle.std.proofs.Common.{◌≡◌, ℕ, ◌+◌, ◌-◌, ◌*◌, ◌/◌, ◌^◌, ◌<◌, ◌≤◌, ◌==◌}
 use Rattle.std.proofs.Common.{if◌then◌else◌}
-use Rattle.std.proofs.Common.{List, [], ◌∷◌, ◌++◌, Option, Some, None, length, take, drop, ap, ◌∙◌}
+use Rattle.std.proofs.Common.{List, [], ◌++◌, Option, Some, None, length, take, drop, ap, ◌∙◌}
 use Rattle.std.proofs.Common.{refl, sym, subst, arith, get_or, Fits, w8, take_at, take_all}
 use Rattle.std.proofs.Common.{append_assoc}
 use Rattle.std.proofs.Common.{append-nil, length-append, length-drop, inl, inr, ⊎_elim}

@@ -1,12 +1,13 @@
 ghost use Rattle.std.specs.Prelude.{◌≡◌, ◌≢◌, ◌↔◌, ◌<◌, ◌^◌, IsTrue, IfOk, IfErr, IfSome, Some};
-ghost use Rattle.std.specs.Prelude.{take};
+ghost use Rattle.std.specs.Prelude.{◌++◌, ℕ, List, MatchOption, take};
 ghost use Rattle.std.specs.Int.{IsBitSet};
-ghost use Rattle.nbd_wire.specs.Chunks.{IsChunkHead, IsErrorAt, chunk_head_text, chunk_number};
-ghost use Rattle.nbd_wire.specs.Chunks.{chunk_of, error_at_text, error_data_text};
-ghost use Rattle.nbd_wire.specs.Fields.{u32_text};
+ghost use Rattle.nbd_wire.specs.Chunks.{IsChunkHead, IsError, IsErrorAt, chunk_head_text};
+ghost use Rattle.nbd_wire.specs.Chunks.{chunk_number, chunk_of, error_at_text, error_data_text};
+ghost use Rattle.nbd_wire.specs.Fields.{u32_text, u64_text};
 ghost use Rattle.nbd_wire.specs.Magic.{chunk_magic};
 
 use crate::fields::{u16_at, u32_at, u64_at};
+use crate::parts::put;
 use crate::{BadMagic, CHUNK_MAGIC};
 
 /// What a chunk of a structured reply holds ("Structured reply types"). A type without a name here
@@ -116,16 +117,30 @@ impl ChunkHead {
     pub fn write(self) -> [u8; 20]
         ensures { result ≡ chunk_head_text self }
     {
-        let m = CHUNK_MAGIC.to_be_bytes();
-        let f = self.flags.bits.to_be_bytes();
-        let t = self.chunk.number().to_be_bytes();
-        let c = self.cookie.to_be_bytes();
-        let l = self.length.to_be_bytes();
-        [
-            m[0], m[1], m[2], m[3], f[0], f[1], t[0], t[1], c[0], c[1], c[2], c[3], c[4], c[5],
-            c[6], c[7], l[0], l[1], l[2], l[3],
-        ]
+        // whole fields, which take fewer instructions than their bytes
+        let mut bytes = [0; 20];
+        put(&mut bytes, 0, &CHUNK_MAGIC.to_be_bytes());
+        put(&mut bytes, 4, &self.flags.bits.to_be_bytes());
+        put(&mut bytes, 6, &self.chunk.number().to_be_bytes());
+        put(&mut bytes, 8, &self.cookie.to_be_bytes());
+        put(&mut bytes, 16, &self.length.to_be_bytes());
+        bytes
     }
+}
+
+/// What the data of a chunk of content spells ("NBD_REPLY_TYPE_OFFSET_DATA"): a u64 offset in the
+/// export, and the bytes from there on. None of fewer than 8 bytes.
+pub fn offset_and_content(bytes: &[u8]) -> Option<(u64, &[u8])>
+    ensures taken { IfSome result
+        (λ found. (found.0 < 2 ^ 64) × (u64_text found.0 ++ found.1.now ≡ bytes.now)) }
+    ensures only { (offset : ℕ) (content : List ℕ) → offset < 2 ^ 64
+        → u64_text offset ++ content ≡ bytes.now
+        → MatchOption result ⊥ (λ found. (found.0 ≡ offset) × (found.1.now ≡ content)) }
+{
+    if bytes.len() < 8 {
+        return None;
+    }
+    Some((u64_at(bytes, 0), &bytes[8..]))
 }
 
 /// The data of an error, whose number isn't 0, without a text for people ("NBD_REPLY_TYPE_ERROR").
@@ -136,6 +151,24 @@ pub fn error_data(error: u32) -> [u8; 6]
 {
     let e = error.to_be_bytes();
     [e[0], e[1], e[2], e[3], 0, 0]
+}
+
+/// The number of the error that these bytes tell. None where a text for people is announced, or the
+/// number is 0.
+pub fn error_number(bytes: &[u8; 6]) -> Option<u32>
+    ensures taken { IfSome result
+        (λ error. IsError error × (error_data_text error ≡ bytes.now)) }
+    ensures only { (error : ℕ) → IsError error → error_data_text error ≡ bytes.now
+        → result ≡ Some error }
+{
+    if u16_at(bytes, 4) != 0 {
+        return None;
+    }
+    let error = u32_at(bytes, 0);
+    if error == 0 {
+        return None;
+    }
+    Some(error)
 }
 
 /// The data of an error, whose number isn't 0, at an offset in the export, without a text for

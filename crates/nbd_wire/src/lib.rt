@@ -26,7 +26,9 @@ mod spelling;
 #[cfg(test)]
 mod tests;
 
-pub use chunks::{ChunkFlags, ChunkHead, ChunkType, ErrorAt, error_data};
+pub use chunks::{
+    ChunkFlags, ChunkHead, ChunkType, ErrorAt, error_data, error_number, offset_and_content,
+};
 pub use exports::{BlockSizes, ExportData, TransmissionFlags};
 pub use handshake::{ClientFlags, Greeting, HandshakeFlags};
 pub use info_data::InfoData;

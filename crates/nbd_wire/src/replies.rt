@@ -4,6 +4,7 @@ ghost use Rattle.nbd_wire.specs.Replies.{IsSimpleReplyHead, simple_reply_text};
 ghost use Rattle.nbd_wire.specs.Magic.{simple_reply_magic};
 
 use crate::fields::{u32_at, u64_at};
+use crate::parts::put;
 use crate::{BadMagic, SIMPLE_REPLY_MAGIC};
 
 /// The head of a simple reply ("Simple reply message"): the number of an error ("Error values"), 0
@@ -43,12 +44,11 @@ impl SimpleReplyHead {
     pub fn write(self) -> [u8; 16]
         ensures { result ≡ simple_reply_text self }
     {
-        let m = SIMPLE_REPLY_MAGIC.to_be_bytes();
-        let e = self.error.to_be_bytes();
-        let c = self.cookie.to_be_bytes();
-        [
-            m[0], m[1], m[2], m[3], e[0], e[1], e[2], e[3], c[0], c[1], c[2], c[3], c[4], c[5],
-            c[6], c[7],
-        ]
+        // whole fields, which take fewer instructions than their bytes
+        let mut bytes = [0; 16];
+        put(&mut bytes, 0, &SIMPLE_REPLY_MAGIC.to_be_bytes());
+        put(&mut bytes, 4, &self.error.to_be_bytes());
+        put(&mut bytes, 8, &self.cookie.to_be_bytes());
+        bytes
     }
 }

@@ -3,8 +3,9 @@ use base_terms::Bytes;
 use plain_disk::{Op, Reply, wrong};
 use std::alloc::{AllocError, Global};
 
-/// The first four blocks of a small disk, which are written, read and flushed as long as there is
-/// memory and operations are left. The buffer of each body is overwritten and given back.
+/// The first four blocks of a small disk, which are written, zeroed, read and flushed as long as
+/// there is memory and operations are left. The disk's last block isn't read. The buffer of each
+/// body is overwritten and given back.
 #[derive(Drop)]
 pub struct Blocks {
     bytes: [u8; 2048],
@@ -59,14 +60,24 @@ impl Port for Blocks {
             return Ok(Submitted::Spent);
         }
         self.operations -= 1;
-        // reads of up to 9216 bytes are answered, to show what goes out
+        // reads of 9216 bytes and of a block more than 1 MiB are answered, to show what goes out
         if let Some(number) = wrong(&op, 512, 8192) {
-            if !matches!(op, Op::Read { length: 9216, .. }) {
+            if !matches!(
+                op,
+                Op::Read {
+                    offset: 0,
+                    length: 9216 | 1_049_088
+                }
+            ) {
                 let buffer = self.used_buffer(alloc, op);
                 return Ok(Submitted::Replied(Reply::Errno(number), buffer));
             }
         }
         let reply = match &op {
+            Op::Read {
+                offset: 7680,
+                length: 512,
+            } => Reply::ErrnoAt(5, 7680),
             Op::Read { length, .. } => {
                 let mut content = vec![in alloc; 0u8; *length as usize]?;
                 let n = content.len().min(2048);
@@ -76,6 +87,12 @@ impl Port for Blocks {
             Op::Write { body, fua, .. } => {
                 let n = body.len().min(2048);
                 self.bytes[..n].copy_from_slice(&body.as_slice()[..n]);
+                self.forced = *fua;
+                Reply::Done
+            }
+            Op::Zeroes { length, fua, .. } => {
+                let n = (*length as usize).min(2048);
+                self.bytes[..n].fill(0);
                 self.forced = *fua;
                 Reply::Done
             }

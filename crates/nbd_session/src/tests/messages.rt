@@ -137,10 +137,113 @@ pub const TRIM: Part = (
     1,
 );
 
-pub const WRITE_ZEROES: Part = (
-    "25609513000000060000000000000002000000000000000000000200",
+/// Zeroes of two blocks; of the whole export, with "no hole"; with that and "force unit access"; of
+/// nothing; behind the end; of more than a read may ask for; and with a flag that only a read may
+/// have.
+pub const ZEROES: Part = (
+    "25609513000000060000000000000002000000000000000000000400",
     1,
 );
+
+pub const ZEROES_NO_HOLE: Part = (
+    "25609513000200060000000000000002000000000000000000002000",
+    1,
+);
+
+pub const FORCED_ZEROES: Part = (
+    "25609513000300060000000000000002000000000000000000000200",
+    1,
+);
+
+pub const ZEROES_OF_NOTHING: Part = (
+    "25609513000000060000000000000002000000000000020000000000",
+    1,
+);
+
+pub const ZEROES_BEHIND: Part = (
+    "25609513000000060000000000000002000000000000200000000200",
+    1,
+);
+
+pub const LONG_ZEROES: Part = (
+    "25609513000000060000000000000002000000000000000002000200",
+    1,
+);
+
+pub const FLAGGED_ZEROES: Part = (
+    "25609513000400060000000000000002000000000000000000000200",
+    1,
+);
+
+/// The option STRUCTURED_REPLY, what is answered, and the export where it was agreed on.
+pub const STRUCTURED_REPLY: Part = ("49484156454f50540000000800000000", 1);
+
+pub const STRUCTURED: Part = ("0003e889045565a9000000080000000100000000", 1);
+
+pub const TOLD_STRUCTURED: Part = ("000000000000200001cd", 1);
+
+/// A read of the last block, which fails; one of 1049088 bytes, also with "don't fragment"; a write
+/// with that; and a read with "no hole", which neither may have.
+pub const READ_LAST: Part = (
+    "256095130000000000000000000000020000000000001e0000000200",
+    1,
+);
+
+pub const READ_LARGE: Part = (
+    "25609513000000000000000000000002000000000000000000100200",
+    1,
+);
+
+pub const READ_LARGE_WHOLE: Part = (
+    "25609513000400000000000000000002000000000000000000100200",
+    1,
+);
+
+pub const WHOLE_WRITE: Part = (
+    "25609513000400010000000000000001000000000000000000000200",
+    1,
+);
+
+pub const READ_NO_HOLE: Part = (
+    "25609513000200000000000000000002000000000000000000000200",
+    1,
+);
+
+/// The chunks of reads: of a block at the front, of nothing, of 1048576 bytes and 512 behind them,
+/// and of these in one; and their errors.
+pub const CHUNK_OF_BLOCK: Part = (
+    "668e33ef000100010000000000000002000002080000000000000000",
+    1,
+);
+
+pub const CHUNK_OF_NOTHING: Part = ("668e33ef00010000000000000000000200000000", 1);
+
+pub const FIRST_CHUNK: Part = (
+    "668e33ef000000010000000000000002001000080000000000000000",
+    1,
+);
+
+pub const LAST_CHUNK: Part = (
+    "668e33ef000100010000000000000002000002080000000000100000",
+    1,
+);
+
+pub const WHOLE_CHUNK: Part = (
+    "668e33ef000100010000000000000002001002080000000000000000",
+    1,
+);
+
+pub const CHUNK_INVALID: Part = ("668e33ef00018001000000000000000200000006000000160000", 1);
+
+pub const CHUNK_WANTS_MEMORY: Part = ("668e33ef000180010000000000000002000000060000000c0000", 1);
+
+pub const CHUNK_FAILED_AT: Part = (
+    "668e33ef0001800200000000000000020000000e0000000500000000000000001e00",
+    1,
+);
+
+/// The same without chunks.
+pub const READ_FAILED: Part = ("67446698000000050000000000000002", 1);
 
 pub const UNKNOWN_TYPE: Part = (
     "25609513000000090000000000000002000000000000000000000200",
@@ -172,7 +275,7 @@ pub const GREETING: Part = ("4e42444d4147494349484156454f50540003", 1);
 /// connections at once, its blocks of at least 512 bytes, best 4096, and 32 MiB at most, and the
 /// acknowledgement.
 pub const SIZE: Part = (
-    "0003e889045565a900000007000000030000000c00000000000000002000010d",
+    "0003e889045565a900000007000000030000000c00000000000000002000014d",
     1,
 );
 
@@ -184,7 +287,7 @@ pub const BLOCK_SIZES: Part = (
 pub const AGREED: Part = ("0003e889045565a9000000070000000100000000", 1);
 
 /// The answer to EXPORT_NAME without its 124 zeros.
-pub const TOLD: Part = ("0000000000002000010d", 1);
+pub const TOLD: Part = ("0000000000002000014d", 1);
 
 pub const WRITTEN: Part = ("67446698000000000000000000000001", 1);
 
@@ -204,6 +307,9 @@ pub const WRITE_INVALID: Part = ("67446698000000160000000000000001", 1);
 pub const READ_INVALID: Part = ("67446698000000160000000000000002", 1);
 
 pub const NO_SPACE: Part = ("674466980000001c0000000000000001", 1);
+
+/// The same to zeroes.
+pub const ZEROES_NO_SPACE: Part = ("674466980000001c0000000000000002", 1);
 
 /// The bytes of these parts.
 pub fn bytes_of(alloc: Global, parts: &[Part]) -> Result<Vec<u8>, Fail> {

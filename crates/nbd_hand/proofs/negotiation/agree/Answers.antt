@@ -1,13 +1,22 @@
-use Rattle.std.proofs.Common.{⊎_elim, [], ◌++◌, false, refl, None, arith, length, length-append}
+use Rattle.std.proofs.Common.{⊎_elim, ap, ◌∙◌, [], ◌++◌, false, refl, None, arith, length}
+use Rattle.std.proofs.Common.{length-append}
 use Rattle.nbd_hand.specs.declared.options.Course.TheVariants.{GoesOn, Begins, Ends}
+use Rattle.nbd_hand.specs.Grammar.{agreed_after}
 use Rattle.nbd_hand.proofs.OptionLemmas.{answers-none, answers-more, answers-on}
-use Rattle.nbd_hand.proofs.OptionLemmas.{answers-too_many}
+use Rattle.nbd_hand.proofs.OptionLemmas.{answers-too_many, agreed_after-append, agreed_after-none}
 use Rattle.nbd_hand.proofs.negotiation.agree.Goals as goal
 
 pub loop-number-init : goal.loop-number-init
 loop-number-init g c = record {
   out = c.requires;
-  answered = ([], [], [], refl, answers-none c.args.export.now c.args.no_zeroes _);
+  answered = (
+    [],
+    [],
+    [],
+    refl,
+    agreed_after-none c.args.first,
+    answers-none c.args.export.now c.args.first _,
+  );
 }
 
 pub loop-number-preserved : goal.loop-number-preserved
@@ -21,10 +30,12 @@ loop-number-preserved g c =
         old.1 ++ new.2,
         old.2 ++ new.3,
         omega (arith, length-append old.0 new.0, old.3, new.6 refl),
-        answers-more c.args.export.now c.args.no_zeroes _ _ _ GoesOn (length old.0) old.0 new.0 None
-            old.1 new.2 old.2 new.3 [] false old.4 refl
-            (answers-on c.args.export.now c.args.no_zeroes _ _ (length old.0) new.0 new.1 new.2
-            new.3 new.4 new.5 (new.7 (length old.0) (omega (arith, old.3)))),
+        new.7 ∙ ap (λ a. agreed_after a new.0) old.4 ∙ agreed_after-append c.args.first old.0 new.0,
+        answers-more c.args.export.now c.args.first _ _ _ GoesOn (length old.0) old.0 new.0 None
+            old.1 new.2 old.2 new.3 [] false old.5 refl
+            (answers-on c.args.export.now (agreed_after c.args.first old.0) _ _ (length old.0)
+            new.0 new.1 new.2 new.3 new.4 new.5
+            (rw old.4 at (new.8 (length old.0) (omega (arith, old.3))))),
       );
     }
 
@@ -38,9 +49,10 @@ returns-in-Begins-clause-agrees g c =
       old.2 ++ new.3,
       new.4,
       new.5,
-      answers-more c.args.export.now c.args.no_zeroes _ _ _ Begins (length old.0) old.0 new.0 new.1
-          old.1 new.2 old.2 new.3 new.4 new.5 old.4 refl
-          (new.7 (length old.0) (omega (arith, old.3))),
+      new.7 ∙ ap (λ a. agreed_after a new.0) old.4 ∙ agreed_after-append c.args.first old.0 new.0,
+      answers-more c.args.export.now c.args.first _ _ _ Begins (length old.0) old.0 new.0 new.1
+          old.1 new.2 old.2 new.3 new.4 new.5 old.5 refl
+          (rw old.4 at (new.8 (length old.0) (omega (arith, old.3)))),
     )
 
 pub returns-in-Ends-clause-agrees : goal.returns-in-Ends-clause-agrees
@@ -53,9 +65,10 @@ returns-in-Ends-clause-agrees g c =
       old.2 ++ new.3,
       new.4,
       new.5,
-      answers-more c.args.export.now c.args.no_zeroes _ _ _ (Ends c.in-Ends.ending) (length old.0)
-          old.0 new.0 new.1 old.1 new.2 old.2 new.3 new.4 new.5 old.4 refl
-          (new.7 (length old.0) (omega (arith, old.3))),
+      tt,
+      answers-more c.args.export.now c.args.first _ _ _ (Ends c.in-Ends.ending) (length old.0)
+          old.0 new.0 new.1 old.1 new.2 old.2 new.3 new.4 new.5 old.5 refl
+          (rw old.4 at (new.8 (length old.0) (omega (arith, old.3)))),
     )
 
 pub returns-clause-agrees : goal.returns-clause-agrees
@@ -67,6 +80,7 @@ returns-clause-agrees g c =
       all.2,
       [],
       false,
-      answers-too_many c.args.export.now c.args.no_zeroes _ _ all.0 all.1 all.2 all.4
+      tt,
+      answers-too_many c.args.export.now c.args.first _ _ all.0 all.1 all.2 all.5
           (omega (arith, all.3)),
     )

@@ -1,27 +1,19 @@
-use Rattle.std.proofs.Common.{sym, ◌∙◌}
-use Rattle.std.proofs.lemmas.Bool.{eqb-true}
-use Rattle.nbd_stream.proofs.PutLemmas.{puts-more, puts-less, puts-as}
-use Rattle.nbd_session.proofs.ReplyLemmas.{reply-parts, reply-bare}
+use Rattle.std.proofs.Common.{◌∙◌, ap, ap₂}
+use Rattle.nbd_chunks.specs.Parts.{parts_text}
+use Rattle.nbd_chunks.specs.Replies.{chunks_of}
+use Rattle.nbd_stream.proofs.PutLemmas.{puts-as}
+use Rattle.nbd_session.specs.Replies.{reply_text}
 use Rattle.nbd_session.proofs.replies.put_reply.Goals as goal
 
-pub returns-then-is_empty-clause-puts : goal.returns-then-is_empty-clause-puts
-returns-then-is_empty-clause-puts g c =
-    puts-as _ _ _ _ _ _ _
-    (reply-bare c.args.cookie c.errno.result c.args.reply.now _ _ c.errno.ensures
-    c.write-head.ensures c.data-body.ensures
-    (eqb-true _ 0 (sym c.is_empty.ensures ∙ c.if-is_empty.true))) c.put_message.ensures.puts
+pub returns-in-Simple-clause-puts : goal.returns-in-Simple-clause-puts
+unfolding reply_text
+returns-in-Simple-clause-puts g c = rw c.in-Simple.is c.put_simple_reply.ensures.puts
 
-pub returns-in-Ok-clause-puts : goal.returns-in-Ok-clause-puts
-returns-in-Ok-clause-puts g c =
-    puts-as _ _ _ _ _ _ _
-    (reply-parts c.args.cookie c.errno.result c.args.reply.now _ _ c.errno.ensures
-    c.write-head.ensures c.data-body.ensures)
-    (puts-more _ _ _ _ _ _ _ _ c.put_message-in-Ok.result c.in-Ok.ensures
-    c.put_message-in-Ok.ensures.puts)
-
-pub returns-in-Err-clause-puts : goal.returns-in-Err-clause-puts
-returns-in-Err-clause-puts g c =
-    puts-as _ _ _ _ _ _ _
-    (reply-parts c.args.cookie c.errno.result c.args.reply.now _ _ c.errno.ensures
-    c.write-head.ensures c.data-body.ensures)
-    (puts-less _ _ _ _ _ _ c.in-Err.failed c.in-Err.ensures)
+pub returns-in-Chunks-clause-puts : goal.returns-in-Chunks-clause-puts
+unfolding reply_text
+returns-in-Chunks-clause-puts g c =
+    let reply = c.read_reply.ensures in
+    let chunks = c.chunks-chunks.ensures
+    ∙ ap₂ (chunks_of c.in-Chunks.whole) reply.offset reply.outcome in
+    rw c.in-Chunks.is
+    (puts-as _ _ _ _ _ _ _ (ap (parts_text c.args.cookie) chunks) c.put_chunks.ensures.puts)

@@ -15,7 +15,7 @@ loop-number-init g c = record {
     refl,
     subst (λ (done : List Exchange). g.P.Port.did c.args.port.now c.args.port.now done)
         (sym exchanges_of-none) (g.met.P.Port.did_none c.args.port.now),
-    serves-none _,
+    serves-none c.args.structured _,
   );
 }
 
@@ -32,8 +32,8 @@ returns-in-Some-clause-served g c =
           (sym (exchanges_of-append old.0 new.0))
           (g.met.P.Port.did_more c.args.port.now c.loop-number.port c.serve_request.new.port _ _
           old.4 new.6),
-      serves-more _ _ _ (Some c.in-Some.ending) (length old.0) old.0 new.0 old.1 new.1 old.2 new.2
-          new.3 new.4 old.5 refl (new.7 (length old.0) (omega (arith, old.3))),
+      serves-more c.args.structured _ _ _ (Some c.in-Some.ending) (length old.0) old.0 new.0 old.1
+          new.1 old.2 new.2 new.3 new.4 old.5 refl (new.7 (length old.0) (omega (arith, old.3))),
     )
 
 pub loop-number-preserved : goal.loop-number-preserved
@@ -51,9 +51,9 @@ loop-number-preserved g c =
             (sym (exchanges_of-append old.0 new.0))
             (g.met.P.Port.did_more c.args.port.now c.loop-number.port c.serve_request.new.port _ _
             old.4 new.6),
-        serves-more _ _ _ None (length old.0) old.0 new.0 old.1 new.1 old.2 new.2 [] false old.5
-            refl
-            (serves-on _ _ (length old.0) new.0 new.1 new.2 new.3 new.4
+        serves-more c.args.structured _ _ _ None (length old.0) old.0 new.0 old.1 new.1 old.2 new.2
+            [] false old.5 refl
+            (serves-on c.args.structured _ _ (length old.0) new.0 new.1 new.2 new.3 new.4
             (new.7 (length old.0) (omega (arith, old.3)))),
       );
     }
@@ -67,5 +67,5 @@ returns-clause-served g c =
       [],
       false,
       all.4,
-      serves-too_many _ _ all.0 all.1 all.2 all.5 (omega (arith, all.3)),
+      serves-too_many c.args.structured _ _ all.0 all.1 all.2 all.5 (omega (arith, all.3)),
     )

@@ -10,7 +10,7 @@ invariant-loop-number g l = record {
   out : IsOut (g.K.Sink.outlet l.sink);
   served : (turns : List Turn) × (taken : List ℕ) × (whole : List ℕ) × (length turns ≡ l.number)
       × g.P.Port.did l.initial.port l.port (exchanges_of turns)
-      × Serves 0
+      × Serves l.structured 0
       (moment (g.S.Source.intake l.initial.source) (g.K.Sink.outlet l.initial.sink)
       l.initial.tally.taken l.initial.tally.put)
       (moment (g.S.Source.intake l.source) (g.K.Sink.outlet l.sink) l.tally.taken l.tally.put)

@@ -17,7 +17,7 @@ returns-clause-session g c = rw c.end_of.ensures.is (elim c.match-negotiate.bran
       rw (w.source-is, w.sink-is, w.port-is, w.tally-is, w.ending-is) (
         served-log n.0 s.0 s.1 s.2 s.3 s.4,
         s.5,
-        session-served c.args.export.now _ _ _ w.in-Ok.field-0 w.serve_requests-ending.result n.0
+        session-served c.args.export.now _ _ _ w.in-Ok.agreed w.serve_requests-ending.result n.0
             s.0 s.1 s.2 s.3 s.4 refl refl
             (rw w.tally-is at c.end_of.ensures.taken_fits)
             (rw w.tally-is at c.end_of.ensures.put_fits) n.1 s.6,

@@ -7,12 +7,12 @@ use Rattle.io_edge.proofs.gathering.GatheringWriterOutputStream.flush.Goals as g
 pub returns-then-is_empty-clause-flushes : goal.returns-then-is_empty-clause-flushes
 returns-then-is_empty-clause-flushes g c =
     flushed_at_once g.W.WritePair.writes g.W.WritePair.flushes _ _ _ _ _ (grind (arith, common_steps))
-    c.flush.ensures c.kind_of.ensures
+    c.flush.ensures c.kind_of.ensures.done
 
 pub returns-in-Ok-clause-flushes : goal.returns-in-Ok-clause-flushes
 returns-in-Ok-clause-flushes g c =
     flushed g.W.WritePair.writes g.W.WritePair.flushes _ _ _ _ _ _ _ c.in-Ok.ensures.through
-    c.in-Ok.ensures.empty c.flush-in-Ok.ensures c.kind_of-in-Ok.ensures
+    c.in-Ok.ensures.empty c.flush-in-Ok.ensures c.kind_of-in-Ok.ensures.done
 
 pub returns-in-Err-clause-holds : goal.returns-in-Err-clause-holds
 returns-in-Err-clause-holds g c =

@@ -1,13 +1,14 @@
 use Rattle.std.proofs.Common.{ap, ◌∙◌, sym, Some, arith}
-use Rattle.nbd_wire.specs.Chunks.{IsError, IsErrorAt}
+use Rattle.nbd_wire.specs.Chunks.{IsError, IsErrorAt, error_at_text}
 use Rattle.nbd_wire.specs.Fields.{u16_text}
 use Rattle.nbd_wire.proofs.ChunkLemmas.{error-once, error-there, error-bare, error-number}
 use Rattle.nbd_wire.proofs.chunks.ErrorAt.read.Goals as goal
 
 pub returns-then-u16_at-ne0-clause-only : goal.returns-then-u16_at-ne0-clause-only
+unfolding error_at_text
 returns-then-u16_at-ne0-clause-only c = λ found is e.
     absurd (c.if-u16_at-ne0.true
-    (error-bare c.args.bytes.now found c.u16_at.result is c.u16_at.type_inv e c.u16_at.ensures))
+    (error-bare c.args.bytes.now _ found.error _ c.u16_at.type_inv e c.u16_at.ensures))
 
 pub returns-then-error-eq0-clause-only : goal.returns-then-error-eq0-clause-only
 returns-then-error-eq0-clause-only c = λ found is e.
