@@ -35,7 +35,7 @@ skipped P None xs all = all
 skipped P (Some x) xs all = All-tail P x xs all
 
 -- an area is whole atoms
-abbrev IsWhole : ℕ → Area → Type 0
+abbrev pub IsWhole : ℕ → Area → Type 0
 IsWhole size a = (a.offset % size ≡ 0) × (a.size % size ≡ 0)
 
 abbrev pub found : List (ℕ × Keyslot) → List Area

@@ -1,8 +1,9 @@
 -- Keyslots that are supported for a digest, and what they give to a passphrase.
 use Rattle.std.proofs.Common.{◌≡◌, ℕ, ◌≤◌, ◌&&◌, ◌==◌, nat_le, Bool, true, false, List, []}
-use Rattle.std.proofs.Common.{◌∷◌, Some, None, refl, sym, ◌∙◌, ap}
+use Rattle.std.proofs.Common.{◌∷◌, Option, Some, None, refl, sym, ◌∙◌, ap, if◌then◌else◌}
 use Rattle.std.proofs.lemmas.Bool.{and_parts, leb-true}
 use Rattle.luks_json.specs.declared.digest.Digest.{Digest}
+use Rattle.luks_json.specs.declared.keyslot.Derivation.{Derivation}
 use Rattle.luks_json.specs.declared.keyslot.Derivation.TheVariants as derivations
 use Rattle.luks_json.specs.declared.keyslot.Keyslot.{Keyslot}
 use Rattle.luks_json.specs.declared.keyslot.Keyslot.TheVariants as keyslots
@@ -11,8 +12,9 @@ use Rattle.luks_json.specs.declared.keyslot.Pbkdf2.{Pbkdf2}
 use Rattle.luks_json.specs.declared.keyslot.Priority.{Priority as Rank}
 use Rattle.luks_json.specs.declared.meta.Parts.{Parts}
 use Rattle.luks_rules.specs.References.{lists}
-use Rattle.luks_slots.specs.Functions.{has_key_length}
-use Rattle.luks_slots.specs.Slots.{fits, functions_for, has_room, has_sizes, is_ranked, HasSizes}
+use Rattle.luks_slots.specs.Functions.{functions_of, has_key_length}
+use Rattle.luks_slots.specs.Slots.{fits, functions_for, has_room, has_sizes, HasSizes, if_sized}
+use Rattle.luks_slots.specs.Slots.{is_ranked, opened_by}
 use Rattle.luks_slots.specs.Stripes.{split_len, stored_key}
 use Rattle.luks_slots.specs.Unlocks.{first_key, if_matching, key_at, key_in, key_of_slot, matches}
 use Rattle.luks_slots.specs.Unlocks.{stored_by}
@@ -46,6 +48,30 @@ sized m d slot functions is =
       most = v.1;
       room = leb-true (split_len slot.key_size) slot.area.size w.1;
     }
+
+room-by : (m : Parts) (d : Digest) (slot : Luks2) (functions supported : Functions) (b : Bool)
+    → has_sizes m d slot functions ≡ b
+    → (if b then Some functions else None) ≡ Some supported
+    → split_len slot.key_size ≤ slot.area.size
+room-by m d slot functions supported true is some = (sized m d slot functions is).room
+room-by m d slot functions supported false is some = absurd cc
+
+room-of : (m : Parts) (d : Digest) (slot : Luks2) (supported : Functions) (k : Derivation)
+    → opened_by m d slot k ≡ Some supported → split_len slot.key_size ≤ slot.area.size
+room-of m d slot supported (derivations.Unknown kind) is = absurd cc
+room-of m d slot supported (derivations.Pbkdf2 kdf) is = go (functions_of kdf slot) is
+  where
+    go : (o : Option Functions) → if_sized m d slot o ≡ Some supported
+        → split_len slot.key_size ≤ slot.area.size
+    go None some = absurd cc
+    go (Some functions) some =
+        room-by m d slot functions supported (has_sizes m d slot functions) refl some
+
+-- the area of a keyslot that is supported has room for its stripes
+pub has-room : (m : Parts) (d : Digest) (slot : Luks2) (functions : Functions)
+    → functions_for m d slot ≡ Some functions → split_len slot.key_size ≤ slot.area.size
+unfolding functions_for
+has-room m d slot functions is = room-of m d slot functions slot.kdf.derivation is
 
 -- ---- what a keyslot gives
 pub not-derived : (m : Parts) (d : Digest) (image pass : List ℕ) (slot : Luks2) (kind : List ℕ)

@@ -75,9 +75,9 @@ abbrev pub StandsIn : List ℕ → NewSlot → Type 0
 StandsIn image new = take (length new.area) (drop new.keyslot.area.offset image) ≡ new.area
 
 -- ---- answers
--- A keyslot that a passphrase opens to a key, whose area lies at an offset and has no byte behind
--- it. Wherever its bytes stand there the passphrase unseals the key from them, for each digest of
--- whose segments the key can be one.
+-- A keyslot that a passphrase opens to a key, whose area lies at an offset, and whose bytes end
+-- within its area. Wherever they stand there the passphrase unseals the key from them, for each
+-- digest of whose segments the key can be one.
 pub record IsSlotAt (offset atom : ℕ) (pass : List ℕ) (rounds : ℕ) (key drawn : List ℕ)
     (new : NewSlot) : Type 0 where
   pub slot : new.keyslot ≡ slot_for offset (length key) rounds (take salt_len drawn)

@@ -27,11 +27,15 @@ use Rattle.pbkdf2_hmac.specs.Pbkdf2.{derived_key}
 use Rattle.sector_disk.specs.Devices.{Device}
 
 -- ---- the key in a keyslot
+-- so many bytes of what PBKDF2 makes of a key to be compared with a digest
+abbrev pub digest_of : Digest → List ℕ → ℕ → List ℕ
+digest_of d key n = derived_key (named_hash d.hash) key d.salt d.iterations n
+
 -- a digest has 20 to 64 bytes, and is what PBKDF2 makes of the key, in its whole length
 unfoldable pub matches : Digest → List ℕ → Bool
 matches d key =
     (nat_le 20 (length d.digest) && nat_le (length d.digest) 64)
-    && bytes_eq (derived_key (named_hash d.hash) key d.salt d.iterations (length d.digest)) d.digest
+    && bytes_eq (digest_of d key (length d.digest)) d.digest
 
 abbrev pub stored_by : List ℕ → List ℕ → Luks2 → Derivation → Option Functions → Option (List ℕ)
 stored_by image pass slot (derivations.Pbkdf2 kdf) (Some functions) =

@@ -20,7 +20,7 @@ pub struct Functions {
 }
 
 /// The function of a hash that a header names.
-pub fn hash_function(hash: luks_json::Hash) -> Hash
+pub(crate) fn hash_function(hash: luks_json::Hash) -> Hash
     ensures { result ≡ named_hash hash }
 {
     match hash {

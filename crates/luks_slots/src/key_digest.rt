@@ -2,9 +2,7 @@
 
 ghost use Rattle.std.specs.Prelude.{◌≡◌, ◌≤◌, true, length};
 ghost use Rattle.luks_json.specs.Names.{is_iterations};
-ghost use Rattle.luks_slots.specs.Functions.{named_hash};
-ghost use Rattle.luks_slots.specs.Unlocks.{matches};
-ghost use Rattle.pbkdf2_hmac.specs.Pbkdf2.{derived_key};
+ghost use Rattle.luks_slots.specs.Unlocks.{digest_of, matches};
 
 use crate::functions::hash_function;
 use crate::key::Key;
@@ -23,8 +21,7 @@ pub fn derive_digest(digest: &Digest, key: &Key, made: &mut [u8])
     requires rounds { is_iterations digest.now.iterations ≡ true }
     requires some { 1 ≤ length made.old }
     requires most { length made.old ≤ 64 }
-    ensures { made.new ≡ derived_key (named_hash digest.now.hash) key.now digest.now.salt
-        digest.now.iterations (length made.old) }
+    ensures { made.new ≡ digest_of digest.now key.now (length made.old) }
 {
     let hash = hash_function(digest.hash);
     let salt = digest.salt.as_slice();
@@ -32,7 +29,7 @@ pub fn derive_digest(digest: &Digest, key: &Key, made: &mut [u8])
 }
 
 /// Whether PBKDF2 makes of a key what a digest stores, in its whole length, which must be 20 to 64
-/// bytes.
+/// bytes. A digest that was read has as many iterations as PBKDF2 may have.
 #[tactic(auto, unfolding(crate::specs::Unlocks::matches))]
 pub fn is_key_of(digest: &Digest, key: &Key) -> bool
     requires { is_iterations digest.now.iterations ≡ true }

@@ -6,8 +6,8 @@
 //! passphrase for a digest, or none. [`unlock`] answers exactly that, and writes nothing. Where
 //! there is none it tells of each keyslot why it gave none. What [`add`] makes is a keyslot that
 //! its passphrase opens to the key handed in, wherever its bytes stand at its place, which is the
-//! lowest one with room ([`find_gap`]); [`slot_at`] makes the same at a place that is known to be
-//! free. Both draw nothing and write nothing.
+//! lowest one with room ([`find_gap`]); [`slot_at`] makes the same at a place that the caller
+//! gives. Both draw nothing and write nothing.
 //!
 //! Argon2 isn't known here: such a keyslot is kept, and never opened.
 #![tactic(auto)]
@@ -28,6 +28,6 @@ pub use functions::cipher_spec;
 pub use gap::find_gap;
 pub use key::Key;
 pub use key_digest::{FEWEST_DIGEST_BYTES, MOST_DIGEST_BYTES, derive_digest, is_key_of};
-pub use laws::keys_are_behind_headers;
+pub use laws::{keys_are_behind_headers, keys_are_in_areas};
 pub use new_slot::{NewSlot, add, area_size, slot_at, slot_object};
 pub use passphrase::unlock;

@@ -71,18 +71,29 @@ fn make_kdf(alloc: Global, rounds: u32, salt: &[u8]) -> Result<Kdf, AllocError>
     })
 }
 
-/// The keyslot of a key of so many bytes, whose area lies at an offset.
+/// The object of the keyslot of a key of so many bytes, at most 64, whose area lies at an offset,
+/// in bytes: PBKDF2 with SHA-256 in so many rounds, 1 to `MOST_ROUNDS`, under the salt that is
+/// handed in, 4000 stripes, and `aes-xts-plain64`. Of a key of no byte the area has none, and
+/// nothing opens the keyslot.
+///
+/// # Errors
+///
+/// Memory was wanted.
 #[tactic(auto, unfolding(crate::specs::NewSlots::slot_for))]
-fn make_slot(
+pub fn slot_object(
     alloc: Global,
     offset: u64,
     key_size: usize,
     rounds: u32,
     salt: &[u8],
 ) -> Result<Luks2, AllocError>
-    requires { key_size ≤ 64 }
-    ensures { IfOk result (λ slot. slot ≡ slot_for offset key_size rounds salt.now) }
+    requires key_size { key_size ≤ 64 }
+    requires some_rounds { 1 ≤ rounds }
+    requires most_rounds { rounds ≤ MOST_ROUNDS }
+    ensures is { IfOk result (λ slot. slot ≡ slot_for offset key_size rounds salt.now) }
+    ensures has_text { IfOk result IsLuks2 }
 {
+    bytes_are_below_256(salt);
     Ok(Luks2 {
         key_size: key_size as u64,
         area: SlotArea {
@@ -101,30 +112,6 @@ fn make_slot(
         priority: None,
         rest: Object::empty(alloc),
     })
-}
-
-/// The object of the keyslot of a key of so many bytes, at most 64, whose area lies at an offset:
-/// PBKDF2 with SHA-256 in so many rounds under this salt, 4000 stripes, and `aes-xts-plain64`.
-///
-/// # Errors
-///
-/// Memory was wanted.
-pub fn slot_object(
-    alloc: Global,
-    offset: u64,
-    key_size: usize,
-    rounds: u32,
-    salt: &[u8],
-) -> Result<Luks2, AllocError>
-    requires key_size { key_size ≤ 64 }
-    requires some_rounds { 1 ≤ rounds }
-    requires most_rounds { rounds ≤ MOST_ROUNDS }
-    ensures is { IfOk result (λ slot. slot ≡ slot_for offset key_size rounds salt.now) }
-    ensures has_text { IfOk result IsLuks2 }
-{
-    bytes_are_below_256(salt);
-    let slot = make_slot(alloc, offset, key_size, rounds, salt)?;
-    Ok(slot)
 }
 
 /// Seals sectors where they lie, numbered from 0: what the same cipher unseals again.
@@ -234,35 +221,9 @@ fn make_area(
     Ok(area)
 }
 
-/// A keyslot of a key, whose area lies at an offset.
-fn make_at(
-    alloc: Global,
-    offset: u64,
-    atom: u32,
-    pass: &[u8],
-    rounds: u32,
-    key: &[u8],
-    drawn: &[u8],
-) -> Result<NewSlot, AllocError>
-    requires some_rounds { 1 ≤ rounds }
-    requires most_rounds { rounds ≤ MOST_ROUNDS }
-    requires some { 1 ≤ length key.now }
-    requires most { length key.now ≤ 64 }
-    requires drawn { length drawn.now ≡ drawn_len (length key.now) }
-    requires atom { IsAtom atom }
-    ensures { IfOk result (λ new. IsSlotAt offset atom pass.now rounds key.now drawn.now new) }
-{
-    let (salt, _) = drawn.split_at(SALT);
-    let keyslot = slot_object(alloc, offset, key.len(), rounds, salt)?;
-    let area = make_area(alloc, atom, pass, rounds, key, drawn)?;
-    Ok(NewSlot {
-        keyslot,
-        area: Bytes::new(area),
-    })
-}
-
-/// A keyslot that a passphrase opens to a key, as [`add`] makes it, whose area lies at an offset.
-/// That no other area has a byte of it is the caller's to see to.
+/// A keyslot that a passphrase opens to a key, as [`add`] makes it of the same rounds and `drawn`,
+/// whose area lies at an offset, in bytes, on a disk of atoms of so many bytes. That no other area
+/// has a byte of it is the caller's to see to.
 ///
 /// # Errors
 ///
@@ -282,7 +243,14 @@ pub fn slot_at(
     requires atom { IsAtom atom }
     ensures { IfOk result (λ new. IsSlotAt offset atom pass.now rounds key.now drawn.now new) }
 {
-    make_at(alloc, offset, atom, pass, rounds, key.as_slice(), drawn)
+    let (salt, _) = drawn.split_at(SALT);
+    let bytes = key.as_slice();
+    let keyslot = slot_object(alloc, offset, bytes.len(), rounds, salt)?;
+    let area = make_area(alloc, atom, pass, rounds, bytes, drawn)?;
+    Ok(NewSlot {
+        keyslot,
+        area: Bytes::new(area),
+    })
 }
 
 /// A keyslot that a passphrase opens to a key, by PBKDF2 with SHA-256 in so many rounds, 1 to

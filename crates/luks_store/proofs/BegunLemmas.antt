@@ -2,11 +2,8 @@
 use Rattle.std.proofs.Common.{◌≡◌, ℕ, ◌+◌, ◌*◌, ◌≤◌, false, List, length, take, drop, Some, Result}
 use Rattle.std.proofs.Common.{Ok, Err, refl, sym, ◌∙◌, ap, subst, arith}
 use Rattle.std.proofs.Math.Nat.{mul-le-mul_right}
-use Rattle.disk_areas.specs.Commits.{begun, ShowsCommit}
 use Rattle.disk_areas.specs.Headers.{Copy, Header, IsHeader, IsLaidOut, IsReader, Layout, byte_of}
 use Rattle.disk_areas.specs.Headers.{primary, secondary, text_of}
-use Rattle.disk_sizes.specs.declared.Sizes.{Sizes}
-use Rattle.disk_views.specs.Views.{view_of_cells}
 use Rattle.luks_bin.specs.declared.header.BinFault.{BinFault}
 use Rattle.luks_copies.specs.Meanings.{header_of, header_reader, meaning_at, meaning_of, size_in}
 use Rattle.luks_rules.specs.Areas.{header_bytes}
@@ -18,7 +15,7 @@ use Rattle.luks_store.proofs.PlaceLemmas.{alone}
 use Rattle.luks_store.proofs.SettledLemmas.{shows_copy}
 use Rattle.luks_store.proofs.UsedLemmas.{same-size}
 use Rattle.luks_store.specs.Commits.{AreGood}
-use Rattle.luks_store.specs.Devices.{front_of, IsCertain}
+use Rattle.luks_store.specs.Devices.{front_of}
 use Rattle.luks_store.specs.Found.{copy_at, IsWholeAt}
 use Rattle.luks_store.specs.Promises.{CommitsBegin}
 use Rattle.luks_store.specs.Used.{beside, copies_by, copies_in, nearest, newer_of}
@@ -26,7 +23,6 @@ use Rattle.luks_store.specs.declared.copies.Copies.{Copies}
 use Rattle.luks_store.specs.declared.copies.CopyState.{CopyState}
 use Rattle.luks_store.specs.declared.copies.CopyState.TheVariants.{Good, Older, Lacking}
 use Rattle.luks_store.specs.declared.copies.HeaderCopy.{HeaderCopy}
-use Rattle.sector_disk.specs.Cells.{Cell}
 
 -- ---- both copies that are good were found
 record AreBoth (bytes : List ℕ) (copies : Copies) : Type 0 where

@@ -169,9 +169,9 @@ copies-fit p is device has known =
     is.second.whole.whole is.room
 
 -- ---- what is loaded once both copies stand there
-stored-from : (p : Prepared) (r : Result Stored Refusal) → IsPrepared p
+stored-from : Spelt → (p : Prepared) (r : Result Stored Refusal) → IsPrepared p
     → judged p.sizes (committed p) ≡ r → IsOk r → (next : Stored) × IsNextStored p next
-stored-from p (Ok next) is same held =
+stored-from spelt p (Ok next) is same held =
     let valid = is-valid p.sizes (committed p) next same in
     let copies = valid.same_copies in
     let sizes = valid.same_sizes in (
@@ -186,12 +186,15 @@ stored-from p (Ok next) is same held =
           held = subst (λ (s : Sizes). judged s next.copies ≡ Ok next) sizes
               (subst (λ (c : Copies). judged p.sizes c ≡ Ok next) copies same);
         };
+        loads = λ rest. stored-by p.sizes _ (committed p) next
+            (both-used spelt _ _ rest is.first is.second refl is.same) same;
       },
     )
-stored-from p (Err refusal) is same held = let e : false ≡ true = held in absurd cc
+stored-from spelt p (Err refusal) is same held = let e : false ≡ true = held in absurd cc
 
-pub next-stored : (p : Prepared) → IsPrepared p → (next : Stored) × IsNextStored p next
-next-stored p is = stored-from p (judged p.sizes (committed p)) is refl is.held
+pub next-stored : Spelt → (p : Prepared) → IsPrepared p
+    → (next : Stored) × IsNextStored p next
+next-stored spelt p is = stored-from spelt p (judged p.sizes (committed p)) is refl is.held
 
 -- the metadata whose text was written are held by what is written
 pub is-held : (sizes : Sizes) (copies : Copies) (meta : Parts) (text : List ℕ)

@@ -15,3 +15,4 @@ pub mod StoredLemmas
 pub mod JudgeLemmas
 pub mod SettledLemmas
 pub mod BegunLemmas
+pub mod FrontLemmas

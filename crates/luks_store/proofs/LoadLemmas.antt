@@ -25,7 +25,7 @@ use Rattle.luks_store.specs.declared.copies.HeaderCopy.{HeaderCopy}
 use Rattle.luks_store.specs.declared.loaded.Stored.{Stored}
 
 -- ---- the copy that is used stands at some place
-abbrev StandsUsed : List ℕ → Copies → Type 0
+abbrev pub StandsUsed : List ℕ → Copies → Type 0
 StandsUsed bytes copies = (place : ℕ) × (copy_at place bytes ≡ Ok copies.used)
 
 stands-newer : (bytes : List ℕ) (first second : HeaderCopy) (copies : Copies)
@@ -58,7 +58,7 @@ stands-by spelt bytes copies (Err fault) at used =
     subst (StandsUsed bytes) (sym same)
     (copy.header.hdr_size, (first-is spelt places bytes copy refl refl found).at)
 
-stands-used : Spelt → (bytes : List ℕ) (copies : Copies) → copies_in bytes ≡ Ok copies
+pub stands-used : Spelt → (bytes : List ℕ) (copies : Copies) → copies_in bytes ≡ Ok copies
     → StandsUsed bytes copies
 unfolding copies_in
 stands-used spelt bytes copies used = stands-by spelt bytes copies (copy_at 0 bytes) refl used

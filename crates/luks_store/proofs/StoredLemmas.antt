@@ -17,7 +17,7 @@ use Rattle.disk_sizes.specs.declared.Sizes.{Sizes}
 use Rattle.json_members.proofs.ReadLemmas.{Right, then}
 use Rattle.json_members.specs.declared.faults.JsonFault.{JsonFault}
 use Rattle.luks_bin.proofs.FieldLemmas.{size-least}
-use Rattle.luks_bin.specs.Copies.{text_of}
+use Rattle.luks_bin.specs.Copies.{text_of, IsCopy}
 use Rattle.luks_json.proofs.ConfigLemmas.{config_read}
 use Rattle.luks_json.specs.Configs.{config_of, origin_in, HasConfig}
 use Rattle.luks_json.specs.Metas.{all_there, config_in, list_in, meta_from, meta_names, meta_of}
@@ -130,15 +130,21 @@ pub rules-kept : (stored : Stored) → IsStored stored
     → first_fault stored.valid.meta stored.valid.sizes ≡ None
 rules-kept stored is = (is-valid stored.valid.sizes stored.copies stored is.held).rules
 
-pub size-kept : (stored : Stored) → IsStored stored
+pub size-held : (sizes : Sizes) (stored : Stored)
+    → IsCopy stored.copies.used.bytes stored.copies.used.header
+    → judged sizes stored.copies ≡ Ok stored
     → stored.valid.meta.config.json_size + 4096 ≡ stored.copies.used.header.hdr_size
-size-kept stored is =
+size-held sizes stored whole held =
     let n = stored.copies.used.header.hdr_size in
     let sized : stored.valid.meta.config.json_size ≡ n - 4096 = subst (Right (HasSize n))
-    (is-valid stored.valid.sizes stored.copies stored is.held).read
+    (is-valid sizes stored.copies stored held).read
     (text-sized n (text_of stored.copies.used.bytes)) in
-    let least = size-least n is.copies.whole.one_of_nine in
+    let least = size-least n whole.one_of_nine in
     omega (arith, sized, least)
+
+pub size-kept : (stored : Stored) → IsStored stored
+    → stored.valid.meta.config.json_size + 4096 ≡ stored.copies.used.header.hdr_size
+size-kept stored is = size-held stored.valid.sizes stored is.copies.whole is.held
 
 pub room-kept : (stored : Stored) → IsStored stored → IsRising stored.valid.meta.digests
     → 2 * stored.copies.used.header.hdr_size

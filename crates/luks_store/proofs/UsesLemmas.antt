@@ -10,13 +10,14 @@ use Rattle.luks_copies.specs.Meanings.{header_reader, meaning_of, seqid_in, size
 use Rattle.luks_store.proofs.CopyLemmas.{Spelt, found-here, found-later}
 use Rattle.luks_store.proofs.GivenLemmas.{Newer, is_first, is_second, are_same, are_other, Both}
 use Rattle.luks_store.proofs.GivenLemmas.{both, copy-found, copy-whole, inside, newer, none-found}
-use Rattle.luks_store.proofs.GivenLemmas.{numbered-by, sized-by}
+use Rattle.luks_store.proofs.GivenLemmas.{numbered-by, ok-is, sized-by}
 use Rattle.luks_store.proofs.PlaceLemmas.{above, are_some, holds, is_rising, places, some-is}
 use Rattle.luks_store.proofs.PlaceLemmas.{StandsNone}
-use Rattle.luks_store.specs.Found.{copy_at, first_at}
-use Rattle.luks_store.specs.Promises.{GivenIsUsed}
+use Rattle.luks_store.specs.Commits.{AreGood}
+use Rattle.luks_store.specs.Found.{copy_at, first_at, IsWholeAt}
+use Rattle.luks_store.specs.Promises.{BothAreGood, GivenIsUsed}
 use Rattle.luks_store.specs.Used.{at_farther, at_nearest, beside, copies_by, copies_in, farther}
-use Rattle.luks_store.specs.Used.{nearest, primary_alone, secondary_alone}
+use Rattle.luks_store.specs.Used.{nearest, newer_of, primary_alone, secondary_alone}
 use Rattle.luks_store.specs.declared.copies.Copies.{Copies}
 use Rattle.luks_store.specs.declared.copies.HeaderCopy.{HeaderCopy}
 
@@ -187,3 +188,32 @@ given-used spelt = λ bytes m gives. elim gives [
       (subst (λ x. copy_at (size_in x) bytes ≡ Ok copy) (sym means) at)
       (subst (λ x. HasNoneBelow header_reader bytes (size_in x)) (sym means) below)))
 ]
+
+-- ---- where both copies of one header stand
+good-by : (first second : HeaderCopy) (copies : Copies) → IsWholeAt 0 first
+    → IsWholeAt first.header.hdr_size second → meaning_of second.bytes ≡ meaning_of first.bytes
+    → Newer first second → newer_of first second ≡ Ok copies → AreGood copies
+good-by first second copies one two same (is_first less is) used =
+    let a = numbered-by 0 first one in let b = numbered-by first.header.hdr_size second two in
+    let c = ap seqid_in same in absurd (omega (arith, less, a, b, c))
+good-by first second copies one two same (is_second less is) used =
+    let a = numbered-by 0 first one in let b = numbered-by first.header.hdr_size second two in
+    let c = ap seqid_in same in absurd (omega (arith, less, a, b, c))
+good-by first second copies one two same (are_same equal means is) used =
+    subst AreGood (ok-is _ _ (sym is ∙ used)) (record { primary = refl; secondary = refl })
+good-by first second copies one two same (are_other equal other is) used =
+    absurd (other (sym same))
+
+pub both-good : Spelt → BothAreGood
+both-good spelt = λ bytes m copies used one two.
+    let (first, at, means) = stands bytes 0 m one in
+    let (second, there, same) = stands bytes (header_reader.size m) m two in
+    let whole = copy-whole spelt 0 (drop 0 bytes) first at in
+    let size : header_reader.size m ≡ first.header.hdr_size =
+    sym (ap size_in means) ∙ sized-by 0 first whole in
+    let here : copy_at first.header.hdr_size bytes ≡ Ok second =
+    subst (λ n. copy_at n bytes ≡ Ok second) size there in
+    good-by first second copies whole
+    (copy-whole spelt first.header.hdr_size (drop first.header.hdr_size bytes) second here)
+    (same ∙ sym means) (newer first second)
+    (sym (by-first bytes first at ∙ ap (beside first) here) ∙ used)

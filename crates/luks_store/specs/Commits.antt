@@ -1,6 +1,6 @@
 -- Commits and repairs of a header that was loaded.
-use Rattle.std.specs.Prelude.{◌≡◌, ◌≢◌, ℕ, ◌+◌, ◌*◌, ◌/◌, ◌<◌, ◌≤◌, List, length, replicate}
-use Rattle.std.specs.Prelude.{false, Ok, IsOk}
+use Rattle.std.specs.Prelude.{◌≡◌, ◌≢◌, ℕ, ◌+◌, ◌*◌, ◌/◌, ◌<◌, ◌≤◌, List, ◌++◌, length}
+use Rattle.std.specs.Prelude.{replicate, false, Ok, IsOk}
 use Rattle.disk_areas.specs.Commits.{Follows}
 use Rattle.disk_areas.specs.Headers.{Header, IsHeader}
 use Rattle.disk_sizes.specs.declared.Sizes.{Sizes}
@@ -21,7 +21,7 @@ use Rattle.luks_json.specs.Metas.{data_of, meta_from}
 use Rattle.luks_json.specs.declared.meta.Parts.{Parts}
 use Rattle.luks_bin.specs.Writing.{written}
 use Rattle.luks_store.specs.Devices.{header_room}
-use Rattle.luks_store.specs.Loads.{judged, IsStored}
+use Rattle.luks_store.specs.Loads.{judged, stored_in, IsStored}
 use Rattle.luks_store.specs.Found.{IsWholeAt}
 use Rattle.luks_store.specs.declared.commit.Prepared.{Prepared}
 use Rattle.luks_store.specs.declared.copies.Copies.{Copies}
@@ -105,11 +105,13 @@ abbrev pub CopiesFit : Prepared → Type 0
 CopiesFit p = (device : Device) → HasSizes p.sizes device → IsAtom device.size
     → FitDisk (primary_of p.copies) (secondary_of p.copies) p.header.hdr_size device
 
--- The header that is loaded once both copies stand on a disk.
+-- The header that is loaded once both copies stand on a disk, whatever stands behind them.
 pub record IsNextStored (p : Prepared) (next : Stored) : Type 0 where
   pub copies : next.copies ≡ committed p
   pub sizes : next.valid.sizes ≡ p.sizes
   pub stored : IsStored next
+  pub loads : (rest : List ℕ)
+      → stored_in p.sizes (primary_of p.copies ++ (secondary_of p.copies ++ rest)) ≡ Ok next
 
 -- ---- a repair
 -- both places hold the header

@@ -1,5 +1,6 @@
 -- What is promised of the copies that are used.
-use Rattle.std.specs.Prelude.{◌≡◌, ℕ, false, List, take, drop, None, Ok, Err}
+use Rattle.std.specs.Prelude.{◌≡◌, ◌≢◌, ℕ, ◌*◌, false, List, take, drop, Some, None}
+use Rattle.std.specs.Prelude.{Ok, Err}
 use Rattle.disk_areas.specs.Commits.{begun, ShowsCommit}
 use Rattle.disk_areas.specs.Headers.{found, Gives, Header, IsHeader, IsLaidOut, Layout}
 use Rattle.disk_sizes.specs.declared.Sizes.{Sizes}
@@ -7,12 +8,14 @@ use Rattle.disk_views.specs.Views.{view_of_cells}
 use Rattle.luks_bin.specs.Copies.{copy_of}
 use Rattle.luks_bin.specs.declared.header.BinFault.{BinFault}
 use Rattle.luks_copies.specs.Meanings.{header_reader, meaning_of}
+use Rattle.luks_rules.specs.Areas.{areas_begin}
 use Rattle.luks_store.specs.Commits.{AreGood}
 use Rattle.luks_store.specs.Devices.{front_of, IsCertain}
 use Rattle.luks_store.specs.Found.{IsWholeAt}
 use Rattle.luks_store.specs.Loads.{objects_in, stored_in, IsStored}
 use Rattle.luks_store.specs.Used.{copies_in, nearest, no_header}
 use Rattle.luks_store.specs.declared.copies.Copies.{Copies}
+use Rattle.luks_store.specs.declared.copies.CopyState.TheVariants.{Lacking}
 use Rattle.luks_store.specs.declared.copies.HeaderCopy.{HeaderCopy}
 use Rattle.luks_store.specs.declared.loaded.Stored.{Stored}
 use Rattle.sector_disk.specs.Cells.{Cell}
@@ -42,6 +45,12 @@ NoneStands =
     → ((place : ℕ) → found header_reader bytes place ≡ None) × (copy_of 0 bytes ≡ Err primary)
     × (copy_of nearest (drop nearest bytes) ≡ Err secondary)
 
+-- Where copies of one header stand at both places, both are good.
+abbrev pub BothAreGood : Type 0
+BothAreGood = (bytes m : List ℕ) (copies : Copies) → copies_in bytes ≡ Ok copies
+    → found header_reader bytes 0 ≡ Some m → found header_reader bytes (header_reader.size m) ≡ Some m
+    → AreGood copies
+
 -- Copies that mean the same hold the same metadata.
 abbrev pub MetaByMeaning : Type 0
 MetaByMeaning = (a b : HeaderCopy) (at in_place : ℕ) → IsWholeAt at a → IsWholeAt in_place b
@@ -52,6 +61,22 @@ abbrev pub LoadsByMeaning : Type 0
 LoadsByMeaning = (bytes : List ℕ) (stored : Stored) → IsStored stored
     → Gives header_reader bytes (meaning_of stored.copies.used.bytes)
     → (now : Stored) × (stored_in stored.valid.sizes bytes ≡ Ok now) × (now.valid ≡ stored.valid)
+
+-- Bytes that hold a header whose primary stands at 0, whether it is used or older, are read in both
+-- copies alone: other bytes that begin with the same ones hold the same header.
+abbrev pub FrontsAreLoaded : Type 0
+FrontsAreLoaded =
+    (sizes : Sizes) (first image : List ℕ) (stored : Stored) → stored_in sizes first ≡ Ok stored
+    → stored.copies.primary.state ≢ Lacking
+    → take (2 * stored.copies.used.header.hdr_size) image
+    ≡ take (2 * stored.copies.used.header.hdr_size) first
+    → stored_in sizes image ≡ Ok stored
+
+-- The areas of a header that bytes hold begin where its second copy ends.
+abbrev pub AreasBeginBehind : Type 0
+AreasBeginBehind = (sizes : Sizes) (bytes : List ℕ) (stored : Stored)
+    → stored_in sizes bytes ≡ Ok stored
+    → areas_begin stored.valid.meta.config ≡ 2 * stored.copies.used.header.hdr_size
 
 -- A disk that holds its bytes for certain, and in them both copies of the header that they have,
 -- shows the beginning of the commit that follows it, whatever this one is. The header that it begins

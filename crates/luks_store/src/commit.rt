@@ -198,14 +198,16 @@ impl Commit {
     }
 
     /// What both copies are: a law, with nothing to run. They lie on each disk of the sizes for
-    /// which the metadata were judged, and a header that is stored follows from them. No magic of a
-    /// secondary stands within the primary, where one could be found: a text is UTF-8, and zeros
-    /// stand behind it.
+    /// which the metadata were judged, and a header that is stored follows from them: the one that
+    /// is loaded from each disk in front of which both stand, whatever stands behind them. No magic
+    /// of a secondary stands within the primary, where one could be found: a text is UTF-8, and
+    /// zeros stand behind it.
     pub fn is_prepared(&self)
         ensures prepared { IsPrepared self.now }
         ensures fit { CopiesFit self.now }
         ensures stored { (next : stored_type) × IsNextStored self.now next }
     {
+        copies_are_spelt();
         let _prepared = &self.prepared;
     }
 

@@ -1,19 +1,23 @@
 // Laws of the copies that are used, with nothing to run.
 
-ghost use Rattle.luks_store.specs.Promises.{CommitsBegin, GivenIsUsed, LoadsByMeaning};
-ghost use Rattle.luks_store.specs.Promises.{MetaByMeaning, NoneStands, UsedIsGiven, UsedStands};
+ghost use Rattle.luks_store.specs.Promises.{AreasBeginBehind, BothAreGood, CommitsBegin};
+ghost use Rattle.luks_store.specs.Promises.{FrontsAreLoaded, GivenIsUsed};
+ghost use Rattle.luks_store.specs.Promises.{LoadsByMeaning, MetaByMeaning, NoneStands, UsedIsGiven};
+ghost use Rattle.luks_store.specs.Promises.{UsedStands};
 
 use luks_bin::copies_are_spelt;
 use luks_copies::{copies_are_read, copies_mean_what_they_share};
 
 /// The copy that is used means the header that the disk's bytes have, as `disk_areas` speaks of it,
-/// and where they have one it is used; it stands on the disk as it was read. So its laws on
-/// commits, repairs and stops hold of what is loaded.
+/// and where they have one it is used; it stands on the disk as it was read; and where both copies
+/// of a header stand both are good. So its laws on commits, repairs and stops hold of what is
+/// loaded.
 pub fn used_copies_are_headers()
     ensures used { UsedIsGiven }
     ensures stands { UsedStands }
     ensures given { GivenIsUsed }
     ensures none { NoneStands }
+    ensures both { BothAreGood }
 {
     copies_are_spelt();
 }
@@ -27,6 +31,16 @@ pub fn metadata_go_by_meaning()
 {
     copies_are_spelt();
     copies_mean_what_they_share();
+}
+
+/// What stands behind both copies isn't read, where the primary stands at 0: disks whose bytes are
+/// the same up to there hold the same header. Where it lacks, a disk is searched for a secondary at
+/// each place. The keyslots' areas begin behind both.
+pub fn headers_stand_in_front()
+    ensures loads { FrontsAreLoaded }
+    ensures areas { AreasBeginBehind }
+{
+    copies_are_spelt();
 }
 
 /// A disk that holds for certain both copies of the header that its bytes have shows the beginning

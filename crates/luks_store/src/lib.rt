@@ -22,6 +22,8 @@ mod used;
 pub use commit::{Commit, Prepared};
 pub use copies::{Copies, CopyPlace, CopyState, HeaderCopy};
 pub use fault::{ReadFault, StoreFault};
-pub use laws::{commits_begin, metadata_go_by_meaning, used_copies_are_headers};
+pub use laws::{
+    commits_begin, headers_stand_in_front, metadata_go_by_meaning, used_copies_are_headers,
+};
 pub use loaded::{Loaded, Stored, load};
 pub use luks_copies::{CommitError, Repair};

@@ -3,6 +3,7 @@
 ghost use Rattle.std.specs.Prelude.{◌≡◌, ◌≤◌, IfOk, IsTrue};
 ghost use Rattle.luks_bin.specs.Copies.{holds_nul};
 ghost use Rattle.luks_bin.specs.Writing.{IsWritable};
+ghost use Rattle.sector_disk.specs.Geometry.{IsDisk};
 ghost use Rattle.sector_disk.specs.Mem.{atom_of};
 
 use anyhow::{Result, anyhow};
@@ -14,6 +15,9 @@ use std::alloc::Global;
 
 /// How many bytes a copy of the header has.
 const COPY_BYTES: u64 = 16384;
+
+/// The place behind both copies.
+pub(crate) const AREA_PLACE: u64 = 2 * COPY_BYTES;
 
 fn has_nul(text: &[u8]) -> bool
     ensures { result ≡ holds_nul text.now }
@@ -58,23 +62,57 @@ fn header_at(place: u64, seqid: u64) -> BinHeader {
     }
 }
 
+/// Writes bytes at a place, where they are whole atoms and lie on the disk.
+fn put(disk: &mut MemDisk, place: u64, bytes: &[u8]) -> Result<()>
+    ensures { atom_of disk.new ≡ atom_of disk.old }
+{
+    let atom = disk.atom() as u64;
+    let end = (place / atom) as u128 * atom as u128 + bytes.len() as u128;
+    if bytes.len() as u64 % atom != 0 || disk.atoms() as u128 * (atom as u128) < end {
+        return Err(anyhow!("bytes that don't lie on the disk"));
+    }
+    match disk.write(place / atom, bytes) {
+        Ok(()) => Ok(()),
+        Err(_) => Err(anyhow!("the disk failed")),
+    }
+}
+
 /// Writes a copy at its place, where a number is given for it.
-fn put(alloc: Global, disk: &mut MemDisk, place: u64, seqid: Option<u64>, text: &[u8]) -> Result<()>
+fn put_copy(
+    alloc: Global,
+    disk: &mut MemDisk,
+    place: u64,
+    seqid: Option<u64>,
+    text: &[u8],
+) -> Result<()>
     ensures { atom_of disk.new ≡ atom_of disk.old }
 {
     let Some(seqid) = seqid else {
         return Ok(());
     };
     let copy = copy_of(alloc, &header_at(place, seqid), text)?;
-    let atom = disk.atom() as u64;
-    let end = (place / atom) as u128 * atom as u128 + copy.len() as u128;
-    if copy.len() as u64 % atom != 0 || disk.atoms() as u128 * (atom as u128) < end {
-        return Err(anyhow!("a copy that doesn't lie on the disk"));
-    }
-    match disk.write(place / atom, copy.as_slice()) {
-        Ok(()) => Ok(()),
-        Err(_) => Err(anyhow!("the disk failed")),
-    }
+    put(disk, place, copy.as_slice())
+}
+
+/// A header's disk of so many atoms with copies of these numbers, of which this call fails, counted
+/// from the one behind their writes.
+fn head_with(
+    alloc: Global,
+    atoms: u64,
+    copies: [Option<u64>; 2],
+    text: &[u8],
+    fails: Option<u64>,
+) -> Result<MemDisk>
+    requires { IsDisk 512 atoms }
+    ensures { IfOk result (λ disk. atom_of disk ≡ 512) }
+{
+    let [first, second] = copies;
+    let writes = first.is_some() as u64 + second.is_some() as u64;
+    let number = fails.map_or(u64::MAX, |number| number.saturating_add(writes));
+    let mut head = MemDisk::new(alloc, 512, atoms, 1000, &[number])?;
+    put_copy(alloc, &mut head, 0, first, text)?;
+    put_copy(alloc, &mut head, COPY_BYTES, second, text)?;
+    Ok(head)
 }
 
 /// A header's disk with copies of these numbers, of which this call fails, counted from the one
@@ -85,13 +123,21 @@ pub(crate) fn disks_with(
     text: &[u8],
     fails: Option<u64>,
 ) -> Result<JoinedDisk<MemDisk>> {
-    let [first, second] = copies;
-    let writes = first.is_some() as u64 + second.is_some() as u64;
-    let number = fails.map_or(u64::MAX, |number| number.saturating_add(writes));
-    let mut head = MemDisk::new(alloc, 512, 64, 1000, &[number])?;
+    let head = head_with(alloc, 64, copies, text, fails)?;
     let main = MemDisk::new(alloc, 512, 8, 1000, &[])?;
-    put(alloc, &mut head, 0, first, text)?;
-    put(alloc, &mut head, COPY_BYTES, second, text)?;
+    Ok(JoinedDisk::with(head, main))
+}
+
+/// A header's disk with two copies, and behind them the area of a keyslot of at most 128 KiB;
+/// before a main disk of eight atoms.
+pub(crate) fn disks_with_area(
+    alloc: Global,
+    text: &[u8],
+    area: &[u8],
+) -> Result<JoinedDisk<MemDisk>> {
+    let mut head = head_with(alloc, 320, [Some(7), Some(7)], text, None)?;
+    put(&mut head, AREA_PLACE, area)?;
+    let main = MemDisk::new(alloc, 512, 8, 1000, &[])?;
     Ok(JoinedDisk::with(head, main))
 }
 

@@ -22,7 +22,7 @@ fn number(word: &str) -> Result<Option<u64>> {
 }
 
 /// A key of these hexadecimal digits, or None of a `-`.
-fn key_of(alloc: Global, word: &str) -> Result<Option<Key>> {
+pub(crate) fn key_of(alloc: Global, word: &str) -> Result<Option<Key>> {
     if word == "-" {
         return Ok(None);
     }
@@ -36,7 +36,7 @@ fn key_of(alloc: Global, word: &str) -> Result<Option<Key>> {
 }
 
 /// The text with each of these replaced: pairs of what, and by what.
-fn changed(alloc: Global, text: &str, changes: &[&str]) -> Result<String> {
+pub(crate) fn changed(alloc: Global, text: &str, changes: &[&str]) -> Result<String> {
     let mut text = String::from_str(alloc, text)?;
     for change in changes.chunks_exact(2) {
         let [old, new] = change else {
@@ -51,7 +51,7 @@ fn changed(alloc: Global, text: &str, changes: &[&str]) -> Result<String> {
 }
 
 /// Why nothing was opened, and of another key the first byte that was computed and how many.
-fn cause_text(alloc: Global, cause: &OpenCause) -> Result<String> {
+pub(crate) fn cause_text(alloc: Global, cause: &OpenCause) -> Result<String> {
     match cause {
         OpenCause::KeyDiffers { computed, stored } => Ok(format!(in alloc;
             "KeyDiffers {} of {}",

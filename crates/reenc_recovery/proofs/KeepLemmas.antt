@@ -151,7 +151,7 @@ stands_as stay stay_for sizes header p first now is right sound holds = record {
 }
 
 -- nothing was written
-pub holds_unwritten : (sizes : Sizes) (header : Stored) (first : List ℕ)
+unfoldable pub holds_unwritten : (sizes : Sizes) (header : Stored) (first : List ℕ)
     → stored_in sizes (front_of sizes first) ≡ Ok header → HoldsOn sizes header first first
 holds_unwritten sizes header first held = record {
   was = held;

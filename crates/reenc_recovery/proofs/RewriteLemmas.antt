@@ -14,11 +14,12 @@ use Rattle.luks_copies.specs.Promises.{MeanTheSame}
 use Rattle.luks_copies.specs.declared.repair.Repair.{Repair}
 use Rattle.luks_rules.specs.Areas.{areas_begin, header_bytes}
 use Rattle.luks_store.proofs.CopyLemmas.{front-part}
+use Rattle.luks_store.proofs.LoadLemmas.{copies-stored}
 use Rattle.luks_store.proofs.RepairLemmas.{used-behind, used-front}
-use Rattle.luks_store.specs.Commits.{IsRepairOf, Repairs}
+use Rattle.luks_store.specs.Commits.{AreGood, IsRepairOf, Repairs}
 use Rattle.luks_store.specs.Devices.{front_of}
 use Rattle.luks_store.specs.Loads.{IsStored, stored_in}
-use Rattle.luks_store.specs.Promises.{LoadsByMeaning, UsedStands}
+use Rattle.luks_store.specs.Promises.{BothAreGood, LoadsByMeaning, UsedStands}
 use Rattle.luks_store.specs.declared.copies.CopyState.TheVariants.{Good}
 use Rattle.luks_store.specs.declared.loaded.Stored.{Stored}
 use Rattle.reenc_recovery.specs.Images.{HoldsOn}
@@ -68,29 +69,41 @@ each_copy : (P : Copy → Type 0) → P primary → P secondary → (copy : Copy
 each_copy P one two primary = one
 each_copy P one two secondary = two
 
-both_give : (size : ℕ) (header : Header (List ℕ)) (bytes : List ℕ) → IsReader header_reader
+-- copies of one header stand at both places
+abbrev StandTwice : List ℕ → List ℕ → Type 0
+StandTwice bytes m =
+    (found header_reader bytes 0 ≡ Some m)
+    × (found header_reader bytes (header_reader.size m) ≡ Some m)
+
+both_stand : (size : ℕ) (header : Header (List ℕ)) (bytes : List ℕ) → IsReader header_reader
     → IsHeader header_reader header → header_reader.size header.means ≡ size
     → ((copy : Copy) → take size (drop (byte_of size copy) bytes) ≡ text_of header copy)
-    → Gives header_reader bytes header.means
-both_give size header bytes is_reader whole sized stand =
-    let same = sized in
-    let one = found_here 0 size bytes header.first header.means is_reader (stand primary)
-    (whole.valid primary) in
-    let two = found_here size size bytes header.second header.means is_reader (stand secondary)
-    (subst (λ (n : ℕ). header_reader.decode n header.second ≡ Some header.means) same
-    (whole.valid secondary)) in
+    → StandTwice bytes header.means
+both_stand size header bytes is_reader whole sized stand =
+    let same = sized in (
+      found_here 0 size bytes header.first header.means is_reader (stand primary)
+          (whole.valid primary),
+      subst (λ (n : ℕ). found header_reader bytes n ≡ Some header.means) (sym same)
+          (found_here size size bytes header.second header.means is_reader (stand secondary)
+          (subst (λ (n : ℕ). header_reader.decode n header.second ≡ Some header.means) same
+          (whole.valid secondary))),
+    )
+
+both_give : (bytes m : List ℕ) → StandTwice bytes m → Gives header_reader bytes m
+both_give bytes m (one, two) =
     inl (
       one,
-      λ other has. inl (
-          let there = subst (λ (n : ℕ). found header_reader bytes n ≡ Some other) same has in
-          let e : Some other ≡ Some header.means = sym there ∙ two in
-          cc
-          ),
+      λ other has. inl (let e : Some other ≡ Some m = sym has ∙ two in cc),
     )
+
+-- the one image holds on, and both copies of the header in it are good
+pub record HoldsGood (sizes : Sizes) (header : Stored) (first now : List ℕ) : Type 0 where
+  pub holds : HoldsOn sizes header first now
+  pub good : AreGood holds.stored.copies
 
 -- ---- behind the write
 module _ (is_reader : IsReader header_reader) (mean : MeanTheSame) (stands : UsedStands)
-    (loads : LoadsByMeaning) (sizes : Sizes) (header : Stored) (repair : Repair) (all : List ℕ)
+    (both : BothAreGood) (loads : LoadsByMeaning) (sizes : Sizes) (header : Stored) (repair : Repair) (all : List ℕ)
     (stored : IsStored header) (sizes_are : header.valid.sizes ≡ sizes)
     (begin : areas_begin header.valid.meta.config ≡ 2 * header.copies.used.header.hdr_size)
     (room : 2 * header.copies.used.header.hdr_size ≤ header_bytes sizes)
@@ -109,26 +122,31 @@ module _ (is_reader : IsReader header_reader) (mean : MeanTheSame) (stands : Use
       front-part (header_bytes sizes) place size bytes within ∙ is
 
   holds_now : (place : ℕ) → place ≤ size → length (copy_in repair) ≡ size
-      → Gives header_reader (front_of sizes (now place)) (meaning_of header.copies.used.bytes)
-      → HoldsOn sizes header all (now place)
-  holds_now place below copy_size gives =
-      let found = loads (front_of sizes (now place)) header stored gives in
+      → StandTwice (front_of sizes (now place)) (meaning_of header.copies.used.bytes)
+      → HoldsGood sizes header all (now place)
+  holds_now place below copy_size twice =
+      let front = front_of sizes (now place) in
+      let means = meaning_of header.copies.used.bytes in
+      let found = loads front header stored (both_give front means twice) in
       let end : place + length (copy_in repair) ≤ length all =
       omega (arith, below, copy_size, room, long) in
       record {
-        was = held;
-        stored = found.0;
-        held = subst (λ (s : Sizes). stored_in s (front_of sizes (now place)) ≡ Ok found.0)
-            sizes_are found.1;
-        same = found.2;
-        behind = subst (λ (n : ℕ). drop n (now place) ≡ drop n all) (sym begin)
-            (same_from (place + length (copy_in repair)) (2 * size) (now place) all
-            (omega (arith, below, copy_size)) (kept_behind all (copy_in repair) place end));
+        holds = record {
+          was = held;
+          stored = found.0;
+          held = subst (λ (s : Sizes). stored_in s front ≡ Ok found.0) sizes_are found.1;
+          same = found.2;
+          behind = subst (λ (n : ℕ). drop n (now place) ≡ drop n all) (sym begin)
+              (same_from (place + length (copy_in repair)) (2 * size) (now place) all
+              (omega (arith, below, copy_size)) (kept_behind all (copy_in repair) place end));
+        };
+        good = both front means found.0.copies
+            (copies-stored header.valid.sizes front found.0 found.1) twice.0 twice.1;
       }
 
   by_primary : IsRepairOf header.copies 0 header.copies.primary.salt
       (header_of (copy_in repair) header.copies.used.bytes) repair
-      → header.copies.primary.state ≢ Good → HoldsOn sizes header all (now 0)
+      → header.copies.primary.state ≢ Good → HoldsGood sizes header all (now 0)
   by_primary is bad =
       let copy_size = is.size in
       let end : 0 + length (copy_in repair) ≤ length all = omega (arith, copy_size, room, long) in
@@ -145,8 +163,8 @@ module _ (is_reader : IsReader header_reader) (mean : MeanTheSame) (stands : Use
       let means = (mean (copy_in repair) header.copies.used.bytes
       (omega (arith, copy_size, begin)) (copy_size ∙ sym used_size)).1 is.shared in
       holds_now 0 (omega arith) copy_size
-      (subst (λ (m : List ℕ). Gives header_reader (front_of sizes (now 0)) m) means
-      (both_give size (header_of (copy_in repair) header.copies.used.bytes)
+      (subst (λ (m : List ℕ). StandTwice (front_of sizes (now 0)) m) means
+      (both_stand size (header_of (copy_in repair) header.copies.used.bytes)
       (front_of sizes (now 0)) is_reader is.whole (sym (is.whole.size primary) ∙ copy_size)
       (each_copy (λ copy. take size (drop (byte_of size copy) (front_of sizes (now 0)))
       ≡ text_of (header_of (copy_in repair) header.copies.used.bytes) copy)
@@ -155,7 +173,7 @@ module _ (is_reader : IsReader header_reader) (mean : MeanTheSame) (stands : Use
 
   by_secondary : IsRepairOf header.copies size header.copies.secondary.salt
       (header_of header.copies.used.bytes (copy_in repair)) repair
-      → header.copies.primary.state ≡ Good → HoldsOn sizes header all (now size)
+      → header.copies.primary.state ≡ Good → HoldsGood sizes header all (now size)
   by_secondary is good =
       let copy_size = is.size in
       let end : size + length (copy_in repair) ≤ length all =
@@ -168,7 +186,7 @@ module _ (is_reader : IsReader header_reader) (mean : MeanTheSame) (stands : Use
       kept_before all (copy_in repair) size size (omega arith) end
       ∙ used_stands stands sizes header all held 0 offset (omega (arith, room)) in
       holds_now size (omega arith) copy_size
-      (both_give size (header_of header.copies.used.bytes (copy_in repair))
+      (both_stand size (header_of header.copies.used.bytes (copy_in repair))
       (front_of sizes (now size)) is_reader is.whole (sym (is.whole.size secondary) ∙ copy_size)
       (each_copy (λ copy. take size (drop (byte_of size copy) (front_of sizes (now size)))
       ≡ text_of (header_of header.copies.used.bytes (copy_in repair)) copy)
@@ -177,14 +195,14 @@ module _ (is_reader : IsReader header_reader) (mean : MeanTheSame) (stands : Use
 
   -- what the disks hold once the copy is written at its place
   pub after_write : (place : ℕ) → place ≡ place_in repair → Repairs header.copies repair
-      → HoldsOn sizes header all (pasted all place (copy_in repair))
+      → HoldsGood sizes header all (pasted all place (copy_in repair))
   after_write place at repairs = elim stored.copies.stands [
     | inl (good, here) ↦
         (let is = (repairs.1 good).1 in
-        subst (λ (n : ℕ). HoldsOn sizes header all (now n)) (sym (at ∙ is.at))
+        subst (λ (n : ℕ). HoldsGood sizes header all (now n)) (sym (at ∙ is.at))
         (by_secondary is good))
     | inr (worse, good, here) ↦
         (let is = repairs.0 worse in
-        subst (λ (n : ℕ). HoldsOn sizes header all (now n)) (sym (at ∙ is.at))
+        subst (λ (n : ℕ). HoldsGood sizes header all (now n)) (sym (at ∙ is.at))
         (by_primary is worse))
   ]

@@ -14,17 +14,16 @@ use Rattle.luks_json.specs.declared.meta.Parts.{Parts}
 use Rattle.luks_rules.specs.declared.valid.Checked.{Checked}
 use Rattle.luks_store.specs.Devices.{front_of}
 use Rattle.luks_store.specs.Loads.{stored_in}
-use Rattle.luks_store.specs.Promises.{LoadsByMeaning, UsedStands}
+use Rattle.luks_store.specs.Promises.{BothAreGood, LoadsByMeaning, UsedStands}
 use Rattle.luks_store.specs.declared.loaded.Stored.{Stored}
 use Rattle.reenc_meta.specs.declared.placement.Placement.{Placement}
 use Rattle.reenc_recovery.specs.Calls.{IsRepairFor, OpeningRun, SyncsAndReads}
-use Rattle.reenc_recovery.specs.Images.{HoldsOn}
 use Rattle.reenc_recovery.specs.Openings.{HasPassed, IsOpened, IsOpening, StartsAsImage}
 use Rattle.reenc_recovery.specs.Promises.{ContentsStay, ContentsStayFor}
 use Rattle.reenc_recovery.specs.Tables.{ShowsSizes}
 use Rattle.reenc_recovery.specs.Volumes.{IsOpenedOf}
 use Rattle.reenc_recovery.proofs.KeepLemmas.{holds_unwritten, stands_as}
-use Rattle.reenc_recovery.proofs.RewriteLemmas.{after_write}
+use Rattle.reenc_recovery.proofs.RewriteLemmas.{after_write, HoldsGood}
 use Rattle.reenc_recovery.proofs.TableLemmas.{settled, settled-synced}
 use Rattle.reenc_recovery.proofs.WritingLemmas.{repair_place}
 use Rattle.sector_disk.specs.Cells.{AreSettled, content, currents}
@@ -69,19 +68,20 @@ module _ {C : Type 0} (sector : C → ℕ) (sealed opened : C → ℕ → List �
     (key : Option (List ℕ)) (header : Stored) (p : Placement) (keys : Keys C)
     (passed : HasPassed sector sealed opened sizes key header p keys) where
   -- what the disks hold after the repair's calls
-  pub holds_after : IsReader header_reader → MeanTheSame → UsedStands → LoadsByMeaning
-      → (repair : Option Repair) (old : Joint) (new : Device)
+  pub holds_after : IsReader header_reader → MeanTheSame → UsedStands → BothAreGood
+      → LoadsByMeaning → (repair : Option Repair) (old : Joint) (new : Device)
       → ShowsSizes sizes (joined_disk old) → IsRepairFor header.copies repair
       → OpeningRun repair old new succeeded → (first : List ℕ)
       → (joined_disk old).values ≡ Some first
       → stored_in sizes (front_of sizes first) ≡ Ok header
-      → (now : List ℕ) × (new.values ≡ Some now) × HoldsOn sizes header first now
-  holds_after is_reader mean stands loads None old new shows asked run first is held = (
+      → (now : List ℕ) × (new.values ≡ Some now) × HoldsGood sizes header first now
+  unfolding holds_unwritten
+  holds_after is_reader mean stands both loads None old new shows asked run first is held = (
     first,
     ap (λ (d : Device). d.values) run.run ∙ values_read old run.read run.first ∙ is,
-    holds_unwritten sizes header first held,
+    record { holds = holds_unwritten sizes header first held; good = asked },
   )
-  holds_after is_reader mean stands loads (Some repair) old new shows asked run first is held =
+  holds_after is_reader mean stands both loads (Some repair) old new shows asked run first is held =
       let last = run.run in
       let read_is = values_read old run.read run.first ∙ is in
       let at = (joined_disk run.read).size in
@@ -92,7 +92,7 @@ module _ {C : Type 0} (sector : C → ℕ) (sealed opened : C → ℕ → List �
       ∙ repair_place header.copies repair sizes.atom passed.stored.copies asked shows.known in (
         pasted first place (copy_in repair),
         last.sync.values ∙ last.write.values first read_is,
-        after_write is_reader mean stands loads sizes header repair first passed.stored
+        after_write is_reader mean stands both loads sizes header repair first passed.stored
             passed.sizes_are passed.begin passed.room (shows.whole first is) held place place_is
             asked,
       )
@@ -121,8 +121,8 @@ module _ {C : Type 0} (sector : C → ℕ) (sealed opened : C → ℕ → List �
       even told is ∙ ap (λ n. replicate new.atoms n) (sym atom),
     )
 
-    pub volume_of : IsReader header_reader → MeanTheSame → UsedStands → LoadsByMeaning
-        → ContentsStay → ContentsStayFor → ShowsSizes sizes (joined_disk old)
+    pub volume_of : IsReader header_reader → MeanTheSame → UsedStands → BothAreGood
+        → LoadsByMeaning → ContentsStay → ContentsStayFor → ShowsSizes sizes (joined_disk old)
         → IsRepairFor header.copies repair
         → ((first : List ℕ) → (joined_disk old).values ≡ Some first
         → stored_in sizes (front_of sizes first) ≡ Ok header)
@@ -131,7 +131,7 @@ module _ {C : Type 0} (sector : C → ℕ) (sealed opened : C → ℕ → List �
         → length now ≡ volume.disk.atoms * volume.map.atom → AreBytes now
         → StartsAsImage sealed opened sizes key now volume)
         → IsOpenedOf sector sealed opened sizes key old volume
-    volume_of is_reader mean stands loads stay stay_for shows asked found start = record {
+    volume_of is_reader mean stands both loads stay stay_for shows asked found start = record {
       header = header;
       placement = p;
       opening = passed.opening;
@@ -140,10 +140,10 @@ module _ {C : Type 0} (sector : C → ℕ) (sealed opened : C → ℕ → List �
       asked = asked;
       calls = run;
       held = λ first is.
-          (let has = holds_after is_reader mean stands loads repair old new shows asked run first is
+          (let has = holds_after is_reader mean stands both loads repair old new shows asked run first is
           (found first is) in
           let now = has.0 in
-          let holds = has.2 in
+          let holds = has.2.holds in
           let still : IsOpened sector sealed opened sizes key now volume = record {
             stored = holds.stored;
             header = holds.held;
@@ -156,6 +156,7 @@ module _ {C : Type 0} (sector : C → ℕ) (sealed opened : C → ℕ → List �
             now = now;
             values = has.1;
             still = still;
+            good = has.2.good;
             settled = tells_settled now has.1;
             stands = stands_as stay stay_for sizes header p first now passed.opening.placed
                 passed.opening.right passed.sound holds;

@@ -6,9 +6,8 @@ use Rattle.luks_json.specs.declared.meta.Parts.{Parts}
 use Rattle.luks_json.specs.declared.segment.Encryption.{Encryption}
 use Rattle.luks_rules.specs.References.{value_at}
 use Rattle.luks_rules.specs.declared.extents.Extent.{Extent}
-use Rattle.luks_slots.specs.Functions.{named_cipher, named_hash}
-use Rattle.luks_slots.specs.Unlocks.{key_of, matches}
-use Rattle.pbkdf2_hmac.specs.Pbkdf2.{derived_key}
+use Rattle.luks_slots.specs.Functions.{named_cipher}
+use Rattle.luks_slots.specs.Unlocks.{digest_of, key_of, matches}
 use Rattle.sector_cipher.specs.Context.{opened_under, sealed_under}
 use Rattle.sector_cipher.specs.Names.{IsKeyLength}
 use Rattle.sector_cipher.specs.declared.spec.Spec.{Spec}
@@ -105,8 +104,7 @@ abbrev pub IsComputed : Digest → Spec → Option (List ℕ) → List ℕ → T
 IsComputed d spec None computed = computed ≡ []
 IsComputed d spec (Some key) computed =
     (IsUntried d spec key × (computed ≡ []))
-    ⊎ ((computed ≡ derived_key (named_hash d.hash) key d.salt d.iterations (length d.digest))
-    × (computed ≢ d.digest))
+    ⊎ ((computed ≡ digest_of d key (length d.digest)) × (computed ≢ d.digest))
 
 -- the key that was handed in for a segment isn't its digest's
 abbrev pub DiffersBy : Parts → Option Encryption → Option ℕ → Option (List ℕ) → List ℕ → List ℕ

@@ -5,6 +5,7 @@ use Rattle.joined_disk.specs.Joined.{Joint, joined_disk}
 use Rattle.luks_copies.specs.declared.repair.Repair.{Repair}
 use Rattle.luks_json.specs.declared.meta.Parts.{Parts}
 use Rattle.luks_rules.specs.Segments.{in_progress}
+use Rattle.luks_store.specs.Commits.{AreGood}
 use Rattle.luks_store.specs.Devices.{front_of}
 use Rattle.luks_store.specs.Loads.{stored_in}
 use Rattle.luks_store.specs.declared.loaded.Stored.{Stored}
@@ -24,14 +25,16 @@ use Rattle.volume_machine.specs.declared.keys.Keys.{Keys}
 
 -- ---- a volume that was opened
 -- Its disks held this header when the opening began. It is one that is opened of what they hold
--- now, for certain, and this holds the same metadata and stands for what they stood for then; runs
--- start from it as from the plain disk of this content.
+-- now, for certain, in which both copies of the header are good; this holds the same metadata and
+-- stands for what they stood for then; and runs start from it as from the plain disk of this
+-- content.
 pub record IsVolumeOf {C : Type 0} (sector : C → ℕ) (sealed opened : C → ℕ → List ℕ → List ℕ)
     (sizes : Sizes) (key : Option (List ℕ)) (header : Stored) (first : List ℕ)
     (volume : State (Keys C)) : Type 0 where
   pub now : List ℕ
   pub values : volume.disk.values ≡ Some now
   pub still : IsOpened sector sealed opened sizes key now volume
+  pub good : AreGood still.stored.copies
   pub settled : TellsSettled volume now
   pub stands : StandsAs sizes header first now
   pub starts : StartsAsImage sealed opened sizes key now volume

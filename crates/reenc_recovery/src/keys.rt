@@ -1,7 +1,7 @@
 // The keys of a volume's sides, and the ciphers of its segments under them.
 
-ghost use Rattle.std.specs.Prelude.{◌≡◌, ◌≢◌, ◌⊎◌, ℕ, true, List, [], length, Some, IfOk, IfErr};
-ghost use Rattle.std.specs.Prelude.{IfSome, IsSome, MatchResult};
+ghost use Rattle.std.specs.Prelude.{◌≡◌, ◌≢◌, ◌⊎◌, ℕ, true, false, List, [], length, Some};
+ghost use Rattle.std.specs.Prelude.{IfOk, IfErr, IfSome, IsSome, MatchResult};
 ghost use Rattle.luks_json.specs.Names.{is_iterations};
 ghost use Rattle.luks_json.specs.Segments.{is_sector_size};
 ghost use Rattle.luks_json.specs.declared.digest.Digest.{Digest as digest_type};
@@ -12,13 +12,16 @@ ghost use Rattle.luks_slots.specs.Unlocks.{matches};
 ghost use Rattle.reenc_recovery.specs.Causes.{IsNoKey, IsRefused};
 ghost use Rattle.reenc_recovery.specs.Keys.{IsCipherOf, IsKeyOf, used_by};
 ghost use Rattle.reenc_recovery.specs.declared.fault.OpenCause.TheVariants.{KeyDiffers, Memory};
+ghost use Rattle.sector_cipher.specs.declared.spec.Spec.{Spec as spec_type};
 
 use crate::fault::OpenCause;
 use base_terms::Bytes;
 use cipher_laws::SectorCipher;
 use luks_json::{Digest, Encryption};
 use luks_rules::{Extent, Valid};
-use luks_slots::{FEWEST_DIGEST_BYTES, Key, MOST_DIGEST_BYTES, cipher_spec, derive_digest};
+use luks_slots::{
+    FEWEST_DIGEST_BYTES, Key, MOST_DIGEST_BYTES, cipher_spec, derive_digest, is_key_of,
+};
 use sector_cipher::Context;
 use std::alloc::{AllocError, Global};
 
@@ -48,8 +51,25 @@ fn copy_both(alloc: Global, one: &[u8], other: &[u8]) -> Result<(Bytes, Bytes), 
     Ok((Bytes::new(one), Bytes::new(other)))
 }
 
-/// The cipher of a segment that is encrypted so, under the key of this digest.
+/// That a key isn't the one of a digest, with what PBKDF2 makes of it, or with nothing where the
+/// digest has a length that no key's digest has.
 #[tactic(auto, unfolding(luks_slots::specs::Unlocks::matches))]
+fn refuse_other(alloc: Global, digest: &Digest, key: &Key) -> OpenCause
+    requires rounds { is_iterations digest.now.iterations ≡ true }
+    requires other { matches digest.now key.now ≡ false }
+    ensures { (spec : spec_type) → IsRefused digest.now spec (Some key.now) result }
+{
+    let stored = digest.digest.as_slice();
+    if stored.len() < FEWEST_DIGEST_BYTES || MOST_DIGEST_BYTES < stored.len() {
+        return refuse_key(alloc, &[], digest);
+    }
+    let mut made = [0; MOST_DIGEST_BYTES];
+    let made = &mut made[..stored.len()];
+    derive_digest(digest, key, made);
+    refuse_key(alloc, made, digest)
+}
+
+/// The cipher of a segment that is encrypted so, under the key of this digest.
 fn cipher_under(
     alloc: Global,
     encryption: &Encryption,
@@ -70,18 +90,11 @@ fn cipher_under(
         return Err(refuse_key(alloc, &[], digest));
     };
     let spec = cipher_spec(encryption.cipher);
-    let stored = digest.digest.as_slice();
     if !spec.has_key_length(key.as_slice().len()) {
         return Err(refuse_key(alloc, &[], digest));
     }
-    if stored.len() < FEWEST_DIGEST_BYTES || MOST_DIGEST_BYTES < stored.len() {
-        return Err(refuse_key(alloc, &[], digest));
-    }
-    let mut made = [0; MOST_DIGEST_BYTES];
-    let made = &mut made[..stored.len()];
-    derive_digest(digest, key, made);
-    if *made != *stored {
-        return Err(refuse_key(alloc, made, digest));
+    if !is_key_of(digest, key) {
+        return Err(refuse_other(alloc, digest, key));
     }
     match Context::new(spec, key.as_slice(), encryption.sector_size as u32) {
         Ok(context) => Ok(context),

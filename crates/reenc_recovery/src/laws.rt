@@ -47,8 +47,9 @@ pub fn contents_stay_behind_headers()
 
 /// Each image that a stop leaves of a repair holds the metadata that the disk's bytes held before
 /// it, and behind both copies what these had there, as long as no torn copy of the header is valid;
-/// so it stands for the same, [`contents_stay_behind_headers`]. And the repair's calls lead from
-/// what is known of the disk to what is known of it.
+/// so it stands for the same, [`contents_stay_behind_headers`], where the header breaks no rule and
+/// places the volume. And the repair's calls lead from what is known of the disk to what is known
+/// of it.
 pub fn repairs_keep_contents()
     ensures begins { RepairsBegin }
     ensures each { RepairsHoldOn }

@@ -8,4 +8,5 @@ returns-clause-fit c = copies-fit c.args.self.now (subst IsPrepared c.self.view_
 
 pub returns-clause-stored : goal.returns-clause-stored
 returns-clause-stored c =
-    next-stored c.args.self.now (subst IsPrepared c.self.view_is c.self.invariant)
+    next-stored c.copies_are_spelt.ensures c.args.self.now
+    (subst IsPrepared c.self.view_is c.self.invariant)

@@ -1,0 +1,102 @@
+-- Where lies what is written of a new volume.
+use Rattle.std.proofs.Common.{◌≡◌, ℕ, ◌+◌, ◌*◌, ◌/◌, ◌≤◌, List, length, take, refl, ◌∙◌, ap}
+use Rattle.std.proofs.Common.{arith, subst, sym}
+use Rattle.std.proofs.Math.Nat.{div-mul-le_self, mul-le-mul_right}
+use Rattle.disk_sizes.specs.declared.Sizes.{Sizes}
+use Rattle.format_disk.proofs.FitLemmas.{all-fits}
+use Rattle.format_disk.specs.Calls.{FitsNew}
+use Rattle.format_disk.specs.Fitting.{draw_of, text_len}
+use Rattle.format_disk.specs.Rests.{end_of_front}
+use Rattle.format_disk.specs.Volumes.{IsNewVolume}
+use Rattle.format_disk.specs.declared.volume.NewVolume.{NewVolume}
+use Rattle.joined_disk.specs.Counts.{HasSizes}
+use Rattle.luks_bin.proofs.FieldLemmas.{size-least}
+use Rattle.luks_bin.specs.declared.header.BinHeader.{BinHeader}
+use Rattle.luks_copies.specs.Held.{primary_of, secondary_of}
+use Rattle.luks_format.proofs.RulesLemmas.{key-bounds}
+use Rattle.luks_format.proofs.SizeLemmas.{area-some, block-left, data-behind, pages-whole}
+use Rattle.luks_format.specs.Drawings.{Draw, salt_len}
+use Rattle.luks_format.specs.Metadata.{config_for, keyslot_for, parts_with}
+use Rattle.luks_format.specs.Wishes.{FitsDisk, IsWish, keyslots_size_for, most_keyslots}
+use Rattle.luks_format.specs.declared.wish.Wish.{Wish}
+use Rattle.luks_json.specs.declared.keyslot.Luks2.{Luks2}
+use Rattle.luks_slots.specs.Functions.{named_cipher}
+use Rattle.luks_slots.specs.NewSlots.{area_len, slot_for}
+use Rattle.sector_disk.specs.Devices.{Device}
+use Rattle.sector_disk.specs.Geometry.{IsInDisk}
+
+-- two copies of so many bytes, and the area behind both
+pub record IsFront (v : NewVolume) (size : ℕ) : Type 0 where
+  pub first : length (primary_of v.commit.copies) ≡ size
+  pub second : length (secondary_of v.commit.copies) ≡ size
+  pub header : v.commit.header.hdr_size ≡ size
+  pub place : v.area_offset ≡ 2 * size
+
+pub is-front : (w : Wish) (sizes : Sizes) (pass seed : List ℕ) (v : NewVolume) → IsWish w
+    → IsNewVolume w sizes pass seed v → IsFront v w.metadata_size
+unfolding parts_with config_for
+is-front w sizes pass seed v wish is =
+    let least = size-least w.metadata_size wish.size in
+    let size : v.commit.header.hdr_size ≡ w.metadata_size =
+    ap (λ (h : BinHeader). h.hdr_size) is.first.header ∙ omega (arith, least) in
+    record {
+      first = is.first.prepared.first.whole.whole ∙ size;
+      second = is.first.prepared.second.whole.whole ∙ size;
+      header = size;
+      place = is.place;
+    }
+
+-- ---- the keyslot
+pub slot-offset : (w : Wish) (d : Draw) → (keyslot_for w d).area.offset ≡ 2 * w.metadata_size
+unfolding keyslot_for slot_for
+slot-offset w d = refl
+
+slot-size : (w : Wish) (d : Draw) → (keyslot_for w d).area.size ≡ area_len w.key_size
+unfolding keyslot_for slot_for
+slot-size w d = refl
+
+pub slot-is : (w : Wish) (sizes : Sizes) (pass seed : List ℕ) (v : NewVolume)
+    → (is : IsNewVolume w sizes pass seed v) → is.slot.0 ≡ keyslot_for w (draw_of w seed)
+unfolding keyslot_for
+slot-is w sizes pass seed v is =
+    is.slot.1.slot
+    ∙ ap (λ n. slot_for n (length (draw_of w seed).key) w.iterations
+    (take salt_len (draw_of w seed).slot)) is.place
+    ∙ ap (λ n. slot_for (2 * w.metadata_size) n w.iterations
+    (take salt_len (draw_of w seed).slot)) is.drawn.key
+
+-- its area ends in front of the data
+pub before-data : (w : Wish) (sizes : Sizes) (pass seed : List ℕ) (v : NewVolume) → IsWish w
+    → IsNewVolume w sizes pass seed v → end_of_front v ≤ w.data_offset
+unfolding keyslots_size_for
+before-data w sizes pass seed v wish is =
+    let within = is.slot.1.within in
+    let size = ap (λ (k : Luks2). k.area.size) (slot-is w sizes pass seed v is)
+    ∙ slot-size w (draw_of w seed) in
+    let room = (all-fits w sizes pass (text_len w seed) is.fits).0 in
+    let some = area-some w.key_size (key-bounds (named_cipher w.cipher) w.key_size wish.key).0 in
+    let behind = data-behind w.data_offset (2 * w.metadata_size) most_keyslots
+    (area_len w.key_size) some room in
+    let place = is.place in
+    omega (arith, within, size, room, behind, place)
+
+-- all of it lies on a disk of the sizes that it is made for
+pub fits-new : (w : Wish) (sizes : Sizes) (pass seed : List ℕ) (v : NewVolume) (device : Device)
+    → IsWish w → FitsDisk w sizes → IsNewVolume w sizes pass seed v → HasSizes sizes device
+    → FitsNew v device
+fits-new w sizes pass seed v device wish disk is has =
+    let end = before-data w sizes pass seed v wish is in
+    let block = (all-fits w sizes pass (text_len w seed) is.fits).2 in
+    let even = pages-whole w.data_offset sizes.atom disk.atom wish.page in
+    let left = block-left sizes.atom sizes.main_atoms w.data_offset disk.atom even block in
+    let main = mul-le-mul_right sizes.atom has.main in
+    let place = div-mul-le_self v.area_offset sizes.atom in
+    let within : v.area_offset / sizes.atom * sizes.atom + length v.area
+    ≤ device.atoms * sizes.atom =
+    omega (arith, end, left, main, place) in
+    record {
+      begun = is.first.begun;
+      sizes = subst (λ (s : Sizes). HasSizes s device) (sym is.first.sizes_are) has;
+      area = subst (λ n. IsInDisk n device.atoms (v.area_offset / n) (length v.area)) has.atom
+          (record { whole = is.slot.1.whole; within = within });
+    }

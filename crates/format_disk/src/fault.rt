@@ -1,0 +1,15 @@
+// Why no volume is made.
+
+/// What doesn't fit, the first in this order; or memory was wanted, which may come before any.
+#[derive(Clone, Copy, Debug, PartialEq, Eq)]
+pub enum FormatFault {
+    Memory,
+    /// The keyslot's area has more bytes than the keyslots area.
+    Area { wanted: u64, gap: u64 },
+    /// The header's text is longer than its area less one byte.
+    Json { len: u64, limit: u64 },
+    /// The passphrase doesn't have 1 to 512 bytes, but so many.
+    Passphrase { len: u64 },
+    /// The disk has no block behind the data's offset.
+    Blocks,
+}

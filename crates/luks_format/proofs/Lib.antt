@@ -1,0 +1,6 @@
+pub mod DrawnLemmas
+pub mod FieldLemmas
+pub mod MetaLemmas
+pub mod PlaceLemmas
+pub mod RulesLemmas
+pub mod SizeLemmas

@@ -1,0 +1,152 @@
+-- The metadata of a new volume break no rule.
+use Rattle.std.proofs.Common.{◌≡◌, inl, inr, ℕ, ◌+◌, ◌-◌, ◌*◌, ◌/◌, ◌%◌, ◌^◌, ◌<◌, ◌≤◌}
+use Rattle.std.proofs.Common.{false, None, refl, arith}
+use Rattle.std.proofs.lemmas.Bool.{eq-eqb, le-ltb, ne_eqb}
+use Rattle.disk_sizes.specs.declared.Sizes.{Sizes}
+use Rattle.luks_bin.proofs.FieldLemmas.{size-least}
+use Rattle.luks_format.proofs.SizeLemmas.{area-page, area-some, block-left, copies-page}
+use Rattle.luks_format.proofs.SizeLemmas.{data-behind, pages-whole, sector-some}
+use Rattle.luks_format.specs.Drawings.{Draw}
+use Rattle.luks_format.specs.Metadata.{config_for, digest_for, keyslot_for, parts_for}
+use Rattle.luks_format.specs.Metadata.{parts_with, segment_for}
+use Rattle.luks_format.specs.Wishes.{FitsDisk, IsWish, keyslots_size_for, most_keyslots}
+use Rattle.luks_format.specs.declared.wish.Wish.{Wish}
+use Rattle.luks_json.specs.Configs.{mandatory}
+use Rattle.luks_rules.specs.Areas.{areas_of, breaks_bounds}
+use Rattle.luks_rules.specs.Conversions.{conversion_of, conversions_of}
+use Rattle.luks_rules.specs.Foreign.{first_foreign}
+use Rattle.luks_rules.specs.Multiples.{breaks_multiples, breaks_sectors, breaks_tweaks}
+use Rattle.luks_rules.specs.Overlaps.{overlap}
+use Rattle.luks_rules.specs.References.{breaks_references, times_listed}
+use Rattle.luks_rules.specs.Rules.{first_fault}
+use Rattle.luks_rules.specs.Segments.{breaks_segments, holds_none, in_progress}
+use Rattle.luks_rules.specs.Shapes.{breaks_shape, progress_of}
+use Rattle.luks_slots.specs.Functions.{named_cipher}
+use Rattle.luks_slots.specs.NewSlots.{area_len, slot_for}
+use Rattle.sector_cipher.specs.Names.{IsKeyLength}
+use Rattle.sector_cipher.specs.declared.spec.Spec.{Spec}
+use Rattle.sector_cipher.specs.declared.spec.Spec.TheVariants.{AesXtsPlain64, AesCbcEssivSha256}
+
+-- a key has 16 to 64 bytes
+pub key-bounds : (s : Spec) (n : ℕ) → IsKeyLength s n → (1 ≤ n) × (n ≤ 64)
+key-bounds AesXtsPlain64 n (inl e) = (omega (arith, e), omega (arith, e))
+key-bounds AesXtsPlain64 n (inr e) = (omega (arith, e), omega (arith, e))
+key-bounds AesCbcEssivSha256 n (inl e) = (omega (arith, e), omega (arith, e))
+key-bounds AesCbcEssivSha256 n (inr e) = (omega (arith, e), omega (arith, e))
+
+module _ (w : Wish) (d : Draw) (sizes : Sizes) where
+  own : first_foreign (mandatory (parts_for w d).config.requirements) ≡ None
+  unfolding parts_with config_for
+  own = refl
+
+  apart : overlap (areas_of (parts_for w d).keyslots) ≡ false
+  unfolding overlap areas_of parts_with
+  apart = refl
+
+  referred : breaks_references (parts_for w d) ≡ false
+  unfolding breaks_references times_listed parts_with digest_for segment_for
+  referred = refl
+
+  shaped : breaks_shape (parts_for w d) (progress_of (parts_for w d) sizes) ≡ false
+  unfolding breaks_shape conversions_of conversion_of in_progress parts_with config_for
+  shaped = refl
+
+  unconverted : progress_of (parts_for w d) sizes ≡ None
+  unfolding progress_of in_progress parts_with config_for
+  unconverted = refl
+
+-- what is asked of the sizes
+module _ (w : Wish) (d : Draw) (sizes : Sizes) (wish : IsWish w) (disk : FitsDisk w sizes)
+    (room : area_len w.key_size ≤ keyslots_size_for w)
+    (block : w.data_offset / sizes.atom < sizes.main_atoms) where
+  copies : ℕ
+  copies = 2 * w.metadata_size
+
+  disk_end : ℕ
+  disk_end = sizes.main_atoms * sizes.atom
+
+  begin : 2 * (w.metadata_size - 4096 + 4096) ≡ 2 * w.metadata_size
+  begin = let least = size-least w.metadata_size wish.size in omega (arith, least)
+
+  behind : 2 * w.metadata_size + keyslots_size_for w ≤ w.data_offset
+  unfolding keyslots_size_for
+  behind =
+      data-behind w.data_offset (2 * w.metadata_size) most_keyslots (area_len w.key_size)
+      (area-some w.key_size (key-bounds (named_cipher w.cipher) w.key_size wish.key).0) room
+
+  even : w.data_offset % sizes.atom ≡ 0
+  even = pages-whole w.data_offset sizes.atom disk.atom wish.page
+
+  left : w.data_offset + sizes.atom ≤ sizes.main_atoms * sizes.atom
+  left = block-left sizes.atom sizes.main_atoms w.data_offset disk.atom even block
+
+  bounded : breaks_bounds (parts_for w d) sizes ≡ false
+  unfolding breaks_bounds areas_of parts_with keyslot_for slot_for segment_for config_for
+  bounded =
+      rw (
+        begin,
+        le-ltb (2 * w.metadata_size) (2 * w.metadata_size) (omega arith),
+        le-ltb (2 * w.metadata_size + keyslots_size_for w)
+            (2 * w.metadata_size + area_len w.key_size) (omega (arith, room)),
+        disk.one,
+        le-ltb w.data_offset (2 * w.metadata_size + keyslots_size_for w) behind,
+      )
+      refl
+
+  segments : breaks_segments (parts_for w d) sizes ≡ false
+  unfolding holds_none in_progress parts_with segment_for config_for
+  segments =
+      let end : ℕ = sizes.main_atoms * sizes.atom in
+      let fits = left in
+      rw (
+        le-ltb end (w.data_offset + (end - w.data_offset)) (omega (arith, fits)),
+        le-ltb (0 + (end - w.data_offset)) sizes.atom (omega (arith, fits)),
+      )
+      refl
+
+  sectors : breaks_sectors (parts_for w d) sizes ≡ false
+  unfolding breaks_sectors parts_with segment_for
+  sectors =
+      let some = sector-some w.sector_size wish.sector in
+      rw (
+        ne_eqb w.sector_size 0 (λ e. omega (arith, some, e)),
+        eq-eqb (sizes.atom % w.sector_size) 0 disk.sector,
+      )
+      refl
+
+  multiples : breaks_multiples (parts_for w d) sizes ≡ false
+  unfolding breaks_multiples areas_of parts_with keyslot_for slot_for segment_for config_for
+  multiples =
+      rw (
+        eq-eqb (w.data_offset % sizes.atom) 0 even,
+        eq-eqb (2 * w.metadata_size % sizes.atom) 0
+            (pages-whole (2 * w.metadata_size) sizes.atom disk.atom
+            (copies-page w.metadata_size wish.size)),
+        eq-eqb (area_len w.key_size % sizes.atom) 0
+            (pages-whole (area_len w.key_size) sizes.atom disk.atom (area-page w.key_size)),
+      )
+      refl
+
+  tweaks : breaks_tweaks (parts_for w d) sizes ≡ false
+  unfolding breaks_tweaks parts_with segment_for
+  tweaks =
+      let end : ℕ = sizes.main_atoms * sizes.atom in
+      let within = disk.within in
+      rw (le-ltb (2 ^ 64 - 1) (0 + (end - w.data_offset) / 512) (omega (arith, within))) refl
+
+  pub no-fault : first_fault (parts_for w d) sizes ≡ None
+  unfolding first_fault
+  no-fault =
+      rw (
+        own w d sizes,
+        bounded,
+        apart w d sizes,
+        referred w d sizes,
+        segments,
+        sectors,
+        multiples,
+        tweaks,
+        shaped w d sizes,
+        unconverted w d sizes,
+      )
+      refl

@@ -1,0 +1,4 @@
+pub mod Wishes
+pub mod Drawings
+pub mod Metadata
+pub mod Places

@@ -1,0 +1,18 @@
+// A law of new volumes, with nothing to run.
+
+ghost use Rattle.new_volumes.specs.Standing.{NewVolumesStand};
+
+use format_disk::{new_volumes_are_opened, new_volumes_are_written, new_volumes_leave_the_rest};
+use seed_stream::streams_go_on;
+
+/// Where all calls succeed that write a new volume its disk holds what was made, and behind it what
+/// was there; and these bytes stand, under the passphrase, for what the new key unseals from the
+/// data that was there.
+pub fn new_volumes_stand()
+    ensures { NewVolumesStand }
+{
+    streams_go_on();
+    new_volumes_leave_the_rest();
+    new_volumes_are_written();
+    new_volumes_are_opened();
+}

@@ -1,0 +1,4 @@
+pub mod Openings
+pub mod Refusals
+pub mod Shorts
+pub mod Stops
