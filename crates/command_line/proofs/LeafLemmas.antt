@@ -20,7 +20,7 @@ use Rattle.command_line.specs.Plain.{value_of}
 use Rattle.command_line.proofs.PieceLemmas.{HasPiece, between, leaf_of}
 use Rattle.command_line.proofs.PlainLemmas.{Stands, stepped}
 use Rattle.command_line.proofs.RowLemmas.{at_row_new, found_before, found_behind, neither, new_row}
-use Rattle.command_line.proofs.RowLemmas.{row_for, row_found, rows_for}
+use Rattle.command_line.proofs.RowLemmas.{row_for, row_found, rows_for, same_text}
 
 -- ---- no name stands twice
 -- the names of these pieces have no rows yet
@@ -180,6 +180,66 @@ is_there rules pieces name word is =
               ∙ sym (ap (option_map value_of) some) ∙ is;
           given = ap (λ o. option_map_or (λ (r : Row). explicit_source r.source) o false) row;
         }
+
+-- the first default that a name has
+unfoldable pub HasDefault : Text → Text → List Rule → Type 0
+HasDefault name value [] = ⊥
+HasDefault name value (rule ∷ rules) =
+    ((rule.id ≡ name) × (rule.defaults ≡ value ∷ []))
+    ⊎ (((rule.defaults ≡ []) ⊎ (bytes_eq rule.id name ≡ false)) × HasDefault name value rules)
+
+none_there : (name : Text) (rows : List Row) → find (λ r. bytes_eq r.id name) rows ≡ None →
+    has_row name rows ≡ false
+none_there name [] none = refl
+none_there name (row ∷ rows) none = by_case (bytes_eq row.id name) (none_there name rows) none
+  where
+    by_case : (b : Bool) →
+        (find (λ r. bytes_eq r.id name) rows ≡ None → has_row name rows ≡ false) →
+        cond b (Some row) (find (λ r. bytes_eq r.id name) rows) ≡ None →
+        (b || has_row name rows) ≡ false
+    by_case true rest here = absurd (cc)
+    by_case false rest later = rest later
+
+-- what isn't given has its default
+default_row : (rules : List Rule) (rows : List Row) (name value : Text) →
+    HasDefault name value rules → find (λ r. bytes_eq r.id name) rows ≡ None →
+    first_of name (fold with_default rows rules) ≡ Some value
+unfolding HasDefault
+default_row [] rows name value has none = absurd has
+default_row (rule ∷ rules) rows name value has none = elim has [
+  | inl (same, are) ↦
+      let had : has_row rule.id rows ≡ false =
+      ap (λ n. has_row n rows) same ∙ none_there name rows none in
+      let row = new_row rule.id (reading_by rule) DefaultValue (value ∷ []) in
+      let is : with_default rows rule ≡ rows ++ row ∷ [] =
+      rw (had, are) (at_row_new rule.id (more_values DefaultValue (value ∷ [])) _ rows had) in
+      let found : find (λ (r : Row). bytes_eq r.id name) (row ∷ []) ≡ Some row =
+      rw (ap (λ n. bytes_eq n name) same ∙ same_text name) refl in
+      ap (option_and_then (λ (r : Row). slice_get r.values 0))
+      (kept_row rules (with_default rows rule) name row
+      (ap (find (λ r. bytes_eq r.id name)) is ∙ found_behind _ rows (row ∷ []) none ∙ found))
+  | inr (fine, rest) ↦
+      let grown = grows rule rows in
+      default_row rules (with_default rows rule) name value rest
+      (ap (find (λ r. bytes_eq r.id name)) grown.is ∙ found_behind _ rows grown.more none
+      ∙ grown.others name fine)
+]
+
+pub default_value : (rules : List Rule) (pieces : List Piece) (name value : Text) →
+    HasDefault name value rules → value_in name pieces ≡ None →
+    first_of name (fold with_default (rows_for pieces) rules) ≡ Some value
+default_value rules pieces name value has none =
+    by_case (find (λ piece. bytes_eq (name_of piece) name) pieces) refl
+  where
+    by_case : (found : Option Piece) →
+        find (λ piece. bytes_eq (name_of piece) name) pieces ≡ found →
+        first_of name (fold with_default (rows_for pieces) rules) ≡ Some value
+    by_case None is =
+        default_row rules (rows_for pieces) name value has
+        (row_found name pieces ∙ ap (option_map row_for) is)
+    by_case (Some piece) is =
+        absurd (let e : Some (value_of piece) ≡ None = sym (ap (option_map value_of) is) ∙ none in
+        cc)
 
 pub none_named : (Is : Piece → Type 0) (name : Text) (pieces : List Piece) →
     ((piece : Piece) → Is piece → bytes_eq (name_of piece) name ≡ false) → AllPieces Is pieces →

@@ -1,6 +1,8 @@
+pub mod FormatLemmas
 pub mod ItemLemmas
 pub mod LeafLemmas
 pub mod MatchLemmas
+pub mod NameLemmas
 pub mod PieceLemmas
 pub mod PlainLemmas
 pub mod ProductLemmas

@@ -1,118 +1,38 @@
 -- Plain words ask for what they say.
 use Rattle.std.proofs.Common.{◌≡◌, ◌∙◌, true, false, List, [], ◌∷◌, ◌++◌, inl, inr}
-use Rattle.std.proofs.Common.{refl, sym, ap, ap₂, subst, Some, None, codes, append_assoc}
-use Rattle.std.proofs.Common.{append-nil}
+use Rattle.std.proofs.Common.{refl, sym, ap, subst, Option, Some, None, codes}
 use Rattle.std.specs.List.{fold}
-use Rattle.std.specs.Prelude.{is_some, ⊤}
 use Rattle.std.specs.Str.{bytes_eq}
-use Rattle.clap.specs.Faults.{check_fault, defaults_fault, entered_fault, fault_of, level_fault}
-use Rattle.clap.specs.Faults.{settle_fault, walk_fault}
-use Rattle.clap.specs.Kinds.{Kinds, or_else}
-use Rattle.clap.specs.Simple.{App, Shape, built, entered, filled_from, help_rule, names_of}
-use Rattle.clap.specs.Simple.{subcommand_of}
-use Rattle.clap.specs.Walk.{Names, Row, Rule, Text, Walk, finished, first_of, idle, nothing_held}
+use Rattle.clap.specs.Faults.{check_fault, defaults_fault}
+use Rattle.clap.specs.Faults.{walk_fault}
+use Rattle.clap.specs.Simple.{filled_from, help_rule}
+use Rattle.clap.specs.Walk.{Row, Rule, Text, first_of}
 use Rattle.clap.specs.Takes.{is_given}
-use Rattle.clap.specs.Walk.{rows_after, settled, walk, walk_from, walked, with_default}
-use Rattle.command_line.specs.Commands.{Asked, Serving, Showing, asked, command_in, serves}
-use Rattle.command_line.specs.Commands.{serving_in}
+use Rattle.clap.specs.Walk.{walked, with_default}
+use Rattle.command_line.specs.Commands.{Serving, Showing, asked, command_in, serves}
+use Rattle.command_line.specs.Commands.{key_file_in, serving_in}
 use Rattle.command_line.specs.Commands.{showing_in, shows}
-use Rattle.command_line.specs.Plain.{IsServePiece}
+use Rattle.command_line.specs.Plain.{IsServePiece, IsServed}
 use Rattle.command_line.specs.Plain.{IsStatusPiece, Piece, all_spelt, disk, flag, valued, name_of}
 use Rattle.command_line.specs.Plain.{TakesServe, TakesStatus, value_in}
-use Rattle.command_line.specs.Product.{demo_rules, format_rules, init_rules, product, resume_rules}
+use Rattle.command_line.specs.Product.{product}
 use Rattle.command_line.specs.Product.{serve_rules, status_rules}
 use Rattle.command_line.specs.Values.{atom_or_default, number_or}
-use Rattle.command_line.proofs.LeafLemmas.{HaveFineDefaults, NoDefault, all_have}
-use Rattle.command_line.proofs.LeafLemmas.{fine_defaults, first_value, is_taken}
+use Rattle.command_line.proofs.LeafLemmas.{HasDefault, HaveFineDefaults, NoDefault, all_have}
+use Rattle.command_line.proofs.LeafLemmas.{default_value, fine_defaults, first_value, is_taken}
 use Rattle.command_line.proofs.LeafLemmas.{is_there, none_named}
+use Rattle.command_line.proofs.NameLemmas.{IsNamed, all_rules, asks}
 use Rattle.command_line.proofs.PieceLemmas.{HasPiece, leaf_of}
 use Rattle.command_line.proofs.RowLemmas.{rows_for}
 
--- ---- the command's name
--- where the walk stands that met a subcommand
-abbrev stopped_at : Text → List Text → Walk
-stopped_at name words = record {
-  held = nothing_held;
-  waiting = idle;
-  position = 1;
-  is_trailing = false;
-  stopped = Some (name, words);
-}
-
-stays : (rules : List Rule) (names : Names) (name : Text) (before words : List Text) →
-    fold (walked rules names) (stopped_at name before) words ≡ stopped_at name (before ++ words)
-unfolding walked
-stays rules names name before [] = ap (stopped_at name) (sym (append-nil before))
-stays rules names name before (word ∷ words) =
-    stays rules names name (before ++ word ∷ []) words
-    ∙ ap (stopped_at name) (append_assoc before (word ∷ []) words)
-
-stays_fine : (s : Shape) (names : Names) (name : Text) (before words : List Text) →
-    walk_fault s names (stopped_at name before) words ≡ []
-unfolding walk_fault walked
-stays_fine s names name before [] = refl
-stays_fine s names name before (word ∷ words) = stays_fine s names name (before ++ word ∷ []) words
-
-abbrev the_app : App
-the_app = built product
-
--- the faults of all words, by those of the walk and where it ends
-abbrev fault_by : Kinds → Walk → Kinds
-fault_by kinds w = or_else kinds
-    (or_else (entered_fault the_app w.stopped)
-    (or_else (settle_fault the_app.top.rules the_app.top.args_override_self w.held)
-    (or_else (defaults_fault (settled the_app.top.rules w.held).rows the_app.top.rules)
-    (check_fault the_app.top (finished the_app.top.rules w.held)
-    (is_some (entered the_app w.stopped))))))
-
--- a command whose words are taken, behind its name
-abbrev IsNamed : Text → List Rule → Type 0
-IsNamed name rules = (words : List Text) →
-    (walked the_app.top.rules (names_of the_app) (walk_from nothing_held) name
-    ≡ stopped_at name [])
-    × (walk_fault the_app.top (names_of the_app) (walk_from nothing_held) (name ∷ words)
-    ≡ walk_fault the_app.top (names_of the_app) (stopped_at name []) words)
-    × (level_fault (leaf_of name rules) [] nothing_held words false [] ≡ [] →
-    fault_by [] (stopped_at name words) ≡ [])
-    × (entered the_app (Some (name, words)) ≡ Some (name, rows_after rules [] words))
-
+-- ---- `serve`
 abbrev serve_built : List Rule
 serve_built = filled_from 1 (serve_rules ++ help_rule ∷ [])
-
-abbrev status_built : List Rule
-status_built = filled_from 1 (status_rules ++ help_rule ∷ [])
-
-unfoldable all_rules : ⊤
-unfolding format_rules init_rules serve_rules resume_rules status_rules demo_rules
-all_rules = tt
 
 serve_named : IsNamed (codes "serve") serve_built
 unfolding walked walk_fault defaults_fault product all_rules
 serve_named words = (refl, refl, (λ fine. rw fine refl), refl)
 
-status_named : IsNamed (codes "status") status_built
-unfolding walked walk_fault defaults_fault product all_rules
-status_named words = (refl, refl, (λ fine. rw fine refl), refl)
-
-asks : (name : Text) (rules : List Rule) (words : List Text) (found : Asked) → IsNamed name rules →
-    level_fault (leaf_of name rules) [] nothing_held words false [] ≡ [] →
-    command_in name (rows_after rules [] words) ≡ Some found → asked (name ∷ words) ≡ Some found
-unfolding asked product
-asks name rules words found named fine command =
-    let (met, passed, ends, enters) = named words in
-    let walks : walk the_app.top.rules (names_of the_app) nothing_held (name ∷ words)
-    ≡ stopped_at name words =
-    ap (λ w. fold (walked the_app.top.rules (names_of the_app)) w words) met
-    ∙ stays the_app.top.rules (names_of the_app) name [] words in
-    let none : walk_fault the_app.top (names_of the_app) (walk_from nothing_held) (name ∷ words)
-    ≡ [] =
-    passed ∙ stays_fine the_app.top (names_of the_app) name [] words in
-    let fault : fault_of product (name ∷ words) ≡ [] = ap₂ fault_by none walks ∙ ends fine in
-    let sub : subcommand_of product (name ∷ words) ≡ Some (name, rows_after rules [] words) =
-    ap (λ (w : Walk). entered the_app w.stopped) walks ∙ enters in
-    rw (fault, sub, command) refl
-
--- ---- `serve`
 serve_has : (piece : Piece) → IsServePiece piece → HasPiece serve_built piece
 unfolding serve_rules
 serve_has (disk word) plain = (plain, refl, refl)
@@ -120,10 +40,12 @@ serve_has (valued name value) (plain, is) = elim is [
   | inl e ↦ subst (λ n. HasPiece serve_built (valued n value)) (sym e)
       (plain, record { dashes = refl; long = refl }, (false, refl, refl))
   | inr (inl e) ↦ subst (λ n. HasPiece serve_built (valued n value)) (sym e)
-      (plain, record { dashes = refl; long = refl }, (true, refl, refl))
-  | inr (inr (inl e)) ↦ subst (λ n. HasPiece serve_built (valued n value)) (sym e)
       (plain, record { dashes = refl; long = refl }, (false, refl, refl))
-  | inr (inr (inr e)) ↦ subst (λ n. HasPiece serve_built (valued n value)) (sym e)
+  | inr (inr (inl e)) ↦ subst (λ n. HasPiece serve_built (valued n value)) (sym e)
+      (plain, record { dashes = refl; long = refl }, (true, refl, refl))
+  | inr (inr (inr (inl e))) ↦ subst (λ n. HasPiece serve_built (valued n value)) (sym e)
+      (plain, record { dashes = refl; long = refl }, (false, refl, refl))
+  | inr (inr (inr (inr e))) ↦ subst (λ n. HasPiece serve_built (valued n value)) (sym e)
       (plain, record { dashes = refl; long = refl }, (false, refl, refl))
 ]
 serve_has (flag name) is = elim is [
@@ -136,16 +58,18 @@ serve_has (flag name) is = elim is [
 serve_other : (name : Text) → (bytes_eq (codes "disk") name ≡ false)
     × (bytes_eq (codes "atom") name ≡ false) × (bytes_eq (codes "listen") name ≡ false)
     × (bytes_eq (codes "workers") name ≡ false) × (bytes_eq (codes "sessions") name ≡ false)
-    × (bytes_eq (codes "plain") name ≡ false) × (bytes_eq (codes "no-worker") name ≡ false) →
+    × (bytes_eq (codes "plain") name ≡ false) × (bytes_eq (codes "no-worker") name ≡ false)
+    × (bytes_eq (codes "key-file") name ≡ false) →
     (piece : Piece) → IsServePiece piece → bytes_eq (name_of piece) name ≡ false
-serve_other name (a, b, c, d, e, f, g) (disk word) plain = a
-serve_other name (a, b, c, d, e, f, g) (valued named value) (plain, is) = elim is [
-  | inl same ↦ rw same b
-  | inr (inl same) ↦ rw same c
-  | inr (inr (inl same)) ↦ rw same d
-  | inr (inr (inr same)) ↦ rw same e
+serve_other name (a, b, c, d, e, f, g, h) (disk word) plain = a
+serve_other name (a, b, c, d, e, f, g, h) (valued named value) (plain, is) = elim is [
+  | inl same ↦ rw same h
+  | inr (inl same) ↦ rw same b
+  | inr (inr (inl same)) ↦ rw same c
+  | inr (inr (inr (inl same))) ↦ rw same d
+  | inr (inr (inr (inr same))) ↦ rw same e
 ]
-serve_other name (a, b, c, d, e, f, g) (flag named) is = elim is [
+serve_other name (a, b, c, d, e, f, g, h) (flag named) is = elim is [
   | inl same ↦ rw same f
   | inr same ↦ rw same g
 ]
@@ -190,12 +114,49 @@ serve_command : (rows : List Row) (words : Serving) →
     first_of (codes "listen") rows ≡ Some words.address →
     number_or 4 1 16 (first_of (codes "workers") rows) ≡ Some words.workers →
     number_or 65535 1 65535 (first_of (codes "sessions") rows) ≡ Some words.sessions →
-    first_of (codes "plain") rows ≡ Some (codes "true") →
-    first_of (codes "key-file") rows ≡ None → first_of (codes "header") rows ≡ None →
-    command_in (codes "serve") rows ≡ Some (serves words)
+    key_file_in rows ≡ Some words.key_file → command_in (codes "serve") rows ≡ Some (serves words)
 unfolding command_in serving_in
-serve_command rows words name atom address workers sessions plain key header =
-    rw (name, atom, address, workers, sessions, plain, key, header) refl
+serve_command rows words name atom address workers sessions key_file =
+    rw (name, atom, address, workers, sessions, key_file) refl
+
+-- a disk that is served plain, and one whose volume is
+no_key_file : (rows : List Row) → first_of (codes "header") rows ≡ None →
+    first_of (codes "plain") rows ≡ Some (codes "true") →
+    first_of (codes "key-file") rows ≡ None → key_file_in rows ≡ Some None
+unfolding key_file_in
+no_key_file rows header plain file = rw (header, plain, file) refl
+
+one_key_file : (rows : List Row) (word : Text) → first_of (codes "header") rows ≡ None →
+    first_of (codes "plain") rows ≡ Some (codes "false") →
+    first_of (codes "key-file") rows ≡ Some word → key_file_in rows ≡ Some (Some word)
+unfolding key_file_in
+one_key_file rows word header plain file = rw (header, plain, file) refl
+
+plain_default : HasDefault (codes "plain") (codes "false") serve_built
+unfolding HasDefault serve_rules
+plain_default =
+    inr (inl refl, inr (inl refl, inr (inl refl, inr (inl refl, inl (refl, refl)))))
+
+served_by : (pieces : List Piece) (rows : List Row) (key_file plain file : Option Text) →
+    rows ≡ fold with_default (rows_for pieces) serve_built →
+    first_of (codes "header") rows ≡ None →
+    first_of (codes "key-file") rows ≡ value_in (codes "key-file") pieces →
+    value_in (codes "plain") pieces ≡ plain → value_in (codes "key-file") pieces ≡ file →
+    IsServed plain file key_file → key_file_in rows ≡ Some key_file
+served_by pieces rows key_file (Some set) None are header given plain file (is, none) =
+    no_key_file rows header
+    (ap (first_of (codes "plain")) are
+    ∙ (is_there serve_built pieces (codes "plain") set plain).first ∙ ap Some is) (given ∙ file)
+    ∙ ap Some (sym none)
+served_by pieces rows key_file None (Some word) are header given plain file one =
+    one_key_file rows word header
+    (ap (first_of (codes "plain")) are
+    ∙ default_value serve_built pieces (codes "plain") (codes "false") plain_default plain)
+    (given ∙ file)
+    ∙ ap Some (sym one)
+served_by pieces rows key_file None None are header given plain file none = absurd none
+served_by pieces rows key_file (Some set) (Some word) are header given plain file none =
+    absurd none
 
 -- options that have no default of their own
 serve_kept : (name : Text) → (bytes_eq (codes "plain") name ≡ false)
@@ -238,23 +199,28 @@ serve_taken pieces words is =
     λ name apart. first_value serve_built pieces name (serve_kept name apart) in
     let name = is_there serve_built pieces (codes "disk") words.disk is.disk_is in
     let address = is_there serve_built pieces (codes "listen") words.address is.address_is in
-    let plain = is_there serve_built pieces (codes "plain") (codes "true") is.plain_is in
-    let key = none_named IsServePiece (codes "key-file") pieces
-    (serve_other (codes "key-file") (refl, refl, refl, refl, refl, refl, refl)) is.known in
     let header = none_named IsServePiece (codes "header") pieces
-    (serve_other (codes "header") (refl, refl, refl, refl, refl, refl, refl)) is.known in
+    (serve_other (codes "header") (refl, refl, refl, refl, refl, refl, refl, refl)) is.known in
     let rows = fold with_default (rows_for pieces) serve_built in
     let command = serve_command rows words name.first
     (ap atom_or_default (value (codes "atom") (refl, refl)) ∙ is.atom_is) address.first
     (ap (number_or 4 1 16) (value (codes "workers") (refl, refl)) ∙ is.workers_are)
     (ap (number_or 65535 1 65535) (value (codes "sessions") (refl, refl)) ∙ is.sessions_are)
-    plain.first (value (codes "key-file") (refl, refl) ∙ key)
-    (value (codes "header") (refl, refl) ∙ header) in
+    (served_by pieces rows words.key_file _ _ refl
+    (value (codes "header") (refl, refl) ∙ header) (value (codes "key-file") (refl, refl)) refl
+    refl is.served_is) in
     asks (codes "serve") serve_built (all_spelt pieces) (serves words) serve_named
     (taken.fine (serve_checked rows name.given address.given))
     (ap (command_in (codes "serve")) taken.rows ∙ command)
 
 -- ---- `status`
+abbrev status_built : List Rule
+status_built = filled_from 1 (status_rules ++ help_rule ∷ [])
+
+status_named : IsNamed (codes "status") status_built
+unfolding walked walk_fault defaults_fault product all_rules
+status_named words = (refl, refl, (λ fine. rw fine refl), refl)
+
 status_has : (piece : Piece) → IsStatusPiece piece → HasPiece status_built piece
 unfolding status_rules
 status_has (disk word) plain = (plain, refl, refl)

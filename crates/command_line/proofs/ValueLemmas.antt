@@ -1,15 +1,18 @@
 -- Decimal digits as a number.
 use Rattle.std.proofs.Common.{◌≡◌, ◌+◌, ◌-◌, ◌*◌, ◌^◌, ◌<◌, ◌≤◌, ℕ, length, Bool, true, false}
-use Rattle.std.proofs.Common.{cond, fold, rules, refl, arith, Some, None, [], ◌∷◌, inl, inr}
+use Rattle.std.proofs.Common.{cond, fold, rules, refl, ap, arith, Option, Some, None, option_map}
+use Rattle.std.proofs.Common.{[], ◌∷◌, inl, inr, ◌↔◌, ◌==◌, List}
 use Rattle.std.proofs.lemmas.Bool.{cases_lt, leb-true, le-leb}
 use Rattle.std.proofs.lemmas.Str.Parse.{IsNumeralModel, numerals_by_fold, parse_digits}
-use Rattle.std.specs.Prelude.{Result, Ok, Err}
+use Rattle.std.specs.Prelude.{Result, Ok, Err, IsOk, is_ok}
 use Rattle.std.specs.Char.{is_ascii_digit}
 use Rattle.std.specs.List.{list_all}
 use Rattle.std.specs.Result.{OkIff}
 use Rattle.std.specs.Str.Parse.{ParsesUnsigned}
 use Rattle.clap.proofs.WalkLemmas.{both}
 use Rattle.clap.specs.Walk.{Text}
+use Rattle.uuid.specs.Text.{parsed as identifier_of}
+use Rattle.command_line.specs.Formats.{identifier_in}
 use Rattle.command_line.specs.Values.{is_number, number_of, number_within}
 
 refused_by : {X : Type 0} (b : Bool) (x : X) → (b ≡ true → ⊥) → cond b (Some x) None ≡ None
@@ -66,3 +69,22 @@ pub same : {E : Type 0} (word : Text) (r : Result ℕ E) (n : ℕ) → ParsesUns
 same {E} word (Ok m) n parses number is = let found : m ≡ number_of word =
     (parsed {E = E} word (Ok m) parses number).1 in cc
 same {E} word (Err e) n parses number is = search
+
+-- a text that can't be parsed is no identifier
+pub no_identifier : {E : Type 0} (word : Text) (r : Result (List ℕ) E) (e : E) →
+    (IsOk r ↔ ((u : List ℕ) × (identifier_of word ≡ Some u))) → r ≡ Err e →
+    identifier_in (Some word) ≡ None
+unfolding identifier_in
+no_identifier word r e parses is = by_case (identifier_of word) refl
+  where
+    no_more : (b : Bool) (o : Option (List ℕ)) → o ≡ None →
+        cond b (option_map Some o) None ≡ None
+    no_more true o none = ap (option_map Some) none
+    no_more false o none = refl
+
+    by_case : (o : Option (List ℕ)) → identifier_of word ≡ o →
+        cond (length word == 36) (option_map Some (identifier_of word)) None ≡ None
+    by_case None none = no_more (length word == 36) (identifier_of word) none
+    by_case (Some u) some =
+        absurd (let ok : is_ok r ≡ true = parses.1 (u, some) in
+        let no : is_ok r ≡ false = ap is_ok is in cc)

@@ -1,22 +1,26 @@
 -- What the words of a command line ask for.
-use Rattle.std.specs.Prelude.{ℕ, ◌≡◌, ◌<◌, ◌≤◌, ◌⊎◌, ◌&&◌, ◌==◌, Bool, not, List, length, codes}
+use Rattle.std.specs.Prelude.{ℕ, ◌<◌, ◌≤◌, ◌==◌, List, length, codes}
 use Rattle.std.specs.Prelude.{if◌then◌else◌}
 use Rattle.std.specs.Prelude.{Option, Some, None, option_and_then, option_map}
 use Rattle.std.specs.Str.{bytes_eq}
 use Rattle.clap.specs.Walk.{Row, Text, first_of}
 use Rattle.clap.specs.Simple.{subcommand_of}
 use Rattle.clap.specs.Faults.{fault_of}
+use Rattle.command_line.specs.Formats.{Formatting, IsFormatting, formatting, formatting_in}
 use Rattle.command_line.specs.Product.{product}
-use Rattle.command_line.specs.Values.{◌>>=◌, atom_or_default, is_given, is_set, number_or}
+use Rattle.command_line.specs.Values.{◌>>=◌, IsAtomSize, atom_or_default, is_given, is_set}
+use Rattle.command_line.specs.Values.{number_or}
 use Rattle.command_line.specs.declared.command.Serve.{Serve}
 use Rattle.command_line.specs.declared.command.Status.{Status}
 use Rattle.command_line.specs.declared.command.Command.{Command}
 use Rattle.command_line.specs.declared.command.Command.TheVariants as commands
 
--- sessions over a plain disk, in atoms of so many bytes, that are dealt to so many links to the
--- clients of an address
+-- sessions over a disk, in atoms of so many bytes, that are dealt to so many links to the clients
+-- of an address: over the volume that a key file's passphrase opens there, or, where there is none,
+-- over the plain disk as it is
 pub record Serving : Type 0 where
   pub disk : Text
+  pub key_file : Option Text
   pub atom : ℕ
   pub address : Text
   pub workers : ℕ
@@ -28,12 +32,14 @@ pub record Showing : Type 0 where
   pub atom : ℕ
 
 pub data Asked : Type 0 where
+  formats : Formatting → Asked
   serves : Serving → Asked
   shows : Showing → Asked
 
 abbrev pub serving : Serve → Serving
 serving words = record {
   disk = words.disk.now;
+  key_file = option_map (λ word. word.now) words.key_file;
   atom = words.atom;
   address = words.address.now;
   workers = words.workers;
@@ -44,13 +50,11 @@ abbrev pub showing : Status → Showing
 showing words = record { disk = words.disk.now; atom = words.atom }
 
 abbrev pub asked_by : Command → Asked
+asked_by (commands.Format words) = formats (formatting words)
 asked_by (commands.Serve words) = serves (serving words)
 asked_by (commands.Status words) = shows (showing words)
 
 -- the values of a command are within their bounds
-abbrev pub IsAtomSize : ℕ → Type 0
-IsAtomSize atom = (atom ≡ 512) ⊎ (atom ≡ 4096)
-
 pub record IsServing (words : Serving) : Type 0 where
   pub atom : IsAtomSize words.atom
   pub some_worker : 0 < words.workers
@@ -59,13 +63,17 @@ pub record IsServing (words : Serving) : Type 0 where
   pub sessions : words.sessions ≤ 65535
 
 abbrev pub IsBounded : Asked → Type 0
+IsBounded (formats words) = IsFormatting words
 IsBounded (serves words) = IsServing words
 IsBounded (shows words) = IsAtomSize words.atom
 
--- a disk is served plain alone, and without a header of its own
-abbrev pub is_plain : List Row → Bool
-is_plain rows = is_set (codes "plain") rows
-    && (not (is_given (codes "key-file") rows) && not (is_given (codes "header") rows))
+-- the key file of a volume that is served, or that a disk is served plain: one of both is asked
+-- for, and no header that lies on a disk of its own
+unfoldable pub key_file_in : List Row → Option (Option Text)
+key_file_in rows = if is_given (codes "header") rows then None
+    else (if is_set (codes "plain") rows
+    then (if is_given (codes "key-file") rows then None else Some None)
+    else option_map Some (first_of (codes "key-file") rows))
 
 unfoldable pub serving_in : List Row → Option Serving
 serving_in rows = do
@@ -74,13 +82,15 @@ serving_in rows = do
   address ← first_of (codes "listen") rows
   workers ← number_or 4 1 16 (first_of (codes "workers") rows)
   sessions ← number_or 65535 1 65535 (first_of (codes "sessions") rows)
-  if is_plain rows then Some (record {
+  key_file ← key_file_in rows
+  Some (record {
     disk = disk;
+    key_file = key_file;
     atom = atom;
     address = address;
     workers = workers;
     sessions = sessions;
-  }) else None
+  })
 
 unfoldable pub showing_in : List Row → Option Showing
 showing_in rows = do
@@ -90,8 +100,10 @@ showing_in rows = do
 
 -- the command of this name, with these values; no other is built yet
 unfoldable pub command_in : Text → List Row → Option Asked
-command_in name rows = if bytes_eq name (codes "serve") then option_map serves (serving_in rows)
-    else (if bytes_eq name (codes "status") then option_map shows (showing_in rows) else None)
+command_in name rows =
+    if bytes_eq name (codes "format") then option_map formats (formatting_in rows)
+    else (if bytes_eq name (codes "serve") then option_map serves (serving_in rows)
+    else (if bytes_eq name (codes "status") then option_map shows (showing_in rows) else None))
 
 -- What the words ask for: where `clap` takes them, the command that it finds in them, if each of
 -- its values is of its form and in its range.

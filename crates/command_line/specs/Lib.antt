@@ -1,4 +1,5 @@
 pub mod Commands
+pub mod Formats
 pub mod Items
 pub mod Plain
 pub mod Product

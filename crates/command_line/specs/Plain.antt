@@ -1,10 +1,11 @@
 -- Plain words: a command's disk and its options, each in words of its own.
 use Rattle.std.specs.Prelude.{◌≡◌, ◌≢◌, ◌⊎◌, false, List, [], ◌∷◌, ◌++◌, codes, find}
-use Rattle.std.specs.Prelude.{Option, Some, option_map}
+use Rattle.std.specs.Prelude.{Option, Some, None, option_map}
 use Rattle.std.specs.List.{list_any}
 use Rattle.std.specs.Str.{bytes_eq}
 use Rattle.clap.specs.Walk.{Text}
-use Rattle.command_line.specs.Commands.{Asked, Serving, Showing, serves, shows}
+use Rattle.command_line.specs.Commands.{Asked, Serving, Showing, formats, serves, shows}
+use Rattle.command_line.specs.Formats.{Formatting, formatting_by}
 use Rattle.command_line.specs.Values.{atom_or_default, number_or}
 
 -- a word that can be no option: it isn't empty, and doesn't begin with a hyphen (45)
@@ -50,11 +51,20 @@ AreOnce [] = Unit {0}
 AreOnce (piece ∷ pieces) =
     (list_any (λ other. bytes_eq (name_of piece) (name_of other)) pieces ≡ false) × AreOnce pieces
 
--- what of these words a plain `serve` may have, and a `status`
+-- what of these words a `format` may have, a `serve`, and a `status`
+abbrev pub IsFormatPiece : Piece → Type 0
+IsFormatPiece (disk word) = IsPlain word
+IsFormatPiece (valued name value) = IsPlain value × ((name ≡ codes "key-file")
+    ⊎ (name ≡ codes "atom") ⊎ (name ≡ codes "cipher") ⊎ (name ≡ codes "key-size")
+    ⊎ (name ≡ codes "sector-size") ⊎ (name ≡ codes "data-offset") ⊎ (name ≡ codes "iterations")
+    ⊎ (name ≡ codes "metadata-size") ⊎ (name ≡ codes "uuid"))
+IsFormatPiece (flag name) = ⊥
+
 abbrev pub IsServePiece : Piece → Type 0
 IsServePiece (disk word) = IsPlain word
-IsServePiece (valued name value) = IsPlain value × ((name ≡ codes "atom") ⊎ (name ≡ codes "listen")
-    ⊎ (name ≡ codes "workers") ⊎ (name ≡ codes "sessions"))
+IsServePiece (valued name value) = IsPlain value × ((name ≡ codes "key-file")
+    ⊎ (name ≡ codes "atom") ⊎ (name ≡ codes "listen") ⊎ (name ≡ codes "workers")
+    ⊎ (name ≡ codes "sessions"))
 IsServePiece (flag name) = (name ≡ codes "plain") ⊎ (name ≡ codes "no-worker")
 
 abbrev pub IsStatusPiece : Piece → Type 0
@@ -66,14 +76,29 @@ unfoldable pub AllPieces : (Piece → Type 0) → List Piece → Type 0
 AllPieces Is [] = Unit {0}
 AllPieces Is (piece ∷ pieces) = Is piece × AllPieces Is pieces
 
--- The pieces of a `serve` on a plain disk, in any order: DISK, `--plain` and `--listen` are there,
+-- The pieces of a `format`, in any order: DISK and `--key-file` are there, and no piece is twice.
+-- Each value is of its form and in its range, or left out.
+pub record IsFormat (pieces : List Piece) (words : Formatting) : Type 0 where
+  pub known : AllPieces IsFormatPiece pieces
+  pub once : AreOnce pieces
+  pub values_are : formatting_by (λ name. value_in name pieces) ≡ Some words
+
+-- one of `--plain` and `--key-file` is there, and not both
+abbrev pub IsServed : Option Text → Option Text → Option Text → Type 0
+IsServed (Some word) None key_file = (word ≡ codes "true") × (key_file ≡ None)
+IsServed None (Some file) key_file = key_file ≡ Some file
+IsServed _ _ key_file = ⊥
+
+-- The pieces of a `serve`, in any order: DISK, `--listen`, and `--plain` or `--key-file` are there,
 -- and no piece is twice. The atom is 512 or 4096, or left out; the workers are 1 to 16, and the
 -- sessions 1 to 65535, or left out.
 pub record IsServe (pieces : List Piece) (words : Serving) : Type 0 where
   pub known : AllPieces IsServePiece pieces
   pub once : AreOnce pieces
   pub disk_is : value_in (codes "disk") pieces ≡ Some words.disk
-  pub plain_is : value_in (codes "plain") pieces ≡ Some (codes "true")
+  pub served_is :
+      IsServed (value_in (codes "plain") pieces) (value_in (codes "key-file") pieces)
+      words.key_file
   pub address_is : value_in (codes "listen") pieces ≡ Some words.address
   pub atom_is : atom_or_default (value_in (codes "atom") pieces) ≡ Some words.atom
   pub workers_are : number_or 4 1 16 (value_in (codes "workers") pieces) ≡ Some words.workers
@@ -88,6 +113,10 @@ pub record IsStatus (pieces : List Piece) (words : Showing) : Type 0 where
   pub atom_is : atom_or_default (value_in (codes "atom") pieces) ≡ Some words.atom
 
 -- plain words are never refused: what they ask for is what their pieces say
+abbrev pub TakesFormat : (List Text → Option Asked) → Type 0
+TakesFormat asked = (pieces : List Piece) (words : Formatting) → IsFormat pieces words →
+    asked (codes "format" ∷ all_spelt pieces) ≡ Some (formats words)
+
 abbrev pub TakesServe : (List Text → Option Asked) → Type 0
 TakesServe asked = (pieces : List Piece) (words : Serving) → IsServe pieces words →
     asked (codes "serve" ∷ all_spelt pieces) ≡ Some (serves words)

@@ -1,6 +1,6 @@
 -- The values of a command's words.
-use Rattle.std.specs.Prelude.{ℕ, ◌≡◌, ◌+◌, ◌-◌, ◌*◌, ◌&&◌, ◌==◌, nat_lt, nat_le, Bool, false, not}
-use Rattle.std.specs.Prelude.{fold}
+use Rattle.std.specs.Prelude.{ℕ, ◌≡◌, ◌⊎◌, ◌+◌, ◌-◌, ◌*◌, ◌&&◌, ◌==◌, nat_lt, nat_le, Bool}
+use Rattle.std.specs.Prelude.{fold, false, not}
 use Rattle.std.specs.Prelude.{List, length, codes, Option, Some, None, if◌then◌else◌}
 use Rattle.std.specs.Prelude.{Result, Ok, Err, option_and_then, is_some}
 use Rattle.std.specs.List.{list_all}
@@ -39,6 +39,9 @@ number_or default least most None = Some default
 number_or default least most (Some word) = number_within least most word
 
 -- the bytes of an atom
+abbrev pub IsAtomSize : ℕ → Type 0
+IsAtomSize atom = (atom ≡ 512) ⊎ (atom ≡ 4096)
+
 unfoldable pub atom_named : Text → Option ℕ
 atom_named word = if bytes_eq word (codes "512") then Some 512
     else (if bytes_eq word (codes "4096") then Some 4096 else None)

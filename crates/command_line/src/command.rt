@@ -1,33 +1,37 @@
 ghost use Rattle.std.specs.Prelude.{◌≡◌, ◌≢◌, map, string_bytes, IfOk, IfErr, MatchResult};
-ghost use Rattle.std.specs.Prelude.{None, Some, [], is_none, is_some};
+ghost use Rattle.std.specs.Prelude.{None, Some, [], is_none, is_some, option_map};
 ghost use Rattle.clap.specs.Words.{fault_of, found_of, kind_of, rows_of, subcommand_of};
 ghost use Rattle.clap.specs.Words.{subcommand_rows_of};
 ghost use Rattle.clap.specs.declared.error.kind.ErrorKind.TheVariants.{OutOfMemory};
 ghost use Rattle.command_line.specs.Product.{product};
-ghost use Rattle.command_line.specs.Values.{Reads};
+ghost use Rattle.command_line.specs.Values.{IsAtomSize, Reads};
 ghost use Rattle.command_line.specs.Commands.{
-  IsAtomSize,
   IsBounded,
   IsServing,
   asked,
   asked_by,
   command_in,
+  key_file_in,
   serving,
   serving_in,
   showing,
   showing_in,
 };
 
+use crate::formatting::{Format, read_format};
 use crate::product::product;
-use crate::values::{Refused, atom_or_default, is_given, is_set, number_or, required};
+use crate::values::{Refused, atom_or_default, is_given, is_set, number_or, required, text_of};
 use clap::error::ErrorKind;
 use clap::{ArgMatches, Error};
 use std::alloc::{AllocError, Global};
 
-/// `serve` on a plain disk.
+/// `serve` on a disk.
 #[derive(Clone, Copy, Debug)]
 pub struct Serve<'a> {
     pub disk: &'a str,
+    /// The file of the passphrase that opens the volume on the disk. None where the disk is served
+    /// plain, as it is.
+    pub key_file: Option<&'a str>,
     /// The bytes of an atom: 512 or 4096.
     pub atom: u32,
     pub address: &'a str,
@@ -48,6 +52,7 @@ pub struct Status<'a> {
 /// What the words of a command line ask for.
 #[derive(Clone, Copy, Debug)]
 pub enum Command<'a> {
+    Format(Format<'a>),
     Serve(Serve<'a>),
     Status(Status<'a>),
 }
@@ -72,6 +77,29 @@ fn matches_of<'a>(alloc: Global, words: &'a [String]) -> Result<ArgMatches<'a>, 
     product(alloc)?.try_get_matches_from(words)
 }
 
+/// The key file of a volume that is served, or None where the disk is served plain: one of both
+/// must be asked for.
+#[tactic(auto, unfolding(crate::specs::Commands::key_file_in))]
+fn read_key_file<'a>(matches: &ArgMatches<'a>) -> Result<Option<&'a str>, Refused>
+    ensures { Reads (λ file. option_map (λ word. word.now) file) result
+        (key_file_in (rows_of (found_of matches.now))) }
+{
+    if is_given(matches, "header") {
+        return Err(Refused("serve takes no --header yet"));
+    }
+    let key_file = text_of(matches, "key-file");
+    if is_set(matches, "plain") {
+        if key_file.is_some() {
+            return Err(Refused("serve takes --key-file or --plain, not both"));
+        }
+        return Ok(None);
+    }
+    match key_file {
+        Some(word) => Ok(Some(word)),
+        None => Err(Refused("serve takes --key-file or --plain")),
+    }
+}
+
 #[tactic(auto, unfolding(crate::specs::Commands::serving_in))]
 fn read_serve<'a>(matches: &ArgMatches<'a>) -> Result<Serve<'a>, Refused>
     ensures reads { Reads serving result (serving_in (rows_of (found_of matches.now))) }
@@ -84,17 +112,10 @@ fn read_serve<'a>(matches: &ArgMatches<'a>) -> Result<Serve<'a>, Refused>
     let workers = number_or(matches, "workers", 4, 1, 16, count)?;
     let count = Refused("--sessions takes a number from 1 to 65535");
     let sessions = number_or(matches, "sessions", 65535, 1, 65535, count)?;
-    if !is_set(matches, "plain") {
-        return Err(Refused("serve takes --plain; no header is served yet"));
-    }
-    if is_given(matches, "key-file") {
-        return Err(Refused("serve takes --key-file or --plain, not both"));
-    }
-    if is_given(matches, "header") {
-        return Err(Refused("--plain takes no --header"));
-    }
+    let key_file = read_key_file(matches)?;
     Ok(Serve {
         disk,
+        key_file,
         atom,
         address,
         workers: workers as u32,
@@ -121,6 +142,12 @@ fn read_command<'a>(name: &str, matches: &ArgMatches<'a>) -> Result<Command<'a>,
     ensures reads { Reads asked_by result (command_in name.now (rows_of (found_of matches.now))) }
     ensures bounded { IfOk result (λ command. IsBounded (asked_by command)) }
 {
+    if name == "format" {
+        return match read_format(matches) {
+            Ok(format) => Ok(Command::Format(format)),
+            Err(refused) => Err(refused),
+        };
+    }
     if name == "serve" {
         let serve = read_serve(matches)?;
         return Ok(Command::Serve(serve));

@@ -7,10 +7,12 @@
 #![tactic(auto)]
 
 mod command;
+mod formatting;
 mod item;
 mod laws;
 mod product;
 mod values;
 
 pub use command::{Command, Refusal, Serve, Status, explain_words, read_words};
+pub use formatting::Format;
 pub use laws::plain_words_are_taken;

@@ -30,10 +30,14 @@ const ATOM: Item = Item::Valued {
     required: false,
 };
 
+/// A line feed at its end is of the passphrase, as it is for the `--key-file` of cryptsetup.
+const KEY_FILE_HELP: &str =
+    "The file whose whole content, 1 to 512 bytes, is the passphrase, a line feed at its end too";
+
 const KEY_FILE: Item = Item::Valued {
     name: "key-file",
     value: "FILE",
-    help: "The file of the passphrase",
+    help: KEY_FILE_HELP,
     required: true,
 };
 
@@ -100,7 +104,7 @@ fn format<'a>(alloc: Global) -> Result<Command<'a>, AllocError>
             required: false,
         },
     ];
-    leaf(alloc, "format", "Make a new volume (not built yet)", &items)
+    leaf(alloc, "format", "Make a new volume", &items)
 }
 
 #[tactic(auto, unfolding(crate::specs::Product::init_rules))]
@@ -166,7 +170,7 @@ fn serve<'a>(alloc: Global) -> Result<Command<'a>, AllocError>
         Item::Valued {
             name: "key-file",
             value: "FILE",
-            help: "The file of the passphrase (not built yet)",
+            help: KEY_FILE_HELP,
             required: false,
         },
         Item::Flag {

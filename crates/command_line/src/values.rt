@@ -2,8 +2,8 @@ ghost use Rattle.std.specs.Prelude.{◌≡◌, ◌≤◌, option_map, codes, IfO
 ghost use Rattle.std.specs.Char.{is_ascii_digit};
 ghost use Rattle.std.specs.List.{list_all};
 ghost use Rattle.clap.specs.Words.{found_of, rows_of, first_of};
-ghost use Rattle.command_line.specs.Commands.{IsAtomSize};
 ghost use Rattle.command_line.specs.Values.{
+  IsAtomSize,
   Reads,
   atom_named,
   atom_or_default,

@@ -1,7 +1,7 @@
 // Rows on words.
 
 use anyhow::{Result, anyhow};
-use command_line::{Command, explain_words, read_words};
+use command_line::{Command, Format, explain_words, read_words};
 use std::alloc::Global;
 
 /// The words of a row.
@@ -20,13 +20,42 @@ fn first_line(text: Option<&str>) -> Option<&str> {
     Some(text?.lines().next().unwrap_or(""))
 }
 
+/// What a new volume is to be.
+fn format_text(alloc: Global, format: &Format<'_>) -> Result<String> {
+    let identifier = match format.identifier {
+        Some(identifier) => format!(in alloc; "{identifier}")?,
+        None => String::from_str(alloc, "any")?,
+    };
+    let volume = format!(in alloc;
+        "{} by a key of {}, sectors of {}, data at {}, {} rounds, copies of {}, identifier {}",
+        format.cipher.name(),
+        format.key_size,
+        format.sector_size,
+        format.data_offset,
+        format.iterations,
+        format.metadata_size,
+        identifier,
+    )?;
+    Ok(format!(in alloc;
+        "format {} by {} in atoms of {}: {volume}",
+        format.disk, format.key_file, format.atom,
+    )?)
+}
+
 /// What a command is.
 fn command_text(alloc: Global, command: &Command<'_>) -> Result<String> {
     match command {
-        Command::Serve(serve) => Ok(format!(in alloc;
-            "serve {} in atoms of {} at {}, {} workers, {} sessions",
-            serve.disk, serve.atom, serve.address, serve.workers, serve.sessions,
-        )?),
+        Command::Format(format) => format_text(alloc, format),
+        Command::Serve(serve) => {
+            let key_file = match serve.key_file {
+                Some(file) => format!(in alloc; " by {file}")?,
+                None => String::new(alloc),
+            };
+            Ok(format!(in alloc;
+                "serve {}{key_file} in atoms of {} at {}, {} workers, {} sessions",
+                serve.disk, serve.atom, serve.address, serve.workers, serve.sessions,
+            )?)
+        }
         Command::Status(status) => {
             Ok(format!(in alloc; "status of {} in atoms of {}", status.disk, status.atom)?)
         }

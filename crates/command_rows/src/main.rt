@@ -10,25 +10,33 @@
 //!   Device calls of the numbers in FAILS, counted from 0, fail;
 //! - `serves` runs a command for clients of the disk `x`: the status and its cause, the text that
 //!   is printed, the atoms of the disk that is handed back, and how each session of each link
-//!   ended. Then come its words; the disk's atoms of 512 bytes; the calls that fail, of the bay and
+//!   ended. Then come its words; the disk's atoms of 512 bytes, behind the name of a file where the
+//!   disk begins with its bytes; the calls that fail, of the bay and
 //!   of each link, with a stroke between two; the bytes that the output takes; the most bytes that
 //!   come at once of a client, and those that it takes; and in turn what a client sends and what
 //!   its session is to put. Behind the length of the disk, and of the output, are their calls that
 //!   fail;
 //! - `walks` serves a client that sends 500 requests as they are drawn, beside a plain disk that
 //!   answers them: the words, the bytes of a block and the most that come at once, what the client
-//!   sends first, what it is to be put for it, and what it sends last.
+//!   sends first, what it is to be put for it, and what it sends last; `walks in chunks` does so
+//!   for one whose reads are answered by chunks;
+//! - `cuts` serves clients who all send the same, over one link: the input of each ends at another
+//!   byte. It tells how many those are: the words, what is put first, and in turn a message and its
+//!   answer.
 //!
-//! What is sent and put are messages of the file `messages`. A line of it is a name, the bytes in
-//! hexadecimal and how often they come, with a tab between.
+//! A bay has the key files `k`, `line`, `empty` and `long`. What is sent and put are messages of
+//! the file `messages`. A line of it is a name, the bytes in hexadecimal and how often they come,
+//! with a tab between.
 //!
 //! Prints each row with another outcome, and how many rows there are.
 #![tactic(auto)]
 
 mod asking;
+mod cutting;
 mod messages;
 mod running;
 mod serving;
+mod spelling;
 mod walking;
 
 use anyhow::{Result, anyhow};
@@ -50,8 +58,10 @@ fn outcome<W: Threads + Wait + Sync>(
     };
     match *first {
         "asks" => asking::asked(rt.alloc(), line),
-        "serves" => serving::served(threads, rt.alloc(), messages, line, rest),
-        "walks" => walking::walked(threads, rt.alloc(), messages, line, rest),
+        "serves" => serving::served(rt, threads, messages, line, rest),
+        "cuts" => cutting::cut(threads, rt.alloc(), messages, line, rest),
+        "walks" => walking::walked(threads, rt.alloc(), messages, line, rest, false),
+        "walks in chunks" => walking::walked(threads, rt.alloc(), messages, line, rest, true),
         run => {
             let fails = run.strip_prefix("run").unwrap_or("no row");
             let disk = running::disk_of_row(rt, fails, rest)?;
@@ -81,7 +91,12 @@ fn main(rt: HostRuntime) -> Result<ExitCode> {
     let messages = messages_of(rt.alloc(), messages.as_str())?;
     let mut rows: u64 = 0;
     let mut failed: u64 = 0;
-    for name in ["words.rows", "status.rows", "sessions.rows"] {
+    for name in [
+        "words.rows",
+        "status.rows",
+        "sessions.rows",
+        "encrypted.rows",
+    ] {
         let text = fs::read_to_string(&rt, name)?;
         for line in text.as_str().lines() {
             if !line.is_empty() && !line.starts_with('#') {

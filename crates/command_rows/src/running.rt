@@ -7,11 +7,11 @@ ghost use Rattle.sector_disk.specs.Mem.{atom_of, atoms_of};
 
 use crate::asking::words_of_row;
 use anyhow::{Context, Result, anyhow};
-use base_terms::zeros;
+use base_terms::{Bytes, zeros};
 use bays::{MemBay, MemLink};
 use io_edge::{FixedSeeds, ListSink, ListSource, OpenGate};
 use luks_bin::{BinHeader, is_header_size, write_copy};
-use reenc_tool::{Ended, FaultText, run};
+use reenc_tool::{Ended, FaultText, RefusalText, run};
 use sector_disk::{Disk, MemDisk};
 use std::alloc::Global;
 use std::fs;
@@ -124,8 +124,26 @@ pub(crate) fn disk_of_row(rt: &HostRuntime, fails: &str, headers: &[&str]) -> Re
     Ok(disk)
 }
 
-/// The bay of this disk, by the name of `x`, and of these clients at the address `A`. Its own calls
-/// of the first of these numbers fail, and those of each link of the others.
+/// The key files that a bay has, by their names: the passphrase of `volume.bin`, the same with a
+/// line feed behind it, an empty file, and one of more bytes than a passphrase has.
+fn keys_of(alloc: Global) -> Result<Vec<(String, Bytes)>> {
+    let mut keys = Vec::new(alloc);
+    let long = [107; 600];
+    let files: [(&str, &[u8]); 4] = [
+        ("k", b"a passphrase"),
+        ("line", b"a passphrase\n"),
+        ("empty", b""),
+        ("long", &long),
+    ];
+    for (name, bytes) in files {
+        let bytes = Bytes::new(Vec::from_slice(alloc, bytes)?);
+        keys.push((String::from_str(alloc, name)?, bytes))?;
+    }
+    Ok(keys)
+}
+
+/// The bay of this disk, by the name of `x`, of the key files, and of these clients at the address
+/// `A`. Its own calls of the first of these numbers fail, and those of each link of the others.
 pub(crate) fn bay_of(
     alloc: Global,
     disk: MemDisk,
@@ -135,7 +153,7 @@ pub(crate) fn bay_of(
     let mut disks = Vec::new(alloc);
     disks.push((String::from_str(alloc, "x")?, disk))?;
     let address = String::from_str(alloc, "A")?;
-    Ok(MemBay::new(alloc, disks, Vec::new(alloc), address, clients, fails))
+    Ok(MemBay::new(alloc, disks, keys_of(alloc)?, address, clients, fails))
 }
 
 /// Runs a command in a bay.
@@ -150,16 +168,20 @@ pub(crate) fn run_in<'w>(
     Ok(run(rt, alloc, words, bay, &mut seeds, out, &OpenGate))
 }
 
-/// The status, the lines that were printed, and what is told of the header.
+/// The status, the lines that were printed, and what is told of the header, or of a volume that
+/// wasn't opened.
 fn shown(alloc: Global, ended: &Ended<'_, MemDisk, MemLink>, out: &ListSink) -> Result<String> {
     let Ok(text) = str::from_utf8(out.as_slice()) else {
         return Err(anyhow!("no text is printed"));
     };
     let lines = text.trim_end().replace(alloc, "\n", " / ")?;
     let status = ended.status;
-    match &ended.fault {
-        Some(fault) => Ok(format!(in alloc; "{status} {lines}; {}", FaultText(fault))?),
-        None => Ok(format!(in alloc; "{status} {lines}")?),
+    match (&ended.fault, &ended.refusal) {
+        (Some(fault), _) => Ok(format!(in alloc; "{status} {lines}; {}", FaultText(fault))?),
+        (None, Some(refusal)) => {
+            Ok(format!(in alloc; "{status} {lines}; {}", RefusalText(refusal))?)
+        }
+        (None, None) => Ok(format!(in alloc; "{status} {lines}")?),
     }
 }
 

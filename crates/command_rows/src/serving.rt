@@ -3,12 +3,13 @@
 use crate::asking::words_of_row;
 use crate::messages::{Message, bytes_of};
 use crate::running::{bay_of, numbers_of, run_in};
-use anyhow::{Result, anyhow};
+use anyhow::{Context, Result, anyhow};
 use bays::MemLink;
 use io_edge::{ListSink, ListSource};
 use reenc_tool::{Ended, SessionEnd};
 use sector_disk::{Disk, MemDisk};
 use std::alloc::Global;
+use std::fs;
 use std::sync::Wait;
 use std::thread::Threads;
 
@@ -20,7 +21,11 @@ pub(crate) struct Client {
 }
 
 /// The clients of a row: what one sends and what it is to be put, in turn.
-fn clients_of(alloc: Global, messages: &[Message], columns: &[&str]) -> Result<Vec<Client>> {
+pub(crate) fn clients_of(
+    alloc: Global,
+    messages: &[Message],
+    columns: &[&str],
+) -> Result<Vec<Client>> {
     let mut clients = Vec::new(alloc);
     for pair in columns.chunks(2) {
         let sent = pair.first().copied().unwrap_or("");
@@ -57,16 +62,38 @@ fn lists_of(alloc: Global, column: &str) -> Result<Vec<Vec<u64>>> {
     Ok(lists)
 }
 
-/// A disk of so many atoms of 512 bytes, and its calls that fail.
-fn disk_of(alloc: Global, column: &str) -> Result<MemDisk> {
-    let numbers = numbers_of(alloc, column, 0)?;
+/// The bytes of the file that a disk begins with, where its column begins with a name, and the rest
+/// of the column.
+fn front_of<'c>(rt: &HostRuntime, column: &'c str) -> Result<(Vec<u8>, &'c str)> {
+    match column.split_once(' ') {
+        Some((file, rest)) if file.parse::<u64>().is_err() => {
+            Ok((fs::read(rt, file).context("a row's file")?, rest))
+        }
+        _ => Ok((Vec::new(rt.alloc()), column)),
+    }
+}
+
+/// A disk of so many atoms of 512 bytes, which begins with the bytes of a file, where the column
+/// begins with its name; and the disk's calls that fail.
+fn disk_of(rt: &HostRuntime, column: &str) -> Result<MemDisk> {
+    let (front, rest) = front_of(rt, column)?;
+    let calls = u64::from(!front.is_empty());
+    let numbers = numbers_of(rt.alloc(), rest, 0)?;
     let [atoms, fails @ ..] = numbers.as_slice() else {
         return Err(anyhow!("a disk without a length"));
     };
-    if *atoms > 16 {
+    if *atoms > 4096 || front.len() % 512 != 0 || *atoms < (front.len() / 512) as u64 {
         return Err(anyhow!("a disk of {atoms} atoms"));
     }
-    Ok(MemDisk::new(alloc, 512, *atoms, 100, fails)?)
+    let mut later = Vec::new(rt.alloc());
+    for fail in fails {
+        later.push(fail.saturating_add(calls))?;
+    }
+    let mut disk = MemDisk::new(rt.alloc(), 512, *atoms, 600 + *atoms, later.as_slice())?;
+    if !front.is_empty() && disk.write(0, front.as_slice()).is_err() {
+        return Err(anyhow!("a file can't be put"));
+    }
+    Ok(disk)
 }
 
 /// An output that takes so many bytes, and its calls that fail.
@@ -80,7 +107,7 @@ fn out_of(alloc: Global, column: &str) -> Result<ListSink> {
 
 /// A session of a link as it ended, and what its client was put if that is something else than it
 /// is to be put.
-fn told_session(
+pub(crate) fn told_session(
     alloc: Global,
     end: &SessionEnd,
     handed: Option<&(ListSource, ListSink)>,
@@ -144,8 +171,8 @@ pub(crate) fn told(
 /// What a command comes to whose bay is as these columns say: the disk, the calls that fail, the
 /// output, the bytes that a client sends at once and that it takes, and the clients.
 pub(crate) fn served(
-    rt: &(impl Threads + Wait + Sync),
-    alloc: Global,
+    rt: &HostRuntime,
+    threads: &(impl Threads + Wait + Sync),
     messages: &[Message],
     line: &str,
     columns: &[&str],
@@ -153,6 +180,7 @@ pub(crate) fn served(
     let [disk, fails, out, limits, clients @ ..] = columns else {
         return Err(anyhow!("a bay of so many columns"));
     };
+    let alloc = rt.alloc();
     let limits = numbers_of(alloc, limits, 0)?;
     let [piece, room] = limits.as_slice() else {
         return Err(anyhow!("clients have a piece and a room"));
@@ -160,9 +188,9 @@ pub(crate) fn served(
     let clients = clients_of(alloc, messages, clients)?;
     let connections = connections_of(alloc, clients.as_slice(), *piece, *room)?;
     let lists = lists_of(alloc, fails)?;
-    let mut bay = bay_of(alloc, disk_of(alloc, disk)?, connections, lists)?;
+    let mut bay = bay_of(alloc, disk_of(rt, disk)?, connections, lists)?;
     let mut out = out_of(alloc, out)?;
     let words = words_of_row(alloc, line)?;
-    let ended = run_in(rt, alloc, words.as_slice(), &mut bay, &mut out)?;
+    let ended = run_in(threads, alloc, words.as_slice(), &mut bay, &mut out)?;
     told(alloc, &ended, &out, clients.as_slice())
 }

@@ -1,5 +1,4 @@
-// A long walk: a client's requests as they are drawn, spelt by the protocol document, and what a
-// plain disk answers them.
+// A long walk: a client's requests as they are drawn, and what a plain disk answers them.
 
 ghost use Rattle.std.specs.Prelude.{◌≡◌, ◌<◌, ◌⊎◌, IfOk};
 
@@ -7,8 +6,13 @@ use crate::asking::words_of_row;
 use crate::messages::{Message, bytes_of};
 use crate::running::{bay_of, numbers_of, run_in};
 use crate::serving::{Client, connections_of, told};
+use crate::spelling::{
+    DF, FLUSH, FUA, NO_HOLE, READ, Request, WRITE, ZEROES, may_have, spell_in_chunk, spell_reply,
+    spell_request,
+};
 use anyhow::{Result, anyhow};
 use base_terms::{Bytes, INVALID, zeros};
+use bays::MemLink;
 use io_edge::ListSink;
 use plain_disk::{Op, PlainDisk, Reply};
 use reenc_tool::{Ended, Ending, SessionEnd};
@@ -26,20 +30,16 @@ const REQUESTS: u64 = 500;
 /// read that looks at all atoms in the end.
 const ROOM: u64 = REQUESTS * 6 + 1;
 
-const READ: u16 = 0;
-
-const WRITE: u16 = 1;
-
-const FLUSH: u16 = 3;
-
-/// The types of requests, each as often as it is to come; beyond FLUSH they aren't served.
+/// The types of requests, each as often as it is to come; the last two aren't served.
 const TYPES: [u16; 16] = [
-    READ, READ, READ, READ, READ, WRITE, WRITE, WRITE, WRITE, WRITE, WRITE, FLUSH, FLUSH, 4, 9,
-    65535,
+    READ, READ, READ, READ, READ, READ, WRITE, WRITE, WRITE, WRITE, ZEROES, ZEROES, FLUSH, FLUSH,
+    4, 65535,
 ];
 
-/// None, "force unit access", and flags that aren't known.
-const FLAGS: [u16; 16] = [0, 0, 0, 0, 0, 0, 0, 0, 0, 1, 1, 1, 1, 2, 3, 32768];
+/// No flag, one of these, two, and one that isn't known.
+const FLAGS: [u16; 16] = [
+    0, 0, 0, 0, 0, 0, 0, 0, FUA, FUA, FUA, NO_HOLE, DF, 3, 5, 32768,
+];
 
 /// What is added to whole blocks, in bytes.
 const STRAYS: [u16; 16] = [0, 0, 0, 0, 0, 0, 0, 0, 0, 0, 0, 0, 0, 0, 1, 512];
@@ -78,35 +78,6 @@ impl Draws {
     }
 }
 
-/// A request, but for its data.
-#[derive(Clone, Copy)]
-struct Request {
-    flags: u16,
-    kind: u16,
-    cookie: u64,
-    offset: u64,
-    length: u32,
-}
-
-/// Adds the head of a request as the NBD protocol document spells it.
-fn spell_request(bytes: &mut Vec<u8>, request: &Request) -> Result<()> {
-    bytes.extend_from_slice(&0x2560_9513_u32.to_be_bytes())?;
-    bytes.extend_from_slice(&request.flags.to_be_bytes())?;
-    bytes.extend_from_slice(&request.kind.to_be_bytes())?;
-    bytes.extend_from_slice(&request.cookie.to_be_bytes())?;
-    bytes.extend_from_slice(&request.offset.to_be_bytes())?;
-    bytes.extend_from_slice(&request.length.to_be_bytes())?;
-    Ok(())
-}
-
-/// Adds the head of a simple reply as the NBD protocol document spells it.
-fn spell_reply(bytes: &mut Vec<u8>, error: u32, cookie: u64) -> Result<()> {
-    bytes.extend_from_slice(&0x6744_6698_u32.to_be_bytes())?;
-    bytes.extend_from_slice(&error.to_be_bytes())?;
-    bytes.extend_from_slice(&cookie.to_be_bytes())?;
-    Ok(())
-}
-
 /// Draws a request to a disk of blocks of `atom` bytes: mostly a range of it, or one that doesn't
 /// begin or end at a block, that passes the end, or that lies far beyond it.
 fn draw_request(draws: &mut Draws, atom: u32) -> Request {
@@ -124,13 +95,15 @@ fn draw_request(draws: &mut Draws, atom: u32) -> Request {
     }
 }
 
-/// What a client sends and is to be put, the plain disk that answers, and how many requests were
-/// answered with a content, as done, and with an error.
+/// What a client sends and is to be put, the plain disk that answers, whether its reads are
+/// answered by chunks, and how many requests were answered with a content, as done, and with an
+/// error.
 #[derive(Drop)]
 struct Walk {
     plain: PlainDisk,
     draws: Draws,
     client: Client,
+    in_chunks: bool,
     contents: u32,
     dones: u32,
     errors: u32,
@@ -143,7 +116,8 @@ impl Walk {
         spell_request(&mut self.client.sent, request)?;
         self.client.sent.extend_from_slice(body.as_slice())?;
         let reply = self.reply_to(alloc, request, Bytes::new(body))?;
-        self.answer(request.cookie, &reply)
+        self.count(&reply);
+        self.answer(request, &reply)
     }
 
     /// The data of a request, none but for a write.
@@ -166,38 +140,46 @@ impl Walk {
             length,
             ..
         } = *request;
-        if flags > 1 || kind > FLUSH {
+        if !may_have(kind, flags, self.in_chunks) {
             return Ok(Reply::Errno(INVALID));
         }
+        let fua = flags & FUA != 0;
         let op = match kind {
             READ => Op::Read { offset, length },
-            WRITE => Op::Write {
+            WRITE => Op::Write { offset, body, fua },
+            ZEROES => Op::Zeroes {
                 offset,
-                body,
-                fua: flags == 1,
+                length,
+                fua,
             },
-            _ => Op::Flush,
+            FLUSH => Op::Flush,
+            _ => return Ok(Reply::Errno(INVALID)),
         };
         Ok(self.plain.step(alloc, &op)?)
     }
 
-    /// Adds a simple reply, and counts it.
-    fn answer(&mut self, cookie: u64, reply: &Reply) -> Result<()> {
-        let error = if let Reply::Errno(number) = reply {
-            *number
-        } else {
-            0
-        };
-        spell_reply(&mut self.client.answers, error, cookie)?;
+    fn count(&mut self, reply: &Reply) {
         match reply {
-            Reply::Content(bytes) => {
-                self.client.answers.extend_from_slice(bytes.as_slice())?;
-                self.contents = self.contents.saturating_add(1);
-            }
+            Reply::Content(_) => self.contents = self.contents.saturating_add(1),
             Reply::Done => self.dones = self.dones.saturating_add(1),
-            Reply::Errno(_) => self.errors = self.errors.saturating_add(1),
+            Reply::Errno(_) | Reply::ErrnoAt(..) => self.errors = self.errors.saturating_add(1),
         }
-        Ok(())
+    }
+
+    /// Adds the reply to a request, to a read in a chunk where that was agreed on.
+    fn answer(&mut self, request: &Request, reply: &Reply) -> Result<()> {
+        let bytes = &mut self.client.answers;
+        let Request {
+            kind,
+            cookie,
+            offset,
+            ..
+        } = *request;
+        if self.in_chunks && kind == READ {
+            spell_in_chunk(bytes, cookie, offset, reply)
+        } else {
+            spell_reply(bytes, cookie, reply)
+        }
     }
 }
 
@@ -213,13 +195,14 @@ fn atom_of(number: u64) -> Result<u32>
 }
 
 /// A walk on blocks of `atom` bytes, behind what a client sends first and is put for it.
-fn walk_of(alloc: Global, atom: u32, state: u64, first: Client) -> Result<Walk>
+fn walk_of(alloc: Global, atom: u32, state: u64, first: Client, in_chunks: bool) -> Result<Walk>
     requires { (atom ≡ 512) ⊎ (atom ≡ 4096) }
 {
     let mut walk = Walk {
         plain: PlainDisk::new(alloc, atom, ATOMS)?,
         draws: Draws { state },
         client: first,
+        in_chunks,
         contents: 0,
         dones: 0,
         errors: 0,
@@ -270,6 +253,7 @@ fn walk_of_row(
     atom: u32,
     state: u64,
     columns: &[&str],
+    in_chunks: bool,
 ) -> Result<Walk>
     requires { (atom ≡ 512) ⊎ (atom ≡ 4096) }
 {
@@ -280,10 +264,39 @@ fn walk_of_row(
         sent: bytes_of(alloc, messages, first)?,
         answers: bytes_of(alloc, messages, answers)?,
     };
-    let mut walk = walk_of(alloc, atom, state, first)?;
+    let mut walk = walk_of(alloc, atom, state, first, in_chunks)?;
     let last = bytes_of(alloc, messages, last)?;
     walk.client.sent.extend_from_slice(last.as_slice())?;
     Ok(walk)
+}
+
+/// The disk that a command handed back.
+fn handed_back(ended: Ended<'_, MemDisk, MemLink>) -> Result<MemDisk> {
+    let Ended { disk, .. } = ended;
+    let Some(disk) = disk else {
+        return Err(anyhow!("no disk is handed back"));
+    };
+    Ok(disk)
+}
+
+/// How the session of a client ended whose bytes come in pieces, and the disk that was served.
+fn served_in_pieces(
+    rt: &(impl Threads + Wait + Sync),
+    alloc: Global,
+    words: &[String],
+    disk: MemDisk,
+    piece: u64,
+    client: Client,
+) -> Result<(String, MemDisk)> {
+    let room = client.answers.len() as u64;
+    let clients = [client];
+    let connections = connections_of(alloc, &clients, piece, room)?;
+    let mut bay = bay_of(alloc, disk, connections, Vec::new(alloc))?;
+    let mut out = ListSink::new(alloc, 100, &[])?;
+    let ended = run_in(rt, alloc, words, &mut bay, &mut out)?;
+    let found = told(alloc, &ended, &out, &clients)?;
+    let disk = handed_back(ended)?;
+    Ok((found, disk))
 }
 
 /// What comes of a walk whose bytes come in pieces, where it is something else than a plain disk's
@@ -298,33 +311,24 @@ fn compared(
 ) -> Result<String> {
     let Walk { plain, client, .. } = walk;
     let wanted = served_whole(alloc, &client)?;
-    let room = client.answers.len() as u64;
-    let clients = [client];
-    let connections = connections_of(alloc, &clients, piece, room)?;
-    let mut bay = bay_of(alloc, disk, connections, Vec::new(alloc))?;
-    let mut out = ListSink::new(alloc, 100, &[])?;
-    let ended = run_in(rt, alloc, words, &mut bay, &mut out)?;
-    let found = told(alloc, &ended, &out, &clients)?;
+    let (found, disk) = served_in_pieces(rt, alloc, words, disk, piece, client)?;
     if found.as_str() != wanted.as_str() {
         return Ok(found);
     }
-    let Ended { disk, .. } = ended;
-    let Some(disk) = disk else {
-        return Err(anyhow!("no disk is handed back"));
-    };
     match differs_at(alloc, disk, &plain)? {
         None => Ok(String::from_str(alloc, "as a plain disk")?),
         Some(block) => Ok(format!(in alloc; "another content of block {block}")?),
     }
 }
 
-/// What a walk comes to.
+/// What a walk comes to, whose reads are answered by chunks where the client asks for them first.
 pub(crate) fn walked(
     rt: &(impl Threads + Wait + Sync),
     alloc: Global,
     messages: &[Message],
     line: &str,
     columns: &[&str],
+    in_chunks: bool,
 ) -> Result<String> {
     let [limits, columns @ ..] = columns else {
         return Err(anyhow!("a walk of no column"));
@@ -334,7 +338,7 @@ pub(crate) fn walked(
         return Err(anyhow!("a walk has blocks and a piece"));
     };
     let atom = atom_of(*atom)?;
-    let walk = walk_of_row(alloc, messages, atom, *piece, columns)?;
+    let walk = walk_of_row(alloc, messages, atom, *piece, columns, in_chunks)?;
     let disk = MemDisk::new(alloc, atom, ATOMS, ROOM, &[])?;
     let words = words_of_row(alloc, line)?;
     compared(rt, alloc, words.as_slice(), disk, *piece, walk)

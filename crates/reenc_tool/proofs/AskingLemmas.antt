@@ -11,7 +11,7 @@ use Rattle.nbd_stream.specs.Moments.{Traffic, moment}
 use Rattle.nbd_stream.specs.Putting.{IsOut}
 use Rattle.nbd_session.specs.Session.{Log, IsSession}
 use Rattle.nbd_session.specs.Turns.{exchanges_of}
-use Rattle.reenc_tool.specs.Sessions.{Played, IsPlayed, AreSessions, Goes, Plays, numbered}
+use Rattle.reenc_tool.specs.Sessions.{Played, AreSessions, Goes, Plays, numbered}
 use Rattle.reenc_tool.specs.Sessions.{tagged, tagged_of}
 
 pub goes_none : (old new : LinkState) →

@@ -1,7 +1,7 @@
 -- Links that are served in turn.
-use Rattle.std.proofs.Common.{nat_lt, set, ◌≡◌, ◌≢◌, ℕ, ◌+◌, ◌*◌, ◌<◌, ◌≤◌, ◌⊎◌, inl, inr, ⊎_elim}
+use Rattle.std.proofs.Common.{nat_lt, set, ◌≡◌, ◌≢◌, ℕ, ◌+◌, ◌*◌, ◌<◌, ◌⊎◌, inl, inr, ⊎_elim}
 use Rattle.std.proofs.Common.{Bool, true, false, ◌==◌, if◌then◌else◌, List, [], ◌∷◌, ◌++◌, length}
-use Rattle.std.proofs.Common.{map, slice_index_or, Some, ap, ◌∙◌, refl, sym, subst, append-nil}
+use Rattle.std.proofs.Common.{map, slice_index_or, ap, ◌∙◌, refl, sym, subst, append-nil}
 use Rattle.std.proofs.Common.{append_assoc, length-append, arith}
 use Rattle.std.proofs.lemmas.List.{map-append, get_or-set_same, get_or-set_other, get_or_read}
 use Rattle.std.proofs.lemmas.List.{length-set}
@@ -9,13 +9,13 @@ use Rattle.std.proofs.Math.Nat.{mul-suc}
 use Rattle.std.proofs.lemmas.Bool.{eq-eqb}
 use Rattle.std.proofs.lemmas.Bool.Decides.{eqb_tells}
 use Rattle.base_terms.specs.Causes.{Rose}
-use Rattle.bays.specs.Stories.{HasNoneAhead, LinkState, Story}
+use Rattle.bays.specs.Stories.{LinkState, Story}
 use Rattle.nbd_session.specs.declared.ending.SessionEnd.{SessionEnd}
 use Rattle.nbd_hand.specs.declared.export.Export.{Export}
 use Rattle.nbd_session.specs.Turns.{exchanges_of}
 use Rattle.reenc_tool.specs.declared.serving.Standing.{Standing}
 use Rattle.reenc_tool.specs.declared.serving.Standing.TheVariants.{Live, Ended, Failed}
-use Rattle.reenc_tool.specs.Lanes.{IsPassedOver, IsServed, Lane, Lanes, StandsBy, TurnCase, TurnIs}
+use Rattle.reenc_tool.specs.Lanes.{IsPassedOver, Lane, Lanes, StandsBy, TurnCase, TurnIs}
 use Rattle.reenc_tool.specs.Sessions.{Played, AreNumbered, AreSessions, Goes, IsOneOf, Plays}
 use Rattle.reenc_tool.specs.Sessions.{of_link, tagged, tagged_of}
 

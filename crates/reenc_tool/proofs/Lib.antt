@@ -1,6 +1,7 @@
 mod AskingLemmas
 mod HistoryLemmas
 mod LaneLemmas
+mod MakingLemmas
 mod RoundLemmas
 mod RunLemmas
 mod TextLemmas

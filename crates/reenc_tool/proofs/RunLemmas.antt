@@ -1,8 +1,8 @@
 -- A command of its parts.
-use Rattle.std.proofs.Common.{◌≡◌, ℕ, ◌+◌, ◌*◌, ◌-◌, ◌^◌, ◌<◌, ◌≤◌, ◌⊎◌, ⊎_elim, le_trans, Bool}
+use Rattle.std.proofs.Common.{◌≡◌, ℕ, ◌+◌, ◌*◌, ◌<◌, ◌≤◌, ◌⊎◌, ⊎_elim, le_trans, Bool}
 use Rattle.std.proofs.Common.{true}
 use Rattle.std.proofs.Common.{false, inl, inr, zero, suc, List, [], ◌∷◌, ◌++◌, length}
-use Rattle.std.proofs.Common.{slice_index_or, replicate, Option, Some, None, ap, ◌∙◌, refl, sym}
+use Rattle.std.proofs.Common.{slice_index_or, replicate, Option, Some, ap, ◌∙◌, refl, sym}
 use Rattle.std.proofs.Common.{subst, arith, suc-mul}
 use Rattle.base_terms.specs.Blocks.{lengths}
 use Rattle.base_terms.specs.Causes.{Rose}
@@ -11,15 +11,15 @@ use Rattle.bays.specs.Bays.{LeavesOtherClients}
 use Rattle.bays.specs.Stories.{LinkState}
 use Rattle.nbd_session.specs.declared.ending.SessionEnd.{SessionEnd}
 use Rattle.cipher_laws.specs.Bytes.{AreBytes}
-use Rattle.plain_disk.specs.Plain.{Block, Exchange, Legal}
+use Rattle.plain_disk.specs.Plain.{Block, Exchange}
 use Rattle.sector_disk.specs.Cells.{AreSettled, content, currents}
 use Rattle.sector_disk.specs.Steps.{Told}
 use Rattle.volume_machine.specs.Beginnings.{IsFresh}
 use Rattle.volume_laws.specs.Executing.{Executes, StopsAlong, TellsRun, ServesWithoutFaults}
 use Rattle.volume_laws.specs.Executing.{BreaksByFaults}
 use Rattle.volume_machine.specs.States.{IsIdle}
-use Rattle.volume_laws.specs.Promises.{DeviceErrorsAreExact, Starts, StartsCovered, ServesEachRun}
-use Rattle.volume_laws.specs.Promises.{GoesByEvents}
+use Rattle.volume_laws.specs.Promises.{DeviceErrorsAreExact, PlacesAreExact, Starts, StartsCovered}
+use Rattle.volume_laws.specs.Promises.{ServesEachRun, GoesByEvents, TellsSettled}
 use Rattle.volume_machine.specs.Answers.{AreExchanges, Tagged, untagged}
 use Rattle.volume_machine.specs.Runs.{Happening, IsRun, last_of, answered_in, no_plain}
 use Rattle.volume_machine.specs.Beginnings.{ChangeNothing}
@@ -28,16 +28,21 @@ use Rattle.volume_machine.specs.Sound.{IsSound, AreApart}
 use Rattle.sector_disk.specs.Devices.{Device}
 use Rattle.volume_machine.specs.States.{State, size_of}
 use Rattle.volume_machine.specs.Beginnings.{IsWholeDisk}
-use Rattle.volume_laws.specs.Contents.{plain_blocks}
 use Rattle.reenc_tool.specs.declared.ended.Cause.{Cause}
 use Rattle.reenc_tool.specs.declared.serving.Standing.{Standing}
 use Rattle.reenc_tool.specs.declared.serving.Standing.TheVariants.{Live, Ended, Failed}
-use Rattle.reenc_tool.specs.Lanes.{IsServed, Served, StandsBy, failed_bit, failed_in}
+use Rattle.reenc_tool.specs.Lanes.{Served, StandsBy, failed_in}
 use Rattle.reenc_tool.specs.Sessions.{Played, AreSessions, NumbersRise, tagged_of}
-use Rattle.reenc_tool.specs.Outcomes.{Outcome, unserved}
-use Rattle.reenc_tool.specs.Promise.{IsPlainVolume, LeavesRest, MayStop, PlainKeys, Ran}
-use Rattle.reenc_tool.specs.Promise.{StoodStill, cause_of}
+use Rattle.reenc_tool.specs.Outcomes.{Coming, Outcome, unserved}
+use Rattle.reenc_tool.specs.Plain.{IsPlainVolume}
+use Rattle.reenc_tool.specs.Encrypted.{AsksKey, HandsBack}
+use Rattle.reenc_tool.specs.Linking.{AsksLinks}
+use Rattle.reenc_tool.specs.Promise.{LeavesRest, ServesBy}
+use Rattle.reenc_tool.specs.Runs.{HasServed, VolumeKeys, StoodStill, cause_of}
 use Rattle.luks_store.specs.declared.fault.StoreFault.{StoreFault}
+use Rattle.volume_machine.specs.declared.keys.Keys.{Keys}
+use Rattle.volume_opening.specs.Openings.{IsOpenedBy}
+use Rattle.volume_opening.specs.declared.refusal.Refusal.{Refusal}
 use Rattle.command_line.specs.Commands.{Serving}
 use Rattle.reenc_tool.proofs.HistoryLemmas.{each_of, known_of, untagged-tagged_of}
 use Rattle.reenc_tool.proofs.AskingLemmas.{sessions_unspent}
@@ -90,7 +95,7 @@ pub record VolumeTells (atom : ℕ) (device : Device) : Type 0 where
   pub even : (told : Told) → device.told ≡ Some told →
       lengths (currents told.now) ≡ replicate device.atoms atom
 
-tells_start : (device : Device) (seals : Seals) (start : State PlainKeys) →
+pub tells_start : (device : Device) (seals : Seals) (start : State VolumeKeys) →
     IsPlainVolume device seals start → DiskTells device →
     VolumeTells start.map.atom start.disk
 tells_start device seals start volume tells =
@@ -104,18 +109,35 @@ tells_start device seals start volume tells =
           tells.even;
     }))
 
--- the laws of volumes that a command cites
-pub record VolumeLaws (start : State PlainKeys) (seals : Seals)
-    (run : List (Happening PlainKeys)) : Type 0 where
+-- the volume of a whole disk, as it is made
+pub plain_volume : (device : Device) (seals : Seals) (start : State VolumeKeys) → IsFresh start →
+    IsSound start → start.map.atom ≡ device.size → start.disk ≡ device →
+    IsWholeDisk device.size device.atoms start.map → AreApart start.map → ChangeNothing seals →
+    IsPlainVolume device seals start
+plain_volume device seals start fresh sound size disk whole apart nothing = record {
+  fresh = fresh;
+  sound = sound;
+  size = size;
+  disk = disk;
+  whole = subst (λ (d : Device). IsWholeDisk start.map.atom d.atoms start.map) (sym disk)
+      (subst (λ (a : ℕ). IsWholeDisk a device.atoms start.map) (sym size) whole);
+  apart = apart;
+  nothing = nothing;
+}
+
+-- the laws of volumes that sessions cite
+pub record VolumeLaws (start : State VolumeKeys) (seals : Seals)
+    (run : List (Happening VolumeKeys)) : Type 0 where
   pub served : ServesEachRun start seals
-  pub answers : (final : State PlainKeys) (operations : List Tagged) →
+  pub answers : (final : State VolumeKeys) (operations : List Tagged) →
       Executes seals start final run operations →
       AreExchanges (answered_in seals start no_plain run) (untagged operations)
-  pub events : (earlier later : List (Happening PlainKeys)) → IsFresh start →
+  pub events : (earlier later : List (Happening VolumeKeys)) → IsFresh start →
       IsRun start (earlier ++ later) → GoesByEvents start earlier
-  pub errors : (earlier later : List (Happening PlainKeys)) (one : Happening PlainKeys) →
-      IsFresh start → IsRun start (earlier ++ one ∷ later) →
-      DeviceErrorsAreExact seals start earlier one
+  pub errors : (earlier later : List (Happening VolumeKeys)) (one : Happening VolumeKeys) →
+      IsSound start → IsFresh start → AreLawful start.map.atom seals →
+      IsRun start (earlier ++ one ∷ later) →
+      DeviceErrorsAreExact seals start earlier one × PlacesAreExact seals start earlier one
   pub stops : (blocks : List Block) (bytes : List ℕ) (exchanges : List Exchange) →
       Starts start seals blocks bytes → IsRun start run →
       AreExchanges (answered_in seals start no_plain run) exchanges →
@@ -125,83 +147,32 @@ pub record VolumeLaws (start : State PlainKeys) (seals : Seals)
   pub faultless : IsSound start → IsFresh start → AreLawful start.map.atom seals → IsRun start run →
       ServesWithoutFaults start seals run
   pub breaks : IsFresh start → IsRun start run → BreaksByFaults start run
-  pub starts : (bytes : List ℕ) → IsSound start → IsFresh start → AreApart start.map →
-      IsWholeDisk start.map.atom start.disk.atoms start.map →
-      AreLawful start.map.atom seals → ChangeNothing seals → start.disk.values ≡ Some bytes →
-      length bytes ≡ start.disk.atoms * start.map.atom → AreBytes bytes →
-      Starts start seals (plain_blocks start bytes) bytes
-  pub covered : (bytes : List ℕ) → IsWholeDisk start.map.atom start.disk.atoms start.map →
-      ChangeNothing seals → length bytes ≡ start.disk.atoms * start.map.atom → AreBytes bytes →
-      ((told : Told) → start.disk.told ≡ Some told → AreSettled told.now
-      × (bytes ≡ content told.now)
-      × (lengths (currents told.now) ≡ replicate start.disk.atoms start.map.atom)) →
-      StartsCovered start seals (plain_blocks start bytes)
+  pub covered : (blocks : List Block) (bytes : List ℕ) → Starts start seals blocks bytes →
+      TellsSettled start bytes → StartsCovered start seals blocks
 
--- one history
-history_of : (start : State PlainKeys) (seals : Seals) (final : State PlainKeys)
-    (run : List (Happening PlainKeys)) (operations : List Tagged) (bytes : List ℕ) →
-    VolumeLaws start seals run → Starts start seals (plain_blocks start bytes) bytes →
-    Executes seals start final run operations →
-    (left : List Block) × Legal start.map.atom (plain_blocks start bytes) (untagged operations) left
-history_of start seals final run operations bytes laws starts did =
-    let served = laws.served (plain_blocks start bytes) bytes run (untagged operations) starts
-    did.is (laws.answers final operations did) in (served.left, served.legal)
-
--- stops
-may_stop : (start : State PlainKeys) (seals : Seals) (final : State PlainKeys)
-    (run : List (Happening PlainKeys)) (operations : List Tagged) →
-    VolumeLaws start seals run → VolumeTells start.map.atom start.disk →
-    IsWholeDisk start.map.atom start.disk.atoms start.map → ChangeNothing seals →
-    ((bytes : List ℕ) → start.disk.values ≡ Some bytes →
-    Starts start seals (plain_blocks start bytes) bytes) →
-    Executes seals start final run operations → MayStop start seals run (untagged operations)
-may_stop start seals final run operations laws tells whole nothing starts did =
-    λ bytes before values was settled. (
-      laws.covered bytes whole nothing (tells.whole bytes values) (tells.are_bytes bytes values)
-          (λ other is. (let same : other ≡ before = cc in (
-            subst (λ t. AreSettled t.now) (sym same) settled,
-            (let agrees = tells.agrees other is in cc),
-            tells.even other is,
-          ))),
-      laws.stops (plain_blocks start bytes) bytes (untagged operations) (starts bytes values)
-          did.is (laws.answers final operations did),
-      (λ now told. laws.tables now did.is told),
-    )
-
--- a command's outcome, of the parts that its run left
-module _ {D L : Type 0} (device : D → Device) (state : L → LinkState) (disk back : D)
-    (begun : List L) (link : L) (outcome : Outcome D L)
-    (start : State PlainKeys) (seals : Seals) (final : State PlainKeys)
-    (run : List (Happening PlainKeys)) where
-  pub ran_of : (failed faults : ℕ) (played : List Played) (size atom : ℕ) {may_spend : Type 0} →
-      VolumeLaws start seals run →
-      IsPlainVolume (device disk) seals start → AreLawful start.map.atom seals →
-      DiskTells (device disk) →
+-- what came of sessions, of the parts that their run left
+module _ {L : Type 0} (state : L → LinkState) (left : Device) (begun : List L) (link : L)
+    (came : Coming L) (start : State VolumeKeys) (seals : Seals) (final : State VolumeKeys)
+    (run : List (Happening VolumeKeys)) where
+  pub served_of : (failed faults : ℕ) (played : List Played) (size atom : ℕ) {may_spend : Type 0} →
+      VolumeLaws start seals run → IsSound start → IsFresh start → AreLawful start.map.atom seals →
       Executes seals start final run (tagged_of played) → IsIdle final →
       size ≡ size_of start.map → atom ≡ start.map.atom →
       (may_spend → ⊥) → AreSessions (record { number = 0; size = size; atom = atom }) may_spend
       played → NumbersRise 0 played →
-      Served state begun outcome.links outcome.ends failed faults outcome.memory played →
-      outcome.disk ≡ Some back → device back ≡ final.disk →
-      (device back).size ≡ (device disk).size →
-      outcome.cause ≡ cause_of final.broken final.disk.faults failed faults outcome.memory →
-      Ran device state disk begun outcome
-  ran_of failed faults played size atom laws volume lawful tells did idle size_same atom_same never
-      sessions rise served is_back back_is same_size cause_is =
-      let own = tells_start (device disk) seals start volume tells in
-      let starts : (bytes : List ℕ) → start.disk.values ≡ Some bytes →
-      Starts start seals (plain_blocks start bytes) bytes =
-      λ bytes is. laws.starts bytes volume.sound volume.fresh volume.apart volume.whole lawful
-      volume.nothing is (own.whole bytes is) (own.are_bytes bytes is) in
+      Served state begun came.links came.ends failed faults came.memory played →
+      left ≡ final.disk →
+      came.cause ≡ cause_of final.broken final.disk.faults failed faults came.memory →
+      HasServed state start seals left begun came
+  served_of failed faults played size atom laws sound fresh lawful did idle size_same atom_same
+      never sessions rise served left_is cause_is =
+      let answered = laws.answers final (tagged_of played) did in
       record {
-        start = start;
-        seals = seals;
         final = final;
         run = run;
         failed = failed;
         faults = faults;
         played = played;
-        volume = volume;
         sessions = subst (λ (a : ℕ).
             AreSessions (record { number = 0; size = size_of start.map; atom = a }) ⊥ played)
             atom_same
@@ -211,36 +182,51 @@ module _ {D L : Type 0} (device : D → Device) (state : L → LinkState) (disk 
         served = served;
         operations = tagged_of played;
         did = did;
+        left_is = left_is;
+        lawful = lawful;
         each = each_of played rise;
         known = known_of played;
         in_turn = untagged-tagged_of played;
         idle = idle;
-        back_is = (back, is_back, back_is, same_size);
-        history = λ bytes is.
-            history_of start seals final run (tagged_of played) bytes laws (starts bytes is)
-            did;
-        stops = may_stop start seals final run (tagged_of played) laws own volume.whole
-            volume.nothing starts did;
+        history = λ blocks bytes starts.
+            (let one = laws.served blocks bytes run (untagged (tagged_of played)) starts did.is
+            answered in (one.left, one.legal));
+        stops = λ blocks bytes starts settled. record {
+          covered = laws.covered blocks bytes starts settled;
+          allowed = laws.stops blocks bytes (untagged (tagged_of played)) starts did.is answered;
+          tables = λ now told. laws.tables now did.is told;
+        };
         cause_is = cause_is;
         broke = subst (λ s. s.broken ≡ true → Rose start.disk.faults s.disk.faults) did.last
-            (laws.breaks volume.fresh did.is);
+            (laws.breaks fresh did.is);
         errors = λ earlier later one is.
-            laws.errors earlier later one volume.fresh (subst (λ r. IsRun start r) is did.is);
+            laws.errors earlier later one sound fresh lawful
+            (subst (λ r. IsRun start r) is did.is);
         fails = λ earlier later is.
-            laws.events earlier later volume.fresh (subst (λ r. IsRun start r) is did.is);
+            laws.events earlier later fresh (subst (λ r. IsRun start r) is did.is);
         complete = λ stood low links_stood.
-            let fine = laws.faultless volume.sound volume.fresh lawful did.is
-            (untagged (tagged_of played)) (laws.answers final (tagged_of played) did)
-            (ap (λ s. s.disk.faults) did.last ∙ stood) (omega (arith, stood, low)) in
+            let fine = laws.faultless sound fresh lawful did.is (untagged (tagged_of played))
+            answered (ap (λ s. s.disk.faults) did.last ∙ stood) (omega (arith, stood, low)) in
             let unbroken = ap (λ s. s.broken) (sym did.last) ∙ fine.1 in
-            let calm = no_link_failed state begun outcome.links outcome.ends failed faults
-            outcome.memory played served link links_stood in (
+            let calm = no_link_failed state begun came.links came.ends failed faults
+            came.memory played served link links_stood in (
               fine.0,
               cause_is
-                  ∙ ap (λ b. cause_of b final.disk.faults failed faults outcome.memory) unbroken
-                  ∙ ap (λ f. cause_of false final.disk.faults f faults outcome.memory) calm,
+                  ∙ ap (λ b. cause_of b final.disk.faults failed faults came.memory) unbroken
+                  ∙ ap (λ f. cause_of false final.disk.faults f faults came.memory) calm,
             );
       }
+
+-- where a plain disk told each atom for certain, it starts so
+pub plain_certain : (start : State VolumeKeys) → VolumeTells start.map.atom start.disk →
+    (bytes : List ℕ) (before : Told) → start.disk.values ≡ Some bytes →
+    start.disk.told ≡ Some before → AreSettled before.now → TellsSettled start bytes
+plain_certain start tells bytes before values was settled other is =
+    let same : other ≡ before = cc in (
+      subst (λ t. AreSettled t.now) (sym same) settled,
+      (let agrees = tells.agrees other is in cc),
+      tells.even other is,
+    )
 
 -- what a command left that asked for a disk, and then perhaps for links
 pub leaves_rest : {D : Type 0} (serve : Serving) (old mid new : Holdings D) →
@@ -284,28 +270,61 @@ links_few state workers sessions links bounded some count few k link inside =
 abbrev pub unserved_of : {D L : Type 0} → Cause → Option D → List L → Outcome D L
 unserved_of cause disk links = unserved cause disk links
 
-abbrev pub handed_back : {D L : Type 0} → Cause → Option StoreFault → Bool → Option D → List L →
-    List (List SessionEnd) → Outcome D L
-handed_back cause fault memory disk links ends = record {
+abbrev pub handed_back : {D L : Type 0} → Cause → Option StoreFault → Option Refusal → Bool →
+    Option D → Option D → List L → List (List SessionEnd) → Outcome D L
+handed_back cause fault refusal memory disk header links ends = record {
   cause = cause;
   fault = fault;
+  refusal = refusal;
   memory = memory;
   disk = disk;
+  header = header;
   links = links;
   ends = ends;
 }
 
 -- what is handed back is the same where each part is
 pub same_outcome : {D L : Type 0} (cause : Cause) (fault fault' : Option StoreFault)
-    (memory memory' : Bool) (disk disk' : Option D)
-    (links links' : List L) (ends ends' : List (List SessionEnd)) → fault ≡ fault' →
-    memory ≡ memory' → disk ≡ disk' → links ≡ links' → ends ≡ ends' →
-    handed_back cause fault memory disk links ends
-    ≡ handed_back cause fault' memory' disk' links' ends'
-same_outcome {D} {L} cause fault fault' memory memory' disk disk' links links' ends ends' f m a b
-    c =
-    ap (λ (w : Option StoreFault). handed_back cause w memory disk links ends) f
-    ∙ ap (λ (w : Bool). handed_back cause fault' w disk links ends) m
-    ∙ ap (λ (d : Option D). handed_back cause fault' memory' d links ends) a
-    ∙ ap (λ (l : List L). handed_back cause fault' memory' disk' l ends) b
-    ∙ ap (λ (e : List (List SessionEnd)). handed_back cause fault' memory' disk' links' e) c
+    (refusal refusal' : Option Refusal) (memory memory' : Bool)
+    (disk disk' header header' : Option D) (links links' : List L)
+    (ends ends' : List (List SessionEnd)) → fault ≡ fault' →
+    refusal ≡ refusal' → memory ≡ memory' → disk ≡ disk' → header ≡ header' → links ≡ links' →
+    ends ≡ ends' → handed_back cause fault refusal memory disk header links ends
+    ≡ handed_back cause fault' refusal' memory' disk' header' links' ends'
+same_outcome {D} {L} cause fault fault' refusal refusal' memory memory' disk disk' header header'
+    links links' ends ends' f r m a h b c =
+    ap (λ (w : Option StoreFault). handed_back cause w refusal memory disk header links ends) f
+    ∙ ap (λ (w : Option Refusal). handed_back cause fault' w memory disk header links ends) r
+    ∙ ap (λ (w : Bool). handed_back cause fault' refusal' w disk header links ends) m
+    ∙ ap (λ (d : Option D). handed_back cause fault' refusal' memory' d header links ends) a
+    ∙ ap (λ (d : Option D). handed_back cause fault' refusal' memory' disk' d links ends) h
+    ∙ ap (λ (l : List L). handed_back cause fault' refusal' memory' disk' header' l ends) b
+    ∙ ap (λ (e : List (List SessionEnd)).
+    handed_back cause fault' refusal' memory' disk' header' links' e) c
+
+-- disks are handed back that show this, with this that came of sessions
+pub handed : {D L : Type 0} (device : D → Device) (shown shown' : Device) (came came' : Coming L)
+    (outcome : Outcome D L) → shown ≡ shown' → came ≡ came' → HandsBack device shown came outcome →
+    HandsBack device shown' came' outcome
+handed {D} {L} device shown shown' came came' outcome shows comes back =
+    subst (λ (d : Device). HandsBack device d came' outcome) shows
+    (subst (λ (c : Coming L). HandsBack device shown c outcome) comes back)
+
+-- what came of a disk, by the key file that the words name
+pub by_key_file : {B D L : Type 0} (device : D → Device) (state : L → LinkState)
+    (holdings : B → Holdings D) (asks_key : AsksKey B) (asks_links : AsksLinks B L)
+    (serve : Serving) (disk : D) (between new : B) (outcome : Outcome D L)
+    (key_file : Option (List ℕ)) → serve.key_file ≡ key_file →
+    ServesBy device state holdings asks_key asks_links serve key_file disk between new outcome →
+    ServesBy device state holdings asks_key asks_links serve serve.key_file disk between new outcome
+by_key_file device state holdings asks_key asks_links serve disk between new outcome key_file is =
+    subst (λ (k : Option (List ℕ)).
+    ServesBy device state holdings asks_key asks_links serve k disk between new outcome) (sym is)
+
+-- a volume that was opened by a passphrase was opened by it under another name
+pub opened_under : {C : Type 0} (sector : C → ℕ) (sealed opened : C → ℕ → List ℕ → List ℕ)
+    (device : Device) (pass pass' : List ℕ) (lanes : ℕ) (volume : State (Keys C)) → pass ≡ pass' →
+    IsOpenedBy sector sealed opened device pass lanes volume →
+    IsOpenedBy sector sealed opened device pass' lanes volume
+opened_under {C} sector sealed opened device pass pass' lanes volume same =
+    subst (λ (p : List ℕ). IsOpenedBy sector sealed opened device p lanes volume) same

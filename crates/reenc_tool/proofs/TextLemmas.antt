@@ -1,5 +1,5 @@
 -- A line that is printed.
-use Rattle.std.proofs.Common.{◌≡◌, ◌≢◌, ◌<◌, ◌≤◌, ◌-◌, ◌^◌, ◌⊎◌, ℕ, List, [], ◌++◌, Some, Result}
+use Rattle.std.proofs.Common.{◌≡◌, ◌≢◌, ◌<◌, ◌≤◌, ◌-◌, ◌^◌, ℕ, List, [], ◌++◌, Some, Result}
 use Rattle.std.proofs.Common.{Ok, Err, length, ap, ◌∙◌, refl, sym, arith, ⊎_elim, take_all}
 use Rattle.std.specs.Prelude.{OnOk, IsErr}
 use Rattle.base_terms.specs.declared.failed.Failed.{Failed}
@@ -7,8 +7,9 @@ use Rattle.base_terms.specs.Causes.{Rose}
 use Rattle.io_edge.specs.Outlet.{Outlet, PutsPiece}
 use Rattle.reenc_tool.specs.declared.ended.Cause.{Cause}
 use Rattle.reenc_tool.specs.declared.ended.Cause.TheVariants.{Fine, Usage, Device, NoHeader}
-use Rattle.reenc_tool.specs.declared.ended.Cause.TheVariants.{Header, Foreign, NoFit, Link}
-use Rattle.reenc_tool.specs.declared.ended.Cause.TheVariants.{Output, Memory}
+use Rattle.reenc_tool.specs.declared.ended.Cause.TheVariants.{Header, NoKey, WrongState, Foreign}
+use Rattle.reenc_tool.specs.declared.ended.Cause.TheVariants.{NoFit, Link}
+use Rattle.reenc_tool.specs.declared.ended.Cause.TheVariants.{Output, Seeds, Memory}
 use Rattle.reenc_tool.specs.Texts.{Prints, fault_line, text_of}
 
 -- a count that stood still below its last value didn't rise
@@ -54,8 +55,11 @@ text_of-fault (Usage words) after text other = refl
 text_of-fault (Device failing faults) after text other = refl
 text_of-fault NoHeader after text other = refl
 text_of-fault Header after text other = refl
+text_of-fault NoKey after text other = refl
+text_of-fault WrongState after text other = refl
 text_of-fault Foreign after text other = refl
 text_of-fault (NoFit what number limit) after text other = refl
 text_of-fault (Link failed faults) after text other = refl
 text_of-fault (Output faults) after text other = refl
+text_of-fault (Seeds faults) after text other = refl
 text_of-fault Memory after text other = refl

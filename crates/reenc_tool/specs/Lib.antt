@@ -1,10 +1,15 @@
 pub mod Asking
+pub mod Encrypted
 pub mod Ending
 pub mod Lanes
+pub mod Linking
+pub mod Making
 pub mod Outcomes
-pub mod Sessions
-pub mod Showing
+pub mod Plain
 pub mod Ports
 pub mod Promise
+pub mod Runs
+pub mod Sessions
+pub mod Showing
 pub mod Status
 pub mod Texts

@@ -1,5 +1,5 @@
 -- What a command hands back, and how it asks for its disk.
-use Rattle.std.specs.Prelude.{ℕ, ◌≡◌, Bool, false, List, [], map, Option, Some, None, Result, Err}
+use Rattle.std.specs.Prelude.{ℕ, ◌≡◌, Bool, false, List, [], map, Option, None, Result, Err}
 use Rattle.bays.specs.Bays.{FaultCounts, Holdings, LeavesAll}
 use Rattle.bays.specs.declared.bay.BayFault.{BayFault}
 use Rattle.bays.specs.declared.bay.BayFault.TheVariants as BayFaults
@@ -10,14 +10,19 @@ use Rattle.reenc_tool.specs.declared.ended.Cause.TheVariants.{Device, Memory}
 use Rattle.reenc_tool.specs.declared.ended.Ended.{Ended}
 use Rattle.reenc_tool.specs.declared.ended.Failing.{Failing}
 use Rattle.reenc_tool.specs.declared.ended.Failing.TheVariants.{Opening}
+use Rattle.reenc_tool.specs.declared.ended.Sessions.{Sessions}
+use Rattle.volume_opening.specs.declared.refusal.Refusal.{Refusal}
 
--- what a command hands back: its cause, and why no header was read; whether memory was wanted for a
--- session's end; its disk and its links, with the ends of each link's sessions
+-- what a command hands back: its cause, and why no header was shown or no volume opened; whether
+-- memory was wanted for a session's end; its disk, and that of a detached header; and its links,
+-- with the ends of each link's sessions
 pub record Outcome (D L : Type 0) : Type 0 where
   pub cause : Cause
   pub fault : Option StoreFault
+  pub refusal : Option Refusal
   pub memory : Bool
   pub disk : Option D
+  pub header : Option D
   pub links : List L
   pub ends : List (List SessionEnd)
 
@@ -25,22 +30,50 @@ abbrev pub outcome_of : {D L : Type 0} → Ended D L → Outcome D L
 outcome_of ended = record {
   cause = ended.cause;
   fault = ended.fault;
+  refusal = ended.refusal;
   memory = ended.memory;
   disk = ended.disk;
+  header = ended.header;
   links = ended.links.items;
   ends = map (λ list. list.items) ended.sessions.items;
 }
 
+-- what came of sessions: why they ended, whether memory was wanted for a session's end, and the
+-- links with the ends of each link's sessions
+pub record Coming (L : Type 0) : Type 0 where
+  pub cause : Cause
+  pub memory : Bool
+  pub links : List L
+  pub ends : List (List SessionEnd)
+
+abbrev pub came_of : {L : Type 0} → Sessions L → Coming L
+came_of sessions = record {
+  cause = sessions.cause;
+  memory = sessions.memory;
+  links = sessions.links.items;
+  ends = map (λ list. list.items) sessions.ends.items;
+}
+
+-- no session was served
+abbrev pub none_came : {L : Type 0} → Cause → List L → Coming L
+none_came cause links = record { cause = cause; memory = false; links = links; ends = [] }
+
+-- what a command hands back of its sessions, with a disk and that of a detached header
+abbrev pub ended_by : {D L : Type 0} → Coming L → Option D → Option D → Outcome D L
+ended_by came disk header = record {
+  cause = came.cause;
+  fault = None;
+  refusal = None;
+  memory = came.memory;
+  disk = disk;
+  header = header;
+  links = came.links;
+  ends = came.ends;
+}
+
 -- what a command hands back that served no session
 abbrev pub unserved : {D L : Type 0} → Cause → Option D → List L → Outcome D L
-unserved cause disk links = record {
-  cause = cause;
-  fault = None;
-  memory = false;
-  disk = disk;
-  links = links;
-  ends = [];
-}
+unserved cause disk links = ended_by (none_came cause links) disk None
 
 -- what asking a bay for a disk does: from the bay before by what was asked for and answered to the
 -- bay after

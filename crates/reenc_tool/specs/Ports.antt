@@ -1,5 +1,5 @@
 -- What a port to a volume did.
-use Rattle.std.specs.Prelude.{ℕ, ◌≡◌, List, [], ◌++◌, map}
+use Rattle.std.specs.Prelude.{ℕ, ◌≡◌, List, [], ◌++◌}
 use Rattle.std.proofs.Common.{refl, ◌∙◌, ap, subst, sym}
 use Rattle.std.proofs.lemmas.List.{map-append}
 use Rattle.plain_disk.specs.Plain.{Exchange}

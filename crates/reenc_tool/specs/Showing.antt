@@ -7,7 +7,6 @@ use Rattle.header_report.specs.Examinations.{IsReadAlone, Tells}
 use Rattle.luks_store.specs.Loads.{HasCause}
 use Rattle.luks_store.specs.declared.fault.StoreFault.{StoreFault}
 use Rattle.sector_disk.specs.Devices.{Device as DiskState}
-use Rattle.reenc_tool.specs.declared.ended.Cause.{Cause}
 use Rattle.reenc_tool.specs.declared.ended.Cause.TheVariants.{Fine}
 use Rattle.reenc_tool.specs.Outcomes.{AsksDisk, HasNoDisk, Outcome}
 use Rattle.reenc_tool.specs.Status.{cause_of_store}
@@ -17,16 +16,20 @@ abbrev pub shown : {D L : Type 0} → D → ℕ → Result (List ℕ) StoreFault
 shown disk faults (Ok text) = record {
   cause = Fine;
   fault = None;
+  refusal = None;
   memory = false;
   disk = Some disk;
+  header = None;
   links = [];
   ends = [];
 }
 shown disk faults (Err fault) = record {
   cause = cause_of_store fault faults;
   fault = Some fault;
+  refusal = None;
   memory = false;
   disk = Some disk;
+  header = None;
   links = [];
   ends = [];
 }

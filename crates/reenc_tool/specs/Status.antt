@@ -1,14 +1,23 @@
 -- The exit statuses of a command.
-use Rattle.std.specs.Prelude.{ℕ}
+use Rattle.std.specs.Prelude.{ℕ, ◌==◌, if◌then◌else◌}
 use Rattle.reenc_tool.specs.declared.ended.Cause.{Cause}
 use Rattle.reenc_tool.specs.declared.ended.Cause.TheVariants.{Fine, Usage, Device, NoHeader}
-use Rattle.reenc_tool.specs.declared.ended.Cause.TheVariants.{Header, Foreign, NoFit, Link}
-use Rattle.reenc_tool.specs.declared.ended.Cause.TheVariants.{Output, Memory}
-use Rattle.reenc_tool.specs.declared.ended.Failing.TheVariants.{Reading}
+use Rattle.reenc_tool.specs.declared.ended.Cause.TheVariants.{Header, NoKey, WrongState, Foreign}
+use Rattle.reenc_tool.specs.declared.ended.Cause.TheVariants.{NoFit, Link, Output, Seeds, Memory}
+use Rattle.reenc_tool.specs.declared.ended.Failing.TheVariants.{Reading, Starting}
+use Rattle.reenc_tool.specs.declared.ended.Fit.TheVariants.{Area, Blocks, Json, Passphrase}
+use Rattle.format_disk.specs.declared.fault.FormatFault.{FormatFault}
+use Rattle.format_disk.specs.declared.fault.FormatFault.TheVariants as formats
+use Rattle.reenc_recovery.specs.declared.fault.OpenCause.{OpenCause}
+use Rattle.reenc_recovery.specs.declared.fault.OpenCause.TheVariants as openings
+use Rattle.luks_slots.specs.declared.fault.SlotFault.{SlotFault}
+use Rattle.luks_slots.specs.declared.fault.SlotFault.TheVariants as slots
 use Rattle.luks_rules.specs.declared.fault.RuleFault.{RuleFault}
 use Rattle.luks_rules.specs.declared.fault.RuleFault.TheVariants as rules
 use Rattle.luks_store.specs.declared.fault.StoreFault.{StoreFault}
 use Rattle.luks_store.specs.declared.fault.StoreFault.TheVariants as faults
+use Rattle.volume_opening.specs.declared.refusal.Refusal.{Refusal}
+use Rattle.volume_opening.specs.declared.refusal.Refusal.TheVariants as refusals
 
 abbrev pub status_of : Cause → ℕ
 status_of Fine = 0
@@ -16,10 +25,13 @@ status_of (Usage words) = 1
 status_of (Device failing faults) = 2
 status_of NoHeader = 3
 status_of Header = 4
+status_of NoKey = 5
+status_of WrongState = 6
 status_of Foreign = 7
 status_of (NoFit what number limit) = 8
 status_of (Link failed faults) = 10
 status_of (Output faults) = 11
+status_of (Seeds faults) = 12
 status_of Memory = 13
 
 -- the cause of a command whose header wasn't read: another program's header has one of its own
@@ -35,3 +47,42 @@ cause_of_store (faults.NoHeader primary secondary) count = NoHeader
 cause_of_store (faults.CopiesDiffer seqid place) count = Header
 cause_of_store (faults.Json fault) count = Header
 cause_of_store (faults.Rule rule) count = cause_of_rule rule
+
+-- the cause of a command that was given no key by the keyslots
+abbrev pub cause_of_slots : SlotFault → ℕ → Cause
+cause_of_slots slots.Memory count = Memory
+cause_of_slots slots.Device count = Device Reading count
+cause_of_slots (slots.NoKey list) count = NoKey
+cause_of_slots (slots.NoRoom wanted gap) count = NoKey
+
+-- the cause of a command that was given no volume by the header and a key
+abbrev pub cause_of_volume : OpenCause → ℕ → Cause
+cause_of_volume openings.Memory count = Memory
+cause_of_volume openings.Device count = Device Starting count
+cause_of_volume (openings.NoHeader primary secondary) count = NoHeader
+cause_of_volume (openings.CopiesDiffer seqid place) count = Header
+cause_of_volume (openings.Json fault) count = Header
+cause_of_volume (openings.Rule rule) count = cause_of_rule rule
+cause_of_volume openings.InProgress count = WrongState
+cause_of_volume (openings.KeyDiffers computed stored) count = NoKey
+
+-- how many bytes a passphrase of none, or of too many, is to have at least, or at most
+abbrev pub passphrase_limit : ℕ → ℕ
+passphrase_limit length = if length == 0 then 1 else 512
+
+-- the cause of a command that opened no volume
+abbrev pub cause_of_refusal : Refusal → ℕ → Cause
+cause_of_refusal (refusals.Header fault) count = cause_of_store fault count
+cause_of_refusal refusals.InProgress count = WrongState
+cause_of_refusal (refusals.Passphrase length) count =
+    NoFit Passphrase length (passphrase_limit length)
+cause_of_refusal (refusals.Slots fault) count = cause_of_slots fault count
+cause_of_refusal (refusals.Opening cause) count = cause_of_volume cause count
+
+-- the cause of a command that made no volume
+abbrev pub cause_of_format : FormatFault → Cause
+cause_of_format formats.Memory = Memory
+cause_of_format (formats.Area wanted gap) = NoFit Area wanted gap
+cause_of_format (formats.Json len limit) = NoFit Json len limit
+cause_of_format (formats.Passphrase len) = NoFit Passphrase len (passphrase_limit len)
+cause_of_format formats.Blocks = NoFit Blocks 0 1

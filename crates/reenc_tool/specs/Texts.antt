@@ -5,8 +5,8 @@ use Rattle.std.specs.Fmt.{decimal}
 use Rattle.io_edge.specs.Outlet.{Outlet}
 use Rattle.reenc_tool.specs.declared.ended.Cause.{Cause}
 use Rattle.reenc_tool.specs.declared.ended.Cause.TheVariants.{Fine, Usage, Device, NoHeader}
-use Rattle.reenc_tool.specs.declared.ended.Cause.TheVariants.{Header, Foreign, NoFit, Link}
-use Rattle.reenc_tool.specs.declared.ended.Cause.TheVariants.{Output, Memory}
+use Rattle.reenc_tool.specs.declared.ended.Cause.TheVariants.{Header, NoKey, WrongState, Foreign}
+use Rattle.reenc_tool.specs.declared.ended.Cause.TheVariants.{NoFit, Link, Output, Seeds, Memory}
 
 -- how many sessions lists hold, up to the last value of 64 bits
 abbrev pub sessions_in : {E : Type 0} → (E → ℕ) → List E → ℕ
@@ -22,10 +22,13 @@ fault_line (Usage words) = codes "fault 1 Usage" ++ 10 ∷ []
 fault_line (Device failing faults) = codes "fault 2 Device" ++ 10 ∷ []
 fault_line NoHeader = codes "fault 3 NoHeader" ++ 10 ∷ []
 fault_line Header = codes "fault 4 Header" ++ 10 ∷ []
+fault_line NoKey = codes "fault 5 NoKey" ++ 10 ∷ []
+fault_line WrongState = codes "fault 6 WrongState" ++ 10 ∷ []
 fault_line Foreign = codes "fault 7 Foreign" ++ 10 ∷ []
 fault_line (NoFit what number limit) = codes "fault 8 NoFit" ++ 10 ∷ []
 fault_line (Link failed faults) = codes "fault 10 Link" ++ 10 ∷ []
 fault_line (Output faults) = []
+fault_line (Seeds faults) = codes "fault 12 Seeds" ++ 10 ∷ []
 fault_line Memory = codes "fault 13 Memory" ++ 10 ∷ []
 
 -- what a command says that did what it was asked: a report of its own, or how many sessions it

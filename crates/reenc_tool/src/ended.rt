@@ -1,10 +1,20 @@
 ghost use Rattle.std.specs.Prelude.{◌≡◌, ◌≢◌, true, false};
-ghost use Rattle.reenc_tool.specs.Status.{cause_of_store, status_of};
+ghost use Rattle.reenc_tool.specs.Status.{cause_of_format, cause_of_refusal, cause_of_slots};
+ghost use Rattle.reenc_tool.specs.Status.{cause_of_store, cause_of_volume, passphrase_limit};
+ghost use Rattle.reenc_tool.specs.Status.{status_of};
 ghost use Rattle.reenc_tool.specs.Texts.{fault_line};
 
+use format_disk::FormatFault;
 use luks_rules::RuleFault;
+use luks_slots::SlotFault;
 use luks_store::StoreFault;
 use nbd_session::SessionEnd;
+use reenc_recovery::OpenCause;
+use std::alloc::Global;
+use volume_opening::Refusal;
+
+/// The most bytes of a passphrase.
+const MOST_PASSPHRASE_BYTES: u64 = 512;
 
 /// Why a command ended as it did. Where several causes hold, it is the first in the order of the
 /// command's steps; `Output` comes only in place of `Fine`.
@@ -23,6 +33,10 @@ pub enum Cause<'w> {
     /// The copies of the header differ, its text has a fault, or its objects break a rule: status
     /// 4.
     Header,
+    /// No keyslot gives the passphrase a key of the volume: status 5.
+    NoKey,
+    /// The volume is in a state in which the command can't be done: status 6.
+    WrongState,
     /// The header is another program's: status 7.
     Foreign,
     /// Something doesn't fit: the counted number is beyond its limit. Status 8.
@@ -32,6 +46,8 @@ pub enum Cause<'w> {
     /// The text could not be put and pushed out; so many calls of the output had failed then:
     /// status 11.
     Output { faults: u64 },
+    /// The seeds gave no random bytes; so many of their calls had failed then: status 12.
+    Seeds { faults: u64 },
     /// Memory was wanted: status 13.
     Memory,
 }
@@ -41,10 +57,15 @@ pub enum Cause<'w> {
 pub enum Failing {
     /// The bay gave no disk.
     Opening,
+    /// The bay gave no key file.
+    Keying,
     /// The bay gave no links.
     Listening,
     /// A read of the disk failed.
     Reading,
+    /// A call of the disk failed by which its volume was opened: the first sync, a read of the
+    /// header, or the repair of a copy of it.
+    Starting,
     /// A write or a sync of the disk failed.
     Writing,
 }
@@ -52,8 +73,14 @@ pub enum Failing {
 /// What doesn't fit.
 #[derive(Clone, Copy, Debug, PartialEq, Eq)]
 pub enum Fit {
+    /// The keyslot's area has more bytes than the keyslots area.
+    Area,
+    /// The header's text has more bytes than its area less one.
+    Json,
     /// The disk has fewer blocks than one.
     Blocks,
+    /// The passphrase has no byte, or more than 512.
+    Passphrase,
 }
 
 impl<'w> Cause<'w> {
@@ -83,6 +110,93 @@ impl<'w> Cause<'w> {
         }
     }
 
+    /// The cause of a command whose disk, of which so many calls failed, opened no volume.
+    pub(crate) fn of_opening(refusal: &Refusal, faults: u64) -> Cause<'w>
+        ensures { result ≡ cause_of_refusal refusal.now faults }
+    {
+        match refusal {
+            Refusal::Header(fault) => Cause::of_store(fault, faults),
+            Refusal::InProgress => Cause::WrongState,
+            Refusal::Passphrase(length) => Cause::of_passphrase(*length as u64),
+            Refusal::Slots(fault) => Cause::of_slots(fault, faults),
+            Refusal::Opening(cause) => Cause::of_volume(cause, faults),
+        }
+    }
+
+    /// The cause of a command whose passphrase has no byte, or too many.
+    fn of_passphrase(length: u64) -> Cause<'w>
+        ensures { result ≡ Cause.NoFit Fit.Passphrase length (passphrase_limit length) }
+    {
+        Cause::NoFit {
+            what: Fit::Passphrase,
+            number: length,
+            limit: if length == 0 {
+                1
+            } else {
+                MOST_PASSPHRASE_BYTES
+            },
+        }
+    }
+
+    /// The cause of a command that made no volume.
+    pub(crate) fn of_format(fault: FormatFault) -> Cause<'w>
+        ensures { result ≡ cause_of_format fault }
+    {
+        match fault {
+            FormatFault::Memory => Cause::Memory,
+            FormatFault::Area { wanted, gap } => Cause::NoFit {
+                what: Fit::Area,
+                number: wanted,
+                limit: gap,
+            },
+            FormatFault::Json { len, limit } => Cause::NoFit {
+                what: Fit::Json,
+                number: len,
+                limit,
+            },
+            FormatFault::Passphrase { len } => Cause::of_passphrase(len),
+            FormatFault::Blocks => Cause::NoFit {
+                what: Fit::Blocks,
+                number: 0,
+                limit: 1,
+            },
+        }
+    }
+
+    /// The cause of a command that was given no key by the keyslots of such a disk.
+    fn of_slots(fault: &SlotFault, faults: u64) -> Cause<'w>
+        ensures { result ≡ cause_of_slots fault.now faults }
+    {
+        match fault {
+            SlotFault::Memory => Cause::Memory,
+            SlotFault::Device => Cause::Device {
+                failing: Failing::Reading,
+                faults,
+            },
+            SlotFault::NoKey(_) | SlotFault::NoRoom(..) => Cause::NoKey,
+        }
+    }
+
+    /// The cause of a command that was given no volume by the header and a key of such a disk.
+    fn of_volume(cause: &OpenCause, faults: u64) -> Cause<'w>
+        ensures { result ≡ cause_of_volume cause.now faults }
+    {
+        match cause {
+            OpenCause::Memory => Cause::Memory,
+            OpenCause::Device => Cause::Device {
+                failing: Failing::Starting,
+                faults,
+            },
+            OpenCause::NoHeader { .. } => Cause::NoHeader,
+            OpenCause::Rule(RuleFault::Foreign(_)) => Cause::Foreign,
+            OpenCause::CopiesDiffer { .. } | OpenCause::Json(_) | OpenCause::Rule(_) => {
+                Cause::Header
+            }
+            OpenCause::InProgress => Cause::WrongState,
+            OpenCause::KeyDiffers { .. } => Cause::NoKey,
+        }
+    }
+
     /// The exit status.
     pub fn status(self) -> u8
         ensures { result ≡ status_of self.entry }
@@ -93,10 +207,13 @@ impl<'w> Cause<'w> {
             Cause::Device { .. } => 2,
             Cause::NoHeader => 3,
             Cause::Header => 4,
+            Cause::NoKey => 5,
+            Cause::WrongState => 6,
             Cause::Foreign => 7,
             Cause::NoFit { .. } => 8,
             Cause::Link { .. } => 10,
             Cause::Output { .. } => 11,
+            Cause::Seeds { .. } => 12,
             Cause::Memory => 13,
         }
     }
@@ -111,9 +228,12 @@ impl<'w> Cause<'w> {
             Cause::Device { .. } => "fault 2 Device\n",
             Cause::NoHeader => "fault 3 NoHeader\n",
             Cause::Header => "fault 4 Header\n",
+            Cause::NoKey => "fault 5 NoKey\n",
+            Cause::WrongState => "fault 6 WrongState\n",
             Cause::Foreign => "fault 7 Foreign\n",
             Cause::NoFit { .. } => "fault 8 NoFit\n",
             Cause::Link { .. } => "fault 10 Link\n",
+            Cause::Seeds { .. } => "fault 12 Seeds\n",
             Cause::Memory => "fault 13 Memory\n",
         }
     }
@@ -129,8 +249,10 @@ pub struct Ended<'w, D, L> {
     /// The exit status, which the cause determines.
     pub status: u8,
     pub cause: Cause<'w>,
-    /// Why no header was read, where that is the cause.
+    /// Why no header was shown, where that is the cause.
     pub fault: Option<StoreFault>,
+    /// Why no volume was opened, where that is the cause.
+    pub refusal: Option<Refusal>,
     /// Whether memory was wanted for a session's end: then clients may have been left, of each
     /// link.
     pub memory: bool,
@@ -146,12 +268,68 @@ pub struct Ended<'w, D, L> {
     pub links: Vec<L>,
 }
 
+/// What came of sessions: why they ended, whether memory was wanted for a session's end, the ends
+/// of each link's sessions, and the links.
+#[derive(Drop)]
+pub struct Sessions<'w, L> {
+    pub cause: Cause<'w>,
+    pub memory: bool,
+    pub ends: Vec<Vec<SessionEnd>>,
+    pub links: Vec<L>,
+}
+
+impl<'w, L> Sessions<'w, L> {
+    ghost use Rattle.reenc_tool.specs.Outcomes.{came_of, ended_by, none_came, outcome_of};
+    ghost use Rattle.reenc_tool.specs.Promise.{HasNoPass};
+
+    /// None was served, for this cause.
+    pub fn none(alloc: Global, cause: Cause<'w>, links: Vec<L>) -> Sessions<'w, L>
+        ensures { came_of result ≡ none_came cause.entry links.items }
+    {
+        Sessions {
+            cause,
+            memory: false,
+            ends: Vec::new(alloc),
+            links,
+        }
+    }
+
+    /// The end of a command whose sessions these are, and that hands back a disk and the one of a
+    /// detached header, where it has them.
+    pub fn ended<D>(self, disk: Option<D>, header: Option<D>) -> Ended<'w, D, L>
+        ensures status { result.status ≡ status_of result.cause }
+        ensures pass { HasNoPass result.pass result.demo }
+        ensures outcome { outcome_of result ≡ ended_by (came_of self.entry) disk header }
+    {
+        let Sessions {
+            cause,
+            memory,
+            ends,
+            links,
+        } = self;
+        Ended {
+            status: cause.status(),
+            cause,
+            fault: None,
+            refusal: None,
+            memory,
+            disk,
+            header,
+            pass: None,
+            demo: None,
+            sessions: ends,
+            links,
+        }
+    }
+}
+
 impl<'w, D, L> Ended<'w, D, L> {
     /// The same with another cause, and its status.
     pub fn ending_by(self, cause: Cause<'w>) -> Ended<'w, D, L>
         ensures status { result.status ≡ status_of cause.entry }
         ensures cause { result.cause ≡ cause.entry }
         ensures fault { result.fault ≡ self.entry.fault }
+        ensures refusal { result.refusal ≡ self.entry.refusal }
         ensures memory { result.memory ≡ self.entry.memory }
         ensures disk { result.disk ≡ self.entry.disk }
         ensures sessions { result.sessions ≡ self.entry.sessions }
@@ -162,6 +340,7 @@ impl<'w, D, L> Ended<'w, D, L> {
     {
         let Ended {
             fault,
+            refusal,
             memory,
             disk,
             header,
@@ -175,6 +354,7 @@ impl<'w, D, L> Ended<'w, D, L> {
             status: cause.status(),
             cause,
             fault,
+            refusal,
             memory,
             disk,
             header,

@@ -1,14 +1,19 @@
-//! The commands of the server, over a bay that gives their disks and clients. The top call `run`
-//! reads the words of a command line, executes the command and prints one line. Its contract is the
-//! server's promise: what the clients were put are the answers of one plain disk that was asked
-//! their operations one after the other, and each status has its cause.
+//! The commands of the server, over a bay that gives their disks, keys and clients. The top call
+//! `run` reads the words of a command line, executes the command and prints one line. Its contract
+//! is the server's promise: what the clients were put are the answers of one plain disk that was
+//! asked their operations one after the other, and each status has its cause. That plain disk is
+//! the disk as it is, or the content that an encrypted volume on it stands for under a passphrase.
 #![tactic(auto)]
 
 mod commands;
 mod connection;
 mod ended;
+mod making;
+mod opening;
 mod port;
+mod refusal_text;
 mod serving;
+mod sessions;
 mod showing;
 mod text;
 
@@ -19,3 +24,5 @@ pub use ended::{Cause, Ended, Failing, Fit, Pass};
 pub use header_report::FaultText;
 pub use luks_store::StoreFault;
 pub use nbd_session::{Ending, SessionEnd};
+pub use refusal_text::RefusalText;
+pub use volume_opening::Refusal;

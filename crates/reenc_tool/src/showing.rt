@@ -1,8 +1,9 @@
 ghost use Rattle.std.specs.Prelude.{◌≡◌, [], option_map, string_bytes};
-ghost use Rattle.command_line.specs.Commands.{IsAtomSize, showing};
+ghost use Rattle.command_line.specs.Commands.{showing};
+ghost use Rattle.command_line.specs.Values.{IsAtomSize};
 ghost use Rattle.header_report.specs.Examinations.{seen};
 ghost use Rattle.reenc_tool.specs.Outcomes.{Outcome, outcome_of};
-ghost use Rattle.reenc_tool.specs.Promise.{HasNoOther};
+ghost use Rattle.reenc_tool.specs.Promise.{HasNoPass};
 ghost use Rattle.reenc_tool.specs.Showing.{HasShown, report_in, shown};
 ghost use Rattle.reenc_tool.specs.Status.{status_of};
 
@@ -22,7 +23,7 @@ fn shown<'w, D: Disk, L>(
     told: Result<String, StoreFault>,
 ) -> (Ended<'w, D, L>, Option<String>)
     ensures status { result.0.status ≡ status_of result.0.cause }
-    ensures other { HasNoOther result.0.header result.0.pass result.0.demo }
+    ensures pass { HasNoPass result.0.pass result.0.demo }
     ensures outcome { outcome_of result.0 ≡ shown disk (D.device disk).faults (seen told) }
     ensures report { option_map (λ text. string_bytes text) result.1 ≡ report_in (seen told) }
 {
@@ -34,6 +35,7 @@ fn shown<'w, D: Disk, L>(
         status: cause.status(),
         cause,
         fault,
+        refusal: None,
         memory: false,
         disk: Some(disk),
         header: None,
@@ -53,7 +55,7 @@ pub fn show<'w, B: Bay>(
 ) -> (Ended<'w, B::Disk, B::Link>, Option<String>)
     requires { IsAtomSize words.now.atom }
     ensures status { result.0.status ≡ status_of result.0.cause }
-    ensures other { HasNoOther result.0.header result.0.pass result.0.demo }
+    ensures pass { HasNoPass result.0.pass result.0.demo }
     ensures shown { HasShown B.Disk.device B.holdings B.asks_reading (showing words.now) bay.old
         bay.new (outcome_of result.0) (option_map (λ text. string_bytes text) result.1) }
 {

@@ -7,8 +7,8 @@ mod notices;
 use file_disk::FileSystem;
 use host_edge::{HostBay, Network};
 use io_edge::{OpenGate, OsSeeds, Seeds, Sink, StdSink};
-use notices::explain;
-use reenc_tool::{Cause, StoreFault, run};
+use notices::{Reason, explain};
+use reenc_tool::{Cause, Ended, run};
 use std::alloc::Global;
 use std::env;
 use std::io::{ErrorKind, Stderr};
@@ -27,7 +27,7 @@ fn main(rt: HostRuntime) -> ExitCode {
     };
     let mut bay = HostBay::new(rt, rt.stdin(), rt.stdout(), rt.stderr());
     let mut seeds = OsSeeds::new(rt);
-    let (cause, fault) = command(
+    let told = command(
         &rt,
         rt.alloc(),
         words.as_slice(),
@@ -35,12 +35,11 @@ fn main(rt: HostRuntime) -> ExitCode {
         &mut seeds,
         &mut out,
     );
-    explain(rt.alloc(), rt.stderr(), cause, &fault);
-    ExitCode::from(cause.status())
+    explain(rt.alloc(), rt.stderr(), &told);
+    ExitCode::from(told.cause.status())
 }
 
-/// Runs the command of the words over the machine's bay, and gives why it ended as it did, and why
-/// no header was read.
+/// Runs the command of the words over the machine's bay, and gives why it ended as it did.
 fn command<'w, W: Threads + Wait + Sync, R: FileSystem + Network + Drop, S: Seeds, O: Sink>(
     rt: &W,
     alloc: Global,
@@ -48,9 +47,18 @@ fn command<'w, W: Threads + Wait + Sync, R: FileSystem + Network + Drop, S: Seed
     bay: &mut HostBay<R>,
     seeds: &mut S,
     out: &mut O,
-) -> (Cause<'w>, Option<StoreFault>) {
-    let ended = run(rt, alloc, words, bay, seeds, out, &OpenGate);
-    (ended.cause, ended.fault)
+) -> Reason<'w> {
+    let Ended {
+        cause,
+        fault,
+        refusal,
+        ..
+    } = run(rt, alloc, words, bay, seeds, out, &OpenGate);
+    Reason {
+        cause,
+        fault,
+        refusal,
+    }
 }
 
 /// Ends before any word was seen: a word that isn't text is a faulty command line.

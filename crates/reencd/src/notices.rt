@@ -1,21 +1,30 @@
-use reenc_tool::{Cause, Failing, FaultText, Fit, StoreFault, explain_words};
+use reenc_tool::{Cause, Failing, FaultText, Fit, Refusal, RefusalText, StoreFault, explain_words};
 use std::alloc::Global;
 use std::io::Stderr;
 
-/// Says on standard error what was wrong with the words of a command, with its disk, or with the
-/// header on it, and how many calls failed. What the system refused was told when it did.
-pub fn explain(alloc: Global, errors: Stderr, cause: Cause<'_>, fault: &Option<StoreFault>) {
-    match cause {
+/// Why a command ended as it did, and why no header was shown or no volume opened.
+#[derive(Drop)]
+pub struct Reason<'w> {
+    pub cause: Cause<'w>,
+    pub fault: Option<StoreFault>,
+    pub refusal: Option<Refusal>,
+}
+
+/// Says on standard error what was wrong with the words of a command, with its disk, with the
+/// header on it or with its passphrase, and how many calls failed. What the system refused was told
+/// when it did.
+pub fn explain(alloc: Global, errors: Stderr, reason: &Reason<'_>) {
+    match reason.cause {
         Cause::Usage { words } => explain_usage(alloc, errors, words),
         Cause::NoFit {
-            what: Fit::Blocks,
-            ..
-        } => {
-            let _ = eprintln!(errors; "reencd: the disk is smaller than one block");
-        }
-        Cause::NoHeader | Cause::Header | Cause::Foreign => explain_header(errors, fault),
+            what,
+            number,
+            limit,
+        } => explain_fit(errors, what, number, limit),
+        Cause::NoHeader | Cause::Header | Cause::Foreign | Cause::NoKey | Cause::WrongState =>
+            explain_volume(errors, reason),
         Cause::Device {
-            failing: Failing::Reading | Failing::Writing,
+            failing: Failing::Reading | Failing::Starting | Failing::Writing,
             faults,
         } => {
             let _ = eprintln!(errors; "reencd: failed calls of the disk: {faults}");
@@ -28,6 +37,9 @@ pub fn explain(alloc: Global, errors: Stderr, cause: Cause<'_>, fault: &Option<S
         Cause::Output { faults } => {
             let _ = eprintln!(errors; "reencd: failed calls of standard output: {faults}");
         }
+        Cause::Seeds { faults } => {
+            let _ = eprintln!(errors; "reencd: failed calls for random bytes: {faults}");
+        }
         Cause::Fine | Cause::Device { .. } | Cause::Memory => {}
     }
 }
@@ -39,9 +51,28 @@ fn explain_usage(alloc: Global, errors: Stderr, words: &[String]) {
     }
 }
 
-/// Says in one line what is wrong with a header.
-fn explain_header(errors: Stderr, fault: &Option<StoreFault>) {
-    if let Some(fault) = fault {
+/// Says in one line what doesn't fit, by the counted number and its limit.
+fn explain_fit(errors: Stderr, what: Fit, number: u64, limit: u64) {
+    let _ = match what {
+        Fit::Area => eprintln!(errors;
+            "reencd: a keyslot of {number} bytes, for which there are {limit} before the data"
+        ),
+        Fit::Json => eprintln!(errors;
+            "reencd: a header's text of {number} bytes, for which there are {limit}"
+        ),
+        Fit::Blocks => eprintln!(errors; "reencd: the disk has no room for a block"),
+        Fit::Passphrase => eprintln!(errors;
+            "reencd: a passphrase of {number} bytes, which are to be 1 to 512"
+        ),
+    };
+}
+
+/// Says in one line what is wrong with a header, or why a volume isn't opened.
+fn explain_volume(errors: Stderr, reason: &Reason<'_>) {
+    if let Some(fault) = &reason.fault {
         let _ = eprintln!(errors; "reencd: header: {}", FaultText(fault));
+    }
+    if let Some(refusal) = &reason.refusal {
+        let _ = eprintln!(errors; "reencd: {}", RefusalText(refusal));
     }
 }

@@ -1,8 +1,8 @@
-use Rattle.std.proofs.Common.{ℕ, List, Option, ◌∙◌, map, ap, sym, subst, option_map}
+use Rattle.std.proofs.Common.{ℕ, ◌∙◌, map, ap, sym, subst, option_map}
 use Rattle.std.specs.Prelude.{string_bytes, vec_len}
 use Rattle.reenc_tool.specs.declared.ended.Cause.{Cause}
 use Rattle.reenc_tool.specs.Ending.{EndsAs}
-use Rattle.reenc_tool.specs.Outcomes.{Outcome, outcome_of}
+use Rattle.reenc_tool.specs.Outcomes.{Outcome}
 use Rattle.reenc_tool.specs.Promise.{Came}
 use Rattle.reenc_tool.specs.Texts.{Prints, said, sessions_in, text_of}
 use Rattle.reenc_tool.proofs.RunLemmas.{same_outcome}
@@ -21,10 +21,13 @@ returns-clause-run g c =
       subst (λ (cause : Cause). EndsAs ended.cause before.faults after.faults cause) (sym is.cause)
           c.print-cause.ensures.cause,
       subst (λ (o : Outcome _ _). Came g.B.Disk.Disk.device g.B.Link.Link.state g.B.Bay.holdings
-          g.B.Bay.asks_disk g.B.Bay.asks_reading g.B.Bay.asks_links
-          (map string_bytes c.args.words.now) c.args.bay.now c.execute-ended.new.bay o report)
-          (same_outcome ended.cause _ _ _ _ _ _ _ _ _ _ (sym is.fault) (sym is.memory)
-          (sym is.disk) (ap (λ links. links.items) (sym is.links))
+          g.B.Bay.asks_disk g.B.Bay.asks_reading g.B.Bay.asks_key g.B.Bay.asks_links
+          (map string_bytes c.args.words.now) (g.R.Seeds.supply c.args.seeds.now)
+          (g.R.Seeds.supply c.execute-ended.new.seeds) c.args.bay.now c.execute-ended.new.bay o
+          report)
+          (same_outcome ended.cause _ _ _ _ _ _ _ _ _ _ _ _ _ _ (sym is.fault)
+          (sym is.refusal) (sym is.memory) (sym is.disk) (sym is.header)
+          (ap (λ links. links.items) (sym is.links))
           (ap (λ ends. map (λ list. list.items) ends.items) (sym is.sessions)))
           c.execute-ended.ensures.came,
       subst (λ (cause : Cause). Prints before after (text_of ended.cause cause

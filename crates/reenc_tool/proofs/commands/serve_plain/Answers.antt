@@ -11,28 +11,32 @@ serve_disk-requires-clause-bound g c =
     c.requires.sessions
 
 pub returns-in-Ok-clause-ended : goal.returns-in-Ok-clause-ended
-returns-in-Ok-clause-ended g c = inr (inr (record {
+returns-in-Ok-clause-ended g c = inr (record {
   blocks = omega (arith, c.atoms.ensures.is);
-  begun = c.in-Ok.links.items;
-  asked = c.in-Ok.ensures.asked;
-  stood = c.in-Ok.ensures.cause;
-  given = record {
-    count = c.in-Ok.ensures.count;
-    fresh = c.in-Ok.ensures.fresh;
-    few = c.in-Ok.ensures.bound;
-  };
-  ended = c.serve_disk.ensures.ended;
-}))
+  linked = inr (record {
+    begun = c.in-Ok.links.items;
+    asked = c.in-Ok.ensures.asked;
+    stood = c.in-Ok.ensures.cause;
+    given = record {
+      count = c.in-Ok.ensures.count;
+      fresh = c.in-Ok.ensures.fresh;
+      few = c.in-Ok.ensures.bound;
+    };
+    came = c.serve_disk.ensures.ended;
+  });
+})
 
 pub returns-in-Err-clause-ended : goal.returns-in-Err-clause-ended
-returns-in-Err-clause-ended g c = inr (inl (record {
+returns-in-Err-clause-ended g c = inr (record {
   blocks = omega (arith, c.atoms.ensures.is);
-  fault = c.in-Err.fault;
-  asked = c.in-Err.ensures.asked;
-  count = c.in-Err.ensures.cause;
-  outcome_is = c.unserved-in-Err.ensures.outcome
-      ∙ ap (unserved_of _ _) c.new-in-Err.ensures.items
-      ∙ ap (λ cause. unserved cause (Some c.args.disk) [])
-      (c.cause_by-cause.ensures
-      ∙ ap (cause_of_fault Listening c.in-Err.fault) c.faults.ensures);
-}))
+  linked = inl (record {
+    fault = c.in-Err.fault;
+    asked = c.in-Err.ensures.asked;
+    count = c.in-Err.ensures.cause;
+    ended = c.unserved-in-Err.ensures.outcome
+        ∙ ap (unserved_of _ _) c.new-in-Err.ensures.items
+        ∙ ap (λ cause. unserved cause (Some c.args.disk) [])
+        (c.cause_by-cause.ensures
+        ∙ ap (cause_of_fault Listening c.in-Err.fault) c.faults.ensures);
+  });
+})

@@ -1,4 +1,4 @@
-use Rattle.std.proofs.Common.{◌+◌, ◌∙◌, true, List, [], ◌++◌, length, take, ap, refl, sym, subst}
+use Rattle.std.proofs.Common.{◌+◌, List, [], ◌++◌, length, take, ap, refl, sym, subst}
 use Rattle.std.proofs.Common.{arith}
 use Rattle.std.proofs.Math.Nat.{mul-suc}
 use Rattle.std.proofs.lemmas.List.{get_or-replicate, length-take}

@@ -1,5 +1,5 @@
 use Rattle.std.proofs.Common.{List, ℕ, ◌∙◌, subst}
-use Rattle.reenc_tool.specs.Texts.{Prints, said}
+use Rattle.reenc_tool.specs.Texts.{Prints}
 use Rattle.reenc_tool.proofs.TextLemmas.{text_of-fault}
 use Rattle.reenc_tool.proofs.text.print.Goals as goal
 

@@ -1,5 +1,5 @@
 use Rattle.std.proofs.Common.{◌≡◌, ℕ, ◌<◌, [], length, slice_index_or}
-use Rattle.reenc_tool.proofs.commands.empty_lists.Given as goal
+use Rattle.reenc_tool.proofs.sessions.empty_lists.Given as goal
 
 abbrev pub invariant-loop-made : goal.invariant-loop-made
 invariant-loop-made l = record {

@@ -1,0 +1,56 @@
+//! Rows on new volumes, each with its outcome, in `data/format.rows`; `tests/models/new_volume.py`
+//! has the same outcomes by another implementation. A line is a row, with a tab between two
+//! columns; a line that is empty or begins with `#` is none. The columns are
+//!
+//! - the outcome: the status and its cause, the text that is printed, how many device calls there
+//!   were, and the SHA-256 of what is left of the disk;
+//! - the words;
+//! - the disk `x`, all of whose bytes are 170: the bytes of an atom, and how many atoms there are;
+//! - the first of the bytes that are drawn, which rise;
+//! - what is left: the bytes that the disk has (`held`), or the oldest or the newest that it may
+//!   have after a stop;
+//! - the numbers of the device calls that fail, of the bay's, and of the seeds'.
+//!
+//! The bay has the disk `x` and the key files `k`, `line`, `empty` and `long`. Prints each row with
+//! another outcome, and how many rows there are.
+#![tactic(auto)]
+
+mod disks;
+mod making;
+
+use anyhow::Result;
+use std::fs;
+use std::process::ExitCode;
+use std::sync::Wait;
+use std::thread::Threads;
+
+/// Whether a row has its outcome.
+fn holds<W: Threads + Wait + Sync>(rt: &HostRuntime, threads: &W, line: &str) -> Result<bool> {
+    let columns: Vec<&str> = line.split('\t').collect(rt.alloc())?;
+    let found = making::outcome(threads, rt.alloc(), columns.as_slice())?;
+    let wanted = columns.first().copied().unwrap_or("");
+    if found.as_str() != wanted {
+        println!(rt; "{line}\n    has the outcome {found}")?;
+    }
+    Ok(found.as_str() == wanted)
+}
+
+fn main(rt: HostRuntime) -> Result<ExitCode> {
+    let text = fs::read_to_string(&rt, "format.rows")?;
+    let mut rows: u64 = 0;
+    let mut failed: u64 = 0;
+    for line in text.as_str().lines() {
+        if !line.is_empty() && !line.starts_with('#') {
+            rows = rows.saturating_add(1);
+            if !holds(&rt, &rt, line)? {
+                failed = failed.saturating_add(1);
+            }
+        }
+    }
+    println!(rt; "{rows} rows, {failed} with another outcome")?;
+    Ok(if failed == 0 {
+        ExitCode::SUCCESS
+    } else {
+        ExitCode::FAILURE
+    })
+}

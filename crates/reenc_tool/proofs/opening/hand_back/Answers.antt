@@ -1,0 +1,18 @@
+use Rattle.std.proofs.Common.{ap, refl}
+use Rattle.joined_disk.specs.Counts.{joint_in}
+use Rattle.joined_disk.specs.Joined.{in_front}
+use Rattle.reenc_tool.proofs.opening.hand_back.Goals as goal
+
+pub returns-clause-back : goal.returns-clause-back
+returns-clause-back g c = record {
+  disk = c.parts-header.result.1;
+  header = c.parts-header.result.0;
+  is = c.ended.ensures.outcome;
+  joint = joint_in c.args.joined;
+  shows = refl;
+  are = record {
+    size = c.args.joined.atom;
+    main = ap g.D.Disk.device c.parts-header.ensures.main;
+    head = ap (in_front g.D.Disk.device c.args.joined.atom) c.parts-header.ensures.head;
+  };
+}

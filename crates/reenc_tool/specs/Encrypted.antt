@@ -1,0 +1,130 @@
+-- What `serve` did on an encrypted volume.
+use Rattle.std.specs.Prelude.{ℕ, ◌≡◌, ◌⊎◌, false, List, [], take, Option, Some, None}
+use Rattle.std.specs.Prelude.{Result, Ok, Err}
+use Rattle.aes_core.specs.declared.cipher.Aes.{Aes}
+use Rattle.bays.specs.Bays.{FaultCounts, Holdings, LeavesAll}
+use Rattle.bays.specs.declared.bay.BayFault.{BayFault}
+use Rattle.bays.specs.Stories.{LinkState}
+use Rattle.command_line.specs.Commands.{Serving}
+use Rattle.header_report.specs.Examinations.{sizes_alone}
+use Rattle.joined_disk.specs.Joined.{Joint, joined_disk}
+use Rattle.sector_cipher.specs.declared.disk.DiskCipher.{DiskCipher}
+use Rattle.sector_disk.specs.Devices.{Device as DiskState}
+use Rattle.volume_machine.specs.Runs.{Happening, IsRun}
+use Rattle.volume_machine.specs.Seals.{Seals, seals_of}
+use Rattle.volume_machine.specs.States.{State}
+use Rattle.volume_opening.specs.Openings.{IsOpenedBy}
+use Rattle.volume_opening.specs.Refusals.{AreOf, IsUnopenedBy}
+use Rattle.volume_opening.specs.Stops.{StandsAlong}
+use Rattle.volume_opening.specs.declared.refusal.Refusal.{Refusal}
+use Rattle.reenc_tool.specs.declared.ended.Failing.TheVariants.{Keying}
+use Rattle.reenc_tool.specs.Linking.{AsksLinks, IsLinked}
+use Rattle.reenc_tool.specs.Outcomes.{Coming, Outcome, cause_of_fault, ended_by, none_came}
+use Rattle.reenc_tool.specs.Outcomes.{unserved}
+use Rattle.reenc_tool.specs.Runs.{HasServed, VolumeKeys}
+use Rattle.reenc_tool.specs.Status.{cause_of_refusal}
+
+-- what asking a bay for a key file does, by its name and the answer
+abbrev pub AsksKey : Type 0 → Type 1
+AsksKey B = B → List ℕ → Result (List ℕ) BayFault → B → Type 0
+
+-- ---- what is handed back
+-- The disks of a volume are handed back, which as one show this, with what came of sessions.
+pub record HandsBack {D L : Type 0} (device : D → DiskState) (shown : DiskState) (came : Coming L)
+    (outcome : Outcome D L) : Type 0 where
+  pub disk : D
+  pub header : Option D
+  pub is : outcome ≡ ended_by came (Some disk) header
+  pub joint : Joint
+  pub shows : joined_disk joint ≡ shown
+  pub are : AreOf device joint header disk
+
+-- ---- sessions
+-- Sessions were served on a volume that was opened, over these links, and its disks are handed
+-- back.
+pub record RanOver {D L : Type 0} (device : D → DiskState) (state : L → LinkState)
+    (start : State VolumeKeys) (seals : Seals) (begun : List L) (outcome : Outcome D L) : Type 0
+  where
+    pub left : DiskState
+    pub came : Coming L
+    pub served : HasServed state start seals left begun came
+    pub back : HandsBack device left came outcome
+
+-- A volume was opened on the disk by the passphrase, and links were asked for. Its blocks are
+-- sealed by ciphers under the key that the passphrase has there. Where the disk told its bytes,
+-- then wherever a run of events stops, as the one of the sessions, each image stands by itself,
+-- under the passphrase, for a content that is allowed.
+pub record HasOpenedVolume {B D L : Type 0} (device : D → DiskState) (state : L → LinkState)
+    (holdings : B → Holdings D) (asks_links : AsksLinks B L) (serve : Serving) (pass : List ℕ)
+    (disk : D) (between new : B) (outcome : Outcome D L) : Type 0 where
+  pub sector : DiskCipher Aes → ℕ
+  pub sealed : DiskCipher Aes → ℕ → List ℕ → List ℕ
+  pub opened : DiskCipher Aes → ℕ → List ℕ → List ℕ
+  pub start : State VolumeKeys
+  pub volume : IsOpenedBy sector sealed opened (device disk) pass 2 start
+  pub stands : (first : List ℕ) → (device disk).values ≡ Some first
+      → (run : List (Happening VolumeKeys)) → IsRun start run
+      → StandsAlong (sizes_alone (device disk)) pass start
+      (seals_of sealed opened start.map.atom start.keys) run
+  pub linked : IsLinked state holdings asks_links serve between new
+      (λ cause links. HandsBack device start.disk (none_came cause links) outcome)
+      (λ begun. RanOver device state start
+      (seals_of sealed opened start.map.atom start.keys) begun outcome)
+
+-- ---- no volume
+-- what a command hands back that opened no volume, of whose disk so many calls failed
+abbrev pub ended_unopened : {D L : Type 0} → Refusal → Option D → D → ℕ → Outcome D L
+ended_unopened refusal header disk faults = record {
+  cause = cause_of_refusal refusal faults;
+  fault = None;
+  refusal = Some refusal;
+  memory = false;
+  disk = Some disk;
+  header = header;
+  links = [];
+  ends = [];
+}
+
+-- No volume was opened, which comes before the links are asked for. The disk is handed back, and so
+-- many of its calls failed.
+pub record HasNoVolume {B D L : Type 0} (device : D → DiskState) (pass : List ℕ) (disk : D)
+    (between new : B) (outcome : Outcome D L) : Type 0 where
+  pub stands : new ≡ between
+  pub refusal : Refusal
+  pub header : Option D
+  pub back : D
+  pub refused : IsUnopenedBy device disk pass refusal header back
+  pub outcome_is : outcome ≡ ended_unopened refusal header back (device back).faults
+
+-- The bay was asked once for the key file and gave none; the disk is handed back as it was.
+pub record HasNoKeyFile {B D L : Type 0} (holdings : B → Holdings D) (asks_key : AsksKey B)
+    (key_file : List ℕ) (disk : D) (between new : B) (outcome : Outcome D L) : Type 0 where
+  pub fault : BayFault
+  pub asked : asks_key between key_file (Err fault) new
+  pub leaves : LeavesAll (holdings between) (holdings new)
+  pub count : FaultCounts fault (holdings between).faults (holdings new).faults
+  pub outcome_is : outcome
+      ≡ unserved (cause_of_fault Keying fault (holdings new).faults) (Some disk) []
+
+-- The bay was asked once for the key file and gave it: the passphrase is all of it, a line feed at
+-- its end too, up to 513 bytes, of which no more than 512 are one.
+pub record HasKeyFile {B D L : Type 0} (device : D → DiskState) (state : L → LinkState)
+    (holdings : B → Holdings D) (asks_key : AsksKey B) (asks_links : AsksLinks B L)
+    (serve : Serving) (key_file : List ℕ) (disk : D) (between new : B) (outcome : Outcome D L) :
+    Type 0 where
+  pub pass : List ℕ
+  pub given : B
+  pub asked : asks_key between key_file (Ok pass) given
+  pub whole : (whole : List ℕ) → (holdings between).keyring key_file ≡ Some whole →
+      pass ≡ take 513 whole
+  pub leaves : LeavesAll (holdings between) (holdings given)
+  pub stood : (holdings given).faults ≡ (holdings between).faults
+  pub ended : HasNoVolume device pass disk given new outcome
+      ⊎ HasOpenedVolume device state holdings asks_links serve pass disk given new outcome
+
+-- what came of the disk that a bay gave
+abbrev pub ServesVolume : {B D L : Type 0} → (D → DiskState) → (L → LinkState) → (B → Holdings D) →
+    AsksKey B → AsksLinks B L → Serving → List ℕ → D → B → B → Outcome D L → Type 0
+ServesVolume device state holdings asks_key asks_links serve key_file disk between new outcome =
+    HasNoKeyFile holdings asks_key key_file disk between new outcome
+    ⊎ HasKeyFile device state holdings asks_key asks_links serve key_file disk between new outcome
