@@ -7,17 +7,22 @@
 needs valgrind callgrind_annotate python3
 truncate -s 64K "$room/disk.img"
 
-# What a client sends that makes COUNT requests of SIZE bytes: KIND SIZE COUNT.
+# What a client sends that makes COUNT requests of SIZE bytes, where chunks are reads that are
+# answered so: KIND SIZE COUNT.
 client_bytes() {
     python3 - "$@" <<'PYTHON'
 import struct, sys
 
 kind, size, count = sys.argv[1], int(sys.argv[2]), int(sys.argv[3])
-text = bytearray(struct.pack(">I", 3) + b"IHAVEOPT" + struct.pack(">II", 1, 0))
+text = bytearray(struct.pack(">I", 3))
+if kind == "chunks":
+    text += b"IHAVEOPT" + struct.pack(">II", 8, 0)
+text += b"IHAVEOPT" + struct.pack(">II", 1, 0)
 body = bytes(range(256)) * (size // 256) if kind == "write" else b""
+number = {"read": 0, "chunks": 0, "write": 1, "zeroes": 6}[kind]
 for cookie in range(count):
-    head = struct.pack(">IHHQQI", 0x25609513, 0, int(kind == "write"), cookie, cookie * size % 65536, size)
-    text += head + body
+    offset = cookie * size % 65536
+    text += struct.pack(">IHHQQI", 0x25609513, 0, number, cookie, offset, size) + body
 text += struct.pack(">IHHQQI", 0x25609513, 0, 2, count, 0, 0)
 sys.stdout.buffer.write(text)
 PYTHON
@@ -35,7 +40,7 @@ count_all() {
 }
 
 echo "instructions a request, and without memset"
-for kind in read write; do
+for kind in read chunks write zeroes; do
     for size in 4096 65536; do
         read -r few few_zeroed < <(count_all "$kind" "$size" 1000)
         read -r many many_zeroed < <(count_all "$kind" "$size" 2000)

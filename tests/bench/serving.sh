@@ -2,31 +2,10 @@
 # Times one client with one request at a time: the program on a file beside nbdkit on a file and in
 # memory, in turn, in one run. It prints microseconds a request, each figure the mean of one job of
 # fio's NBD engine. TURNS (3) and SECONDS_EACH (3) may be set.
-. "$(dirname "$0")/../clients/common.sh"
-needs fio nbdkit python3
+. "$(dirname "$0")/common.sh"
+needs fio
 fio --enghelp 2>/dev/null | grep -qw nbd || { echo "skipped: this fio has no NBD engine"; exit 77; }
-cd "$room" || exit 1
 size=64M
-kit=
-
-end_kit() {
-    [ -z "$kit" ] || kill "$kit"
-    wait "$kit" 2>/dev/null
-    kit=
-}
-trap 'end_kit; clean_up' EXIT
-
-# Starts nbdkit with the plugin and its words, in the foreground on a free port of the machine.
-start_kit() {
-    port=$(python3 -c 'import socket; s = socket.socket(); s.bind(("127.0.0.1", 0)); print(s.getsockname()[1])')
-    nbdkit --foreground --ipaddr 127.0.0.1 --port "$port" "$@" &
-    kit=$!
-    for _ in $(seq 200); do
-        (exec 3<>"/dev/tcp/127.0.0.1/$port") 2>/dev/null && return
-        sleep 0.05
-    done
-    fail "nbdkit did not start"
-}
 
 # Microseconds a request of the server on $port: DIRECTION SIZE.
 time_of() {

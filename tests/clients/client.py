@@ -5,12 +5,13 @@ import socket
 import struct
 
 REQUEST = 0x25609513
-READ, WRITE, DISCONNECT, FLUSH = 0, 1, 2, 3
+READ, WRITE, DISCONNECT, FLUSH, WRITE_ZEROES = 0, 1, 2, 3, 6
+FUA, NO_HOLE = 1, 2
 OPTION_GO, REPLY_ACK, REPLY_INFO = 7, 1, 3
 
 
-def request(kind, cookie, offset=0, length=0):
-    return struct.pack(">IHHQQI", REQUEST, 0, kind, cookie, offset, length)
+def request(kind, cookie, offset=0, length=0, flags=0):
+    return struct.pack(">IHHQQI", REQUEST, flags, kind, cookie, offset, length)
 
 
 class Client:
@@ -55,6 +56,10 @@ class Client:
     def write(self, offset, data):
         self.socket.sendall(request(WRITE, 2, offset, len(data)) + data)
         return self.reply(2)
+
+    def zero(self, offset, length, flags=0):
+        self.socket.sendall(request(WRITE_ZEROES, 5, offset, length, flags))
+        return self.reply(5)
 
     def flush(self):
         self.socket.sendall(request(FLUSH, 3))

@@ -1,6 +1,7 @@
 # What every script of this folder begins with: a folder of its own, a server on a free port, and the
 # words by which it ends. It is sourced.
 set -u
+export PYTHONDONTWRITEBYTECODE=1
 
 here=$(cd "$(dirname "${BASH_SOURCE[0]}")" && pwd)
 reencd=${REENCD:-$here/../../crates/reencd/out/reencd}
@@ -37,21 +38,40 @@ needs() {
     done
 }
 
+# Ends the script as skipped where no Python has libnbd; $python is one that does.
+needs_libnbd() {
+    for python in python3 /usr/bin/python3; do
+        "$python" -c "import nbd" 2>/dev/null && return
+    done
+    echo "skipped: Python has no module nbd"
+    exit 77
+}
+
 # Says what was seen, and fails where it isn't what was wanted: WHAT SEEN WANTED.
 expect() {
     echo "$1: $2"
     [ "$2" = "$3" ] || fail "$1 is not $3"
 }
 
-# Starts a server of DISK in atoms of ATOM bytes for so many SESSIONS on a free port. Its process is
-# $server, its port $port, and what it prints is in $room/stdout and $room/stderr.
+# Starts a server of DISK as it is, in atoms of ATOM bytes, for so many SESSIONS on a free port. Its process
+# is $server, its port $port, and what it prints is in $room/stdout and $room/stderr.
 serve() {
+    serve_by "$1" --plain --atom "$2" --sessions "$3"
+}
+
+# Starts a server of the volume on DISK under the passphrase in KEY_FILE: DISK KEY_FILE ATOM SESSIONS.
+serve_under() {
+    serve_by "$1" --key-file "$2" --atom "$3" --sessions "$4"
+}
+
+# Starts a server by these words.
+serve_by() {
     : >"$room/stdout"
     : >"$room/stderr"
-    "${tracer[@]}" "$reencd" serve "$1" --plain --atom "$2" --listen 127.0.0.1:0 --sessions "$3" \
+    "${tracer[@]}" "$reencd" serve "$@" --listen 127.0.0.1:0 \
         >"$room/stdout" 2>"$room/stderr" </dev/null &
     server=$!
-    for _ in $(seq 200); do
+    for _ in $(seq 1200); do
         port=$(sed -n 's/^reencd: listening on .*:\([0-9]*\)$/\1/p' "$room/stderr")
         [ -n "$port" ] && return
         kill -0 "$server" 2>/dev/null || break

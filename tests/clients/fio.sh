@@ -9,5 +9,7 @@ fio --name=verify --ioengine=nbd --uri="nbd://127.0.0.1:$port" --rw=randwrite --
     --size=64M --iodepth=8 --verify=crc32c --verify_fatal=1 --fsync=64 --output-format=terse --terse-version=3 >seen 2>&1
 status=$?
 expect "status of fio" "$status" 0
-cut -d ';' -f 3,5,6,7,8,47,48,49 seen
+grep ';' seen >figures
+cut -d ';' -f 3,5,6,7,8,47,48,49 figures
+[ "$(cut -d ';' -f 6 figures)" -gt 0 ] || fail "fio read nothing to verify"
 stop TERM

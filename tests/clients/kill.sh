@@ -1,5 +1,5 @@
-# A flush is answered once the file was synced, which is seen where strace is there; and what was written
-# outlives a kill of the server: a second one on the same file reads it.
+# A flush, and zeroes with FUA, are answered once the file was synced, which is seen where strace is
+# there; and what was written outlives a kill of the server: a second one on the same file reads it.
 . "$(dirname "$0")/common.sh"
 needs python3 cmp
 calls=$room/calls
@@ -17,7 +17,7 @@ python3 - "$port" "$room/wanted" "$here" "$calls" <<'PYTHON' || fail "the client
 import sys
 
 sys.path.insert(0, sys.argv[3])
-from client import Client
+from client import FUA, Client
 
 calls = sys.argv[4]
 
@@ -28,18 +28,26 @@ def syncs():
         return sum("sync" in line and line.endswith(" = 0\n") for line in lines)
 
 
+def asks(what, call, *words):
+    """What is asked is done, and the file was synced before that was answered."""
+    before = syncs() if calls else 0
+    assert call(*words) == 0, what
+    if calls:
+        made = syncs() - before
+        assert made > 0, f"{what} answered without a sync"
+        print(f"syncs before {what} answered:", made)
+
+
 client = Client(int(sys.argv[1]))
 wanted = open(sys.argv[2], "rb").read()
 for at in range(0, len(wanted), 65536):
     assert client.write(at, wanted[at : at + 65536]) == 0
-before = syncs() if calls else 0
-assert client.flush() == 0
+asks("the flush is", client.flush)
 print("wrote and flushed", len(wanted), "bytes")
-if calls:
-    made = syncs() - before
-    assert made > 0, "the flush is answered without a sync"
-    print("syncs before the flush was answered:", made)
+asks("zeroes with FUA are", client.zero, 1 << 20, 3 << 20, FUA)
+print("wrote", 3 << 20, "zeroes")
 PYTHON
+head -c 3145728 /dev/zero | dd of="$room/wanted" bs=1M seek=1 conv=notrunc status=none
 stop KILL
 tracer=()
 echo "killed the server"

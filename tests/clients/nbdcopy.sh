@@ -1,4 +1,5 @@
-# nbdcopy in and out again over one connection: the content is the same.
+# nbdcopy in and out again over one connection: the content is the same, also that of a file with
+# holes, which it asks to be zeroes.
 . "$(dirname "$0")/common.sh"
 needs nbdcopy cmp
 head -c 20000256 /dev/urandom >"$room/wanted"
@@ -11,4 +12,10 @@ echo "copied $(stat -c %s "$room/wanted") bytes in"
 nbdcopy --connections=1 "$uri" "$room/seen" || fail "nbdcopy out"
 cmp "$room/wanted" "$room/seen" || fail "other content came out"
 echo "copied them out again"
+truncate -s 20000256 "$room/holes"
+printf 'reencd' | dd of="$room/holes" bs=1 seek=9000000 conv=notrunc status=none
+nbdcopy -v --connections=1 --flush "$room/holes" "$uri" 2>"$room/calls" || fail "nbdcopy of holes"
+cmp "$room/holes" "$room/disk.img" || fail "the file has other content than the holes"
+grep -q 'nbd_aio_zero: enter' "$room/calls" || fail "nbdcopy asked for no zeroes"
+echo "copied a file with holes in"
 stop TERM

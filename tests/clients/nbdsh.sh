@@ -1,9 +1,6 @@
 # libnbd in Python: each request, what is out of range, and a session over standard input and output.
 . "$(dirname "$0")/common.sh"
-for python in python3 /usr/bin/python3 none; do
-    [ "$python" != none ] || { echo "skipped: Python has no module nbd"; exit 77; }
-    "$python" -c "import nbd" 2>/dev/null && break
-done
+needs_libnbd
 truncate -s 64M "$room/disk.img"
 serve "$room/disk.img" 512 1
 "$python" -m nbd -u "nbd://127.0.0.1:$port" -c - <<'PYTHON' || fail "libnbd"
@@ -12,7 +9,7 @@ import errno
 BLOCK = bytes(range(256)) * 2
 assert h.get_size() == 64 << 20, h.get_size()
 assert h.can_flush() and h.can_fua() and h.can_multi_conn() and not h.is_read_only()
-assert not h.can_trim() and not h.can_zero()
+assert h.can_zero() and h.can_df() and not h.can_trim() and not h.can_fast_zero() and not h.can_cache()
 print("size and flags")
 assert h.pread(512, 0) == bytes(512)
 h.pwrite(BLOCK, 512)

@@ -15,4 +15,12 @@ cat "$room/seen"
 qemu-img convert -f raw -O raw "nbd://127.0.0.1:$port" "$room/out.img" || fail "qemu-img convert"
 cmp "$room/disk.img" "$room/out.img" || fail "the copy is another"
 echo "the copy is the disk"
+head -c 16777216 /dev/urandom >"$room/disk.img"
+truncate -s 16M "$room/in.img"
+printf 'reencd' | dd of="$room/in.img" bs=1 seek=8388608 conv=notrunc status=none
+qemu-img -T nbd_send_request convert -n -f raw -O raw "$room/in.img" "nbd://127.0.0.1:$port" \
+    2>"$room/trace" || fail "qemu-img convert into the export"
+cmp "$room/in.img" "$room/disk.img" || fail "the disk is another"
+grep -q 'type = 6 ' "$room/trace" || fail "qemu-img asked for no zeroes"
+echo "the disk is the copy"
 stop TERM

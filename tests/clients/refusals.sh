@@ -41,7 +41,7 @@ mkdir folder
     explains "error: this command is not built yet" resume disk.img --key-file key
     refuses 2 "fault 2 Device" "reencd: missing.img: No such file or directory" $(plain missing.img stdio)
     refuses 2 "fault 2 Device" "reencd: folder: Is a directory" $(plain folder stdio)
-    refuses 8 "fault 8 NoFit" "reencd: the disk is smaller than one block" $(plain small.img stdio)
+    refuses 8 "fault 8 NoFit" "reencd: the disk has no room for a block" $(plain small.img stdio)
     refuses 2 "fault 2 Device" "reencd: nowhere: invalid socket address" $(plain disk.img nowhere)
     refuses 2 "fault 2 Device" "reencd: 127.0.0.1:65536: invalid port value" $(plain disk.img 127.0.0.1:65536)
     refuses 2 "fault 2 Device" "reencd: 192.0.2.1:10809: Cannot assign requested address" $(plain disk.img 192.0.2.1:10809)
