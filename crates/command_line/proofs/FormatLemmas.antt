@@ -1,20 +1,19 @@
 -- Plain words of `format` ask for what they say.
 use Rattle.std.proofs.Common.{◌≡◌, ◌∙◌, true, false, List, [], ◌∷◌, ◌++◌, inl, inr}
-use Rattle.std.proofs.Common.{refl, sym, ap, subst, Option, Some, None, codes}
+use Rattle.std.proofs.Common.{refl, sym, ap, subst, Option, Some, codes}
 use Rattle.std.proofs.lemmas.Option.{option_and_then_some}
 use Rattle.std.specs.List.{fold}
-use Rattle.std.specs.Str.{bytes_eq}
 use Rattle.clap.specs.Faults.{check_fault, defaults_fault, walk_fault}
 use Rattle.clap.specs.Simple.{filled_from, help_rule}
 use Rattle.clap.specs.Takes.{is_given}
 use Rattle.clap.specs.Walk.{Row, Rule, Text, first_of, walked, with_default}
 use Rattle.command_line.specs.Commands.{asked, command_in, formats}
-use Rattle.command_line.specs.Formats.{Formatting, formatting_by, formatting_in}
+use Rattle.command_line.specs.Formats.{Formatting, formatting_by}
 use Rattle.command_line.specs.Plain.{IsFormatPiece, Piece, TakesFormat, all_spelt, disk, flag}
-use Rattle.command_line.specs.Plain.{name_of, valued, value_in}
+use Rattle.command_line.specs.Plain.{valued, value_in}
 use Rattle.command_line.specs.Product.{format_rules, product}
 use Rattle.command_line.proofs.LeafLemmas.{HaveFineDefaults, NoDefault, all_have, fine_defaults}
-use Rattle.command_line.proofs.LeafLemmas.{first_value, is_taken, is_there, none_named}
+use Rattle.command_line.proofs.LeafLemmas.{first_value, is_taken, is_there}
 use Rattle.command_line.proofs.NameLemmas.{IsNamed, all_rules, asks}
 use Rattle.command_line.proofs.PieceLemmas.{HasPiece, leaf_of}
 use Rattle.command_line.proofs.RowLemmas.{rows_for}
@@ -50,27 +49,14 @@ format_has (valued name value) (plain, is) = elim is [
   | inr (inr (inr (inr (inr (inr (inr (inl e))))))) ↦
       subst (λ n. HasPiece format_built (valued n value)) (sym e)
       (plain, record { dashes = refl; long = refl }, (false, refl, refl))
-  | inr (inr (inr (inr (inr (inr (inr (inr e))))))) ↦
+  | inr (inr (inr (inr (inr (inr (inr (inr (inl e)))))))) ↦
+      subst (λ n. HasPiece format_built (valued n value)) (sym e)
+      (plain, record { dashes = refl; long = refl }, (false, refl, refl))
+  | inr (inr (inr (inr (inr (inr (inr (inr (inr e)))))))) ↦
       subst (λ n. HasPiece format_built (valued n value)) (sym e)
       (plain, record { dashes = refl; long = refl }, (false, refl, refl))
 ]
 format_has (flag name) is = absurd is
-
-no_header : (piece : Piece) → IsFormatPiece piece →
-    bytes_eq (name_of piece) (codes "header") ≡ false
-no_header (disk word) plain = refl
-no_header (valued name value) (plain, is) = elim is [
-  | inl e ↦ rw e refl
-  | inr (inl e) ↦ rw e refl
-  | inr (inr (inl e)) ↦ rw e refl
-  | inr (inr (inr (inl e))) ↦ rw e refl
-  | inr (inr (inr (inr (inl e)))) ↦ rw e refl
-  | inr (inr (inr (inr (inr (inl e))))) ↦ rw e refl
-  | inr (inr (inr (inr (inr (inr (inl e)))))) ↦ rw e refl
-  | inr (inr (inr (inr (inr (inr (inr (inl e))))))) ↦ rw e refl
-  | inr (inr (inr (inr (inr (inr (inr (inr e))))))) ↦ rw e refl
-]
-no_header (flag name) is = absurd is
 
 -- no option has a default of its own
 format_kept : (name : Text) → NoDefault name format_built
@@ -136,11 +122,10 @@ unfolding format_rules
 format_checked rows has_disk has_key = rw (has_disk, has_key) refl
 
 format_command : (rows : List Row) (words : Formatting) →
-    first_of (codes "header") rows ≡ None →
     formatting_by (λ name. first_of name rows) ≡ Some words →
     command_in (codes "format") rows ≡ Some (formats words)
-unfolding command_in formatting_in
-format_command rows words header is = rw (header, is) refl
+unfolding command_in
+format_command rows words is = rw is refl
 
 -- the disk and the key file are there
 record HasBoth (value : Text → Option Text) : Type 0 where
@@ -174,9 +159,7 @@ format_taken pieces words is =
     let name = is_there format_built pieces (codes "disk") both.disk both.disk_is in
     let key = is_there format_built pieces (codes "key-file") both.key_file
     both.key_file_is in
-    let header = none_named IsFormatPiece (codes "header") pieces no_header is.known in
-    let command = format_command rows words (values (codes "header") ∙ header)
-    (ap formatting_by (fun_ext values) ∙ is.values_are) in
+    let command = format_command rows words (ap formatting_by (fun_ext values) ∙ is.values_are) in
     asks (codes "format") format_built (all_spelt pieces) (formats words) format_named
     (taken.fine (format_checked rows name.given key.given))
     (ap (command_in (codes "format")) taken.rows ∙ command)

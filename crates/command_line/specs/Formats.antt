@@ -1,6 +1,6 @@
 -- What the words of `format` ask for, by the values that they have.
-use Rattle.std.specs.Prelude.{ℕ, ◌≡◌, ◌-◌, ◌%◌, ◌^◌, ◌<◌, ◌≤◌, ◌==◌, ◌&&◌, ◌||◌, Bool, true, List}
-use Rattle.std.specs.Prelude.{codes, length, Option, Some, None, option_map}
+use Rattle.std.specs.Prelude.{ℕ, ◌≡◌, ◌-◌, ◌%◌, ◌^◌, ◌<◌, ◌≤◌, ◌==◌, ◌&&◌, ◌||◌, Bool, true, false}
+use Rattle.std.specs.Prelude.{List, codes, length, Option, Some, None, is_some, option_map}
 use Rattle.std.specs.Prelude.{if◌then◌else◌}
 use Rattle.clap.specs.Walk.{Row, Text, first_of}
 use Rattle.luks_bin.specs.Fields.{is_size}
@@ -9,12 +9,14 @@ use Rattle.luks_json.specs.Segments.{is_sector_size}
 use Rattle.luks_json.specs.declared.names.Cipher.{Cipher}
 use Rattle.luks_json.specs.declared.names.Cipher.TheVariants.{AesXtsPlain64, AesCbcEssivSha256}
 use Rattle.uuid.specs.Text.{parsed}
-use Rattle.command_line.specs.Values.{◌>>=◌, IsAtomSize, atom_or_default, is_given, number_or}
+use Rattle.command_line.specs.Values.{◌>>=◌, IsAtomSize, atom_or_default, number_or}
 use Rattle.command_line.specs.declared.formatting.Format.{Format}
 
--- a new volume on a disk, in atoms of so many bytes, that a key file's passphrase opens
+-- a new volume on a disk, in atoms of so many bytes, that a key file's passphrase opens; its header
+-- lies on a disk of its own, where one is named
 pub record Formatting : Type 0 where
   pub disk : Text
+  pub header : Option Text
   pub key_file : Text
   pub atom : ℕ
   pub cipher : Cipher
@@ -28,6 +30,7 @@ pub record Formatting : Type 0 where
 abbrev pub formatting : Format → Formatting
 formatting words = record {
   disk = words.disk.now;
+  header = option_map (λ word. word.now) words.header;
   key_file = words.key_file.now;
   atom = words.atom;
   cipher = words.cipher;
@@ -66,10 +69,15 @@ sector_size_or_default atom word = do
   size ← number_or 512 512 4096 word
   if is_sector_size size && (atom % size == 0) then Some size else None
 
+-- data begin behind the header, or at once where that lies on a disk of its own
+unfoldable pub default_data_offset : Bool → ℕ
+default_data_offset true = 0
+default_data_offset false = 16777216
+
 -- the value of `--data-offset`, or its default: whole pages
-unfoldable pub data_offset_or_default : Option Text → Option ℕ
-data_offset_or_default word = do
-  offset ← number_or 16777216 0 (2 ^ 64 - 1) word
+unfoldable pub data_offset_or_default : Bool → Option Text → Option ℕ
+data_offset_or_default detached word = do
+  offset ← number_or (default_data_offset detached) 0 (2 ^ 64 - 1) word
   if offset % 4096 == 0 then Some offset else None
 
 -- the value of `--metadata-size`, or its default: one of the nine sizes of a header's copy
@@ -93,12 +101,14 @@ formatting_by value = do
   cipher ← cipher_or_default (value (codes "cipher"))
   key_size ← key_size_or_default cipher (value (codes "key-size"))
   sector_size ← sector_size_or_default atom (value (codes "sector-size"))
-  data_offset ← data_offset_or_default (value (codes "data-offset"))
+  data_offset ←
+      data_offset_or_default (is_some (value (codes "header"))) (value (codes "data-offset"))
   iterations ← number_or 100000 1000 268435456 (value (codes "iterations"))
   metadata_size ← metadata_size_or_default (value (codes "metadata-size"))
   identifier ← identifier_in (value (codes "uuid"))
   Some (record {
     disk = disk;
+    header = value (codes "header");
     key_file = key_file;
     atom = atom;
     cipher = cipher;
@@ -110,10 +120,8 @@ formatting_by value = do
     identifier = identifier;
   })
 
--- its header lies on its own disk; no other is built yet
-unfoldable pub formatting_in : List Row → Option Formatting
-formatting_in rows = if is_given (codes "header") rows then None
-    else formatting_by (λ name. first_of name rows)
+abbrev pub formatting_in : List Row → Option Formatting
+formatting_in rows = formatting_by (λ name. first_of name rows)
 
 -- the values of `format` are within their bounds
 pub record IsFormatting (words : Formatting) : Type 0 where

@@ -55,9 +55,9 @@ AreOnce (piece ∷ pieces) =
 abbrev pub IsFormatPiece : Piece → Type 0
 IsFormatPiece (disk word) = IsPlain word
 IsFormatPiece (valued name value) = IsPlain value × ((name ≡ codes "key-file")
-    ⊎ (name ≡ codes "atom") ⊎ (name ≡ codes "cipher") ⊎ (name ≡ codes "key-size")
-    ⊎ (name ≡ codes "sector-size") ⊎ (name ≡ codes "data-offset") ⊎ (name ≡ codes "iterations")
-    ⊎ (name ≡ codes "metadata-size") ⊎ (name ≡ codes "uuid"))
+    ⊎ (name ≡ codes "header") ⊎ (name ≡ codes "atom") ⊎ (name ≡ codes "cipher")
+    ⊎ (name ≡ codes "key-size") ⊎ (name ≡ codes "sector-size") ⊎ (name ≡ codes "data-offset")
+    ⊎ (name ≡ codes "iterations") ⊎ (name ≡ codes "metadata-size") ⊎ (name ≡ codes "uuid"))
 IsFormatPiece (flag name) = ⊥
 
 abbrev pub IsServePiece : Piece → Type 0

@@ -6,6 +6,7 @@ ghost use Rattle.command_line.specs.Formats.{
   IsFormatting,
   cipher_or_default,
   data_offset_or_default,
+  default_data_offset,
   default_key_size,
   formatting,
   formatting_in,
@@ -19,7 +20,7 @@ ghost use Rattle.command_line.specs.Values.{Reads};
 ghost use Rattle.luks_bin.specs.Fields.{is_size};
 ghost use Rattle.luks_json.specs.Segments.{is_sector_size};
 
-use crate::values::{Refused, atom_or_default, is_given, number_or, required, text_of};
+use crate::values::{Refused, atom_or_default, number_or, required, text_of};
 use clap::ArgMatches;
 use luks_bin::is_header_size;
 use luks_json::Cipher;
@@ -29,6 +30,8 @@ use uuid::Uuid;
 #[derive(Clone, Copy, Debug)]
 pub struct Format<'a> {
     pub disk: &'a str,
+    /// The disk that is to have its header. None where that lies on `disk`, in front of the data.
+    pub header: Option<&'a str>,
     /// The file of the passphrase that is to open it.
     pub key_file: &'a str,
     /// The bytes of an atom: 512 or 4096.
@@ -133,14 +136,22 @@ fn sector_size_or_default(matches: &ArgMatches<'_>, atom: u32) -> Result<u32, Re
     Ok(size as u32)
 }
 
+#[tactic(auto, unfolding(crate::specs::Formats::default_data_offset))]
+fn default_data_offset(detached: bool) -> u64
+    ensures { result ≡ default_data_offset detached }
+{
+    if detached { 0 } else { 16_777_216 }
+}
+
 #[tactic(auto, unfolding(crate::specs::Formats::data_offset_or_default))]
-fn data_offset_or_default(matches: &ArgMatches<'_>) -> Result<u64, Refused>
-    ensures reads { Reads (λ offset. offset) result
-        (data_offset_or_default (first_of (codes "data-offset") (rows_of (found_of matches.now)))) }
+fn data_offset_or_default(matches: &ArgMatches<'_>, detached: bool) -> Result<u64, Refused>
+    ensures reads { Reads (λ offset. offset) result (data_offset_or_default detached
+        (first_of (codes "data-offset") (rows_of (found_of matches.now)))) }
     ensures page { IfOk result (λ offset. offset % 4096 ≡ 0) }
 {
     let refused = Refused("--data-offset takes a multiple of 4096");
-    let offset = number_or(matches, "data-offset", 16_777_216, 0, u64::MAX, refused)?;
+    let default = default_data_offset(detached);
+    let offset = number_or(matches, "data-offset", default, 0, u64::MAX, refused)?;
     if offset % 4096 != 0 {
         return Err(refused);
     }
@@ -183,21 +194,19 @@ fn identifier_in(matches: &ArgMatches<'_>) -> Result<Option<Uuid>, Refused>
     }
 }
 
-#[tactic(auto, unfolding(crate::specs::Formats::formatting_in, crate::specs::Formats::formatting_by,))]
+#[tactic(auto, unfolding(crate::specs::Formats::formatting_by))]
 pub fn read_format<'a>(matches: &ArgMatches<'a>) -> Result<Format<'a>, Refused>
     ensures reads { Reads formatting result (formatting_in (rows_of (found_of matches.now))) }
     ensures bounded { IfOk result (λ words. IsFormatting (formatting words)) }
 {
-    if is_given(matches, "header") {
-        return Err(Refused("format takes no --header yet"));
-    }
     let disk = required(matches, "disk")?;
+    let header = text_of(matches, "header");
     let key_file = required(matches, "key-file")?;
     let atom = atom_or_default(matches)?;
     let cipher = cipher_or_default(matches)?;
     let key_size = key_size_or_default(matches, cipher)?;
     let sector_size = sector_size_or_default(matches, atom)?;
-    let data_offset = data_offset_or_default(matches)?;
+    let data_offset = data_offset_or_default(matches, header.is_some())?;
     let rounds = Refused("--iterations takes a number from 1000 to 268435456");
     let iterations = number_or(matches, "iterations", 100_000, 1000, 268_435_456, rounds)?;
     let metadata_size = metadata_size_or_default(matches)?;
@@ -207,6 +216,7 @@ pub fn read_format<'a>(matches: &ArgMatches<'a>) -> Result<Format<'a>, Refused>
     };
     Ok(Format {
         disk,
+        header,
         key_file,
         atom,
         cipher,

@@ -83,7 +83,12 @@ fn format<'a>(alloc: Global) -> Result<Command<'a>, AllocError>
 {
     let items = [
         Item::Disk,
-        HEADER,
+        Item::Valued {
+            name: "header",
+            value: "DISK",
+            help: "The disk that is to have the header [default: the same disk]",
+            required: false,
+        },
         ATOM,
         KEY_FILE,
         CIPHER,

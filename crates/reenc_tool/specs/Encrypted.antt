@@ -20,7 +20,6 @@ use Rattle.volume_opening.specs.declared.refusal.Refusal.{Refusal}
 use Rattle.reenc_tool.specs.declared.ended.Failing.TheVariants.{Keying}
 use Rattle.reenc_tool.specs.Linking.{AsksLinks, IsLinked}
 use Rattle.reenc_tool.specs.Outcomes.{Coming, Outcome, cause_of_fault, ended_by, none_came}
-use Rattle.reenc_tool.specs.Outcomes.{unserved}
 use Rattle.reenc_tool.specs.Runs.{HasServed, VolumeKeys}
 use Rattle.reenc_tool.specs.Status.{cause_of_refusal}
 
@@ -96,15 +95,18 @@ pub record HasNoVolume {B D L : Type 0} (device : D → DiskState) (pass : List 
   pub refused : IsUnopenedBy device disk pass refusal header back
   pub outcome_is : outcome ≡ ended_unopened refusal header back (device back).faults
 
--- The bay was asked once for the key file and gave none; the disk is handed back as it was.
+-- The bay was asked once for the key file and gave none; the disk is handed back as it was, and
+-- that of a header, where one was given.
 pub record HasNoKeyFile {B D L : Type 0} (holdings : B → Holdings D) (asks_key : AsksKey B)
-    (key_file : List ℕ) (disk : D) (between new : B) (outcome : Outcome D L) : Type 0 where
+    (key_file : List ℕ) (disk : D) (header : Option D) (between new : B) (outcome : Outcome D L) :
+    Type 0 where
   pub fault : BayFault
   pub asked : asks_key between key_file (Err fault) new
   pub leaves : LeavesAll (holdings between) (holdings new)
   pub count : FaultCounts fault (holdings between).faults (holdings new).faults
   pub outcome_is : outcome
-      ≡ unserved (cause_of_fault Keying fault (holdings new).faults) (Some disk) []
+      ≡ ended_by (none_came (cause_of_fault Keying fault (holdings new).faults) []) (Some disk)
+      header
 
 -- The bay was asked once for the key file and gave it: the passphrase is all of it, a line feed at
 -- its end too, up to 513 bytes, of which no more than 512 are one.
@@ -126,5 +128,5 @@ pub record HasKeyFile {B D L : Type 0} (device : D → DiskState) (state : L →
 abbrev pub ServesVolume : {B D L : Type 0} → (D → DiskState) → (L → LinkState) → (B → Holdings D) →
     AsksKey B → AsksLinks B L → Serving → List ℕ → D → B → B → Outcome D L → Type 0
 ServesVolume device state holdings asks_key asks_links serve key_file disk between new outcome =
-    HasNoKeyFile holdings asks_key key_file disk between new outcome
+    HasNoKeyFile holdings asks_key key_file disk None between new outcome
     ⊎ HasKeyFile device state holdings asks_key asks_links serve key_file disk between new outcome

@@ -1,6 +1,6 @@
 -- What `format` did.
 use Rattle.std.specs.Prelude.{ℕ, ◌≡◌, ◌⊎◌, ◌≤◌, List, [], ◌∷◌, ◌++◌, length, take, codes}
-use Rattle.std.specs.Prelude.{Option, Some, None, Result, Ok, Err}
+use Rattle.std.specs.Prelude.{true, Option, Some, None, is_some, Result, Ok, Err}
 use Rattle.base_terms.specs.Causes.{HasCause}
 use Rattle.base_terms.specs.declared.failed.Failed.{Failed}
 use Rattle.bays.specs.Bays.{Holdings, LeavesAll, LeavesOtherDisks}
@@ -8,23 +8,26 @@ use Rattle.command_line.specs.Commands.{asked, formats}
 use Rattle.command_line.specs.Formats.{Formatting}
 use Rattle.format_disk.specs.Calls.{WritesVolume}
 use Rattle.format_disk.specs.Fitting.{IsUnfit, draw_of}
-use Rattle.format_disk.specs.Rests.{KeepsFrom, end_of_front}
+use Rattle.format_disk.specs.Rests.{KeepsFrom, end_of_front, front_room}
 use Rattle.format_disk.specs.Volumes.{IsNewVolume}
 use Rattle.format_disk.specs.Written.{written_over}
 use Rattle.format_disk.specs.declared.fault.FormatFault.{FormatFault}
 use Rattle.format_disk.specs.declared.volume.NewVolume.{NewVolume}
 use Rattle.header_report.specs.Examinations.{sizes_alone}
+use Rattle.disk_sizes.specs.declared.Sizes.{Sizes}
 use Rattle.io_edge.specs.Supply.{Draws, Supply}
+use Rattle.joined_disk.specs.Joined.{Joint, begun_joint, joined_disk, used_atoms}
 use Rattle.luks_format.specs.declared.wish.Wish.{Wish}
 use Rattle.new_volumes.specs.Standing.{content_of}
 use Rattle.reenc_recovery.specs.Images.{StandsFor}
 use Rattle.sector_disk.specs.Devices.{Device as DiskState, failed_call, succeeded}
 use Rattle.uuid.specs.Text.{hyphenated_text, lower}
+use Rattle.volume_opening.specs.Refusals.{AreOf}
 use Rattle.reenc_tool.specs.declared.ended.Cause.{Cause}
 use Rattle.reenc_tool.specs.declared.ended.Cause.TheVariants.{Device, Fine, Seeds}
 use Rattle.reenc_tool.specs.declared.ended.Failing.TheVariants.{Writing}
 use Rattle.reenc_tool.specs.Encrypted.{AsksKey, HasNoKeyFile}
-use Rattle.reenc_tool.specs.Outcomes.{AsksDisk, HasNoDisk, Outcome, unserved}
+use Rattle.reenc_tool.specs.Outcomes.{AsksDisk, HasNoDisk, Outcome, ended_by, none_came, unserved}
 use Rattle.reenc_tool.specs.Status.{cause_of_format}
 
 -- what the words wish of a new volume
@@ -37,6 +40,7 @@ wish_of words = record {
   iterations = words.iterations;
   metadata_size = words.metadata_size;
   identifier = words.identifier;
+  detached = is_some words.header;
 }
 
 -- the line of a volume that was made, by its identifier
@@ -62,13 +66,13 @@ pub record HasNoSeed {B D L : Type 0} (supply now : Supply) (old new : B) (outco
   pub outcome_is : outcome ≡ unserved (Seeds now.faults) None []
 
 -- ---- the volume
--- No volume was made: memory was wanted, or it is the first that doesn't fit. The disk is handed
--- back as it was.
-pub record IsUnmade {D L : Type 0} (device : D → DiskState) (wish : Wish) (pass seed : List ℕ)
-    (disk : D) (outcome : Outcome D L) (report : Option (List ℕ)) : Type 0 where
+-- No volume was made: memory was wanted, or it is the first that doesn't fit. The disk is as it was.
+pub record IsUnmade {X : Type 0} (device : X → DiskState) (wish : Wish) (sizes : Sizes)
+    (pass seed : List ℕ) (disk back : X) (cause : Cause) (report : Option (List ℕ)) : Type 0 where
   pub fault : FormatFault
-  pub unfit : IsUnfit wish (sizes_alone (device disk)) pass seed fault
-  pub outcome_is : outcome ≡ unserved (cause_of_format fault) (Some disk) []
+  pub unfit : IsUnfit wish sizes pass seed fault
+  pub stands : back ≡ disk
+  pub cause_is : cause ≡ cause_of_format fault
   pub report_is : report ≡ None
 
 -- how the device calls ended, of which so many had failed then: all of it is written, or the last
@@ -85,62 +89,142 @@ report_of_writing (Err failed) identifier = None
 -- its keyslot's area end in front of the data, and whatever the calls answered, all behind them is
 -- what it was. Where all succeeded, and the disk told what it held, it now holds the volume over
 -- that, which stands under the passphrase for what the new key unseals from what was held.
-pub record IsMade {D L : Type 0} (device : D → DiskState) (wish : Wish) (pass seed : List ℕ)
-    (disk : D) (outcome : Outcome D L) (report : Option (List ℕ)) : Type 0 where
+pub record IsMade {X : Type 0} (device : X → DiskState) (wish : Wish) (sizes : Sizes)
+    (pass seed : List ℕ) (disk back : X) (cause : Cause) (report : Option (List ℕ)) : Type 0 where
   pub volume : NewVolume
-  pub is : IsNewVolume wish (sizes_alone (device disk)) pass seed volume
-  pub back : D
+  pub is : IsNewVolume wish sizes pass seed volume
   pub result : Result (Unit {0}) Failed
   pub writes : WritesVolume volume (device disk) (device back) result
-  pub before : end_of_front volume ≤ wish.data_offset
+  pub before : end_of_front volume ≤ front_room wish sizes
   pub keeps : KeepsFrom (end_of_front volume) (device disk) (device back)
   pub written : result ≡ succeeded → (bytes : List ℕ) → (device disk).values ≡ Some bytes →
       ((device back).values ≡ Some (written_over volume bytes))
-      × StandsFor (sizes_alone (device disk)) pass (written_over volume bytes)
-      (content_of wish (sizes_alone (device disk)) (draw_of wish seed).key bytes)
-  pub outcome_is : outcome ≡ unserved (cause_of_writing result (device back).faults) (Some back) []
+      × StandsFor sizes pass (written_over volume bytes)
+      (content_of wish sizes (draw_of wish seed).key bytes)
+  pub cause_is : cause ≡ cause_of_writing result (device back).faults
   pub report_is : report ≡ report_of_writing result volume.identifier
+
+-- what came of a disk of these sizes that was told to have a new volume
+abbrev pub ComesTo : {X : Type 0} → (X → DiskState) → Wish → Sizes → List ℕ → List ℕ → X → X →
+    Cause → Option (List ℕ) → Type 0
+ComesTo device wish sizes pass seed disk back cause report =
+    IsMade device wish sizes pass seed disk back cause report
+    ⊎ IsUnmade device wish sizes pass seed disk back cause report
+
+-- ---- its disks
+-- The header lies on the disk of the data, which is handed back.
+pub record IsOnOne {D L : Type 0} (device : D → DiskState) (wish : Wish) (pass seed : List ℕ)
+    (disk : D) (outcome : Outcome D L) (report : Option (List ℕ)) : Type 0 where
+  pub back : D
+  pub came : ComesTo device wish (sizes_alone (device disk)) pass seed disk back outcome.cause
+      report
+  pub outcome_is : outcome ≡ unserved outcome.cause (Some back) []
+
+-- the sizes of a header's disk that is one of its own and of the disk behind it
+abbrev pub sizes_behind : DiskState → DiskState → Sizes
+sizes_behind head disk = record {
+  atom = disk.size;
+  header_atoms = head.atoms;
+  main_atoms = used_atoms disk.size head.atoms disk.atoms;
+  detached = true;
+}
+
+-- The header lies on a disk of its own: both disks were one, the header's in front, so that the
+-- data's is all behind what is written. Both are handed back.
+pub record IsOnTwo {D L : Type 0} (device : D → DiskState) (wish : Wish) (pass seed : List ℕ)
+    (head disk : D) (outcome : Outcome D L) (report : Option (List ℕ)) : Type 0 where
+  pub header : Option D
+  pub back : D
+  pub joint : Joint
+  pub are : AreOf device joint header back
+  pub came : ComesTo joined_disk wish (sizes_behind (device head) (device disk)) pass seed
+      (begun_joint (device head) (device disk)) joint outcome.cause report
+  pub outcome_is : outcome ≡ ended_by (none_came outcome.cause []) (Some back) header
+
+-- by the disk of the header, where that is one of its own
+abbrev pub IsOn : {D L : Type 0} → (D → DiskState) → Wish → List ℕ → List ℕ → Option D → D →
+    Outcome D L → Option (List ℕ) → Type 0
+IsOn device wish pass seed None disk outcome report =
+    IsOnOne device wish pass seed disk outcome report
+IsOn device wish pass seed (Some head) disk outcome report =
+    IsOnTwo device wish pass seed head disk outcome report
 
 -- ---- the bay
 -- The bay was asked once for the key file and gave it: the passphrase is all of it, up to 513
 -- bytes, of which no more than 512 are one. Nothing more was asked.
 pub record HasPassphrase {B D L : Type 0} (device : D → DiskState) (holdings : B → Holdings D)
-    (asks_key : AsksKey B) (format : Formatting) (seed : List ℕ) (disk : D) (between new : B)
-    (outcome : Outcome D L) (report : Option (List ℕ)) : Type 0 where
+    (asks_key : AsksKey B) (format : Formatting) (seed : List ℕ) (header : Option D) (disk : D)
+    (between new : B) (outcome : Outcome D L) (report : Option (List ℕ)) : Type 0 where
   pub pass : List ℕ
   pub asked : asks_key between format.key_file (Ok pass) new
   pub whole : (whole : List ℕ) → (holdings between).keyring format.key_file ≡ Some whole →
       pass ≡ take 513 whole
   pub leaves : LeavesAll (holdings between) (holdings new)
   pub stood : (holdings new).faults ≡ (holdings between).faults
-  pub ended : IsMade device (wish_of format) pass seed disk outcome report
-      ⊎ IsUnmade device (wish_of format) pass seed disk outcome report
+  pub ended : IsOn device (wish_of format) pass seed header disk outcome report
 
--- The bay was asked once for the disk that the words name and gave it: it is the one on its shelf,
--- which all else left. Then it was asked for the key file.
+-- or it gave none, and nothing is said
+abbrev pub AsksForKey : {B D L : Type 0} → (D → DiskState) → (B → Holdings D) → AsksKey B →
+    Formatting → List ℕ → Option D → D → B → B → Outcome D L → Option (List ℕ) → Type 0
+AsksForKey device holdings asks_key format seed header disk between new outcome report =
+    HasPassphrase device holdings asks_key format seed header disk between new outcome report
+    ⊎ ((report ≡ None)
+    × HasNoKeyFile holdings asks_key format.key_file disk header between new outcome)
+
+-- The bay was asked once for a disk of that name and gave it: it is the one on its shelf, which all
+-- else left.
+pub record HasGiven {B D : Type 0} (device : D → DiskState) (holdings : B → Holdings D)
+    (asks_disk : AsksDisk B D) (name : List ℕ) (atom : ℕ) (disk : D) (old new : B) : Type 0 where
+  pub asked : asks_disk old name atom (Ok disk) new
+  pub kept : (kept : D) → (holdings old).shelf name ≡ Some kept → disk ≡ kept
+  pub atom_is : (device disk).size ≡ atom
+  pub stood : (holdings new).faults ≡ (holdings old).faults
+  pub leaves : LeavesOtherDisks name (holdings old) (holdings new)
+
+-- The disk of the header that the words name was given. Then the key file was asked for.
+pub record HasHeader {B D L : Type 0} (device : D → DiskState) (holdings : B → Holdings D)
+    (asks_disk : AsksDisk B D) (asks_key : AsksKey B) (format : Formatting) (seed name : List ℕ)
+    (disk : D) (between new : B) (outcome : Outcome D L) (report : Option (List ℕ)) : Type 0 where
+  pub head : D
+  pub after : B
+  pub given : HasGiven device holdings asks_disk name format.atom head between after
+  pub ended : AsksForKey device holdings asks_key format seed (Some head) disk after new outcome
+      report
+
+-- the disk of the header was asked for, where the words name one; where none was given the other
+-- is handed back
+abbrev pub AsksForHeader : {B D L : Type 0} → (D → DiskState) → (B → Holdings D) → AsksDisk B D →
+    AsksKey B → Formatting → List ℕ → Option (List ℕ) → D → B → B → Outcome D L →
+    Option (List ℕ) → Type 0
+AsksForHeader device holdings asks_disk asks_key format seed None disk between new outcome report =
+    AsksForKey device holdings asks_key format seed None disk between new outcome report
+AsksForHeader device holdings asks_disk asks_key format seed (Some name) disk between new outcome
+    report =
+    HasHeader device holdings asks_disk asks_key format seed name disk between new outcome report
+    ⊎ ((report ≡ None)
+    × HasNoDisk holdings asks_disk name format.atom (Some disk) between new outcome)
+
+-- The disk that the words name was given. Then that of the header was asked for, where they name
+-- one.
 pub record HasPlace {B D L : Type 0} (device : D → DiskState) (holdings : B → Holdings D)
     (asks_disk : AsksDisk B D) (asks_key : AsksKey B) (format : Formatting) (seed : List ℕ)
     (old new : B) (outcome : Outcome D L) (report : Option (List ℕ)) : Type 0 where
   pub disk : D
   pub between : B
-  pub asked : asks_disk old format.disk format.atom (Ok disk) between
-  pub kept : (kept : D) → (holdings old).shelf format.disk ≡ Some kept → disk ≡ kept
-  pub atom_is : (device disk).size ≡ format.atom
-  pub stood : (holdings between).faults ≡ (holdings old).faults
-  pub leaves : LeavesOtherDisks format.disk (holdings old) (holdings between)
-  pub ended : HasPassphrase device holdings asks_key format seed disk between new outcome report
-      ⊎ ((report ≡ None)
-      × HasNoKeyFile holdings asks_key format.key_file disk between new outcome)
+  pub given : HasGiven device holdings asks_disk format.disk format.atom disk old between
+  pub ended : AsksForHeader device holdings asks_disk asks_key format seed format.header disk
+      between new outcome report
 
--- What `format` did: it drew its bytes, and asked for the disk and for the key file; each where all
--- before was given.
+-- What `format` did: it drew its bytes, and asked for the disk, for that of the header and for the
+-- key file; each where all before was given.
 abbrev pub HasMade : {B D L : Type 0} → (D → DiskState) → (B → Holdings D) → AsksDisk B D →
     AsksKey B → Formatting → Supply → Supply → B → B → Outcome D L → Option (List ℕ) → Type 0
 HasMade device holdings asks_disk asks_key format supply now old new outcome report =
     ((report ≡ None) × HasNoSeed supply now old new outcome)
     ⊎ ((seed : List ℕ) × HasSeed supply now seed
     × (HasPlace device holdings asks_disk asks_key format seed old new outcome report
-    ⊎ ((report ≡ None) × HasNoDisk holdings asks_disk format.disk format.atom old new outcome)))
+    ⊎ ((report ≡ None)
+    × HasNoDisk holdings asks_disk format.disk format.atom None old new outcome)))
 
 -- no command but `format` draws
 abbrev pub DrawsNone : {R : Type 0} → List (List ℕ) → R → R → Type 0

@@ -87,12 +87,14 @@ cause_of_fault failing BayFaults.Failed faults = Device failing faults
 cause_of_fault failing BayFaults.Memory faults = Memory
 
 -- The bay was asked once for that disk and gave none, and lost nothing. Its count of faults rose
--- where it failed, which the cause keeps, and stands where memory was wanted.
+-- where it failed, which the cause keeps, and stands where memory was wanted. A disk that was given
+-- before is handed back.
 pub record HasNoDisk {B D L : Type 0} (holdings : B → Holdings D) (asks : AsksDisk B D)
-    (name : List ℕ) (atom : ℕ) (old new : B) (outcome : Outcome D L) : Type 0 where
+    (name : List ℕ) (atom : ℕ) (given : Option D) (old new : B) (outcome : Outcome D L) : Type 0
+  where
   pub fault : BayFault
   pub asked : asks old name atom (Err fault) new
   pub leaves : LeavesAll (holdings old) (holdings new)
   pub count : FaultCounts fault (holdings old).faults (holdings new).faults
   pub outcome_is : outcome
-      ≡ unserved (cause_of_fault Opening fault (holdings new).faults) None []
+      ≡ unserved (cause_of_fault Opening fault (holdings new).faults) given []

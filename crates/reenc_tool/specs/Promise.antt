@@ -59,7 +59,7 @@ abbrev pub Serviced : {B D L : Type 0} → (D → DiskState) → (L → LinkStat
 Serviced device state holdings asks_disk asks_key asks_links serve old new outcome report =
     (report ≡ None) × LeavesRest serve (holdings old) (holdings new)
     × (HasDisk device state holdings asks_disk asks_key asks_links serve old new outcome
-    ⊎ HasNoDisk holdings asks_disk serve.disk serve.atom old new outcome)
+    ⊎ HasNoDisk holdings asks_disk serve.disk serve.atom None old new outcome)
 
 -- What a command did whose words were read, or not: it was told to serve, to show or to format,
 -- which its report belongs to; or nothing was asked of the bay and of the seeds, since the words

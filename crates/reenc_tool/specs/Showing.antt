@@ -68,4 +68,4 @@ abbrev pub HasShown : {B D L : Type 0} → (D → DiskState) → (B → Holdings
     Showing → B → B → Outcome D L → Option (List ℕ) → Type 0
 HasShown device holdings asks_reading show old new outcome report =
     HasOpened device holdings asks_reading show old new outcome report
-    ⊎ ((report ≡ None) × HasNoDisk holdings asks_reading show.disk show.atom old new outcome)
+    ⊎ ((report ≡ None) × HasNoDisk holdings asks_reading show.disk show.atom None old new outcome)

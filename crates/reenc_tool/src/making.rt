@@ -1,19 +1,20 @@
-// `format`: a new volume on a disk.
+// `format`: a new volume on a disk, or on two.
 
-ghost use Rattle.std.specs.Prelude.{◌≡◌, ◌⊎◌, ◌*◌, ◌^◌, ◌<◌, IfOk, option_map, string_bytes};
+ghost use Rattle.std.specs.Prelude.{◌≡◌, ◌*◌, ◌^◌, ◌<◌, IfOk, IsSome, None, is_some};
+ghost use Rattle.std.specs.Prelude.{option_map, string_bytes};
 ghost use Rattle.command_line.specs.Formats.{IsFormatting, formatting};
 ghost use Rattle.header_report.specs.Examinations.{sizes_alone};
 ghost use Rattle.joined_disk.specs.Counts.{HasSizes};
+ghost use Rattle.joined_disk.specs.Joined.{in_front};
 ghost use Rattle.luks_format.specs.Wishes.{FitsDisk, IsWish};
-ghost use Rattle.reenc_tool.specs.Encrypted.{HasNoKeyFile};
-ghost use Rattle.reenc_tool.specs.Making.{HasMade, HasPassphrase, IsMade, IsUnmade};
-ghost use Rattle.reenc_tool.specs.Making.{formatted_line, wish_of};
-ghost use Rattle.reenc_tool.specs.Outcomes.{outcome_of};
+ghost use Rattle.reenc_tool.specs.Making.{AsksForHeader, AsksForKey, ComesTo, HasMade, IsOn};
+ghost use Rattle.reenc_tool.specs.Making.{IsOnOne, IsOnTwo, formatted_line, wish_of};
+ghost use Rattle.reenc_tool.specs.Outcomes.{ended_by, none_came, outcome_of};
 ghost use Rattle.reenc_tool.specs.Promise.{HasNoPass};
 ghost use Rattle.reenc_tool.specs.Status.{status_of};
 
 use crate::commands::{cause_by, unserved};
-use crate::ended::{Cause, Ended, Failing};
+use crate::ended::{Cause, Ended, Failing, Sessions};
 use bays::Bay;
 use command_line::Format;
 use disk_sizes::Sizes;
@@ -21,6 +22,7 @@ use format_disk::{
     make_volume, new_volumes_fit_their_disk, new_volumes_leave_the_rest, write_volume,
 };
 use io_edge::Seeds;
+use joined_disk::JoinedDisk;
 use luks_format::Wish;
 use new_volumes::new_volumes_stand;
 use sector_disk::Disk;
@@ -41,6 +43,7 @@ fn wish_of(words: &Format<'_>) -> Wish
         iterations: words.iterations,
         metadata_size: words.metadata_size,
         identifier: words.identifier,
+        detached: words.header.is_some(),
     }
 }
 
@@ -66,9 +69,47 @@ fn formatted_line(alloc: Global, identifier: Uuid) -> Result<String, AllocError>
     format!(in alloc; "formatted {identifier}\n")
 }
 
-/// Makes a new volume that a passphrase opens, and writes it on a disk. What is said of it is made
-/// before the first device call, since memory may be wanted for it.
-fn make_on<'w, D: Disk, L>(
+/// Makes a new volume that a passphrase opens, and writes it on a disk of these sizes; and what is
+/// said of it, which is made before the first device call, since memory may be wanted for it.
+fn make_on<'w, D: Disk>(
+    alloc: Global,
+    disk: &mut D,
+    sizes: Sizes,
+    words: &Format<'_>,
+    pass: &[u8],
+    seed: &[u8; 32],
+) -> (Cause<'w>, Option<String>)
+    requires words { IsFormatting (formatting words.now) }
+    requires has { HasSizes sizes (D.device disk.old) }
+    requires fits { FitsDisk (wish_of (formatting words.now)) sizes }
+    ensures { ComesTo D.device (wish_of (formatting words.now)) sizes pass.now seed.now disk.old
+        disk.new result.0 (option_map (λ text. string_bytes text) result.1) }
+{
+    let wish = wish_of(words);
+    let mut volume = match make_volume(alloc, &wish, sizes, pass, seed) {
+        Ok(volume) => volume,
+        Err(fault) => return (Cause::of_format(fault), None),
+    };
+    let Ok(line) = formatted_line(alloc, volume.identifier) else {
+        return (Cause::Memory, None);
+    };
+    new_volumes_fit_their_disk();
+    new_volumes_leave_the_rest();
+    new_volumes_stand();
+    match write_volume(disk, &mut volume) {
+        Ok(()) => (Cause::Fine, Some(line)),
+        Err(_) => {
+            let cause = Cause::Device {
+                failing: Failing::Writing,
+                faults: disk.faults(),
+            };
+            (cause, None)
+        }
+    }
+}
+
+/// Makes a new volume whose header lies on the disk of its data.
+fn make_on_one<'w, D: Disk, L>(
     alloc: Global,
     disk: D,
     words: &Format<'_>,
@@ -77,49 +118,79 @@ fn make_on<'w, D: Disk, L>(
 ) -> (Ended<'w, D, L>, Option<String>)
     requires words { IsFormatting (formatting words.now) }
     requires atom { (D.device disk).size ≡ (formatting words.now).atom }
+    requires one { (formatting words.now).header ≡ None }
     ensures status { result.0.status ≡ status_of result.0.cause }
     ensures pass { HasNoPass result.0.pass result.0.demo }
-    ensures made { IsMade D.device (wish_of (formatting words.now)) pass.now seed.now disk
-        (outcome_of result.0) (option_map (λ text. string_bytes text) result.1)
-        ⊎ IsUnmade D.device (wish_of (formatting words.now)) pass.now seed.now disk
+    ensures made { IsOnOne D.device (wish_of (formatting words.now)) pass.now seed.now disk
         (outcome_of result.0) (option_map (λ text. string_bytes text) result.1) }
 {
     let mut disk = disk;
-    let wish = wish_of(words);
-    let mut volume = match make_volume(alloc, &wish, sizes_alone(&disk), pass, seed) {
-        Ok(volume) => volume,
+    let sizes = sizes_alone(&disk);
+    let (cause, line) = make_on(alloc, &mut disk, sizes, words, pass, seed);
+    (unserved(alloc, cause, Some(disk), Vec::new(alloc)), line)
+}
+
+/// Makes a new volume whose header lies on a disk of its own, in front of that of its data.
+fn make_on_two<'w, D: Disk, L>(
+    alloc: Global,
+    head: D,
+    disk: D,
+    words: &Format<'_>,
+    pass: &[u8],
+    seed: &[u8; 32],
+) -> (Ended<'w, D, L>, Option<String>)
+    requires words { IsFormatting (formatting words.now) }
+    requires head { (D.device head).size ≡ (formatting words.now).atom }
+    requires atom { (D.device disk).size ≡ (formatting words.now).atom }
+    requires two { IsSome (formatting words.now).header }
+    ensures status { result.0.status ≡ status_of result.0.cause }
+    ensures pass { HasNoPass result.0.pass result.0.demo }
+    ensures made { IsOnTwo D.device (wish_of (formatting words.now)) pass.now seed.now head disk
+        (outcome_of result.0) (option_map (λ text. string_bytes text) result.1) }
+{
+    let mut joined = JoinedDisk::with(head, disk);
+    let sizes = joined.sizes();
+    let (cause, line) = make_on(alloc, &mut joined, sizes, words, pass, seed);
+    let (header, disk) = joined.parts();
+    let sessions = Sessions::none(alloc, cause, Vec::new(alloc));
+    (sessions.ended(Some(disk), header), line)
+}
+
+/// Asks the bay for the passphrase, and makes a new volume on the disks that it gave.
+fn make_in<'w, B: Bay>(
+    alloc: Global,
+    bay: &mut B,
+    header: Option<B::Disk>,
+    disk: B::Disk,
+    words: &Format<'_>,
+    seed: &[u8; 32],
+) -> (Ended<'w, B::Disk, B::Link>, Option<String>)
+    requires words { IsFormatting (formatting words.now) }
+    requires head { (in_front B.Disk.device (formatting words.now).atom header).size
+        ≡ (formatting words.now).atom }
+    requires atom { (B.Disk.device disk).size ≡ (formatting words.now).atom }
+    requires named { is_some header ≡ is_some (formatting words.now).header }
+    ensures status { result.0.status ≡ status_of result.0.cause }
+    ensures pass { HasNoPass result.0.pass result.0.demo }
+    ensures made { AsksForKey B.Disk.device B.holdings B.asks_key (formatting words.now) seed.now
+        header disk bay.old bay.new (outcome_of result.0)
+        (option_map (λ text. string_bytes text) result.1) }
+{
+    match bay.key(alloc, words.key_file) {
+        Ok(pass) => match header {
+            None => make_on_one(alloc, disk, words, pass.as_slice(), seed),
+            Some(head) => make_on_two(alloc, head, disk, words, pass.as_slice(), seed),
+        },
         Err(fault) => {
-            let cause = Cause::of_format(fault);
-            return (unserved(alloc, cause, Some(disk), Vec::new(alloc)), None);
-        }
-    };
-    let Ok(line) = formatted_line(alloc, volume.identifier) else {
-        return (
-            unserved(alloc, Cause::Memory, Some(disk), Vec::new(alloc)),
-            None,
-        );
-    };
-    new_volumes_fit_their_disk();
-    new_volumes_leave_the_rest();
-    new_volumes_stand();
-    match write_volume(&mut disk, &mut volume) {
-        Ok(()) => (
-            unserved(alloc, Cause::Fine, Some(disk), Vec::new(alloc)),
-            Some(line),
-        ),
-        Err(_) => {
-            let faults = disk.faults();
-            let cause = Cause::Device {
-                failing: Failing::Writing,
-                faults,
-            };
-            (unserved(alloc, cause, Some(disk), Vec::new(alloc)), None)
+            let cause = cause_by(Failing::Keying, fault, bay.faults());
+            let sessions = Sessions::none(alloc, cause, Vec::new(alloc));
+            (sessions.ended(Some(disk), header), None)
         }
     }
 }
 
-/// Asks the bay for the passphrase, and makes a new volume on a disk that it gave.
-fn make_in<'w, B: Bay>(
+/// Asks the bay for the disk of the header, where the words name one, and for the rest.
+fn make_behind<'w, B: Bay>(
     alloc: Global,
     bay: &mut B,
     disk: B::Disk,
@@ -130,24 +201,25 @@ fn make_in<'w, B: Bay>(
     requires atom { (B.Disk.device disk).size ≡ (formatting words.now).atom }
     ensures status { result.0.status ≡ status_of result.0.cause }
     ensures pass { HasNoPass result.0.pass result.0.demo }
-    ensures made { HasPassphrase B.Disk.device B.holdings B.asks_key (formatting words.now) seed.now
-        disk bay.old bay.new (outcome_of result.0)
-        (option_map (λ text. string_bytes text) result.1)
-        ⊎ ((option_map (λ text. string_bytes text) result.1 ≡ None)
-        × HasNoKeyFile B.holdings B.asks_key (formatting words.now).key_file disk bay.old bay.new
-        (outcome_of result.0)) }
+    ensures made { AsksForHeader B.Disk.device B.holdings B.asks_disk B.asks_key
+        (formatting words.now) seed.now (formatting words.now).header disk bay.old bay.new
+        (outcome_of result.0) (option_map (λ text. string_bytes text) result.1) }
 {
-    match bay.key(alloc, words.key_file) {
-        Ok(pass) => make_on(alloc, disk, words, pass.as_slice(), seed),
+    let Some(name) = words.header else {
+        return make_in(alloc, bay, None, disk, words, seed);
+    };
+    match bay.disk(alloc, name, words.atom) {
+        Ok(head) => make_in(alloc, bay, Some(head), disk, words, seed),
         Err(fault) => {
-            let cause = cause_by(Failing::Keying, fault, bay.faults());
+            let cause = cause_by(Failing::Opening, fault, bay.faults());
             (unserved(alloc, cause, Some(disk), Vec::new(alloc)), None)
         }
     }
 }
 
-/// Draws 32 bytes from the seeds, asks the bay for a disk and a passphrase, and makes a new volume
-/// there. All that is random of the volume is stretched from those bytes.
+/// Draws 32 bytes from the seeds, asks the bay for a disk, for another one of the header where the
+/// words name it, and for a passphrase, and makes a new volume there. All that is random of the
+/// volume is stretched from those bytes.
 pub fn make<'w, B: Bay, R: Seeds>(
     alloc: Global,
     bay: &mut B,
@@ -172,7 +244,7 @@ pub fn make<'w, B: Bay, R: Seeds>(
         }
     }
     match bay.disk(alloc, words.disk, words.atom) {
-        Ok(disk) => make_in(alloc, bay, disk, words, &seed),
+        Ok(disk) => make_behind(alloc, bay, disk, words, &seed),
         Err(fault) => {
             let cause = cause_by(Failing::Opening, fault, bay.faults());
             (unserved(alloc, cause, None, Vec::new(alloc)), None)
