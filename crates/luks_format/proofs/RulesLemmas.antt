@@ -1,7 +1,9 @@
 -- The metadata of a new volume break no rule.
 use Rattle.std.proofs.Common.{◌≡◌, inl, inr, ℕ, ◌+◌, ◌-◌, ◌*◌, ◌/◌, ◌%◌, ◌^◌, ◌<◌, ◌≤◌}
-use Rattle.std.proofs.Common.{false, None, refl, arith}
+use Rattle.std.proofs.Common.{◌∙◌, Bool, true, false, None, refl, sym, ap₂, arith, subst}
 use Rattle.std.proofs.lemmas.Bool.{eq-eqb, le-ltb, ne_eqb}
+use Rattle.std.specs.List.{list_any}
+use Rattle.std.specs.Prelude.{◌||◌, if◌then◌else◌}
 use Rattle.disk_sizes.specs.declared.Sizes.{Sizes}
 use Rattle.luks_bin.proofs.FieldLemmas.{size-least}
 use Rattle.luks_format.proofs.SizeLemmas.{area-page, area-some, block-left, copies-page}
@@ -9,10 +11,11 @@ use Rattle.luks_format.proofs.SizeLemmas.{data-behind, pages-whole, sector-some}
 use Rattle.luks_format.specs.Drawings.{Draw}
 use Rattle.luks_format.specs.Metadata.{config_for, digest_for, keyslot_for, parts_for}
 use Rattle.luks_format.specs.Metadata.{parts_with, segment_for}
-use Rattle.luks_format.specs.Wishes.{FitsDisk, IsWish, keyslots_size_for, most_keyslots}
+use Rattle.luks_format.specs.Wishes.{FitsDisk, IsWish, areas_end_for, detached_end, keyslots_end}
+use Rattle.luks_format.specs.Wishes.{keyslots_size_for, most_keyslots}
 use Rattle.luks_format.specs.declared.wish.Wish.{Wish}
 use Rattle.luks_json.specs.Configs.{mandatory}
-use Rattle.luks_rules.specs.Areas.{areas_of, breaks_bounds}
+use Rattle.luks_rules.specs.Areas.{areas_of, breaks_bounds, header_bytes, is_outside, passes_limit}
 use Rattle.luks_rules.specs.Conversions.{conversion_of, conversions_of}
 use Rattle.luks_rules.specs.Foreign.{first_foreign}
 use Rattle.luks_rules.specs.Multiples.{breaks_multiples, breaks_sectors, breaks_tweaks}
@@ -55,9 +58,25 @@ module _ (w : Wish) (d : Draw) (sizes : Sizes) where
   unfolding progress_of in_progress parts_with config_for
   unconverted = refl
 
+-- the keyslots area ends where it may
+pub areas-end : (w : Wish) → IsWish w → area_len w.key_size ≤ keyslots_size_for w
+    → areas_end_for w ≤ keyslots_end w
+unfolding keyslots_size_for
+areas-end w wish room =
+    data-behind (keyslots_end w) (2 * w.metadata_size) most_keyslots (area_len w.key_size)
+    (area-some w.key_size (key-bounds (named_cipher w.cipher) w.key_size wish.key).0) room
+
+-- in front of the data that is on the same disk
+pub before-offset : (w : Wish) → IsWish w → area_len w.key_size ≤ keyslots_size_for w
+    → w.detached ≡ false → areas_end_for w ≤ w.data_offset
+before-offset w wish room alone =
+    subst (λ b. areas_end_for w ≤ (if b then detached_end else w.data_offset)) alone
+    (areas-end w wish room)
+
 -- what is asked of the sizes
 module _ (w : Wish) (d : Draw) (sizes : Sizes) (wish : IsWish w) (disk : FitsDisk w sizes)
     (room : area_len w.key_size ≤ keyslots_size_for w)
+    (front : w.detached ≡ true → areas_end_for w ≤ header_bytes sizes)
     (block : w.data_offset / sizes.atom < sizes.main_atoms) where
   copies : ℕ
   copies = 2 * w.metadata_size
@@ -68,30 +87,46 @@ module _ (w : Wish) (d : Draw) (sizes : Sizes) (wish : IsWish w) (disk : FitsDis
   begin : 2 * (w.metadata_size - 4096 + 4096) ≡ 2 * w.metadata_size
   begin = let least = size-least w.metadata_size wish.size in omega (arith, least)
 
-  behind : 2 * w.metadata_size + keyslots_size_for w ≤ w.data_offset
-  unfolding keyslots_size_for
-  behind =
-      data-behind w.data_offset (2 * w.metadata_size) most_keyslots (area_len w.key_size)
-      (area-some w.key_size (key-bounds (named_cipher w.cipher) w.key_size wish.key).0) room
-
   even : w.data_offset % sizes.atom ≡ 0
   even = pages-whole w.data_offset sizes.atom disk.atom wish.page
 
   left : w.data_offset + sizes.atom ≤ sizes.main_atoms * sizes.atom
   left = block-left sizes.atom sizes.main_atoms w.data_offset disk.atom even block
 
-  bounded : breaks_bounds (parts_for w d) sizes ≡ false
-  unfolding breaks_bounds areas_of parts_with keyslot_for slot_for segment_for config_for
-  bounded =
+  inside : list_any (is_outside (parts_for w d).config) (areas_of (parts_for w d).keyslots)
+      ≡ false
+  unfolding areas_of parts_with keyslot_for slot_for config_for
+  inside =
       rw (
         begin,
         le-ltb (2 * w.metadata_size) (2 * w.metadata_size) (omega arith),
-        le-ltb (2 * w.metadata_size + keyslots_size_for w)
-            (2 * w.metadata_size + area_len w.key_size) (omega (arith, room)),
-        disk.one,
-        le-ltb w.data_offset (2 * w.metadata_size + keyslots_size_for w) behind,
+        le-ltb (areas_end_for w) (2 * w.metadata_size + area_len w.key_size)
+            (omega (arith, room)),
       )
       refl
+
+  limited : (detached : Bool) → sizes.detached ≡ detached
+      → passes_limit (parts_for w d) sizes ≡ false
+  unfolding parts_with segment_for config_for
+  limited true is =
+      rw (
+        is,
+        begin,
+        le-ltb (header_bytes sizes) (areas_end_for w) (front (sym disk.detached ∙ is)),
+      )
+      refl
+  limited false is =
+      rw (
+        is,
+        begin,
+        le-ltb w.data_offset (areas_end_for w)
+            (before-offset w wish room (sym disk.detached ∙ is)),
+      )
+      refl
+
+  bounded : breaks_bounds (parts_for w d) sizes ≡ false
+  unfolding breaks_bounds
+  bounded = ap₂ (λ a b. a || b) inside (limited sizes.detached refl)
 
   segments : breaks_segments (parts_for w d) sizes ≡ false
   unfolding holds_none in_progress parts_with segment_for config_for
@@ -131,7 +166,7 @@ module _ (w : Wish) (d : Draw) (sizes : Sizes) (wish : IsWish w) (disk : FitsDis
   unfolding breaks_tweaks parts_with segment_for
   tweaks =
       let end : ℕ = sizes.main_atoms * sizes.atom in
-      let within = disk.within in
+      let within = disk.main in
       rw (le-ltb (2 ^ 64 - 1) (0 + (end - w.data_offset) / 512) (omega (arith, within))) refl
 
   pub no-fault : first_fault (parts_for w d) sizes ≡ None

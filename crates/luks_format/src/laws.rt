@@ -3,7 +3,7 @@
 ghost use Rattle.luks_format.specs.Places.{BreakNone, TakeLowest};
 
 /// The metadata of a new volume break no rule, for each disk on which its keyslot's area and a
-/// block of its data have room.
+/// block of its data have room; or for each two, where the header has a disk of its own.
 pub fn new_metadata_break_no_rule()
     ensures { BreakNone }
 {}

@@ -38,6 +38,7 @@ fn xts_wish() -> Wish
         iterations: 1000,
         metadata_size: 16384,
         identifier: None,
+        detached: false,
     }
 }
 
@@ -54,6 +55,24 @@ fn cbc_wish(identifier: Uuid) -> Wish
         iterations: 268_435_456,
         metadata_size: 16384,
         identifier: Some(identifier),
+        detached: false,
+    }
+}
+
+// Its header has a disk of its own, and its data begins at byte 0 of another.
+#[tactic(auto, unfolding(luks_bin::specs::Fields::is_size))]
+fn detached_wish(large: bool) -> Wish
+    ensures { IsWish result }
+{
+    Wish {
+        cipher: Cipher::AesXtsPlain64,
+        key_size: 64,
+        sector_size: 4096,
+        data_offset: 0,
+        iterations: 1000,
+        metadata_size: if large { 4_194_304 } else { 16384 },
+        identifier: None,
+        detached: true,
     }
 }
 
@@ -116,5 +135,12 @@ fn named_volume_is_that_of_another_implementation(rt: HostRuntime) -> Result<(),
     let field = field(rt.alloc(), &wish)?;
     assert_eq!(rt; field.as_slice(), GIVEN_FIELD);
     assert_eq!(rt; text_digest(rt.alloc(), &wish)?.as_str(), CBC_DIGEST);
+    Ok(())
+}
+
+#[test]
+fn detached_keyslots_end_at_sixteen_mebibytes(rt: HostRuntime) -> Result<(), Fail> {
+    assert_eq!(rt; detached_wish(false).keyslots_size(), 16_744_448);
+    assert_eq!(rt; detached_wish(true).keyslots_size(), 8_388_608);
     Ok(())
 }
