@@ -1,4 +1,5 @@
--- What stands on a disk once a new volume was written to it.
+-- What stands on a disk once a new volume was written to it; where its header has a disk of its own,
+-- on both as one, the header's in front.
 use Rattle.std.specs.Prelude.{ℕ, ◌≡◌, ◌*◌, List, ◌++◌, length, drop, Some, Ok, true}
 use Rattle.disk_sizes.specs.declared.Sizes.{Sizes}
 use Rattle.format_disk.specs.Calls.{FitsNew, WritesVolume}
@@ -11,7 +12,6 @@ use Rattle.luks_copies.specs.Held.{primary_of, secondary_of}
 use Rattle.luks_format.specs.Wishes.{FitsDisk, IsWish}
 use Rattle.luks_format.specs.declared.wish.Wish.{Wish}
 use Rattle.luks_json.specs.declared.digest.Digest.{Digest}
-use Rattle.luks_rules.specs.Areas.{main_bytes}
 use Rattle.luks_rules.specs.References.{value_at}
 use Rattle.luks_slots.specs.Unlocks.{key_of, matches}
 use Rattle.luks_store.specs.Devices.{front_of}
@@ -49,8 +49,8 @@ pub record OpensTo (w : Wish) (sizes : Sizes) (pass seed image : List ℕ) : Typ
   pub same : matches digest (draw_of w seed).key ≡ true
   pub key : key_of (metadata_of w seed) digest image pass ≡ Some (draw_of w seed).key
 
--- So it is with what is written over all bytes of a disk of these sizes.
+-- So it is with what is written over any bytes.
 abbrev pub AreOpened : Type 0
 AreOpened = (w : Wish) (sizes : Sizes) (pass seed : List ℕ) (v : NewVolume) (bytes : List ℕ)
     → IsWish w → FitsDisk w sizes → IsNewVolume w sizes pass seed v
-    → length bytes ≡ main_bytes sizes → OpensTo w sizes pass seed (written_over v bytes)
+    → OpensTo w sizes pass seed (written_over v bytes)

@@ -1,11 +1,13 @@
 // A new volume.
 
-ghost use Rattle.std.specs.Prelude.{◌≡◌, ◌+◌, ◌-◌, ◌<◌, ◌≤◌, true, length, None, IfOk, MatchResult};
+ghost use Rattle.std.specs.Prelude.{◌≡◌, ◌+◌, ◌-◌, ◌^◌, ◌<◌, ◌≤◌, true, length, None, IfOk};
+ghost use Rattle.std.specs.Prelude.{MatchResult};
 ghost use Rattle.format_disk.specs.Fitting.{IsUnfit, unfit_by};
 ghost use Rattle.format_disk.specs.Volumes.{IsFirst, IsNewVolume};
 ghost use Rattle.luks_bin.specs.Fields.{is_size};
 ghost use Rattle.luks_format.specs.Drawings.{draw};
 ghost use Rattle.luks_format.specs.Wishes.{FitsDisk, IsWish};
+ghost use Rattle.luks_rules.specs.Areas.{header_bytes};
 ghost use Rattle.luks_rules.specs.Rules.{first_fault};
 ghost use Rattle.luks_store.specs.Commits.{text_for};
 
@@ -55,11 +57,17 @@ impl From<AllocError> for FormatFault {
 fn find_unfit(wish: &Wish, sizes: &Sizes, pass: &[u8], text_len: u64) -> Option<FormatFault>
     requires wish { IsWish wish.now }
     requires atom { 0 < sizes.now.atom }
+    requires header { header_bytes sizes.now < 2 ^ 63 }
     ensures { result ≡ unfit_by wish.now sizes.now pass.now text_len }
 {
     let wanted = area_size(wish.key_size as usize);
     let gap = wish.keyslots_size();
     if gap < wanted {
+        return Some(FormatFault::Area { wanted, gap });
+    }
+    let wanted = wish.areas_end();
+    let gap = sizes.header_atoms * sizes.atom as u64;
+    if wish.detached && gap < wanted {
         return Some(FormatFault::Area { wanted, gap });
     }
     let limit = wish.metadata_size - 4097;
@@ -108,8 +116,9 @@ fn first_commit(
     }
 }
 
-/// A new volume for a disk of these sizes that this passphrase, of 1 to 512 bytes, opens; all that
-/// is random of it is stretched from the 32 bytes of `seed`.
+/// A new volume for a disk of these sizes, or for two, where its header has one of its own, that
+/// this passphrase, of 1 to 512 bytes, opens; all that is random of it is stretched from the 32 bytes
+/// of `seed`.
 ///
 /// # Errors
 ///

@@ -1,4 +1,5 @@
--- What the disk of a new volume stands for.
+-- What the disk of a new volume stands for; where its header has a disk of its own, what both stand
+-- for as one, the header's in front.
 use Rattle.std.specs.Prelude.{ℕ, ◌≡◌, ◌+◌, ◌-◌, ◌*◌, ◌/◌, List, length, map, Some}
 use Rattle.std.specs.List.{range_with_len}
 use Rattle.cipher_laws.specs.Bytes.{AreBytes}
@@ -13,19 +14,21 @@ use Rattle.luks_format.specs.Wishes.{FitsDisk, IsWish}
 use Rattle.luks_format.specs.declared.wish.Wish.{Wish}
 use Rattle.luks_rules.specs.Areas.{main_bytes}
 use Rattle.luks_slots.specs.Functions.{named_cipher}
+use Rattle.reenc_meta.specs.Placements.{base_of}
 use Rattle.reenc_recovery.specs.Images.{StandsFor}
 use Rattle.sector_cipher.specs.Context.{opened_under}
 use Rattle.sector_disk.specs.Devices.{Device, succeeded}
 
--- the whole atoms behind the data's offset
+-- the whole atoms behind the data's offset, of the disk that holds the data
 abbrev pub block_count : Wish → Sizes → ℕ
 block_count w sizes = (main_bytes sizes - w.data_offset) / sizes.atom
 
--- what a key unseals from one of them: the sectors are numbered from the data's offset on
+-- what a key unseals from one of them: the sectors are numbered from the data's offset on, which is
+-- counted from where the disk of the data begins
 abbrev pub unsealed_block : Wish → Sizes → List ℕ → List ℕ → ℕ → List ℕ
 unsealed_block w sizes key bytes b =
     opened_under (named_cipher w.cipher) key w.sector_size (b * (sizes.atom / 512))
-    (block_at sizes.atom bytes (w.data_offset / sizes.atom + b))
+    (block_at sizes.atom bytes (base_of sizes + w.data_offset / sizes.atom + b))
 
 -- and from all, block by block
 unfoldable pub content_of : Wish → Sizes → List ℕ → List ℕ → List (List ℕ)

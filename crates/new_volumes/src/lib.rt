@@ -3,7 +3,8 @@
 //!
 //! The layer above may rely on [`new_volumes_stand`]: where all calls succeed that write a new
 //! volume, the disk's bytes stand, under the passphrase, for just what the new key unseals from the
-//! bytes that were there before, block by block. What an image stands for is `StandsFor` of
+//! bytes that were there before, block by block. Where its header has a disk of its own, the bytes
+//! are those of both, the header's in front. What an image stands for is `StandsFor` of
 //! `reenc_recovery`, of which there is one, so it is what a volume has that is opened of this disk.
 #![tactic(auto)]
 
