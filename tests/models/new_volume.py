@@ -158,14 +158,20 @@ class Volume:
 class Wish(argparse.Namespace):
     """What the words of `format` ask for."""
 
+    def keyslots_end(self):
+        """Where the keyslots area ends: with the gap in front of the data, or at 16 MiB of a disk of
+        its own."""
+        return 16 << 20 if self.header else self.data_offset
+
     def keyslots_size(self):
-        return min(max(self.data_offset - 2 * self.metadata_size, 0), 128 << 20)
+        return min(max(self.keyslots_end() - 2 * self.metadata_size, 0), 128 << 20)
 
     @classmethod
     def of(cls, words):
         parser = argparse.ArgumentParser()
         parser.add_argument("command")
         parser.add_argument("disk")
+        parser.add_argument("--header")
         parser.add_argument("--key-file")
         parser.add_argument("--cipher", default="aes-xts-plain64")
         parser.add_argument("--uuid")
@@ -173,21 +179,25 @@ class Wish(argparse.Namespace):
             ("atom", 4096),
             ("key-size", 0),
             ("sector-size", 512),
-            ("data-offset", 16 << 20),
+            ("data-offset", None),
             ("iterations", 100000),
             ("metadata-size", 16384),
         ]:
             parser.add_argument("--" + name, type=int, default=default)
         wish = parser.parse_args(words.split(), cls())
         wish.key_size = wish.key_size or (64 if "xts" in wish.cipher else 32)
+        if wish.data_offset is None:
+            wish.data_offset = 0 if wish.header else 16 << 20
         return wish
 
-    def unfit(self, length, atoms):
-        """The first that doesn't fit of a volume with such a passphrase and disk; its text always
+    def unfit(self, length, atoms, header_atoms):
+        """The first that doesn't fit of a volume with such a passphrase and disks; its text always
         does."""
         wanted = area_size(self.key_size)
         if self.keyslots_size() < wanted:
             return ("Area", wanted, self.keyslots_size())
+        if self.header and header_atoms * self.atom < self.keyslots_end():
+            return ("Area", self.keyslots_end(), header_atoms * self.atom)
         if not 1 <= length <= 512:
             return ("Passphrase", length, 1 if length == 0 else 512)
         if atoms <= self.data_offset // self.atom:
@@ -230,48 +240,69 @@ class Disk:
         return b"".join(one[0 if which == "oldest" else -1] for one in self.candidates)
 
 
-def ended(status, cause, text, disk, left):
+class Both:
+    """A header's disk and that of the data, which are written as one: all that is written lies on
+    the first, and a sync is of both, the header's first."""
+
+    def __init__(self, header, disk):
+        self.header = header
+        self.disk = disk
+
+    def write(self, place, data):
+        return self.header.write(place, data)
+
+    def sync(self):
+        return self.header.sync() and self.disk.sync()
+
+
+def ended(status, cause, text, disks, left):
     told = f'{status} {cause} "{text}\\n"'
-    if disk is None:
-        return told
-    return f"{told} {disk.calls} {hashlib.sha256(disk.left(left)).hexdigest()}"
+    for disk in disks:
+        told += f" {disk.calls} {hashlib.sha256(disk.left(left)).hexdigest()}"
+    return told
 
 
 def outcome(columns):
     """What a row comes to."""
     _, words, sizes, first, left, *fails = columns
-    failing = [{int(word) for word in column.split()} for column in fails] + [set()] * 3
+    failing = [{int(word) for word in column.split()} for column in fails] + [set()] * 4
     wish = Wish.of(words)
-    device = lambda what, disk: ended(
-        2, f"Device {{ failing: {what}, faults: 1 }}", "fault 2 Device", disk, left
+    device = lambda what, *disks: ended(
+        2, f"Device {{ failing: {what}, faults: 1 }}", "fault 2 Device", disks, left
     )
     if 0 in failing[2]:
-        return ended(12, "Seeds { faults: 1 }", "fault 12 Seeds", None, left)
-    atom, atoms = map(int, sizes.split())
+        return ended(12, "Seeds { faults: 1 }", "fault 12 Seeds", [], left)
+    atom, atoms, *header_atoms = map(int, sizes.split())
     if wish.disk != "x" or wish.atom != atom or 0 in failing[1]:
-        return device("Opening", None)
+        return device("Opening")
     disk = Disk(atom, atoms, failing[0])
-    if wish.key_file not in KEYS or 1 in failing[1]:
-        return device("Keying", disk)
+    target, disks, asked = disk, [disk], 1
+    if wish.header:
+        if wish.header != "h" or not header_atoms or 1 in failing[1]:
+            return device("Opening", disk)
+        header = Disk(atom, header_atoms[0], failing[3])
+        target, disks, asked = Both(header, disk), [disk, header], 2
+    if wish.key_file not in KEYS or asked in failing[1]:
+        return device("Keying", *disks)
     passphrase = KEYS[wish.key_file]
-    unfit = wish.unfit(len(passphrase), atoms)
+    unfit = wish.unfit(len(passphrase), atoms, header_atoms[0] if wish.header else 0)
     if unfit:
         cause = "NoFit {{ what: {}, number: {}, limit: {} }}".format(*unfit)
-        return ended(8, cause, "fault 8 NoFit", disk, left)
+        return ended(8, cause, "fault 8 NoFit", disks, left)
     seed = bytes((int(first) + i) % 256 for i in range(32))
     volume = Volume(wish, passphrase, seed)
     size = wish.metadata_size
     right = (
-        disk.write(2 * size, volume.area)
-        and disk.sync()
-        and disk.write(0, volume.copies[0])
-        and disk.sync()
-        and disk.write(size, volume.copies[1])
-        and disk.sync()
+        target.write(2 * size, volume.area)
+        and target.sync()
+        and target.write(0, volume.copies[0])
+        and target.sync()
+        and target.write(size, volume.copies[1])
+        and target.sync()
     )
     if not right:
-        return device("Writing", disk)
-    return ended(0, "Fine", f"formatted {volume.identifier}", disk, left)
+        return device("Writing", *disks)
+    return ended(0, "Fine", f"formatted {volume.identifier}", disks, left)
 
 
 def main():

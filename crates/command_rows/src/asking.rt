@@ -36,8 +36,12 @@ fn format_text(alloc: Global, format: &Format<'_>) -> Result<String> {
         format.metadata_size,
         identifier,
     )?;
+    let header = match format.header {
+        Some(disk) => format!(in alloc; " behind {disk}")?,
+        None => String::new(alloc),
+    };
     Ok(format!(in alloc;
-        "format {} by {} in atoms of {}: {volume}",
+        "format {}{header} by {} in atoms of {}: {volume}",
         format.disk, format.key_file, format.atom,
     )?)
 }

@@ -48,14 +48,9 @@ fn fill(alloc: Global, disk: &mut MemDisk) -> Result<()> {
     Ok(())
 }
 
-/// The disk that a column tells, whose calls of these numbers fail.
-pub(crate) fn disk_of(alloc: Global, column: &str, fails: &str) -> Result<MemDisk> {
-    let sizes = numbers(alloc, column, 0)?;
+/// A disk of these sizes, whose calls of these numbers fail.
+fn disk_of(alloc: Global, atom: u64, atoms: u64, fails: &str) -> Result<MemDisk> {
     let fails = numbers(alloc, fails, CALLS)?;
-    let [atom, atoms] = sizes.as_slice() else {
-        return Err(anyhow!("a disk of so many numbers"));
-    };
-    let (atom, atoms) = (*atom, *atoms);
     if (atom != 512 && atom != 4096) || atoms > MOST_ATOMS {
         return Err(anyhow!("a disk of {atoms} atoms of {atom} bytes"));
     }
@@ -63,6 +58,26 @@ pub(crate) fn disk_of(alloc: Global, column: &str, fails: &str) -> Result<MemDis
     let mut disk = MemDisk::new(alloc, atom as u32, atoms, room, fails.as_slice())?;
     fill(alloc, &mut disk)?;
     Ok(disk)
+}
+
+/// The disks that a column tells, of which each one's calls of these numbers fail: that of the data,
+/// and that of the header, where there is one.
+pub(crate) fn disks_of(
+    alloc: Global,
+    column: &str,
+    fails: &str,
+    header_fails: &str,
+) -> Result<(MemDisk, Option<MemDisk>)> {
+    let sizes = numbers(alloc, column, 0)?;
+    match sizes.as_slice() {
+        [atom, atoms] => Ok((disk_of(alloc, *atom, *atoms, fails)?, None)),
+        [atom, atoms, header_atoms] => {
+            let disk = disk_of(alloc, *atom, *atoms, fails)?;
+            let header = disk_of(alloc, *atom, *header_atoms, header_fails)?;
+            Ok((disk, Some(header)))
+        }
+        _ => Err(anyhow!("disks of so many numbers")),
+    }
 }
 
 /// How many device calls a row's command made.

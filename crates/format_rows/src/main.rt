@@ -3,15 +3,18 @@
 //! columns; a line that is empty or begins with `#` is none. The columns are
 //!
 //! - the outcome: the status and its cause, the text that is printed, how many device calls there
-//!   were, and the SHA-256 of what is left of the disk;
+//!   were, and the SHA-256 of what is left of the disk; and these two of the header's disk, where
+//!   there is one;
 //! - the words;
 //! - the disk `x`, all of whose bytes are 170: the bytes of an atom, and how many atoms there are;
+//!   and how many the disk `h` has, which is left out where there is none;
 //! - the first of the bytes that are drawn, which rise;
-//! - what is left: the bytes that the disk has (`held`), or the oldest or the newest that it may
-//!   have after a stop;
-//! - the numbers of the device calls that fail, of the bay's, and of the seeds'.
+//! - what is left: the bytes that a disk has (`held`), or the oldest or the newest that it may have
+//!   after a stop;
+//! - the numbers of the device calls that fail of `x`, of the bay's, of the seeds', and of the
+//!   device calls of `h`.
 //!
-//! The bay has the disk `x` and the key files `k`, `line`, `empty` and `long`. Prints each row with
+//! The bay has the disks and the key files `k`, `line`, `empty` and `long`. Prints each row with
 //! another outcome, and how many rows there are.
 #![tactic(auto)]
 

@@ -1,6 +1,6 @@
 // Rows on commands that make volumes.
 
-use crate::disks::{calls_of, digest_of, disk_of, number, numbers};
+use crate::disks::{calls_of, digest_of, disks_of, number, numbers};
 use anyhow::{Result, anyhow};
 use base_terms::Bytes;
 use bays::{MemBay, MemLink};
@@ -29,10 +29,18 @@ fn keys_of(alloc: Global) -> Result<Vec<(String, Bytes)>> {
     Ok(keys)
 }
 
-/// The bay of this disk, whose calls of these numbers fail.
-fn bay_of(alloc: Global, disk: MemDisk, fails: &str) -> Result<MemBay> {
+/// The bay of a disk, and of a header's, where there is one, whose calls of these numbers fail.
+fn bay_of(
+    alloc: Global,
+    disk: MemDisk,
+    header: Option<MemDisk>,
+    fails: &str,
+) -> Result<MemBay> {
     let mut disks = Vec::new(alloc);
     disks.push((String::from_str(alloc, "x")?, disk))?;
+    if let Some(header) = header {
+        disks.push((String::from_str(alloc, "h")?, header))?;
+    }
     let mut lists = Vec::new(alloc);
     lists.push(numbers(alloc, fails, 0)?)?;
     let address = String::from_str(alloc, "A")?;
@@ -63,7 +71,19 @@ fn words_of(alloc: Global, line: &str) -> Result<Vec<String>> {
     Ok(words)
 }
 
-/// How a command ended, what it printed, and of its disk the device calls and what is left.
+/// Of a disk that was handed back the device calls and what is left; nothing where none was.
+fn disk_text(alloc: Global, disk: Option<MemDisk>, left: &str) -> Result<String> {
+    match disk {
+        None => Ok(String::new(alloc)),
+        Some(disk) => {
+            let calls = calls_of(&disk);
+            let digest = digest_of(alloc, disk, left)?;
+            Ok(format!(in alloc; " {calls} {digest}")?)
+        }
+    }
+}
+
+/// How a command ended, what it printed, and what is told of its disk and of the header's.
 fn told(
     alloc: Global,
     ended: Ended<'_, MemDisk, MemLink>,
@@ -77,17 +97,13 @@ fn told(
         status,
         cause,
         disk,
+        header,
         ..
     } = ended;
     let told = format!(in alloc; "{status} {cause:?} {text:?}")?;
-    match disk {
-        None => Ok(told),
-        Some(disk) => {
-            let calls = calls_of(&disk);
-            let digest = digest_of(alloc, disk, left)?;
-            Ok(format!(in alloc; "{told} {calls} {digest}")?)
-        }
-    }
+    let of_disk = disk_text(alloc, disk, left)?;
+    let of_header = disk_text(alloc, header, left)?;
+    Ok(format!(in alloc; "{told}{of_disk}{of_header}")?)
 }
 
 /// The calls that fail by one of a row's last columns; none where the row has fewer.
@@ -104,12 +120,12 @@ pub(crate) fn outcome(
     alloc: Global,
     columns: &[&str],
 ) -> Result<String> {
-    let [_, words, disk, first, left, fails @ ..] = columns else {
+    let [_, words, disks, first, left, fails @ ..] = columns else {
         return Err(anyhow!("a row of so many columns"));
     };
     let words = words_of(alloc, words)?;
-    let disk = disk_of(alloc, disk, fails_in(fails, 0))?;
-    let mut bay = bay_of(alloc, disk, fails_in(fails, 1))?;
+    let (disk, header) = disks_of(alloc, disks, fails_in(fails, 0), fails_in(fails, 3))?;
+    let mut bay = bay_of(alloc, disk, header, fails_in(fails, 1))?;
     let mut seeds = seeds_of(alloc, first, fails_in(fails, 2))?;
     let mut out = ListSink::new(alloc, 4096, &[])?;
     let words = words.as_slice();
