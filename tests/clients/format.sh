@@ -116,7 +116,7 @@ PYTHON
 echo "a header whose first copy lacks is found at its size, and mended"
 
 # what doesn't fit, and what is not there
-refuses "8 fault 8 NoFit reencd: a keyslot of 258048 bytes, for which there are 0 before the data" \
+refuses "8 fault 8 NoFit reencd: no room for keyslots: 258048 bytes are wanted, and there are 0" \
     --key-file key --data-offset 32768
 refuses "8 fault 8 NoFit reencd: a passphrase of 0 bytes, which are to be 1 to 512" --key-file /dev/null
 head -c 600 /dev/zero >long

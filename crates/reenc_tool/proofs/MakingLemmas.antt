@@ -1,8 +1,10 @@
--- New volumes, by the words that ask for them and the disk that they are made on.
-use Rattle.std.proofs.Common.{◌≡◌, ◌∙◌, ◌||◌, ◌⊎◌, ◌*◌, ◌%◌, ◌^◌, ◌<◌, ◌≤◌, ℕ, Bool, true, false}
-use Rattle.std.proofs.Common.{List, [], length, Option, Some, inl, inr, refl, sym, ap, subst, arith}
+-- New volumes, by the words that ask for them and the disks that they are made on.
+use Rattle.std.proofs.Common.{◌≡◌, ◌∙◌, ◌||◌, ◌⊎◌, ◌+◌, ◌*◌, ◌%◌, ◌^◌, ◌<◌, ◌≤◌, ℕ, Bool, true}
+use Rattle.std.proofs.Common.{false, List, [], length, Option, Some, inl, inr, refl, sym, ap, subst}
+use Rattle.std.proofs.Common.{arith}
+use Rattle.std.proofs.Math.Nat.{mul-le-mul_right}
 use Rattle.std.proofs.lemmas.Bool.Decides.{Decides-eqb}
-use Rattle.std.specs.Prelude.{◌==◌, Result}
+use Rattle.std.specs.Prelude.{◌==◌, Result, is_some, if◌then◌else◌}
 use Rattle.cipher_laws.specs.Bytes.{AreBytes}
 use Rattle.base_terms.specs.declared.failed.Failed.{Failed}
 use Rattle.command_line.specs.Formats.{Formatting, IsFormatting, has_key_size}
@@ -12,6 +14,7 @@ use Rattle.format_disk.specs.Rests.{LeaveTheRest}
 use Rattle.format_disk.specs.Volumes.{IsNewVolume}
 use Rattle.format_disk.specs.Written.{FitTheirDisk}
 use Rattle.joined_disk.specs.Counts.{HasSizes}
+use Rattle.joined_disk.specs.Joined.{Joint, begun_joint, joined_disk}
 use Rattle.format_disk.specs.declared.volume.NewVolume.{NewVolume}
 use Rattle.header_report.specs.Examinations.{sizes_alone}
 use Rattle.luks_format.specs.Wishes.{FitsDisk, IsWish}
@@ -23,8 +26,11 @@ use Rattle.new_volumes.specs.Standing.{NewVolumesStand}
 use Rattle.sector_cipher.specs.Names.{IsKeyLength}
 use Rattle.sector_disk.specs.Devices.{Device as DiskState}
 use Rattle.sector_disk.specs.Geometry.{IsAtom}
-use Rattle.reenc_tool.specs.Making.{IsMade, cause_of_writing, report_of_writing, wish_of}
-use Rattle.reenc_tool.specs.Outcomes.{Outcome, unserved}
+use Rattle.volume_opening.specs.Refusals.{AreOf}
+use Rattle.reenc_tool.specs.Making.{ComesTo, IsMade, IsOnOne, IsOnTwo, cause_of_writing}
+use Rattle.reenc_tool.specs.Making.{report_of_writing, sizes_behind, wish_of}
+use Rattle.reenc_tool.specs.Outcomes.{Outcome, ended_by, none_came, unserved}
+use Rattle.reenc_tool.specs.declared.ended.Cause.{Cause}
 
 -- ---- the wish of the words
 one_of : (n first second : ℕ) → ((n == first) || (n == second)) ≡ true →
@@ -54,66 +60,111 @@ is_wish words is =
       size = is.size;
     }
 
-pub fits_disk : (words : Formatting) (device : DiskState) → IsFormatting words →
-    device.size ≡ words.atom → device.atoms * device.size < 2 ^ 63 →
-    FitsDisk (wish_of words) (sizes_alone device)
-fits_disk words device is size within = record {
+-- ---- its disks
+-- a disk that is to have both the header and the data
+pub fits_one : (words : Formatting) (device : DiskState) → IsFormatting words →
+    device.size ≡ words.atom → is_some words.header ≡ false →
+    device.atoms * device.size < 2 ^ 63 → FitsDisk (wish_of words) (sizes_alone device)
+fits_one words device is size one within = record {
   atom = subst IsAtom (sym size) is.atom;
   sector = ap (λ atom. atom % words.sector_size) size ∙ is.sectors;
-  one = refl;
-  same = refl;
-  within = within;
+  detached = sym one;
+  alone = λ attached. refl;
+  header = within;
+  main = within;
 }
+
+part_within : (part all size most : ℕ) → part ≤ all → all * size < most → part * size < most
+part_within part all size most few within =
+    let less = mul-le-mul_right size few in omega (arith, less, within)
+
+-- two disks of which the one in front is to have the header
+pub fits_two : (words : Formatting) (head disk : DiskState) (sizes : Sizes) → IsFormatting words →
+    disk.size ≡ words.atom → is_some words.header ≡ true →
+    sizes ≡ sizes_behind head disk →
+    (joined_disk (begun_joint head disk)).atoms * sizes.atom < 2 ^ 63 →
+    FitsDisk (wish_of words) sizes
+fits_two words head disk sizes is size two are within =
+    subst (λ (s : Sizes). FitsDisk (wish_of words) s) (sym are)
+    (fits words head disk is size two
+    (subst (λ (s : Sizes). (joined_disk (begun_joint head disk)).atoms * s.atom < 2 ^ 63) are
+    within))
+  where
+    fits : (words : Formatting) (head disk : DiskState) → IsFormatting words →
+        disk.size ≡ words.atom → is_some words.header ≡ true →
+        (joined_disk (begun_joint head disk)).atoms * disk.size < 2 ^ 63 →
+        FitsDisk (wish_of words) (sizes_behind head disk)
+    fits words head disk is size two within = record {
+      atom = subst IsAtom (sym size) is.atom;
+      sector = ap (λ atom. atom % words.sector_size) size ∙ is.sectors;
+      detached = sym two;
+      alone = λ attached. absurd (cc attached);
+      header = part_within _ _ disk.size _ (omega arith) within;
+      main = part_within _ _ disk.size _ (omega arith) within;
+    }
+
+abbrev told : ℕ → ℕ → ℕ → Bool → Sizes
+told atom header main detached =
+    record { atom = atom; header_atoms = header; main_atoms = main; detached = detached }
+
+-- the sizes that two joined disks tell are those of both
+pub sizes_told : (sizes : Sizes) (joint : Joint) (head disk : DiskState) →
+    joint ≡ begun_joint head disk → sizes.atom ≡ (joined_disk joint).size →
+    sizes.main_atoms ≡ joint.used → sizes.detached ≡ true →
+    (if sizes.detached then sizes.header_atoms else 0) + sizes.main_atoms
+    ≡ (joined_disk joint).atoms → sizes ≡ sizes_behind head disk
+sizes_told sizes joint head disk is atom main detached all =
+    let sum : sizes.header_atoms + sizes.main_atoms ≡ (joined_disk joint).atoms = rw detached at all in
+    let front : sizes.header_atoms ≡ joint.head.atoms = omega (arith, sum, main) in
+    ap (λ n. told n sizes.header_atoms sizes.main_atoms sizes.detached) atom
+    ∙ ap (λ n. told joint.main.size n sizes.main_atoms sizes.detached) front
+    ∙ ap (λ n. told joint.main.size joint.head.atoms n sizes.detached) main
+    ∙ ap (λ b. told joint.main.size joint.head.atoms joint.used b) detached
+    ∙ ap (λ (j : Joint). told j.main.size j.head.atoms j.used true) is
 
 -- ---- the volume on its disk
 -- a volume that was made for a disk, and may be written there
-pub record IsReady (words : Formatting) (device : DiskState) (pass seed : List ℕ)
+pub record IsReady (words : Formatting) (sizes : Sizes) (device : DiskState) (pass seed : List ℕ)
     (volume : NewVolume) : Type 0 where
   pub right : IsWish (wish_of words)
-  pub room : FitsDisk (wish_of words) (sizes_alone device)
-  pub new : IsNewVolume (wish_of words) (sizes_alone device) pass seed volume
+  pub room : FitsDisk (wish_of words) sizes
+  pub new : IsNewVolume (wish_of words) sizes pass seed volume
   pub fits : FitsNew volume device
 
-pub is_ready : (words : Formatting) (device : DiskState) (pass seed : List ℕ) (volume : NewVolume)
-    (wish : Wish) (sizes : Sizes) → IsFormatting words → device.size ≡ words.atom →
-    sizes ≡ sizes_alone device → HasSizes sizes device → sizes.main_atoms * sizes.atom < 2 ^ 63 →
-    wish ≡ wish_of words → IsNewVolume wish sizes pass seed volume → FitTheirDisk →
-    IsReady words device pass seed volume
-is_ready words device pass seed volume wish sizes is atom sizes_are has within wish_is made fit =
+pub is_ready : (words : Formatting) (sizes : Sizes) (device : DiskState) (pass seed : List ℕ)
+    (volume : NewVolume) (wish : Wish) → IsFormatting words → HasSizes sizes device →
+    FitsDisk (wish_of words) sizes → wish ≡ wish_of words →
+    IsNewVolume wish sizes pass seed volume → FitTheirDisk →
+    IsReady words sizes device pass seed volume
+is_ready words sizes device pass seed volume wish is has room wish_is made fit =
     let right = is_wish words is in
-    let few = subst (λ (s : Sizes). s.main_atoms * s.atom < 2 ^ 63) sizes_are within in
-    let room = fits_disk words device is atom few in
-    let new = subst (λ (w : Wish). IsNewVolume w (sizes_alone device) pass seed volume) wish_is
-    (subst (λ (s : Sizes). IsNewVolume wish s pass seed volume) sizes_are made) in
+    let new = subst (λ (w : Wish). IsNewVolume w sizes pass seed volume) wish_is made in
     record {
       right = right;
       room = room;
       new = new;
-      fits = fit (wish_of words) (sizes_alone device) pass seed volume device right room new
-          (subst (λ (s : Sizes). HasSizes s device) sizes_are has);
+      fits = fit (wish_of words) sizes pass seed volume device right room new has;
     }
 
-pub is_made : {D L : Type 0} (device : D → DiskState) (words : Formatting) (pass seed : List ℕ)
-    (disk back : D) (volume : NewVolume) (result : Result (Unit {0}) Failed)
-    (outcome : Outcome D L) (report : Option (List ℕ)) →
-    IsReady words (device disk) pass seed volume → LeaveTheRest → NewVolumesStand →
+pub is_made : {X : Type 0} (device : X → DiskState) (words : Formatting) (sizes : Sizes)
+    (pass seed : List ℕ) (disk back : X) (volume : NewVolume)
+    (result : Result (Unit {0}) Failed) (cause : Cause) (report : Option (List ℕ)) →
+    IsReady words sizes (device disk) pass seed volume → LeaveTheRest → NewVolumesStand →
     ((bytes : List ℕ) → (device disk).values ≡ Some bytes →
     length bytes ≡ (device disk).atoms * (device disk).size) →
     ((bytes : List ℕ) → (device disk).values ≡ Some bytes → AreBytes bytes) →
     WritesVolume volume (device disk) (device back) result →
-    outcome ≡ unserved (cause_of_writing result (device back).faults) (Some back) [] →
+    cause ≡ cause_of_writing result (device back).faults →
     report ≡ report_of_writing result volume.identifier →
-    IsMade device (wish_of words) pass seed disk outcome report
-is_made device words pass seed disk back volume result outcome report ready rest stand whole
-    are_bytes writes outcome_is report_is =
+    IsMade device (wish_of words) sizes pass seed disk back cause report
+is_made device words sizes pass seed disk back volume result cause report ready rest stand whole
+    are_bytes writes cause_is report_is =
     let wish = wish_of words in
-    let sizes = sizes_alone (device disk) in
     let left = rest wish sizes pass seed volume (device disk) (device back) result ready.right
     ready.new writes in
     record {
       volume = volume;
       is = ready.new;
-      back = back;
       result = result;
       writes = writes;
       before = left.0;
@@ -122,6 +173,72 @@ is_made device words pass seed disk back volume result outcome report ready rest
           stand wish sizes pass seed volume (device disk) (device back) bytes ready.right ready.room
           ready.new ready.fits held (whole bytes held) (are_bytes bytes held)
           (subst (λ r. WritesVolume volume (device disk) (device back) r) done writes);
-      outcome_is = outcome_is;
+      cause_is = cause_is;
       report_is = report_is;
+    }
+
+-- ---- what is handed back
+-- what came of a disk is what came of what it shows
+seen_alike : {X Y : Type 0} (device : Y → DiskState) (see : X → Y) (wish : Wish) (sizes : Sizes)
+    (pass seed : List ℕ) (disk back : X) (cause : Cause) (report : Option (List ℕ)) →
+    ComesTo (λ x. device (see x)) wish sizes pass seed disk back cause report →
+    ComesTo device wish sizes pass seed (see disk) (see back) cause report
+seen_alike device see wish sizes pass seed disk back cause report (inl made) = inl (record {
+  volume = made.volume;
+  is = made.is;
+  result = made.result;
+  writes = made.writes;
+  before = made.before;
+  keeps = made.keeps;
+  written = made.written;
+  cause_is = made.cause_is;
+  report_is = made.report_is;
+})
+seen_alike device see wish sizes pass seed disk back cause report (inr none) = inr (record {
+  fault = none.fault;
+  unfit = none.unfit;
+  stands = ap see none.stands;
+  cause_is = none.cause_is;
+  report_is = none.report_is;
+})
+
+pub is_on_one : {D L : Type 0} (device : D → DiskState) (wish : Wish) (sizes : Sizes)
+    (pass seed : List ℕ) (disk back : D) (cause : Cause) (outcome : Outcome D L)
+    (report : Option (List ℕ)) → sizes ≡ sizes_alone (device disk) →
+    ComesTo device wish sizes pass seed disk back cause report →
+    outcome ≡ unserved cause (Some back) [] → IsOnOne device wish pass seed disk outcome report
+is_on_one {D} {L} device wish sizes pass seed disk back cause outcome report are came is = record {
+  back = back;
+  came = subst (λ (o : Outcome D L).
+      ComesTo device wish (sizes_alone (device disk)) pass seed disk back o.cause report) (sym is)
+      (subst (λ (s : Sizes). ComesTo device wish s pass seed disk back cause report) are came);
+  outcome_is = is ∙ ap (λ (o : Outcome D L). unserved o.cause (Some back) []) (sym is);
+}
+
+pub is_on_two : {D L X : Type 0} (device : D → DiskState) (see : X → Joint) (wish : Wish)
+    (sizes : Sizes) (pass seed : List ℕ) (head disk : D) (joined after : X) (header : Option D)
+    (back : D) (cause : Cause) (outcome : Outcome D L) (report : Option (List ℕ)) →
+    see joined ≡ begun_joint (device head) (device disk) →
+    sizes ≡ sizes_behind (device head) (device disk) →
+    ComesTo (λ x. joined_disk (see x)) wish sizes pass seed joined after cause report →
+    AreOf device (see after) header back →
+    outcome ≡ ended_by (none_came cause []) (Some back) header →
+    IsOnTwo device wish pass seed head disk outcome report
+is_on_two {D} {L} device see wish sizes pass seed head disk joined after header back cause outcome
+    report begun are came parts is =
+    let both = sizes_behind (device head) (device disk) in
+    let seen = seen_alike joined_disk see wish sizes pass seed joined after cause report came in
+    record {
+      header = header;
+      back = back;
+      joint = see after;
+      are = parts;
+      came = subst (λ (o : Outcome D L). ComesTo joined_disk wish both pass seed
+          (begun_joint (device head) (device disk)) (see after) o.cause report) (sym is)
+          (subst (λ (j : Joint).
+          ComesTo joined_disk wish both pass seed j (see after) cause report) begun
+          (subst (λ (s : Sizes).
+          ComesTo joined_disk wish s pass seed (see joined) (see after) cause report) are seen));
+      outcome_is = is
+          ∙ ap (λ (o : Outcome D L). ended_by (none_came o.cause []) (Some back) header) (sym is);
     }

@@ -92,9 +92,9 @@ cause_of_fault failing BayFaults.Memory faults = Memory
 pub record HasNoDisk {B D L : Type 0} (holdings : B → Holdings D) (asks : AsksDisk B D)
     (name : List ℕ) (atom : ℕ) (given : Option D) (old new : B) (outcome : Outcome D L) : Type 0
   where
-  pub fault : BayFault
-  pub asked : asks old name atom (Err fault) new
-  pub leaves : LeavesAll (holdings old) (holdings new)
-  pub count : FaultCounts fault (holdings old).faults (holdings new).faults
-  pub outcome_is : outcome
-      ≡ unserved (cause_of_fault Opening fault (holdings new).faults) given []
+    pub fault : BayFault
+    pub asked : asks old name atom (Err fault) new
+    pub leaves : LeavesAll (holdings old) (holdings new)
+    pub count : FaultCounts fault (holdings old).faults (holdings new).faults
+    pub outcome_is : outcome
+        ≡ unserved (cause_of_fault Opening fault (holdings new).faults) given []

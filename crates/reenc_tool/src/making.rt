@@ -1,7 +1,7 @@
 // `format`: a new volume on a disk, or on two.
 
-ghost use Rattle.std.specs.Prelude.{◌≡◌, ◌*◌, ◌^◌, ◌<◌, IfOk, IsSome, None, is_some};
-ghost use Rattle.std.specs.Prelude.{option_map, string_bytes};
+ghost use Rattle.std.specs.Prelude.{◌≡◌, ◌*◌, ◌^◌, ◌<◌, true, false, IfOk, is_some, option_map};
+ghost use Rattle.std.specs.Prelude.{string_bytes};
 ghost use Rattle.command_line.specs.Formats.{IsFormatting, formatting};
 ghost use Rattle.header_report.specs.Examinations.{sizes_alone};
 ghost use Rattle.joined_disk.specs.Counts.{HasSizes};
@@ -9,7 +9,7 @@ ghost use Rattle.joined_disk.specs.Joined.{in_front};
 ghost use Rattle.luks_format.specs.Wishes.{FitsDisk, IsWish};
 ghost use Rattle.reenc_tool.specs.Making.{AsksForHeader, AsksForKey, ComesTo, HasMade, IsOn};
 ghost use Rattle.reenc_tool.specs.Making.{IsOnOne, IsOnTwo, formatted_line, wish_of};
-ghost use Rattle.reenc_tool.specs.Outcomes.{ended_by, none_came, outcome_of};
+ghost use Rattle.reenc_tool.specs.Outcomes.{outcome_of};
 ghost use Rattle.reenc_tool.specs.Promise.{HasNoPass};
 ghost use Rattle.reenc_tool.specs.Status.{status_of};
 
@@ -118,7 +118,7 @@ fn make_on_one<'w, D: Disk, L>(
 ) -> (Ended<'w, D, L>, Option<String>)
     requires words { IsFormatting (formatting words.now) }
     requires atom { (D.device disk).size ≡ (formatting words.now).atom }
-    requires one { (formatting words.now).header ≡ None }
+    requires one { is_some (formatting words.now).header ≡ false }
     ensures status { result.0.status ≡ status_of result.0.cause }
     ensures pass { HasNoPass result.0.pass result.0.demo }
     ensures made { IsOnOne D.device (wish_of (formatting words.now)) pass.now seed.now disk
@@ -142,7 +142,7 @@ fn make_on_two<'w, D: Disk, L>(
     requires words { IsFormatting (formatting words.now) }
     requires head { (D.device head).size ≡ (formatting words.now).atom }
     requires atom { (D.device disk).size ≡ (formatting words.now).atom }
-    requires two { IsSome (formatting words.now).header }
+    requires two { is_some (formatting words.now).header ≡ true }
     ensures status { result.0.status ≡ status_of result.0.cause }
     ensures pass { HasNoPass result.0.pass result.0.demo }
     ensures made { IsOnTwo D.device (wish_of (formatting words.now)) pass.now seed.now head disk

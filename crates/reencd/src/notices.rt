@@ -55,7 +55,7 @@ fn explain_usage(alloc: Global, errors: Stderr, words: &[String]) {
 fn explain_fit(errors: Stderr, what: Fit, number: u64, limit: u64) {
     let _ = match what {
         Fit::Area => eprintln!(errors;
-            "reencd: a keyslot of {number} bytes, for which there are {limit} before the data"
+            "reencd: no room for keyslots: {number} bytes are wanted, and there are {limit}"
         ),
         Fit::Json => eprintln!(errors;
             "reencd: a header's text of {number} bytes, for which there are {limit}"
