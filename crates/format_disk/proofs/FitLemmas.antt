@@ -1,6 +1,6 @@
 -- What is known of a volume for which nothing is unfit.
-use Rattle.std.proofs.Common.{◌≡◌, ℕ, ◌-◌, ◌/◌, ◌<◌, ◌≤◌, Bool, true, false}
-use Rattle.std.proofs.Common.{List, Some, None, ◌+◌, refl, arith}
+use Rattle.std.proofs.Common.{◌≡◌, ℕ, ◌-◌, ◌/◌, ◌<◌, ◌≤◌, Bool, true, false, Option}
+use Rattle.std.proofs.Common.{◌&&◌, List, Some, None, ◌+◌, refl, arith}
 use Rattle.std.proofs.lemmas.Bool.{leb-false, ltb-false}
 use Rattle.disk_sizes.specs.declared.Sizes.{Sizes}
 use Rattle.format_disk.specs.Fitting.{unfit_by}
@@ -8,34 +8,46 @@ use Rattle.format_disk.specs.declared.fault.FormatFault.{FormatFault}
 use Rattle.luks_bin.proofs.FieldLemmas.{size-least}
 use Rattle.luks_format.specs.Drawings.{Draw}
 use Rattle.luks_format.specs.Metadata.{config_for, parts_for, parts_with}
-use Rattle.luks_format.specs.Wishes.{IsWish, keyslots_size_for}
+use Rattle.luks_format.specs.Wishes.{IsWish, areas_end_for, keyslots_size_for}
 use Rattle.luks_format.specs.declared.wish.Wish.{Wish}
+use Rattle.luks_rules.specs.Areas.{header_bytes}
 use Rattle.luks_slots.specs.NewSlots.{area_len}
 use Rattle.std.specs.Prelude.{if◌then◌else◌}
 
--- none of four tests finds a fault
-none-found : (a b c d : Bool) (one two three four : FormatFault)
-    → (if a then Some one else (if b then Some two else (if c then Some three else
-    (if d then Some four else None)))) ≡ None
-    → (a ≡ false) × (b ≡ false) × (d ≡ false)
-none-found true b c d one two three four is = absurd cc
-none-found false true c d one two three four is = absurd cc
-none-found false false true d one two three four is = absurd cc
-none-found false false false true one two three four is = absurd cc
-none-found false false false false one two three four is = (refl, refl, refl)
+-- one test found no fault, nor did those behind it
+passes : (test : Bool) (fault : FormatFault) (later : Option FormatFault)
+    → (if test then Some fault else later) ≡ None → (test ≡ false) × (later ≡ None)
+passes true fault later is = absurd cc
+passes false fault later is = (refl, is)
 
--- the keyslot's area and the text have room, and the disk has a block
+not-both : (a b : Bool) → (a && b) ≡ false → a ≡ true → b ≡ false
+not-both true b is yes = is
+not-both false b is yes = absurd cc
+
+-- The keyslot's area and the text have room, the keyslots area ends on the header's disk, where that
+-- is one of its own, and the disk of the data has a block.
+pub record Fits (w : Wish) (sizes : Sizes) (len : ℕ) : Type 0 where
+  pub area : area_len w.key_size ≤ keyslots_size_for w
+  pub front : w.detached ≡ true → areas_end_for w ≤ header_bytes sizes
+  pub text : len ≤ w.metadata_size - 4097
+  pub block : w.data_offset / sizes.atom < sizes.main_atoms
+
 pub all-fits : (w : Wish) (sizes : Sizes) (pass : List ℕ) (len : ℕ)
-    → unfit_by w sizes pass len ≡ None
-    → (area_len w.key_size ≤ keyslots_size_for w) × (len ≤ w.metadata_size - 4097)
-    × (w.data_offset / sizes.atom < sizes.main_atoms)
+    → unfit_by w sizes pass len ≡ None → Fits w sizes len
 unfolding unfit_by
 all-fits w sizes pass len is =
-    let found = none-found _ _ _ _ _ _ _ _ is in (
-      ltb-false (keyslots_size_for w) (area_len w.key_size) found.0,
-      ltb-false (w.metadata_size - 4097) len found.1,
-      leb-false sizes.main_atoms (w.data_offset / sizes.atom) found.2,
-    )
+    let area = passes _ _ _ is in
+    let front = passes _ _ _ area.1 in
+    let text = passes _ _ _ front.1 in
+    let some = passes _ _ _ text.1 in
+    let block = passes _ _ _ some.1 in
+    record {
+      area = ltb-false (keyslots_size_for w) (area_len w.key_size) area.0;
+      front = λ own. ltb-false (header_bytes sizes) (areas_end_for w)
+          (not-both w.detached _ front.0 own);
+      text = ltb-false (w.metadata_size - 4097) len text.0;
+      block = leb-false sizes.main_atoms (w.data_offset / sizes.atom) block.0;
+    }
 
 -- the sizes of the metadata speak of copies of the size that is wished
 pub text-size : (w : Wish) (d : Draw) → IsWish w

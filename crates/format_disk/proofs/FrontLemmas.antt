@@ -1,26 +1,27 @@
 -- Where lies what is written of a new volume.
 use Rattle.std.proofs.Common.{◌≡◌, ℕ, ◌+◌, ◌*◌, ◌/◌, ◌≤◌, List, length, take, refl, ◌∙◌, ap}
-use Rattle.std.proofs.Common.{arith, subst, sym}
+use Rattle.std.proofs.Common.{Bool, true, false, arith, subst, sym}
 use Rattle.std.proofs.Math.Nat.{div-mul-le_self, mul-le-mul_right}
+use Rattle.std.specs.Prelude.{if◌then◌else◌}
 use Rattle.disk_sizes.specs.declared.Sizes.{Sizes}
 use Rattle.format_disk.proofs.FitLemmas.{all-fits}
 use Rattle.format_disk.specs.Calls.{FitsNew}
 use Rattle.format_disk.specs.Fitting.{draw_of, text_len}
-use Rattle.format_disk.specs.Rests.{end_of_front}
+use Rattle.format_disk.specs.Rests.{end_of_front, front_room}
 use Rattle.format_disk.specs.Volumes.{IsNewVolume}
 use Rattle.format_disk.specs.declared.volume.NewVolume.{NewVolume}
 use Rattle.joined_disk.specs.Counts.{HasSizes}
 use Rattle.luks_bin.proofs.FieldLemmas.{size-least}
 use Rattle.luks_bin.specs.declared.header.BinHeader.{BinHeader}
 use Rattle.luks_copies.specs.Held.{primary_of, secondary_of}
-use Rattle.luks_format.proofs.RulesLemmas.{key-bounds}
-use Rattle.luks_format.proofs.SizeLemmas.{area-some, block-left, data-behind, pages-whole}
+use Rattle.luks_format.proofs.RulesLemmas.{before-offset}
+use Rattle.luks_format.proofs.SizeLemmas.{block-left, pages-whole}
 use Rattle.luks_format.specs.Drawings.{Draw, salt_len}
 use Rattle.luks_format.specs.Metadata.{config_for, keyslot_for, parts_with}
-use Rattle.luks_format.specs.Wishes.{FitsDisk, IsWish, keyslots_size_for, most_keyslots}
+use Rattle.luks_format.specs.Wishes.{FitsDisk, IsWish, areas_end_for}
 use Rattle.luks_format.specs.declared.wish.Wish.{Wish}
 use Rattle.luks_json.specs.declared.keyslot.Luks2.{Luks2}
-use Rattle.luks_slots.specs.Functions.{named_cipher}
+use Rattle.luks_rules.specs.Areas.{header_bytes, main_bytes}
 use Rattle.luks_slots.specs.NewSlots.{area_len, slot_for}
 use Rattle.sector_disk.specs.Devices.{Device}
 use Rattle.sector_disk.specs.Geometry.{IsInDisk}
@@ -65,35 +66,65 @@ slot-is w sizes pass seed v is =
     ∙ ap (λ n. slot_for (2 * w.metadata_size) n w.iterations
     (take salt_len (draw_of w seed).slot)) is.drawn.key
 
--- its area ends in front of the data
-pub before-data : (w : Wish) (sizes : Sizes) (pass seed : List ℕ) (v : NewVolume) → IsWish w
-    → IsNewVolume w sizes pass seed v → end_of_front v ≤ w.data_offset
-unfolding keyslots_size_for
-before-data w sizes pass seed v wish is =
+-- its area ends within the keyslots area
+in-areas : (w : Wish) (sizes : Sizes) (pass seed : List ℕ) (v : NewVolume)
+    → IsNewVolume w sizes pass seed v → end_of_front v ≤ areas_end_for w
+in-areas w sizes pass seed v is =
     let within = is.slot.1.within in
     let size = ap (λ (k : Luks2). k.area.size) (slot-is w sizes pass seed v is)
     ∙ slot-size w (draw_of w seed) in
-    let room = (all-fits w sizes pass (text_len w seed) is.fits).0 in
-    let some = area-some w.key_size (key-bounds (named_cipher w.cipher) w.key_size wish.key).0 in
-    let behind = data-behind w.data_offset (2 * w.metadata_size) most_keyslots
-    (area_len w.key_size) some room in
+    let room = (all-fits w sizes pass (text_len w seed) is.fits).area in
     let place = is.place in
-    omega (arith, within, size, room, behind, place)
+    omega (arith, within, size, room, place)
+
+-- which ends on the header's disk, or in front of the data
+pub in-front : (w : Wish) (sizes : Sizes) (pass seed : List ℕ) (v : NewVolume) → IsWish w
+    → IsNewVolume w sizes pass seed v → end_of_front v ≤ front_room w sizes
+in-front w sizes pass seed v wish is = by-form w.detached refl
+  where
+    by-form : (detached : Bool) → w.detached ≡ detached
+        → end_of_front v ≤ (if detached then header_bytes sizes else w.data_offset)
+    by-form true own =
+        let fit = all-fits w sizes pass (text_len w seed) is.fits in
+        let end = in-areas w sizes pass seed v is in
+        let room = fit.front own in
+        omega (arith, end, room)
+    by-form false one =
+        let fit = all-fits w sizes pass (text_len w seed) is.fits in
+        let end = in-areas w sizes pass seed v is in
+        let room = before-offset w wish fit.area one in
+        omega (arith, end, room)
+
+-- the disk of the data has it where its offset says
+pub data-begins : (w : Wish) (sizes : Sizes) (pass seed : List ℕ) (v : NewVolume) → IsWish w
+    → FitsDisk w sizes → IsNewVolume w sizes pass seed v → w.data_offset ≤ main_bytes sizes
+data-begins w sizes pass seed v wish disk is =
+    let block = (all-fits w sizes pass (text_len w seed) is.fits).block in
+    let even = pages-whole w.data_offset sizes.atom disk.atom wish.page in
+    let left = block-left sizes.atom sizes.main_atoms w.data_offset disk.atom even block in
+    omega (arith, left)
+
+-- the room in front of the data lies on a disk of these sizes
+room-on : (w : Wish) (sizes : Sizes) (device : Device) → HasSizes sizes device
+    → w.data_offset ≤ main_bytes sizes → front_room w sizes ≤ device.atoms * sizes.atom
+room-on w sizes device has begins = by-form w.detached
+  where
+    by-form : (detached : Bool)
+        → (if detached then header_bytes sizes else w.data_offset) ≤ device.atoms * sizes.atom
+    by-form true = mul-le-mul_right sizes.atom has.header
+    by-form false = let main = mul-le-mul_right sizes.atom has.main in omega (arith, begins, main)
 
 -- all of it lies on a disk of the sizes that it is made for
 pub fits-new : (w : Wish) (sizes : Sizes) (pass seed : List ℕ) (v : NewVolume) (device : Device)
     → IsWish w → FitsDisk w sizes → IsNewVolume w sizes pass seed v → HasSizes sizes device
     → FitsNew v device
 fits-new w sizes pass seed v device wish disk is has =
-    let end = before-data w sizes pass seed v wish is in
-    let block = (all-fits w sizes pass (text_len w seed) is.fits).2 in
-    let even = pages-whole w.data_offset sizes.atom disk.atom wish.page in
-    let left = block-left sizes.atom sizes.main_atoms w.data_offset disk.atom even block in
-    let main = mul-le-mul_right sizes.atom has.main in
+    let end = in-front w sizes pass seed v wish is in
+    let room = room-on w sizes device has (data-begins w sizes pass seed v wish disk is) in
     let place = div-mul-le_self v.area_offset sizes.atom in
     let within : v.area_offset / sizes.atom * sizes.atom + length v.area
     ≤ device.atoms * sizes.atom =
-    omega (arith, end, left, main, place) in
+    omega (arith, end, room, place) in
     record {
       begun = is.first.begun;
       sizes = subst (λ (s : Sizes). HasSizes s device) (sym is.first.sizes_are) has;

@@ -1,16 +1,16 @@
 -- The header that is loaded from a new volume's bytes, and the key that its passphrase unseals.
-use Rattle.std.proofs.Common.{◌≡◌, inl, inr, ℕ, ◌+◌, ◌*◌, ◌≤◌, true, List}
+use Rattle.std.proofs.Common.{◌≡◌, inl, inr, ℕ, ◌+◌, ◌-◌, ◌*◌, ◌≤◌, true, false, List}
 use Rattle.std.proofs.Common.{Bool, Option, [], ◌∷◌, ◌++◌, length, take, drop, Some, None, Ok}
 use Rattle.std.proofs.Common.{refl, sym, ◌∙◌, ap, ap₂, subst}
-use Rattle.std.proofs.Common.{arith, length-append, length-drop}
+use Rattle.std.proofs.Common.{arith}
+use Rattle.std.proofs.Math.Seq.{take-append-add}
 use Rattle.std.proofs.lemmas.Bool.{le-leb}
-use Rattle.std.proofs.lemmas.List.{drop-drop, drop_at, length-take-le, take_all, take_at}
+use Rattle.std.proofs.lemmas.List.{drop-drop, drop_at, length-take-le, take_at}
 use Rattle.std.proofs.lemmas.Slice.Eq.{bytes_eq-Decides}
 use Rattle.std.specs.Prelude.{if◌then◌else◌}
 use Rattle.disk_sizes.specs.declared.Sizes.{Sizes}
-use Rattle.format_disk.proofs.FitLemmas.{all-fits}
-use Rattle.format_disk.proofs.FrontLemmas.{IsFront, before-data, is-front, slot-is, slot-offset}
-use Rattle.format_disk.specs.Fitting.{draw_of, metadata_of, text_len}
+use Rattle.format_disk.proofs.FrontLemmas.{IsFront, is-front, slot-is, slot-offset}
+use Rattle.format_disk.specs.Fitting.{draw_of, metadata_of}
 use Rattle.format_disk.specs.Rests.{end_of_front}
 use Rattle.format_disk.specs.Volumes.{IsNewVolume}
 use Rattle.format_disk.specs.Written.{OpensTo, written_over}
@@ -18,7 +18,6 @@ use Rattle.format_disk.specs.declared.volume.NewVolume.{NewVolume}
 use Rattle.luks_bin.specs.Copies.{text_of}
 use Rattle.luks_copies.specs.Held.{primary_of, secondary_of}
 use Rattle.luks_format.proofs.RulesLemmas.{key-bounds}
-use Rattle.luks_format.proofs.SizeLemmas.{block-left, pages-whole}
 use Rattle.luks_format.specs.Drawings.{Draw}
 use Rattle.luks_format.specs.Metadata.{digest_for, keyslot_for, parts_with, segment_for}
 use Rattle.luks_format.specs.Wishes.{FitsDisk, IsWish}
@@ -29,7 +28,7 @@ use Rattle.luks_json.specs.declared.keyslot.Keyslot.TheVariants as keyslots
 use Rattle.luks_json.specs.declared.keyslot.Luks2.{Luks2}
 use Rattle.luks_json.specs.declared.keyslot.Priority.TheVariants.{High, Normal}
 use Rattle.luks_json.specs.declared.meta.Parts.{Parts}
-use Rattle.luks_rules.specs.Areas.{header_bytes, main_bytes}
+use Rattle.luks_rules.specs.Areas.{header_bytes}
 use Rattle.luks_rules.specs.References.{lists}
 use Rattle.luks_rules.specs.Rules.{first_fault}
 use Rattle.luks_slots.specs.Functions.{has_key_length, named_cipher}
@@ -37,7 +36,7 @@ use Rattle.luks_slots.specs.NewSlots.{StandsIn, slot_for}
 use Rattle.luks_slots.specs.Slots.{fits, is_ranked}
 use Rattle.luks_slots.specs.Unlocks.{first_key, key_in, key_of, key_of_slot, matches, or_else}
 use Rattle.luks_store.specs.Commits.{IsNextStored, committed}
-use Rattle.luks_store.specs.Devices.{front_of}
+use Rattle.luks_store.specs.Devices.{front_of, header_room}
 use Rattle.luks_store.specs.Loads.{judged, stored_in}
 use Rattle.luks_store.specs.declared.commit.Prepared.{Prepared}
 use Rattle.luks_store.specs.declared.loaded.Stored.{Stored}
@@ -72,13 +71,6 @@ metadata-are p sizes meta next sized held rules is =
 -- ---- bytes one after the other: two copies of a size, an area, and what is behind
 module _ (one two area rest : List ℕ) (size : ℕ) (first : length one ≡ size)
     (second : length two ≡ size) where
-  whole-length : length (one ++ (two ++ (area ++ rest))) ≡ 2 * size + length area + length rest
-  whole-length =
-      let a = length-append one (two ++ (area ++ rest)) in
-      let b = length-append two (area ++ rest) in
-      let c = length-append area rest in
-      omega (arith, a, b, c, first, second)
-
   area-there : take (length area) (drop (2 * size) (one ++ (two ++ (area ++ rest)))) ≡ area
   area-there =
       let twice : size + size ≡ 2 * size = omega arith in
@@ -88,6 +80,17 @@ module _ (one two area rest : List ℕ) (size : ℕ) (first : length one ≡ siz
       ∙ ap (drop size) (drop_at one (two ++ (area ++ rest)) size first)
       ∙ drop_at two (area ++ rest) size second)
       ∙ take_at area rest (length area) refl
+
+-- a front that holds both copies has them
+copies-there : (one two rest : List ℕ) (n : ℕ) → length one + length two ≤ n
+    → take n (one ++ (two ++ rest))
+    ≡ one ++ (two ++ take (n - length one - length two) rest)
+copies-there one two rest n within =
+    let split : length one + (length two + (n - length one - length two)) ≡ n =
+    omega (arith, within) in
+    ap (λ k. take k (one ++ (two ++ rest))) (sym split)
+    ∙ take-append-add one (two ++ rest) (length two + (n - length one - length two))
+    ∙ ap (λ xs. one ++ xs) (take-append-add two rest (n - length one - length two))
 
 -- ---- the digest
 digest-size : (key salt : List ℕ) (rounds : ℕ)
@@ -168,40 +171,48 @@ listed-slot key salt = refl
 
 -- ---- a new volume
 module _ (w : Wish) (sizes : Sizes) (pass seed : List ℕ) (v : NewVolume) (bytes : List ℕ)
-    (wish : IsWish w) (disk : FitsDisk w sizes) (is : IsNewVolume w sizes pass seed v)
-    (long : length bytes ≡ main_bytes sizes) where
+    (wish : IsWish w) (disk : FitsDisk w sizes) (is : IsNewVolume w sizes pass seed v) where
   abbrev image : List ℕ
   image = written_over v bytes
 
   front : IsFront v w.metadata_size
   front = is-front w sizes pass seed v wish is
 
-  on-disk : end_of_front v ≤ length bytes
-  on-disk =
-      let before = before-data w sizes pass seed v wish is in
-      let fit = all-fits w sizes pass (text_len w seed) is.fits in
-      let left = block-left sizes.atom sizes.main_atoms w.data_offset disk.atom
-      (pages-whole w.data_offset sizes.atom disk.atom wish.page) fit.2 in
-      omega (arith, before, left, long)
+  room-is : (detached : Bool) → sizes.detached ≡ detached
+      → header_room sizes ≡ header_bytes sizes
+  room-is true own = rw own refl
+  room-is false one = rw one (ap (λ n. n * sizes.atom) (sym (disk.alone one)))
 
-  whole : front_of sizes image ≡ image
-  whole =
-      let rest = drop (end_of_front v) bytes in
-      let size = whole-length (primary_of v.commit.copies) (secondary_of v.commit.copies) v.area
-      rest w.metadata_size front.first front.second in
-      let left = length-drop (end_of_front v) bytes in
-      let place = is.place in
-      let end = on-disk in
-      let all : length image ≡ main_bytes sizes = omega (arith, size, left, place, end, long) in
-      let same : main_bytes sizes ≡ header_bytes sizes =
-      ap (λ n. n * sizes.atom) (sym disk.same) in
-      take_all (header_bytes sizes) image (omega (arith, all, same))
+  copies-in : 2 * w.metadata_size ≤ header_bytes sizes
+  copies-in =
+      let room = subst (λ (s : Sizes). 2 * v.commit.header.hdr_size ≤ header_room s)
+      is.first.sizes_are is.first.prepared.room in
+      let same = room-is sizes.detached refl in
+      let size = front.header in
+      omega (arith, room, same, size)
+
+  -- what stands behind both copies on the header's disk
+  abbrev behind : List ℕ
+  behind =
+      take (header_bytes sizes - length (primary_of v.commit.copies)
+      - length (secondary_of v.commit.copies)) (v.area ++ drop (end_of_front v) bytes)
+
+  front-is : front_of sizes image
+      ≡ primary_of v.commit.copies ++ (secondary_of v.commit.copies ++ behind)
+  front-is =
+      let within = copies-in in
+      let first = front.first in
+      let second = front.second in
+      copies-there (primary_of v.commit.copies) (secondary_of v.commit.copies) _
+      (header_bytes sizes) (omega (arith, within, first, second))
 
   loads : stored_in sizes (front_of sizes image) ≡ Ok is.first.loaded.0
   loads =
-      ap (stored_in sizes) whole
-      ∙ ap (λ (s : Sizes). stored_in s image) (sym is.first.sizes_are)
-      ∙ is.first.loaded.1.loads (v.area ++ drop (end_of_front v) bytes)
+      ap (stored_in sizes) front-is
+      ∙ ap (λ (s : Sizes). stored_in s
+      (primary_of v.commit.copies ++ (secondary_of v.commit.copies ++ behind)))
+      (sym is.first.sizes_are)
+      ∙ is.first.loaded.1.loads behind
 
   stands : StandsIn image (record { keyslot = is.slot.0; area = v.area })
   stands =

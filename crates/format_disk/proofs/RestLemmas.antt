@@ -8,10 +8,10 @@ use Rattle.std.proofs.lemmas.List.{drop-drop, drop_all, drop_at, length-take-le,
 use Rattle.base_terms.specs.Blocks.{pasted}
 use Rattle.base_terms.specs.declared.failed.Failed.{Failed}
 use Rattle.disk_sizes.specs.declared.Sizes.{Sizes}
-use Rattle.format_disk.proofs.FrontLemmas.{IsFront, before-data, is-front}
+use Rattle.format_disk.proofs.FrontLemmas.{IsFront, in-front, is-front}
 use Rattle.format_disk.specs.Calls.{MakesCall, MakesCalls, NewCall, WritesVolume, commits}
 use Rattle.format_disk.specs.Calls.{new_calls, syncs_area, writes_area}
-use Rattle.format_disk.specs.Rests.{KeepsFrom, end_of_front}
+use Rattle.format_disk.specs.Rests.{KeepsFrom, end_of_front, front_room}
 use Rattle.format_disk.specs.Volumes.{IsNewVolume}
 use Rattle.format_disk.specs.declared.volume.NewVolume.{NewVolume}
 use Rattle.luks_copies.specs.Held.{primary_of, secondary_of}
@@ -128,9 +128,9 @@ ends v size front =
 pub rest-stays : (w : Wish) (sizes : Sizes) (pass seed : List ℕ) (v : NewVolume)
     (old new : Device) (result : Result (Unit {0}) Failed) → IsWish w
     → IsNewVolume w sizes pass seed v → WritesVolume v old new result
-    → (end_of_front v ≤ w.data_offset) × KeepsFrom (end_of_front v) old new
+    → (end_of_front v ≤ front_room w sizes) × KeepsFrom (end_of_front v) old new
 rest-stays w sizes pass seed v old new result wish is made = (
-  before-data w sizes pass seed v wish is,
+  in-front w sizes pass seed v wish is,
   λ bytes told. behind-calls v (end_of_front v)
       (ends v w.metadata_size (is-front w sizes pass seed v wish is)) new_calls old new bytes result
       told made,

@@ -23,12 +23,15 @@ use Rattle.sector_disk.specs.Devices.{Device, succeeded}
 abbrev pub block_count : Wish → Sizes → ℕ
 block_count w sizes = (main_bytes sizes - w.data_offset) / sizes.atom
 
--- what a key unseals from one of them: the sectors are numbered from the data's offset on, which is
--- counted from where the disk of the data begins
+-- the first of them, which is counted from where the disk of the data begins
+abbrev pub first_atom : Wish → Sizes → ℕ
+first_atom w sizes = base_of sizes + w.data_offset / sizes.atom
+
+-- what a key unseals from one of them: the sectors are numbered from the data's offset on
 abbrev pub unsealed_block : Wish → Sizes → List ℕ → List ℕ → ℕ → List ℕ
 unsealed_block w sizes key bytes b =
     opened_under (named_cipher w.cipher) key w.sector_size (b * (sizes.atom / 512))
-    (block_at sizes.atom bytes (base_of sizes + w.data_offset / sizes.atom + b))
+    (block_at sizes.atom bytes (first_atom w sizes + b))
 
 -- and from all, block by block
 unfoldable pub content_of : Wish → Sizes → List ℕ → List ℕ → List (List ℕ)

@@ -19,7 +19,7 @@ first_commit-requires-clause-rules c =
     (sym c.in_default.ensures) in
     subst (λ (m : Parts). first_fault m c.args.sizes ≡ None) (sym c.in_ok-meta.ensures)
     (c.new_metadata_break_no_rule.ensures w (draw c.split_drawn-drawn.result) c.args.sizes
-    c.requires.wish c.requires.disk fit.0 fit.2)
+    c.requires.wish c.requires.disk fit.area fit.front fit.block)
 
 pub first_commit-requires-clause-size : goal.first_commit-requires-clause-size
 first_commit-requires-clause-size c =
@@ -34,7 +34,7 @@ first_commit-requires-clause-room c =
     let w = c.args.wish.now in
     let fit = all-fits w c.args.sizes c.args.pass.now c.len-text_len.result
     (sym c.in_default.ensures) in
-    let room = fit.1 in
+    let room = fit.text in
     let text = ap length c.in_ok-write.ensures.text in
     let len = c.len-text_len.ensures in
     let size = text-size w (draw c.split_drawn-drawn.result) c.requires.wish in
@@ -74,7 +74,7 @@ returns c =
           (c.len-text_len.ensures ∙ ap length c.in_ok-write.ensures.text)
           (sym c.in_default.ensures);
       rules = c.new_metadata_break_no_rule.ensures w (draw dealt.result) c.args.sizes
-          c.requires.wish c.requires.disk fit.0 fit.2;
+          c.requires.wish c.requires.disk fit.area fit.front fit.block;
       identifier = c.identifier_for-identifier.ensures;
       first = c.in_ok-commit.ensures;
       place = c.area_offset-area_offset.ensures;
