@@ -14,7 +14,8 @@ use Rattle.luks_format.specs.declared.wish.Wish.{Wish}
 use Rattle.luks_rules.specs.Areas.{main_bytes}
 use Rattle.luks_slots.specs.Functions.{named_cipher}
 use Rattle.new_volumes.proofs.PlacedLemmas.{block-begins, block-ends, place-in, placement, side-is}
-use Rattle.new_volumes.specs.Standing.{block_count, content_of, unsealed_block}
+use Rattle.new_volumes.specs.Standing.{block_count, content_of, first_atom, unsealed_block}
+use Rattle.reenc_meta.specs.Placements.{all_atoms, base_of}
 use Rattle.reenc_recovery.specs.Images.{HoldsBlock, HoldsBlocks, seals_in}
 use Rattle.sector_cipher.specs.Context.{opened_under, sealed_under}
 use Rattle.sector_cipher.specs.SectorLaws.{AreLawful}
@@ -48,8 +49,10 @@ same-block atom from k xs ys le same =
 
 module _ (w : Wish) (sizes : Sizes) (disk : FitsDisk w sizes)
     (begins : w.data_offset ≤ main_bytes sizes) (even : w.data_offset % sizes.atom ≡ 0)
-    (key bytes image : List ℕ) (long : length bytes ≡ main_bytes sizes) (of_bytes : AreBytes bytes)
-    (from : ℕ) (before : from ≤ w.data_offset) (same : drop from image ≡ drop from bytes)
+    (key bytes image : List ℕ) (long : length bytes ≡ all_atoms sizes * sizes.atom)
+    (of_bytes : AreBytes bytes) (from : ℕ)
+    (before : from ≤ base_of sizes * sizes.atom + w.data_offset)
+    (same : drop from image ≡ drop from bytes)
     (lawful : AreLawful w.sector_size
     (opened_under (named_cipher w.cipher) key w.sector_size)
     (sealed_under (named_cipher w.cipher) key w.sector_size)) where
@@ -58,15 +61,16 @@ module _ (w : Wish) (sizes : Sizes) (disk : FitsDisk w sizes)
 
   -- the atom of a block, and the IV number of its first sector
   abbrev atom-of : ℕ → List ℕ
-  atom-of b = block_at sizes.atom bytes (w.data_offset / sizes.atom + b)
+  atom-of b = block_at sizes.atom bytes (first_atom w sizes + b)
 
   abbrev number : ℕ → ℕ
   number b = b * (sizes.atom / 512)
 
   atom-size : (b : ℕ) → b < block_count w sizes → length (atom-of b) ≡ sizes.atom
   atom-size b below =
-      let k : ℕ = w.data_offset / sizes.atom + b in
-      let ends = block-ends w.data_offset sizes.atom (main_bytes sizes) b disk.atom even below in
+      let k : ℕ = first_atom w sizes + b in
+      let ends = block-ends (base_of sizes) w.data_offset sizes.atom sizes.main_atoms b disk.atom
+      even below in
       let left = length-drop (k * sizes.atom) bytes in
       length-take-le sizes.atom (drop (k * sizes.atom) bytes) (omega (arith, ends, left, long))
 
@@ -87,9 +91,9 @@ module _ (w : Wish) (sizes : Sizes) (disk : FitsDisk w sizes)
   same-atom : (b : ℕ) → b < block_count w sizes
       → block_at sizes.atom image (place_in map b) ≡ atom-of b
   same-atom b below =
-      let starts = block-begins w.data_offset sizes.atom b disk.atom even in
+      let starts = block-begins (base_of sizes) w.data_offset sizes.atom b disk.atom even in
       ap (block_at sizes.atom image) (place-in w sizes disk begins b below)
-      ∙ same-block sizes.atom from (w.data_offset / sizes.atom + b) image bytes
+      ∙ same-block sizes.atom from (first_atom w sizes + b) image bytes
       (omega (arith, before, starts)) same
 
   held : (b : ℕ) → b < block_count w sizes

@@ -1,7 +1,8 @@
 -- Where the blocks of a new volume lie.
 use Rattle.std.proofs.Common.{◌≡◌, inl, inr, ℕ, ◌+◌, ◌-◌, ◌*◌, ◌/◌, ◌%◌, ◌^◌, ◌<◌, ◌≤◌, Some, refl}
 use Rattle.std.proofs.Common.{zero, suc, List, ◌++◌, replicate, slice_get, ◌∙◌, ap, subst, sym}
-use Rattle.std.proofs.Common.{arith}
+use Rattle.std.proofs.Common.{Bool, true, false, arith}
+use Rattle.std.specs.Prelude.{if◌then◌else◌}
 use Rattle.disk_sizes.specs.declared.Sizes.{Sizes}
 use Rattle.luks_format.specs.Drawings.{Draw}
 use Rattle.luks_format.specs.Metadata.{config_for, digest_for, parts_for, parts_with, segment_for}
@@ -16,8 +17,8 @@ use Rattle.luks_rules.specs.Segments.{in_progress}
 use Rattle.luks_rules.specs.declared.extents.Extent.{Extent}
 use Rattle.luks_rules.specs.declared.extents.Mark.TheVariants.{Plain}
 use Rattle.luks_rules.specs.declared.idle.Idle.{Idle}
-use Rattle.new_volumes.specs.Standing.{block_count}
-use Rattle.reenc_meta.specs.Placements.{IsPlacementOf, PlacedBy, place_of}
+use Rattle.new_volumes.specs.Standing.{block_count, first_atom}
+use Rattle.reenc_meta.specs.Placements.{IsPlacementOf, PlacedBy, base_of, place_of}
 use Rattle.reenc_meta.specs.declared.placement.Placement.{Placement}
 use Rattle.sector_disk.specs.Geometry.{IsAtom}
 use Rattle.segment_map.specs.Maps.{place_on}
@@ -27,33 +28,43 @@ use Rattle.segment_map.specs.declared.Side.TheVariants.{New}
 use Rattle.volume_machine.specs.Pieces.{known_side, place_in, side_in}
 
 -- ---- numbers
-pub block-ends : (offset atom main b : ℕ) → IsAtom atom → offset % atom ≡ 0
-    → b < (main - offset) / atom → (offset / atom + b) * atom + atom ≤ main
-block-ends offset atom main b (inl e) even below =
+pub block-ends : (base offset atom main b : ℕ) → IsAtom atom → offset % atom ≡ 0
+    → b < (main * atom - offset) / atom
+    → (base + offset / atom + b) * atom + atom ≤ (base + main) * atom
+block-ends base offset atom main b (inl e) even below =
     let whole = rw e at even in
     let inside = rw e at below in
     rw e (omega (arith, whole, inside))
-block-ends offset atom main b (inr e) even below =
+block-ends base offset atom main b (inr e) even below =
     let whole = rw e at even in
     let inside = rw e at below in
     rw e (omega (arith, whole, inside))
 
-pub block-begins : (offset atom b : ℕ) → IsAtom atom → offset % atom ≡ 0
-    → offset ≤ (offset / atom + b) * atom
-block-begins offset atom b (inl e) even = let whole = rw e at even in rw e (omega (arith, whole))
-block-begins offset atom b (inr e) even = let whole = rw e at even in rw e (omega (arith, whole))
+pub block-begins : (base offset atom b : ℕ) → IsAtom atom → offset % atom ≡ 0
+    → base * atom + offset ≤ (base + offset / atom + b) * atom
+block-begins base offset atom b (inl e) even =
+    let whole = rw e at even in rw e (omega (arith, whole))
+block-begins base offset atom b (inr e) even =
+    let whole = rw e at even in rw e (omega (arith, whole))
 
 pub atom-bounds : (atom : ℕ) → IsAtom atom → (1 ≤ atom) × (atom ≤ 1048576)
 atom-bounds atom (inl e) = (omega (arith, e), omega (arith, e))
 atom-bounds atom (inr e) = (omega (arith, e), omega (arith, e))
 
 -- so few blocks that their places have 64 bits
-few : (offset atom atoms : ℕ) → IsAtom atom → atoms * atom < 2 ^ 63 → offset < 2 ^ 63
-    → offset / atom + (atoms * atom - offset) / atom ≤ 2 ^ 64
-few offset atom atoms (inl e) within below =
-    let fits = rw e at within in rw e (omega (arith, fits, below))
-few offset atom atoms (inr e) within below =
-    let fits = rw e at within in rw e (omega (arith, fits, below))
+few : (base offset atom atoms : ℕ) → IsAtom atom → base * atom < 2 ^ 63
+    → atoms * atom < 2 ^ 63 → offset ≤ atoms * atom
+    → base + offset / atom + (atoms * atom - offset) / atom ≤ 2 ^ 64
+few base offset atom atoms (inl e) front back begins =
+    let head = rw e at front in
+    let main = rw e at back in
+    let below = rw e at begins in
+    rw e (omega (arith, head, main, below))
+few base offset atom atoms (inr e) front back begins =
+    let head = rw e at front in
+    let main = rw e at back in
+    let below = rw e at begins in
+    rw e (omega (arith, head, main, below))
 
 -- ---- sides
 -- one of the first so many is as they are
@@ -88,13 +99,14 @@ idle-is w d sizes = refl
 -- where the data begins on the disk
 module _ (w : Wish) (sizes : Sizes) (disk : FitsDisk w sizes)
     (begins : w.data_offset ≤ main_bytes sizes) where
-  pub place-is : place_of sizes (segment w) ≡ w.data_offset / sizes.atom
-  place-is = rw disk.one (omega arith)
+  base-fits : (detached : Bool) → (if detached then sizes.header_atoms else 0) * sizes.atom < 2 ^ 63
+  base-fits true = disk.header
+  base-fits false = omega arith
 
-  pub fits : w.data_offset / sizes.atom + block_count w sizes ≤ 2 ^ 64
+  pub fits : first_atom w sizes + block_count w sizes ≤ 2 ^ 64
   fits =
-      let within = disk.within in
-      few w.data_offset sizes.atom sizes.main_atoms disk.atom within (omega (arith, begins, within))
+      few (base_of sizes) w.data_offset sizes.atom sizes.main_atoms disk.atom
+      (base-fits sizes.detached) disk.main begins
 
   abbrev pub placement : Placement
   placement = record {
@@ -110,8 +122,8 @@ module _ (w : Wish) (sizes : Sizes) (disk : FitsDisk w sizes)
       most_atom = (atom-bounds sizes.atom disk.atom).1;
       within = omega arith;
       zone_left = omega arith;
-      old_places = rw place-is fits;
-      new_places = rw place-is fits;
+      old_places = fits;
+      new_places = fits;
     };
     old = segment w;
     new = segment w;
@@ -137,6 +149,5 @@ module _ (w : Wish) (sizes : Sizes) (disk : FitsDisk w sizes)
   side-is b below = ap known_side (front-is (block_count w sizes) b _ below)
 
   pub place-in : (b : ℕ) → b < block_count w sizes
-      → place_in placement.map b ≡ w.data_offset / sizes.atom + b
-  place-in b below =
-      ap (place_on placement.map b) (side-is b below) ∙ ap (λ n. n + b) place-is
+      → place_in placement.map b ≡ first_atom w sizes + b
+  place-in b below = ap (place_on placement.map b) (side-is b below)

@@ -1,32 +1,32 @@
 -- A new volume's bytes stand for what its key unseals from those that were there.
 use Rattle.std.proofs.Common.{◌≡◌, ℕ, ◌+◌, ◌*◌, ◌%◌, ◌≤◌, List, length, drop, Some}
-use Rattle.std.proofs.Common.{option_and_then, sym, ◌∙◌, ap, subst, arith}
+use Rattle.std.proofs.Common.{Bool, true, false, option_and_then, sym, ◌∙◌, ap, subst, arith}
 use Rattle.std.specs.Prelude.{if◌then◌else◌}
 use Rattle.cipher_blocks.specs.BytesLaws.{bytes-take}
 use Rattle.cipher_laws.specs.Bytes.{AreBytes}
 use Rattle.disk_sizes.specs.declared.Sizes.{Sizes}
-use Rattle.format_disk.proofs.FitLemmas.{all-fits}
+use Rattle.format_disk.proofs.FrontLemmas.{data-begins}
 use Rattle.format_disk.specs.Calls.{FitsNew, WritesVolume}
-use Rattle.format_disk.specs.Fitting.{draw_of, metadata_of, text_len}
-use Rattle.format_disk.specs.Rests.{LeaveTheRest, end_of_front}
+use Rattle.format_disk.specs.Fitting.{draw_of, metadata_of}
+use Rattle.format_disk.specs.Rests.{LeaveTheRest, end_of_front, front_room}
 use Rattle.format_disk.specs.Volumes.{IsNewVolume}
 use Rattle.format_disk.specs.Written.{AreOpened, AreWritten, OpensTo, written_over}
 use Rattle.format_disk.specs.declared.volume.NewVolume.{NewVolume}
 use Rattle.joined_disk.specs.Counts.{HasSizes}
-use Rattle.luks_format.proofs.SizeLemmas.{block-left, pages-whole, sector-some, sector-units}
+use Rattle.luks_format.proofs.SizeLemmas.{pages-whole, sector-some, sector-units}
 use Rattle.luks_format.specs.Drawings.{drawn_by, drawn_len}
 use Rattle.luks_format.specs.Wishes.{FitsDisk, IsWish}
 use Rattle.luks_format.specs.declared.wish.Wish.{Wish}
 use Rattle.luks_json.specs.declared.digest.Digest.{Digest}
 use Rattle.luks_json.specs.declared.meta.Parts.{Parts}
-use Rattle.luks_rules.specs.Areas.{main_bytes}
+use Rattle.luks_rules.specs.Areas.{header_bytes, main_bytes}
 use Rattle.luks_slots.specs.Functions.{named_cipher}
 use Rattle.luks_slots.specs.Unlocks.{key_of}
 use Rattle.new_volumes.proofs.BlockLemmas.{all-held}
 use Rattle.new_volumes.proofs.CipherLemmas.{seals-again}
 use Rattle.new_volumes.proofs.PlacedLemmas.{is-placed, placement, segment}
 use Rattle.new_volumes.specs.Standing.{NewVolumesStand, content_of}
-use Rattle.reenc_meta.specs.Placements.{IsPlacementOf}
+use Rattle.reenc_meta.specs.Placements.{IsPlacementOf, all_atoms, base_of}
 use Rattle.reenc_recovery.specs.Images.{StandsFor}
 use Rattle.reenc_recovery.specs.Keys.{IsKeyOf, key_for}
 use Rattle.sector_disk.specs.Devices.{Device, succeeded}
@@ -62,22 +62,30 @@ module _ (streams : GoOn) (rest : LeaveTheRest) (written : AreWritten) (opened :
   pub holds : new.values ≡ Some image
   holds = written w sizes pass seed v old new bytes wish disk is fits values long made
 
-  all-bytes : length bytes ≡ main_bytes sizes
+  all-bytes : length bytes ≡ all_atoms sizes * sizes.atom
   all-bytes =
       let has = subst (λ (s : Sizes). HasSizes s old) is.first.sizes_are fits.sizes in
-      let one : 0 + sizes.main_atoms ≡ old.atoms =
-      ap (λ b. (if b then sizes.header_atoms else 0) + sizes.main_atoms) (sym disk.one) ∙ has.all in
-      let none : 0 + sizes.main_atoms ≡ sizes.main_atoms = omega arith in
-      long ∙ ap (λ n. n * old.size) (sym one ∙ none) ∙ ap (λ n. sizes.main_atoms * n) (sym has.atom)
+      long ∙ ap (λ n. n * old.size) (sym has.all)
+      ∙ ap (λ n. all_atoms sizes * n) (sym has.atom)
 
   even : w.data_offset % sizes.atom ≡ 0
   even = pages-whole w.data_offset sizes.atom disk.atom wish.page
 
   begins : w.data_offset ≤ main_bytes sizes
-  begins =
-      let fit = all-fits w sizes pass (text_len w seed) is.fits in
-      let left = block-left sizes.atom sizes.main_atoms w.data_offset disk.atom even fit.2 in
-      omega (arith, left)
+  begins = data-begins w sizes pass seed v wish disk is
+
+  -- what is written ends in front of the first of the data's atoms
+  room-by : (detached : Bool) → (if detached then header_bytes sizes else w.data_offset)
+      ≤ (if detached then sizes.header_atoms else 0) * sizes.atom + w.data_offset
+  room-by true = omega arith
+  room-by false = omega arith
+
+  before : end_of_front v ≤ base_of sizes * sizes.atom + w.data_offset
+  before =
+      let end = (rest w sizes pass seed v old new succeeded wish is made).0 in
+      let room : front_room w sizes ≤ base_of sizes * sizes.atom + w.data_offset =
+      rw disk.detached (room-by w.detached) in
+      omega (arith, end, room)
 
   key-bytes : AreBytes (draw_of w seed).key
   unfolding drawn_by
@@ -92,7 +100,7 @@ module _ (streams : GoOn) (rest : LeaveTheRest) (written : AreWritten) (opened :
   pub stands : StandsFor sizes pass image (content_of w sizes (draw_of w seed).key bytes)
   stands =
       let key = (draw_of w seed).key in
-      let opens = opened w sizes pass seed v bytes wish disk is all-bytes in
+      let opens = opened w sizes pass seed v bytes wish disk is in
       let lawful = seals-again (named_cipher w.cipher) key w.sector_size key-bytes
       (record {
         some = sector-some w.sector_size wish.sector;
@@ -112,8 +120,7 @@ module _ (streams : GoOn) (rest : LeaveTheRest) (written : AreWritten) (opened :
           old_key = right;
           new_key = right;
           holds = all-held w sizes disk begins even key bytes image all-bytes of_bytes
-              (end_of_front v) (rest w sizes pass seed v old new succeeded wish is made).0
-              same-rest lawful;
+              (end_of_front v) before same-rest lawful;
         };
         old_is = found;
         new_is = found;
