@@ -24,7 +24,7 @@ not-both : (a b : Bool) → (a && b) ≡ false → a ≡ true → b ≡ false
 not-both true b is yes = is
 not-both false b is yes = absurd cc
 
--- The keyslot's area and the text have room, the keyslots area ends on the header's disk, where that
+-- The keyslot's area and the text have room, the keyslots area ends on the header's disk where that
 -- is one of its own, and the disk of the data has a block.
 pub record Fits (w : Wish) (sizes : Sizes) (len : ℕ) : Type 0 where
   pub area : area_len w.key_size ≤ keyslots_size_for w

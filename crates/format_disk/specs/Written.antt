@@ -1,5 +1,5 @@
--- What stands on a disk once a new volume was written to it; where its header has a disk of its own,
--- on both as one, the header's in front.
+-- What stands on a disk once a new volume was written to it: on two as one, the header's in front,
+-- where the header has a disk of its own.
 use Rattle.std.specs.Prelude.{ℕ, ◌≡◌, ◌*◌, List, ◌++◌, length, drop, Some, Ok, true}
 use Rattle.disk_sizes.specs.declared.Sizes.{Sizes}
 use Rattle.format_disk.specs.Calls.{FitsNew, WritesVolume}

@@ -4,13 +4,13 @@
 #[derive(Clone, Copy, Debug, PartialEq, Eq)]
 pub enum FormatFault {
     Memory,
-    /// The keyslot's area has more bytes than the keyslots area; or the keyslots area ends at a byte
-    /// that the header's disk, which is one of its own, is too short to reach.
+    /// The keyslot's area has more bytes than the keyslots area; or the copies of the header and the
+    /// keyslots area have more than the header's disk, where that is one of its own.
     Area { wanted: u64, gap: u64 },
     /// The header's text is longer than its area less one byte.
     Json { len: u64, limit: u64 },
     /// The passphrase doesn't have 1 to 512 bytes, but so many.
     Passphrase { len: u64 },
-    /// The disk of the data has no block behind its offset.
+    /// The disk of the data has no block behind the data's offset.
     Blocks,
 }

@@ -6,12 +6,12 @@
 //! stated order, exactly where it doesn't. And on [`write_volume`]: the keyslot's area is written
 //! and synced, and then both copies of the header, each synced, and nothing else; where a call
 //! fails none follows; what was made has room on its disk, [`new_volumes_fit_their_disk`]. The data
-//! is what it was in any case, [`new_volumes_leave_the_rest`]. Where all calls succeed the disk holds
-//! what was made and nothing else is changed, [`new_volumes_are_written`], and the passphrase opens
-//! it, [`new_volumes_are_opened`].
+//! is what it was in any case, [`new_volumes_leave_the_rest`]. Where all calls succeed the disk
+//! holds what was made and nothing else is changed, [`new_volumes_are_written`], and the passphrase
+//! opens it, [`new_volumes_are_opened`].
 //!
-//! All of this is said of the disk that is written, which a header may have for its own: then it is
-//! the header's disk and behind it that of the data, as one, of which only the former is written.
+//! Where the header has a disk of its own, the disk is both as one, the header's in front, of which
+//! no byte behind the header's is written.
 #![tactic(auto)]
 
 mod fault;

@@ -116,9 +116,9 @@ fn first_commit(
     }
 }
 
-/// A new volume for a disk of these sizes, or for two, where its header has one of its own, that
-/// this passphrase, of 1 to 512 bytes, opens; all that is random of it is stretched from the 32 bytes
-/// of `seed`.
+/// A new volume for a disk of these sizes, or for two where its header has one of its own, which
+/// this passphrase, of 1 to 512 bytes, opens; all that is random of it is stretched from the 32
+/// bytes of `seed`.
 ///
 /// # Errors
 ///

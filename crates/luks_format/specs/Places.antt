@@ -18,8 +18,8 @@ TakeLowest = (w : Wish) (d : Draw) (atom : ℕ) → IsWish w → IsAtom atom
     → IsLowest (record (parts_for w d) { keyslots = [] }) [] atom (area_len w.key_size)
     (2 * w.metadata_size)
 
--- its metadata break no rule where that has room, the keyslots area ends on the header's disk, where
--- that is one of its own, and the disk of the data has a block behind its offset
+-- its metadata break no rule where that has room, the keyslots area ends on the header's disk where
+-- that is one of its own, and the disk of the data has a block behind the data's offset
 abbrev pub BreakNone : Type 0
 BreakNone = (w : Wish) (d : Draw) (sizes : Sizes) → IsWish w → FitsDisk w sizes
     → area_len w.key_size ≤ keyslots_size_for w

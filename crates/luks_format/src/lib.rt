@@ -5,8 +5,8 @@
 //! The layer above may rely on two definitions. `parts_for` are the metadata: one keyslot, one
 //! segment, one digest, which [`make_meta`] makes exactly; they break no rule wherever the
 //! keyslot's area fits between the header and the data, and the disk has a block behind the data's
-//! offset, [`new_metadata_break_no_rule`]; so it is for a header with a disk of its own, on which the
-//! keyslots area ends. `drawn_by` deals the drawn bytes out, in one order, and
+//! offset, [`new_metadata_break_no_rule`]; so it is for a header with a disk of its own, where the
+//! keyslots area ends on that disk. `drawn_by` deals the drawn bytes out, in one order, and
 //! [`split_drawn`] spends each of them once. Nothing is read, written or drawn here.
 #![tactic(auto)]
 
