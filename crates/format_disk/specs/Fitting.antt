@@ -27,8 +27,8 @@ text_len w seed = length (text_for (metadata_of w seed))
 
 -- The first that doesn't fit, where the header's text has so many bytes: the keyslot's area; the
 -- keyslots area, which ends on the header's disk where that is one of its own; the text; the
--- passphrase, which has 1 to 512 bytes; or the disk of the data, which has a block behind the data's
--- offset.
+-- passphrase, which has 1 to 512 bytes; or the disk of the data, which has a block behind the
+-- data's offset.
 unfoldable pub unfit_by : Wish → Sizes → List ℕ → ℕ → Option FormatFault
 unfit_by w sizes pass text_len =
     if nat_lt (keyslots_size_for w) (area_len w.key_size)

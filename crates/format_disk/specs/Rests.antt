@@ -14,8 +14,8 @@ use Rattle.sector_disk.specs.Devices.{Device}
 abbrev pub end_of_front : NewVolume → ℕ
 end_of_front v = v.area_offset + length v.area
 
--- the bytes that a new volume's header and keyslots may take: all of the header's disk where that is
--- one of its own, else those in front of the data
+-- the bytes that a new volume's header and keyslots may take: all of the header's disk where that
+-- is one of its own, else those in front of the data
 abbrev pub front_room : Wish → Sizes → ℕ
 front_room w sizes = if w.detached then header_bytes sizes else w.data_offset
 

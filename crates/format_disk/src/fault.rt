@@ -4,8 +4,8 @@
 #[derive(Clone, Copy, Debug, PartialEq, Eq)]
 pub enum FormatFault {
     Memory,
-    /// The keyslot's area has more bytes than the keyslots area; or the copies of the header and the
-    /// keyslots area have more than the header's disk, where that is one of its own.
+    /// The keyslot's area has more bytes than the keyslots area; or the copies of the header and
+    /// the keyslots area have more than the header's disk, where that is one of its own.
     Area { wanted: u64, gap: u64 },
     /// The header's text is longer than its area less one byte.
     Json { len: u64, limit: u64 },

@@ -45,8 +45,8 @@ impl Wish {
         }
     }
 
-    /// The bytes of its keyslots area, at most 134217728: those between the copies of its header and
-    /// its data, or byte 16777216 of the header's disk where that is one of its own.
+    /// The bytes of its keyslots area, at most 134217728: those between the copies of its header
+    /// and its data, or byte 16777216 of the header's disk where that is one of its own.
     pub fn keyslots_size(&self) -> u64
         requires { IsWish self.now }
         ensures { result ≡ keyslots_size_for self.now }
