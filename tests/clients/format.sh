@@ -1,5 +1,5 @@
 # Volumes that `format` made are taken by cryptsetup, with the key that another reading of the volume
-# gives; they are served and read back by it; each refusal has its status and its reason and leaves the
+# gives, those whose header has a disk of its own too, beside which the data's is untouched; they are served and read back by it; each refusal has its status and its reason and leaves the
 # disk as it was; and a kill at any moment leaves no half volume. No device mapper is asked for.
 . "$(dirname "$0")/common.sh"
 needs python3 cryptsetup
@@ -61,6 +61,65 @@ done <<'OPTIONS'
 98304 --data-offset 98304 --atom 512 --cipher aes-cbc-essiv:sha256 --key-size 16
 OPTIONS
 echo "cryptsetup takes each, with the key that another reading gives"
+
+# A header on a disk of its own, by each size of its copies: what lies behind its keyslots area stays, and
+# so does all of the other disk. The data begins at byte 0, or behind the length of that area.
+head -c 17825792 /dev/urandom >blank.img
+while read -r begin slots options; do
+    cp before.img volume.img
+    cp blank.img header.img
+    # shellcheck disable=SC2086
+    said=$("$reencd" format volume.img --header header.img --key-file key --iterations 1000 --uuid "$uuid" \
+        $options 2>&1) || fail "format --header $options: $said"
+    expect "format --header $options" "$said" "formatted $uuid"
+    cmp volume.img before.img || fail "the data was written"
+    cmp -i 16777216 header.img blank.img || fail "the disk of the header was written behind it"
+    cryptsetup luksDump header.img >dump 2>&1 || fail "luksDump: $(cat dump)"
+    grep -q "offset: $begin \[bytes\]" dump || fail "the data doesn't begin at $begin: $(cat dump)"
+    grep -q "Keyslots area:.*	$slots \[bytes\]" dump || fail "the keyslots area isn't of $slots: $(cat dump)"
+    cryptsetup open --test-passphrase --header header.img --key-file key volume.img ||
+        fail "open --test-passphrase --header"
+    cryptsetup open --test-passphrase --header header.img --key-file cut volume.img 2>/dev/null &&
+        fail "cryptsetup takes another"
+    rm -f volume.key
+    cryptsetup luksDump --batch-mode --dump-volume-key --master-key-file volume.key --key-file key header.img \
+        >dump 2>&1 || fail "luksDump --dump-volume-key: $(cat dump)"
+    python3 - "$here" <<'PYTHON' || fail "the key of a volume by '--header $options'"
+import sys
+
+sys.path.insert(0, sys.argv[1])
+from decoded import header_of, key_of
+
+image = open("header.img", "rb").read()
+found = key_of(image, header_of(image), open("key", "rb").read())
+assert found == open("volume.key", "rb").read()
+PYTHON
+done <<'OPTIONS'
+0 16744448
+0 16744448 --atom 512 --cipher aes-cbc-essiv:sha256 --key-size 16 --sector-size 512
+0 16646144 --metadata-size 65536 --sector-size 4096
+0 8388608 --metadata-size 4194304
+16777216 16744448 --data-offset 16777216
+OPTIONS
+echo "cryptsetup takes each with a header of its own, beside which the data stays"
+
+# no header where there is none, and where it has no room; and none on the disk itself
+refuses_header() {
+    wanted=$1
+    header=$2
+    cp before.img refused.img
+    "$reencd" format refused.img --key-file key --header "$header" >out 2>err
+    expect "format --header $header" "$? $(cat out) $(cat err)" "$wanted"
+    cmp refused.img before.img || fail "the disk was written"
+}
+refuses_header "2 fault 2 Device reencd: missing: No such file or directory" missing
+truncate -s 16773120 short.img
+refuses_header \
+    "8 fault 8 NoFit reencd: no room for keyslots: 16777216 bytes are wanted, and there are 16773120" short.img
+cmp -n 16773120 short.img /dev/zero || fail "the disk of the header was written"
+refuses_header "2 fault 2 Device reencd: refused.img: locked by another process" refused.img
+ln -sf refused.img same.img
+refuses_header "2 fault 2 Device reencd: same.img: locked by another process" same.img
 
 # an identifier that nobody gave, and a keyslots area of the most bytes
 format

@@ -174,8 +174,8 @@ fn execute<'w, B: Bay, R: Seeds>(
 /// allows. Of a header all lines are told, or why there is none; the disk is read alone. A new
 /// volume is what the words wish, made of 32 bytes that the seeds gave once, and its header and its
 /// keyslot's area are written and nothing else. Each cause has its reason. The bay is asked once
-/// for the disk, for a key file once where the words name one, and for clients once for the links,
-/// and for nothing else. The text changes the cause only where all was fine: to `Output` where it
+/// for the disk, once for the header's and once for a key file, each where the words name one, and
+/// for clients once for the links, and for nothing else. The text changes the cause only where all was fine: to `Output` where it
 /// can't be put and pushed out, to `Memory` where memory is wanted for it. Words that ask for
 /// nothing leave the bay as it was, and those of other commands than `format` the seeds.
 pub fn run<'w, W: Threads + Wait + Sync, B: Bay, R: Seeds, O: Sink, G: Gate>(

@@ -73,7 +73,8 @@ pub enum Failing {
 /// What doesn't fit.
 #[derive(Clone, Copy, Debug, PartialEq, Eq)]
 pub enum Fit {
-    /// The keyslot's area has more bytes than the keyslots area.
+    /// The keyslot's area has more bytes than the keyslots area; or that ends at a byte which the
+    /// disk of a detached header doesn't have.
     Area,
     /// The header's text has more bytes than its area less one.
     Json,
@@ -258,7 +259,7 @@ pub struct Ended<'w, D, L> {
     pub memory: bool,
     /// The disk that the bay gave.
     pub disk: Option<D>,
-    /// The disk of a detached header. No command asks for one yet.
+    /// The disk of a detached header, where the bay gave one. `format` alone asks for it yet.
     pub header: Option<D>,
     pub pass: Option<Pass>,
     pub demo: Option<Pass>,
