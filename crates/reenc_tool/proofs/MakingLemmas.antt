@@ -2,7 +2,6 @@
 use Rattle.std.proofs.Common.{◌≡◌, ◌∙◌, ◌||◌, ◌⊎◌, ◌+◌, ◌*◌, ◌%◌, ◌^◌, ◌<◌, ◌≤◌, ℕ, Bool, true}
 use Rattle.std.proofs.Common.{false, List, [], length, Option, Some, inl, inr, refl, sym, ap, subst}
 use Rattle.std.proofs.Common.{arith}
-use Rattle.std.proofs.Math.Nat.{mul-le-mul_right}
 use Rattle.std.proofs.lemmas.Bool.Decides.{Decides-eqb}
 use Rattle.std.specs.Prelude.{◌==◌, Result, is_some, if◌then◌else◌}
 use Rattle.cipher_laws.specs.Bytes.{AreBytes}
@@ -13,10 +12,11 @@ use Rattle.format_disk.specs.Calls.{FitsNew, WritesVolume}
 use Rattle.format_disk.specs.Rests.{LeaveTheRest}
 use Rattle.format_disk.specs.Volumes.{IsNewVolume}
 use Rattle.format_disk.specs.Written.{FitTheirDisk}
-use Rattle.joined_disk.specs.Counts.{HasSizes}
+use Rattle.joined_disk.specs.Counts.{HasSizes, has_head, joint_in, sizes_of}
 use Rattle.joined_disk.specs.Joined.{Joint, begun_joint, joined_disk}
+use Rattle.joined_disk.specs.declared.joined.JoinedDisk.{JoinedDisk}
+use Rattle.sector_disk.specs.declared.device.Disk.{Ghosts}
 use Rattle.format_disk.specs.declared.volume.NewVolume.{NewVolume}
-use Rattle.header_report.specs.Examinations.{sizes_alone}
 use Rattle.luks_format.specs.Wishes.{FitsDisk, IsWish}
 use Rattle.luks_format.specs.declared.wish.Wish.{Wish}
 use Rattle.luks_json.specs.declared.names.Cipher.{Cipher}
@@ -25,11 +25,10 @@ use Rattle.luks_slots.specs.Functions.{named_cipher}
 use Rattle.new_volumes.specs.Standing.{NewVolumesStand}
 use Rattle.sector_cipher.specs.Names.{IsKeyLength}
 use Rattle.sector_disk.specs.Devices.{Device as DiskState}
-use Rattle.sector_disk.specs.Geometry.{IsAtom}
 use Rattle.volume_opening.specs.Refusals.{AreOf}
-use Rattle.reenc_tool.specs.Making.{ComesTo, IsMade, IsOnOne, IsOnTwo, cause_of_writing}
+use Rattle.reenc_tool.specs.Making.{ComesTo, IsMade, IsOnTwo, cause_of_writing}
 use Rattle.reenc_tool.specs.Making.{report_of_writing, sizes_behind, wish_of}
-use Rattle.reenc_tool.specs.Outcomes.{Outcome, ended_by, none_came, unserved}
+use Rattle.reenc_tool.specs.Outcomes.{Coming, Outcome, ended_by, none_came}
 use Rattle.reenc_tool.specs.declared.ended.Cause.{Cause}
 
 -- ---- the wish of the words
@@ -47,8 +46,9 @@ unfolding has_key_size
 key_length AesXtsPlain64 size has = one_of size 32 64 has
 key_length AesCbcEssivSha256 size has = one_of size 16 32 has
 
-pub is_wish : (words : Formatting) → IsFormatting words → IsWish (wish_of words)
-is_wish words is =
+pub is_wish : (words : Formatting) (detached : Bool) → IsFormatting words →
+    IsWish (record (wish_of words) { detached = detached })
+is_wish words detached is =
     let some : 1 ≤ words.iterations = omega (arith, is.some_rounds) in
     record {
       key = key_length words.cipher words.key_size is.key;
@@ -61,66 +61,30 @@ is_wish words is =
     }
 
 -- ---- its disks
--- a disk that is to have both the header and the data
-pub fits_one : (words : Formatting) (device : DiskState) → IsFormatting words →
-    device.size ≡ words.atom → is_some words.header ≡ false →
-    device.atoms * device.size < 2 ^ 63 → FitsDisk (wish_of words) (sizes_alone device)
-fits_one words device is size one within = record {
-  atom = subst IsAtom (sym size) is.atom;
-  sector = ap (λ atom. atom % words.sector_size) size ∙ is.sectors;
-  detached = sym one;
-  alone = λ attached. refl;
-  header = within;
-  main = within;
-}
-
-part_within : (part all size most : ℕ) → part ≤ all → all * size < most → part * size < most
-part_within part all size most few within =
-    let less = mul-le-mul_right size few in omega (arith, less, within)
-
--- two disks of which the one in front is to have the header
-pub fits_two : (words : Formatting) (head disk : DiskState) (sizes : Sizes) → IsFormatting words →
-    disk.size ≡ words.atom → is_some words.header ≡ true →
-    sizes ≡ sizes_behind head disk →
-    (joined_disk (begun_joint head disk)).atoms * sizes.atom < 2 ^ 63 →
-    FitsDisk (wish_of words) sizes
-fits_two words head disk sizes is size two are within =
-    subst (λ (s : Sizes). FitsDisk (wish_of words) s) (sym are)
-    (fits words head disk is size two
-    (subst (λ (s : Sizes). (joined_disk (begun_joint head disk)).atoms * s.atom < 2 ^ 63) are
-    within))
-  where
-    fits : (words : Formatting) (head disk : DiskState) → IsFormatting words →
-        disk.size ≡ words.atom → is_some words.header ≡ true →
-        (joined_disk (begun_joint head disk)).atoms * disk.size < 2 ^ 63 →
-        FitsDisk (wish_of words) (sizes_behind head disk)
-    fits words head disk is size two within = record {
-      atom = subst IsAtom (sym size) is.atom;
-      sector = ap (λ atom. atom % words.sector_size) size ∙ is.sectors;
-      detached = sym two;
-      alone = λ attached. absurd (cc attached);
-      header = part_within _ _ disk.size _ (omega arith) within;
-      main = part_within _ _ disk.size _ (omega arith) within;
-    }
-
 abbrev told : ℕ → ℕ → ℕ → Bool → Sizes
 told atom header main detached =
     record { atom = atom; header_atoms = header; main_atoms = main; detached = detached }
 
 -- the sizes that two joined disks tell are those of both
-pub sizes_told : (sizes : Sizes) (joint : Joint) (head disk : DiskState) →
-    joint ≡ begun_joint head disk → sizes.atom ≡ (joined_disk joint).size →
-    sizes.main_atoms ≡ joint.used → sizes.detached ≡ true →
+pub sizes_told : {D : Type 0} {shown : Ghosts D} (joined : JoinedDisk D shown) (sizes : Sizes)
+    (head disk : DiskState) → sizes ≡ sizes_of joined → has_head joined ≡ true →
+    joint_in joined ≡ begun_joint head disk →
+    sizes.atom ≡ (joined_disk (joint_in joined)).size →
     (if sizes.detached then sizes.header_atoms else 0) + sizes.main_atoms
-    ≡ (joined_disk joint).atoms → sizes ≡ sizes_behind head disk
-sizes_told sizes joint head disk is atom main detached all =
-    let sum : sizes.header_atoms + sizes.main_atoms ≡ (joined_disk joint).atoms = rw detached at all in
+    ≡ (joined_disk (joint_in joined)).atoms → sizes ≡ sizes_behind head disk
+sizes_told joined sizes head disk are headed begun atom all =
+    let joint = joint_in joined in
+    let main : sizes.main_atoms ≡ joint.used = ap (λ (s : Sizes). s.main_atoms) are in
+    let detached : sizes.detached ≡ true = ap (λ (s : Sizes). s.detached) are ∙ headed in
+    let sum : sizes.header_atoms + sizes.main_atoms ≡ (joined_disk joint).atoms =
+    rw detached at all
+    in
     let front : sizes.header_atoms ≡ joint.head.atoms = omega (arith, sum, main) in
     ap (λ n. told n sizes.header_atoms sizes.main_atoms sizes.detached) atom
     ∙ ap (λ n. told joint.main.size n sizes.main_atoms sizes.detached) front
     ∙ ap (λ n. told joint.main.size joint.head.atoms n sizes.detached) main
     ∙ ap (λ b. told joint.main.size joint.head.atoms joint.used b) detached
-    ∙ ap (λ (j : Joint). told j.main.size j.head.atoms j.used true) is
+    ∙ ap (λ (j : Joint). told j.main.size j.head.atoms j.used true) begun
 
 -- ---- the volume on its disk
 -- a volume that was made for a disk, and may be written there
@@ -137,7 +101,7 @@ pub is_ready : (words : Formatting) (sizes : Sizes) (device : DiskState) (pass s
     IsNewVolume wish sizes pass seed volume → FitTheirDisk →
     IsReady words sizes device pass seed volume
 is_ready words sizes device pass seed volume wish is has room wish_is made fit =
-    let right = is_wish words is in
+    let right = is_wish words (is_some words.header) is in
     let new = subst (λ (w : Wish). IsNewVolume w sizes pass seed volume) wish_is made in
     record {
       right = right;
@@ -178,6 +142,14 @@ is_made device words sizes pass seed disk back volume result cause report ready 
     }
 
 -- ---- what is handed back
+-- no session was served
+pub ended_without : {D L : Type 0} (cause : Cause) (came : Coming L) (links : List L)
+    (disk header : Option D) (outcome : Outcome D L) → outcome ≡ ended_by came disk header →
+    came ≡ none_came cause links → links ≡ [] →
+    outcome ≡ ended_by (none_came cause []) disk header
+ended_without cause came links disk header outcome is none no_links =
+    is ∙ ap (λ c. ended_by c disk header) (none ∙ ap (none_came cause) no_links)
+
 -- what came of a disk is what came of what it shows
 seen_alike : {X Y : Type 0} (device : Y → DiskState) (see : X → Y) (wish : Wish) (sizes : Sizes)
     (pass seed : List ℕ) (disk back : X) (cause : Cause) (report : Option (List ℕ)) →
@@ -201,19 +173,6 @@ seen_alike device see wish sizes pass seed disk back cause report (inr none) = i
   cause_is = none.cause_is;
   report_is = none.report_is;
 })
-
-pub is_on_one : {D L : Type 0} (device : D → DiskState) (wish : Wish) (sizes : Sizes)
-    (pass seed : List ℕ) (disk back : D) (cause : Cause) (outcome : Outcome D L)
-    (report : Option (List ℕ)) → sizes ≡ sizes_alone (device disk) →
-    ComesTo device wish sizes pass seed disk back cause report →
-    outcome ≡ unserved cause (Some back) [] → IsOnOne device wish pass seed disk outcome report
-is_on_one {D} {L} device wish sizes pass seed disk back cause outcome report are came is = record {
-  back = back;
-  came = subst (λ (o : Outcome D L).
-      ComesTo device wish (sizes_alone (device disk)) pass seed disk back o.cause report) (sym is)
-      (subst (λ (s : Sizes). ComesTo device wish s pass seed disk back cause report) are came);
-  outcome_is = is ∙ ap (λ (o : Outcome D L). unserved o.cause (Some back) []) (sym is);
-}
 
 pub is_on_two : {D L X : Type 0} (device : D → DiskState) (see : X → Joint) (wish : Wish)
     (sizes : Sizes) (pass seed : List ℕ) (head disk : D) (joined after : X) (header : Option D)
