@@ -175,9 +175,10 @@ fn execute<'w, B: Bay, R: Seeds>(
 /// volume is what the words wish, made of 32 bytes that the seeds gave once, and its header and its
 /// keyslot's area are written and nothing else. Each cause has its reason. The bay is asked once
 /// for the disk, once for the header's and once for a key file, each where the words name one, and
-/// for clients once for the links, and for nothing else. The text changes the cause only where all was fine: to `Output` where it
-/// can't be put and pushed out, to `Memory` where memory is wanted for it. Words that ask for
-/// nothing leave the bay as it was, and those of other commands than `format` the seeds.
+/// for clients once for the links, and for nothing else. The text changes the cause only where all
+/// was fine: to `Output` where it can't be put and pushed out, to `Memory` where memory is wanted
+/// for it. Words that ask for nothing leave the bay as it was, and those of other commands than
+/// `format` the seeds.
 pub fn run<'w, W: Threads + Wait + Sync, B: Bay, R: Seeds, O: Sink, G: Gate>(
     _rt: &W,
     alloc: Global,
