@@ -21,8 +21,8 @@ passes true fault later is = absurd cc
 passes false fault later is = (refl, is)
 
 not-both : (a b : Bool) → (a && b) ≡ false → a ≡ true → b ≡ false
-not-both true b is yes = is
-not-both false b is yes = absurd cc
+not-both true b none both = none
+not-both false b none both = absurd cc
 
 -- The keyslot's area and the text have room, the keyslots area ends on the header's disk where that
 -- is one of its own, and the disk of the data has a block.
