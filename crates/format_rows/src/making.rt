@@ -30,12 +30,7 @@ fn keys_of(alloc: Global) -> Result<Vec<(String, Bytes)>> {
 }
 
 /// The bay of a disk, and of a header's, where there is one, whose calls of these numbers fail.
-fn bay_of(
-    alloc: Global,
-    disk: MemDisk,
-    header: Option<MemDisk>,
-    fails: &str,
-) -> Result<MemBay> {
+fn bay_of(alloc: Global, disk: MemDisk, header: Option<MemDisk>, fails: &str) -> Result<MemBay> {
     let mut disks = Vec::new(alloc);
     disks.push((String::from_str(alloc, "x")?, disk))?;
     if let Some(header) = header {
