@@ -6,8 +6,8 @@ use Rattle.reenc_tool.specs.declared.ended.Failing.TheVariants.{Writing}
 use Rattle.reenc_tool.proofs.MakingLemmas.{is_made, is_ready}
 use Rattle.reenc_tool.proofs.making.make_on.Goals as goal
 
-pub write_volume-requires-clause-fits : goal.write_volume-requires-clause-fits
-write_volume-requires-clause-fits g c =
+pub write_volume-requires : goal.write_volume-requires
+write_volume-requires g c =
     let ready = is_ready (formatting c.args.words.now) c.args.sizes
     (g.D.Disk.device c.args.disk.now) _ _ c.in-Ok.volume _ c.requires.words c.requires.has
     c.requires.fits c.wish_of-wish.ensures.is c.in-Ok.ensures c.new_volumes_fit_their_disk.ensures in
