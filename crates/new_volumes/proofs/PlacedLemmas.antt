@@ -1,6 +1,6 @@
 -- Where the blocks of a new volume lie.
 use Rattle.std.proofs.Common.{◌≡◌, inl, inr, ℕ, ◌+◌, ◌-◌, ◌*◌, ◌/◌, ◌%◌, ◌^◌, ◌<◌, ◌≤◌, Some, refl}
-use Rattle.std.proofs.Common.{zero, suc, List, ◌++◌, replicate, slice_get, ◌∙◌, ap, subst, sym}
+use Rattle.std.proofs.Common.{zero, suc, List, ◌++◌, replicate, slice_get, ap, subst, sym}
 use Rattle.std.proofs.Common.{Bool, true, false, arith}
 use Rattle.std.specs.Prelude.{if◌then◌else◌}
 use Rattle.disk_sizes.specs.declared.Sizes.{Sizes}
