@@ -132,7 +132,7 @@ pub same_placement : (m : Parts) (sizes : Sizes) (p q : Placement) → IsPlaceme
 same_placement m sizes p q is also = same_by sizes (idle_of m sizes) p q is also
 
 -- ---- by the header
-idle_by : (m : Parts) (sizes : Sizes) (v : Idle) → IsSound m sizes → idle_of m sizes ≡ Some v
+pub idle_by : (m : Parts) (sizes : Sizes) (v : Idle) → IsSound m sizes → idle_of m sizes ≡ Some v
     → (b : Bool) → in_progress m.config ≡ b → IsIdle m sizes v
 idle_by m sizes v sound is true busy =
     let none = (sound.busy busy).0 in
