@@ -16,5 +16,14 @@ mod FinishLemmas
 mod LoopLemmas
 mod ReadOffLemmas
 mod StepLemmas
+mod InsertLemmas
 mod LayoutLemmas
 mod OnwardLemmas
+mod FreeNumberLemmas
+mod StartSlotLemmas
+mod StartDigestLemmas
+mod StartSegmentLemmas
+mod StartConfigLemmas
+mod StartLemmas
+mod UnconvertedLemmas
+mod StartedLemmas

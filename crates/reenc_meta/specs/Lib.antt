@@ -5,4 +5,6 @@ pub mod Layouts
 pub mod Moves
 pub mod ConversionMaps
 pub mod Wishes
+pub mod Unconverted
+pub mod Starts
 pub mod Finishes

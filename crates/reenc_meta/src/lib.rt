@@ -11,8 +11,9 @@
 //! sectors and their numbers fit the blocks. So nothing above looks into the objects of a header
 //! for these.
 //!
-//! Of a conversion it may rely on [`Reenc`]: the metadata with a zone opened or the boundary moved
-//! on (`laid_out_by`), and those with which it ends (`finished`). Each call says what its metadata are, that they break no rule, and that they are
+//! Of a conversion it may rely on [`Reenc`]: the metadata with which one begins (`started`), those
+//! with a zone opened or the boundary moved on (`laid_out_by`), and those with which it ends
+//! (`finished`). Each call says what its metadata are, that they break no rule, and that they are
 //! read as what comes next; [`Reenc::map`] says where each block lies meanwhile, as the live
 //! segments have it.
 //!
@@ -25,6 +26,7 @@ mod layout;
 mod placement;
 mod reenc;
 mod runs;
+mod starting;
 #[cfg(test)]
 mod tests;
 mod token;
