@@ -1,5 +1,5 @@
 -- A new volume's bytes stand for what its key unseals from those that were there.
-use Rattle.std.proofs.Common.{◌≡◌, ℕ, ◌+◌, ◌*◌, ◌%◌, ◌≤◌, List, length, drop, Some}
+use Rattle.std.proofs.Common.{◌≡◌, inl, ℕ, ◌+◌, ◌*◌, ◌%◌, ◌≤◌, List, length, drop, Some}
 use Rattle.std.proofs.Common.{Bool, true, false, option_and_then, sym, ◌∙◌, ap, subst, arith}
 use Rattle.std.specs.Prelude.{if◌then◌else◌}
 use Rattle.cipher_blocks.specs.BytesLaws.{bytes-take}
@@ -29,6 +29,8 @@ use Rattle.new_volumes.specs.Standing.{NewVolumesStand, content_of}
 use Rattle.reenc_meta.specs.Placements.{IsPlacementOf, all_atoms, base_of}
 use Rattle.reenc_recovery.specs.Images.{StandsFor}
 use Rattle.reenc_recovery.specs.Keys.{IsKeyOf, key_for}
+use Rattle.reenc_recovery.specs.Placings.{RestsIn}
+use Rattle.reenc_recovery.proofs.PlacingLemmas.{is_idle, rests_by}
 use Rattle.sector_disk.specs.Devices.{Device, succeeded}
 use Rattle.seed_stream.specs.Streams.{GoOn}
 
@@ -97,6 +99,19 @@ module _ (streams : GoOn) (rest : LeaveTheRest) (written : AreWritten) (opened :
       let now : kept.0 ≡ image = (let e : Some kept.0 ≡ Some image = sym kept.1 ∙ holds in cc) in
       ap (drop (end_of_front v)) (sym now) ∙ kept.2
 
+  -- its header places the volume, of which nothing is being converted
+  placed-by : (opens : OpensTo w sizes pass seed image)
+      → IsPlacementOf opens.stored.valid.meta sizes (placement w sizes disk begins)
+  placed-by opens =
+      subst (λ (m : Parts). IsPlacementOf m sizes (placement w sizes disk begins)) (sym opens.meta)
+      (is-placed w sizes disk begins (draw_of w seed))
+
+  pub rests : RestsIn sizes image
+  rests =
+      let opens = opened w sizes pass seed v bytes wish disk is in
+      rests_by sizes image opens.stored opens.loaded
+      (is_idle opens.stored.valid.meta sizes (placement w sizes disk begins) (placed-by opens))
+
   pub stands : StandsFor sizes pass image (content_of w sizes (draw_of w seed).key bytes)
   stands =
       let key = (draw_of w seed).key in
@@ -115,8 +130,7 @@ module _ (streams : GoOn) (rest : LeaveTheRest) (written : AreWritten) (opened :
           stored = opens.stored;
           header = opens.loaded;
           placement = placement w sizes disk begins;
-          placed = subst (λ (m : Parts). IsPlacementOf m sizes (placement w sizes disk begins))
-              (sym opens.meta) (is-placed w sizes disk begins (draw_of w seed));
+          placed = inl (placed-by opens);
           old_key = right;
           new_key = right;
           holds = all-held w sizes disk begins even key bytes image all-bytes of_bytes
@@ -132,5 +146,7 @@ new-stands streams rest written opened w sizes pass seed v old new bytes wish di
       holds streams rest written opened w sizes pass seed v old new bytes wish disk is fits values
           long of_bytes made,
       stands streams rest written opened w sizes pass seed v old new bytes wish disk is fits values
+          long of_bytes made,
+      rests streams rest written opened w sizes pass seed v old new bytes wish disk is fits values
           long of_bytes made,
     )

@@ -16,6 +16,7 @@ use Rattle.luks_rules.specs.Areas.{main_bytes}
 use Rattle.luks_slots.specs.Functions.{named_cipher}
 use Rattle.reenc_meta.specs.Placements.{base_of}
 use Rattle.reenc_recovery.specs.Images.{StandsFor}
+use Rattle.reenc_recovery.specs.Placings.{RestsIn}
 use Rattle.sector_cipher.specs.Context.{opened_under}
 use Rattle.sector_disk.specs.Devices.{Device, succeeded}
 
@@ -40,7 +41,7 @@ content_of w sizes key bytes =
 
 -- A new volume was written over the bytes of a disk. It holds both copies of the header and the
 -- keyslot's area, and behind them what was there; and this stands, under the passphrase, for what
--- the new key unseals from the bytes that were there.
+-- the new key unseals from the bytes that were there. Nothing is being converted by its header.
 abbrev pub NewVolumesStand : Type 0
 NewVolumesStand = (w : Wish) (sizes : Sizes) (pass seed : List ℕ) (v : NewVolume)
     (old new : Device) (bytes : List ℕ) → IsWish w → FitsDisk w sizes
@@ -49,3 +50,4 @@ NewVolumesStand = (w : Wish) (sizes : Sizes) (pass seed : List ℕ) (v : NewVolu
     → (new.values ≡ Some (written_over v bytes))
     × StandsFor sizes pass (written_over v bytes)
     (content_of w sizes (draw_of w seed).key bytes)
+    × RestsIn sizes (written_over v bytes)

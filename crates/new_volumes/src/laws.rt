@@ -7,7 +7,7 @@ use seed_stream::streams_go_on;
 
 /// Where all calls succeed that write a new volume its disk holds what was made, and behind it what
 /// was there; and these bytes stand, under the passphrase, for what the new key unseals from the
-/// data that was there.
+/// data that was there, and nothing is being converted by their header.
 pub fn new_volumes_stand()
     ensures { NewVolumesStand }
 {

@@ -1,6 +1,6 @@
 -- What is written in front of the keyslots' areas leaves what an image stands for, as long as its
 -- header says the same.
-use Rattle.std.proofs.Common.{◌≡◌, ℕ, ◌+◌, ◌-◌, ◌*◌, ◌<◌, ◌≤◌, List, take, drop, Ok}
+use Rattle.std.proofs.Common.{◌≡◌, inl, ℕ, ◌+◌, ◌-◌, ◌*◌, ◌<◌, ◌≤◌, List, take, drop, Ok}
 use Rattle.std.proofs.Common.{sym}
 use Rattle.std.proofs.Common.{◌∙◌, ap, subst, arith}
 use Rattle.std.proofs.lemmas.List.{drop-drop}
@@ -17,7 +17,9 @@ use Rattle.reenc_meta.specs.Places.{AreOne, IsRightFor}
 use Rattle.reenc_meta.specs.declared.placement.Placement.{Placement}
 use Rattle.reenc_recovery.specs.Images.{HoldsBlock, HoldsBlocks, StandsUnder, seals_in}
 use Rattle.reenc_recovery.specs.Keys.{IsKeyOf}
-use Rattle.reenc_recovery.proofs.ImageLemmas.{OnePlacement, same_stored}
+use Rattle.reenc_recovery.specs.Placings.{PlacesVolume}
+use Rattle.reenc_recovery.proofs.ImageLemmas.{same_stored}
+use Rattle.reenc_recovery.proofs.PlacingLemmas.{OnePlacement}
 use Rattle.volume_machine.specs.Pieces.{place_in}
 
 pub same_from : (n k : ℕ) (one other : List ℕ) → n ≤ k → drop n one ≡ drop n other
@@ -73,18 +75,18 @@ stands_still placed sizes old new first image content stored now p held is right
     let one = same_stored (stored_in sizes (front_of sizes first)) stands.stored stored
     stands.header held in
     let q = stands.placement in
-    let here : IsPlacementOf stored.valid.meta sizes q =
-    subst (λ (s : Stored). IsPlacementOf s.valid.meta sizes q) one stands.placed in
+    let here : PlacesVolume stored.valid.meta sizes q =
+    subst (λ (s : Stored). PlacesVolume s.valid.meta sizes q) one stands.placed in
     let meta : stands.stored.valid.meta ≡ now.valid.meta =
     ap (λ (s : Stored). s.valid.meta) one ∙ ap (λ (c : Checked). c.meta) (sym valid) in
     record {
       stored = now;
       header = now_held;
       placement = q;
-      placed = subst (λ (m : Parts). IsPlacementOf m sizes q) meta stands.placed;
+      placed = subst (λ (m : Parts). PlacesVolume m sizes q) meta stands.placed;
       old_key = subst (λ (m : Parts). IsKeyOf m q.old old) meta stands.old_key;
       new_key = subst (λ (m : Parts). IsKeyOf m q.new new) meta stands.new_key;
       holds = holds_still stored.valid.meta sizes.atom q old new first image content
-          (behind_too stored.valid.meta sizes p q (placed stored.valid.meta sizes q p here is)
+          (behind_too stored.valid.meta sizes p q (placed stored.valid.meta sizes q p here (inl is))
           right) same stands.holds;
     }

@@ -11,18 +11,14 @@ use Rattle.luks_store.specs.Devices.{front_of}
 use Rattle.luks_store.specs.Loads.{stored_in}
 use Rattle.luks_store.specs.Used.{Refusal}
 use Rattle.luks_store.specs.declared.loaded.Stored.{Stored}
-use Rattle.reenc_meta.specs.Placements.{IsPlacementOf}
 use Rattle.reenc_meta.specs.Places.{AreOne}
 use Rattle.reenc_meta.specs.declared.placement.Placement.{Placement}
 use Rattle.reenc_recovery.specs.Images.{HoldsBlock, HoldsBlocks, StandsFor, StandsUnder, seals_in}
 use Rattle.reenc_recovery.specs.Keys.{key_for, seals_by}
+use Rattle.reenc_recovery.specs.Placings.{PlacesVolume}
+use Rattle.reenc_recovery.proofs.PlacingLemmas.{OnePlacement}
 use Rattle.segment_map.specs.declared.Side.{Side}
 use Rattle.volume_machine.specs.Pieces.{place_in, side_in}
-
--- a header says one thing of a volume
-abbrev pub OnePlacement : Type 0
-OnePlacement = (m : Parts) (sizes : Sizes) (p q : Placement) → IsPlacementOf m sizes p
-    → IsPlacementOf m sizes q → AreOne p q
 
 pub same_stored : (r : Result Stored Refusal) (one other : Stored) → r ≡ Ok one → r ≡ Ok other
     → one ≡ other
@@ -63,7 +59,7 @@ one_under placed sizes old new image one other is also =
     also.header in
     one_list sizes.atom is.placement also.placement old new image one other
     (placed is.stored.valid.meta sizes is.placement also.placement is.placed
-    (subst (λ s. IsPlacementOf s.valid.meta sizes also.placement) (sym same) also.placed))
+    (subst (λ s. PlacesVolume s.valid.meta sizes also.placement) (sym same) also.placed))
     is.holds also.holds
 
 -- ---- under a passphrase
@@ -84,7 +80,7 @@ one_for placed sizes pass image one other is also =
     let same = same_stored (stored_in sizes (front_of sizes image)) a.stored c.stored a.header
     c.header in
     let are = placed a.stored.valid.meta sizes a.placement c.placement a.placed
-    (subst (λ s. IsPlacementOf s.valid.meta sizes c.placement) (sym same) c.placed) in
+    (subst (λ s. PlacesVolume s.valid.meta sizes c.placement) (sym same) c.placed) in
     let old = keys_same a.stored.valid.meta image pass is.old also.old a.placement.old
     c.placement.old are.old is.old_is
     (subst (λ s. key_for s.valid.meta image pass c.placement.old ≡ Some also.old) (sym same)

@@ -22,9 +22,11 @@ use Rattle.reenc_meta.specs.Places.{IsRightFor}
 use Rattle.reenc_meta.specs.declared.placement.Placement.{Placement}
 use Rattle.reenc_recovery.specs.Images.{HoldsOn, StandsAs, StandsFor, StandsUnder}
 use Rattle.reenc_recovery.specs.Keys.{key_by, key_for}
+use Rattle.reenc_recovery.specs.Placings.{PlacesVolume}
 use Rattle.reenc_recovery.specs.Promises.{ContentsStay, ContentsStayFor}
 use Rattle.reenc_recovery.proofs.FrameLemmas.{stands_still}
-use Rattle.reenc_recovery.proofs.ImageLemmas.{OnePlacement, same_stored}
+use Rattle.reenc_recovery.proofs.ImageLemmas.{same_stored}
+use Rattle.reenc_recovery.proofs.PlacingLemmas.{OnePlacement}
 
 -- ---- the key of a passphrase
 and_then_same : (f g : Digest → Option (List ℕ)) → ((d : Digest) → f d ≡ g d)
@@ -79,7 +81,7 @@ for_stays placed keys sizes header p first now is right sound holds pass content
     holds.held)
     ∙ ap (λ (c : Checked). c.meta) holds.same in
     let are = placed later.stored.valid.meta sizes later.placement under.placement later.placed
-    (subst (λ (m : Parts). IsPlacementOf m sizes under.placement) (one ∙ sym other) under.placed) in
+    (subst (λ (m : Parts). PlacesVolume m sizes under.placement) (one ∙ sym other) under.placed) in
     let same = λ (d : Digest). keys header.valid.meta sizes d first now pass sound
     (sym holds.behind) in
     record {

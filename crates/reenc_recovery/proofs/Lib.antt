@@ -11,6 +11,7 @@ mod OpenCauseLemmas
 mod OpenLemmas
 mod OpenedLemmas
 mod PassphraseLemmas
+pub mod PlacingLemmas
 mod RepairGoesLemmas
 mod RepairLemmas
 mod RepairTableLemmas

@@ -1,6 +1,5 @@
 -- The whole of an opening: what its disks show, what passed, and what a refusal leaves.
 use Rattle.std.proofs.Common.{◌≡◌, ℕ, ◌*◌, ◌≤◌, List, length, replicate, Option, Some, None}
-use Rattle.std.proofs.Common.{Bool, true, false, if◌then◌else◌}
 use Rattle.std.proofs.Common.{Result, Ok, refl, sym, ◌∙◌, subst}
 use Rattle.std.specs.Option.{IfSome}
 use Rattle.base_terms.specs.Blocks.{lengths}
@@ -11,10 +10,6 @@ use Rattle.joined_disk.specs.Joined.{Joint, joined_disk}
 use Rattle.luks_copies.specs.Held.{repair_stage_in}
 use Rattle.luks_copies.specs.declared.repair.Repair.{Repair}
 use Rattle.luks_copies.specs.declared.repair.RepairStage.TheVariants.{Broken}
-use Rattle.luks_json.specs.declared.meta.Parts.{Parts}
-use Rattle.luks_rules.specs.Idles.{idle_from, idle_of}
-use Rattle.luks_rules.specs.Segments.{in_progress}
-use Rattle.luks_rules.specs.declared.idle.Idle.{Idle}
 use Rattle.luks_store.proofs.PageLemmas.{front-within}
 use Rattle.luks_store.specs.Commits.{FitsDisks}
 use Rattle.luks_store.specs.Devices.{IsUnwritten, front_of}
@@ -22,7 +17,6 @@ use Rattle.luks_store.specs.Loads.{stored_in}
 use Rattle.luks_store.specs.Used.{AreCopies}
 use Rattle.luks_store.specs.declared.copies.Copies.{Copies}
 use Rattle.luks_store.specs.declared.loaded.Stored.{Stored}
-use Rattle.reenc_meta.specs.Placements.{IsPlacementOf, PlacedBy}
 use Rattle.reenc_meta.specs.declared.placement.Placement.{Placement}
 use Rattle.reenc_recovery.specs.Calls.{IsRepairFor, OpeningRun, RepairFits, RepairRun}
 use Rattle.reenc_recovery.specs.Calls.{SyncsAndReads}
@@ -33,6 +27,7 @@ use Rattle.reenc_recovery.specs.Tables.{IsFoundOn, OpeningsKeepContents, ShowsSi
 use Rattle.reenc_recovery.specs.Volumes.{IsUnrepaired}
 use Rattle.reenc_recovery.specs.declared.fault.OpenCause.{OpenCause}
 use Rattle.reenc_recovery.specs.declared.fault.OpenCause.TheVariants as causes
+use Rattle.reenc_recovery.proofs.PlacingLemmas.{is_idle}
 use Rattle.reenc_recovery.proofs.WritingLemmas.{repair_begun}
 use Rattle.sector_disk.specs.Cells.{content, currents}
 use Rattle.sector_disk.specs.Devices.{Device, SyncCall, failed_call, succeeded}
@@ -59,18 +54,6 @@ shows_sizes sizes device atom known header whole agrees even = record {
 }
 
 -- ---- what passed
--- a header that places a volume is of no conversion
-idle_by : (sizes : Sizes) (busy : Bool) (idle : Option Idle) (p : Placement)
-    → PlacedBy sizes (if busy then None else idle) p → busy ≡ false
-idle_by sizes true idle p placed = absurd placed
-idle_by sizes false idle p placed = refl
-
-is_idle : (m : Parts) (sizes : Sizes) (p : Placement) → IsPlacementOf m sizes p
-    → in_progress m.config ≡ false
-unfolding idle_of
-is_idle m sizes p placed =
-    idle_by sizes (in_progress m.config) (idle_from sizes m.digests m.segments) p placed
-
 -- a header that was read behind the first sync and passed all checks, and its repair
 pub record IsChecked {C : Type 0} (sector : C → ℕ) (sealed opened : C → ℕ → List ℕ → List ℕ)
     (sizes : Sizes) (key : Option (List ℕ)) (header : Stored) (p : Placement) (keys : Keys C)

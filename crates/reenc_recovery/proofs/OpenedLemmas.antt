@@ -1,5 +1,5 @@
 -- A volume that was opened starts with the content that its disks' bytes stand for.
-use Rattle.std.proofs.Common.{◌≡◌, ℕ, zero, suc, ◌*◌, ◌%◌, ◌<◌, List, [], ◌∷◌, map, length}
+use Rattle.std.proofs.Common.{◌≡◌, inl, ℕ, zero, suc, ◌*◌, ◌%◌, ◌<◌, List, [], ◌∷◌, map, length}
 use Rattle.std.proofs.Common.{Some}
 use Rattle.std.proofs.Common.{Option, refl, sym, ◌∙◌, ap, subst}
 use Rattle.std.proofs.lemmas.List.{length-map}
@@ -118,7 +118,7 @@ module _ {C : Type 0} (sector : C → ℕ) (sealed opened : C → ℕ → List �
           stored = is.stored;
           header = is.header;
           placement = p;
-          placed = is.opening.placed;
+          placed = inl is.opening.placed;
           old_key = is.opening.old_key;
           new_key = is.opening.new_key;
           holds = record {

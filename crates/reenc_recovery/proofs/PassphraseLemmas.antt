@@ -10,8 +10,10 @@ use Rattle.luks_store.specs.declared.loaded.Stored.{Stored}
 use Rattle.reenc_meta.specs.Placements.{IsPlacementOf}
 use Rattle.reenc_recovery.specs.Images.{StandsFor}
 use Rattle.reenc_recovery.specs.Keys.{used_by}
+use Rattle.reenc_recovery.specs.Placings.{PlacesVolume}
 use Rattle.reenc_recovery.specs.Volumes.{AreUnlocked, IsVolumeOf}
-use Rattle.reenc_recovery.proofs.ImageLemmas.{OnePlacement, same_stored}
+use Rattle.reenc_recovery.proofs.ImageLemmas.{same_stored}
+use Rattle.reenc_recovery.proofs.PlacingLemmas.{OnePlacement, idle_too}
 use Rattle.volume_machine.specs.States.{State}
 use Rattle.volume_machine.specs.declared.keys.Keys.{Keys}
 
@@ -38,11 +40,17 @@ module _ {C : Type 0} (sector : C → ℕ) (sealed opened : C → ℕ → List �
       let one = same_stored (stored_in sizes (front_of sizes first)) header under.stored
       is.stands.holds.was under.header in
       let are = placed under.stored.valid.meta sizes starts.stands.placement under.placement
-      (subst (λ (m : Parts). IsPlacementOf m sizes starts.stands.placement)
+      (subst (λ (m : Parts). PlacesVolume m sizes starts.stands.placement)
       (same_meta under.stored starts.stands.stored under.header starts.stands.header)
       starts.stands.placed) under.placed in
+      let opened : IsPlacementOf under.stored.valid.meta sizes is.still.placement =
+      subst (λ (m : Parts). IsPlacementOf m sizes is.still.placement)
+      (same_meta under.stored is.still.stored under.header is.still.header)
+      is.still.opening.placed in
       let has = subst (λ (s : Stored). AreUnlocked sizes s.valid.meta first pass key) one unlocked
-      under.placement under.placed in
+      under.placement
+      (idle_too under.stored.valid.meta sizes is.still.placement under.placement opened
+      under.placed) in
       record {
         old = starts.old;
         new = starts.new;

@@ -7,9 +7,9 @@ use Rattle.luks_rules.specs.Areas.{areas_begin}
 use Rattle.luks_store.specs.Devices.{front_of}
 use Rattle.luks_store.specs.Loads.{stored_in}
 use Rattle.luks_store.specs.declared.loaded.Stored.{Stored}
-use Rattle.reenc_meta.specs.Placements.{IsPlacementOf}
 use Rattle.reenc_meta.specs.declared.placement.Placement.{Placement}
 use Rattle.reenc_recovery.specs.Keys.{IsKeyOf, key_for, seals_by}
+use Rattle.reenc_recovery.specs.Placings.{PlacesVolume}
 use Rattle.segment_map.specs.declared.map.Map.{Map}
 use Rattle.volume_laws.specs.Contents.{IsSealed}
 use Rattle.volume_machine.specs.Pieces.{place_in, side_in}
@@ -32,14 +32,14 @@ pub record HoldsBlocks (atom : ℕ) (p : Placement) (old new image : List ℕ)
       (value_in content b) (block_at atom image (place_in p.map b))
 
 -- An image of disks of these sizes stands for a content under the keys of its sides: it has a
--- header that breaks no rule, these are the keys of its segments' digests, and each block of the
--- volume is held where the header places it.
+-- header that breaks no rule and by which no zone of a conversion is open, these are the keys of
+-- its segments' digests, and each block of the volume is held where the header places it.
 pub record StandsUnder (sizes : Sizes) (old new image : List ℕ) (content : List (List ℕ)) : Type 0
   where
     pub stored : Stored
     pub header : stored_in sizes (front_of sizes image) ≡ Ok stored
     pub placement : Placement
-    pub placed : IsPlacementOf stored.valid.meta sizes placement
+    pub placed : PlacesVolume stored.valid.meta sizes placement
     pub old_key : IsKeyOf stored.valid.meta placement.old old
     pub new_key : IsKeyOf stored.valid.meta placement.new new
     pub holds : HoldsBlocks sizes.atom placement old new image content

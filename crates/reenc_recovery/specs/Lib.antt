@@ -3,6 +3,7 @@ pub mod Causes
 pub mod Images
 pub mod Keys
 pub mod Openings
+pub mod Placings
 pub mod Promises
 pub mod Repairing
 pub mod Tables

@@ -17,7 +17,8 @@ use Rattle.reenc_recovery.specs.Repairing.{IsLeft, IsRepaired, ShowsRepairOf}
 use Rattle.sector_disk.specs.Cells.{AreSized, Cell}
 
 -- What is written in front of the keyslots' areas leaves what an image stands for under the keys of
--- its sides, as long as its header says the same. `p` is where the header places the volume.
+-- its sides, as long as its header says the same. `p` is where the header places the volume, of
+-- which nothing is being converted.
 abbrev pub ContentsStay : Type 0
 ContentsStay =
     (sizes : Sizes) (header : Stored) (p : Placement) (first now : List ℕ)

@@ -24,7 +24,7 @@ use reenc_meta::placements_are_one;
 use volume_laws::{keys_seal_lawfully, volumes_start};
 
 /// An image of disks of some sizes stands for at most one content under the keys of its sides, and
-/// for at most one under a passphrase.
+/// for at most one under a passphrase; also while its volume is being converted.
 pub fn images_stand_for_one()
     ensures keys { (sizes : Sizes) (old new image : List ℕ) (one other : List (List ℕ)) →
         StandsUnder sizes old new image one → StandsUnder sizes old new image other → one ≡ other }
@@ -35,8 +35,8 @@ pub fn images_stand_for_one()
 }
 
 /// What is written in front of the keyslots' areas leaves what an image stands for, under the keys
-/// of its sides and under a passphrase, as long as its header says the same: so it is with each
-/// call of a repair.
+/// of its sides and under a passphrase, as long as its header says the same, by which nothing is
+/// being converted: so it is with each call of a repair.
 pub fn contents_stay_behind_headers()
     ensures keys { ContentsStay }
     ensures passphrase { ContentsStayFor }
@@ -48,8 +48,8 @@ pub fn contents_stay_behind_headers()
 /// Each image that a stop leaves of a repair holds the metadata that the disk's bytes held before
 /// it, and behind both copies what these had there, as long as no torn copy of the header is valid;
 /// so it stands for the same, [`contents_stay_behind_headers`], where the header breaks no rule and
-/// places the volume. And the repair's calls lead from what is known of the disk to what is known
-/// of it.
+/// places a volume of which nothing is being converted. And the repair's calls lead from what is
+/// known of the disk to what is known of it.
 pub fn repairs_keep_contents()
     ensures begins { RepairsBegin }
     ensures each { RepairsHoldOn }

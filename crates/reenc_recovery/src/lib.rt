@@ -2,9 +2,11 @@
 //! of its disks stands for.
 //!
 //! The layer above may rely on one relation, `StandsFor`: an image of the disks stands for a
-//! content under a passphrase, block by block. No code computes it. An image stands for at most one
-//! content, [`images_stand_for_one`]. What is written in front of the keyslots' areas leaves it,
-//! under the same keys and under the same passphrase, as long as the header says the same,
+//! content under a passphrase, block by block. Nothing of its volume is being converted, or a
+//! conversion is under way of which no zone is open; which of both is said by `RestsIn`. No code
+//! computes them. An image stands for at most one content, [`images_stand_for_one`]. What is written
+//! in front of the keyslots' areas leaves it, under the same keys and under the same passphrase, as
+//! long as the header says the same, by which nothing is being converted,
 //! [`contents_stay_behind_headers`]. So it is with each image that a stop leaves of a repair,
 //! [`repairs_keep_contents`], and of an opening from its first sync on, [`openings_keep_contents`],
 //! as long as no torn copy of the header is valid and none stands in front of the second one. A

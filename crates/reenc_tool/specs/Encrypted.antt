@@ -52,7 +52,7 @@ pub record RanOver {D L : Type 0} (device : D → DiskState) (state : L → Link
 -- A volume was opened on the disk by the passphrase, and links were asked for. Its blocks are
 -- sealed by ciphers under the key that the passphrase has there. Where the disk told its bytes,
 -- then wherever a run of events stops, as the one of the sessions, each image stands by itself,
--- under the passphrase, for a content that is allowed.
+-- under the passphrase, for a content that is allowed, and nothing is being converted by its header.
 pub record HasOpenedVolume {B D L : Type 0} (device : D → DiskState) (state : L → LinkState)
     (holdings : B → Holdings D) (asks_links : AsksLinks B L) (serve : Serving) (pass : List ℕ)
     (disk : D) (between new : B) (outcome : Outcome D L) : Type 0 where

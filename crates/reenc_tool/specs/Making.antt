@@ -20,6 +20,7 @@ use Rattle.joined_disk.specs.Joined.{Joint, begun_joint, joined_disk, used_atoms
 use Rattle.luks_format.specs.declared.wish.Wish.{Wish}
 use Rattle.new_volumes.specs.Standing.{content_of}
 use Rattle.reenc_recovery.specs.Images.{StandsFor}
+use Rattle.reenc_recovery.specs.Placings.{RestsIn}
 use Rattle.sector_disk.specs.Devices.{Device as DiskState, failed_call, succeeded}
 use Rattle.uuid.specs.Text.{hyphenated_text, lower}
 use Rattle.volume_opening.specs.Refusals.{AreOf}
@@ -88,7 +89,8 @@ report_of_writing (Err failed) identifier = None
 -- A volume was made and written, or its writing ended by a device call that failed. Its header and
 -- its keyslot's area end in front of the data, and whatever the calls answered, all behind them is
 -- what it was. Where all succeeded, and the disk told what it held, it now holds the volume over
--- that, which stands under the passphrase for what the new key unseals from what was held.
+-- that, which stands under the passphrase for what the new key unseals from what was held, and by
+-- whose header nothing is being converted.
 pub record IsMade {X : Type 0} (device : X → DiskState) (wish : Wish) (sizes : Sizes)
     (pass seed : List ℕ) (disk back : X) (cause : Cause) (report : Option (List ℕ)) : Type 0 where
   pub volume : NewVolume
@@ -101,6 +103,7 @@ pub record IsMade {X : Type 0} (device : X → DiskState) (wish : Wish) (sizes :
       ((device back).values ≡ Some (written_over volume bytes))
       × StandsFor sizes pass (written_over volume bytes)
       (content_of wish sizes (draw_of wish seed).key bytes)
+      × RestsIn sizes (written_over volume bytes)
   pub cause_is : cause ≡ cause_of_writing result (device back).faults
   pub report_is : report ≡ report_of_writing result volume.identifier
 

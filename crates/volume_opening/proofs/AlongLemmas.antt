@@ -1,6 +1,7 @@
 -- Wherever a run stops of a volume that a passphrase opened, each image stands by itself.
 use Rattle.std.proofs.Common.{◌≡◌, ◌≢◌, ◌∙◌, ℕ, suc, ◌+◌, ◌*◌, ◌<◌, ◌≤◌, List, ◌++◌, take}
 use Rattle.std.proofs.Common.{ap, sym, subst, arith, inl, inr, mul-le-mul_right, Option, Some, None}
+use Rattle.std.proofs.Common.{Ok}
 use Rattle.std.specs.Prelude.{IsSomeAnd}
 use Rattle.base_terms.specs.Blocks.{joined}
 use Rattle.disk_views.proofs.Blockwise.{block_end}
@@ -11,6 +12,7 @@ use Rattle.luks_json.specs.declared.digest.Digest.{Digest}
 use Rattle.luks_json.specs.declared.meta.Parts.{Parts}
 use Rattle.luks_rules.specs.Areas.{areas_end}
 use Rattle.luks_rules.specs.Idles.{idle_of}
+use Rattle.luks_rules.specs.Segments.{in_progress}
 use Rattle.luks_rules.specs.States.{IsSound as HasRules}
 use Rattle.luks_rules.specs.declared.extents.Extent.{Extent}
 use Rattle.luks_rules.specs.declared.idle.Idle.{Idle}
@@ -26,6 +28,8 @@ use Rattle.plain_disk.specs.Plain.{Block}
 use Rattle.reenc_meta.specs.Placements.{IsPlacementOf, PlacedBy}
 use Rattle.reenc_recovery.specs.Images.{StandsFor}
 use Rattle.reenc_recovery.specs.Keys.{key_for, used_by}
+use Rattle.reenc_recovery.specs.Placings.{RestsIn}
+use Rattle.reenc_recovery.proofs.PlacingLemmas.{rests_by}
 use Rattle.reenc_recovery.specs.Volumes.{IsVolumeOf}
 use Rattle.sector_disk.specs.Cells.{IsImage, content}
 use Rattle.sector_disk.specs.Devices.{Device}
@@ -46,9 +50,9 @@ use Rattle.volume_machine.specs.States.{IsGoverned, State}
 use Rattle.volume_machine.specs.Working.{Works}
 use Rattle.volume_machine.specs.declared.keys.Keys.{Keys}
 use Rattle.volume_machine.specs.Works.{Work}
-use Rattle.volume_opening.proofs.KeyLemmas.{its_idle}
+use Rattle.volume_opening.proofs.KeyLemmas.{its_idle, one_idle}
 use Rattle.volume_opening.proofs.OpenedLemmas.{same_stored, unlocked}
-use Rattle.volume_opening.proofs.StopLemmas.{key_same, stands, stopped, value_is}
+use Rattle.volume_opening.proofs.StopLemmas.{key_same, loads, stands, stopped, value_is}
 use Rattle.volume_opening.specs.Openings.{IsKeyFound, IsOpenedBy}
 use Rattle.volume_opening.specs.Stops.{StandsAlong}
 
@@ -86,6 +90,15 @@ module _ {C : Type 0} (sector : C → ℕ) (sealed opened : C → ℕ → List �
       (same_stored (stored_in sizes (front_of sizes is.now)) is.still.stored is.stands.holds.stored
       is.still.header is.stands.holds.held)
       ∙ ap (λ (c : Checked). c.meta) is.stands.holds.same
+
+  -- an image that has its header rests
+  rests_with : (image : List ℕ) → stored_in sizes (front_of sizes image) ≡ Ok is.still.stored
+      → RestsIn sizes image
+  rests_with image header =
+      let found = by.under.key_found in
+      rests_by sizes image is.still.stored header
+      (ap (λ (m : Parts). in_progress m.config) meta_same
+      ∙ one_idle then by.stored.valid.sizes found.sound found.idle found.is)
 
   -- the volume has a block, and what lies in front of it is on the disk
   has_block : 0 < volume.map.blocks
@@ -198,6 +211,7 @@ module _ {C : Type 0} (sector : C → ℕ) (sealed opened : C → ℕ → List �
           )
 
       pub allowed_image : (content : List (List ℕ)) × StandsFor sizes pass (joined image) content
+          × RestsIn sizes (joined image)
           × ((b : ℕ) → b < last.map.blocks → IsAllowedAt last plain blocks b (value_in content b))
       unfolding content
       allowed_image =
@@ -214,17 +228,21 @@ module _ {C : Type 0} (sector : C → ℕ) (sealed opened : C → ℕ → List �
           λ place none.
           kept.images settled image is_image place (λ b live. none b live.inside) in
           let keys = keys_are areas in
+          let begin = begins sizes (front_of sizes is.now) is.still.stored is.still.header in
+          let good : is.still.stored.copies.primary.state ≢ Lacking =
+          λ lacks. let e : Good ≡ Lacking = sym is.good.primary ∙ lacks in cc in
           let sound = subst (λ (m : Parts). HasRules m sizes) (sym meta_same)
           (subst (λ (s : Sizes). HasRules then s) by.under.found.sizes
           by.under.key_found.sound) in (
             stopped sector sealed opened sizes by.key is.now volume is.still n kept.before.now
                 image lawful some even held beside within ends,
             stands sector sealed opened sizes by.key is.now volume is.still n kept.before.now image
-                lawful some even held beside within ends pass (sym holds)
-                (begins sizes (front_of sizes is.now) is.still.stored is.still.header) room
-                (λ lacks. let e : Good ≡ Lacking = sym is.good.primary ∙ lacks in cc) sound
+                lawful some even held beside within ends pass (sym holds) begin room good sound
                 (subst IsAtom is.still.opening.right.atom is.still.opening.right.fits.known)
                 keys.0 keys.1 fronts areas,
+            rests_with (joined image) (loads sector sealed opened sizes by.key is.now volume is.still n
+                kept.before.now image lawful some even held beside within ends (sym holds) begin
+                room good fronts),
             λ b below.
                 (let fits : b < volume.map.blocks =
                 subst (λ (m : Map). b < m.blocks) along.map below in

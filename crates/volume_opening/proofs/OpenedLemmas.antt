@@ -20,9 +20,11 @@ use Rattle.reenc_meta.specs.declared.placement.Placement.{Placement}
 use Rattle.reenc_recovery.specs.Causes.{HasCauseIn, IsCauseIn}
 use Rattle.reenc_recovery.specs.Images.{StandsFor}
 use Rattle.reenc_recovery.specs.Keys.{key_for, used_by}
+use Rattle.reenc_recovery.specs.Placings.{PlacesVolume}
 use Rattle.reenc_recovery.specs.Tables.{TellsSince}
 use Rattle.reenc_recovery.specs.Volumes.{AreUnlocked, IsOpenedOf, IsUnopened, IsVolumeOf}
 use Rattle.reenc_recovery.specs.declared.fault.OpenCause.{OpenCause}
+use Rattle.reenc_recovery.proofs.PlacingLemmas.{idle_too}
 use Rattle.sector_disk.specs.Devices.{Device}
 use Rattle.sector_disk.specs.Geometry.{IsDisk}
 use Rattle.segment_map.specs.declared.map.Map.{Map}
@@ -120,8 +122,10 @@ module _ {C : Type 0} (sector : C → ℕ) (sealed opened : C → ℕ → List �
       stands.header is.still.header in
       stands.holds.count
       ∙ blocks_one sizes is.still.stored.valid.meta stands.placement is.still.placement
-      (subst (λ (stored : Stored). IsPlacementOf stored.valid.meta sizes stands.placement) same
-      stands.placed)
+      (idle_too is.still.stored.valid.meta sizes is.still.placement stands.placement
+      is.still.opening.placed
+      (subst (λ (stored : Stored). PlacesVolume stored.valid.meta sizes stands.placement) same
+      stands.placed))
       is.still.opening.placed
       ∙ ap (λ (m : Map). m.blocks) (sym is.still.map)
 

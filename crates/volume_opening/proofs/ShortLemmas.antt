@@ -36,9 +36,11 @@ use Rattle.reenc_meta.specs.Placements.{IsPlacementOf, PlacedBy}
 use Rattle.reenc_meta.specs.declared.placement.Placement.{Placement}
 use Rattle.reenc_recovery.specs.Causes.{IsCauseIn}
 use Rattle.reenc_recovery.specs.Images.{StandsFor}
+use Rattle.reenc_recovery.specs.Placings.{PlacesVolume, RestsIn}
 use Rattle.reenc_recovery.specs.Keys.{Differs, DiffersBy, IsComputed, key_by, key_for}
 use Rattle.reenc_recovery.specs.declared.fault.OpenCause.{OpenCause}
 use Rattle.reenc_recovery.specs.declared.fault.OpenCause.TheVariants as causes
+use Rattle.reenc_recovery.proofs.PlacingLemmas.{resting}
 use Rattle.sector_cipher.specs.Names.{IsKeyLength}
 use Rattle.sector_cipher.specs.declared.spec.Spec.{Spec}
 use Rattle.sector_cipher.specs.declared.spec.Spec.TheVariants.{AesXtsPlain64, AesCbcEssivSha256}
@@ -193,11 +195,7 @@ short_under device stored pass key under bytes told cause =
     (subst (λ (s : Sizes). IsKeyFound stored.valid.meta s pass device.values key)
     under.found.sizes under.key_found) cause
 
--- ---- where the bytes stand for a content
-not_idle : (m : Parts) (sizes : Sizes) → in_progress m.config ≡ true → idle_of m sizes ≡ None
-unfolding idle_of
-not_idle m sizes busy = rw busy refl
-
+-- ---- where the bytes stand for a content, and nothing is being converted by their header
 given : (m : Parts) (image pass new : List ℕ) (c : Option Encryption) (n : Option ℕ) (number : ℕ)
     (d : Digest) → IsSome c → n ≡ Some number → value_at m.digests number ≡ Some d →
     key_by m image pass c n ≡ Some new → key_of m d image pass ≡ Some new
@@ -211,7 +209,8 @@ given m image pass new (Some e) n number d crypt wanted there is =
 module _ {D : Type 0} (device : D → Device) (disk back : D) (pass first : List ℕ)
     (content : List (List ℕ)) (told : (device disk).values ≡ Some first)
     (long : length first ≡ (device disk).atoms * (device disk).size) (tried : IsTried pass)
-    (stands : StandsFor (sizes_alone (device disk)) pass first content) where
+    (stands : StandsFor (sizes_alone (device disk)) pass first content)
+    (rests : RestsIn (sizes_alone (device disk)) first) where
   header_is : stored_in (sizes_alone (device disk)) first ≡ Ok stands.stands.stored
   header_is =
       subst (λ (all : List ℕ).
@@ -232,19 +231,25 @@ module _ {D : Type 0} (device : D → Device) (disk back : D) (pass first : List
   its_header stored found =
       (let both : Ok stands.stands.stored ≡ Ok stored = sym header_is ∙ found.held first told in cc)
 
+  its_rest : (stored : Stored) → IsFound (device disk) stored →
+      in_progress stored.valid.meta.config ≡ false
+  its_rest stored found =
+      rests stored (ap (stored_in (sizes_alone (device disk))) (whole_front (device disk) first long)
+      ∙ found.held first told)
+
   its_placement : (stored : Stored) → IsFound (device disk) stored →
       IsPlacementOf stored.valid.meta (sizes_alone (device disk)) stands.stands.placement
   its_placement stored found =
-      subst (λ (s : Stored).
-      IsPlacementOf s.valid.meta (sizes_alone (device disk)) stands.stands.placement)
-      (its_header stored found) stands.stands.placed
+      resting stored.valid.meta (sizes_alone (device disk)) stands.stands.placement
+      (its_rest stored found)
+      (subst (λ (s : Stored).
+      PlacesVolume s.valid.meta (sizes_alone (device disk)) stands.stands.placement)
+      (its_header stored found) stands.stands.placed)
 
   not_busy : (stored : Stored) → IsFound (device disk) stored →
       in_progress stored.valid.meta.config ≡ true → ⊥
   not_busy stored found busy =
-      subst (λ (v : Option Idle).
-      PlacedBy (sizes_alone (device disk)) v stands.stands.placement)
-      (not_idle stored.valid.meta (sizes_alone (device disk)) busy) (its_placement stored found)
+      (let no : false ≡ true = sym (its_rest stored found) ∙ busy in cc)
 
   not_long : IsNotTried pass → ⊥
   not_long (inl none) = omega (arith, none, tried.0)

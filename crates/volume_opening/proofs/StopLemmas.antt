@@ -1,6 +1,6 @@
 -- Each image that a stop leaves of a volume that a passphrase opened stands by itself.
 use Rattle.std.proofs.Common.{◌≡◌, ◌≢◌, ◌∙◌, ℕ, zero, suc, ◌+◌, ◌*◌, ◌<◌, ◌≤◌, List, [], ◌∷◌}
-use Rattle.std.proofs.Common.{length, take, drop, replicate, ap, sym, subst, refl, arith}
+use Rattle.std.proofs.Common.{length, take, drop, replicate, ap, sym, subst, refl, arith, inl, Ok}
 use Rattle.std.proofs.Common.{Option, Some, None}
 use Rattle.std.specs.Prelude.{option_and_then}
 use Rattle.std.proofs.lemmas.List.{drop-take, take-take}
@@ -17,6 +17,7 @@ use Rattle.luks_rules.specs.declared.extents.Extent.{Extent}
 use Rattle.luks_slots.specs.Laws.{KeysAreInAreas}
 use Rattle.luks_slots.specs.Unlocks.{key_of}
 use Rattle.luks_store.specs.Devices.{front_of}
+use Rattle.luks_store.specs.Loads.{stored_in}
 use Rattle.luks_store.specs.Promises.{FrontsAreLoaded}
 use Rattle.luks_store.specs.declared.copies.CopyState.TheVariants.{Lacking}
 use Rattle.reenc_recovery.specs.Images.{HoldsBlock, StandsFor, seals_in}
@@ -206,6 +207,19 @@ module _ {C : Type 0} (sector : C → ℕ) (sealed opened : C → ℕ → List �
         (is.opening.right.behind b fits))
         ∙ ap (λ xs. take (areas_end meta.config) xs) holds
 
+    -- so it has the header that the disk had
+    pub loads : joined (currents before) ≡ now
+        → areas_begin meta.config ≡ 2 * is.stored.copies.used.header.hdr_size
+        → areas_end meta.config ≤ header_bytes sizes
+        → is.stored.copies.primary.state ≢ Lacking → FrontsAreLoaded
+        → stored_in sizes (front_of sizes (joined image)) ≡ Ok is.stored
+    loads holds begin room good fronts =
+        let size = 2 * is.stored.copies.used.header.hdr_size in
+        let short : size ≤ areas_end meta.config = omega (arith, begin) in
+        fronts sizes (front_of sizes now) (front_of sizes (joined image)) is.stored is.header good
+        (same_header size (areas_end meta.config) (header_bytes sizes) (joined image) now short
+        (omega (arith, short, room)) (same holds))
+
     pub stands : (pass : List ℕ) → joined (currents before) ≡ now
         → areas_begin meta.config ≡ 2 * is.stored.copies.used.header.hdr_size
         → areas_end meta.config ≤ header_bytes sizes
@@ -215,8 +229,6 @@ module _ {C : Type 0} (sector : C → ℕ) (sealed opened : C → ℕ → List �
         → FrontsAreLoaded → KeysAreInAreas → StandsFor sizes pass (joined image) stopped
     stands pass holds begin room good sound atom old_key new_key fronts areas =
         let p = is.placement in
-        let size = 2 * is.stored.copies.used.header.hdr_size in
-        let short : size ≤ areas_end meta.config = omega (arith, begin) in
         let key_is : (e : Extent) → key_for meta (joined image) pass e ≡ key_for meta now pass e =
         λ e. key_same meta (joined image) now pass
         (λ d. areas meta sizes d (joined image) now pass sound atom
@@ -227,12 +239,9 @@ module _ {C : Type 0} (sector : C → ℕ) (sealed opened : C → ℕ → List �
           new = used_by p.new.encryption key;
           stands = record {
             stored = is.stored;
-            header = fronts sizes (front_of sizes now) (front_of sizes (joined image)) is.stored
-                is.header good
-                (same_header size (areas_end meta.config) (header_bytes sizes) (joined image) now
-                short (omega (arith, short, room)) (same holds));
+            header = loads holds begin room good fronts;
             placement = p;
-            placed = is.opening.placed;
+            placed = inl is.opening.placed;
             old_key = is.opening.old_key;
             new_key = is.opening.new_key;
             holds = record {

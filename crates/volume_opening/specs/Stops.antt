@@ -5,6 +5,7 @@ use Rattle.disk_sizes.specs.declared.Sizes.{Sizes}
 use Rattle.disk_views.specs.Parts.{value_in}
 use Rattle.plain_disk.specs.Plain.{Block}
 use Rattle.reenc_recovery.specs.Images.{StandsFor}
+use Rattle.reenc_recovery.specs.Placings.{RestsIn}
 use Rattle.sector_disk.specs.Cells.{Cell, IsImage}
 use Rattle.sector_disk.specs.Steps.{Told}
 use Rattle.volume_laws.specs.Contents.{IsAllowedAt, StopsAllowed}
@@ -13,11 +14,13 @@ use Rattle.volume_machine.specs.Seals.{Seals}
 use Rattle.volume_machine.specs.States.{State}
 
 -- Each image of a table stands under the passphrase, by the header and the keyslots that it has
--- itself, for a content in which each block has a value that is allowed.
+-- itself, for a content in which each block has a value that is allowed; and by that header nothing
+-- is being converted.
 abbrev pub StandsAllowed : {K : Type 0} → Sizes → List ℕ → State K → (ℕ → List ℕ) → List Block
     → List Cell → Type 0
 StandsAllowed sizes pass state plain blocks cells = (image : List (List ℕ)) → IsImage cells image →
     (content : List (List ℕ)) × StandsFor sizes pass (joined image) content
+    × RestsIn sizes (joined image)
     × ((b : ℕ) → b < state.map.blocks → IsAllowedAt state plain blocks b (value_in content b))
 
 -- So it is wherever a run stops: what is allowed of the blocks of an image, one by one, is allowed

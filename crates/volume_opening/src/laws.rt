@@ -17,7 +17,8 @@ use volume_laws::{failures_go_by_events, runs_leave_the_rest};
 
 /// Wherever a run stops of a volume that a passphrase opened on a disk that told its bytes, each
 /// image that the stop leaves stands by itself: by the header and the keyslots that it has, the
-/// passphrase leads to a content in which each block has a value that is allowed there.
+/// passphrase leads to a content in which each block has a value that is allowed there; and nothing
+/// is being converted by that header.
 pub fn opened_volumes_stand_along<C: SectorCipher>()
     ensures { (device : Device) (pass first : List ℕ) (lanes : ℕ) (volume : State (Keys C))
         (run : List (Happening (Keys C))) →

@@ -6,7 +6,8 @@
 //! disk that holds this content for certain. The header is read, then the keyslots, and then
 //! `reenc_recovery` opens the volume under the key that they gave. Where none is opened the disk is
 //! handed back, with why. And on `StandsAlong`: wherever a run of such a volume stops, each image
-//! stands by itself for an allowed content, under the same passphrase.
+//! stands by itself for an allowed content, under the same passphrase, and nothing is being
+//! converted by its header, as [`standing_volumes_are_opened`] asks of what is opened.
 #![tactic(auto)]
 
 mod laws;
