@@ -1,0 +1,13 @@
+pub mod HeaderLemmas
+pub mod AgreeLemmas
+pub mod KeyLemmas
+pub mod BlockLemmas
+pub mod GapLemmas
+pub mod GuardLemmas
+pub mod NumberLemmas
+pub mod SlotLemmas
+pub mod BegunLemmas
+pub mod PlacedLemmas
+pub mod RekeyedLemmas
+pub mod StartLemmas
+pub mod AtomLemmas
