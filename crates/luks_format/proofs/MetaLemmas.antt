@@ -1,9 +1,8 @@
 -- The metadata of a new volume have a text.
-use Rattle.std.proofs.Common.{ℕ, List, refl, arith}
-use Rattle.base64.specs.GeneralPurpose.{IsBytes}
+use Rattle.std.proofs.Common.{ℕ, refl, arith}
 use Rattle.json_members.specs.Members.{IsPlain}
 use Rattle.luks_bin.proofs.FieldLemmas.{size-most}
-use Rattle.luks_format.specs.Metadata.{config_for, digest_for, parts_with, segment_for}
+use Rattle.luks_format.specs.Metadata.{config_for, parts_with, segment_for}
 use Rattle.luks_format.specs.Wishes.{IsWish, keyslots_size_for}
 use Rattle.luks_format.specs.declared.wish.Wish.{Wish}
 use Rattle.luks_json.specs.Configs.{IsConfig}
@@ -39,19 +38,6 @@ config-text w wish =
       lacks = (refl, (refl, (refl, tt)));
       plain = none-plain 125;
     }
-
-pub digest-text : (key salt : List ℕ) → IsBytes salt → IsBytes (digest_for key salt).digest
-    → IsDigest (digest_for key salt)
-unfolding digest_for
-digest-text key salt of_salt of_digest = record {
-  keyslots = (omega arith, tt);
-  segments = (omega arith, tt);
-  iterations = refl;
-  salt = of_salt;
-  digest = of_digest;
-  lacks = (refl, (refl, (refl, (refl, (refl, (refl, (refl, tt)))))));
-  plain = none-plain 124;
-}
 
 pub meta-text : (w : Wish) (keyslot : Luks2) (digest : Digest) → IsWish w → IsLuks2 keyslot
     → IsDigest digest → IsMeta (parts_with w keyslot digest)

@@ -1,9 +1,11 @@
 -- The drawn bytes of a new volume, in the order in which they are spent.
-use Rattle.std.specs.Prelude.{ℕ, ◌≡◌, ◌+◌, List, ◌++◌, length, take, drop, replicate, Option, Some}
-use Rattle.std.specs.Prelude.{None}
+use Rattle.std.specs.Prelude.{ℕ, ◌≡◌, ◌+◌, List, ◌++◌, length, replicate, Option, Some, None}
 use Rattle.luks_format.specs.declared.drawn.Drawn.{Drawn}
 use Rattle.luks_format.specs.declared.wish.Wish.{Wish}
+use Rattle.luks_keys.specs.Drawings.{Draw as KeyDraw, drawn_by as drawn_by_key}
+use Rattle.luks_keys.specs.Drawings.{drawn_len as key_drawn_len, piece, spent as spent_by_key}
 use Rattle.luks_slots.specs.NewSlots.{drawn_len as slot_len}
+pub use Rattle.luks_keys.specs.Drawings.{salt_len}
 use Rattle.uuid.specs.Parts.{with_variant, with_version}
 use Rattle.uuid.specs.Text.{hyphenated_text, lower}
 use Rattle.uuid.specs.declared.Variant.TheVariants.{RFC4122}
@@ -28,36 +30,34 @@ draw d = record {
   second_salt = d.second_salt.now;
 }
 
+-- those of its key
+abbrev pub of_key : Draw → KeyDraw
+of_key d = record { key = d.key; slot = d.slot; digest_salt = d.digest_salt }
+
 -- none are drawn for an identifier that is given
 abbrev pub identifier_len : Option (List ℕ) → ℕ
 identifier_len (Some identifier) = 0
 identifier_len None = 16
 
-abbrev pub salt_len : ℕ
-salt_len = 32
-
 abbrev pub copy_salt_len : ℕ
 copy_salt_len = 64
 
--- the key, the keyslot's salt and stripes, the digest's salt, the identifier, both copies' salts
+-- those of the key, those of the identifier, both copies' salts
 unfoldable pub drawn_len : Wish → ℕ
-drawn_len w = w.key_size + slot_len w.key_size + salt_len + identifier_len w.identifier
-    + (copy_salt_len + copy_salt_len)
-
--- so many bytes from one on
-abbrev pub piece : ℕ → ℕ → List ℕ → List ℕ
-piece from count bytes = take count (drop from bytes)
+unfolding key_drawn_len
+drawn_len w =
+    key_drawn_len w.key_size + identifier_len w.identifier + (copy_salt_len + copy_salt_len)
 
 unfoldable pub drawn_by : Wish → List ℕ → Draw
+unfolding drawn_by_key key_drawn_len
 drawn_by w bytes =
-    let slot_at = w.key_size in
-    let digest_at = slot_at + slot_len w.key_size in
-    let identifier_at = digest_at + salt_len in
+    let new_key = drawn_by_key w.key_size bytes in
+    let identifier_at = key_drawn_len w.key_size in
     let first_at = identifier_at + identifier_len w.identifier in
     record {
-      key = take w.key_size bytes;
-      slot = piece slot_at (slot_len w.key_size) bytes;
-      digest_salt = piece digest_at salt_len bytes;
+      key = new_key.key;
+      slot = new_key.slot;
+      digest_salt = new_key.digest_salt;
       identifier = piece identifier_at (identifier_len w.identifier) bytes;
       first_salt = piece first_at copy_salt_len bytes;
       second_salt = piece (first_at + copy_salt_len) copy_salt_len bytes;
@@ -65,7 +65,7 @@ drawn_by w bytes =
 
 -- all of them, one after the other
 abbrev pub spent : Draw → List ℕ
-spent d = d.key ++ (d.slot ++ (d.digest_salt ++ (d.identifier ++ (d.first_salt ++ d.second_salt))))
+spent d = spent_by_key (of_key d) ++ (d.identifier ++ (d.first_salt ++ d.second_salt))
 
 -- they have the lengths that are asked for
 pub record AreDrawn (w : Wish) (d : Draw) : Type 0 where

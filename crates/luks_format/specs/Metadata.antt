@@ -8,12 +8,10 @@ use Rattle.luks_json.specs.declared.digest.Digest.{Digest}
 use Rattle.luks_json.specs.declared.keyslot.Keyslot.TheVariants as keyslots
 use Rattle.luks_json.specs.declared.keyslot.Luks2.{Luks2}
 use Rattle.luks_json.specs.declared.meta.Parts.{Parts}
-use Rattle.luks_json.specs.declared.names.Hash.TheVariants as hashes
 use Rattle.luks_json.specs.declared.segment.Segment.{Segment}
 use Rattle.luks_json.specs.declared.segment.SegmentSize.TheVariants.{Dynamic}
+use Rattle.luks_keys.specs.Digests.{digest_for as new_digest}
 use Rattle.luks_slots.specs.NewSlots.{slot_for}
-use Rattle.pbkdf2_hmac.specs.Pbkdf2.{derived_key}
-use Rattle.pbkdf2_hmac.specs.declared.Hash.TheVariants.{Sha256}
 use Rattle.serde_json.specs.Data.{no_members}
 
 -- its data: up to the disk's end, whose sectors are numbered from 0
@@ -26,20 +24,10 @@ segment_for w = record {
   rest = no_members;
 }
 
-abbrev pub digest_rounds : ℕ
-digest_rounds = 1000
-
--- the digest of a key: 32 bytes, of keyslot 0 and segment 0
+-- the digest of its key: of keyslot 0 and segment 0
 unfoldable pub digest_for : List ℕ → List ℕ → Digest
-digest_for key salt = record {
-  keyslots = 0 ∷ [];
-  segments = 0 ∷ [];
-  hash = hashes.Sha256;
-  iterations = digest_rounds;
-  salt = salt;
-  digest = derived_key Sha256 key salt digest_rounds 32;
-  rest = no_members;
-}
+unfolding new_digest
+digest_for key salt = new_digest (0 ∷ []) (0 ∷ []) key salt
 
 -- its keyslot, whose area is the first one behind the copies of the header
 unfoldable pub keyslot_for : Wish → Draw → Luks2

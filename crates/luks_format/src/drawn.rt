@@ -7,15 +7,10 @@ ghost use Rattle.luks_format.specs.Wishes.{IsWish};
 
 use crate::wish::Wish;
 
-/// The bytes of a salt of PBKDF2, of an identifier, and of a copy's salt.
-const SALT: usize = 32;
-
+/// The bytes of an identifier, and of a copy's salt.
 const IDENTIFIER: usize = 16;
 
 const COPY_SALT: usize = 64;
-
-/// The stripes of a key that are drawn: all but the last.
-const STRIPES: usize = 3999;
 
 /// The drawn bytes of a new volume, in the order in which they are spent.
 #[derive(Clone, Copy)]
@@ -49,8 +44,7 @@ pub fn drawn_len(wish: &Wish) -> usize
     requires { IsWish wish.now }
     ensures { result ≡ drawn_len wish.now }
 {
-    let key = wish.key_size as usize;
-    key + SALT + STRIPES * key + SALT + identifier_len(wish) + 2 * COPY_SALT
+    luks_keys::drawn_len(wish.key_size as usize) + identifier_len(wish) + 2 * COPY_SALT
 }
 
 /// Deals the drawn bytes out, in their order, each byte once.
@@ -62,16 +56,13 @@ pub fn split_drawn<'a>(wish: &Wish, bytes: &'a [u8]) -> Drawn<'a>
     ensures once { spent (draw result) ≡ bytes.now }
     ensures lengths { AreDrawn wish.now (draw result) }
 {
-    let size = wish.key_size as usize;
-    let (key, rest) = bytes.split_at(size);
-    let (slot, rest) = rest.split_at(SALT + STRIPES * size);
-    let (digest_salt, rest) = rest.split_at(SALT);
+    let (new_key, rest) = luks_keys::split_drawn(wish.key_size as usize, bytes);
     let (identifier, rest) = rest.split_at(identifier_len(wish));
     let (first_salt, second_salt) = rest.split_at(COPY_SALT);
     Drawn {
-        key,
-        slot,
-        digest_salt,
+        key: new_key.key,
+        slot: new_key.slot,
+        digest_salt: new_key.digest_salt,
         identifier,
         first_salt,
         second_salt,

@@ -1,40 +1,22 @@
 // The metadata of a new volume.
 
-ghost use Rattle.std.specs.Prelude.{◌≡◌, ◌<◌, ℕ, [], ◌∷◌, IfOk, slice_index};
+ghost use Rattle.std.specs.Prelude.{◌≡◌, [], ◌∷◌, IfOk};
 ghost use Rattle.luks_format.specs.Drawings.{AreDrawn, draw};
-ghost use Rattle.luks_format.specs.Metadata.{config_for, digest_for, keyslot_for, parts_for};
+ghost use Rattle.luks_format.specs.Metadata.{config_for, keyslot_for, parts_for};
 ghost use Rattle.luks_format.specs.Metadata.{parts_with, segment_for};
 ghost use Rattle.luks_format.specs.Wishes.{IsWish};
-ghost use Rattle.luks_json.specs.Digests.{IsDigest};
 ghost use Rattle.luks_json.specs.Keyslots.{IsLuks2};
 
 use crate::drawn::Drawn;
 use crate::wish::Wish;
-use base_terms::bytes_are_below_256;
-use json_members::{Listed, Object, copy_bytes};
-use luks_json::{
-    Config, Digest, Encryption, Hash, Keyslot, Luks2, Meta, Parts, Segment, SegmentSize,
-};
+use json_members::{Listed, Object};
+use luks_json::{Config, Digest, Encryption, Keyslot, Luks2, Meta, Parts, Segment, SegmentSize};
+use luks_keys::make_digest;
 use luks_slots::slot_object;
-use pbkdf2_hmac::derive;
 use std::alloc::{AllocError, Global};
-
-/// The rounds of the digest, and its bytes.
-const DIGEST_ROUNDS: u32 = 1000;
-
-const DIGEST: usize = 32;
 
 /// The bytes of a keyslot's salt.
 const SALT: usize = 32;
-
-/// A list with one number.
-fn only(alloc: Global, number: u64) -> Result<Listed<u64>, AllocError>
-    ensures { IfOk result (λ numbers. numbers ≡ number ∷ []) }
-{
-    let mut numbers = Vec::new(alloc);
-    numbers.push(number)?;
-    Ok(Listed::new(numbers))
-}
 
 /// A list with one object, of the number 0.
 fn first<T: Drop>(alloc: Global, object: T) -> Result<Listed<(u64, T)>, AllocError>
@@ -43,43 +25,6 @@ fn first<T: Drop>(alloc: Global, object: T) -> Result<Listed<(u64, T)>, AllocErr
     let mut objects = Vec::new(alloc);
     objects.push((0, object))?;
     Ok(Listed::new(objects))
-}
-
-/// The digest of a key under a salt, for keyslot 0 and segment 0.
-#[tactic(auto, unfolding(crate::specs::Metadata::digest_for))]
-fn digest_of(alloc: Global, key: &[u8], salt: &[u8]) -> Result<Digest, AllocError>
-    ensures is { IfOk result (λ digest. digest ≡ digest_for key.now salt.now) }
-    ensures bytes { IfOk result (λ digest. (k : ℕ) → slice_index digest.digest k < 256) }
-{
-    let mut digest = [0; DIGEST];
-    derive(
-        pbkdf2_hmac::Hash::Sha256,
-        key,
-        salt,
-        DIGEST_ROUNDS,
-        &mut digest,
-    );
-    bytes_are_below_256(&digest);
-    Ok(Digest {
-        keyslots: only(alloc, 0)?,
-        segments: only(alloc, 0)?,
-        hash: Hash::Sha256,
-        iterations: DIGEST_ROUNDS as u64,
-        salt: copy_bytes(alloc, salt)?,
-        digest: copy_bytes(alloc, &digest)?,
-        rest: Object::empty(alloc),
-    })
-}
-
-/// The digest of the volume's key.
-fn make_digest(alloc: Global, drawn: &Drawn<'_>) -> Result<Digest, AllocError>
-    ensures is { IfOk result (λ digest.
-        digest ≡ digest_for (draw drawn.now).key (draw drawn.now).digest_salt) }
-    ensures has_text { IfOk result IsDigest }
-{
-    bytes_are_below_256(drawn.digest_salt);
-    let digest = digest_of(alloc, drawn.key, drawn.digest_salt)?;
-    Ok(digest)
 }
 
 /// The segment of the volume's data.
@@ -159,7 +104,7 @@ pub fn make_meta(alloc: Global, wish: &Wish, drawn: &Drawn<'_>) -> Result<Meta, 
     ensures { IfOk result (λ meta. meta ≡ parts_for wish.now (draw drawn.now)) }
 {
     let keyslot = make_slot(alloc, wish, drawn)?;
-    let digest = make_digest(alloc, drawn)?;
+    let digest = make_digest(alloc, &[0], &[0], drawn.key, drawn.digest_salt)?;
     let parts = make_parts(alloc, wish, keyslot, digest)?;
     Ok(Meta::new(parts))
 }
