@@ -1,0 +1,5 @@
+pub mod ApartLemmas
+pub mod SizeLemmas
+pub mod StartLemmas
+pub mod WishLemmas
+pub mod BeginLemmas

@@ -1,0 +1,6 @@
+pub mod Wishes
+pub mod Places
+pub mod Metadata
+pub mod Begins
+pub mod Faults
+pub mod Laws
