@@ -1,0 +1,13 @@
+pub mod AgreeLemmas
+pub mod BeginLemmas
+pub mod BytesLemmas
+pub mod CallLemmas
+pub mod EvenLemmas
+pub mod GenuineLemmas
+pub mod ImageLemmas
+pub mod KeptLemmas
+pub mod LawLemmas
+pub mod MovedLemmas
+pub mod PlaceLemmas
+pub mod RunLemmas
+pub mod ShownLemmas

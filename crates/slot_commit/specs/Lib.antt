@@ -1,0 +1,4 @@
+pub mod Agreements
+pub mod Calls
+pub mod Images
+pub mod Promises
