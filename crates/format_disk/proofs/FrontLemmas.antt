@@ -28,17 +28,17 @@ use Rattle.sector_disk.specs.Geometry.{IsInDisk}
 
 -- two copies of so many bytes, and the area behind both
 pub record IsFront (v : NewVolume) (size : ℕ) : Type 0 where
-  pub first : length (primary_of v.commit.copies) ≡ size
-  pub second : length (secondary_of v.commit.copies) ≡ size
-  pub header : v.commit.header.hdr_size ≡ size
-  pub place : v.area_offset ≡ 2 * size
+  pub first : length (primary_of v.slot.commit.copies) ≡ size
+  pub second : length (secondary_of v.slot.commit.copies) ≡ size
+  pub header : v.slot.commit.header.hdr_size ≡ size
+  pub place : v.slot.area_offset ≡ 2 * size
 
 pub is-front : (w : Wish) (sizes : Sizes) (pass seed : List ℕ) (v : NewVolume) → IsWish w
     → IsNewVolume w sizes pass seed v → IsFront v w.metadata_size
 unfolding parts_with config_for
 is-front w sizes pass seed v wish is =
     let least = size-least w.metadata_size wish.size in
-    let size : v.commit.header.hdr_size ≡ w.metadata_size =
+    let size : v.slot.commit.header.hdr_size ≡ w.metadata_size =
     ap (λ (h : BinHeader). h.hdr_size) is.first.header ∙ omega (arith, least) in
     record {
       first = is.first.prepared.first.whole.whole ∙ size;
@@ -121,13 +121,13 @@ pub fits-new : (w : Wish) (sizes : Sizes) (pass seed : List ℕ) (v : NewVolume)
 fits-new w sizes pass seed v device wish disk is has =
     let end = in-front w sizes pass seed v wish is in
     let room = room-on w sizes device has (data-begins w sizes pass seed v wish disk is) in
-    let place = div-mul-le_self v.area_offset sizes.atom in
-    let within : v.area_offset / sizes.atom * sizes.atom + length v.area
+    let place = div-mul-le_self v.slot.area_offset sizes.atom in
+    let within : v.slot.area_offset / sizes.atom * sizes.atom + length v.slot.area
     ≤ device.atoms * sizes.atom =
     omega (arith, end, room, place) in
     record {
       begun = is.first.begun;
       sizes = subst (λ (s : Sizes). HasSizes s device) (sym is.first.sizes_are) has;
-      area = subst (λ n. IsInDisk n device.atoms (v.area_offset / n) (length v.area)) has.atom
+      area = subst (λ n. IsInDisk n device.atoms (v.slot.area_offset / n) (length v.slot.area)) has.atom
           (record { whole = is.slot.1.whole; within = within });
     }

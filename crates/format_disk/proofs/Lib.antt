@@ -1,4 +1,3 @@
-pub mod CallLemmas
 pub mod FitLemmas
 pub mod FrontLemmas
 pub mod MakeLemmas

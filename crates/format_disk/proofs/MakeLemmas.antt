@@ -27,11 +27,11 @@ pub record Making (w : Wish) (sizes : Sizes) (pass seed : List ℕ) (v : NewVolu
   pub fits : unfit_by w sizes pass (length (text_for meta)) ≡ None
   pub rules : first_fault (parts_for w d) sizes ≡ None
   pub identifier : v.identifier ≡ identifier_for w d.identifier
-  pub first : IsFirst v.identifier d meta sizes v.commit
-  pub place : v.area_offset ≡ 2 * w.metadata_size
+  pub first : IsFirst v.identifier d meta sizes v.slot.commit
+  pub place : v.slot.area_offset ≡ 2 * w.metadata_size
   pub keyslot : Luks2
-  pub slot : IsSlotAt v.area_offset sizes.atom pass w.iterations d.key d.slot
-      (record { keyslot = keyslot; area = v.area })
+  pub slot : IsSlotAt v.slot.area_offset sizes.atom pass w.iterations d.key d.slot
+      (record { keyslot = keyslot; area = v.slot.area })
 
 pub made : (w : Wish) (sizes : Sizes) (pass seed : List ℕ) (v : NewVolume) (d : Draw)
     (meta : Parts) → Making w sizes pass seed v d meta → IsNewVolume w sizes pass seed v
@@ -43,12 +43,12 @@ made w sizes pass seed v d meta is =
       identifier_is = is.identifier ∙ ap (λ (e : Draw). identifier_for w e.identifier) is.drawn;
       drawn = subst (AreDrawn w) is.drawn is.lengths;
       rules = subst (λ (e : Draw). first_fault (parts_for w e) sizes ≡ None) is.drawn is.rules;
-      first = subst (λ (m : Parts). IsFirst v.identifier (draw_of w seed) m sizes v.commit) metadata
-          (subst (λ (e : Draw). IsFirst v.identifier e meta sizes v.commit) is.drawn is.first);
+      first = subst (λ (m : Parts). IsFirst v.identifier (draw_of w seed) m sizes v.slot.commit) metadata
+          (subst (λ (e : Draw). IsFirst v.identifier e meta sizes v.slot.commit) is.drawn is.first);
       place = is.place;
       slot = (
         is.keyslot,
-        subst (λ (e : Draw). IsSlotAt v.area_offset sizes.atom pass w.iterations e.key e.slot
-            (record { keyslot = is.keyslot; area = v.area })) is.drawn is.slot,
+        subst (λ (e : Draw). IsSlotAt v.slot.area_offset sizes.atom pass w.iterations e.key e.slot
+            (record { keyslot = is.keyslot; area = v.slot.area })) is.drawn is.slot,
       );
     }

@@ -185,7 +185,7 @@ module _ (w : Wish) (sizes : Sizes) (pass seed : List ℕ) (v : NewVolume) (byte
 
   copies-in : 2 * w.metadata_size ≤ header_bytes sizes
   copies-in =
-      let room = subst (λ (s : Sizes). 2 * v.commit.header.hdr_size ≤ header_room s)
+      let room = subst (λ (s : Sizes). 2 * v.slot.commit.header.hdr_size ≤ header_room s)
       is.first.sizes_are is.first.prepared.room in
       let same = room-is sizes.detached refl in
       let size = front.header in
@@ -194,32 +194,32 @@ module _ (w : Wish) (sizes : Sizes) (pass seed : List ℕ) (v : NewVolume) (byte
   -- what stands behind both copies on the header's disk
   abbrev behind : List ℕ
   behind =
-      take (header_bytes sizes - length (primary_of v.commit.copies)
-      - length (secondary_of v.commit.copies)) (v.area ++ drop (end_of_front v) bytes)
+      take (header_bytes sizes - length (primary_of v.slot.commit.copies)
+      - length (secondary_of v.slot.commit.copies)) (v.slot.area ++ drop (end_of_front v) bytes)
 
   front-is : front_of sizes image
-      ≡ primary_of v.commit.copies ++ (secondary_of v.commit.copies ++ behind)
+      ≡ primary_of v.slot.commit.copies ++ (secondary_of v.slot.commit.copies ++ behind)
   front-is =
       let within = copies-in in
       let first = front.first in
       let second = front.second in
-      copies-there (primary_of v.commit.copies) (secondary_of v.commit.copies) _
+      copies-there (primary_of v.slot.commit.copies) (secondary_of v.slot.commit.copies) _
       (header_bytes sizes) (omega (arith, within, first, second))
 
   loads : stored_in sizes (front_of sizes image) ≡ Ok is.first.loaded.0
   loads =
       ap (stored_in sizes) front-is
       ∙ ap (λ (s : Sizes). stored_in s
-      (primary_of v.commit.copies ++ (secondary_of v.commit.copies ++ behind)))
+      (primary_of v.slot.commit.copies ++ (secondary_of v.slot.commit.copies ++ behind)))
       (sym is.first.sizes_are)
       ∙ is.first.loaded.1.loads behind
 
-  stands : StandsIn image (record { keyslot = is.slot.0; area = v.area })
+  stands : StandsIn image (record { keyslot = is.slot.0; area = v.slot.area })
   stands =
-      ap (λ n. take (length v.area) (drop n image))
+      ap (λ n. take (length v.slot.area) (drop n image))
       (ap (λ (k : Luks2). k.area.offset) (slot-is w sizes pass seed v is)
       ∙ slot-offset w (draw_of w seed))
-      ∙ area-there (primary_of v.commit.copies) (secondary_of v.commit.copies) v.area
+      ∙ area-there (primary_of v.slot.commit.copies) (secondary_of v.slot.commit.copies) v.slot.area
       (drop (end_of_front v) bytes) w.metadata_size front.first front.second
 
   abbrev digest : Digest
@@ -244,7 +244,7 @@ module _ (w : Wish) (sizes : Sizes) (pass seed : List ℕ) (v : NewVolume) (byte
       record {
         stored = is.first.loaded.0;
         loaded = loads;
-        meta = metadata-are v.commit sizes (metadata_of w seed) is.first.loaded.0
+        meta = metadata-are v.slot.commit sizes (metadata_of w seed) is.first.loaded.0
             is.first.sizes_are is.first.meta_is is.rules is.first.loaded.1;
         digest = digest;
         there = refl;

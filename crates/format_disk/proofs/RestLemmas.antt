@@ -9,8 +9,7 @@ use Rattle.base_terms.specs.Blocks.{pasted}
 use Rattle.base_terms.specs.declared.failed.Failed.{Failed}
 use Rattle.disk_sizes.specs.declared.Sizes.{Sizes}
 use Rattle.format_disk.proofs.FrontLemmas.{IsFront, in-front, is-front}
-use Rattle.format_disk.specs.Calls.{MakesCall, MakesCalls, NewCall, WritesVolume, commits}
-use Rattle.format_disk.specs.Calls.{new_calls, syncs_area, writes_area}
+use Rattle.format_disk.specs.Calls.{WritesVolume}
 use Rattle.format_disk.specs.Rests.{KeepsFrom, end_of_front, front_room}
 use Rattle.format_disk.specs.Volumes.{IsNewVolume}
 use Rattle.format_disk.specs.declared.volume.NewVolume.{NewVolume}
@@ -21,6 +20,7 @@ use Rattle.luks_format.specs.Wishes.{IsWish}
 use Rattle.luks_format.specs.declared.wish.Wish.{Wish}
 use Rattle.sector_disk.specs.Devices.{Device, failed_call, succeeded}
 use Rattle.sector_disk.specs.Values.{Writes}
+use Rattle.slot_commit.specs.Calls.{MakesCall, MakesCalls, SlotCall, commits, slot_calls, syncs_area, writes_area}
 
 -- ---- behind a write
 behind-pasted : (old : List ℕ) (at : ℕ) (body : List ℕ)
@@ -69,38 +69,38 @@ behind-write atom at from body bytes old new (Err failed) within is writes =
 -- ---- behind the calls
 -- both copies and the area end no later than a byte
 record EndBefore (v : NewVolume) (from : ℕ) : Type 0 where
-  first : length (primary_of v.commit.copies) ≤ from
-  second : v.commit.header.hdr_size + length (secondary_of v.commit.copies) ≤ from
-  area : v.area_offset + length v.area ≤ from
+  first : length (primary_of v.slot.commit.copies) ≤ from
+  second : v.slot.commit.header.hdr_size + length (secondary_of v.slot.commit.copies) ≤ from
+  area : v.slot.area_offset + length v.slot.area ≤ from
 
-behind-call : (v : NewVolume) (from : ℕ) → EndBefore v from → (call : NewCall)
+behind-call : (v : NewVolume) (from : ℕ) → EndBefore v from → (call : SlotCall)
     (old new : Device) (bytes : List ℕ) (result : Result (Unit {0}) Failed)
-    → old.values ≡ Some bytes → MakesCall v call old new result → StaysFrom from bytes new.values
+    → old.values ≡ Some bytes → MakesCall v.slot call old new result → StaysFrom from bytes new.values
 behind-call v from ends writes_area old new bytes result is made =
-    let place = div-mul-le_self v.area_offset old.size in
+    let place = div-mul-le_self v.slot.area_offset old.size in
     let area = ends.area in
-    behind-write old.size (v.area_offset / old.size) from v.area bytes _ _ result
+    behind-write old.size (v.slot.area_offset / old.size) from v.slot.area bytes _ _ result
     (omega (arith, place, area)) is made.values
 behind-call v from ends syncs_area old new bytes result is made =
     (bytes, made.values ∙ is, refl)
 behind-call v from ends (commits Begun) old new bytes result is made =
     let first = ends.first in
-    behind-write old.size 0 from (primary_of v.commit.copies) bytes _ _ result
+    behind-write old.size 0 from (primary_of v.slot.commit.copies) bytes _ _ result
     (omega (arith, first)) is made.values
 behind-call v from ends (commits FirstWritten) old new bytes result is made =
     (bytes, made.values ∙ is, refl)
 behind-call v from ends (commits FirstKept) old new bytes result is made =
-    let place = div-mul-le_self v.commit.header.hdr_size old.size in
+    let place = div-mul-le_self v.slot.commit.header.hdr_size old.size in
     let second = ends.second in
-    behind-write old.size (v.commit.header.hdr_size / old.size) from
-    (secondary_of v.commit.copies) bytes _ _ result (omega (arith, place, second)) is made.values
+    behind-write old.size (v.slot.commit.header.hdr_size / old.size) from
+    (secondary_of v.slot.commit.copies) bytes _ _ result (omega (arith, place, second)) is made.values
 behind-call v from ends (commits SecondWritten) old new bytes result is made =
     (bytes, made.values ∙ is, refl)
 behind-call v from ends (commits Ended) old new bytes result is made = absurd made
 
-behind-calls : (v : NewVolume) (from : ℕ) → EndBefore v from → (calls : List NewCall)
+behind-calls : (v : NewVolume) (from : ℕ) → EndBefore v from → (calls : List SlotCall)
     (old new : Device) (bytes : List ℕ) (result : Result (Unit {0}) Failed)
-    → old.values ≡ Some bytes → MakesCalls v calls old new result
+    → old.values ≡ Some bytes → MakesCalls v.slot calls old new result
     → StaysFrom from bytes new.values
 unfolding MakesCalls
 behind-calls v from ends [] old new bytes result is (same, done) =
@@ -132,6 +132,6 @@ pub rest-stays : (w : Wish) (sizes : Sizes) (pass seed : List ℕ) (v : NewVolum
 rest-stays w sizes pass seed v old new result wish is made = (
   in-front w sizes pass seed v wish is,
   λ bytes told. behind-calls v (end_of_front v)
-      (ends v w.metadata_size (is-front w sizes pass seed v wish is)) new_calls old new bytes result
+      (ends v w.metadata_size (is-front w sizes pass seed v wish is)) slot_calls old new bytes result
       told made,
 )

@@ -6,8 +6,7 @@ use Rattle.base_terms.specs.Blocks.{pasted}
 use Rattle.disk_sizes.specs.declared.Sizes.{Sizes}
 use Rattle.format_disk.proofs.FrontLemmas.{IsFront, is-front}
 use Rattle.format_disk.proofs.PasteLemmas.{all-pasted}
-use Rattle.format_disk.specs.Calls.{FitsNew, MakesCall, MakesCalls, NewCall, WritesVolume, commits}
-use Rattle.format_disk.specs.Calls.{syncs_area, writes_area}
+use Rattle.format_disk.specs.Calls.{FitsNew, WritesVolume}
 use Rattle.format_disk.specs.Volumes.{IsNewVolume}
 use Rattle.format_disk.specs.Written.{written_over}
 use Rattle.format_disk.specs.declared.volume.NewVolume.{NewVolume}
@@ -19,17 +18,18 @@ use Rattle.luks_format.specs.Wishes.{FitsDisk, IsWish}
 use Rattle.luks_format.specs.declared.wish.Wish.{Wish}
 use Rattle.sector_disk.specs.Devices.{Device, WriteCall, succeeded}
 use Rattle.sector_disk.specs.Geometry.{IsAtom}
+use Rattle.slot_commit.specs.Calls.{MakesCall, MakesCalls, SlotCall, commits, syncs_area, writes_area}
 
 -- the first of them succeeded, and then the others
-went : (v : NewVolume) (call : NewCall) (calls : List NewCall) (old new : Device)
-    → MakesCalls v (call ∷ calls) old new succeeded
-    → (between : Device) × MakesCall v call old between succeeded
-    × MakesCalls v calls between new succeeded
+went : (v : NewVolume) (call : SlotCall) (calls : List SlotCall) (old new : Device)
+    → MakesCalls v.slot (call ∷ calls) old new succeeded
+    → (between : Device) × MakesCall v.slot call old between succeeded
+    × MakesCalls v.slot calls between new succeeded
 unfolding MakesCalls
 went v call calls old new (inl (made, failed)) = absurd cc
 went v call calls old new (inr rest) = rest
 
-none : (v : NewVolume) (old new : Device) → MakesCalls v [] old new succeeded → new ≡ old
+none : (v : NewVolume) (old new : Device) → MakesCalls v.slot [] old new succeeded → new ≡ old
 unfolding MakesCalls
 none v old new made = made.0
 
@@ -56,8 +56,8 @@ module _ (v : NewVolume) (size : ℕ) (front : IsFront v size) (old new : Device
     pub all-written : (bytes : List ℕ) → 2 * size ≤ length bytes → old.values ≡ Some bytes
         → new.values ≡ Some (written_over v bytes)
     all-written bytes fits values =
-        let one = primary_of v.commit.copies in
-        let two = secondary_of v.commit.copies in
+        let one = primary_of v.slot.commit.copies in
+        let two = secondary_of v.slot.commit.copies in
         let pages : 2 * size % 4096 ≡ 0 = omega (arith, page) in
         let a = went v writes_area _ old new made in
         let b = went v syncs_area _ a.0 new a.2 in
@@ -67,17 +67,17 @@ module _ (v : NewVolume) (size : ℕ) (front : IsFront v size) (old new : Device
         let f = went v (commits SecondWritten) _ e.0 new e.2 in
         let early : b.0.size ≡ old.size = b.1.size ∙ a.1.size in
         let late : d.0.size ≡ old.size = d.1.size ∙ c.1.size ∙ early in
-        let area = wrote (v.area_offset / old.size) (2 * size) bytes v.area old a.0
-        (place-of v.area_offset (2 * size) old.size old.size front.place refl known pages) values
+        let area = wrote (v.slot.area_offset / old.size) (2 * size) bytes v.slot.area old a.0
+        (place-of v.slot.area_offset (2 * size) old.size old.size front.place refl known pages) values
         a.1 in
         let first = wrote 0 0 _ one b.0 c.0 (omega arith) (b.1.values ∙ area) c.1 in
-        let second = wrote (v.commit.header.hdr_size / d.0.size) size _ two d.0 e.0
-        (place-of v.commit.header.hdr_size size old.size d.0.size front.header late known page)
+        let second = wrote (v.slot.commit.header.hdr_size / d.0.size) size _ two d.0 e.0
+        (place-of v.slot.commit.header.hdr_size size old.size d.0.size front.header late known page)
         (d.1.values ∙ first) e.1 in
         ap (λ (device : Device). device.values) (none v f.0 new f.2)
         ∙ f.1.values ∙ second
-        ∙ ap Some (all-pasted bytes one two v.area size front.first front.second fits)
-        ∙ ap (λ n. Some (one ++ (two ++ (v.area ++ drop (n + length v.area) bytes))))
+        ∙ ap Some (all-pasted bytes one two v.slot.area size front.first front.second fits)
+        ∙ ap (λ n. Some (one ++ (two ++ (v.slot.area ++ drop (n + length v.slot.area) bytes))))
         (sym front.place)
 
 pub are-written : (w : Wish) (sizes : Sizes) (pass seed : List ℕ) (v : NewVolume)
@@ -90,7 +90,7 @@ are-written w sizes pass seed v old new bytes wish disk is fits values long made
     let atom : sizes.atom ≡ old.size =
     ap (λ (s : Sizes). s.atom) (sym is.first.sizes_are) ∙ fits.sizes.atom in
     let known : IsAtom old.size = subst IsAtom atom disk.atom in
-    let place = place-of v.area_offset (2 * w.metadata_size) old.size old.size front.place refl
+    let place = place-of v.slot.area_offset (2 * w.metadata_size) old.size old.size front.place refl
     known (copies-page w.metadata_size wish.size) in
     let within = fits.area.within in
     all-written v w.metadata_size front old new known (size-page w.metadata_size wish.size) made

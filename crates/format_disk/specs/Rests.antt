@@ -12,7 +12,7 @@ use Rattle.sector_disk.specs.Devices.{Device}
 
 -- the first byte behind all that is written
 abbrev pub end_of_front : NewVolume → ℕ
-end_of_front v = v.area_offset + length v.area
+end_of_front v = v.slot.area_offset + length v.slot.area
 
 -- the bytes that a new volume's header and keyslots may take: all of the header's disk where that
 -- is one of its own, else those in front of the data

@@ -41,7 +41,7 @@ pub record IsNewVolume (w : Wish) (sizes : Sizes) (pass seed : List ℕ) (v : Ne
     pub identifier_is : v.identifier ≡ identifier_for w (draw_of w seed).identifier
     pub drawn : AreDrawn w (draw_of w seed)
     pub rules : first_fault (metadata_of w seed) sizes ≡ None
-    pub first : IsFirst v.identifier (draw_of w seed) (metadata_of w seed) sizes v.commit
-    pub place : v.area_offset ≡ 2 * w.metadata_size
-    pub slot : (keyslot : Luks2) × IsSlotAt v.area_offset sizes.atom pass w.iterations
-        (draw_of w seed).key (draw_of w seed).slot (record { keyslot = keyslot; area = v.area })
+    pub first : IsFirst v.identifier (draw_of w seed) (metadata_of w seed) sizes v.slot.commit
+    pub place : v.slot.area_offset ≡ 2 * w.metadata_size
+    pub slot : (keyslot : Luks2) × IsSlotAt v.slot.area_offset sizes.atom pass w.iterations
+        (draw_of w seed).key (draw_of w seed).slot (record { keyslot = keyslot; area = v.slot.area })

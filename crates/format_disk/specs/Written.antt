@@ -28,8 +28,8 @@ FitTheirDisk = (w : Wish) (sizes : Sizes) (pass seed : List ℕ) (v : NewVolume)
 -- both copies of its header, its keyslot's area, and behind them what was there
 abbrev pub written_over : NewVolume → List ℕ → List ℕ
 written_over v bytes =
-    primary_of v.commit.copies
-    ++ (secondary_of v.commit.copies ++ (v.area ++ drop (end_of_front v) bytes))
+    primary_of v.slot.commit.copies
+    ++ (secondary_of v.slot.commit.copies ++ (v.slot.area ++ drop (end_of_front v) bytes))
 
 -- Where all calls succeeded the disk holds just this.
 abbrev pub AreWritten : Type 0

@@ -12,7 +12,6 @@ ghost use Rattle.luks_rules.specs.Rules.{first_fault};
 ghost use Rattle.luks_store.specs.Commits.{text_for};
 
 use crate::fault::FormatFault;
-use base_terms::Bytes;
 use disk_sizes::Sizes;
 use luks_copies::CommitError;
 use luks_format::{
@@ -23,6 +22,7 @@ use luks_json::Meta;
 use luks_slots::{Key, NewSlot, area_size, slot_at};
 use luks_store::Commit;
 use seed_stream::{streams_go_on, stretch};
+use slot_commit::SlotCommit;
 use std::alloc::{AllocError, Global};
 use uuid::Uuid;
 
@@ -33,12 +33,8 @@ const MOST_PASSPHRASE: usize = 512;
 #[derive(Drop)]
 pub struct NewVolume {
     pub identifier: Uuid,
-    /// The byte at which its keyslot's area begins.
-    pub area_offset: u64,
-    /// The bytes of that area, in whole atoms.
-    pub area: Bytes,
-    /// Both copies of its header, of which none is written yet.
-    pub commit: Commit,
+    /// Its keyslot, and both copies of its header, of which none is written yet.
+    pub slot: SlotCommit,
 }
 
 impl From<AllocError> for FormatFault {
@@ -161,8 +157,10 @@ pub fn make_volume(
     )?;
     Ok(NewVolume {
         identifier,
-        area_offset,
-        area,
-        commit,
+        slot: SlotCommit {
+            area_offset,
+            area,
+            commit,
+        },
     })
 }
