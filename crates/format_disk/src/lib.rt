@@ -16,8 +16,6 @@
 
 mod fault;
 mod laws;
-#[cfg(test)]
-mod tests;
 mod volume;
 mod writing;
 
