@@ -1,6 +1,6 @@
 -- A header has room for a conversion whose areas lie at the lowest places.
-use Rattle.std.proofs.Common.{◌≡◌, ◌∙◌, ℕ, ◌+◌, ◌-◌, ◌*◌, ◌%◌, ◌≤◌, ◌&&◌, ◌++◌, Bool, true, false}
-use Rattle.std.proofs.Common.{append-nil, List, [], ◌∷◌, Some, None, refl, sym, ap, subst, arith}
+use Rattle.std.proofs.Common.{◌≡◌, ◌∙◌, ℕ, ◌*◌, ◌%◌, ◌≤◌, ◌&&◌, ◌++◌, Bool, true, false}
+use Rattle.std.proofs.Common.{append-nil, [], ◌∷◌, Some, None, refl, sym, ap, subst, arith}
 use Rattle.std.proofs.lemmas.List.Elements.{All-cons, All-nil, All-weaker}
 use Rattle.std.specs.List.{All}
 use Rattle.std.specs.Option.{IsSome, is_some}
@@ -25,7 +25,7 @@ use Rattle.luks_rules.specs.Segments.{in_progress}
 use Rattle.luks_rules.specs.States.{IsIdle, IsSound}
 use Rattle.luks_rules.specs.declared.areas.Area.{Area}
 use Rattle.luks_rules.specs.declared.idle.Idle.{Idle}
-use Rattle.luks_slots.specs.Gaps.{IsApart, taken}
+use Rattle.luks_slots.specs.Gaps.{IsApart}
 use Rattle.luks_slots.specs.NewSlots.{slot_for}
 use Rattle.reenc_meta.specs.Wishes.{HaveGaps, IsSafe, MayStart, config_by, new_areas, offset_by}
 use Rattle.reenc_meta.specs.declared.wish.Wish.{Wish as MetaWish}

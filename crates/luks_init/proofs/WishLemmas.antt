@@ -1,5 +1,5 @@
 -- What is wished of the metadata is a wish that they may have.
-use Rattle.std.proofs.Common.{ℕ, ◌+◌, ◌^◌, ◌<◌, ◌≤◌, refl, arith, Option, Some, None}
+use Rattle.std.proofs.Common.{ℕ, ◌^◌, ◌<◌, refl, arith, Option, Some, None}
 use Rattle.std.specs.Option.{IsSomeAnd}
 use Rattle.luks_init.proofs.SizeLemmas.{guard-some}
 use Rattle.luks_init.specs.Begins.{MayBegin}

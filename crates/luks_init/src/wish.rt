@@ -42,8 +42,8 @@ pub struct Wish {
 }
 
 impl Wish {
-    /// The bytes that are saved of the largest zone: a copy of it, or 32 bytes for each of its blocks,
-    /// which are atoms of so many bytes.
+    /// The bytes that are saved of the largest zone: a copy of it, or 32 bytes for each of its
+    /// blocks, which are atoms of so many bytes.
     fn saved_size(&self, atom: u32) -> u64
         requires wish { IsWish self.now atom }
         requires atom { IsAtom atom }

@@ -1,4 +1,4 @@
-use Rattle.std.proofs.Common.{◌≡◌, ◌∙◌, ◌-◌, ◌≤◌, ℕ, List, Option, Some, None, length, ap, arith, subst}
+use Rattle.std.proofs.Common.{◌≡◌, ◌∙◌, ◌-◌, ℕ, List, Option, Some, None, length, ap, arith, subst}
 use Rattle.std.proofs.Common.{sym}
 use Rattle.disk_sizes.specs.declared.Sizes.{Sizes}
 use Rattle.luks_init.proofs.BeginLemmas.{ready-begins, too-long, unready}

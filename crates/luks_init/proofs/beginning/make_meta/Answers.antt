@@ -1,4 +1,4 @@
-use Rattle.std.proofs.Common.{◌≡◌, ◌∙◌, [], true, subst, sym}
+use Rattle.std.proofs.Common.{◌≡◌, ◌∙◌, true, subst, sym}
 use Rattle.std.specs.Option.{IsSomeAnd}
 use Rattle.std.specs.Result.{IfOk}
 use Rattle.disk_sizes.specs.declared.Sizes.{Sizes}
@@ -7,7 +7,6 @@ use Rattle.luks_init.proofs.WishLemmas.{wish-of}
 use Rattle.luks_init.specs.Metadata.{wish_for, wish_with}
 use Rattle.luks_json.specs.Keyslots.{IsLuks2}
 use Rattle.luks_json.specs.declared.digest.Digest.{Digest}
-use Rattle.luks_json.specs.declared.keyslot.Luks2.{Luks2}
 use Rattle.luks_keys.specs.Drawings.{draw}
 use Rattle.luks_rules.specs.Idles.{idle_of}
 use Rattle.luks_slots.specs.Unlocks.{matches}
