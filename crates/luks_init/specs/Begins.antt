@@ -18,8 +18,8 @@ use Rattle.luks_slots.specs.NewSlots.{IsSlotAt}
 abbrev pub most_passphrase : ℕ
 most_passphrase = 512
 
--- Why no conversion can begin, whatever room there is: one is under way, the volume isn't encrypted,
--- or the passphrase doesn't have 1 to 512 bytes.
+-- Why no conversion can begin, whatever room there is: one is under way, the volume isn't
+-- encrypted, or the passphrase doesn't have 1 to 512 bytes.
 unfoldable pub unready_by : Option Idle → List ℕ → Option InitFault
 unready_by None pass = Some faults.InProgress
 unready_by (Some v) pass =

@@ -7,8 +7,9 @@
 //! keyslot of the new key, which the passphrase opens, has its area at the lowest place in the
 //! keyslots area with room, and the area that guards zones the lowest one besides it. The metadata
 //! break no rule, and their text fits the copies of the header. Else it says what stands in the
-//! way, the first in the order of [`InitFault`]. [`begun_conversions_may_start`] is the law beneath:
-//! areas at the lowest places leave the volume with room for its conversion.
+//! way, the first in the order of [`InitFault`]. The law beneath is
+//! [`begun_conversions_may_start`]: areas at the lowest places leave the volume with room for its
+//! conversion.
 #![tactic(auto)]
 
 mod beginning;
