@@ -120,7 +120,8 @@ fn make_meta(
 }
 
 /// The header of a volume as its conversion begins, for a passphrase of 1 to 512 bytes that opens
-/// the new key.
+/// the new key. Whether it opens the old one isn't tried; the volume stands from then on for what
+/// it stood for under passphrases that open both.
 ///
 /// # Errors
 ///

@@ -5,11 +5,12 @@
 //! is with the first header of a volume, over whatever stood there.
 //!
 //! Over a header that stands, [`slot_commits_keep_headers`]: on a disk that holds its bytes for
-//! certain, and in them both copies of the header to which the commit is the next, each image that a
-//! stop leaves, after whichever call, done or failed, holds the metadata from before, or it holds
+//! certain, and in them both copies of the header to which the commit is the next, each image that
+//! a stop leaves, after whichever call, done or failed, holds the metadata from before, or it holds
 //! the next ones and the keyslot's area stands; and but for that area it holds, behind both copies,
-//! what was there. That the next metadata come only behind the area is why the area is synced before
-//! the commit begins. Where all calls succeeded the disk holds the next header for certain.
+//! what was there. So it is as long as no torn copy is valid and none stands in front of the second
+//! one. That the next metadata come only behind the area is why the area is synced before the
+//! commit begins. Where all calls succeeded the disk holds the next header for certain.
 #![tactic(auto)]
 
 mod laws;

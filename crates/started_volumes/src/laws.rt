@@ -15,9 +15,8 @@ pub fn images_agree_but_for_a_run()
 /// A run of bytes in the keyslots area that is in no area with a key is part of no content: an
 /// image that holds a header, and one that holds the same metadata and is the same from both copies
 /// on but for the run, stand for the same, under the keys of their segments and under each
-/// passphrase; so they do where they differ in front of the keyslots area alone. A run is in no
-/// such area that is free, and one of the area that guards a conversion's zones, as long as no
-/// zone is open.
+/// passphrase; so they do where they differ in front of the keyslots area alone. A run that is free
+/// is in no such area, nor is one of the area that guards a conversion's zones.
 pub fn gaps_keep_contents()
     ensures keeps { RunsKeepContents }
     ensures fronts { FrontsKeepContents }
@@ -26,9 +25,9 @@ pub fn gaps_keep_contents()
 {}
 
 /// An image that holds the metadata with which a volume begins to be encrypted anew, and in a gap
-/// the bytes of the new keyslot, stands for what the volume stood for, under the passphrase that
-/// opens the new keyslot: all blocks are old, under the key that they had, and the new key is the
-/// one of the keyslot.
+/// the bytes of the new keyslot, stands for what the volume stood for, under a passphrase that
+/// opens both the volume and the new keyslot: all blocks are old, under the key that they had, and
+/// the new key is the one of the keyslot.
 pub fn started_volumes_stand()
     ensures { StartedVolumesStand }
 {}

@@ -6,12 +6,11 @@
 //! whether the volume is being converted or not; so it is with what guards a conversion's zones, as
 //! long as no zone is open, and with all in front of the keyslots area. Then the header is written
 //! with the metadata with which the conversion begins: by [`started_volumes_stand`] an image that
-//! holds these and the new keyslot's bytes stands for the same under the passphrase that opens it,
-//! and no block is new yet. When images are the same but for a gap, atom by atom, says
-//! [`images_agree_but_for_a_run`].
+//! holds these and the new keyslot's bytes stands for the same under a passphrase that opens both
+//! the volume and the new keyslot, and no block is new yet. When images are the same but for a gap,
+//! atom by atom, says [`images_agree_but_for_a_run`].
 //!
-//! What an image stands for is `StandsFor` of `reenc_recovery`, of which there is one. So each image
-//! on the way stands for one content.
+//! What an image stands for is `StandsFor` of `reenc_recovery`, of which there is one.
 #![tactic(auto)]
 
 mod laws;
