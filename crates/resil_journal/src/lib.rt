@@ -1,11 +1,16 @@
 //! The journal, one of the ways to keep an open zone of a conversion safe: before the zone's blocks
 //! are written anew, a copy of each of its old atoms is written into an area of the keyslots area.
-//! So the area has room for as many blocks as it has whole atoms.
+//! So the area has room for as many blocks as it has whole atoms, and after a stop each block of
+//! the zone stands for what was saved of it.
 //!
-//! The layer above may rely on [`capacity`]. No call takes memory.
+//! The layer above may rely on [`save`], whose bytes are the old atoms, on [`judge`], and on
+//! [`capacity`] and [`saved_len`], which [`fills_capacity`] ties to each other. No call takes
+//! memory.
 #![tactic(auto)]
 
-ghost use Rattle.std.specs.Prelude.{◌≡◌, ◌/◌, ◌<◌};
+ghost use Rattle.std.specs.Prelude.{◌≡◌, ◌*◌, ◌/◌, ◌<◌, ◌≤◌, ◌^◌, ◌↔◌, length};
+
+use resil_terms::Judged;
 
 /// How many blocks a zone may have whose atoms are saved in an area of so many bytes, where an atom
 /// has so many: one for each whole atom of the area.
@@ -16,6 +21,36 @@ pub fn capacity(area: u64, atom: u32) -> u64
     area / atom as u64
 }
 
+/// How many bytes are saved of so many blocks, where an atom has so many: their atoms.
+pub fn saved_len(blocks: u64, atom: u32) -> u64
+    requires { blocks * atom < 2 ^ 64 }
+    ensures { result ≡ blocks * atom }
+{
+    blocks * atom as u64
+}
+
+/// A law, with nothing to run: an area has room for what is saved of so many blocks exactly where
+/// they are no more than its [`capacity`].
+pub fn fills_capacity(area: u64, blocks: u64, atom: u32)
+    requires { 0 < atom }
+    ensures { (blocks ≤ area / atom) ↔ (blocks * atom ≤ area) }
+{}
+
+/// Saves the old atoms of a zone's blocks: `out`, which is as long, is a copy of them.
+pub fn save(old: &[u8], out: &mut [u8])
+    requires { length out.old ≡ length old.now }
+    ensures { out.new ≡ old.now }
+{
+    out.copy_from_slice(old);
+}
+
+/// For what each block of an open zone stands: for what was saved of it, whatever is in its place.
+pub fn judge() -> Judged
+    ensures { result ≡ Judged.FromSave }
+{
+    Judged::FromSave
+}
+
 #[test]
 fn a_zone_has_a_block_for_each_whole_atom(rt: HostRuntime) {
     assert_eq!(rt; capacity(1_048_576, 4096), 256);
@@ -23,4 +58,13 @@ fn a_zone_has_a_block_for_each_whole_atom(rt: HostRuntime) {
     assert_eq!(rt; capacity(8191, 4096), 1);
     assert_eq!(rt; capacity(4095, 4096), 0);
     assert_eq!(rt; capacity(0, 512), 0);
+}
+
+#[test]
+fn old_atoms_are_saved_as_they_are(rt: HostRuntime) {
+    assert_eq!(rt; saved_len(256, 4096), 1_048_576);
+    let mut out = [0; 8];
+    save(b"old atom", &mut out);
+    assert_eq!(rt; out, *b"old atom");
+    assert_eq!(rt; judge(), Judged::FromSave);
 }
