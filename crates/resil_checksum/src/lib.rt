@@ -1,29 +1,19 @@
 //! Checksums, one of the ways to keep an open zone of a conversion safe: before the zone's blocks
 //! are written anew, the SHA-256 (FIPS 180-4) of each of its old atoms is written into an area of
 //! the keyslots area. A digest has 32 bytes, so the area has room for as many blocks as it has
-//! whole digests, whatever an atom has.
+//! whole digests, whatever an atom has. After a stop the digest tells whether the atom in a block's
+//! place is still the old one; so a zone is begun only where no new atom has its old one's digest.
 //!
-//! The layer above may rely on [`capacity`]. No call takes memory.
+//! The layer above may rely on [`save`], whose bytes are the digests in the order of the blocks, on
+//! [`clash`], on [`judge`], whose answers [`atoms_are_told`] says to be right, and on [`capacity`]
+//! and [`saved_len`], which [`fills_capacity`] ties to each other. No call takes memory.
 #![tactic(auto)]
 
-ghost use Rattle.std.specs.Prelude.{◌≡◌, ◌/◌};
+mod digests;
+mod judging;
 
-/// The bytes of a digest.
-const DIGEST: u64 = 32;
+pub use digests::{capacity, fills_capacity, save, saved_len};
+pub use judging::{atoms_are_told, clash, judge};
 
-/// How many blocks a zone may have whose digests are saved in an area of so many bytes: one for
-/// each 32 of them. The bytes of an atom say nothing of it.
-pub fn capacity(area: u64, _atom: u32) -> u64
-    ensures { result ≡ area / 32 }
-{
-    area / DIGEST
-}
-
-#[test]
-fn a_zone_has_a_block_for_each_whole_digest(rt: HostRuntime) {
-    assert_eq!(rt; capacity(4096, 4096), 128);
-    assert_eq!(rt; capacity(4096, 512), 128);
-    assert_eq!(rt; capacity(63, 4096), 1);
-    assert_eq!(rt; capacity(31, 512), 0);
-    assert_eq!(rt; capacity(0, 512), 0);
-}
+#[cfg(test)]
+mod tests;
