@@ -5,10 +5,12 @@ mod CipherLemmas
 mod FrameLemmas
 mod ImageLemmas
 mod JoinedLemmas
+mod JointCallLemmas
 mod KeepLemmas
 mod MendLemmas
-mod OpenCauseLemmas
-mod OpenLemmas
+mod MendedLemmas
+pub mod OpenCauseLemmas
+pub mod OpenLemmas
 mod OpenedLemmas
 mod PassphraseLemmas
 pub mod PlacingLemmas
@@ -19,4 +21,4 @@ mod RewriteLemmas
 mod StandingLemmas
 mod TableLemmas
 mod VolumeLemmas
-mod WritingLemmas
+pub mod WritingLemmas

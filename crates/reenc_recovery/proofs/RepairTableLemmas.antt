@@ -15,7 +15,7 @@ use Rattle.disk_views.proofs.Blockwise.{blocks_end}
 use Rattle.disk_views.proofs.Entries.{length-changed}
 use Rattle.disk_views.proofs.TableEntries.{length-thinned, length-tried, synced_view}
 use Rattle.disk_views.specs.Views.{IsThinned, view_of_cells}
-use Rattle.joined_disk.specs.Joined.{Joint, joined_disk}
+use Rattle.joined_disk.specs.Joined.{joined_disk}
 use Rattle.luks_copies.specs.Held.{copy_in, place_in}
 use Rattle.luks_copies.specs.Meanings.{header_of, header_reader}
 use Rattle.luks_copies.specs.Promises.{MeanTheSame}
@@ -30,16 +30,18 @@ use Rattle.luks_store.specs.Loads.{stored_in}
 use Rattle.luks_store.specs.Promises.{UsedStands}
 use Rattle.luks_store.specs.declared.loaded.Stored.{Stored}
 use Rattle.reenc_meta.specs.declared.placement.Placement.{Placement}
-use Rattle.reenc_recovery.specs.Calls.{SyncsAndReads, TellsSized, WritesRepair}
+use Rattle.reenc_recovery.specs.Calls.{DiskSyncsAndReads, TellsSized, WritesRepair}
 use Rattle.reenc_recovery.specs.Images.{StandsAs}
 use Rattle.reenc_recovery.specs.Promises.{RepairGoesOn, RepairsBegin, RepairsGoOn}
 use Rattle.reenc_recovery.specs.Repairing.{IsLeft, IsRepaired, ShowsRepairOf}
-use Rattle.reenc_recovery.specs.Tables.{IsFoundOn, IsSpared, OpeningsKeepContents, ShowsSizes}
+use Rattle.reenc_recovery.specs.Tables.{DiskOpeningsKeepContents, IsFoundOn, IsSpared}
+use Rattle.reenc_recovery.specs.Tables.{OpeningsKeepContents, ShowsSizes}
 use Rattle.reenc_recovery.specs.Tables.{StandsSince, StandsStill, header_in}
 use Rattle.reenc_recovery.proofs.ImageLemmas.{same_stored}
+use Rattle.reenc_recovery.proofs.JointCallLemmas.{disk_run}
 use Rattle.reenc_recovery.proofs.RepairLemmas.{RepairsStand}
 use Rattle.reenc_recovery.proofs.TableLemmas.{IsSettledSince, StillSince, currents-synced, settled}
-use Rattle.reenc_recovery.proofs.TableLemmas.{reads_keep, stands_later, still_joined, still_none}
+use Rattle.reenc_recovery.proofs.TableLemmas.{disk_reads_keep, stands_later, still_joined, still_none}
 use Rattle.reenc_recovery.proofs.TableLemmas.{still_one}
 use Rattle.reenc_recovery.proofs.WritingLemmas.{IsWriting, SomeWriting, writing}
 use Rattle.sector_disk.specs.Cells.{AreSized, Cell, content, currents, synced}
@@ -338,22 +340,39 @@ certain sizes device before now shows is cells =
       header_atoms = subst (λ (n : ℕ). sizes.header_atoms ≤ n) (sym count) shows.header;
     }
 
-many_read : (sizes : Sizes) (old read : Joint) → ShowsSizes sizes (joined_disk old)
-    → SyncsAndReads old read → (told : Told) → (joined_disk read).told ≡ Some told
-    → length told.now ≡ (joined_disk old).atoms
+-- and so does a disk each of whose atoms was synced
+pub certain_now : (sizes : Sizes) (device : Device) (now : Told) (cells : List Cell)
+    → ShowsSizes sizes device → device.told ≡ Some now → now.now ≡ map synced cells
+    → IsCertain sizes (content now.now) now.now
+unfolding content
+certain_now sizes device now cells shows is same =
+    let view = synced_view cells now.now same in
+    let count : length now.now ≡ device.atoms =
+    many now.now device.atoms device.size (shows.even now is) in
+    record {
+      only = λ place value has. view.candidates place value has ∙ sym (view.current place);
+      even = shows.even now is ∙ ap (λ n. replicate n device.size) (sym count)
+          ∙ ap (λ n. replicate (length now.now) n) (sym shows.atom);
+      holds = refl;
+      header_atoms = subst (λ (n : ℕ). sizes.header_atoms ≤ n) (sym count) shows.header;
+    }
+
+many_read : (sizes : Sizes) (old read : Device) → ShowsSizes sizes old
+    → DiskSyncsAndReads old read → (told : Told) → read.told ≡ Some told
+    → length told.now ≡ old.atoms
 many_read sizes old read shows run told is =
     let has = settled old read run told is in
     ap length has.2.cells ∙ length-map has.0.now synced
-    ∙ many has.0.now (joined_disk old).atoms (joined_disk old).size (shows.even has.0 has.1)
+    ∙ many has.0.now old.atoms old.size (shows.even has.0 has.1)
 
 module _ (seen : RepairsAreSeen) (begins : RepairsBegin) (goes : RepairsGoOn)
     (each : RepairsStand) (mean : MeanTheSame) (used : UsedStands) (sizes : Sizes)
-    (header : Stored) (p : Placement) (repair : Repair) (old read : Joint)
-    (shows : ShowsSizes sizes (joined_disk old))
-    (found : IsFoundOn sizes header p (Some repair) (joined_disk old))
-    (run : SyncsAndReads old read) (mid : Told) (mid_is : (joined_disk read).told ≡ Some mid) where
+    (header : Stored) (p : Placement) (repair : Repair) (old read : Device)
+    (shows : ShowsSizes sizes old)
+    (found : IsFoundOn sizes header p (Some repair) old)
+    (run : DiskSyncsAndReads old read) (mid : Told) (mid_is : read.told ≡ Some mid) where
   abbrev device : Device
-  device = joined_disk old
+  device = old
 
   abbrev was : (before : Told) × (device.told ≡ Some before) × IsSettledSince before mid
   was = settled old read run mid mid_is
@@ -379,10 +398,10 @@ module _ (seen : RepairsAreSeen) (begins : RepairsBegin) (goes : RepairsGoOn)
       (laid seen begins goes each sizes header p repair device shows found first held writes.bad
       writes.one writes.two writes.is) writes.is.good
 
-  read_size : (joined_disk read).size ≡ device.size
+  read_size : read.size ≡ device.size
   read_size = run.unwritten.size ∙ run.sync.size
 
-  read_atoms : (joined_disk read).atoms ≡ device.atoms
+  read_atoms : read.atoms ≡ device.atoms
   read_atoms = run.unwritten.atoms ∙ run.sync.atoms
 
   -- the write failed
@@ -391,24 +410,24 @@ module _ (seen : RepairsAreSeen) (begins : RepairsBegin) (goes : RepairsGoOn)
   sized_at to now same sized now_is =
       subst (λ (n : ℕ). AreSized n now.now) (same ∙ sym shows.atom) (sized now now_is)
 
-  tried : (new : Device) → WritesRepair repair (joined_disk read) new failed_call → TellsSized new
+  tried : (new : Device) → WritesRepair repair read new failed_call → TellsSized new
       → (now : Told) → new.told ≡ Some now → StandsSince sizes was.0 now
   tried new call sized now now_is =
       stands_later sizes was.0 mid now was.2
       (by_try seen begins goes each sizes header p repair device shows found first held writes.bad
-      writes.one writes.two writes.is (joined_disk read) new mid now read_size read_atoms
+      writes.one writes.two writes.is read new mid now read_size read_atoms
       (many_read sizes old read shows run) call mid_is now_is begun
       (sized_at new now (call.size ∙ read_size) sized now_is))
 
   -- it was done
-  module _ (written : Device) (write : WritesRepair repair (joined_disk read) written succeeded)
+  module _ (written : Device) (write : WritesRepair repair read written succeeded)
       (tells : TellsSized written) (late : Told) (late_is : written.told ≡ Some late) where
     after : ShowsRepairOf sizes (layout_of sizes.atom header.copies.used.header.hdr_size)
         (header_of writes.one writes.two) writes.bad true false first late.now
         × (length late.now ≡ length mid.now) × (late ≡ then_table mid late.now)
     after =
         by_write seen begins goes each sizes header p repair device shows found first held
-        writes.bad writes.one writes.two writes.is (joined_disk read) written mid late read_size
+        writes.bad writes.one writes.two writes.is read written mid late read_size
         read_atoms (many_read sizes old read shows run) write mid_is late_is begun
 
     still_late : StillSince sizes first mid late
@@ -472,19 +491,19 @@ before_try repair from to call now now_is =
       | inr moves ↦ (let moved = moves now now_is in (moved.0, moved.1))
     ]
 
-pub openings_keep : RepairsAreSeen → RepairsBegin → RepairsGoOn → RepairsStand
-    → MeanTheSame → UsedStands → OpeningsKeepContents
-openings_keep seen begins goes each mean used sizes header p None old new (Ok done) shows found run
+pub disk_openings_keep : RepairsAreSeen → RepairsBegin → RepairsGoOn → RepairsStand
+    → MeanTheSame → UsedStands → DiskOpeningsKeepContents
+disk_openings_keep seen begins goes each mean used sizes header p None old new (Ok done) shows found run
     sized now is =
-    reads_keep sizes old run.read run.first now
+    disk_reads_keep sizes old run.read run.first now
     (ap (λ (d : Device). d.told) (sym run.run) ∙ is)
-openings_keep seen begins goes each mean used sizes header p None old new (Err failed) shows found
+disk_openings_keep seen begins goes each mean used sizes header p None old new (Err failed) shows found
     run sized now is = absurd run.run
-openings_keep seen begins goes each mean used sizes header p (Some repair) old new (Ok done) shows
+disk_openings_keep seen begins goes each mean used sizes header p (Some repair) old new (Ok done) shows
     found run sized now is =
     let last = run.run in
     let late = before_sync last.written new last.sync now is in
-    let mid = before_write repair (joined_disk run.read) last.written last.write late.0 late.1 in
+    let mid = before_write repair run.read last.written last.write late.0 late.1 in
     let since = settled old run.read run.first mid.0 mid.1 in (
       since.0,
       since.1,
@@ -492,12 +511,12 @@ openings_keep seen begins goes each mean used sizes header p (Some repair) old n
           run.first mid.0 mid.1 last.written last.write last.sized late.0 late.1 new last.sync sized
           now is,
     )
-openings_keep seen begins goes each mean used sizes header p (Some repair) old new (Err failed)
+disk_openings_keep seen begins goes each mean used sizes header p (Some repair) old new (Err failed)
     shows found run sized now is =
-    elim run.run as (λ _. (before : Told) × ((joined_disk old).told ≡ Some before)
+    elim run.run as (λ _. (before : Told) × (old.told ≡ Some before)
     × StandsSince sizes before now) [
       | inl call ↦
-          (let mid = before_try repair (joined_disk run.read) new call now is in
+          (let mid = before_try repair run.read new call now is in
           let since = settled old run.read run.first mid.0 mid.1 in (
             since.0,
             since.1,
@@ -506,7 +525,7 @@ openings_keep seen begins goes each mean used sizes header p (Some repair) old n
           ))
       | inr last ↦
           (let late = before_thin last.written new last.sync now is in
-          let mid = before_write repair (joined_disk run.read) last.written last.write late.0 late.1
+          let mid = before_write repair run.read last.written last.write late.0 late.1
           in
           let since = settled old run.read run.first mid.0 mid.1 in (
             since.0,
@@ -517,3 +536,9 @@ openings_keep seen begins goes each mean used sizes header p (Some repair) old n
                 sized now is,
           ))
     ]
+
+-- and of joined disks
+pub openings_keep : DiskOpeningsKeepContents → OpeningsKeepContents
+openings_keep keep sizes header p repair old new result shows found run =
+    keep sizes header p repair (joined_disk old) new result shows found
+    (disk_run repair old new result run)

@@ -19,7 +19,9 @@ use Rattle.luks_store.proofs.RepairLemmas.{used-behind, used-front}
 use Rattle.luks_store.specs.Commits.{AreGood, IsRepairOf, Repairs}
 use Rattle.luks_store.specs.Devices.{front_of}
 use Rattle.luks_store.specs.Loads.{IsStored, stored_in}
-use Rattle.luks_store.specs.Promises.{BothAreGood, LoadsByMeaning, UsedStands}
+use Rattle.luks_store.specs.Promises.{BothAreGood, GivenIsUsed, LoadsByMeaning, UsedStands}
+use Rattle.luks_store.specs.Used.{copies_in}
+use Rattle.luks_store.specs.declared.copies.Copies.{Copies}
 use Rattle.luks_store.specs.declared.copies.CopyState.TheVariants.{Good}
 use Rattle.luks_store.specs.declared.loaded.Stored.{Stored}
 use Rattle.reenc_recovery.specs.Images.{HoldsOn}
@@ -96,14 +98,24 @@ both_give bytes m (one, two) =
       λ other has. inl (let e : Some other ≡ Some m = sym has ∙ two in cc),
     )
 
--- the one image holds on, and both copies of the header in it are good
+-- the one image holds on, and both copies of the header in it are good and mean the same as before
 pub record HoldsGood (sizes : Sizes) (header : Stored) (first now : List ℕ) : Type 0 where
   pub holds : HoldsOn sizes header first now
   pub good : AreGood holds.stored.copies
+  pub means : meaning_of holds.stored.copies.used.bytes ≡ meaning_of header.copies.used.bytes
+
+-- the copy that is used of bytes that give a header means it
+used_means : GivenIsUsed → (bytes m : List ℕ) (copies : Copies) → copies_in bytes ≡ Ok copies
+    → Gives header_reader bytes m → meaning_of copies.used.bytes ≡ m
+used_means given bytes m copies is gives =
+    let has = given bytes m gives in
+    let same : copies ≡ has.0 = (let e : Ok copies ≡ Ok has.0 = sym is ∙ has.1 in cc) in
+    ap (λ (c : Copies). meaning_of c.used.bytes) same ∙ has.2
 
 -- ---- behind the write
 module _ (is_reader : IsReader header_reader) (mean : MeanTheSame) (stands : UsedStands)
-    (both : BothAreGood) (loads : LoadsByMeaning) (sizes : Sizes) (header : Stored) (repair : Repair) (all : List ℕ)
+    (both : BothAreGood) (given : GivenIsUsed) (loads : LoadsByMeaning) (sizes : Sizes)
+    (header : Stored) (repair : Repair) (all : List ℕ)
     (stored : IsStored header) (sizes_are : header.valid.sizes ≡ sizes)
     (begin : areas_begin header.valid.meta.config ≡ 2 * header.copies.used.header.hdr_size)
     (room : 2 * header.copies.used.header.hdr_size ≤ header_bytes sizes)
@@ -142,6 +154,8 @@ module _ (is_reader : IsReader header_reader) (mean : MeanTheSame) (stands : Use
         };
         good = both front means found.0.copies
             (copies-stored header.valid.sizes front found.0 found.1) twice.0 twice.1;
+        means = used_means given front means found.0.copies
+            (copies-stored header.valid.sizes front found.0 found.1) (both_give front means twice);
       }
 
   by_primary : IsRepairOf header.copies 0 header.copies.primary.salt

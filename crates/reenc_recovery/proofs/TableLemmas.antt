@@ -9,11 +9,13 @@ use Rattle.std.specs.Prelude.{Contains}
 use Rattle.base_terms.specs.Blocks.{joined}
 use Rattle.joined_disk.specs.Joined.{Joint, joined_disk}
 use Rattle.disk_sizes.specs.declared.Sizes.{Sizes}
-use Rattle.reenc_recovery.specs.Calls.{SyncsAndReads}
+use Rattle.reenc_recovery.specs.Calls.{DiskSyncsAndReads, SyncsAndReads}
 use Rattle.reenc_recovery.specs.Images.{StandsAs}
 use Rattle.reenc_recovery.specs.Tables.{StandsSince, StandsStill, TellsSince}
+use Rattle.reenc_recovery.proofs.JointCallLemmas.{disk_reads}
 use Rattle.reenc_recovery.proofs.KeepLemmas.{stands_unwritten}
 use Rattle.sector_disk.specs.Cells.{AreSettled, Cell, IsImage, content, currents, synced}
+use Rattle.sector_disk.specs.Devices.{Device}
 use Rattle.sector_disk.specs.Steps.{Told, then_table}
 
 -- ---- a table of which each atom is certain
@@ -61,9 +63,9 @@ pub record IsSettledSince (before now : Told) : Type 0 where
   pub same : All (λ (table : Option ℕ × List Cell). table.1 ≡ map synced before.now) more
   pub cells : now.now ≡ map synced before.now
 
-pub settled : (old read : Joint) → SyncsAndReads old read → (now : Told)
-    → (joined_disk read).told ≡ Some now
-    → (before : Told) × ((joined_disk old).told ≡ Some before) × IsSettledSince before now
+pub settled : (old read : Device) → DiskSyncsAndReads old read → (now : Told)
+    → read.told ≡ Some now
+    → (before : Told) × (old.told ≡ Some before) × IsSettledSince before now
 settled old read run now is =
     let reads = run.unwritten.told now is in
     let mid = reads.0 in
@@ -101,11 +103,16 @@ stands_settled sizes before now is = record {
   last = still_settled sizes before.now now.now is.cells;
 }
 
-pub reads_keep : (sizes : Sizes) (old read : Joint) → SyncsAndReads old read
-    → TellsSince sizes (joined_disk old) (joined_disk read)
-reads_keep sizes old read run now is =
+pub disk_reads_keep : (sizes : Sizes) (old read : Device) → DiskSyncsAndReads old read
+    → TellsSince sizes old read
+disk_reads_keep sizes old read run now is =
     let has = settled old read run now is in
     (has.0, has.1, stands_settled sizes has.0 now has.2)
+
+pub reads_keep : (sizes : Sizes) (old read : Joint) → SyncsAndReads old read
+    → TellsSince sizes (joined_disk old) (joined_disk read)
+reads_keep sizes old read run =
+    disk_reads_keep sizes (joined_disk old) (joined_disk read) (disk_reads old read run)
 
 -- ---- what a sync leaves
 all_settled : (cells : List Cell) → AreSettled (map synced cells)

@@ -7,7 +7,7 @@ use Rattle.luks_copies.specs.Steps.{RepairCall}
 use Rattle.luks_copies.specs.declared.repair.Repair.{Repair}
 use Rattle.luks_copies.specs.declared.repair.RepairStage.TheVariants.{Broken, Written}
 use Rattle.luks_store.specs.Commits.{AreGood, Repairs}
-use Rattle.luks_store.specs.Devices.{IsUnwritten}
+use Rattle.luks_store.specs.Devices.{IsUnwritten, KeepsBytes}
 use Rattle.luks_store.specs.declared.copies.Copies.{Copies}
 use Rattle.sector_disk.specs.Cells.{AreSized}
 use Rattle.sector_disk.specs.Devices.{Device, SyncCall, failed_call, succeeded}
@@ -63,3 +63,17 @@ pub record OpeningRun (repair : Option Repair) (old : Joint) (new : Device)
   pub read : Joint
   pub first : SyncsAndReads old read
   pub run : RepairRun repair (joined_disk read) new result
+
+-- ---- the same calls of one disk, of whatever kind
+-- A sync that was done, and then calls by which nothing is written.
+pub record DiskSyncsAndReads (old read : Device) : Type 0 where
+  pub synced : Device
+  pub sync : SyncCall old synced succeeded
+  pub unwritten : KeepsBytes synced read
+
+-- Then the repair's calls.
+pub record DiskOpeningRun (repair : Option Repair) (old new : Device)
+    (result : Result (Unit {0}) Failed) : Type 0 where
+  pub read : Device
+  pub first : DiskSyncsAndReads old read
+  pub run : RepairRun repair read new result

@@ -8,3 +8,4 @@ pub mod Promises
 pub mod Repairing
 pub mod Tables
 pub mod Volumes
+pub mod Mended

@@ -19,7 +19,8 @@ use Rattle.luks_store.specs.declared.loaded.Stored.{Stored}
 use Rattle.reenc_meta.specs.Placements.{IsPlacementOf}
 use Rattle.reenc_meta.specs.Places.{IsRightFor}
 use Rattle.reenc_meta.specs.declared.placement.Placement.{Placement}
-use Rattle.reenc_recovery.specs.Calls.{IsRepairFor, OpeningRun, SyncsAndReads, TellsSized}
+use Rattle.reenc_recovery.specs.Calls.{DiskOpeningRun, DiskSyncsAndReads, IsRepairFor, OpeningRun}
+use Rattle.reenc_recovery.specs.Calls.{SyncsAndReads, TellsSized}
 use Rattle.reenc_recovery.specs.Images.{StandsAs}
 use Rattle.sector_disk.specs.Cells.{Cell, IsImage, content, currents, synced}
 use Rattle.sector_disk.specs.Devices.{Device}
@@ -103,3 +104,15 @@ OpeningsKeepContents =
     (new : Device) (result : Result (Unit {0}) Failed) → ShowsSizes sizes (joined_disk old)
     → IsFoundOn sizes header p repair (joined_disk old) → OpeningRun repair old new result
     → TellsSized new → TellsSince sizes (joined_disk old) new
+
+-- so it is with the same calls of one disk, of whatever kind
+abbrev pub DiskReadsKeepContents : Type 0
+DiskReadsKeepContents =
+    (sizes : Sizes) (old read : Device) → DiskSyncsAndReads old read → TellsSince sizes old read
+
+abbrev pub DiskOpeningsKeepContents : Type 0
+DiskOpeningsKeepContents =
+    (sizes : Sizes) (header : Stored) (p : Placement) (repair : Option Repair) (old new : Device)
+    (result : Result (Unit {0}) Failed) → ShowsSizes sizes old
+    → IsFoundOn sizes header p repair old → DiskOpeningRun repair old new result → TellsSized new
+    → TellsSince sizes old new

@@ -22,15 +22,20 @@ use std::alloc::Global;
 
 /// A header that passed all checks, the volume that it places, and the repair that it asks for.
 #[derive(Drop)]
-pub(crate) struct Checked {
-    pub(crate) header: Loaded,
-    pub(crate) opening: Opening,
-    pub(crate) repair: Option<Repair>,
+pub struct Checked {
+    pub header: Loaded,
+    pub opening: Opening,
+    /// The copy that lacks or is older, where there is one.
+    pub repair: Option<Repair>,
 }
 
-/// Reads the header, and makes all checks of it and of the keys. Nothing is written, and the repair
-/// has its memory.
-pub(crate) fn check<D: Disk>(
+/// Reads the header of disks that were synced, and makes all checks of it and of the keys. Nothing
+/// is written, and the repair has its memory.
+///
+/// # Errors
+///
+/// Why the volume isn't opened, as [`crate::open_volume`] says it.
+pub fn check<D: Disk>(
     alloc: Global,
     disk: &mut JoinedDisk<D>,
     keys: &SideKeys,

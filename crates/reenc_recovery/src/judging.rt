@@ -19,9 +19,11 @@ use volume_machine::Keys;
 
 /// A volume whose header and keys passed all checks.
 #[derive(Drop)]
-pub(crate) struct Opening {
-    pub(crate) placement: Placement,
-    pub(crate) keys: Keys<Context>,
+pub struct Opening {
+    /// Where it lies.
+    pub placement: Placement,
+    /// The ciphers of its sides.
+    pub keys: Keys<Context>,
 }
 
 fn first_number(segment: &Extent) -> u64

@@ -5,9 +5,11 @@ ghost use Rattle.cipher_laws.specs.Bytes.{AreBytes};
 ghost use Rattle.disk_sizes.specs.declared.Sizes.{Sizes};
 ghost use Rattle.luks_store.specs.declared.loaded.Stored.{Stored};
 ghost use Rattle.reenc_recovery.specs.Images.{StandsFor, StandsUnder};
+ghost use Rattle.reenc_recovery.specs.Mended.{DiskOpeningsMend, OpeningsMend};
 ghost use Rattle.reenc_recovery.specs.Openings.{IsOpened, StartsAsImage};
 ghost use Rattle.reenc_recovery.specs.Promises.{ContentsStay, ContentsStayFor};
 ghost use Rattle.reenc_recovery.specs.Promises.{RepairsBegin, RepairsGoOn, RepairsHoldOn};
+ghost use Rattle.reenc_recovery.specs.Tables.{DiskOpeningsKeepContents, DiskReadsKeepContents};
 ghost use Rattle.reenc_recovery.specs.Tables.{OpeningsKeepContents, ReadsKeepContents};
 ghost use Rattle.reenc_recovery.specs.Volumes.{AreUnlocked, IsVolumeOf};
 ghost use Rattle.volume_machine.specs.Beginnings.{IsFresh};
@@ -64,16 +66,33 @@ pub fn repairs_keep_contents()
 /// While a volume is opened each image of each table that its disks tell, from that of the first
 /// sync on, stands for what their bytes stood for when the opening began, under the same keys and
 /// the same passphrase, as long as no torn copy of the header is valid: behind the reads, and
-/// behind each call of a repair, done or failed.
+/// behind each call of a repair, done or failed. So it is with disks that are joined, and with the
+/// same calls of any one disk.
 pub fn openings_keep_contents()
     ensures reads { ReadsKeepContents }
     ensures repairs { OpeningsKeepContents }
+    ensures disk_reads { DiskReadsKeepContents }
+    ensures disk_repairs { DiskOpeningsKeepContents }
 {
     calls_are_seen();
     copies_mean_what_they_share();
     used_copies_are_headers();
     contents_stay_behind_headers();
     repairs_keep_contents();
+}
+
+/// Once all calls of an opening were done, up to the last one of the repair, the disk holds for
+/// certain the header that it held, of which both copies are good, and stands for what it stood for:
+/// joined disks, and any one disk.
+pub fn openings_mend_headers()
+    ensures joined { OpeningsMend }
+    ensures disk { DiskOpeningsMend }
+{
+    copies_are_read();
+    copies_mean_what_they_share();
+    used_copies_are_headers();
+    metadata_go_by_meaning();
+    contents_stay_behind_headers();
 }
 
 /// A volume that was opened by the header and a key of disks that hold some bytes is one from which

@@ -17,7 +17,10 @@
 //! [`open_volume`] makes a volume of joined disks of which nothing is being converted: a sync, the
 //! reads of the header with all checks of it and of the key, and where a copy of the header lacks
 //! or is older the write of that copy, and a sync. Nothing is written before all checks have
-//! passed. Where no volume is opened it says why, and what is left of the disks.
+//! passed. Where no volume is opened it says why, and what is left of the disks. The reads with all
+//! checks and the repair are public calls of their own, [`check`] and [`mend`], for those who have
+//! more to check before anything is written; behind both the header is certain,
+//! [`openings_mend_headers`].
 #![tactic(auto)]
 
 mod checking;
@@ -29,10 +32,14 @@ mod opening;
 mod repairing;
 mod telling;
 
+pub use checking::{Checked, check};
 pub use fault::{OpenCause, OpenFault};
+pub use judging::Opening;
 pub use keys::SideKeys;
 pub use laws::{
     contents_stay_behind_headers, images_stand_for_one, opened_volumes_go_by_passphrases,
-    opened_volumes_start, openings_keep_contents, repairs_keep_contents,
+    opened_volumes_start, openings_keep_contents, openings_mend_headers, repairs_keep_contents,
 };
 pub use opening::open_volume;
+pub use repairing::mend;
+pub use telling::disks_tell_lawfully;

@@ -11,7 +11,7 @@ use sector_disk::Disk;
 
 /// The table of a disk that tells it is that of its bytes, in atoms, and each candidate has an
 /// atom's bytes.
-pub(crate) fn disks_tell_lawfully<D: Disk>(_disk: &D)
+pub fn disks_tell_lawfully<D: Disk>(_disk: &D)
     ensures agrees { (told : Told) → (D.device _disk.now).told ≡ Some told →
         (D.device _disk.now).values ≡ Some (content told.now) }
     ensures even { (told : Told) → (D.device _disk.now).told ≡ Some told →

@@ -239,7 +239,7 @@ returns-clause-opened g c =
     c.disks_tell_lawfully-2.ensures.even c.disks_tell_lawfully-2.ensures.whole
     c.disks_tell_lawfully-2.ensures.bytes c.copies_are_read.ensures
     c.copies_mean_what_they_share.ensures c.used_copies_are_headers.ensures.stands
-    c.used_copies_are_headers.ensures.both
+    c.used_copies_are_headers.ensures.both c.used_copies_are_headers.ensures.given
     c.metadata_go_by_meaning.ensures.loads c.contents_stay_behind_headers.ensures.keys
     c.contents_stay_behind_headers.ensures.passphrase shows is.asked is.held
     (λ now still values long bytes.

@@ -1,0 +1,55 @@
+-- What the disk holds once all calls of an opening were done.
+use Rattle.std.proofs.Common.{◌≡◌, ℕ, List, Option, Some, sym, ◌∙◌, subst}
+use Rattle.disk_areas.specs.Headers.{IsReader}
+use Rattle.disk_sizes.specs.declared.Sizes.{Sizes}
+use Rattle.joined_disk.specs.Joined.{joined_disk}
+use Rattle.luks_copies.specs.Meanings.{header_reader}
+use Rattle.luks_copies.specs.Promises.{MeanTheSame}
+use Rattle.luks_copies.specs.declared.repair.Repair.{Repair}
+use Rattle.luks_store.specs.Devices.{IsCertain}
+use Rattle.luks_store.specs.Promises.{BothAreGood, GivenIsUsed, LoadsByMeaning, UsedStands}
+use Rattle.reenc_recovery.specs.Calls.{DiskOpeningRun}
+use Rattle.reenc_recovery.specs.Mended.{DiskOpeningsMend, OpeningsMend}
+use Rattle.reenc_recovery.specs.Promises.{ContentsStay, ContentsStayFor}
+use Rattle.reenc_recovery.specs.Tables.{ShowsSizes}
+use Rattle.reenc_recovery.proofs.JointCallLemmas.{disk_run}
+use Rattle.reenc_recovery.proofs.KeepLemmas.{stands_as}
+use Rattle.reenc_recovery.proofs.RepairTableLemmas.{certain_now}
+use Rattle.reenc_recovery.proofs.VolumeLemmas.{holds_after, synced_after}
+use Rattle.sector_disk.specs.Cells.{content}
+use Rattle.sector_disk.specs.Devices.{Device, succeeded}
+use Rattle.sector_disk.specs.Steps.{Told}
+
+certain_after : (sizes : Sizes) (repair : Option Repair) (old new : Device)
+    → ShowsSizes sizes new → DiskOpeningRun repair old new succeeded → (now : List ℕ)
+    → new.values ≡ Some now → (told : Told) → new.told ≡ Some told → IsCertain sizes now told.now
+certain_after sizes repair old new shows run now values told is =
+    let last = synced_after repair old new run told is in
+    let same : content told.now ≡ now =
+    (let e : Some (content told.now) ≡ Some now = sym (shows.agrees told is) ∙ values in cc) in
+    subst (λ (bytes : List ℕ). IsCertain sizes bytes told.now) same
+    (certain_now sizes new told last.0 shows is last.1)
+
+pub disk_mended : IsReader header_reader → MeanTheSame → UsedStands → BothAreGood → GivenIsUsed
+    → LoadsByMeaning → ContentsStay → ContentsStayFor → DiskOpeningsMend
+disk_mended is_reader mean stands both given loads stay stay_for sizes header p repair old new shows
+    found shows_new run first is =
+    let has = holds_after is_reader mean stands both given loads sizes header repair old new
+    found.stored found.sizes_are found.begin found.room shows found.asked run first is
+    (found.held first is) in
+    let whole = stands_as stay stay_for sizes header p first has.0 found.placed found.right found.sound
+    has.2.holds in
+    record {
+      now = has.0;
+      values = has.1;
+      stands = record { holds = has.2.holds; keeps = whole.keeps };
+      good = has.2.good;
+      means = has.2.means;
+      certain = certain_after sizes repair old new shows_new run has.0 has.1;
+    }
+
+-- and what joined disks hold
+pub mended : DiskOpeningsMend → OpeningsMend
+mended mend sizes header p repair old new shows found shows_new run first is =
+    mend sizes header p repair (joined_disk old) new shows found shows_new
+    (disk_run repair old new succeeded run) first is
