@@ -8,6 +8,9 @@
 //! handed back, with why. And on `StandsAlong`: wherever a run of such a volume stops, each image
 //! stands by itself for an allowed content, under the same passphrase, and nothing is being
 //! converted by its header, as [`standing_volumes_are_opened`] asks of what is opened.
+//!
+//! [`read_header`] and [`find_key`] are calls of their own, for those who do something else with the
+//! volume than open it.
 #![tactic(auto)]
 
 mod laws;
@@ -16,6 +19,6 @@ mod refusal;
 mod standing;
 
 pub use laws::opened_volumes_stand_along;
-pub use opening::open_by_passphrase;
+pub use opening::{find_key, open_by_passphrase, read_header};
 pub use refusal::{Refusal, Unopened};
 pub use standing::standing_volumes_are_opened;

@@ -24,7 +24,11 @@ use volume_core::Volume;
 const MOST_BYTES: usize = 512;
 
 /// Reads the header of a disk, by which nothing is written, and hands the disk back.
-fn read_header<D: Disk>(alloc: Global, disk: D) -> (D, Result<Loaded, StoreFault>)
+///
+/// # Errors
+///
+/// No header was read.
+pub fn read_header<D: Disk>(alloc: Global, disk: D) -> (D, Result<Loaded, StoreFault>)
     ensures read { KeepsBytes (D.device disk) (D.device result.0) }
     ensures found { IfOk result.1 (IsFound (D.device disk)) }
     ensures told { IfErr result.1 (TellsFault (D.device disk)) }
@@ -38,9 +42,13 @@ fn read_header<D: Disk>(alloc: Global, disk: D) -> (D, Result<Loaded, StoreFault
     (disk, loaded)
 }
 
-/// The key of the volume's segment that the keyslots give to a passphrase; none of a segment that
-/// is linear. Nothing is written.
-fn find_key<D: Disk>(
+/// The key of the volume's segment that the keyslots give to a passphrase of 1 to 512 bytes; none of
+/// a segment that is linear. Nothing is written.
+///
+/// # Errors
+///
+/// A conversion is under way, the passphrase has another length, or no keyslot gave a key.
+pub fn find_key<D: Disk>(
     alloc: Global,
     valid: &Valid,
     disk: &mut D,
