@@ -101,7 +101,7 @@ module _ (areas : AreasBeginBehind) (sizes : Sizes) (before next : Stored) (slot
   same_atom = sym fits.sizes.atom ∙ ap (λ (s : Sizes). s.atom) sizes_of
 
   pub same_size : before.copies.used.header.hdr_size ≡ size
-  same_size = sym (ap (λ h. h.hdr_size) is.commit.header)
+  same_size = sym is.commit.size
 
   -- both copies lie in front of the areas
   pub begin : areas_begin before.valid.meta.config ≡ size + size

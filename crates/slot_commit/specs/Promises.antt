@@ -4,12 +4,16 @@ use Rattle.std.specs.Prelude.{Result}
 use Rattle.std.specs.List.{All}
 use Rattle.base_terms.specs.Blocks.{lengths}
 use Rattle.base_terms.specs.declared.failed.Failed.{Failed}
+use Rattle.disk_areas.specs.Commits.{Follows}
+use Rattle.disk_areas.specs.Headers.{IsHeader}
 use Rattle.disk_sizes.specs.declared.Sizes.{Sizes}
-use Rattle.luks_json.specs.declared.meta.Parts.{Parts}
+use Rattle.luks_copies.specs.Held.{primary_of, secondary_of}
+use Rattle.luks_copies.specs.Meanings.{header_of, header_reader, meaning_of}
 use Rattle.luks_rules.specs.Areas.{areas_begin}
-use Rattle.luks_store.specs.Commits.{AreGood, IsNext, IsNextStored, IsPrepared}
+use Rattle.luks_store.specs.Commits.{AreGood, IsNextStored, IsPrepared}
 use Rattle.luks_store.specs.Devices.{IsCertain, front_of}
 use Rattle.luks_store.specs.Loads.{IsStored, stored_in}
+use Rattle.luks_store.specs.declared.commit.Prepared.{Prepared}
 use Rattle.luks_store.specs.declared.loaded.Stored.{Stored}
 use Rattle.sector_disk.specs.Cells.{Cell, content, currents}
 use Rattle.sector_disk.specs.Devices.{Device, succeeded}
@@ -20,16 +24,24 @@ use Rattle.slot_commit.specs.Images.{IsEither, KeepsRest, AreaStands}
 use Rattle.slot_commit.specs.declared.writing.SlotCommit.{SlotCommit}
 
 -- ---- where it begins
--- Bytes hold a header, both copies of which are good; the commit is the next one of that header, and
--- another is loaded behind it; the keyslot's area begins behind both copies, at a whole atom.
+-- A commit whose copies have the size that those of a header have, and mean one that follows it, as
+-- each next one does.
+pub record Continues (before : Stored) (p : Prepared) : Type 0 where
+  pub sizes : p.sizes ≡ before.valid.sizes
+  pub size : p.header.hdr_size ≡ before.copies.used.header.hdr_size
+  pub whole : IsHeader header_reader (header_of (primary_of p.copies) (secondary_of p.copies))
+  pub follows : Follows header_reader (meaning_of before.copies.used.bytes)
+      (meaning_of (primary_of p.copies))
+
+-- Bytes hold a header, both copies of which are good; the commit continues it, and another is loaded
+-- behind it; the keyslot's area begins behind both copies, at a whole atom.
 pub record IsNextSlot (sizes : Sizes) (before next : Stored) (slot : SlotCommit)
     (first : List ℕ) : Type 0 where
   pub held : stored_in sizes (front_of sizes first) ≡ Ok before
   pub good : AreGood before.copies
   pub stored : IsStored before
   pub sizes_are : before.valid.sizes ≡ sizes
-  pub parts : Parts
-  pub commit : IsNext before parts slot.commit
+  pub commit : Continues before slot.commit
   pub prepared : IsPrepared slot.commit
   pub next_stored : IsNextStored slot.commit next
   pub whole : slot.area_offset % sizes.atom ≡ 0
