@@ -1,0 +1,13 @@
+use Rattle.init_disk.proofs.AnswerLemmas.{unstarted_by}
+use Rattle.init_disk.proofs.StartLemmas.{err_of, ok_of}
+use Rattle.init_disk.proofs.beginning.begin_conversion.Goals as goal
+
+pub returns-in-Err-begun-clause-refused : goal.returns-in-Err-begun-clause-refused
+returns-in-Err-begun-clause-refused g c =
+    let unlocked = ok_of _ c.unlock_volume-disk.result.1 c.in-Ok.key c.in-Ok.is
+    c.unlock_volume-disk.ensures.unlocked in
+    unstarted_by g.D.Disk.device c.args.disk c.unlock_volume-disk.result.0 c.start-disk.result.0
+    c.args.wish.now c.args.pass.now c.args.seed.now c.in-Ok.key unlocked
+    (λ all is. g.met.D.Disk.whole c.args.disk all is) c.in-Err-begun.refusal
+    (err_of _ c.start-disk.result.1 c.in-Err-begun.refusal c.in-Err-begun.is
+    c.start-disk.ensures.unbegun)
