@@ -128,11 +128,11 @@ unfolding command_in
 format_command rows words is = rw is refl
 
 -- the disk and the key file are there
-record HasBoth (value : Text → Option Text) : Type 0 where
-  disk : Text
-  disk_is : value (codes "disk") ≡ Some disk
-  key_file : Text
-  key_file_is : value (codes "key-file") ≡ Some key_file
+pub record HasBoth (value : Text → Option Text) : Type 0 where
+  pub disk : Text
+  pub disk_is : value (codes "disk") ≡ Some disk
+  pub key_file : Text
+  pub key_file_is : value (codes "key-file") ≡ Some key_file
 
 has_both : (value : Text → Option Text) (words : Formatting) →
     formatting_by value ≡ Some words → HasBoth value

@@ -7,5 +7,6 @@ pub mod PieceLemmas
 pub mod PlainLemmas
 pub mod ProductLemmas
 pub mod RowLemmas
+pub mod StartLemmas
 pub mod TakenLemmas
 pub mod ValueLemmas

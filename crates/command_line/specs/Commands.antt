@@ -8,6 +8,7 @@ use Rattle.clap.specs.Simple.{subcommand_of}
 use Rattle.clap.specs.Faults.{fault_of}
 use Rattle.command_line.specs.Formats.{Formatting, IsFormatting, formatting, formatting_in}
 use Rattle.command_line.specs.Product.{product}
+use Rattle.command_line.specs.Starts.{IsStarting, Starting, starting, starting_in}
 use Rattle.command_line.specs.Values.{◌>>=◌, IsAtomSize, atom_or_default, is_given, is_set}
 use Rattle.command_line.specs.Values.{number_or}
 use Rattle.command_line.specs.declared.command.Serve.{Serve}
@@ -33,6 +34,7 @@ pub record Showing : Type 0 where
 
 pub data Asked : Type 0 where
   formats : Formatting → Asked
+  starts : Starting → Asked
   serves : Serving → Asked
   shows : Showing → Asked
 
@@ -51,6 +53,7 @@ showing words = record { disk = words.disk.now; atom = words.atom }
 
 abbrev pub asked_by : Command → Asked
 asked_by (commands.Format words) = formats (formatting words)
+asked_by (commands.Init words) = starts (starting words)
 asked_by (commands.Serve words) = serves (serving words)
 asked_by (commands.Status words) = shows (showing words)
 
@@ -64,6 +67,7 @@ pub record IsServing (words : Serving) : Type 0 where
 
 abbrev pub IsBounded : Asked → Type 0
 IsBounded (formats words) = IsFormatting words
+IsBounded (starts words) = IsStarting words
 IsBounded (serves words) = IsServing words
 IsBounded (shows words) = IsAtomSize words.atom
 
@@ -102,8 +106,9 @@ showing_in rows = do
 unfoldable pub command_in : Text → List Row → Option Asked
 command_in name rows =
     if bytes_eq name (codes "format") then option_map formats (formatting_in rows)
+    else (if bytes_eq name (codes "init") then option_map starts (starting_in rows)
     else (if bytes_eq name (codes "serve") then option_map serves (serving_in rows)
-    else (if bytes_eq name (codes "status") then option_map shows (showing_in rows) else None))
+    else (if bytes_eq name (codes "status") then option_map shows (showing_in rows) else None)))
 
 -- What the words ask for: where `clap` takes them, the command that it finds in them, if each of
 -- its values is of its form and in its range.

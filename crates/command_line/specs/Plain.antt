@@ -4,8 +4,9 @@ use Rattle.std.specs.Prelude.{Option, Some, None, option_map}
 use Rattle.std.specs.List.{list_any}
 use Rattle.std.specs.Str.{bytes_eq}
 use Rattle.clap.specs.Walk.{Text}
-use Rattle.command_line.specs.Commands.{Asked, Serving, Showing, formats, serves, shows}
+use Rattle.command_line.specs.Commands.{Asked, Serving, Showing, formats, serves, shows, starts}
 use Rattle.command_line.specs.Formats.{Formatting, formatting_by}
+use Rattle.command_line.specs.Starts.{Starting, starting_by}
 use Rattle.command_line.specs.Values.{atom_or_default, number_or}
 
 -- a word that can be no option: it isn't empty, and doesn't begin with a hyphen (45)
@@ -51,7 +52,7 @@ AreOnce [] = Unit {0}
 AreOnce (piece ∷ pieces) =
     (list_any (λ other. bytes_eq (name_of piece) (name_of other)) pieces ≡ false) × AreOnce pieces
 
--- what of these words a `format` may have, a `serve`, and a `status`
+-- what of these words a `format` may have, an `init`, a `serve`, and a `status`
 abbrev pub IsFormatPiece : Piece → Type 0
 IsFormatPiece (disk word) = IsPlain word
 IsFormatPiece (valued name value) = IsPlain value × ((name ≡ codes "key-file")
@@ -59,6 +60,14 @@ IsFormatPiece (valued name value) = IsPlain value × ((name ≡ codes "key-file"
     ⊎ (name ≡ codes "key-size") ⊎ (name ≡ codes "sector-size") ⊎ (name ≡ codes "data-offset")
     ⊎ (name ≡ codes "iterations") ⊎ (name ≡ codes "metadata-size") ⊎ (name ≡ codes "uuid"))
 IsFormatPiece (flag name) = ⊥
+
+abbrev pub IsInitPiece : Piece → Type 0
+IsInitPiece (disk word) = IsPlain word
+IsInitPiece (valued name value) = IsPlain value × ((name ≡ codes "key-file")
+    ⊎ (name ≡ codes "atom") ⊎ (name ≡ codes "cipher") ⊎ (name ≡ codes "key-size")
+    ⊎ (name ≡ codes "sector-size") ⊎ (name ≡ codes "iterations") ⊎ (name ≡ codes "resilience")
+    ⊎ (name ≡ codes "direction") ⊎ (name ≡ codes "hotzone-size"))
+IsInitPiece (flag name) = ⊥
 
 abbrev pub IsServePiece : Piece → Type 0
 IsServePiece (disk word) = IsPlain word
@@ -82,6 +91,13 @@ pub record IsFormat (pieces : List Piece) (words : Formatting) : Type 0 where
   pub known : AllPieces IsFormatPiece pieces
   pub once : AreOnce pieces
   pub values_are : formatting_by (λ name. value_in name pieces) ≡ Some words
+
+-- The pieces of an `init`, in any order: DISK and `--key-file` are there, and no piece is twice.
+-- Each value is of its form and in its range, or left out.
+pub record IsInit (pieces : List Piece) (words : Starting) : Type 0 where
+  pub known : AllPieces IsInitPiece pieces
+  pub once : AreOnce pieces
+  pub values_are : starting_by (λ name. value_in name pieces) ≡ Some words
 
 -- one of `--plain` and `--key-file` is there, and not both
 abbrev pub IsServed : Option Text → Option Text → Option Text → Type 0
@@ -116,6 +132,10 @@ pub record IsStatus (pieces : List Piece) (words : Showing) : Type 0 where
 abbrev pub TakesFormat : (List Text → Option Asked) → Type 0
 TakesFormat asked = (pieces : List Piece) (words : Formatting) → IsFormat pieces words →
     asked (codes "format" ∷ all_spelt pieces) ≡ Some (formats words)
+
+abbrev pub TakesInit : (List Text → Option Asked) → Type 0
+TakesInit asked = (pieces : List Piece) (words : Starting) → IsInit pieces words →
+    asked (codes "init" ∷ all_spelt pieces) ≡ Some (starts words)
 
 abbrev pub TakesServe : (List Text → Option Asked) → Type 0
 TakesServe asked = (pieces : List Piece) (words : Serving) → IsServe pieces words →

@@ -20,6 +20,7 @@ ghost use Rattle.command_line.specs.Commands.{
 
 use crate::formatting::{Format, read_format};
 use crate::product::product;
+use crate::starting::{Init, read_init};
 use crate::values::{Refused, atom_or_default, is_given, is_set, number_or, required, text_of};
 use clap::error::ErrorKind;
 use clap::{ArgMatches, Error};
@@ -53,6 +54,7 @@ pub struct Status<'a> {
 #[derive(Clone, Copy, Debug)]
 pub enum Command<'a> {
     Format(Format<'a>),
+    Init(Init<'a>),
     Serve(Serve<'a>),
     Status(Status<'a>),
 }
@@ -145,6 +147,12 @@ fn read_command<'a>(name: &str, matches: &ArgMatches<'a>) -> Result<Command<'a>,
     if name == "format" {
         return match read_format(matches) {
             Ok(format) => Ok(Command::Format(format)),
+            Err(refused) => Err(refused),
+        };
+    }
+    if name == "init" {
+        return match read_init(matches) {
+            Ok(init) => Ok(Command::Init(init)),
             Err(refused) => Err(refused),
         };
     }

@@ -11,8 +11,12 @@ mod formatting;
 mod item;
 mod laws;
 mod product;
+mod segment;
+mod starting;
 mod values;
 
 pub use command::{Command, Refusal, Serve, Status, explain_words, read_words};
 pub use formatting::Format;
 pub use laws::plain_words_are_taken;
+pub use segment::NewSegment;
+pub use starting::{Guard, Init};

@@ -130,7 +130,7 @@ fn init<'a>(alloc: Global) -> Result<Command<'a>, AllocError>
         Item::Valued {
             name: "resilience",
             value: "NAME",
-            help: "journal, checksum or datashift [default: journal]",
+            help: "journal or checksum; datashift is not built yet [default: journal]",
             required: false,
         },
         Item::Valued {
@@ -142,25 +142,30 @@ fn init<'a>(alloc: Global) -> Result<Command<'a>, AllocError>
         Item::Valued {
             name: "hotzone-size",
             value: "BYTES",
-            help: "The most that is converted at once [default: 1048576]",
+            help: "The most that is converted at once, in whole atoms [default: 1048576]",
             required: false,
         },
         Item::Valued {
             name: "shift",
             value: "BYTES",
-            help: "How far a datashift moves the data",
+            help: "How far a datashift moves the data (not built yet)",
             required: false,
         },
         Item::Flag {
             name: "encrypt",
-            help: "Convert a plain disk to a volume",
+            help: "Convert a plain disk to a volume (not built yet)",
         },
         Item::Flag {
             name: "decrypt",
-            help: "Convert a volume to a plain disk",
+            help: "Convert a volume to a plain disk (not built yet)",
         },
     ];
-    leaf(alloc, "init", "Begin a conversion (not built yet)", &items)
+    leaf(
+        alloc,
+        "init",
+        "Begin to convert a volume to a new key",
+        &items,
+    )
 }
 
 #[tactic(auto, unfolding(crate::specs::Product::serve_rules))]
