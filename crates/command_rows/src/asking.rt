@@ -1,7 +1,7 @@
 // Rows on words.
 
 use anyhow::{Result, anyhow};
-use command_line::{Command, Format, explain_words, read_words};
+use command_line::{Command, Format, Init, explain_words, read_words};
 use std::alloc::Global;
 
 /// The words of a row.
@@ -20,6 +20,21 @@ fn first_line(text: Option<&str>) -> Option<&str> {
     Some(text?.lines().next().unwrap_or(""))
 }
 
+/// What a conversion is to be.
+fn init_text(alloc: Global, init: &Init<'_>) -> Result<String> {
+    let segment = format!(in alloc;
+        "{} by a key of {}, sectors of {}, {} rounds",
+        init.segment.cipher.name(),
+        init.segment.key_size,
+        init.segment.sector_size,
+        init.segment.iterations,
+    )?;
+    Ok(format!(in alloc;
+        "init {} by {} in atoms of {}: {segment}, {:?} by {:?}, zones of {}",
+        init.disk, init.key_file, init.atom, init.direction, init.resilience, init.hotzone_size,
+    )?)
+}
+
 /// What a new volume is to be.
 fn format_text(alloc: Global, format: &Format<'_>) -> Result<String> {
     let identifier = match format.identifier {
@@ -28,11 +43,11 @@ fn format_text(alloc: Global, format: &Format<'_>) -> Result<String> {
     };
     let volume = format!(in alloc;
         "{} by a key of {}, sectors of {}, data at {}, {} rounds, copies of {}, identifier {}",
-        format.cipher.name(),
-        format.key_size,
-        format.sector_size,
+        format.segment.cipher.name(),
+        format.segment.key_size,
+        format.segment.sector_size,
         format.data_offset,
-        format.iterations,
+        format.segment.iterations,
         format.metadata_size,
         identifier,
     )?;
@@ -50,6 +65,7 @@ fn format_text(alloc: Global, format: &Format<'_>) -> Result<String> {
 fn command_text(alloc: Global, command: &Command<'_>) -> Result<String> {
     match command {
         Command::Format(format) => format_text(alloc, format),
+        Command::Init(init) => init_text(alloc, init),
         Command::Serve(serve) => {
             let key_file = match serve.key_file {
                 Some(file) => format!(in alloc; " by {file}")?,

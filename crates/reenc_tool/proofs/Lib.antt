@@ -4,5 +4,6 @@ mod LaneLemmas
 mod MakingLemmas
 mod RoundLemmas
 mod RunLemmas
+mod StartingLemmas
 mod TextLemmas
 mod TurnLemmas

@@ -6,7 +6,8 @@ use Rattle.std.proofs.lemmas.Bool.Decides.{Decides-eqb}
 use Rattle.std.specs.Prelude.{◌==◌, Result, is_some, if◌then◌else◌}
 use Rattle.cipher_laws.specs.Bytes.{AreBytes}
 use Rattle.base_terms.specs.declared.failed.Failed.{Failed}
-use Rattle.command_line.specs.Formats.{Formatting, IsFormatting, has_key_size}
+use Rattle.command_line.specs.Formats.{Formatting, IsFormatting}
+use Rattle.command_line.specs.Segments.{has_key_size}
 use Rattle.disk_sizes.specs.declared.Sizes.{Sizes}
 use Rattle.format_disk.specs.Calls.{FitsNew, WritesVolume}
 use Rattle.format_disk.specs.Rests.{LeaveTheRest}
@@ -40,7 +41,7 @@ one_of n first second is = by_case (n == first) refl
     by_case true same = inl ((Decides-eqb n first).0 same)
     by_case false other = inr ((Decides-eqb n second).0 (rw other at is))
 
-key_length : (cipher : Cipher) (size : ℕ) → has_key_size cipher size ≡ true →
+pub key_length : (cipher : Cipher) (size : ℕ) → has_key_size cipher size ≡ true →
     IsKeyLength (named_cipher cipher) size
 unfolding has_key_size
 key_length AesXtsPlain64 size has = one_of size 32 64 has
@@ -49,14 +50,14 @@ key_length AesCbcEssivSha256 size has = one_of size 16 32 has
 pub is_wish : (words : Formatting) (detached : Bool) → IsFormatting words →
     IsWish (record (wish_of words) { detached = detached })
 is_wish words detached is =
-    let some : 1 ≤ words.iterations = omega (arith, is.some_rounds) in
+    let some : 1 ≤ words.segment.iterations = omega (arith, is.segment.some_rounds) in
     record {
-      key = key_length words.cipher words.key_size is.key;
-      sector = is.sector;
+      key = key_length words.segment.cipher words.segment.key_size is.segment.key;
+      sector = is.segment.sector;
       page = is.page;
       within = is.within;
       some_rounds = some;
-      most_rounds = is.most_rounds;
+      most_rounds = is.segment.most_rounds;
       size = is.size;
     }
 

@@ -11,5 +11,6 @@ pub mod Promise
 pub mod Runs
 pub mod Sessions
 pub mod Showing
+pub mod Starting
 pub mod Status
 pub mod Texts

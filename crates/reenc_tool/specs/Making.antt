@@ -4,8 +4,9 @@ use Rattle.std.specs.Prelude.{true, Option, Some, None, is_some, Result, Ok, Err
 use Rattle.base_terms.specs.Causes.{HasCause}
 use Rattle.base_terms.specs.declared.failed.Failed.{Failed}
 use Rattle.bays.specs.Bays.{Holdings, LeavesAll, LeavesOtherDisks}
-use Rattle.command_line.specs.Commands.{asked, formats}
+use Rattle.command_line.specs.Commands.{asked, formats, starts}
 use Rattle.command_line.specs.Formats.{Formatting}
+use Rattle.command_line.specs.Starts.{Starting}
 use Rattle.format_disk.specs.Calls.{WritesVolume}
 use Rattle.format_disk.specs.Fitting.{IsUnfit, draw_of}
 use Rattle.format_disk.specs.Rests.{KeepsFrom, end_of_front, front_room}
@@ -34,11 +35,11 @@ use Rattle.reenc_tool.specs.Status.{cause_of_format}
 -- what the words wish of a new volume
 abbrev pub wish_of : Formatting → Wish
 wish_of words = record {
-  cipher = words.cipher;
-  key_size = words.key_size;
-  sector_size = words.sector_size;
+  cipher = words.segment.cipher;
+  key_size = words.segment.key_size;
+  sector_size = words.segment.sector_size;
   data_offset = words.data_offset;
-  iterations = words.iterations;
+  iterations = words.segment.iterations;
   metadata_size = words.metadata_size;
   identifier = words.identifier;
   detached = is_some words.header;
@@ -229,7 +230,8 @@ HasMade device holdings asks_disk asks_key format supply now old new outcome rep
     ⊎ ((report ≡ None)
     × HasNoDisk holdings asks_disk format.disk format.atom None old new outcome)))
 
--- no command but `format` draws
+-- no command but `format` and `init` draws
 abbrev pub DrawsNone : {R : Type 0} → List (List ℕ) → R → R → Type 0
 DrawsNone words old new =
-    ((format : Formatting) → asked words ≡ Some (formats format) → ⊥) → new ≡ old
+    ((format : Formatting) → asked words ≡ Some (formats format) → ⊥) →
+    ((start : Starting) → asked words ≡ Some (starts start) → ⊥) → new ≡ old

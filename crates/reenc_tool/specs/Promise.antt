@@ -11,9 +11,11 @@ use Rattle.reenc_tool.specs.Linking.{AsksLinks}
 use Rattle.reenc_tool.specs.Making.{HasMade}
 use Rattle.reenc_tool.specs.Plain.{ServesPlain}
 use Rattle.reenc_tool.specs.Showing.{HasShown}
+use Rattle.reenc_tool.specs.Starting.{HasStarted}
 use Rattle.reenc_tool.specs.Outcomes.{AsksDisk, HasNoDisk, Outcome, unserved}
-use Rattle.command_line.specs.Commands.{Serving, Showing, asked, formats, serves, shows}
+use Rattle.command_line.specs.Commands.{Serving, Showing, asked, formats, serves, shows, starts}
 use Rattle.command_line.specs.Formats.{Formatting}
+use Rattle.command_line.specs.Starts.{Starting}
 use Rattle.io_edge.specs.Supply.{Supply}
 
 -- What came of the disk that a bay gave: it was served as it is, or a key file was asked for, and
@@ -61,9 +63,9 @@ Serviced device state holdings asks_disk asks_key asks_links serve old new outco
     × (HasDisk device state holdings asks_disk asks_key asks_links serve old new outcome
     ⊎ HasNoDisk holdings asks_disk serve.disk serve.atom None old new outcome)
 
--- What a command did whose words were read, or not: it was told to serve, to show or to format,
--- which its report belongs to; or nothing was asked of the bay and of the seeds, since the words
--- ask for nothing or memory was wanted.
+-- What a command did whose words were read, or not: it was told to serve, to show, to format or to
+-- begin a conversion, which its report belongs to; or nothing was asked of the bay and of the seeds,
+-- since the words ask for nothing or memory was wanted.
 abbrev pub Came : {B D L : Type 0} → (D → DiskState) → (L → LinkState) → (B → Holdings D) →
     AsksDisk B D → AsksDisk B D → AsksKey B → AsksLinks B L → List (List ℕ) → Supply → Supply →
     B → B → Outcome D L → Option (List ℕ) → Type 0
@@ -78,6 +80,8 @@ Came device state holdings asks_disk asks_reading asks_key asks_links words supp
     × HasShown device holdings asks_reading show old new outcome report)
     ⊎ ((format : Formatting) × (asked words ≡ Some (formats format))
     × HasMade device holdings asks_disk asks_key format supply now old new outcome report)
+    ⊎ ((start : Starting) × (asked words ≡ Some (starts start))
+    × HasStarted device holdings asks_disk asks_key start supply now old new outcome report)
 
 -- no command has a pass yet
 abbrev pub HasNoPass : {P : Type 0} → Option P → Option P → Type 0

@@ -1,13 +1,19 @@
 -- The exit statuses of a command.
-use Rattle.std.specs.Prelude.{ℕ, ◌==◌, if◌then◌else◌}
+use Rattle.std.specs.Prelude.{ℕ, ◌-◌, ◌^◌, ◌==◌, if◌then◌else◌}
 use Rattle.reenc_tool.specs.declared.ended.Cause.{Cause}
 use Rattle.reenc_tool.specs.declared.ended.Cause.TheVariants.{Fine, Usage, Device, NoHeader}
 use Rattle.reenc_tool.specs.declared.ended.Cause.TheVariants.{Header, NoKey, WrongState, Foreign}
 use Rattle.reenc_tool.specs.declared.ended.Cause.TheVariants.{NoFit, Link, Output, Seeds, Memory}
-use Rattle.reenc_tool.specs.declared.ended.Failing.TheVariants.{Reading, Starting}
-use Rattle.reenc_tool.specs.declared.ended.Fit.TheVariants.{Area, Blocks, Json, Passphrase}
+use Rattle.reenc_tool.specs.declared.ended.Failing.TheVariants.{Reading, Starting, Writing}
+use Rattle.reenc_tool.specs.declared.ended.Fit.TheVariants.{Area, Blocks, Json, Passphrase, Seqid}
 use Rattle.format_disk.specs.declared.fault.FormatFault.{FormatFault}
 use Rattle.format_disk.specs.declared.fault.FormatFault.TheVariants as formats
+use Rattle.init_disk.specs.declared.making.MakeFault.{MakeFault}
+use Rattle.init_disk.specs.declared.making.MakeFault.TheVariants as makings
+use Rattle.init_disk.specs.declared.refusal.Refusal.{Refusal as StartRefusal}
+use Rattle.init_disk.specs.declared.refusal.Refusal.TheVariants as starts
+use Rattle.luks_init.specs.declared.fault.InitFault.{InitFault}
+use Rattle.luks_init.specs.declared.fault.InitFault.TheVariants as inits
 use Rattle.reenc_recovery.specs.declared.fault.OpenCause.{OpenCause}
 use Rattle.reenc_recovery.specs.declared.fault.OpenCause.TheVariants as openings
 use Rattle.luks_slots.specs.declared.fault.SlotFault.{SlotFault}
@@ -86,3 +92,25 @@ cause_of_format (formats.Area wanted gap) = NoFit Area wanted gap
 cause_of_format (formats.Json len limit) = NoFit Json len limit
 cause_of_format (formats.Passphrase len) = NoFit Passphrase len (passphrase_limit len)
 cause_of_format formats.Blocks = NoFit Blocks 0 1
+
+-- the cause of a command that can begin no conversion
+abbrev pub cause_of_init : InitFault → Cause
+cause_of_init inits.Memory = Memory
+cause_of_init inits.InProgress = WrongState
+cause_of_init inits.Linear = WrongState
+cause_of_init (inits.Passphrase len) = NoFit Passphrase len (passphrase_limit len)
+cause_of_init (inits.Area wanted gap) = NoFit Area wanted gap
+cause_of_init (inits.Json len limit) = NoFit Json len limit
+
+-- the cause of a command that could not make what a conversion begins with: a header may have any
+-- number but the last one for another to follow
+abbrev pub cause_of_making : MakeFault → Cause
+cause_of_making (makings.Unready fault) = cause_of_init fault
+cause_of_making (makings.SeqEnd number) = NoFit Seqid number (2 ^ 64 - 2)
+
+-- the cause of a command that began no conversion
+abbrev pub cause_of_start : StartRefusal → ℕ → Cause
+cause_of_start (starts.Unopened refusal) count = cause_of_refusal refusal count
+cause_of_start starts.Linear count = WrongState
+cause_of_start (starts.Unmade fault) count = cause_of_making fault
+cause_of_start starts.Writing count = Device Writing count

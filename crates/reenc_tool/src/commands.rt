@@ -16,6 +16,7 @@ use crate::making::make;
 use crate::opening::serve_encrypted;
 use crate::sessions::{LANES, empty_lists, serve_volume};
 use crate::showing::show;
+use crate::starting::start;
 use crate::text::{count_sessions, print};
 use bays::{Bay, BayFault, Link};
 use command_line::{Command, Refusal, Serve, read_words};
@@ -156,15 +157,16 @@ fn execute<'w, B: Bay, R: Seeds>(
     };
     match command {
         Command::Format(words) => make(alloc, bay, seeds, &words),
+        Command::Init(words) => start(alloc, bay, seeds, &words),
         Command::Serve(words) => (serve(alloc, bay, &words), None),
         Command::Status(words) => show(alloc, bay, &words),
     }
 }
 
 /// Runs the command that the words behind the program's name ask for, and prints what it says: of
-/// `format` `formatted U`, of `serve` `served S sessions`, of `status` what the header of a disk
-/// says, and of one that is refused `fault N NAME` with the status and the cause. `docs/CLI.md` has
-/// the words.
+/// `format` `formatted U`, of `init` `started reencrypt DIRECTION RESILIENCE`, of `serve` `served S
+/// sessions`, of `status` what the header of a disk says, and of one that is refused `fault N NAME`
+/// with the status and the cause. `docs/CLI.md` has the words.
 ///
 /// What holds at the end is `Came` of `specs/`, before the text is printed. Where sessions were
 /// served they are sessions of the protocol over the bytes that the links' connections gave, and
@@ -173,12 +175,14 @@ fn execute<'w, B: Bay, R: Seeds>(
 /// the operations' device calls, and wherever the run stops the disk holds what that history
 /// allows. Of a header all lines are told, or why there is none; the disk is read alone. A new
 /// volume is what the words wish, made of 32 bytes that the seeds gave once, and its header and its
-/// keyslot's area are written and nothing else. Each cause has its reason. The bay is asked once
-/// for the disk, once for the header's and once for a key file, each where the words name one, and
-/// for clients once for the links, and for nothing else. The text changes the cause only where all
-/// was fine: to `Output` where it can't be put and pushed out, to `Memory` where memory is wanted
-/// for it. Words that ask for nothing leave the bay as it was, and those of other commands than
-/// `format` the seeds.
+/// keyslot's area are written and nothing else. A conversion is what the words wish too, by 32
+/// bytes that the seeds gave once: where it was begun, and in each image that a stop leaves from
+/// the first sync on, the disk stands for the content that it stood for under the passphrase. Each
+/// cause has its reason. The bay is asked once for the disk, once for the header's and once for a
+/// key file, each where the words name one, and for clients once for the links, and for nothing
+/// else. The text changes the cause only where all was fine: to `Output` where it can't be put and
+/// pushed out, to `Memory` where memory is wanted for it. Words that ask for nothing leave the bay
+/// as it was, and those of other commands than `format` and `init` the seeds.
 pub fn run<'w, W: Threads + Wait + Sync, B: Bay, R: Seeds, O: Sink, G: Gate>(
     _rt: &W,
     alloc: Global,

@@ -74,7 +74,8 @@ pub enum Failing {
 #[derive(Clone, Copy, Debug, PartialEq, Eq)]
 pub enum Fit {
     /// The keyslot's area has more bytes than the keyslots area; or that ends at a byte which the
-    /// disk of a detached header doesn't have.
+    /// disk of a detached header doesn't have; or an area of a conversion has more bytes than are
+    /// free there at one place.
     Area,
     /// The header's text has more bytes than its area less one.
     Json,
@@ -82,6 +83,8 @@ pub enum Fit {
     Blocks,
     /// The passphrase has no byte, or more than 512.
     Passphrase,
+    /// The header has the last number, which no other follows.
+    Seqid,
 }
 
 impl<'w> Cause<'w> {
@@ -125,7 +128,7 @@ impl<'w> Cause<'w> {
     }
 
     /// The cause of a command whose passphrase has no byte, or too many.
-    fn of_passphrase(length: u64) -> Cause<'w>
+    pub(crate) fn of_passphrase(length: u64) -> Cause<'w>
         ensures { result ≡ Cause.NoFit Fit.Passphrase length (passphrase_limit length) }
     {
         Cause::NoFit {

@@ -15,6 +15,7 @@ mod refusal_text;
 mod serving;
 mod sessions;
 mod showing;
+mod starting;
 mod text;
 
 pub use bays::{Bay, BayFault, Link};

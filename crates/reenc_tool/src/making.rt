@@ -36,11 +36,11 @@ fn wish_of(words: &Format<'_>) -> Wish
     ensures wish { IsWish result }
 {
     Wish {
-        cipher: words.cipher,
-        key_size: words.key_size,
-        sector_size: words.sector_size,
+        cipher: words.segment.cipher,
+        key_size: words.segment.key_size,
+        sector_size: words.segment.sector_size,
         data_offset: words.data_offset,
-        iterations: words.iterations,
+        iterations: words.segment.iterations,
         metadata_size: words.metadata_size,
         identifier: words.identifier,
         detached: words.header.is_some(),

@@ -15,7 +15,7 @@ impl fmt::Display for RefusalText<'_> {
     fn fmt<W: fmt::Write>(&self, f: &mut fmt::Formatter<W>) -> fmt::Result {
         match self.0 {
             Refusal::Header(fault) => write!(f, "header: {}", FaultText(fault)),
-            Refusal::InProgress => write!(f, "a conversion is under way, which isn't served yet"),
+            Refusal::InProgress => write!(f, "a conversion is under way"),
             Refusal::Passphrase(length) => {
                 write!(
                     f,

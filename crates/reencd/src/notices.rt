@@ -60,6 +60,9 @@ fn explain_fit(errors: Stderr, what: Fit, number: u64, limit: u64) {
         Fit::Json => eprintln!(errors;
             "reencd: a header's text of {number} bytes, for which there are {limit}"
         ),
+        Fit::Seqid => eprintln!(errors;
+            "reencd: the header's number is {number}, which no other follows"
+        ),
         Fit::Blocks => eprintln!(errors; "reencd: the disk has no room for a block"),
         Fit::Passphrase => eprintln!(errors;
             "reencd: a passphrase of {number} bytes, which are to be 1 to 512"
@@ -74,5 +77,7 @@ fn explain_volume(errors: Stderr, reason: &Reason<'_>) {
     }
     if let Some(refusal) = &reason.refusal {
         let _ = eprintln!(errors; "reencd: {}", RefusalText(refusal));
+    } else if let Cause::WrongState = reason.cause {
+        let _ = eprintln!(errors; "reencd: the volume isn't encrypted");
     }
 }

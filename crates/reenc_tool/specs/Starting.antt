@@ -1,0 +1,137 @@
+-- What `init` did.
+use Rattle.std.specs.Prelude.{ℕ, ◌≡◌, ◌⊎◌, false, List, [], ◌∷◌, ◌++◌, take, codes}
+use Rattle.std.specs.Prelude.{Option, Some, None, Ok}
+use Rattle.bays.specs.Bays.{Holdings, LeavesAll}
+use Rattle.command_line.specs.Starts.{Starting, guard_name}
+use Rattle.command_line.specs.declared.starting.Guard.{Guard as NamedGuard}
+use Rattle.command_line.specs.declared.starting.Guard.TheVariants as named
+use Rattle.init_disk.specs.Answers.{IsStartedBy, IsUnstartedBy}
+use Rattle.init_disk.specs.declared.refusal.Refusal.{Refusal}
+use Rattle.init_disk.specs.declared.refusal.Refusal.TheVariants.{Unopened}
+use Rattle.io_edge.specs.Supply.{Supply}
+use Rattle.luks_init.specs.declared.wish.Guard.{Guard}
+use Rattle.luks_init.specs.declared.wish.Guard.TheVariants.{Journal, Checksum}
+use Rattle.luks_init.specs.declared.wish.Wish.{Wish}
+use Rattle.luks_json.specs.Reencrypts.{direction_name}
+use Rattle.sector_disk.specs.Devices.{Device as DiskState}
+use Rattle.volume_opening.specs.declared.refusal.Refusal.{Refusal as OpeningRefusal}
+use Rattle.reenc_tool.specs.declared.ended.Cause.TheVariants.{Fine, Memory}
+use Rattle.reenc_tool.specs.Encrypted.{AsksKey, HasNoKeyFile}
+use Rattle.reenc_tool.specs.Making.{HasGiven, HasNoSeed, HasSeed}
+use Rattle.reenc_tool.specs.Outcomes.{AsksDisk, HasNoDisk, Outcome, ended_by, none_came, unserved}
+use Rattle.reenc_tool.specs.Status.{cause_of_start}
+
+-- what the words name is what keeps zones safe
+abbrev pub guard_of : NamedGuard → Guard
+guard_of named.Journal = Journal
+guard_of named.Checksum = Checksum
+
+-- what the words wish of a conversion
+abbrev pub wish_of : Starting → Wish
+wish_of words = record {
+  cipher = words.segment.cipher;
+  key_size = words.segment.key_size;
+  sector_size = words.segment.sector_size;
+  iterations = words.segment.iterations;
+  direction = words.direction;
+  resilience = guard_of words.resilience;
+  hotzone_size = words.hotzone_size;
+}
+
+-- the line of a conversion that was begun
+abbrev pub started_line : Starting → List ℕ
+started_line words = codes "started reencrypt " ++ (direction_name words.direction
+    ++ (codes " " ++ (guard_name words.resilience ++ 10 ∷ [])))
+
+-- ---- the volume
+-- The conversion of the disk's volume was begun under the passphrase, and the disk is handed back.
+-- Where it tells what it holds, each image that a stop could leave, from the first sync on, and in
+-- which no torn copy of a header is valid, stands for what the disk's bytes stood for, and now all of
+-- it is still to be converted.
+pub record IsStarted {D L : Type 0} (device : D → DiskState) (words : Starting)
+    (pass seed : List ℕ) (disk : D) (outcome : Outcome D L) (report : Option (List ℕ)) : Type 0
+  where
+    pub back : D
+    pub started : IsStartedBy device disk (wish_of words) pass seed back
+    pub outcome_is : outcome ≡ ended_by (none_came Fine []) (Some back) None
+    pub report_is : report ≡ Some (started_line words)
+
+-- why no volume was opened, where that is why no conversion was begun
+abbrev pub opening_refusal : Refusal → Option OpeningRefusal
+opening_refusal (Unopened refusal) = Some refusal
+opening_refusal _ = None
+
+-- what a command hands back that began no conversion, of whose disk so many calls failed
+abbrev pub ended_unstarted : {D L : Type 0} → Refusal → D → ℕ → Outcome D L
+ended_unstarted refusal disk faults = record {
+  cause = cause_of_start refusal faults;
+  fault = None;
+  refusal = opening_refusal refusal;
+  memory = false;
+  disk = Some disk;
+  header = None;
+  links = [];
+  ends = [];
+}
+
+-- None was begun, for this refusal, and the disk is handed back. Unless one of its calls failed it
+-- holds what it held; else, from the first sync on, it is as a stop may leave it.
+pub record IsUnstarted {D L : Type 0} (device : D → DiskState) (words : Starting)
+    (pass seed : List ℕ) (disk : D) (outcome : Outcome D L) (report : Option (List ℕ)) : Type 0
+  where
+    pub refusal : Refusal
+    pub back : D
+    pub refused : IsUnstartedBy device disk (wish_of words) pass seed refusal back
+    pub outcome_is : outcome ≡ ended_unstarted refusal back (device back).faults
+    pub report_is : report ≡ None
+
+-- what came of a disk whose volume was to be converted; where memory was wanted for what is to be
+-- said, the disk is as it was
+abbrev pub ComesToStart : {D L : Type 0} → (D → DiskState) → Starting → List ℕ → List ℕ → D →
+    Outcome D L → Option (List ℕ) → Type 0
+ComesToStart device words pass seed disk outcome report =
+    IsStarted device words pass seed disk outcome report
+    ⊎ IsUnstarted device words pass seed disk outcome report
+    ⊎ ((report ≡ None) × (outcome ≡ unserved Memory (Some disk) []))
+
+-- ---- the bay
+-- The bay was asked once for the key file and gave it: the passphrase is all of it, up to 513
+-- bytes, of which no more than 512 are one. Nothing more was asked.
+pub record HasKey {B D L : Type 0} (device : D → DiskState) (holdings : B → Holdings D)
+    (asks_key : AsksKey B) (words : Starting) (seed : List ℕ) (disk : D) (between new : B)
+    (outcome : Outcome D L) (report : Option (List ℕ)) : Type 0 where
+  pub pass : List ℕ
+  pub asked : asks_key between words.key_file (Ok pass) new
+  pub whole : (whole : List ℕ) → (holdings between).keyring words.key_file ≡ Some whole →
+      pass ≡ take 513 whole
+  pub leaves : LeavesAll (holdings between) (holdings new)
+  pub stood : (holdings new).faults ≡ (holdings between).faults
+  pub ended : ComesToStart device words pass seed disk outcome report
+
+-- or it gave none, and nothing is said
+abbrev pub AsksForKey : {B D L : Type 0} → (D → DiskState) → (B → Holdings D) → AsksKey B →
+    Starting → List ℕ → D → B → B → Outcome D L → Option (List ℕ) → Type 0
+AsksForKey device holdings asks_key words seed disk between new outcome report =
+    HasKey device holdings asks_key words seed disk between new outcome report
+    ⊎ ((report ≡ None)
+    × HasNoKeyFile holdings asks_key words.key_file disk None between new outcome)
+
+-- The disk that the words name was given. Then the key file was asked for.
+pub record HasVolume {B D L : Type 0} (device : D → DiskState) (holdings : B → Holdings D)
+    (asks_disk : AsksDisk B D) (asks_key : AsksKey B) (words : Starting) (seed : List ℕ)
+    (old new : B) (outcome : Outcome D L) (report : Option (List ℕ)) : Type 0 where
+  pub disk : D
+  pub between : B
+  pub given : HasGiven device holdings asks_disk words.disk words.atom disk old between
+  pub ended : AsksForKey device holdings asks_key words seed disk between new outcome report
+
+-- What `init` did: it drew its bytes, and asked for the disk and for the key file; each where all
+-- before was given.
+abbrev pub HasStarted : {B D L : Type 0} → (D → DiskState) → (B → Holdings D) → AsksDisk B D →
+    AsksKey B → Starting → Supply → Supply → B → B → Outcome D L → Option (List ℕ) → Type 0
+HasStarted device holdings asks_disk asks_key words supply now old new outcome report =
+    ((report ≡ None) × HasNoSeed supply now old new outcome)
+    ⊎ ((seed : List ℕ) × HasSeed supply now seed
+    × (HasVolume device holdings asks_disk asks_key words seed old new outcome report
+    ⊎ ((report ≡ None)
+    × HasNoDisk holdings asks_disk words.disk words.atom None old new outcome)))
