@@ -2,6 +2,7 @@
 
 ghost use Rattle.std.specs.Prelude.{◌≡◌, ◌<◌, ◌*◌, ◌^◌, IfOk};
 ghost use Rattle.sector_disk.specs.Geometry.{IsAtom};
+ghost use Rattle.sector_disk.specs.Images.{IsChoice};
 ghost use Rattle.sector_disk.specs.Mem.{atom_of, atoms_of};
 
 use anyhow::{Result, anyhow};
@@ -38,46 +39,58 @@ pub(crate) fn numbers(alloc: Global, column: &str, more: u64) -> Result<Vec<u64>
     Ok(list)
 }
 
-/// Puts the bytes on a disk that stand there at first, for certain.
-fn fill(alloc: Global, disk: &mut MemDisk) -> Result<()> {
-    let mut bytes = zeros(alloc, disk.atoms() as usize * disk.atom() as usize)?;
-    bytes.fill(STOOD);
-    if disk.write(0, bytes.as_slice()).is_err() || disk.sync().is_err() {
-        return Err(anyhow!("a disk can't be filled"));
-    }
-    Ok(())
+/// How many atoms of how many bytes the disk `x` has, and the disk `h`, where there is one.
+#[derive(Clone, Copy)]
+pub(crate) struct Sizes {
+    pub(crate) atom: u64,
+    pub(crate) atoms: u64,
+    pub(crate) header_atoms: Option<u64>,
 }
 
-/// A disk of these sizes, whose calls of these numbers fail.
-fn disk_of(alloc: Global, atom: u64, atoms: u64, fails: &str) -> Result<MemDisk> {
-    let fails = numbers(alloc, fails, CALLS)?;
+/// The disks that a column tells.
+pub(crate) fn sizes_of(alloc: Global, column: &str) -> Result<Sizes> {
+    let sizes = numbers(alloc, column, 0)?;
+    let (atom, atoms, header_atoms) = match sizes.as_slice() {
+        [atom, atoms] => (*atom, *atoms, None),
+        [atom, atoms, header_atoms] => (*atom, *atoms, Some(*header_atoms)),
+        _ => return Err(anyhow!("disks of so many numbers")),
+    };
     if (atom != 512 && atom != 4096) || atoms > MOST_ATOMS {
+        return Err(anyhow!("a disk of {atoms} atoms of {atom} bytes"));
+    }
+    Ok(Sizes {
+        atom,
+        atoms,
+        header_atoms,
+    })
+}
+
+/// The bytes that stand on a disk at first.
+pub(crate) fn stood(alloc: Global, atom: u64, atoms: u64) -> Result<Vec<u8>> {
+    if atom > 4096 || atoms > MOST_ATOMS {
+        return Err(anyhow!("a disk of {atoms} atoms of {atom} bytes"));
+    }
+    let mut bytes = zeros(alloc, atoms as usize * atom as usize)?;
+    bytes.fill(STOOD);
+    Ok(bytes)
+}
+
+/// A disk on which these bytes stand for certain, and whose calls of these numbers fail.
+pub(crate) fn disk_with(alloc: Global, atom: u64, bytes: &[u8], fails: &str) -> Result<MemDisk> {
+    let fails = numbers(alloc, fails, CALLS)?;
+    if atom != 512 && atom != 4096 {
+        return Err(anyhow!("atoms of {atom} bytes"));
+    }
+    let atoms = bytes.len() as u64 / atom;
+    if atoms > MOST_ATOMS || bytes.len() as u64 != atoms * atom {
         return Err(anyhow!("a disk of {atoms} atoms of {atom} bytes"));
     }
     let room = 2 * atoms + 600;
     let mut disk = MemDisk::new(alloc, atom as u32, atoms, room, fails.as_slice())?;
-    fill(alloc, &mut disk)?;
-    Ok(disk)
-}
-
-/// The disks that a column tells, of which each one's calls of these numbers fail: that of the data,
-/// and that of the header, where there is one.
-pub(crate) fn disks_of(
-    alloc: Global,
-    column: &str,
-    fails: &str,
-    header_fails: &str,
-) -> Result<(MemDisk, Option<MemDisk>)> {
-    let sizes = numbers(alloc, column, 0)?;
-    match sizes.as_slice() {
-        [atom, atoms] => Ok((disk_of(alloc, *atom, *atoms, fails)?, None)),
-        [atom, atoms, header_atoms] => {
-            let disk = disk_of(alloc, *atom, *atoms, fails)?;
-            let header = disk_of(alloc, *atom, *header_atoms, header_fails)?;
-            Ok((disk, Some(header)))
-        }
-        _ => Err(anyhow!("disks of so many numbers")),
+    if disk.write(0, bytes).is_err() || disk.sync().is_err() {
+        return Err(anyhow!("a disk can't be filled"));
     }
+    Ok(disk)
 }
 
 /// How many device calls a row's command made.
@@ -85,26 +98,50 @@ pub(crate) fn calls_of(disk: &MemDisk) -> u64 {
     disk.calls().saturating_sub(CALLS)
 }
 
-/// The disk as it may be after a stop.
+/// What is taken of what may be left: a word, or the numbers of candidates.
+fn choice_of(alloc: Global, left: &str) -> Result<Choice>
+    ensures { IfOk result IsChoice }
+{
+    match left {
+        "oldest" => Ok(Choice::Oldest),
+        "newest" => Ok(Choice::Newest),
+        _ => {
+            let mut picked = Vec::new(alloc);
+            for word in left.split(',') {
+                picked.push(number(word)?)?;
+            }
+            if picked.is_empty() {
+                return Err(anyhow!("{left} isn't what is left"));
+            }
+            Ok(Choice::Pick(picked))
+        }
+    }
+}
+
+/// The disk as it is, or as it may be after a stop.
 fn after_stop(alloc: Global, disk: MemDisk, left: &str) -> Result<MemDisk> {
-    let choice = match left {
-        "held" => return Ok(disk),
-        "oldest" => Choice::Oldest,
-        "newest" => Choice::Newest,
-        _ => return Err(anyhow!("{left} isn't what is left")),
-    };
+    if left == "held" {
+        return Ok(disk);
+    }
+    let choice = choice_of(alloc, left)?;
     match disk.restart(alloc, choice) {
         Ok(disk) => Ok(disk),
         Err(_) => Err(anyhow!("no memory for an image")),
     }
 }
 
-/// The SHA-256 of what is left of a disk, in hexadecimal.
-pub(crate) fn digest_of(alloc: Global, disk: MemDisk, left: &str) -> Result<String> {
+/// The bytes of what is left of a disk.
+pub(crate) fn bytes_of(alloc: Global, disk: MemDisk, left: &str) -> Result<Vec<u8>> {
     let mut disk = after_stop(alloc, disk, left)?;
     let mut bytes = zeros(alloc, disk.atoms() as usize * disk.atom() as usize)?;
     match disk.read(0, bytes.as_mut_slice()) {
-        Ok(()) => Ok(hex::encode(alloc, &Sha256::digest(bytes.as_slice()))?),
+        Ok(()) => Ok(bytes),
         Err(_) => Err(anyhow!("a disk can't be read")),
     }
+}
+
+/// The SHA-256 of what is left of a disk, in hexadecimal.
+pub(crate) fn digest_of(alloc: Global, disk: MemDisk, left: &str) -> Result<String> {
+    let bytes = bytes_of(alloc, disk, left)?;
+    Ok(hex::encode(alloc, &Sha256::digest(bytes.as_slice()))?)
 }

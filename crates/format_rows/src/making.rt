@@ -1,6 +1,8 @@
-// Rows on commands that make volumes.
+// The commands of rows, one after the other.
 
-use crate::disks::{calls_of, digest_of, disks_of, number, numbers};
+use crate::disks::{
+    Sizes, bytes_of, calls_of, digest_of, disk_with, number, numbers, sizes_of, stood,
+};
 use anyhow::{Result, anyhow};
 use base_terms::Bytes;
 use bays::{MemBay, MemLink};
@@ -43,12 +45,18 @@ fn bay_of(alloc: Global, disk: MemDisk, header: Option<MemDisk>, fails: &str) ->
     Ok(MemBay::new(alloc, disks, keys_of(alloc)?, address, clients, lists))
 }
 
+/// The first byte that is drawn by a row's first command.
+fn first_byte(word: &str) -> Result<u8> {
+    match u8::try_from(number(word)?) {
+        Ok(byte) => Ok(byte),
+        Err(_) => Err(anyhow!("seeds from {word} on")),
+    }
+}
+
 /// Seeds whose bytes rise from this one on, and whose calls of these numbers fail.
-fn seeds_of(alloc: Global, first: &str, fails: &str) -> Result<FixedSeeds> {
+fn seeds_of(alloc: Global, first: u8, fails: &str) -> Result<FixedSeeds> {
     let mut bytes = [0; 256];
-    let Ok(mut byte) = u8::try_from(number(first)?) else {
-        return Err(anyhow!("seeds from {first} on"));
-    };
+    let mut byte = first;
     for place in bytes.iter_mut() {
         *place = byte;
         byte = byte.wrapping_add(1);
@@ -109,21 +117,117 @@ fn fails_in<'a>(columns: &[&'a str], place: usize) -> &'a str {
     }
 }
 
+/// The bytes with zeros in place of those that a step tells by the first and how many there are.
+fn zeroed(step: &str, bytes: &mut [u8]) -> Result<()> {
+    let Some((first, count)) = step.split_once(' ') else {
+        return Err(anyhow!("zeros of {step}"));
+    };
+    let first = number(first)? as usize;
+    let end = first.saturating_add(number(count)? as usize);
+    if end > bytes.len() {
+        return Err(anyhow!("zeros of {step}"));
+    }
+    for i in first..end {
+        bytes[i] = 0;
+    }
+    Ok(())
+}
+
+/// What a command leaves of a disk, of which what is left is told too.
+fn left_by(
+    rt: &(impl Threads + Wait + Sync),
+    alloc: Global,
+    words: &str,
+    first: u8,
+    disk: MemDisk,
+    left: &str,
+) -> Result<Vec<u8>> {
+    let words = words_of(alloc, words)?;
+    let mut bay = bay_of(alloc, disk, None, "")?;
+    let mut seeds = seeds_of(alloc, first, "")?;
+    let mut out = ListSink::new(alloc, 4096, &[])?;
+    let words = words.as_slice();
+    let Ended { disk, .. } = run(rt, alloc, words, &mut bay, &mut seeds, &mut out, &OpenGate);
+    match disk {
+        Some(disk) => bytes_of(alloc, disk, left),
+        None => Err(anyhow!("no disk is handed back")),
+    }
+}
+
+/// What a row's steps but the last leave of the disk `x`, and the first byte that the next command
+/// draws.
+fn left_before(
+    rt: &(impl Threads + Wait + Sync),
+    alloc: Global,
+    steps: &[&str],
+    first: u8,
+    sizes: Sizes,
+) -> Result<(Vec<u8>, u8)> {
+    let mut first = first;
+    let mut bytes = stood(alloc, sizes.atom, sizes.atoms)?;
+    let mut stop = ("", "held");
+    for i in 0..steps.len() {
+        if let Some(told) = steps[i].strip_prefix("stop ") {
+            stop = told.split_once(' ').unwrap_or((told, "held"));
+        } else if let Some(told) = steps[i].strip_prefix("zero ") {
+            zeroed(told, bytes.as_mut_slice())?;
+        } else {
+            let disk = disk_with(alloc, sizes.atom, bytes.as_slice(), stop.0)?;
+            bytes = left_by(rt, alloc, steps[i], first, disk, stop.1)?;
+            stop = ("", "held");
+            first = first.wrapping_add(32);
+        }
+    }
+    Ok((bytes, first))
+}
+
+/// The bay of a row's last command, whose disk `x` has these bytes.
+fn last_bay(alloc: Global, sizes: Sizes, bytes: &[u8], fails: &[&str]) -> Result<MemBay> {
+    let disk = disk_with(alloc, sizes.atom, bytes, fails_in(fails, 0))?;
+    let header = match sizes.header_atoms {
+        None => None,
+        Some(atoms) => {
+            let bytes = stood(alloc, sizes.atom, atoms)?;
+            Some(disk_with(alloc, sizes.atom, bytes.as_slice(), fails_in(fails, 3))?)
+        }
+    };
+    bay_of(alloc, disk, header, fails_in(fails, 1))
+}
+
+/// What the last command of a row comes to.
+fn last_told(
+    rt: &(impl Threads + Wait + Sync),
+    alloc: Global,
+    words: &str,
+    bay: MemBay,
+    seeds: FixedSeeds,
+    left: &str,
+) -> Result<String> {
+    let mut bay = bay;
+    let mut seeds = seeds;
+    let words = words_of(alloc, words)?;
+    let mut out = ListSink::new(alloc, 4096, &[])?;
+    let words = words.as_slice();
+    let ended = run(rt, alloc, words, &mut bay, &mut seeds, &mut out, &OpenGate);
+    told(alloc, ended, &out, left)
+}
+
 /// What a row comes to.
 pub(crate) fn outcome(
     rt: &(impl Threads + Wait + Sync),
     alloc: Global,
     columns: &[&str],
 ) -> Result<String> {
-    let [_, words, disks, first, left, fails @ ..] = columns else {
+    let [_, commands, disks, first, left, fails @ ..] = columns else {
         return Err(anyhow!("a row of so many columns"));
     };
-    let words = words_of(alloc, words)?;
-    let (disk, header) = disks_of(alloc, disks, fails_in(fails, 0), fails_in(fails, 3))?;
-    let mut bay = bay_of(alloc, disk, header, fails_in(fails, 1))?;
-    let mut seeds = seeds_of(alloc, first, fails_in(fails, 2))?;
-    let mut out = ListSink::new(alloc, 4096, &[])?;
-    let words = words.as_slice();
-    let ended = run(rt, alloc, words, &mut bay, &mut seeds, &mut out, &OpenGate);
-    told(alloc, ended, &out, left)
+    let steps: Vec<&str> = commands.split(" ; ").collect(alloc)?;
+    let Some((words, steps)) = steps.as_slice().split_last() else {
+        return Err(anyhow!("a row without a command"));
+    };
+    let sizes = sizes_of(alloc, disks)?;
+    let (bytes, first) = left_before(rt, alloc, steps, first_byte(first)?, sizes)?;
+    let bay = last_bay(alloc, sizes, bytes.as_slice(), fails)?;
+    let seeds = seeds_of(alloc, first, fails_in(fails, 2))?;
+    last_told(rt, alloc, words, bay, seeds, left)
 }
