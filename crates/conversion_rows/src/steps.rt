@@ -1,0 +1,61 @@
+// The steps of a conversion.
+
+ghost use Rattle.std.specs.Prelude.{◌≡◌, ◌<◌};
+ghost use Rattle.conversion_rows.specs.Wishes.{HasText};
+ghost use Rattle.reenc_meta.specs.Placements.{all_atoms};
+ghost use Rattle.sector_disk.specs.Geometry.{IsDisk};
+
+use crate::wishes::has_offset;
+use anyhow::{Result, anyhow};
+use disk_sizes::Sizes;
+use luks_json::Meta;
+use luks_rules::Valid;
+use reenc_meta::{Reenc, Wish};
+use std::alloc::Global;
+
+/// Begins a conversion of a header's volume.
+#[tactic(auto, using(crate::proofs::WishLemmas::wish_of_header))]
+pub(crate) fn start_with(alloc: Global, valid: &Valid, wish: &Wish) -> Result<Meta>
+    requires disk { IsDisk valid.now.sizes.atom (all_atoms valid.now.sizes) }
+    requires text { HasText wish.now }
+{
+    let Some(idle) = valid.idle() else {
+        return Err(anyhow!("a conversion is under way"));
+    };
+    if !has_offset(wish, idle.segment.offset) {
+        return Err(anyhow!("a shift that is out of bounds"));
+    }
+    Ok(Reenc::start(alloc, Some(valid), valid.sizes(), wish)?)
+}
+
+/// Begins a conversion of a whole disk, which has no header.
+#[tactic(auto, using(crate::proofs::WishLemmas::wish_of_disk))]
+pub(crate) fn start_without(alloc: Global, sizes: Sizes, wish: &Wish) -> Result<Meta>
+    requires disk { IsDisk sizes.atom (all_atoms sizes) }
+    requires text { HasText wish.now }
+{
+    if !has_offset(wish, 0) {
+        return Err(anyhow!("a shift that is out of bounds"));
+    }
+    Ok(Reenc::start(alloc, None, sizes, wish)?)
+}
+
+/// Opens a zone of so many blocks, moves the boundary by so many, or ends a conversion, where that
+/// may be done.
+pub(crate) fn go_on(
+    alloc: Global,
+    reenc: &Reenc<'_>,
+    what: &str,
+    blocks: u64,
+) -> Result<Option<Meta>> {
+    if what == "open" && reenc.may_open(blocks) {
+        return Ok(Some(reenc.open_zone(alloc, blocks)?));
+    }
+    if what == "move" && reenc.may_move(blocks) {
+        return Ok(Some(reenc.move_boundary(alloc, blocks)?));
+    }
+    if what == "finish" && reenc.may_finish() {
+        return Ok(Some(reenc.finish(alloc)?));
+    }
+    Ok(None)
+}
