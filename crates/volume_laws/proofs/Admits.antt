@@ -37,7 +37,7 @@ module _ {K : Type 0} {state : State K} {plain : ℕ → List ℕ} {lane : ℕ} 
   idle free b value is = cc
 
   -- an operation that was admitted has done nothing yet
-  knows_nothing : {left : List Block} {o : Open} → plain lane ≡ [] → o.next ≡ o.range.start
+  pub knows_nothing : {left : List Block} {o : Open} → plain lane ≡ [] → o.next ≡ o.range.start
       → o.range.start ≤ o.range.end → o.settled ≡ false → o.failed ≡ false
       → LaneKnows state plain left lane o
   knows_nothing none first ordered unsettled unfailed = record {
@@ -77,7 +77,7 @@ module _ {K : Type 0} {state : State K} {plain : ℕ → List ℕ} {left : List 
 module _ {K : Type 0} {old new : State K} {lane session : ℕ} {ask : Ask} {outcome : Outcome}
     (is : IsAdmitted old lane session ask outcome new) where
   -- which entries hold stays when another enters
-  holds_admitted : (k : ℕ) → k ≢ lane → Holds old k → Holds new k
+  pub holds_admitted : (k : ℕ) → k ≢ lane → Holds old k → Holds new k
   holds_admitted k other holds = elim (either (has_lock ask)) [
     | inl has ↦ rw (rw has at is.enters).0
         (holds-more k old.entries (entry_of old.map.atom lane ask) (λ same. other (sym same)) holds)

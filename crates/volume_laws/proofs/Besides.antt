@@ -6,7 +6,7 @@ use Common.{MatchBool-at_false, MatchBool-at_true, either, blocks_of, Cell, Move
 use Common.{AreSettled, cell_in, value_in, IsOutside, Piece, Event, Outcome, admits, asks, broken}
 use Common.{device, done, finishes, got, reads, refused, settles, writes, ArePieceBytes, IsPieceOf}
 use Common.{place_of, Happening, IsSound, State, IsAdmitted, Meets, ReadStep, SettleStep, WriteStep}
-use Common.{Works, IsRun, last_of, Can, Step}
+use Common.{KeepsApart, IsRun, last_of, Can, Step}
 use Rattle.std.proofs.lemmas.List.{get_or_past}
 use Rattle.sector_disk.specs.Cells.{IsImage, IsThinned, wrote}
 use Rattle.disk_views.proofs.Entries.{changed-outside, image_in, length-blocks_of, length-image}
@@ -15,7 +15,7 @@ use Rattle.volume_machine.specs.declared.{ask.Ask.Ask, open.Open.Open}
 use Rattle.volume_machine.proofs.{EventEffects.event_effects, Soundness.sound_kept}
 use Rattle.volume_laws.specs.Rest.{IsBeside, KeepsCell, KeepsRest}
 use Rattle.volume_laws.proofs.{Invariant.live_back, Reading.AreLive, Reading.piece_place}
-use Rattle.volume_laws.proofs.{Reading.writes_lock, RunsServed.works_after}
+use Rattle.volume_laws.proofs.{Reading.writes_lock, RunsServed.apart_after}
 use Rattle.volume_laws.proofs.{VolumeStart.settled_cell, Workings.client_live, Writing.in_piece}
 
 -- an atom that stays is kept, and one that is kept twice
@@ -132,37 +132,37 @@ module _ {K : Type 0} (old new : State K) (lane : ℕ) where
   write_leaves o bytes _ begun live step = absurd step
 
 event_leaves : {K : Type 0} (old new : State K) (event : Event) (outcome : Outcome) → IsSound old
-    → Works old → Meets old event → Step old event outcome new
+    → KeepsApart old → Meets old event → Step old event outcome new
     → Leaves (IsBeside old) old.disk.told new.disk.told
 unfolding Can Step
-event_leaves old new (admits lane session ask) outcome sound works meets step =
+event_leaves old new (admits lane session ask) outcome sound apart meets step =
     leaves_none (ap (λ d. d.told) (admit_rests old new lane session ask outcome _ step))
-event_leaves old new (asks lane) outcome sound works meets (has, same) =
+event_leaves old new (asks lane) outcome sound apart meets (has, same) =
     leaves_none (ap (λ s. s.disk.told) same)
-event_leaves old new (reads lane len) outcome sound works meets (o, at, step) =
+event_leaves old new (reads lane len) outcome sound apart meets (o, at, step) =
     read_leaves old new lane o outcome step
-event_leaves old new (writes lane bytes) outcome sound works meets (o, at, step) =
+event_leaves old new (writes lane bytes) outcome sound apart meets (o, at, step) =
     let (p, is, can) = meets.can.0 in let same : p ≡ o = cc in
     write_leaves old new lane o bytes outcome (sound.under_way lane o at).begun
-    (λ whole. client_live lane sound works whole at (writes_lock o.ask (rw same at can.writes))
+    (λ whole. client_live lane sound apart whole at (writes_lock o.ask (rw same at can.writes))
     meets.can.1 meets.client) step
-event_leaves old new (settles lane) outcome sound works meets (o, at, step) =
+event_leaves old new (settles lane) outcome sound apart meets (o, at, step) =
     settle_leaves old new lane o outcome step
-event_leaves old new (finishes lane) outcome sound works meets step =
+event_leaves old new (finishes lane) outcome sound apart meets step =
     leaves_none (ap (λ d. d.told) step.rests)
 
 run_leaves : {K : Type 0} (start : State K) (run : List (Happening K)) → IsSound start
-    → Works start → IsRun start run
+    → KeepsApart start → IsRun start run
     → Leaves (IsBeside start) start.disk.told (last_of start run).disk.told
 unfolding IsRun last_of
-run_leaves start [] sound works is = leaves_none refl
-run_leaves start (one ∷ rest) sound works (meets, step, is) =
+run_leaves start [] sound apart is = leaves_none refl
+run_leaves start (one ∷ rest) sound apart (meets, step, is) =
     let goes = event_effects start one.after one.event one.outcome step in
     let after = sound_kept start one.after one.event one.outcome sound meets step in
-    let works_on = works_after one.outcome meets step works in
-    leaves_twice (event_leaves start one.after one.event one.outcome sound works meets step)
+    let apart_on = apart_after _ _ _ one.outcome meets step apart in
+    leaves_twice (event_leaves start one.after one.event one.outcome sound apart meets step)
     (λ now told.
-    let (before, was, keeps) = run_leaves one.after rest after works_on is now told in (
+    let (before, was, keeps) = run_leaves one.after rest after apart_on is now told in (
       before,
       was,
       λ place beside. keeps place (λ b live. rw goes.map
@@ -183,10 +183,10 @@ image_kept before now image place settled keeps is = elim (cases_lt place (lengt
 ]
 
 pub keeps_rest : {K : Type 0} (start : State K) (run : List (Happening K)) (now : Told)
-    → IsSound start → Works start → IsRun start run → (last_of start run).disk.told ≡ Some now
+    → IsSound start → KeepsApart start → IsRun start run → (last_of start run).disk.told ≡ Some now
     → KeepsRest start now
-keeps_rest start run now sound works is told =
-    let (before, was, keeps) = run_leaves start run sound works is now told in record {
+keeps_rest start run now sound apart is told =
+    let (before, was, keeps) = run_leaves start run sound apart is now told in record {
       before = before;
       was = was;
       cells = keeps;

@@ -286,7 +286,12 @@ module _ {K : Type 0} {old new : State K} {plain : ℕ → List ℕ} {left : Lis
         | inl own ↦ absurd (cc)
         | inr other ↦ shown.settled k p (sym (it.goes.lane_is.others k other) ∙ is) forced settled
             b from to atom (same.candidates (place_in old.map b) atom contains)
-      ]) (λ work is. zone_renewed seals left ended old.map.atom new.broken
-      next (it.works work is) is (λ b below. ended_newest b) (zone_kept old.map.atom work.layout
-      work.zone (texts_of seals left work) work.phase old.broken new.broken view next (λ whole.
-      (sym it.goes.broken_is ∙ whole, same.current)) same.candidates (shown.zone work is)))
+      ]) (λ work is. zone_renewed seals left ended new.broken
+      next (it.works work is) is (λ b below. ended_newest b) (record {
+        zone = zone_kept old.map.atom work.layout work.zone (texts_of old.map.atom seals left work)
+            work.phase old.broken new.broken view next
+            (λ whole. (sym it.goes.broken_is ∙ whole, same.current)) same.candidates
+            (shown.zone work is).zone;
+        part = (shown.zone work is).part;
+        apart = (shown.zone work is).apart;
+      }))

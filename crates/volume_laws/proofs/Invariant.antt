@@ -1,13 +1,17 @@
 -- What holds between the events of a run: of the operations under way, and of what the disk holds.
 use Rattle.volume_machine.proofs.Common
-use Common.{Bool, Contains, List, Option, Some, false, inl, inr, refl, subst, sym, true, ℕ, ◌+◌}
-use Common.{◌-◌, ◌<◌, ◌∙◌, ◌≡◌, ◌≢◌, ◌≤◌, either, same_or_not, AreBlocks, block_at, IsThinned, View}
+use Common.{Bool, Contains, List, Option, Some, false, inl, inr, length, refl, subst, sym, true, ℕ}
+use Common.{◌*◌, ◌+◌, ◌-◌, ◌<◌, ◌∙◌, ◌≡◌, ◌≢◌, ◌≤◌, either, same_or_not, AreBlocks, block_at}
+use Common.{IsThinned, View}
 use Common.{Entry, ShowsZone, zone_kept, Block, IsForced, IsRead, IsWrite, place_in, Seals, IsSound}
 use Common.{IsGoverned, IsLive, LaneBecomes, State, open_at, Goes, Holds, Work}
 use Rattle.volume_machine.specs.declared.open.Open.{Open}
 use Rattle.volume_laws.specs.Contents.{AreBlocksOf, IsAllowedAt, IsNow, IsSealed, IsTriedBy}
 use Rattle.volume_laws.specs.Contents.{block_in}
 use Rattle.volume_laws.specs.Texts.{texts_of}
+use Rattle.volume_laws.proofs.ToldApart.{TellsAtoms}
+use Rattle.disk_zones.specs.Zones.{Hotzone, Texts}
+use Rattle.volume_machine.specs.Works.{Part, wanted, fetched}
 
 -- the value of a block that is certain
 abbrev pub IsRight : List Block → ℕ → List ℕ → Type 0
@@ -38,10 +42,30 @@ pub record Logic {K : Type 0} (state : State K) (plain : ℕ → List ℕ) (left
     pub lanes : (lane : ℕ) (o : Open) → open_at state.lanes lane ≡ Some o
         → LaneKnows state plain left lane o
 
--- what the disk shows of the zone at hand
+-- a text is a part of a zone's values, of so many in all
+pub record IsPartOf (atom first total : ℕ) (values : ℕ → List ℕ) (text : List ℕ) : Type 0 where
+  pub count : ℕ
+  pub size : length text ≡ count * atom
+  pub within : first + count ≤ total
+  pub each : (k : ℕ) → k < count → block_at atom text k ≡ values (first + k)
+
+-- the part on its way is the zone's
+abbrev pub KnowsPart : ℕ → Texts → Hotzone (List ℕ) → Part → Type 0
+KnowsPart atom texts zone (wanted first) = Unit {0}
+KnowsPart atom texts zone (fetched first old) =
+    IsPartOf atom first zone.own.count texts.old old
+
+-- what the disk shows of the zone at hand, and what is known of the part on its way
+pub record ShowsAtHand (atom : ℕ) (seals : Seals) (left : List Block) (work : Work) (broken : Bool)
+    (view : View) : Type 0 where
+  pub zone : ShowsZone atom work.layout work.zone (texts_of atom seals left work) work.phase broken
+      view
+  pub part : KnowsPart atom (texts_of atom seals left work) work.zone work.part
+  pub apart : TellsAtoms atom (texts_of atom seals left work) work.zone work.phase
+
 abbrev pub ShowsWork : {K : Type 0} → State K → Seals → List Block → View → Type 0
-ShowsWork state seals left view = (work : Work) → state.work ≡ Some work → ShowsZone
-    state.map.atom work.layout work.zone (texts_of seals left work) work.phase state.broken view
+ShowsWork state seals left view = (work : Work) → state.work ≡ Some work
+    → ShowsAtHand state.map.atom seals left work state.broken view
 
 -- what holds of the disk: while nothing has failed it stands for what each block holds; each
 -- candidate is an allowed value; and of a write that is settled its own values alone are left
@@ -192,8 +216,8 @@ pub shown_by : {K : Type 0} {old new : State K} {now : ℕ → List ℕ} {left :
     → IsForced o.ask → o.settled ≡ true → (b : ℕ) → o.range.start ≤ b
     → b < o.range.end → (atom : List ℕ) → Contains (next.candidates (place_in old.map b)) atom
     → IsSealed old.map seals b (block_at old.map.atom (now lane) (b - o.range.start)) atom)
-    → ((work : Work) → old.work ≡ Some work → ShowsZone old.map.atom work.layout
-    work.zone (texts_of seals left work) work.phase new.broken next) → Shown new seals now left next
+    → ((work : Work) → old.work ≡ Some work
+    → ShowsAtHand old.map.atom seals left work new.broken next) → Shown new seals now left next
 shown_by {new = new} {now = now} {left = left} {seals = seals} {next = next} stays current
     candidates settled zone = record {
       current = λ whole b below. subst (λ m. (value : List ℕ) × IsNow new now left b value
@@ -226,8 +250,12 @@ module _ {K : Type 0} {old new : State K} {plain now : ℕ → List ℕ} {left :
       let sealed = shown.settled lane before was (rw ask forced) was_settled b (rw range from)
       (rw range to) atom (thinned (place_in old.map b) atom contains) in
       rw (known, ← range) sealed)
-      (λ work is. zone_kept old.map.atom work.layout work.zone (texts_of seals left work)
-      work.phase old.broken new.broken view next unbroken thinned (shown.zone work is))
+      (λ work is. record {
+        zone = zone_kept old.map.atom work.layout work.zone (texts_of old.map.atom seals left work)
+            work.phase old.broken new.broken view next unbroken thinned (shown.zone work is).zone;
+        part = (shown.zone work is).part;
+        apart = (shown.zone work is).apart;
+      })
 
   -- what the other lanes know stays
   pub knows_still : {lane : ℕ} {o : Open} → now lane ≡ plain lane

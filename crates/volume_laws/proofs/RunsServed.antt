@@ -1,10 +1,10 @@
 -- Runs of events: their operations are those of one plain disk, and a stop leaves what it allows.
 use Rattle.volume_machine.proofs.Common
-use Common.{Contains, List, Some, [], ap, arith, inl, inr, refl, subst, sym, ℕ, ◌++◌, ◌<◌}
+use Common.{Contains, List, Some, [], ap, arith, false, inl, inr, length, refl, subst, suc, sym, ℕ, ◌++◌, ◌<◌}
 use Common.{◌∙◌, ◌∷◌, ◌≡◌, cell_in, value_in, View, view_of_bytes, view_of_cells, Block, Exchange}
 use Common.{values_of, Legal, by_settle, IsRead, IsWrite, breaks, Event, Outcome, admits, asks}
 use Common.{finishes, reads, settles, writes, place_in, Happening, no_plain, Seals, State, open_at}
-use Common.{CanSettle, Meets, SettleStep, Works, AreExchanges, IsRun, answered_by, answered_in}
+use Common.{CanSettle, Holds, KeepsApart, Meets, SettleStep, Works, AreExchanges, IsRun, answered_by, answered_in}
 use Common.{last_of, plain_after, plain_in, Can, Step}
 use Rattle.std.proofs.lemmas.Bool.{or_parts}
 use Rattle.disk_views.proofs.{Entries.image_in, TableEntries.place_of_some}
@@ -19,7 +19,7 @@ use Rattle.volume_laws.proofs.{Admits.idle, Answering.legal_none, EndsServed.fin
 use Rattle.volume_laws.proofs.{Here.Here, Here.some_atom, Invariant.Shown, Invariant.TriesNothing}
 use Rattle.volume_laws.proofs.{OtherLanes.event_left, PlainBlocks.sure_in, Reading.reads_lock}
 use Rattle.volume_laws.proofs.{Reading.writes_lock, SealLemmas.length-sealed, Workings.client_live}
-use Rattle.volume_laws.proofs.{Workings.works_stay}
+use Rattle.volume_laws.proofs.{Workings.lies_on, Workings.works_apart, Workings.works_stay}
 
 settles_served : {K P Q : Type 0} {seals : Seals} {old new : State K} {plain : ℕ → List ℕ}
     {left : List Block} (lane : ℕ) (o : Open) (outcome : Outcome) (exchanges : List Exchange) →
@@ -33,17 +33,32 @@ settles_served lane o outcome
     lane exchanges here fine outcome (rw (forced_locks o.ask forced) at are) at forced whole step
 
 -- the zone at hand after an event of a client
-pub works_after : {K : Type 0} {old new : State K} {event : Event} (outcome : Outcome)
-    → Meets old event → Step old event outcome new → Works old → Works new
-works_after {old = old} {new = new} {event = event} outcome meets step works =
-    let goes = event_effects old new event outcome step in
-    works_stay (record { map = goes.map; work = goes.work }) (λ stays.
-    (or_parts old.broken (breaks event outcome) (sym goes.broken_is ∙ stays)).0) goes.lane_is.count
-    (λ lane last. let left = event_left old new event outcome lane step (λ same. omega arith) in
-    (left.own, left.holds)) works
+module _ {K : Type 0} (old new : State K) (event : Event) (outcome : Outcome)
+    (meets : Meets old event) (step : Step old event outcome new) where
+  unbroken_before : new.broken ≡ false → old.broken ≡ false
+  unbroken_before whole = let goes = event_effects old new event outcome step in
+      (or_parts old.broken (breaks event outcome) (sym goes.broken_is ∙ whole)).0
+
+  others_left : (lane : ℕ) → suc lane ≡ length old.lanes
+      → (open_at new.lanes lane ≡ open_at old.lanes lane) × (Holds old lane → Holds new lane)
+  others_left lane last =
+      let client = meets.client in
+      let left = event_left old new event outcome lane step (λ same. omega arith) in
+      (left.own, left.holds)
+
+  pub apart_after : KeepsApart old → KeepsApart new
+  apart_after keeps work is =
+      let goes = event_effects old new event outcome step in
+      lies_on (record { map = goes.map; work = goes.work }) unbroken_before goes.lane_is.count
+      others_left work (keeps work (sym goes.work ∙ is))
+
+  pub works_after : Works old → Works new
+  works_after works = let goes = event_effects old new event outcome step in
+      works_stay (record { map = goes.map; work = goes.work }) unbroken_before goes.lane_is.count
+      others_left goes.disk.atoms works
 
 -- each event
-event_served : {K P Q : Type 0} {seals : Seals} {old new : State K} {plain : ℕ → List ℕ}
+pub event_served : {K P Q : Type 0} {seals : Seals} {old new : State K} {plain : ℕ → List ℕ}
     {left : List Block} (event : Event) (outcome : Outcome) (exchanges : List Exchange) →
     Here P Q old seals plain left → IsFine new → Meets old event → Step old event outcome new
     → AreExchanges (answered_by old event outcome plain) exchanges →
@@ -58,13 +73,13 @@ event_served {old = old} (reads lane len) outcome exchanges here fine meets (o, 
     let (p, is, can) = meets.can.0 in let same : p ≡ o = cc in
     let reading = subst (λ q. IsRead q.ask) same can.reads in
     read_served lane exchanges here fine outcome are at reading (rw same at can.has) meets.can.1
-    (λ whole. client_live lane here.logic.sound here.works whole at (reads_lock o.ask reading)
+    (λ whole. client_live lane here.logic.sound (works_apart here.works) whole at (reads_lock o.ask reading)
     meets.can.1 meets.client) step
 event_served {old = old} (writes lane bytes) outcome exchanges here fine meets (o, at, step) are =
     let (p, is, can) = meets.can.0 in let same : p ≡ o = cc in
     let writing = subst (λ q. IsWrite q.ask) same can.writes in
     write_served lane exchanges here fine bytes outcome are at writing (rw same at can.has)
-    meets.can.1 (λ whole. client_live lane here.logic.sound here.works whole at
+    meets.can.1 (λ whole. client_live lane here.logic.sound (works_apart here.works) whole at
     (writes_lock o.ask writing) meets.can.1 meets.client) step
 event_served (settles lane) outcome exchanges here fine meets (o, at, step) are =
     let (p, is, can) = meets.can in let same : p ≡ o = cc in
@@ -114,7 +129,7 @@ run_served {seals = seals} {old = old} {plain = plain} {left = left} (one ∷ re
     seals one.after (plain_after seals old one.event one.outcome plain) rest) exchanges are in
     let served = event_served one.event one.outcome first here (record {
       sound = sound_kept old one.after one.event one.outcome here.logic.sound meets step;
-      works = works_after one.outcome meets step here.works;
+      works = works_after _ _ _ one.outcome meets step here.works;
     }) meets step are_first in
     let ran = run_served {old = one.after} {plain = plain_after seals old one.event
     one.outcome plain} {left = served.next} rest behind served.here is are_behind in record {

@@ -16,7 +16,7 @@ use Rattle.volume_laws.proofs.Invariant.{tried_stay, writes_stay}
 use Rattle.volume_laws.proofs.PlainBlocks.{block_in-flushed, newest_contained}
 use Rattle.volume_laws.proofs.Reading.{forced_writes, knows_on, knows_with, logic_goes_on}
 use Rattle.volume_laws.proofs.Reading.{tried_apart, writes_lock}
-use Rattle.volume_laws.proofs.Workings.{ended_live, zone_renewed}
+use Rattle.volume_laws.proofs.Workings.{ended_live, works_apart, zone_renewed}
 
 -- what a write that made all its pieces has tried of a block is what the block holds
 pub own_value : {K : Type 0} {state : State K} {plain : ℕ → List ℕ} {left : List Block}
@@ -43,7 +43,7 @@ own_value {state = state} {plain = plain} lane b value {o = o} logic some is wri
     }))
 
 -- all its pieces were made
-tried_whole : {K : Type 0} {state : State K} {plain : ℕ → List ℕ} {left : List Block} {lane : ℕ}
+pub tried_whole : {K : Type 0} {state : State K} {plain : ℕ → List ℕ} {left : List Block} {lane : ℕ}
     (b : ℕ) {o : Open} → LaneKnows state plain left lane o → o.next ≡ o.range.end → o.range.start
     ≤ b → b < o.range.end → suc (b - o.range.start) * state.map.atom ≤ length (plain lane)
 tried_whole b {o = o} knows whole from to =
@@ -90,18 +90,22 @@ module _ {K : Type 0} {old new : State K} {plain : ℕ → List ℕ} {left : Lis
       let p_to : b < p.range.end = rw range to in let knows = logic.lanes lane p at in
       let writes = forced_writes p.ask is_forced in
       let holds : Holds old lane = knows.holds (omega arith) in
-      let live = ended_live lane logic.sound works was at (writes_lock p.ask writes) holds
+      let live = ended_live lane logic.sound (works_apart works) was at (writes_lock p.ask writes) holds
       (omega arith) in
       let (value, is_now, sealed) = shown.current was b (live b p_from p_to) in
       let own = own_value lane b value logic some at writes holds p_from p_to
       (tried_whole b knows whole p_from p_to) is_now in
       rw (← range, ← own, synced.candidates (place_in old.map b) atom contains) sealed)
-      (λ work is. let texts = texts_of seals left work in
+      (λ work is. let texts = texts_of old.map.atom seals left work in
       zone_renewed seals left next_left
-      old.map.atom new.broken next (works work is) is (λ b below of. newest b below) (zone_whole
-      old.map.atom work.layout work.zone texts work.phase new.broken next (zone_stays old.map.atom
-      work.layout work.zone texts work.phase false view next (syncs synced) (subst (λ b. ShowsZone
-      old.map.atom work.layout work.zone texts work.phase b view) was (shown.zone work is)))))
+      new.broken next (works work is) is (λ b below of. newest b below) (record {
+        zone = zone_whole old.map.atom work.layout work.zone texts work.phase new.broken next
+            (zone_stays old.map.atom work.layout work.zone texts work.phase false view next
+            (syncs synced) (subst (λ b. ShowsZone old.map.atom work.layout work.zone texts
+            work.phase b view) was (shown.zone work is).zone));
+        part = (shown.zone work is).part;
+        apart = (shown.zone work is).apart;
+      }))
 
 -- what a lane knows of other blocks of the plain disk, where those that it has read are the same
 pub knows_renewed : {K : Type 0} {state : State K} {plain : ℕ → List ℕ} {left next : List Block}

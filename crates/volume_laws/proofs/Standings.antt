@@ -4,12 +4,14 @@ use Rattle.volume_machine.proofs.Common.{subst, sym, ℕ, ◌+◌, ◌-◌, ◌<
 use Rattle.volume_machine.proofs.Common.{Cell, AreBlocks, block_at, value_in, Side, New, Old, Zone}
 use Rattle.volume_machine.proofs.Common.{Map, Resilience, checksum, datashift, journal, Block}
 use Rattle.volume_machine.proofs.Common.{place_in, side_in, AreLawful, Seals, IsLive, State, Work}
-use Rattle.disk_areas.specs.{Areas.Image, Areas.content_of, Headers.IsReader}
+use Rattle.disk_areas.specs.{Areas.Image, Areas.content_of, Areas.text_in, Headers.IsReader}
 use Rattle.disk_areas.proofs.HeadersGiven.{header_is_one}
-use Rattle.disk_zones.specs.Standing.{Hash, Recovers, TellsDigest}
+use Rattle.disk_zones.specs.Standing.{Hash, Recovers, TellsDigest, digest_at}
 use Rattle.volume_laws.specs.Contents.{IsAllowedAt, IsNow, IsSealed, StandsNow, StopsAllowed}
-use Rattle.volume_laws.specs.Standing.{AtomStands, BlockStands, Content, IsInZone, Reading}
-use Rattle.volume_laws.specs.Standing.{StandsAllowed, StandsForNow, StandsUnder, atoms_of}
+use Rattle.volume_laws.specs.Standing.{AtomStands, BlockStands, Content, IsInZone}
+use Rattle.volume_machine.specs.Readings.{Reading}
+use Rattle.volume_laws.specs.Standing.{StandsAllowed, StandsForNow, StandsUnder}
+use Rattle.volume_laws.specs.Texts.{atoms_of}
 use Rattle.volume_laws.proofs.VolumeStart.{one_value}
 
 module _ {atom : ℕ} {seals : Seals} (lawful : AreLawful atom seals) where
@@ -39,12 +41,19 @@ module _ {atom : ℕ} {seals : Seals} (lawful : AreLawful atom seals) where
   recovers_one : (resilience : Resilience) (hash : Hash) (work : Work) (image : Image) (i b : ℕ)
       (one other : Content) → work.range.start + i ≡ b → AreBlocks atom 1 (one b)
       → AreBlocks atom 1 (other b)
-      → Recovers resilience hash work.zone (atoms_of seals one work) image i
-      → Recovers resilience hash work.zone (atoms_of seals other work) image i → one b ≡ other b
+      → Recovers resilience hash work.zone (atoms_of atom seals one work) image i
+      → Recovers resilience hash work.zone (atoms_of atom seals other work) image i → one b ≡ other b
   recovers_one journal hash work image i b one other place are also tells tells_also =
-      sealed_one Old b are also (rw place at (sym tells ∙ tells_also))
+      sealed_one Old b are also (subst (λ n. seals.sealed Old n (one n)
+      ≡ seals.sealed Old n (other n)) place (sym tells ∙ tells_also))
   recovers_one checksum hash work image i b one other place are also tells tells_also =
-      digest_tells b are also (rw place at tells) (rw place at tells_also)
+      digest_tells b are also
+      (subst (λ n. TellsDigest hash (digest_at hash (text_in image work.zone.store) i)
+      (image (work.zone.own.start + i)) (seals.sealed Old n (one n)) (seals.sealed New n (one n)))
+      place tells)
+      (subst (λ n. TellsDigest hash (digest_at hash (text_in image work.zone.store) i)
+      (image (work.zone.own.start + i)) (seals.sealed Old n (other n))
+      (seals.sealed New n (other n))) place tells_also)
   recovers_one datashift hash work image i b one other place are also tells tells_also =
       absurd tells
 
@@ -83,7 +92,7 @@ stands_for_one reading atoms seals map (Some work) image one other is_reader law
     (also.stands b below))
 
 -- values of blocks, chosen one by one, are a content
-chosen : (n : ℕ) (P : ℕ → List ℕ → Type 0) → ((b : ℕ) → b < n → (value : List ℕ) × P b value)
+pub chosen : (n : ℕ) (P : ℕ → List ℕ → Type 0) → ((b : ℕ) → b < n → (value : List ℕ) × P b value)
     → (content : Content) × ((b : ℕ) → b < n → P b (content b))
 chosen n P each = (λ b. pick b (cases_lt b n), λ b below. picked b (cases_lt b n) below)
   where

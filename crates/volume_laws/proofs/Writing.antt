@@ -322,7 +322,7 @@ module _ {K : Type 0} {old new : State K} {seals : Seals} {plain : ℕ → List 
           piece_place o it.is_piece j lt,
           same,
           below,
-          (it.works work is).away (o.next + j) (it.live (o.next + j) (omega
+          (it.works work is).lies.away (o.next + j) (it.live (o.next + j) (omega
               (arith, (it.logic.sound.under_way lane o it.at).begun)) (omega arith)) area of,
         ))
         | inr outside ↦ outside
@@ -330,9 +330,9 @@ module _ {K : Type 0} {old new : State K} {seals : Seals} {plain : ℕ → List 
 
   was_shown : {view : View} → Shown old seals plain left view → (work : Work)
       → old.work ≡ Some work → ShowsZone old.map.atom work.layout work.zone
-      (texts_of seals left work) work.phase false view
+      (texts_of old.map.atom seals left work) work.phase false view
   was_shown {view = view} shown work is = subst (λ b. ShowsZone old.map.atom work.layout work.zone
-      (texts_of seals left work) work.phase b view) it.whole (shown.zone work is)
+      (texts_of old.map.atom seals left work) work.phase b view) it.whole (shown.zone work is).zone
 
   -- a piece was written
   pub shown_written : (view after : View)
@@ -340,10 +340,15 @@ module _ {K : Type 0} {old new : State K} {seals : Seals} {plain : ℕ → List 
       → Shown old seals plain left view → Shown new seals now left after
   shown_written view after written shown = shown_by (goes_stays it.goes)
       (λ whole. written_current written shown) (tried_candidates written.tried shown) (tried_settled
-      written.tried shown) (λ work is. zone_whole old.map.atom work.layout work.zone (texts_of
-      seals left work) work.phase new.broken after (zone_stays old.map.atom work.layout work.zone
-      (texts_of seals left work) work.phase false view after (writes_beside old.map.atom (place_of
-      old.map piece) piece.count bytes (piece_away work is) written) (was_shown shown work is)))
+      written.tried shown) (λ work is. record {
+        zone = zone_whole old.map.atom work.layout work.zone (texts_of old.map.atom seals left work)
+            work.phase new.broken after (zone_stays old.map.atom work.layout work.zone
+            (texts_of old.map.atom seals left work) work.phase false view after
+            (writes_beside old.map.atom (place_of old.map piece) piece.count bytes
+            (piece_away work is) written) (was_shown shown work is));
+        part = (shown.zone work is).part;
+        apart = (shown.zone work is).apart;
+      })
 
   -- a write of a piece failed
   pub shown_tried : (view after : View)
@@ -351,6 +356,10 @@ module _ {K : Type 0} {old new : State K} {seals : Seals} {plain : ℕ → List 
       → new.broken ≡ true → Shown old seals plain left view → Shown new seals now left after
   shown_tried view after tried broken shown = shown_by (goes_stays it.goes)
       (λ whole. absurd (cc)) (tried_candidates tried shown) (tried_settled tried shown)
-      (λ work is. rw broken (zone_stays old.map.atom work.layout work.zone (texts_of seals left
-      work) work.phase true view after (write_fails_beside old.map.atom (place_of old.map piece)
-      piece.count bytes (piece_away work is) tried) (was_shown shown work is)))
+      (λ work is. rw broken (record {
+        zone = zone_stays old.map.atom work.layout work.zone (texts_of old.map.atom seals left work)
+            work.phase true view after (write_fails_beside old.map.atom (place_of old.map piece)
+            piece.count bytes (piece_away work is) tried) (was_shown shown work is);
+        part = (shown.zone work is).part;
+        apart = (shown.zone work is).apart;
+      }))

@@ -1,7 +1,11 @@
 pub mod Contents
+pub mod Converting
 pub mod Executing
+pub mod Handing
+pub mod Imaging
 pub mod Lanes
 pub mod Promises
 pub mod Rest
 pub mod Texts
 pub mod Standing
+pub mod Faulting

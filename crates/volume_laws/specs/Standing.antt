@@ -3,10 +3,9 @@
 -- image has.
 use Rattle.std.specs.Prelude.{ℕ, ◌≡◌, ◌+◌, ◌-◌, ◌<◌, ◌≤◌, List, Option, Some, None}
 use Rattle.disk_areas.specs.Areas.{Image, content_of}
-use Rattle.disk_areas.specs.Headers.{Reader, Gives}
+use Rattle.disk_areas.specs.Headers.{Gives}
 use Rattle.disk_views.specs.Parts.{AreBlocks, block_at, value_in}
-use Rattle.disk_zones.specs.Standing.{Hash, Recovers}
-use Rattle.disk_zones.specs.Zones.{Texts}
+use Rattle.disk_zones.specs.Standing.{Recovers}
 use Rattle.plain_disk.specs.Plain.{Block}
 use Rattle.sector_disk.specs.Cells.{Cell, IsImage}
 use Rattle.segment_map.specs.Maps.{place_on}
@@ -14,28 +13,16 @@ use Rattle.segment_map.specs.declared.Side.{Side}
 use Rattle.segment_map.specs.declared.Side.TheVariants.{Old, New, Zone}
 use Rattle.segment_map.specs.declared.map.Map.{Map}
 use Rattle.volume_laws.specs.Contents.{IsSealed, IsNow, IsAllowedAt}
+use Rattle.volume_laws.specs.Texts.{atoms_of}
 use Rattle.volume_machine.specs.Pieces.{side_in, place_in}
 use Rattle.volume_machine.specs.Seals.{Seals}
+use Rattle.volume_machine.specs.Readings.{Reading}
 use Rattle.volume_machine.specs.States.{State}
 use Rattle.volume_machine.specs.Works.{Work}
 
 -- by block, the bytes that it holds in plain
 abbrev pub Content : Type 0
 Content = ℕ → List ℕ
-
--- how headers are read, the map that one gives, and the hash of saved digests
-pub record Reading : Type 0 where
-  pub reader : Reader (List ℕ)
-  pub map_of : List ℕ → Map
-  pub hash : Hash
-
--- the atoms of the blocks of a zone, on either side
-abbrev pub atoms_of : Seals → Content → Work → Texts
-atoms_of seals content work = record {
-  old = λ i. seals.sealed Old (work.range.start + i) (content (work.range.start + i));
-  new = λ i. seals.sealed New (work.range.start + i) (content (work.range.start + i));
-  saved = λ i. value_in work.saved i;
-}
 
 -- a block stands for its content: on the old side and on the new one as its atom there, in an open
 -- zone as what was saved tells
@@ -45,8 +32,8 @@ AtomStands reading map seals work image content b Old =
 AtomStands reading map seals work image content b New =
     image (place_on map b New) ≡ seals.sealed New b (content b)
 AtomStands reading map seals work image content b Zone =
-    Recovers work.zone.resilience reading.hash work.zone (atoms_of seals content work) image
-    (b - work.range.start)
+    Recovers work.zone.resilience reading.hash work.zone (atoms_of map.atom seals content work)
+    image (b - work.range.start)
 
 -- a block of an open zone is one of the zone at hand, at its old place
 pub record IsInZone (map : Map) (work : Work) (b : ℕ) : Type 0 where

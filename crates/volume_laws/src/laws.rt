@@ -6,7 +6,14 @@ ghost use Rattle.std.specs.Prelude.{◌≡◌, ◌≢◌, ◌<◌, ◌≤◌, �
 ghost use Rattle.std.specs.Prelude.{length, None, Some};
 ghost use Rattle.disk_areas.specs.Headers.{IsReader};
 ghost use Rattle.sector_disk.specs.Cells.{Cell};
-ghost use Rattle.volume_laws.specs.Standing.{Reading, Stands, StandsAllowed, StandsForNow};
+ghost use Rattle.volume_laws.specs.Standing.{Stands, StandsAllowed, StandsForNow};
+ghost use Rattle.volume_laws.specs.Converting.{IsInOrder, KeepsBlock, ServesBeside};
+ghost use Rattle.volume_laws.specs.Faulting.{GoesByAnswer};
+ghost use Rattle.volume_laws.specs.Imaging.{NowBeside, StopsBeside};
+ghost use Rattle.volume_machine.specs.Courses.{Courses};
+ghost use Rattle.volume_machine.specs.Deeds.{AreDeeds, Deed, state_after};
+ghost use Rattle.volume_machine.specs.WorkSteps.{Worked, WorkStep};
+ghost use Rattle.volume_machine.specs.Readings.{Reading};
 ghost use Rattle.cipher_laws.specs.Bytes.{AreBytes};
 ghost use Rattle.plain_disk.specs.Plain.{Block, Exchange};
 ghost use Rattle.sector_disk.specs.Geometry.{IsAtom};
@@ -30,7 +37,7 @@ ghost use Rattle.volume_machine.specs.Seals.{Seals, AreLawful, seals_of};
 ghost use Rattle.volume_machine.specs.Sound.{IsSound, AreApart};
 ghost use Rattle.volume_machine.specs.Asks.{has_lock};
 ghost use Rattle.volume_machine.specs.States.{State, IsClient, IsLive, open_at};
-ghost use Rattle.volume_machine.specs.Working.{Works};
+ghost use Rattle.volume_machine.specs.Working.{KeepsApart, Works};
 ghost use Rattle.volume_machine.specs.declared.open.Open.{Open};
 ghost use Rattle.volume_machine.specs.Steps.{Step, Meets, Holds};
 ghost use Rattle.volume_machine.specs.Beginnings.{IsWholeDisk};
@@ -53,6 +60,66 @@ use cipher_laws::SectorCipher;
 /// and whose disk tells its bytes and stands for the given blocks.
 pub fn every_run_is_served<C: SectorCipher>()
     ensures { (start : State (Keys C)) (seals : Seals) → ServesEachRun start seals }
+{}
+
+/// The operations of every run of deeds, events of clients on whatever lanes and steps of the worker
+/// in whatever order, are those of one plain disk that was asked one history, whatever is converted
+/// meanwhile. While no write or sync has failed each live block holds its newest value, with those
+/// of unfinished writes over it; and where a run stops, what the disk may hold is allowed.
+///
+/// It speaks of a volume with a header, of which no zone is at hand, whose disk holds both copies of
+/// the header and stands for the given blocks.
+pub fn every_conversion_is_served<C: SectorCipher>()
+    ensures { (reading : Reading) (start : State (Keys C)) (seals : Seals) →
+        ServesBeside reading start seals }
+{}
+
+/// Wherever a run of deeds stops, each image of what the disk may hold stands, by the header that is
+/// chosen in it, for a content that is allowed: each block holds its last flushed value, one written
+/// since, or one that an unfinished write has tried. While nothing has failed the current bytes stand
+/// by theirs for what each block holds. So it is in each phase of a zone, in both directions, and by
+/// each resilience, where digests are those of SHA-256.
+///
+/// It speaks of images in which no copy of the header is torn and none stands in front of the second
+/// one.
+pub fn conversions_stand_where_they_stop<C: SectorCipher>()
+    ensures stops { (reading : Reading) (start : State (Keys C)) (seals : Seals) →
+        StopsBeside reading start seals }
+    ensures now { (reading : Reading) (start : State (Keys C)) (seals : Seals) →
+        NowBeside reading start seals }
+{}
+
+/// While a client's operation holds a block, no step of the worker changes its side, its place or
+/// the keys.
+pub fn conversions_keep_held_blocks<C: SectorCipher>()
+    ensures { (reading : Reading) (seals : Seals) (old new : State (Keys C)) (worked : Worked) →
+        Courses reading old → IsSound old → Works old → WorkStep reading seals old new worked →
+        (lane : ℕ) (o : Open) → IsClient old lane → open_at old.lanes lane ≡ Some o →
+        has_lock o.ask ≡ true → Holds old lane → (b : ℕ) → o.range.start ≤ b → b < o.range.end →
+        KeepsBlock old new b }
+{}
+
+/// The worker breaks a volume only where a call of it failed, so that the count of faults rose. Where
+/// a step failed and the volume isn't broken, and where a step was hindered, the volume stays in use
+/// as it was: no zone is at hand. A broken volume is left broken, without a device call.
+pub fn workers_break_by_faults<C: SectorCipher>()
+    ensures { (reading : Reading) (seals : Seals) (old new : State (Keys C)) (worked : Worked) →
+        WorkStep reading seals old new worked → GoesByAnswer old new worked }
+{}
+
+/// What holds of a volume with a header between two deeds, its locks, its zone at hand, its headers
+/// and its map, holds after each step of the worker, and after each event of a client that meets its
+/// conditions; so it does wherever a run of both ends.
+pub fn workers_keep_volumes_sound<C: SectorCipher>()
+    ensures steps { (reading : Reading) (seals : Seals) (old new : State (Keys C))
+        (worked : Worked) → IsInOrder reading old → WorkStep reading seals old new worked →
+        IsInOrder reading new }
+    ensures events { (reading : Reading) (old new : State (Keys C)) (event : Event)
+        (outcome : Outcome) → IsInOrder reading old → Meets old event →
+        Step old event outcome new → IsInOrder reading new }
+    ensures runs { (reading : Reading) (seals : Seals) (start : State (Keys C))
+        (deeds : List (Deed (Keys C))) → IsInOrder reading start →
+        AreDeeds reading seals start deeds → IsInOrder reading (state_after start deeds) }
 {}
 
 /// An operation has failed exactly where one of its events answered that the device failed or the
@@ -93,14 +160,17 @@ pub fn events_leave_other_lanes<C: SectorCipher>()
 {}
 
 /// An event of a client leaves the zone at hand: it is held, and lies apart from all other blocks,
-/// as before. What a client's lane holds while nothing has failed is live, so its pieces lie beside
-/// the zone; and a live block is on the old side or on the new one, never in an open zone.
+/// as before, and what the steps of a worker ask of it besides goes on to hold. What a client's lane
+/// holds while nothing has failed is live, so its pieces lie beside the zone; and a live block is on
+/// the old side or on the new one, never in an open zone.
 pub fn events_leave_the_zone<C: SectorCipher>()
     ensures stays { (old new : State (Keys C)) (event : Event) (outcome : Outcome) →
-        Meets old event → Step old event outcome new → Works old →
-        Works new × (new.work ≡ old.work) }
-    ensures live { (state : State (Keys C)) (lane : ℕ) (o : Open) → IsSound state → Works state →
-        state.broken ≡ false → open_at state.lanes lane ≡ Some o → has_lock o.ask ≡ true →
+        Meets old event → Step old event outcome new → KeepsApart old →
+        KeepsApart new × (new.work ≡ old.work) }
+    ensures works { (old new : State (Keys C)) (event : Event) (outcome : Outcome) →
+        Meets old event → Step old event outcome new → Works old → Works new }
+    ensures live { (state : State (Keys C)) (lane : ℕ) (o : Open) → IsSound state →
+        KeepsApart state → state.broken ≡ false → open_at state.lanes lane ≡ Some o → has_lock o.ask ≡ true →
         Holds state lane → IsClient state lane →
         (b : ℕ) → o.range.start ≤ b → b < o.range.end → IsLive state b }
     ensures sides { (state : State (Keys C)) (b : ℕ) → IsSound state → IsLive state b →
@@ -174,7 +244,7 @@ pub fn tables_are_of_events<C: SectorCipher>()
 /// places are kept too, and the areas that its steps reach: what these write is no event of a run.
 pub fn runs_leave_the_rest<C: SectorCipher>()
     ensures { (start : State (Keys C)) (run : List (Happening (Keys C))) (now : Told) →
-        IsSound start → Works start → IsRun start run →
+        IsSound start → KeepsApart start → IsRun start run →
         (last_of start run).disk.told ≡ Some now → KeepsRest start now }
 {}
 

@@ -80,7 +80,7 @@ pub use Rattle.volume_machine.specs.Steps.{AdmitStep, CanRead, CanSettle, CanWri
 pub use Rattle.volume_machine.specs.Steps.{GetsPiece, Goes, Has, HasPiece, Holds, IsAdmitted}
 pub use Rattle.volume_machine.specs.Steps.{IsReadyFor, Meets, ReadStep, SettleStep, TellsStanding}
 pub use Rattle.volume_machine.specs.Steps.{WriteStep, after_settle}
-pub use Rattle.volume_machine.specs.Working.{HoldsZone, IsWorking, Works}
+pub use Rattle.volume_machine.specs.Working.{HoldsZone, IsWorking, KeepsApart, LiesApart, Works}
 pub use Rattle.volume_machine.specs.Works.{Work}
 pub use Rattle.volume_machine.specs.declared.{ask.Ask.Ask, ask.Ask.TheVariants.Flush}
 pub use Rattle.volume_machine.specs.declared.{ask.Ask.TheVariants.Read, ask.Ask.TheVariants.Write}

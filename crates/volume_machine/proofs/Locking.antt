@@ -214,3 +214,9 @@ holders-apart one other e f entries differ is_e is_f one_holds other_holds both 
     let same_e : by_one.entry ≡ e = cc in let same_f : by_other.entry ≡ f = cc in
     apart_by one other e f entries differ is_e is_f
     (rw same_e at by_one.free) (rw same_f at by_other.free) both
+
+-- where the lane has no entry all stay
+pub without-none : (lane : ℕ) (xs : List Entry) → find (is_of lane) xs ≡ None
+    → without lane xs ≡ xs
+without-none lane [] none = refl
+without-none lane (x ∷ xs) none = grind (arith, without-none lane xs)

@@ -13,7 +13,7 @@ use Rattle.std.proofs.lemmas.Grind.{common_steps}
 use Rattle.plain_disk.proofs.RangeLemmas.{blocks_within, range_of_proper}
 use Rattle.volume_machine.proofs.Locking.{after-last, after-more, after-none, after-without}
 use Rattle.volume_machine.proofs.Locking.{find-last, find-left, find-more, find-without}
-use Rattle.volume_machine.proofs.Locking.{is_of-other, is_of-own, length-without}
+use Rattle.volume_machine.proofs.Locking.{is_of-other, is_of-own, length-without, without-none}
 
 -- one where a lane's operation has an entry
 abbrev ones : Option Open → ℕ
@@ -203,8 +203,22 @@ module _ {K : Type 0} {old : State K} (sound : IsSound old) where
         under_way = λ o no. absurd (cc);
       }
 
+-- a lane's operation ended, if it had one
+pub sound_freed : {K : Type 0} {old new : State K} {lane : ℕ} {is_broken : Bool} → IsSound old
+    → Goes old new lane (without lane old.entries) None is_broken
+    → new.disk.atoms ≡ old.disk.atoms
+    → ((o : Open) → open_at old.lanes lane ≡ Some o → has_lock o.ask ≡ true) → IsSound new
+sound_freed {old = old} {new = new} {lane = lane} sound goes atoms locks =
+    by (open_at old.lanes lane) refl
+  where
+    by : (o : Option Open) → open_at old.lanes lane ≡ o → IsSound new
+    by (Some o) at = sound_becomes sound goes atoms (leaves sound lane o at (locks o at))
+    by None at = sound_becomes sound goes atoms
+        (rw (without-none lane old.entries (sound.entries lane ∙ rw at refl))
+        (stays sound (rw at refl) (rw at refl) (λ o none. absurd (cc))))
+
 module _ {K : Type 0} {old : State K} (new : State K) (lane : ℕ) (sound : IsSound old) where
-  sound_admitted : (session : ℕ) (ask : Ask) (outcome : Outcome) → open_at old.lanes lane ≡ None
+  pub sound_admitted : (session : ℕ) (ask : Ask) (outcome : Outcome) → open_at old.lanes lane ≡ None
       → wrong_ask old.map.atom (size_of old.map) ask ≡ None
       → IsAdmitted old lane session ask outcome new → IsSound new
   sound_admitted session ask outcome free proper is =

@@ -47,7 +47,7 @@ use Rattle.volume_machine.specs.Runs.{Happening, IsRun, last_of}
 use Rattle.volume_machine.specs.Seals.{Seals, seals_of}
 use Rattle.volume_machine.specs.Sound.{IsSound}
 use Rattle.volume_machine.specs.States.{IsGoverned, State}
-use Rattle.volume_machine.specs.Working.{Works}
+use Rattle.volume_machine.specs.Working.{KeepsApart}
 use Rattle.volume_machine.specs.declared.keys.Keys.{Keys}
 use Rattle.volume_machine.specs.Works.{Work}
 use Rattle.volume_opening.proofs.KeyLemmas.{its_idle, one_idle}
@@ -174,7 +174,7 @@ module _ {C : Type 0} (sector : C → ℕ) (sealed opened : C → ℕ → List �
       (subst (λ (m : Parts). IsPlacementOf m sizes p) meta_same is.still.opening.placed) in
       (key_now areas p.old _ was.0, key_now areas p.new _ was.1)
 
-  module _ (rest : (run : List (Happening (Keys C))) (now : Told) → IsSound volume → Works volume
+  module _ (rest : (run : List (Happening (Keys C))) (now : Told) → IsSound volume → KeepsApart volume
       → IsRun volume run → (last_of volume run).disk.told ≡ Some now → KeepsRest volume now)
       (goes : (earlier later : List (Happening (Keys C))) → IsFresh volume
       → IsRun volume (earlier ++ later) → GoesByEvents volume earlier)
