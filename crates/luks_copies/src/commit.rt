@@ -167,6 +167,13 @@ impl Commit {
         self.second.as_slice()
     }
 
+    /// How many of its device calls are done.
+    pub fn stage(&self) -> Stage
+        ensures { result ≡ self.now.stage }
+    {
+        self.stage
+    }
+
     /// Whether no device call may follow: all are made, or one has failed.
     pub fn is_over(&self) -> bool
         ensures { IsTrue result ↔ (self.now.stage ≡ Ended) }

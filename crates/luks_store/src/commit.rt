@@ -25,7 +25,7 @@ use crate::loaded::{Loaded, judge};
 use base_terms::{Bytes, Failed};
 use disk_sizes::Sizes;
 use luks_bin::{BinHeader, copies_are_spelt};
-use luks_copies::CommitError;
+use luks_copies::{CommitError, Stage};
 use luks_json::Meta;
 use sector_disk::Disk;
 use std::alloc::{AllocError, Global};
@@ -209,6 +209,13 @@ impl Commit {
     {
         copies_are_spelt();
         let _prepared = &self.prepared;
+    }
+
+    /// How many of its device calls are done.
+    pub fn stage(&self) -> Stage
+        ensures { result ≡ stage_in self.now.copies }
+    {
+        self.prepared.copies.stage()
     }
 
     /// Whether no device call may follow: all are made, or one has failed.

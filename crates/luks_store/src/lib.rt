@@ -26,4 +26,4 @@ pub use laws::{
     commits_begin, headers_stand_in_front, metadata_go_by_meaning, used_copies_are_headers,
 };
 pub use loaded::{Loaded, Stored, load};
-pub use luks_copies::{CommitError, Repair};
+pub use luks_copies::{CommitError, Repair, Stage};
