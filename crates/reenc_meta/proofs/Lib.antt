@@ -9,13 +9,13 @@ mod WholeLemmas
 mod RoomLemmas
 mod StateLemmas
 mod RuleLemmas
-mod GoLemmas
+pub mod GoLemmas
 mod FilterLemmas
 mod TokenLemmas
 mod FinishLemmas
 mod LoopLemmas
 mod ReadOffLemmas
-mod StepLemmas
+pub mod StepLemmas
 mod InsertLemmas
 mod LayoutLemmas
 mod OnwardLemmas
