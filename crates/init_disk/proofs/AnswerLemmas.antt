@@ -5,6 +5,7 @@ use Rattle.base_terms.specs.declared.failed.Failed.{Failed}
 use Rattle.disk_sizes.specs.declared.Sizes.{Sizes}
 use Rattle.header_report.proofs.ExamineLemmas.{whole_front}
 use Rattle.header_report.specs.Examinations.{sizes_alone}
+use Rattle.init_disk.proofs.ThroughoutLemmas.{throughout}
 use Rattle.init_disk.specs.Answers.{IsBegunUnder, IsUnmadeUnder, IsUnopenedUnder, IsUnstartedBy}
 use Rattle.init_disk.specs.Calls.{IsBegunOf, IsUnbegunOf, IsUnmadeOf, IsUnopenedOf}
 use Rattle.init_disk.specs.Unlocking.{IsLockedBy, IsNotLinear, IsUnlockedOn, is_linear}
@@ -17,7 +18,9 @@ use Rattle.luks_store.specs.Loads.{stored_in}
 use Rattle.luks_store.specs.declared.loaded.Stored.{Stored}
 use Rattle.reenc_recovery.specs.Causes.{IsCauseIn}
 use Rattle.reenc_recovery.specs.declared.fault.OpenCause.{OpenCause}
+use Rattle.sector_disk.specs.Cells.{content}
 use Rattle.sector_disk.specs.Devices.{Device, failed_call}
+use Rattle.sector_disk.specs.Steps.{Told}
 use Rattle.volume_opening.proofs.OpenedLemmas.{refused_key, same_sizes, same_stored, under_key}
 use Rattle.volume_opening.proofs.ReadLemmas.{keeps_on}
 use Rattle.volume_opening.proofs.ShortLemmas.{short_under}
@@ -96,69 +99,81 @@ locked_so device disk back w pass seed refusals.Writing is = absurd is
 module _ (device read : Device) (w : Wish) (pass seed : List ℕ) (key : Option (List ℕ))
     (unlocked : IsUnlockedOn device pass key read)
     (long : (all : List ℕ) → device.values ≡ Some all
-    → length all ≡ device.atoms * device.size) where
-  sizes_same : sizes_alone read ≡ sizes_alone device
-  sizes_same = same_sizes device read unlocked.unwritten
+    → length all ≡ device.atoms * device.size)
+    (agrees : (told : Told) → device.told ≡ Some told → device.values ≡ Some (content told.now))
+  where
+    sizes_same : sizes_alone read ≡ sizes_alone device
+    sizes_same = same_sizes device read unlocked.unwritten
 
-  pub begun_under : (back : Device) (result : Result (Unit {0}) Failed)
-      → IsBegunOf (sizes_alone read) key w pass seed read back result
-      → IsBegunUnder device w pass seed back result
-  begun_under back result is = record {
-    key = key;
-    read = read;
-    unlocked = unlocked;
-    begun = subst (λ (z : Sizes). IsBegunOf z key w pass seed read back result) sizes_same is;
-  }
+    pub begun_under : (back : Device) (result : Result (Unit {0}) Failed)
+        → IsBegunOf (sizes_alone read) key w pass seed read back result
+        → IsBegunUnder device w pass seed back result
+    begun_under back result is_read =
+        let is = subst (λ (z : Sizes). IsBegunOf z key w pass seed read back result) sizes_same
+        is_read in
+        record {
+          key = key;
+          read = read;
+          unlocked = unlocked;
+          begun = is;
+          tables = λ first told.
+              throughout (sizes_alone device) pass first is.header is.slot device read is.between back
+              unlocked.unwritten is.opened (is.tables first (unlocked.unwritten.values ∙ told)) agrees
+              told;
+        }
 
-  pub unmade_under : (back : Device) (fault : MakeFault)
-      → IsUnmadeOf (sizes_alone read) w pass seed read back fault
-      → IsUnmadeUnder device w pass seed fault back
-  unmade_under back fault is = record {
-    key = key;
-    read = read;
-    unlocked = unlocked;
-    unmade = subst (λ (z : Sizes). IsUnmadeOf z w pass seed read back fault) sizes_same is;
-  }
+    pub unmade_under : (back : Device) (fault : MakeFault)
+        → IsUnmadeOf (sizes_alone read) w pass seed read back fault
+        → IsUnmadeUnder device w pass seed fault back
+    unmade_under back fault is = record {
+      key = key;
+      read = read;
+      unlocked = unlocked;
+      unmade = subst (λ (z : Sizes). IsUnmadeOf z w pass seed read back fault) sizes_same is;
+    }
 
-  -- a disk that tells its bytes has this header and this key
-  refused : (back : Device) (cause : OpenCause)
-      → IsUnopenedOf (sizes_alone device) key read back cause → (bytes : List ℕ)
-      → device.values ≡ Some bytes
-      → IsCauseIn (sizes_alone device) key (stored_in (sizes_alone device) bytes) cause
-  refused back cause is bytes told =
-      subst (λ (all : List ℕ). IsCauseIn (sizes_alone device) key
-      (stored_in (sizes_alone device) all) cause)
-      (whole_front device bytes (long bytes told))
-      (is.why.refused bytes (unlocked.unwritten.values ∙ told))
+    -- a disk that tells its bytes has this header and this key
+    refused : (back : Device) (cause : OpenCause)
+        → IsUnopenedOf (sizes_alone device) key w pass seed read back cause → (bytes : List ℕ)
+        → device.values ≡ Some bytes
+        → IsCauseIn (sizes_alone device) key (stored_in (sizes_alone device) bytes) cause
+    refused back cause is bytes told =
+        subst (λ (all : List ℕ). IsCauseIn (sizes_alone device) key
+        (stored_in (sizes_alone device) all) cause)
+        (whole_front device bytes (long bytes told))
+        (is.why.refused bytes (unlocked.unwritten.values ∙ told))
 
-  pub unopened_under : (back : Device) (cause : OpenCause)
-      → IsUnopenedOf (sizes_alone read) key read back cause
-      → IsUnopenedUnder device pass cause back
-  unopened_under back cause is_read =
-      let is = subst (λ (z : Sizes). IsUnopenedOf z key read back cause) sizes_same is_read in
-      record {
-        key = key;
-        read = read;
-        unlocked = unlocked;
-        unopened = is;
-        short = λ bytes told.
-            short_under device unlocked.stored pass key unlocked.under bytes told cause
-            (refused back cause is bytes told);
-      }
+    pub unopened_under : (back : Device) (cause : OpenCause)
+        → IsUnopenedOf (sizes_alone read) key w pass seed read back cause
+        → IsUnopenedUnder device w pass seed cause back
+    unopened_under back cause is_read =
+        let is = subst (λ (z : Sizes). IsUnopenedOf z key w pass seed read back cause) sizes_same
+        is_read in
+        record {
+          key = key;
+          read = read;
+          unlocked = unlocked;
+          unopened = is;
+          short = λ bytes told.
+              short_under device unlocked.stored pass key unlocked.under bytes told cause
+              (refused back cause is bytes told);
+        }
 
 -- why none was begun, by what is handed back
 module _ {D : Type 0} (device_of : D → Device) (first read back : D) (w : Wish)
     (pass seed : List ℕ) (key : Option (List ℕ))
     (unlocked : IsUnlockedOn (device_of first) pass key (device_of read))
     (long : (all : List ℕ) → (device_of first).values ≡ Some all
-    → length all ≡ (device_of first).atoms * (device_of first).size) where
+    → length all ≡ (device_of first).atoms * (device_of first).size)
+    (agrees : (told : Told) → (device_of first).told ≡ Some told
+    → (device_of first).values ≡ Some (content told.now)) where
   pub unstarted_by : (refusal : Refusal)
       → IsUnbegunOf (sizes_alone (device_of read)) key w pass seed (device_of read)
       (device_of back) refusal
       → IsUnstartedBy device_of first w pass seed refusal back
   unstarted_by (refusals.Unopened (openings.Opening cause)) is = (
     unopened_under (device_of first) (device_of read) w pass seed key unlocked long
-        (device_of back) cause is,
+        agrees (device_of back) cause is,
     tested_behind (device_of first) unlocked.stored unlocked.under.found unlocked.encrypted
         (openings.Opening cause),
   )
@@ -169,7 +184,7 @@ module _ {D : Type 0} (device_of : D → Device) (first read back : D) (w : Wish
   unstarted_by refusals.Linear is = absurd is
   unstarted_by (refusals.Unmade fault) is =
       unmade_under (device_of first) (device_of read) w pass seed key unlocked long
-      (device_of back) fault is
+      agrees (device_of back) fault is
   unstarted_by refusals.Writing is =
       begun_under (device_of first) (device_of read) w pass seed key unlocked long
-      (device_of back) failed_call is
+      agrees (device_of back) failed_call is

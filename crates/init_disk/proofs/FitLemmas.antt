@@ -26,7 +26,7 @@ idle_busy : (busy : Bool) (o : Option Idle) (v : Idle) → (if busy then None el
 idle_busy true o v is = cc
 idle_busy false o v is = refl
 
-pub not_busy : (m : Parts) (sizes : Sizes) (v : Idle) → idle_of m sizes ≡ Some v
+not_busy : (m : Parts) (sizes : Sizes) (v : Idle) → idle_of m sizes ≡ Some v
     → in_progress m.config ≡ false
 unfolding idle_of
 not_busy m sizes v is =
@@ -58,7 +58,7 @@ module _ (header : Stored) (sizes : Sizes) (w : Wish) (pass seed : List ℕ) (sl
   abbrev m : Parts
   m = header.valid.meta
 
-  pub begins_here : IsBegun m sizes w pass (draw_of w seed) made.begun
+  begins_here : IsBegun m sizes w pass (draw_of w seed) made.begun
   begins_here = subst (λ (z : Sizes). IsBegun m z w pass (draw_of w seed) made.begun) sizes_are made.begins
 
   within : (device : Device) → HasSizes sizes device

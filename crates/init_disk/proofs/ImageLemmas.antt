@@ -157,6 +157,8 @@ module _ (gaps : RunsKeepContents) (spares : GapsSpareKeys) (started : StartedVo
       let was = by_behind image is in
       record {
         busy = was.busy;
+        keys = λ old new content under.
+            was.keys old new content ((stands.keeps.keys old new content).0 under);
         stands = λ content stood.
             (let here = (stands.keeps.passphrase pass content).0 stood in
             (here.new, was.passphrase content here));

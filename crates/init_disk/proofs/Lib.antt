@@ -8,3 +8,4 @@ mod ImageLemmas
 mod LawLemmas
 mod MakeLemmas
 mod StartLemmas
+mod ThroughoutLemmas

@@ -1,17 +1,17 @@
 -- The calls by which a conversion is begun, and what refuses it.
-use Rattle.std.proofs.Common.{◌≡◌, ◌∙◌, inl, inr, ℕ, ◌+◌, ◌*◌, ◌≤◌, false, List, length, replicate}
-use Rattle.std.proofs.Common.{Err, IfErr, IfOk}
+use Rattle.std.proofs.Common.{◌≡◌, ◌∙◌, inl, inr, ℕ, ◌+◌, ◌*◌, ◌≤◌, ◌||◌, Bool, true, false}
+use Rattle.std.proofs.Common.{List, length, replicate, Err, IfErr, IfOk, cond}
 use Rattle.std.proofs.Common.{Option, Some, None, Ok, Result, refl, sym, ap, ap₂, subst, arith}
-use Rattle.std.specs.Option.{IfSome}
+use Rattle.std.specs.Option.{IfSome, is_some}
+use Rattle.std.specs.Prelude.{nat_lt, not}
 use Rattle.base_terms.specs.Blocks.{lengths}
 use Rattle.base_terms.specs.declared.failed.Failed.{Failed}
 use Rattle.disk_sizes.specs.declared.Sizes.{Sizes}
-use Rattle.init_disk.proofs.BegunLemmas.{idle, volume}
-use Rattle.init_disk.proofs.FitLemmas.{begins_here, fits_slot, not_busy}
+use Rattle.init_disk.proofs.FitLemmas.{fits_slot}
 use Rattle.header_report.specs.Examinations.{sizes_alone}
 use Rattle.init_disk.specs.Calls.{IsBegunOf, IsOnlyRead, IsReady, IsUnbegunOf, IsUnrepaired}
 use Rattle.init_disk.specs.Laws.{SlotsKeepContents}
-use Rattle.init_disk.specs.Makings.{IsMade, IsUnmade, draw_of}
+use Rattle.init_disk.specs.Makings.{IsMade, IsUnmade}
 use Rattle.init_disk.specs.declared.making.MakeFault.{MakeFault}
 use Rattle.init_disk.specs.declared.refusal.Refusal.{Refusal}
 use Rattle.init_disk.specs.declared.refusal.Refusal.TheVariants as refusals
@@ -19,16 +19,19 @@ use Rattle.joined_disk.specs.Counts.{HasSizes}
 use Rattle.luks_copies.specs.Held.{repair_stage_in}
 use Rattle.luks_copies.specs.declared.repair.Repair.{Repair}
 use Rattle.luks_copies.specs.declared.repair.RepairStage.TheVariants.{Broken}
+use Rattle.luks_init.specs.Begins.{first_unready, unready_by}
 use Rattle.luks_init.specs.Wishes.{IsWish}
+use Rattle.luks_init.specs.declared.fault.InitFault.TheVariants as faults
 use Rattle.luks_init.specs.declared.wish.Wish.{Wish}
-use Rattle.luks_rules.specs.Segments.{in_progress}
+use Rattle.luks_rules.specs.Idles.{idle_of}
+use Rattle.luks_rules.specs.declared.idle.Idle.{Idle}
 use Rattle.luks_store.specs.Commits.{FitsDisks}
 use Rattle.luks_store.specs.Devices.{KeepsBytes, front_of}
 use Rattle.luks_store.specs.Loads.{stored_in}
 use Rattle.luks_store.specs.Used.{AreCopies}
 use Rattle.luks_store.specs.declared.copies.Copies.{Copies}
 use Rattle.luks_store.specs.declared.loaded.Stored.{Stored}
-use Rattle.reenc_meta.specs.Placements.{all_atoms}
+use Rattle.reenc_meta.specs.Placements.{IsPlacementOf, PlacedBy, all_atoms}
 use Rattle.reenc_meta.specs.declared.placement.Placement.{Placement}
 use Rattle.reenc_recovery.proofs.OpenCauseLemmas.{cause_since, repair_rose, rose_since}
 use Rattle.reenc_recovery.proofs.OpenLemmas.{refused_later, shows_sizes}
@@ -149,6 +152,22 @@ same_sizes sizes one other size atoms has = record {
   alone = has.alone;
 }
 
+-- ---- what can't be made of a volume that is placed
+unready_else : (crypt odd : Bool) (n : ℕ)
+    → cond (not crypt) (Some faults.Linear) (cond odd (Some (faults.Passphrase n)) None)
+    ≡ Some faults.InProgress → ⊥
+unready_else true true n is = cc
+unready_else true false n is = cc
+unready_else false odd n is = cc
+
+not_under_way : (o : Option Idle) (sizes : Sizes) (p : Placement) (pass : List ℕ)
+    → PlacedBy sizes o p → unready_by o pass ≡ Some faults.InProgress → ⊥
+unfolding unready_by
+not_under_way None sizes p pass placed is = placed
+not_under_way (Some v) sizes p pass placed is =
+    unready_else (is_some v.segment.encryption)
+    (nat_lt (length pass) 1 || nat_lt 512 (length pass)) (length pass) is
+
 -- ---- the first sync failed
 pub unsynced : (sizes : Sizes) (key : Option (List ℕ)) (w : Wish) (pass seed : List ℕ)
     (old new : Device) (refusal : Refusal)
@@ -191,19 +210,25 @@ module _ (sizes : Sizes) (key : Option (List ℕ)) (w : Wish) (pass seed : List 
       })
 
   -- by what can't be made
-  pub unmade : (later : Sizes) → later ≡ sizes → (header : Stored) (fault : MakeFault)
+  pub unmade : (later : Sizes) → later ≡ sizes → (header : Stored) (p : Placement)
+      (fault : MakeFault) → header.valid.sizes ≡ later → IsPlacementOf header.valid.meta later p
       → ((all : List ℕ) → synced.values ≡ Some all
       → stored_in later (front_of later all) ≡ Ok header)
       → IsUnmade header w pass seed fault
       → IsUnbegunOf sizes key w pass seed old read (refusals.Unmade fault)
-  unmade later still header fault held is = record {
+  unmade later still header p fault sizes_are placed held is = record {
     read = only_read;
-    unmade = (
-      header,
-      λ first told. subst (λ (z : Sizes). stored_in z (front_of z first) ≡ Ok header) still
-          (held first (sync.values ∙ told)),
-      is,
-    );
+    unmade = record {
+      header = header;
+      held = λ first told.
+          subst (λ (z : Sizes). stored_in z (front_of z first) ≡ Ok header) still
+          (held first (sync.values ∙ told));
+      unmade = is;
+      idle = λ same.
+          not_under_way (idle_of header.valid.meta later) later p pass placed
+          (subst (λ (z : Sizes). first_unready header.valid.meta z pass ≡ Some faults.InProgress)
+          sizes_are (subst (λ (f : MakeFault). IsUnmade header w pass seed f) same is));
+    };
   }
 
 -- ---- all is ready
@@ -232,28 +257,17 @@ module _ (sizes : Sizes) (key : Option (List ℕ)) (w : Wish) (pass seed : List 
   runs new result run = record { read = read; first = first; run = run }
 
   -- a call of the repair failed
-  busy_not : in_progress header.valid.meta.config ≡ false
-  busy_not =
-      let m = header.valid.meta in
-      let begins = begins_here header sizes w pass seed slot ready.made ready.found.sizes_are
-      ready.found.sound in
-      not_busy m sizes (volume m sizes w pass (draw_of w seed) ready.made.begun begins)
-      (idle m sizes w pass (draw_of w seed) ready.made.begun begins)
-
   unrepaired_by : (keep : DiskOpeningsKeepContents) (new : Device)
       → RepairRun repair read new failed_call → TellsSized new
-      → (some : Option Repair) → repair ≡ some → IsUnrepaired sizes key old new causes.Device
+      → (some : Option Repair) → repair ≡ some
+      → IsUnrepaired sizes key w pass seed old new causes.Device
   unrepaired_by keep new run sized None is =
       absurd (subst (λ (r : Option Repair). RepairRun r read new failed_call) is run)
   unrepaired_by keep new run sized (Some one) is = record {
     header = header;
-    held = ready.found.held;
-    idle = busy_not;
-    placement = ready.placement;
-    placed = ready.found.placed;
-    key_is = ready.key_is;
     repair = one;
-    asked = subst (λ (r : Option Repair). IsRepairFor header.copies r) is ready.found.asked;
+    slot = slot;
+    ready = subst (λ (r : Option Repair). IsReady sizes key w pass seed old header r slot) is ready;
     calls = subst (λ (r : Option Repair). DiskOpeningRun r old new failed_call) is
         (runs new failed_call run);
     by = refl;

@@ -3,6 +3,7 @@ use Rattle.std.specs.Prelude.{ℕ, ◌≡◌, List, Option, Some, None, Result}
 use Rattle.base_terms.specs.declared.failed.Failed.{Failed}
 use Rattle.header_report.specs.Examinations.{sizes_alone}
 use Rattle.init_disk.specs.Calls.{IsBegunOf, IsUnmadeOf, IsUnopenedOf}
+use Rattle.init_disk.specs.Tables.{TellsThroughout}
 use Rattle.init_disk.specs.Unlocking.{IsLinearOn, IsNotLinear, IsUnlockedOn}
 use Rattle.init_disk.specs.declared.making.MakeFault.{MakeFault}
 use Rattle.init_disk.specs.declared.refusal.Refusal.{Refusal}
@@ -15,13 +16,16 @@ use Rattle.volume_opening.specs.Shorts.{IsShort}
 use Rattle.volume_opening.specs.declared.refusal.Refusal.TheVariants as openings
 
 -- The header and the key were found on a disk, which was only read. Then the conversion was begun
--- under them; or all was made, and a call by which it is written failed.
+-- under them; or all was made, and a call by which it is written failed. Of a disk that told its
+-- bytes, each image of each table that it tells since the first sync stands for what they stood for.
 pub record IsBegunUnder (device : Device) (w : Wish) (pass seed : List ℕ) (back : Device)
     (result : Result (Unit {0}) Failed) : Type 0 where
   pub key : Option (List ℕ)
   pub read : Device
   pub unlocked : IsUnlockedOn device pass key read
   pub begun : IsBegunOf (sizes_alone device) key w pass seed read back result
+  pub tables : (first : List ℕ) → device.values ≡ Some first
+      → TellsThroughout (sizes_alone device) pass first begun.header begun.slot device back
 
 -- A conversion was begun on a disk, which is handed back.
 abbrev pub IsStartedBy : {D : Type 0} → (D → Device) → D → Wish → List ℕ → List ℕ → D → Type 0
@@ -32,12 +36,12 @@ IsStartedBy device disk w pass seed back =
 -- The header and the key that were found opened no volume. A disk that told its bytes has this
 -- header, and the key is one of its segment's digest, so there memory was wanted, or a device call
 -- failed.
-pub record IsUnopenedUnder (device : Device) (pass : List ℕ) (cause : OpenCause) (back : Device) :
-    Type 0 where
+pub record IsUnopenedUnder (device : Device) (w : Wish) (pass seed : List ℕ) (cause : OpenCause)
+    (back : Device) : Type 0 where
   pub key : Option (List ℕ)
   pub read : Device
   pub unlocked : IsUnlockedOn device pass key read
-  pub unopened : IsUnopenedOf (sizes_alone device) key read back cause
+  pub unopened : IsUnopenedOf (sizes_alone device) key w pass seed read back cause
   pub short : (bytes : List ℕ) → device.values ≡ Some bytes → IsShort cause
 
 -- it was synced and read under header and key, and what is to be written can't be made
@@ -52,7 +56,7 @@ pub record IsUnmadeUnder (device : Device) (w : Wish) (pass seed : List ℕ) (fa
 abbrev pub IsUnstartedBy : {D : Type 0} → (D → Device) → D → Wish → List ℕ → List ℕ → Refusal → D
     → Type 0
 IsUnstartedBy device disk w pass seed (refusals.Unopened (openings.Opening cause)) back =
-    IsUnopenedUnder (device disk) pass cause (device back)
+    IsUnopenedUnder (device disk) w pass seed cause (device back)
     × IsNotLinear (device disk) (openings.Opening cause)
 IsUnstartedBy device disk w pass seed (refusals.Unopened refusal) back =
     IsUnopenedBy device disk pass refusal None back × IsNotLinear (device disk) refusal

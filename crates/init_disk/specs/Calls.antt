@@ -1,22 +1,22 @@
 -- What is checked and made before anything is written, and the calls that then begin a conversion.
-use Rattle.std.specs.Prelude.{ℕ, ◌≡◌, ◌⊎◌, false, List, Option, Some, Ok, Result, IfSome}
+use Rattle.std.specs.Prelude.{ℕ, ◌≡◌, ◌⊎◌, List, Option, Some, Ok, Result, IfSome}
 use Rattle.base_terms.specs.declared.failed.Failed.{Failed}
 use Rattle.disk_sizes.specs.declared.Sizes.{Sizes}
 use Rattle.init_disk.specs.Makings.{IsMade, IsUnmade, draw_of}
 use Rattle.init_disk.specs.Tables.{HasBegun, KeepsNext, TellsOn}
 use Rattle.init_disk.specs.declared.making.MakeFault.{MakeFault}
+use Rattle.init_disk.specs.declared.making.MakeFault.TheVariants as makes
 use Rattle.init_disk.specs.declared.refusal.Refusal.{Refusal}
 use Rattle.init_disk.specs.declared.refusal.Refusal.TheVariants as refusals
 use Rattle.luks_copies.specs.declared.repair.Repair.{Repair}
+use Rattle.luks_init.specs.declared.fault.InitFault.TheVariants.{InProgress}
 use Rattle.luks_init.specs.declared.wish.Wish.{Wish}
-use Rattle.luks_rules.specs.Segments.{in_progress}
 use Rattle.luks_store.specs.Commits.{FitsDisks}
 use Rattle.luks_store.specs.Devices.{front_of}
 use Rattle.luks_store.specs.Loads.{stored_in}
 use Rattle.luks_store.specs.declared.loaded.Stored.{Stored}
-use Rattle.reenc_meta.specs.Placements.{IsPlacementOf}
 use Rattle.reenc_meta.specs.declared.placement.Placement.{Placement}
-use Rattle.reenc_recovery.specs.Calls.{DiskOpeningRun, DiskSyncsAndReads, IsRepairFor}
+use Rattle.reenc_recovery.specs.Calls.{DiskOpeningRun, DiskSyncsAndReads}
 use Rattle.reenc_recovery.specs.Causes.{HasCauseIn, IsCauseIn}
 use Rattle.reenc_recovery.specs.Keys.{IsKeyOf, used_by}
 use Rattle.reenc_recovery.specs.Tables.{IsFoundOn, TellsSince}
@@ -42,11 +42,15 @@ pub record IsReady (sizes : Sizes) (key : Option (List ℕ)) (w : Wish) (pass se
   pub fits : IfSome repair (FitsDisks sizes)
   pub made : IsMade header w pass seed slot
 
--- what can't be made, by the header that the disk holds, where the disk tells what it holds
-abbrev pub IsUnmadeOn : Sizes → Wish → List ℕ → List ℕ → Device → MakeFault → Type 0
-IsUnmadeOn sizes w pass seed device fault =
-    (header : Stored) × ((first : List ℕ) → device.values ≡ Some first
-    → stored_in sizes (front_of sizes first) ≡ Ok header) × IsUnmade header w pass seed fault
+-- What can't be made, by the header that the disk holds, where the disk tells what it holds. It
+-- passed all checks, so it is never that a conversion is under way.
+pub record IsUnmadeOn (sizes : Sizes) (w : Wish) (pass seed : List ℕ) (device : Device)
+    (fault : MakeFault) : Type 0 where
+  pub header : Stored
+  pub held : (first : List ℕ) → device.values ≡ Some first
+      → stored_in sizes (front_of sizes first) ≡ Ok header
+  pub unmade : IsUnmade header w pass seed fault
+  pub idle : fault ≡ makes.Unready InProgress → ⊥
 
 -- why the volume isn't opened by a header and a key that were read
 pub record IsRefusedAs (sizes : Sizes) (key : Option (List ℕ)) (old new : Device)
@@ -89,28 +93,22 @@ pub record IsOnlyRead (sizes : Sizes) (old new : Device) : Type 0 where
   pub calls : DiskSyncsAndReads old new
   pub tables : TellsSince sizes old new
 
--- All checks passed, and a call of the repair that the header asks for failed: nothing is being
--- converted by the header, which places the volume, and the key is that of its segment's digest.
-pub record IsUnrepaired (sizes : Sizes) (key : Option (List ℕ)) (old new : Device)
-    (cause : OpenCause) : Type 0 where
+-- All checks passed and all was made, and a call of the repair that the header asks for failed.
+pub record IsUnrepaired (sizes : Sizes) (key : Option (List ℕ)) (w : Wish) (pass seed : List ℕ)
+    (old new : Device) (cause : OpenCause) : Type 0 where
   pub header : Stored
-  pub held : (first : List ℕ) → old.values ≡ Some first
-      → stored_in sizes (front_of sizes first) ≡ Ok header
-  pub idle : in_progress header.valid.meta.config ≡ false
-  pub placement : Placement
-  pub placed : IsPlacementOf header.valid.meta sizes placement
-  pub key_is : IsKeyOf header.valid.meta placement.new (used_by placement.new.encryption key)
   pub repair : Repair
-  pub asked : IsRepairFor header.copies (Some repair)
+  pub slot : SlotCommit
+  pub ready : IsReady sizes key w pass seed old header (Some repair) slot
   pub calls : DiskOpeningRun (Some repair) old new failed_call
   pub by : cause ≡ causes.Device
   pub tables : TellsSince sizes old new
 
 -- So one of these came, and this is why.
-pub record IsUnopenedOf (sizes : Sizes) (key : Option (List ℕ)) (old new : Device)
-    (cause : OpenCause) : Type 0 where
+pub record IsUnopenedOf (sizes : Sizes) (key : Option (List ℕ)) (w : Wish) (pass seed : List ℕ)
+    (old new : Device) (cause : OpenCause) : Type 0 where
   pub unopened : IsUnsynced old new cause
-      ⊎ (IsOnlyRead sizes old new ⊎ IsUnrepaired sizes key old new cause)
+      ⊎ (IsOnlyRead sizes old new ⊎ IsUnrepaired sizes key w pass seed old new cause)
   pub why : IsRefusedAs sizes key old new cause
 
 -- The disk was synced, and then only read; what is to be written can't be made.
@@ -123,7 +121,7 @@ pub record IsUnmadeOf (sizes : Sizes) (w : Wish) (pass seed : List ℕ) (old new
 abbrev pub IsUnbegunOf : Sizes → Option (List ℕ) → Wish → List ℕ → List ℕ → Device → Device
     → Refusal → Type 0
 IsUnbegunOf sizes key w pass seed old new (refusals.Unopened (openings.Opening cause)) =
-    IsUnopenedOf sizes key old new cause
+    IsUnopenedOf sizes key w pass seed old new cause
 IsUnbegunOf sizes key w pass seed old new (refusals.Unopened refusal) = ⊥
 IsUnbegunOf sizes key w pass seed old new refusals.Linear = ⊥
 IsUnbegunOf sizes key w pass seed old new (refusals.Unmade fault) =

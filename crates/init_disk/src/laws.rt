@@ -12,7 +12,8 @@ use started_volumes::{gaps_keep_contents, started_volumes_stand};
 /// Behind the calls of an opening that were all done, each image that a stop leaves of the calls by
 /// which a new keyslot is written, and the header by which the conversion begins, stands for what
 /// the disk held before the opening, under the same passphrase, as long as no torn copy of a header
-/// is valid. Where all of them were done, a conversion is under way of which nothing is new yet.
+/// is valid and none stands in front of the second one. Where all of them were done, a conversion is
+/// under way of which nothing is new yet.
 pub fn slots_keep_contents()
     ensures { SlotsKeepContents }
 {

@@ -8,8 +8,8 @@
 //! then both copies of the next header, each write synced before the next one. Where the disk tells
 //! what it holds, what it held stands for the same content under the same passphrase as what it
 //! holds at each moment from the first sync on: each image that a stop leaves does, as long as no
-//! torn copy of a header is valid. Else it says why no conversion is begun, with the disk; and
-//! unless a device call failed nothing was written.
+//! torn copy of a header is valid and none stands in front of the second one. Else it says why no
+//! conversion is begun, with the disk; and unless a device call failed nothing was written.
 #![tactic(auto)]
 
 mod beginning;

@@ -1,5 +1,5 @@
 -- The conversion that words wish, and what came of it.
-use Rattle.std.proofs.Common.{◌≡◌, ◌≤◌, ℕ, List, Option, Some, None, [], ap, arith, inl, inr}
+use Rattle.std.proofs.Common.{◌≡◌, ◌≤◌, ℕ, List, Some, None, [], ap, arith, inl, inr}
 use Rattle.std.proofs.Common.{refl, subst}
 use Rattle.command_line.specs.Starts.{IsStarting, Starting}
 use Rattle.init_disk.specs.Answers.{IsStartedBy, IsUnstartedBy}

@@ -45,9 +45,9 @@ started_line words = codes "started reencrypt " ++ (direction_name words.directi
 
 -- ---- the volume
 -- The conversion of the disk's volume was begun under the passphrase, and the disk is handed back.
--- Where it tells what it holds, each image that a stop could leave, from the first sync on, and in
--- which no torn copy of a header is valid, stands for what the disk's bytes stood for, and now all of
--- it is still to be converted.
+-- Where it tells what it holds, each image that a stop could leave, from the first sync on, in which
+-- no torn copy of a header is valid and none stands in front of the second one, stands for what the
+-- disk's bytes stood for, and now all of it is still to be converted.
 pub record IsStarted {D L : Type 0} (device : D → DiskState) (words : Starting)
     (pass seed : List ℕ) (disk : D) (outcome : Outcome D L) (report : Option (List ℕ)) : Type 0
   where

@@ -22,7 +22,7 @@ use crate::commands::{cause_by, unserved};
 use crate::ended::{Cause, Ended, Failing, Fit, Sessions};
 use bays::Bay;
 use command_line::{Guard as NamedGuard, Init};
-use init_disk::{MakeFault, Refusal, Started, Unstarted, begin_conversion};
+use init_disk::{MakeFault, Refusal, Unstarted, begin_conversion};
 use io_edge::Seeds;
 use luks_init::{Guard, InitFault, Wish};
 use sector_disk::Disk;
@@ -179,9 +179,9 @@ fn start_on<'w, D: Disk, L>(
     };
     let wish = wish_of(words);
     match begin_conversion(alloc, disk, &wish, pass, seed) {
-        Ok(Started { disk }) => {
+        Ok(started) => {
             let sessions = Sessions::none(alloc, Cause::Fine, Vec::new(alloc));
-            (sessions.ended(Some(disk), None), Some(line))
+            (sessions.ended(Some(started.disk), None), Some(line))
         }
         Err(unstarted) => (ended_unstarted(alloc, unstarted), None),
     }

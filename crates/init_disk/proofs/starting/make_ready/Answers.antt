@@ -62,8 +62,10 @@ returns-in-Err-make_slot-clause-unbegun g c =
     let sync = c.in-Ok.ensures.call in
     let same = same_by_sync old synced sync in
     let checked = c.in-Ok-checked.checked in
+    let passed = ok_of _ answer checked c.in-Ok-checked.is c.check_alone-disk.ensures.passed in
     unmade (sizes_alone old) c.args.keys.now.new c.args.wish.now c.args.pass.now c.args.seed.now
     old synced read sync c.check_alone-disk.ensures.read c.openings_keep_contents.ensures.disk_reads
-    (sizes_alone synced) same checked.header c.in-Err-make_slot.fault
+    (sizes_alone synced) same checked.header checked.opening.placement c.in-Err-make_slot.fault
+    passed.sizes_are passed.opening.placed
     (ok_of _ answer checked c.in-Ok-checked.is c.check_alone-disk.ensures.held)
     c.in-Err-make_slot.ensures.unmade
