@@ -169,6 +169,48 @@ refuses "8 fault 8 NoFit reencd: a passphrase of 0 bytes, which are to be 1 to 5
 refuses "2 fault 2 Device reencd: missing: No such file or directory" idle.img --key-file missing
 refuses "3 fault 3 NoHeader reencd: header: primary: Magic; secondary: Magic" before.img --key-file key
 
+# Both copies of the header on DISK are changed: a token of so many letters, or their number.
+changed() {
+    python3 - "$here" "$@" <<'PYTHON' || fail "the header of $1"
+import sys
+
+sys.path.insert(0, sys.argv[1] + "/../models")
+from begun_volume import CHANGES
+
+path, change, number = sys.argv[2:]
+with open(path, "rb") as file:
+    data = file.read()
+with open(path, "wb") as file:
+    file.write(CHANGES[change](data, int(number)))
+PYTHON
+    cryptsetup open --test-passphrase --key-file key "$1" || fail "cryptsetup doesn't take $1"
+}
+
+# a header's text that has just room for the conversion's, or lacks a byte of it
+cp before.img idle.img
+"$reencd" format idle.img --key-file key --iterations 1000 >/dev/null || fail "format"
+cp idle.img crowded.img
+changed crowded.img token 10512
+refuses "8 fault 8 NoFit reencd: a header's text of 12288 bytes, for which there are 12287" crowded.img --key-file key --iterations 1000
+cp idle.img crowded.img
+changed crowded.img token 10511
+cp crowded.img old.img
+expect "init" "$("$reencd" init crowded.img --key-file key --iterations 1000 2>&1)" "started reencrypt forward journal"
+is_begun crowded.img old.img forward journal aes-xts-plain64 64 512 1048576
+has_copies crowded.img
+
+# the last number of a header, and the one before it
+cp idle.img numbered.img
+changed numbered.img number 18446744073709551615
+refuses "8 fault 8 NoFit reencd: the header's number is 18446744073709551615, which no other follows" numbered.img --key-file key --iterations 1000
+cp idle.img numbered.img
+changed numbered.img number 18446744073709551614
+cp numbered.img old.img
+expect "init" "$("$reencd" init numbered.img --key-file key --iterations 1000 2>&1)" "started reencrypt forward journal"
+expect "status" "$("$reencd" status numbered.img | sed -n 's/^seqid: //p')" 18446744073709551615
+is_begun numbered.img old.img forward journal aes-xts-plain64 64 512 1048576
+has_copies numbered.img
+
 # a kill at each write and each sync
 cp before.img old.img
 "$reencd" format old.img --key-file key --iterations 1000 >/dev/null || fail "format"

@@ -516,6 +516,40 @@ def make(disk, words, seed, fails):
 COMMANDS = {"format": make, "init": init, "status": status}
 
 
+# ---- what others do to a disk
+
+
+def zeroed(data, at, length):
+    """Zeros in place of so many bytes."""
+    return data[:at] + bytes(length) + data[at + length :]
+
+
+def numbered(data, number):
+    """Both copies of the header with this number."""
+    copies = both_copies(data)
+    again = [copy.again(k, copy.salt, number, copy.text) for k, copy in enumerate(copies)]
+    return b"".join(again) + data[2 * copies[0].size :]
+
+
+def noted(data, length):
+    """Both copies of the header with a token whose text has so many letters."""
+    found = b""
+    copies = both_copies(data)
+    for which, copy in enumerate(copies):
+        objects = json.loads(copy.text)
+        objects["tokens"]["0"] = {"keyslots": [], "text": "x" * length, "type": "note"}
+        found += copy.again(which, copy.salt, copy.number, spelt(objects))
+    return found + data[2 * copies[0].size :]
+
+
+def both_copies(data):
+    size = struct.unpack(">Q", data[8:16])[0]
+    return [valid_copy(data[k * size : (k + 1) * size], k * size) for k in range(2)]
+
+
+CHANGES = {"zero": zeroed, "number": numbered, "token": noted}
+
+
 def outcome(columns):
     """What a row comes to: its commands are given one after the other, each on the bytes that the
     one before left, and a `stop` in front of one ends it within its call of this number."""
@@ -532,9 +566,8 @@ def outcome(columns):
         if words[0] == "stop":
             stops, choice = {int(words[1])}, words[2]
             continue
-        if words[0] == "zero":
-            at, length = int(words[1]), int(words[2])
-            data = data[:at] + bytes(length) + data[at + length :]
+        if words[0] in CHANGES:
+            data = CHANGES[words[0]](data, *map(int, words[1:]))
             continue
         last = place + 1 == len(steps)
         used = fails if last else {"disk": stops, "bay": set(), "seeds": set()}

@@ -7,7 +7,9 @@
 //!   device calls there were, and the SHA-256 of what is left of the disk; and these two of the
 //!   header's disk, where there is one;
 //! - the steps, with ` ; ` between two: the words of a command; `stop N LEFT`, which ends the next
-//!   command within its device call number N; or `zero AT LENGTH`, which puts zeros on the disk;
+//!   command within its device call number N; or what another program does to the disk: `zero AT
+//!   LENGTH` puts zeros there, `number N` gives both copies of its header that number, and `token N`
+//!   a token whose text has so many letters;
 //! - the disk `x`, all of whose bytes are 170 at first: the bytes of an atom, and how many atoms
 //!   there are; and how many the disk `h` has, which is left out where there is none;
 //! - the first of the bytes that are drawn, which rise: 32 for each command;
@@ -21,6 +23,7 @@
 #![tactic(auto)]
 
 mod disks;
+mod headers;
 mod making;
 
 use anyhow::Result;

@@ -3,6 +3,7 @@
 use crate::disks::{
     Sizes, bytes_of, calls_of, digest_of, disk_with, number, numbers, sizes_of, stood,
 };
+use crate::headers::{noted, numbered};
 use anyhow::{Result, anyhow};
 use base_terms::Bytes;
 use bays::{MemBay, MemLink};
@@ -133,6 +134,20 @@ fn zeroed(step: &str, bytes: &mut [u8]) -> Result<()> {
     Ok(())
 }
 
+/// Whether a step changes the bytes of a disk, which are changed so.
+fn changed(alloc: Global, step: &str, bytes: &mut [u8]) -> Result<bool> {
+    let Some((word, told)) = step.split_once(' ') else {
+        return Ok(false);
+    };
+    match word {
+        "zero" => zeroed(told, bytes)?,
+        "number" => numbered(number(told)?, bytes)?,
+        "token" => noted(alloc, number(told)?, bytes)?,
+        _ => return Ok(false),
+    }
+    Ok(true)
+}
+
 /// What a command leaves of a disk, of which what is left is told too.
 fn left_by(
     rt: &(impl Threads + Wait + Sync),
@@ -169,9 +184,7 @@ fn left_before(
     for i in 0..steps.len() {
         if let Some(told) = steps[i].strip_prefix("stop ") {
             stop = told.split_once(' ').unwrap_or((told, "held"));
-        } else if let Some(told) = steps[i].strip_prefix("zero ") {
-            zeroed(told, bytes.as_mut_slice())?;
-        } else {
+        } else if !changed(alloc, steps[i], bytes.as_mut_slice())? {
             let disk = disk_with(alloc, sizes.atom, bytes.as_slice(), stop.0)?;
             bytes = left_by(rt, alloc, steps[i], first, disk, stop.1)?;
             stop = ("", "held");
