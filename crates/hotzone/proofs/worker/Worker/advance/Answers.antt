@@ -1,0 +1,22 @@
+use Rattle.std.proofs.Common.{subst}
+use Rattle.hotzone.proofs.AskLemmas.{may-make}
+use Rattle.hotzone.proofs.StepLemmas.{made-on, stepped-by}
+use Rattle.luks_rules.specs.States.{IsSound}
+use Rattle.luks_rules.specs.declared.valid.Checked.{Checked}
+use Rattle.hotzone.proofs.worker.Worker.advance.Goals as goal
+
+pub make-next-requires-clause-may : goal.make-next-requires-clause-may
+make-next-requires-clause-may g c =
+    let next = c.take_next-call.ensures in
+    let may = may-make g.C.SectorCipher.sector c.args.self.now c.requires.working
+    (subst (λ (x : Checked). IsSound x.meta x.sizes) c.valid.ensures c.is_sound.ensures) _
+    c.requires.sizes c.requires.runs c.requires.next in
+    rw (next.rest, next.next) (λ κs lives. may)
+
+pub returns : goal.returns
+returns g c =
+    let next = c.take_next-call.ensures in
+    stepped-by g.C.SectorCipher.sector _ _ _ c.args.self.now c.requires.working c.requires.runs
+    c.requires.sizes c.make-next.new.self _ c.make-next.result.next c.make-next.result.answer _
+    (made-on _ _ _ c.args.self.now c.make-next.new.self _ c.make-next.result next.next
+    (rw next.rest at c.make-next.ensures)) c.put_answer.ensures

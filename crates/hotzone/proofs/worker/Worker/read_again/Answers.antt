@@ -1,0 +1,18 @@
+use Rattle.std.proofs.Common.{refl}
+use Rattle.hotzone.proofs.ReadLemmas.{has-read, has-stopped}
+use Rattle.hotzone.specs.Steps.{reads_again, read_again_fails}
+use Rattle.hotzone.specs.declared.worker.Halt.TheVariants.{Failed}
+use Rattle.hotzone.specs.declared.worker.NextCall.TheVariants.{ReadAgain, Write}
+use Rattle.hotzone.proofs.worker.Worker.read_again.Goals as goal
+
+pub returns-in-Ok : goal.returns-in-Ok
+returns-in-Ok g c =
+    let is = c.in-Ok.ensures in
+    reads_again c.args.done c.args.headers refl is.call
+    (has-read c.args.self.now c.read_part.new.self (ReadAgain c.args.done c.args.headers) is.rest is.long (Write c.args.done c.args.headers))
+
+pub returns-in-Err : goal.returns-in-Err
+returns-in-Err g c =
+    let is = c.in-Err.ensures in
+    read_again_fails c.args.done c.args.headers refl is.call
+    (has-stopped c.args.self.now c.read_part.new.self (ReadAgain c.args.done c.args.headers) is.rest is.long (ReadAgain c.args.done c.args.headers) Failed)

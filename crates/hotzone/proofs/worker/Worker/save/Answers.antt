@@ -1,0 +1,12 @@
+use Rattle.std.proofs.Common.{refl, ap}
+use Rattle.hotzone.specs.Steps.{saves, save_fails}
+use Rattle.hotzone.proofs.worker.Worker.save.Goals as goal
+
+pub returns-in-Ok : goal.returns-in-Ok
+returns-in-Ok g c =
+    saves c.args.done c.args.headers refl c.in-Ok.ensures
+    (ap (λ n. record c.args.self.now { next = n }) c.behind_save.ensures)
+
+pub returns-in-Err : goal.returns-in-Err
+returns-in-Err g c =
+    save_fails c.args.done c.args.headers refl c.in-Err.ensures (record { is = refl })

@@ -1,0 +1,26 @@
+// Laws of the steps of a zone, with nothing to run.
+
+ghost use Rattle.hotzone.specs.Promises.{StepBegins, StepEnds, StepGoes, StepStays, StepStops};
+
+use cipher_laws::SectorCipher;
+use disk_zones::{zones_go_by_calls, zones_stay};
+use luks_copies::calls_are_seen;
+use volume_laws::keys_seal_lawfully;
+
+/// Each step of a zone is the device call of the laws of zones, on each disk that tells its tables:
+/// it begins a zone whose old atoms are those that the disk holds; it leads from what is known to
+/// what is known; the last one leaves the new atoms and the header with the boundary moved for
+/// certain; and one that failed, or wasn't made, while a zone is at hand leaves what a stop may
+/// leave. Calls of others beside the zone that were done between two steps leave what is known.
+pub fn steps_are_of_zones<C: SectorCipher>()
+    ensures begins { StepBegins C.sector C.sealed C.opened }
+    ensures goes { StepGoes C.sector C.sealed C.opened }
+    ensures ends { StepEnds C.sector C.sealed C.opened }
+    ensures stops { StepStops C.sector C.sealed C.opened }
+    ensures stays { StepStays C }
+{
+    calls_are_seen();
+    keys_seal_lawfully::<C>();
+    zones_go_by_calls();
+    zones_stay();
+}

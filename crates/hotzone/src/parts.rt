@@ -1,0 +1,166 @@
+// The parts of a zone: the device calls that read, save and write them.
+
+ghost use Rattle.std.specs.Prelude.{◌≡◌, ◌+◌, ◌*◌, ◌<◌, ◌≤◌, length, take};
+ghost use Rattle.hotzone.specs.Sites.{bytes_at, count_of};
+ghost use Rattle.hotzone.specs.Steps.{ReadsPart, SavesPart, WritesPart, part_in, resealed};
+ghost use Rattle.hotzone.specs.Workers.{FitsDisk};
+ghost use Rattle.sector_disk.specs.Geometry.{IsAtom};
+ghost use Rattle.volume_machine.specs.Seals.{KeysFit, seals_of};
+
+use crate::site::Site;
+use crate::worker::Worker;
+use base_terms::{Buffer, Failed};
+use cipher_laws::SectorCipher;
+use disk_views::read_into;
+use sector_cipher::{seal_many, unseal_many};
+use sector_disk::Disk;
+use segment_map::{Piece, Side};
+use std::alloc::Global;
+use std::mem;
+use std::thread::Threads;
+use volume_machine::Keys;
+
+impl Site {
+    /// How many bytes that part has.
+    pub fn bytes(&self, done: u64) -> usize
+        requires atom { IsAtom self.now.atom }
+        requires within { done ≤ count_of self.now }
+        ensures { result ≡ bytes_at self.now done }
+    {
+        self.part(done) as usize * self.atom as usize
+    }
+}
+
+/// In how many parts so many bytes are sealed: in four from 1 MiB on, in two from 256 KiB on.
+fn count_parts(len: usize) -> usize
+    ensures some { 0 < result }
+    ensures few { result ≤ 16 }
+{
+    if len >= 1_048_576 {
+        4
+    } else if len >= 262_144 {
+        2
+    } else {
+        1
+    }
+}
+
+/// Seals blocks of the old side anew for the new side, from one on, at the front of bytes. Threads
+/// take a part of the work: the bytes of 1 MiB and more are cut in four, those of 256 KiB and more
+/// in two.
+pub fn reseal<R: Threads + Sync, C: SectorCipher + Sync>(
+    rt: &R,
+    keys: &Keys<C>,
+    atom: u32,
+    piece: Piece,
+    bytes: &mut [u8],
+    len: usize,
+)
+    requires known { IsAtom atom }
+    requires fits { KeysFit C.sector keys.now atom (piece.first + piece.count) }
+    requires size { len ≡ piece.count * atom }
+    requires front { len ≤ length bytes.old }
+    ensures front { take len bytes.new
+        ≡ resealed (seals_of C.sealed C.opened atom keys.now) piece.first (take len bytes.old) }
+    ensures length { length bytes.new ≡ length bytes.old }
+{
+    let Piece {
+        first,
+        count,
+        side: _,
+    } = piece;
+    let old = Piece {
+        first,
+        count,
+        side: Side::Old,
+    };
+    let new = Piece {
+        first,
+        count,
+        side: Side::New,
+    };
+    let parts = count_parts(len);
+    let was = keys.number(atom, old);
+    let is = keys.number(atom, new);
+    let size = atom as usize;
+    unseal_many(rt, &keys.old, was, size, &mut bytes[..len], parts);
+    seal_many(rt, &keys.new, is, size, &mut bytes[..len], parts);
+}
+
+impl<C: SectorCipher + Copy> Worker<C> {
+    /// Reads the part behind `done` atoms of the zone into the buffer.
+    pub(crate) fn read_part<D: Disk>(
+        &mut self,
+        alloc: Global,
+        done: u64,
+        disk: &mut D,
+    ) -> Result<(), Failed>
+        requires fits { FitsDisk C.sector self.old (D.device disk.old) }
+        requires within { done ≤ count_of self.old.site }
+        ensures call { ReadsPart self.old done self.new.buffer (D.device disk.old)
+            (D.device disk.new) result }
+        ensures rest { self.new ≡ record self.old { buffer = self.new.buffer } }
+        ensures long { length self.new.buffer ≡ length self.old.buffer }
+    {
+        let len = self.site.bytes(done);
+        let buffer = mem::replace(&mut self.buffer, Buffer::empty(alloc));
+        match read_into(disk, self.site.own + done, buffer, len) {
+            Ok(same) => {
+                self.buffer = same;
+                Ok(())
+            }
+            Err(same) => {
+                self.buffer = same;
+                Err(Failed)
+            }
+        }
+    }
+
+    /// Saves the part at hand: by journal as it is.
+    pub(crate) fn save_part<D: Disk>(&self, done: u64, disk: &mut D) -> Result<(), Failed>
+        requires fits { FitsDisk C.sector self.now (D.device disk.old) }
+        requires within { done ≤ count_of self.now.site }
+        ensures { SavesPart self.now done (D.device disk.old) (D.device disk.new) result }
+    {
+        let len = self.site.bytes(done);
+        disk.write(self.site.store + done, self.buffer.front(len))
+    }
+}
+
+impl<C: SectorCipher + Copy + Sync> Worker<C> {
+    /// Writes the part at hand anew.
+    pub(crate) fn write_part<R: Threads + Sync, D: Disk>(
+        &mut self,
+        rt: &R,
+        done: u64,
+        disk: &mut D,
+    ) -> Result<(), Failed>
+        requires fits { FitsDisk C.sector self.old (D.device disk.old) }
+        requires within { done ≤ count_of self.old.site }
+        ensures call { WritesPart
+            (seals_of C.sealed C.opened self.old.site.atom self.old.keys) self.old done
+            (D.device disk.old) (D.device disk.new) result }
+        ensures sealed { part_in self.new done
+            ≡ resealed (seals_of C.sealed C.opened self.old.site.atom self.old.keys)
+            (self.old.site.blocks.start + done) (part_in self.old done) }
+        ensures rest { self.new ≡ record self.old { buffer = self.new.buffer } }
+        ensures long { length self.new.buffer ≡ length self.old.buffer }
+    {
+        let site = self.site;
+        let len = site.bytes(done);
+        let piece = Piece {
+            first: site.blocks.start + done,
+            count: site.part(done),
+            side: Side::New,
+        };
+        reseal(
+            rt,
+            &self.keys,
+            site.atom,
+            piece,
+            self.buffer.as_mut_slice(),
+            len,
+        );
+        disk.write(site.own + done, self.buffer.front(len))
+    }
+}

@@ -1,0 +1,264 @@
+// A conversion's zones, one after the other.
+
+ghost use Rattle.std.specs.Prelude.{◌≡◌, ◌↔◌, IfOk, IsTrue, None, Some};
+ghost use Rattle.hotzone.specs.Steps.{Steps};
+ghost use Rattle.hotzone.specs.Workers.{HasKeys, IsDone, IsNew, IsWorking, MapsFit, MayGoOn};
+ghost use Rattle.hotzone.specs.Workers.{first_call, range_in};
+ghost use Rattle.hotzone.specs.declared.worker.Halt.TheVariants.{GivenUp};
+ghost use Rattle.hotzone.specs.declared.worker.Stepped.TheVariants.{AllDone};
+ghost use Rattle.joined_disk.specs.Counts.{HasSizes};
+ghost use Rattle.reenc_meta.specs.Placements.{all_atoms};
+ghost use Rattle.sector_disk.specs.Geometry.{IsDisk};
+ghost use Rattle.volume_machine.specs.Seals.{seals_of};
+
+use crate::steps::{Made, Stop, begin_with, lay_next};
+use crate::worker::{Halt, NextCall, Stepped, Worker, ZoneFault};
+use base_terms::{Buffer, zeros};
+use block_range::BlockRange;
+use cipher_laws::SectorCipher;
+use luks_store::Loaded;
+use sector_disk::Disk;
+use std::alloc::{AllocError, Global};
+use std::marker::Model;
+use std::mem;
+use std::thread::Threads;
+use volume_machine::Keys;
+
+/// A conversion that goes on, zone by zone, one device call a step.
+#[derive(Drop)]
+pub struct Zone<C: SectorCipher + Copy> {
+    worker: Worker<C>,
+}
+
+impl<C: SectorCipher + Copy> Model for Zone<C> {
+    ghost use Rattle.hotzone.specs.Workers.{IsWorking};
+    ghost use Rattle.hotzone.specs.declared.worker.Worker.{Worker as worker_type};
+    ghost use Rattle.luks_store.specs.contracts.commit.Prepared as prepared_type;
+    ghost use Rattle.luks_store.specs.contracts.loaded.Stored as stored_type;
+    ghost use Rattle.std.specs.Coded.{codes};
+
+    ghost Value = { worker_type C };
+
+    ghost coded = { Prim.hlevel (codes, stored_type.the_row.coded, prepared_type.the_row.coded) };
+
+    ghost view = { λ zone. zone.worker };
+
+    ghost invariant = { λ zone. IsWorking C.sector zone.worker };
+}
+
+/// A worker that begins with a header, with the buffer of a part.
+fn new_worker<C: SectorCipher + Copy>(
+    alloc: Global,
+    loaded: Loaded,
+    keys: Keys<C>,
+) -> Result<Worker<C>, AllocError>
+    requires disk { IsDisk loaded.valid.sizes.atom (all_atoms loaded.valid.sizes) }
+    requires may { MayGoOn loaded }
+    requires maps { MapsFit loaded }
+    requires keys { HasKeys C.sector loaded keys }
+    ensures working { IfOk result (IsWorking C.sector) }
+    ensures new { IfOk result (λ worker. IsNew loaded keys worker) }
+{
+    loaded.valid().is_sound();
+    let (map, site) = lay_next(&loaded);
+    match zeros(alloc, site.bytes(0)) {
+        Ok(bytes) => Ok(Worker {
+            keys,
+            loaded,
+            map,
+            site,
+            buffer: Buffer::new(bytes),
+            next: begin_with(&site),
+            halted: None,
+        }),
+        Err(AllocError) => Err(AllocError),
+    }
+}
+
+impl<C: SectorCipher + Copy> Zone<C> {
+    /// A conversion that goes on behind a header by which no zone is open, guarded by a journal. It
+    /// takes the buffer of a part. The keys fit the blocks of both sides; that they are the keys of
+    /// these segments is for the caller to know, since each step opens and seals by them. So it is
+    /// with the disk: before the first step both copies on it hold this header, each atom of theirs
+    /// for certain, and between steps nobody else writes what they write. Where there is no memory
+    /// header and keys are gone.
+    pub fn new(alloc: Global, loaded: Loaded, keys: Keys<C>) -> Result<Zone<C>, AllocError>
+        requires disk { IsDisk loaded.valid.sizes.atom (all_atoms loaded.valid.sizes) }
+        requires may { MayGoOn loaded }
+        requires maps { MapsFit loaded }
+        requires keys { HasKeys C.sector loaded keys }
+        ensures { IfOk result (λ zone. IsNew loaded keys zone) }
+    {
+        match new_worker(alloc, loaded, keys) {
+            Ok(worker) => Ok(Zone { worker }),
+            Err(AllocError) => Err(AllocError),
+        }
+    }
+
+    /// The blocks of the zone at hand, or of the one that comes next; none exactly where no old
+    /// block is left.
+    pub fn range(&self) -> Option<BlockRange>
+        ensures { result ≡ range_in self.now }
+    {
+        if self.worker.site.blocks.is_empty() {
+            return None;
+        }
+        Some(self.worker.site.blocks)
+    }
+
+    /// What holds between its steps: a law, with nothing to run.
+    pub fn is_working(&self)
+        ensures { IsWorking C.sector self.now }
+    {
+        let _worker = &self.worker;
+    }
+
+    /// Whether all steps are made.
+    pub fn is_over(&self) -> bool
+        ensures { IsTrue result ↔ IsDone self.now.next }
+    {
+        match &self.worker.next {
+            NextCall::Over(_) => true,
+            _ => false,
+        }
+    }
+
+    /// How a step that wasn't made, or failed, has left it; none may follow then.
+    pub fn halted(&self) -> Option<Halt>
+        ensures { result ≡ self.now.halted }
+    {
+        self.worker.halted
+    }
+
+    /// A zone that was given up begins anew, or the finish: nothing of it is written but what was
+    /// saved. It takes no memory.
+    pub fn again(&mut self)
+        requires given_up { self.old.halted ≡ Some GivenUp }
+        ensures { self.new ≡ record self.old { next = first_call self.old.site; halted = None } }
+    {
+        let first = begin_with(&self.worker.site);
+        drop(mem::replace(&mut self.worker.next, first));
+        self.worker.halted = None;
+    }
+}
+
+impl<C: SectorCipher + Copy + Sync> Zone<C> {
+    /// The next step: the one device call that the state names. A sync begins a zone; what its
+    /// parts hold is read and saved, and synced; four calls commit the header with the zone open;
+    /// its parts are written anew, and synced; and four calls commit the header with the boundary
+    /// moved over it. A part of 256 KiB and more is sealed by several threads, where they can be
+    /// started.
+    ///
+    /// # Errors
+    ///
+    /// The device call failed; or, before the first write of a zone or of the finish, its headers
+    /// can't be made, and no call was made. The state keeps the call, and says how it was left; no
+    /// step may follow, unless it is given up and begins [`Zone::again`].
+    pub fn step<R: Threads + Sync, D: Disk>(
+        &mut self,
+        rt: &R,
+        alloc: Global,
+        disk: &mut D,
+    ) -> Result<Stepped, ZoneFault>
+        requires runs { self.old.halted ≡ None }
+        requires next { IsDone self.old.next → ⊥ }
+        requires sizes { HasSizes self.old.loaded.valid.sizes (D.device disk.old) }
+        ensures steps { Steps (seals_of C.sealed C.opened self.old.site.atom self.old.keys)
+            (D.device disk.old) (D.device disk.new) self.old self.new result }
+        ensures sizes { HasSizes self.new.loaded.valid.sizes (D.device disk.new) }
+        ensures went { IfOk result (λ _. self.new.halted ≡ None) }
+        ensures over { IfOk result (λ stepped. (stepped ≡ AllDone) ↔ IsDone self.new.next) }
+    {
+        self.worker.advance(rt, alloc, disk)
+    }
+}
+
+impl<C: SectorCipher + Copy + Sync> Worker<C> {
+    ghost use Rattle.hotzone.specs.Making.{HasStepped, IsPut, MayMake, Makes};
+    ghost use Rattle.hotzone.specs.declared.worker.NextCall.TheVariants.{Begin};
+
+    /// The next step.
+    fn advance<R: Threads + Sync, D: Disk>(
+        &mut self,
+        rt: &R,
+        alloc: Global,
+        disk: &mut D,
+    ) -> Result<Stepped, ZoneFault>
+        requires working { IsWorking C.sector self.old }
+        requires runs { self.old.halted ≡ None }
+        requires next { IsDone self.old.next → ⊥ }
+        requires sizes { HasSizes self.old.loaded.valid.sizes (D.device disk.old) }
+        ensures { HasStepped C.sector (seals_of C.sealed C.opened self.old.site.atom self.old.keys)
+            (D.device disk.old) (D.device disk.new) self.old self.new result }
+    {
+        self.loaded.valid().is_sound();
+        let call = self.take_next();
+        let Made { next, answer } = self.make(rt, call, alloc, disk);
+        self.put_answer(next, answer)
+    }
+
+    /// The call that comes next is taken out.
+    fn take_next(&mut self) -> NextCall
+        ensures next { result ≡ self.old.next }
+        ensures rest { self.new ≡ record self.old { next = Begin } }
+    {
+        mem::replace(&mut self.next, NextCall::Begin)
+    }
+
+    /// The one behind it is put in.
+    fn put_next(&mut self, next: NextCall)
+        ensures { self.new ≡ record self.old { next = next } }
+    {
+        drop(mem::replace(&mut self.next, next));
+    }
+
+    /// What a call has come to is put in.
+    fn put_answer(
+        &mut self,
+        next: NextCall,
+        answer: Result<Stepped, Stop>,
+    ) -> Result<Stepped, ZoneFault>
+        ensures { IsPut self.old next self.new answer result }
+    {
+        self.put_next(next);
+        match answer {
+            Ok(stepped) => Ok(stepped),
+            Err(stop) => {
+                self.halted = Some(stop.halt);
+                Err(stop.fault)
+            }
+        }
+    }
+
+    /// Makes a call.
+    fn make<R: Threads + Sync, D: Disk>(
+        &mut self,
+        rt: &R,
+        call: NextCall,
+        alloc: Global,
+        disk: &mut D,
+    ) -> Made
+        requires may { MayMake C.sector self.old (D.device disk.old) call }
+        ensures { Makes (seals_of C.sealed C.opened self.old.site.atom self.old.keys)
+            (D.device disk.old) (D.device disk.new) self.old call self.new result }
+    {
+        match call {
+            NextCall::Begin => self.begin(disk),
+            NextCall::ReadFirst => self.read_first(alloc, disk),
+            NextCall::SaveFirst => self.save_first(alloc, disk),
+            NextCall::Read { done, headers } => self.read(alloc, done, headers, disk),
+            NextCall::Save { done, headers } => self.save(done, headers, disk),
+            NextCall::Keep(headers) => self.keep(headers, disk),
+            NextCall::Open(headers) => self.open(headers, disk),
+            NextCall::ReadAgain { done, headers } => self.read_again(alloc, done, headers, disk),
+            NextCall::Write { done, headers } => self.write(rt, done, headers, disk),
+            NextCall::Settle(headers) => self.settle(headers, disk),
+            NextCall::Move(headers) => self.turn(headers, disk),
+            NextCall::Finish => self.finish(alloc, disk),
+            NextCall::End(ending) => self.end(ending, disk),
+            NextCall::Wipe { done, ending } => self.wipe(done, ending, disk),
+            NextCall::Rest(ending) => self.rest(ending, disk),
+            NextCall::Over(_) => unreachable!(),
+        }
+    }
+}
