@@ -1,0 +1,16 @@
+mod SideLemmas
+mod TextLemmas
+mod HeadLemmas
+mod NumberLemmas
+mod MapLemmas
+mod GroundLemmas
+mod PlanLemmas
+mod TurnLemmas
+mod ConcludeLemmas
+mod CallLemmas
+mod HereLemmas
+mod SaveLemmas
+mod WriteLemmas
+mod EndLemmas
+mod StopLemmas
+mod LawLemmas

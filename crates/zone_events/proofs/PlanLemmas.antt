@@ -1,0 +1,181 @@
+-- The zone that begins next lies where a volume's worker may plan one.
+use Rattle.std.proofs.Common.{◌≡◌, ◌∙◌, inl, inr, ℕ, ◌+◌, ◌*◌, ◌^◌, ◌<◌, ◌≤◌, List}
+use Rattle.std.proofs.Common.{refl, sym, ap, subst, arith}
+use Rattle.disk_areas.specs.Areas.{Area}
+use Rattle.disk_areas.specs.Headers.{Copy, Header, IsLaidOut, Layout, place_of, primary, secondary}
+use Rattle.disk_views.specs.Views.{IsOutside}
+use Rattle.disk_zones.specs.Zones.{IsApart, Reaches, its_header, its_own, its_store, its_target}
+use Rattle.hotzone.proofs.WorkingLemmas.{fits-disk}
+use Rattle.hotzone.specs.Known.{zone_by}
+use Rattle.hotzone.specs.Sites.{count_of}
+use Rattle.hotzone.specs.Workers.{FitsDisk, IsNextZone, IsWorking}
+use Rattle.hotzone.specs.declared.worker.Worker.{Worker}
+use Rattle.joined_disk.specs.Counts.{HasSizes}
+use Rattle.luks_copies.specs.Meanings.{meaning_of}
+use Rattle.luks_rules.specs.Plans.{blocks_in}
+use Rattle.luks_rules.specs.States.{IsSound as IsRuled}
+use Rattle.luks_store.specs.Loads.{IsStored}
+use Rattle.reenc_meta.specs.ConversionMaps.{IsMapAt}
+use Rattle.reenc_meta.specs.Placements.{place_of as atom_of}
+use Rattle.segment_map.specs.declared.map.Map.{Map}
+use Rattle.volume_machine.specs.Courses.{IsBeyond, IsPlanned}
+use Rattle.volume_machine.specs.Pieces.{place_in}
+use Rattle.volume_machine.specs.States.{State}
+use Rattle.volume_machine.specs.Works.{wanted}
+use Rattle.zone_events.proofs.GroundLemmas.{by-map, closed-zone, end-inside, end-is, few, own-is}
+use Rattle.zone_events.proofs.GroundLemmas.{same-places, start-is, store-between}
+use Rattle.zone_events.proofs.MapLemmas.{map-at}
+use Rattle.zone_events.proofs.SideLemmas.{beside-old, place-is, side-as}
+use Rattle.zone_events.proofs.TextLemmas.{stored-parts}
+use Rattle.zone_events.specs.Heads.{header_on}
+use Rattle.zone_events.specs.Readings.{map_of}
+use Rattle.zone_events.specs.Works.{unnamed}
+
+-- where a copy ends
+pub copy-ends : (atom atoms size : ℕ) (layout : Layout) → IsLaidOut atom atoms size layout
+    → (copy : Copy)
+    → (place_of layout copy).start + (place_of layout copy).count
+    ≤ layout.first.count + layout.first.count
+copy-ends atom atoms size layout laid primary =
+    let start = laid.first in omega (arith, start)
+copy-ends atom atoms size layout laid secondary =
+    let start = laid.second in let same = laid.same in omega (arith, start, same)
+
+-- ---- the map that the header gives is that of the worker
+module _ {C : Type 0} (sector : C → ℕ) (w : Worker C) (working : IsWorking sector w)
+    (stored : IsStored w.loaded) where
+  pub places-fit : (atom_of w.loaded.valid.sizes working.zone.now.old
+      + blocks_in working.zone.now.plan ≤ 2 ^ 64)
+      × (atom_of w.loaded.valid.sizes working.zone.now.new
+      + blocks_in working.zone.now.plan ≤ 2 ^ 64)
+  places-fit =
+      let old = w.map.old_places in
+      let new = w.map.new_places in
+      let blocks = working.zone.map_is.blocks in
+      let one = working.zone.map_is.old_place in
+      let two = working.zone.map_is.new_place in
+      (omega (arith, old, blocks, one), omega (arith, new, blocks, two))
+
+  pub map-now : IsMapAt w.loaded.valid.sizes working.zone.now
+      (map_of w.loaded.valid.sizes (meaning_of w.loaded.copies.used.bytes))
+  map-now =
+      map-at w.loaded.valid.sizes (meaning_of w.loaded.copies.used.bytes) w.loaded.valid.meta
+      working.zone.now (stored-parts w.loaded stored) working.zone.is.known working.disk.known
+      places-fit.0 places-fit.1
+
+  pub next-zone : (map : Map)
+      → map ≡ map_of w.loaded.valid.sizes (meaning_of w.loaded.copies.used.bytes)
+      → IsNextZone w.loaded map w.site
+  next-zone map is =
+      by-map w.loaded w.map map w.site working.zone
+      (subst (λ n. IsMapAt w.loaded.valid.sizes working.zone.now n) (sym is) map-now)
+
+module _ {C K : Type 0} (sector : C → ℕ) (layout : Layout) (w : Worker C) (old : State K)
+    (working : IsWorking sector w) (stored : IsStored w.loaded)
+    (ruled : IsRuled w.loaded.valid.meta w.loaded.valid.sizes)
+    (sized : HasSizes w.loaded.valid.sizes old.disk)
+    (map : old.map ≡ map_of w.loaded.valid.sizes (meaning_of w.loaded.copies.used.bytes))
+    (laid : IsLaidOut old.map.atom old.disk.atoms w.loaded.copies.used.header.hdr_size layout)
+  where
+    abbrev zone : IsNextZone w.loaded old.map w.site
+    zone = next-zone sector w working stored old.map map
+
+    fits : FitsDisk sector w old.disk
+    fits = fits-disk sector w old.disk working sized
+
+    -- where it lies between the copies and the blocks
+    between : (layout.first.count + layout.first.count ≤ w.site.store)
+        × (w.site.store + count_of w.site ≤ old.map.old_place)
+    between =
+        store-between w.loaded stored ruled old.map w.site zone layout.first.count
+        (ap (λ n. layout.first.count * n) (sym zone.map_is.atom) ∙ laid.long)
+
+    own : w.site.own ≡ old.map.old_place + w.site.blocks.start
+    own = own-is w.loaded stored ruled old.map w.site zone
+
+    place : (b : ℕ) → place_in old.map b ≡ old.map.old_place + b
+    place b = place-is old.map b (same-places w.loaded stored ruled old.map w.site zone)
+
+    -- its areas lie apart, whatever its headers are
+    pub zone-apart : (first middle last : Header (List ℕ))
+        → IsApart layout (zone_by w.site first middle last)
+    zone-apart first middle last =
+        let here = own in
+        let low = between.0 in
+        let high = between.1 in
+        record {
+          own_store = inr (omega (arith, here, high));
+          own_target = inr (omega arith);
+          target_store = inl (omega arith);
+          own_header = λ copy. inr
+              (let ends = copy-ends old.map.atom old.disk.atoms _ layout laid copy in
+              omega (arith, ends, low, high, here));
+          target_header = λ copy. inl (omega arith);
+          store_header = λ copy. inr
+              (let ends = copy-ends old.map.atom old.disk.atoms _ layout laid copy in
+              omega (arith, ends, low));
+          headers = inl (let start = laid.first in let next = laid.second in
+              omega (arith, start, next));
+        }
+
+    -- no other block lies in one of them
+    pub zone-away : (first middle last : Header (List ℕ)) (b : ℕ) → IsBeyond w.site.blocks b
+        → (area : Area) → Reaches layout (zone_by w.site first middle last) area
+        → IsOutside area.start area.count (place_in old.map b)
+    zone-away first middle last b beyond area its_own =
+        let here = own in
+        let at = place b in
+        let end = end-is w.loaded stored ruled old.map w.site zone in
+        elim beyond [
+          | inl before ↦ inl (omega (arith, here, at, before))
+          | inr behind ↦ inr (omega (arith, here, at, end, behind))
+        ]
+    zone-away first middle last b beyond area its_target = inr (omega arith)
+    zone-away first middle last b beyond area its_store =
+        let at = place b in let high = between.1 in inr (omega (arith, at, high))
+    zone-away first middle last b beyond area (its_header copy) =
+        let at = place b in
+        let low = between.0 in
+        let high = between.1 in
+        let ends = copy-ends old.map.atom old.disk.atoms _ layout laid copy in
+        inr (omega (arith, at, low, high, ends))
+
+    pub is-planned : 0 < count_of w.site
+        → IsPlanned old layout (header_on w.loaded) (unnamed layout w (wanted 0))
+    is-planned some =
+        let end = end-is w.loaded stored ruled old.map w.site zone in
+        record {
+          layout_is = refl;
+          before = refl;
+          opened = refl;
+          moved = refl;
+          part = refl;
+          progress = refl;
+          first = refl;
+          phased = tt;
+          apart = zone-apart (header_on w.loaded) (header_on w.loaded) (header_on w.loaded);
+          within = record {
+            own = fits.own;
+            target = omega arith;
+            store = fits.store;
+          };
+          count = end;
+          inside = end-inside w.loaded stored ruled old.map w.site zone;
+          some = omega (arith, some, end);
+          fewer = omega arith;
+          enough = refl;
+          sides = λ b from below.
+              side-as old.map old.map.direction old.map.blocks old.map.boundary 0 b refl refl refl
+              (closed-zone w.loaded stored ruled old.map w.site zone)
+              ∙ beside-old old.map.blocks old.map.boundary (count_of w.site) b old.map.direction
+              old.map.within (few w.loaded stored ruled old.map w.site zone)
+              (let start = start-is w.loaded stored ruled old.map w.site zone in
+              omega (arith, start, from))
+              (let start = start-is w.loaded stored ruled old.map w.site zone in
+              omega (arith, start, end, below));
+          places = λ b from below.
+              (let at = place b in let here = own in omega (arith, at, here, from));
+          away = λ b inside beyond area reaches.
+              zone-away (header_on w.loaded) (header_on w.loaded) (header_on w.loaded) b beyond
+              area reaches;
+        }

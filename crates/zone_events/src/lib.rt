@@ -1,0 +1,9 @@
+//! Each step of a conversion's zone is a step of the volume's worker. A volume that is converted
+//! while it is in use holds a zone, whose steps are those of its worker that make a device call, or
+//! are refused before one: this crate says which state of the volume's machine a zone's state is, and
+//! that what the zone does is what the machine allows.
+#![tactic(auto)]
+
+mod laws;
+
+pub use laws::steps_are_works;
