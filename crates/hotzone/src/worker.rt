@@ -15,8 +15,8 @@ pub enum Stepped {
     Went,
     /// The zone's last one: its blocks are new by the header.
     ZoneDone,
-    /// The last one of all: the volume is the new segment, and no key of the old one is left on the
-    /// disk. What guarded zones stays as it is.
+    /// The last one of all: the volume is the new segment, and zeros were written to the areas of the
+    /// keyslots that went. What guarded zones stays as it is.
     AllDone,
 }
 
