@@ -160,6 +160,28 @@ either_header first_written from to m (inr next) = inr (next, λ e. cc)
 either_header first_kept from to m is = inr (is, λ e. cc)
 either_header second_written from to m is = inr (is, λ e. cc)
 
+-- the blocks under either of the two headers
+pub stands_under : {M : Type 0} {broken : Bool} {view : View} (atom atoms size : ℕ)
+    (layout : Layout) (zone : Hotzone M) (texts : Texts) (phase : Phase) (hash : Hash)
+    (side : M → Side) (image : Image) (m : M)
+    → MayBe (stage_of phase) (from_of zone phase).means (to_of zone phase).means m
+    → IsPhaseOf zone.resilience phase → IsKept zone.resilience hash zone texts
+    → HasSides side zone phase → IsZoneImage atom atoms size layout zone view image
+    → ShowsZone atom layout zone texts phase broken view
+    → (i : ℕ) → i < zone.own.count → Stands hash zone texts image i (side m)
+stands_under atom atoms size layout zone texts phase hash side image m may phased kept sides is
+    shows i below =
+    elim
+    (either_header (stage_of phase) (from_of zone phase).means (to_of zone phase).means m may) [
+      | inl same ↦ subst (Stands hash zone texts image i) (sym (ap side same ∙ sides.before))
+          (stands_before atom atoms size layout zone texts phase hash image phased kept is shows i
+          below)
+      | inr (next, goes) ↦ subst (Stands hash zone texts image i)
+          (sym (ap side next ∙ sides.after goes))
+          (stands_after atom atoms size layout zone texts phase hash image phased kept is goes shows
+          i below)
+    ]
+
 pub zone_stands : {M : Type 0} {broken : Bool} {view : View} (atom atoms : ℕ) (reader : Reader M)
     (layout : Layout) (zone : Hotzone M) (texts : Texts) (phase : Phase)
     (hash : Hash) (side : M → Side) (handed : Handed) (image : Image) → IsReader reader
@@ -179,23 +201,10 @@ zone_stands {M} {broken} {view} atom atoms reader layout zone texts phase hash s
     commit_gives atom atoms reader layout (from_of zone phase) (to_of zone phase) (stage_of phase)
     handed image is_reader
     headers.before headers.after dated is.header.laid is.header.whole is.header.takes genuine
-    shows.header in
-    elim
-    (either_header (stage_of phase) (from_of zone phase).means (to_of zone phase).means m may) [
-      | inl same ↦ (
-        m,
-        may,
-        gives,
-        λ i below. subst (Stands hash zone texts image i) (sym (ap side same ∙ sides.before))
-            (stands_before atom atoms _ layout zone texts phase hash image phased kept is shows i
-            below),
-      )
-      | inr (next, goes) ↦ (
-        m,
-        may,
-        gives,
-        λ i below. subst (Stands hash zone texts image i) (sym (ap side next ∙ sides.after goes))
-            (stands_after atom atoms _ layout zone texts phase hash image phased kept is goes shows
-            i below),
-      )
-    ]
+    shows.header in (
+      m,
+      may,
+      gives,
+      stands_under atom atoms _ layout zone texts phase hash side image m may phased kept sides is
+          shows,
+    )

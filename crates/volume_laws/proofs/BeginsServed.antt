@@ -16,6 +16,7 @@ use Rattle.disk_zones.specs.Zones.{Hotzone, Phase, Texts, saving, opening, writi
 use Rattle.disk_zones.specs.Zones.{moving}
 use Rattle.disk_zones.specs.Zones.{shifting, turning, from_of, to_of}
 use Rattle.volume_machine.specs.Courses.{IsBeyond}
+use Rattle.volume_machine.specs.Readings.{Reading}
 use Rattle.volume_machine.specs.WorkSteps.{Begins}
 use Rattle.volume_machine.specs.Working.{wiped_later}
 use Rattle.volume_machine.specs.Works.{Progress, converting, resting}
@@ -126,7 +127,7 @@ first_side (shifting n) is = refl
 first_side (turning stage) is = absurd is
 
 -- ---- the beginning
-module _ {K : Type 0} {old new : State K} (begins : Begins old new) where
+module _ {K : Type 0} {reading : Reading} {old new : State K} (begins : Begins reading old new) where
   beyond : (b : ℕ) → IsLive new b → IsBeyond begins.work.range b
   beyond b live = elim (cases_lt b begins.work.range.start) [
     | inl before ↦ inl before
@@ -217,9 +218,9 @@ module _ {K : Type 0} {old new : State K} (begins : Begins old new) where
   first_part : (atom : ℕ) (texts : Texts) → KnowsPart atom texts begins.work.zone begins.work.part
   first_part atom texts = subst (KnowsPart atom texts begins.work.zone) (sym begins.planned.part) tt
 
-pub begins_served : {K P Q : Type 0} {old new : State K} {seals : Seals}
+pub begins_served : {K P Q : Type 0} {reading : Reading} {old new : State K} {seals : Seals}
     {plain : ℕ → List ℕ} {left : List Block} → Here P Q old seals plain left
-    → Begins old new → Here P Q new seals plain left
+    → Begins reading old new → Here P Q new seals plain left
 begins_served {old = old} {new = new} {seals = seals} {left = left} here begins =
     let on = begins.goes in
     let zone_at = begins.work in

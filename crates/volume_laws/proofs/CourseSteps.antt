@@ -25,7 +25,7 @@ use Rattle.volume_laws.proofs.NamedServed.{first_or_not}
 use Rattle.volume_laws.proofs.TurnsServed.{last_behind, leads_of}
 
 -- ---- a zone whose headers are named
-named_from : (work : Work) (opened moved : Header (List ℕ))
+pub named_from : (work : Work) (opened moved : Header (List ℕ))
     → ((IsFirst work.phase → ⊥) → (opened ≡ work.zone.opened) × (moved ≡ work.zone.moved))
     → from_of (named work opened moved).zone work.phase ≡ from_of work.zone work.phase
 named_from work opened moved stay = elim (first_or_not work.phase) [
@@ -50,7 +50,7 @@ named_leads {reading = reading} {old = old} work opened moved phase stay leads b
 
 module _ {K : Type 0} {reading : Reading} {old new : State K} (courses : Courses reading old) where
   -- ---- a zone begins
-  begins_course : Begins old new → Courses reading new
+  begins_course : Begins reading old new → Courses reading new
   begins_course it =
       let rest = courses _ it.was in
       let planned = it.planned in

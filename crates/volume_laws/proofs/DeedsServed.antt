@@ -5,13 +5,13 @@ use Common.{Contains, List, Some, [], ap, arith, false, inl, inr, length, refl, 
 use Common.{◌<◌, ◌∙◌, ◌∷◌, ◌≡◌, ◌≢◌, cell_in, value_in, View, view_of_bytes, view_of_cells}
 use Common.{Block, Exchange, values_of, Legal, Event, Outcome, admits, asks, finishes, got, device}
 use Common.{done, lane_of, reads, settles, writes, place_in, no_plain, Seals, State}
-use Common.{AreExchanges, plain_after}
+use Common.{AreExchanges, Work, block_at, plain_after}
 use Rattle.disk_areas.specs.Commits.{begun, ShowsCommit}
-use Rattle.disk_areas.specs.Headers.{Handed, Header, Layout}
+use Rattle.disk_areas.specs.Headers.{Handed, Header, IsReader, Layout}
 use Rattle.disk_views.proofs.{Entries.image_in, TableEntries.none_contained}
 use Rattle.disk_views.proofs.TableEntries.{place_of_some}
 use Rattle.volume_machine.proofs.{EventEffects.event_effects, Soundness.sound_kept}
-use Rattle.volume_machine.specs.Courses.{Courses}
+use Rattle.volume_machine.specs.Courses.{Courses, IsOnCourse}
 use Rattle.volume_machine.specs.Deeds.{Act, AreDeeds, Deed, Does, answered_of, answered_over, client}
 use Rattle.volume_machine.specs.Deeds.{plain_by, plain_over, state_after, worker}
 use Rattle.volume_machine.specs.Readings.{Reading}
@@ -19,7 +19,7 @@ use Rattle.volume_machine.specs.Works.{Progress, resting}
 use Rattle.volume_laws.specs.Contents.{IsSealed, block_in}
 use Rattle.volume_laws.specs.Converting.{ServesBeside, StartsCertain, StartsUnder}
 use Rattle.volume_laws.specs.Handing.{handed_of, handed_over}
-use Rattle.volume_laws.specs.Imaging.{AreDated, IsGenuineNow, NowBeside, StopsBeside}
+use Rattle.volume_laws.specs.Imaging.{AreDated, HasHeader, NowBeside, ReadsDigests, StopsBeside}
 use Rattle.volume_laws.specs.Standing.{StandsForNow}
 use Rattle.volume_laws.proofs.Admits.{idle, plain-other}
 use Rattle.volume_laws.proofs.Answering.{legal_none}
@@ -261,15 +261,25 @@ stops_beside reading start seals = λ layout header progress blocks bytes deeds 
 -- and while nothing has failed the current bytes stand by theirs
 pub now_beside : {K : Type 0} (reading : Reading) (start : State K) (seals : Seals)
     → NowBeside reading start seals
-now_beside reading start seals = λ layout header progress blocks bytes deeds exchanges handed reader
-    starts dated is are whole now values work at hashes genuine.
-    let ran = deeds_served deeds exchanges (starts_moment starts dated) tt is are in
+now_beside reading start seals = λ layout header progress blocks bytes deeds exchanges reader
+    starts is are whole now values work at hashes.
+    let ran = deeds_served deeds exchanges
+    (starts_moment starts (none_dated reading start starts.at_rest)) tt is are in
     let moment = ran.moment in let last = state_after start deeds in
-    let later = handed_over start handed deeds in
-    let same : moment.here.bytes ≡ now = (let known = moment.here.values in cc) in (
-      ran.next,
-      ran.legal,
-      subst (StandsForNow reading last seals (plain_over seals start no_plain deeds) ran.next) same
-          (stands_now reading later moment.here tt reader work at (moment.courses work at)
-          moment.dated hashes whole (subst (IsGenuineNow reading last later) (sym same) genuine)),
-    )
+    let same : moment.here.bytes ≡ now = (let known = moment.here.values in cc) in
+    let (stands, given) = subst (λ known. StandsForNow reading last seals
+    (plain_over seals start no_plain deeds) ran.next known
+    × HasHeader reading last (λ place. block_at last.map.atom known place)) same
+    (by_now reading moment.here reader work at (moment.courses work at) hashes whole) in
+    (ran.next, ran.legal, stands, given)
+  where
+    by_now : {K P : Type 0} {state : State K} {seals : Seals} {plain : ℕ → List ℕ}
+        {left : List Block} (reading : Reading) (here : Here P (Unit {0}) state seals plain left)
+        → IsReader reading.reader → (work : Work) → state.work ≡ Some work
+        → IsOnCourse reading state work → ReadsDigests reading state → state.broken ≡ false
+        → StandsForNow reading state seals plain left here.bytes
+        × HasHeader reading state (λ place. block_at state.map.atom here.bytes place)
+    by_now reading here reader work at course hashes whole =
+        let (content, stands, is_now, given) =
+        stands_now reading here tt reader work at course hashes whole in
+        ((content, stands, is_now), given)

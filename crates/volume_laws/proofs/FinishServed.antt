@@ -12,6 +12,7 @@ use Rattle.disk_zones.specs.Zones.{saving, its_header}
 use Rattle.volume_machine.proofs.Soundness.{begins, sound_admitted}
 use Rattle.volume_machine.specs.Events.{Outcome}
 use Rattle.volume_machine.specs.States.{begun as begun_open}
+use Rattle.volume_machine.specs.Readings.{Reading}
 use Rattle.volume_machine.specs.WorkSteps.{IsWiped, Proceeds, Takes, Wipes, zeros_of}
 use Rattle.volume_machine.specs.Working.{IsSpare, wiped_later}
 use Rattle.volume_machine.specs.Works.{Progress, complete, converting, resting, wiping}
@@ -125,7 +126,8 @@ wiped_served {old = old} {new = new} {seals = seals} {left = left} here it =
 
 -- ---- the next zone's blocks are taken
 -- what is asked of the zone at hand when its blocks are taken
-pub works_taken : {K : Type 0} {old new : State K} {outcome : Outcome} → Takes old new outcome
+pub works_taken : {K : Type 0} {reading : Reading} {old new : State K} {outcome : Outcome}
+    → Takes reading old new outcome
     → Works old → Works new
 works_taken {old = old} {new = new} it works one is_one =
     let goes = it.admitted.goes in
@@ -145,9 +147,9 @@ works_taken {old = old} {new = new} it works one is_one =
     (place_of it.layout copy) (its_header copy)))
     (λ area (k, below, is). absurd (omega (arith, below))))
 
-pub takes_served : {K P Q : Type 0} {old new : State K} {seals : Seals} {plain : ℕ → List ℕ}
-    {left : List Block} {outcome : Outcome} → Here P Q old seals plain left
-    → (it : Takes old new outcome) → plain it.lane ≡ [] → Here P Q new seals plain left
+pub takes_served : {K P Q : Type 0} {reading : Reading} {old new : State K} {seals : Seals}
+    {plain : ℕ → List ℕ} {left : List Block} {outcome : Outcome} → Here P Q old seals plain left
+    → (it : Takes reading old new outcome) → plain it.lane ≡ [] → Here P Q new seals plain left
 takes_served {old = old} {new = new} {plain = plain} {left = left} {outcome = outcome} here it none =
     let goes = it.admitted.goes in
     let fresh = begun_open old.map.atom it.session it.ask in

@@ -17,6 +17,8 @@ pub mod FinishServed
 pub mod Finishing
 pub mod FreesServed
 pub mod GivesUpServed
+pub mod HeadersNow
+pub mod HeadersTell
 pub mod Here
 pub mod HoldersKept
 pub mod Invariant

@@ -1,14 +1,13 @@
 -- What holds of a volume with a header between two deeds is kept by each step of the worker, and by
 -- each event of a client.
 use Rattle.volume_machine.proofs.Common
-use Common.{Bool, List, Option, Some, [], ap, arith, false, inl, inr, refl, subst, suc, sym, true, ℕ}
-use Common.{◌<◌, ◌∙◌, ◌∷◌, ◌≡◌, ◌≤◌, Event, Outcome, New, Old, Zone, Seals, side_in}
+use Common.{Bool, List, Option, Some, [], ap, arith, false, inl, inr, refl, subst, suc, sym, ℕ}
+use Common.{◌∙◌, ◌∷◌, ◌≡◌, ◌≤◌, Event, Outcome, Zone, Seals, side_in}
 use Common.{IsSound, AreApart, IsGoverned, State, open_at, Works, Work, Step, Meets}
 use Rattle.volume_machine.proofs.EventEffects.{event_effects}
 use Rattle.volume_machine.proofs.Soundness.{sound_admitted, sound_freed, sound_kept}
 use Rattle.disk_areas.specs.Commits.{first_written}
 use Rattle.disk_areas.specs.Headers.{Header, Layout}
-use Rattle.disk_zones.specs.Zones.{saving}
 use Rattle.volume_machine.specs.Courses.{Courses}
 use Rattle.volume_machine.specs.Deeds.{Act, AreDeeds, Deed, Does, client, state_after, worker}
 use Rattle.volume_machine.specs.Readings.{Reading}
@@ -20,7 +19,7 @@ use Rattle.volume_machine.specs.WorkSteps.{is_unfinished, leaves_blocks, leaves_
 use Rattle.volume_machine.specs.WorkSteps.{misses_conclusion, misses_part, misses_wipe, opens_zone}
 use Rattle.volume_machine.specs.WorkSteps.{queues, stays, steps, takes, wiped, wipes}
 use Rattle.volume_machine.specs.Working.{IsWorkers}
-use Rattle.volume_machine.specs.Works.{Progress, advanced, converting, named, resting, wanted}
+use Rattle.volume_machine.specs.Works.{Progress, advanced, converting, named, resting}
 use Rattle.volume_machine.specs.declared.open.Open.{Open}
 use Rattle.volume_laws.specs.Converting.{IsInOrder}
 use Rattle.volume_laws.proofs.BeginsServed.{none_governed, works_begun}
@@ -32,7 +31,7 @@ use Rattle.volume_laws.proofs.FreesServed.{still_under_way, then_ends, works_fre
 use Rattle.volume_laws.proofs.GivesUpServed.{given_goes, given_side, works_given_up}
 use Rattle.volume_laws.proofs.HoldersKept.{atoms_kept, ends_turned, fails_atoms, opens_turned}
 use Rattle.volume_laws.proofs.HoldersKept.{step_atoms}
-use Rattle.volume_laws.proofs.NamedServed.{first_or_not, with_work, working_named}
+use Rattle.volume_laws.proofs.NamedServed.{with_work, working_named}
 use Rattle.volume_laws.proofs.Reading.{writes_lock}
 use Rattle.volume_laws.proofs.RunsServed.{works_after}
 use Rattle.volume_laws.proofs.StepsServed.{step_phased, step_side}

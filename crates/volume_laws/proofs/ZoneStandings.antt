@@ -5,15 +5,15 @@ use Common.{inr, length, refl, subst, sym, ℕ, ◌+◌, ◌-◌, ◌<◌, ◌�
 use Common.{View, view_of_bytes, view_of_cells, Side, New, Old}
 use Common.{ShowsZone, Told, Block, place_in}
 use Common.{side_in, Seals, IsLive, State, IsWorking, Work}
-use Rattle.disk_areas.proofs.HeadersGiven.{commit_gives}
+use Rattle.disk_areas.proofs.HeadersGiven.{commit_gives, header_is_one}
 use Rattle.disk_areas.specs.Areas.{Image, content_of}
-use Rattle.disk_areas.specs.Commits.{begun}
+use Rattle.disk_areas.specs.Commits.{MayBe, begun}
 use Rattle.disk_areas.specs.Headers.{Gives, Handed, IsGenuine, IsReader, place_of}
 use Rattle.disk_views.proofs.Blockwise.{length-block_at}
 use Rattle.disk_views.proofs.Entries.{image_in}
 use Rattle.disk_zones.proofs.Recoveries.{zone_image_taken}
 use Rattle.disk_zones.proofs.ZoneFrames.{zone_sharp}
-use Rattle.disk_zones.proofs.ZoneImages.{zone_stands}
+use Rattle.disk_zones.proofs.ZoneImages.{stands_under}
 use Rattle.disk_zones.specs.Standing.{IsZoneImage, Stands}
 use Rattle.disk_zones.specs.Standing.{side_after, side_before}
 use Rattle.disk_zones.specs.Zones.{Texts}
@@ -22,11 +22,12 @@ use Rattle.disk_zones.specs.Zones.{from_of, to_of, stage_of}
 use Rattle.volume_machine.specs.Courses.{IsBeyond, IsOnCourse}
 use Rattle.volume_machine.specs.Readings.{Reading}
 use Rattle.volume_laws.specs.Contents.{IsAllowedAt, IsNow, IsSealed, block_in}
-use Rattle.volume_laws.specs.Imaging.{AreDated, IsGenuineNow, ReadsDigests, StandsTaken}
-use Rattle.volume_laws.specs.Standing.{Content, StandsForNow}
+use Rattle.volume_laws.specs.Imaging.{AreDated, HasHeader, ReadsDigests, StandsTaken}
+use Rattle.volume_laws.specs.Standing.{Content}
 use Rattle.volume_laws.specs.Standing.{StandsUnder}
 use Rattle.volume_laws.specs.Texts.{texts_of}
 use Rattle.volume_laws.proofs.BeginsServed.{zone_untried}
+use Rattle.volume_laws.proofs.HeadersNow.{header_now, is_later}
 use Rattle.volume_laws.proofs.Here.{Here, positive}
 use Rattle.volume_laws.proofs.PlainBlocks.{newest_contained}
 use Rattle.volume_laws.proofs.Standings.{chosen}
@@ -41,6 +42,8 @@ use Rattle.volume_laws.proofs.ZoneBlocks.{zone_block_stands}
 record HasHeaderOf {K : Type 0} (reading : Reading) (state : State K) (work : Work) (texts : Texts)
     (image : Image) : Type 0 where
   means : List ℕ
+  may : MayBe (stage_of work.phase) (from_of work.zone work.phase).means
+      (to_of work.zone work.phase).means means
   gives : Gives reading.reader (content_of state.disk.atoms image) means
   side : Side
   start : ℕ
@@ -51,12 +54,13 @@ record HasHeaderOf {K : Type 0} (reading : Reading) (state : State K) (work : Wo
 -- An image of the disk at hand, by a view of it: in it each live block holds a value of some kind,
 -- of which is the newest one of each block of the zone.
 record IsSeen {K : Type 0} (reading : Reading) (state : State K) (seals : Seals) (left : List Block)
-    (handed : Handed) (work : Work) (allowed : ℕ → List ℕ → Type 0) (broken : Bool) (view : View)
-    (image : Image) : Type 0 where
+    (work : Work) (allowed : ℕ → List ℕ → Type 0) (broken : Bool) (view : View) (image : Image) :
+    Type 0 where
   zone : IsZoneImage state.map.atom state.disk.atoms
       (reading.reader.size (from_of work.zone work.phase).means) work.layout work.zone view image
-  genuine : IsGenuine reading.reader (reading.reader.size (from_of work.zone work.phase).means)
-      handed (content_of state.disk.atoms image)
+  given : (m : List ℕ) × MayBe (stage_of work.phase) (from_of work.zone work.phase).means
+      (to_of work.zone work.phase).means m
+      × Gives reading.reader (content_of state.disk.atoms image) m
   shows : ShowsZone state.map.atom work.layout work.zone (texts_of state.map.atom seals left work)
       work.phase broken view
   live : (b : ℕ) → IsLive state b → (value : List ℕ) × allowed b value
@@ -65,12 +69,11 @@ record IsSeen {K : Type 0} (reading : Reading) (state : State K) (seals : Seals)
   apart : TellsAtoms state.map.atom (texts_of state.map.atom seals left work) work.zone work.phase
 
 module _ {K P Q : Type 0} {state : State K} {seals : Seals} {plain : ℕ → List ℕ} {left : List Block}
-    (reading : Reading) (handed : Handed) (here : Here P Q state seals plain left)
-    (reader : IsReader reading.reader) (work : Work) (is : state.work ≡ Some work)
-    (course : IsOnCourse reading state work) (dated : AreDated reading state handed)
+    (reading : Reading) (here : Here P Q state seals plain left) (work : Work)
+    (is : state.work ≡ Some work) (course : IsOnCourse reading state work)
     (hashes : ReadsDigests reading state) {allowed : ℕ → List ℕ → Type 0} {broken : Bool} {view : View}
     {image : Image}
-    (seen : IsSeen reading state seals left handed work allowed broken view image) where
+    (seen : IsSeen reading state seals left work allowed broken view image) where
   abbrev texts : Texts
   texts = texts_of state.map.atom seals left work
 
@@ -87,13 +90,18 @@ module _ {K P Q : Type 0} {state : State K} {seals : Seals} {plain : ℕ → Lis
   abbrev side_of : List ℕ → Side
   side_of m = side_in (reading.map_of m) work.range.start
 
-  from_header : (m : List ℕ) → m ≡ (from_of work.zone work.phase).means
+  abbrev MayHave : List ℕ → Type 0
+  MayHave m = MayBe (stage_of work.phase) (from_of work.zone work.phase).means
+      (to_of work.zone work.phase).means m
+
+  from_header : (m : List ℕ) → MayHave m → m ≡ (from_of work.zone work.phase).means
       → Gives reading.reader (content_of state.disk.atoms image) m
       → ((i : ℕ) → i < work.zone.own.count
       → Stands reading.hash work.zone texts image i (side_before work.phase))
       → HasHeaderOf reading state work texts image
-  from_header m same gives stands = record {
+  from_header m may same gives stands = record {
     means = m;
+    may = may;
     gives = gives;
     side = side_before work.phase;
     start = work.zone.own.start;
@@ -103,14 +111,15 @@ module _ {K P Q : Type 0} {state : State K} {seals : Seals} {plain : ℕ → Lis
     stands = stands;
   }
 
-  next_header : (m : List ℕ) → m ≡ (to_of work.zone work.phase).means
+  next_header : (m : List ℕ) → MayHave m → m ≡ (to_of work.zone work.phase).means
       → stage_of work.phase ≢ begun
       → Gives reading.reader (content_of state.disk.atoms image) m
       → ((i : ℕ) → i < work.zone.own.count
       → Stands reading.hash work.zone texts image i (side_after work.phase))
       → HasHeaderOf reading state work texts image
-  next_header m same goes gives stands = record {
+  next_header m may same goes gives stands = record {
     means = m;
+    may = may;
     gives = gives;
     side = side_after work.phase;
     start = start_on work.zone.resilience work.zone (side_after work.phase);
@@ -124,9 +133,10 @@ module _ {K P Q : Type 0} {state : State K} {seals : Seals} {plain : ℕ → Lis
   behind_saving : ((i : ℕ) → IsTold state.map.atom work.phase i)
       → work.range.start < work.range.end → HasHeaderOf reading state work texts image
   behind_saving all_told some =
-      let (m, may, gives, stands) = zone_stands state.map.atom state.disk.atoms reading.reader
-      work.layout work.zone texts work.phase reading.hash side_of handed image reader
-      (record { before = course.is; after = course.is_next }) working.phased
+      let (m, may, gives) = seen.given in
+      let stands = stands_under state.map.atom state.disk.atoms
+      (reading.reader.size (from_of work.zone work.phase).means) work.layout work.zone texts work.phase
+      reading.hash side_of image m may working.phased
       (kept_by state.map.atom work.zone.resilience reading.hash work.zone texts
       here.logic.sound.fits.known (λ by_digests. (
         hashes work is by_digests,
@@ -135,14 +145,14 @@ module _ {K P Q : Type 0} {state : State K} {seals : Seals} {plain : ℕ → Lis
       (record {
         before = from_places.sides work.range.start (omega arith) some;
         after = λ goes. (next_places work course goes).sides work.range.start (omega arith) some;
-      }) (dated work is) seen.zone seen.genuine seen.shows in
+      }) seen.zone seen.shows in
       elim (either_header (stage_of work.phase) (from_of work.zone work.phase).means
       (to_of work.zone work.phase).means m may) [
-        | inl same ↦ from_header m same gives (λ i below.
+        | inl same ↦ from_header m may same gives (λ i below.
             subst (Stands reading.hash work.zone texts image i)
             (ap side_of same ∙ from_places.sides work.range.start (omega arith) some)
             (stands i below))
-        | inr (same, goes) ↦ next_header m same goes gives (λ i below.
+        | inr (same, goes) ↦ next_header m may same goes gives (λ i below.
             subst (Stands reading.hash work.zone texts image i)
             (ap side_of same
             ∙ (next_places work course goes).sides work.range.start (omega arith) some)
@@ -152,15 +162,12 @@ module _ {K P Q : Type 0} {state : State K} {seals : Seals} {plain : ℕ → Lis
   -- while it is being saved the old atoms are there
   while_saving : (n : ℕ) → work.phase ≡ saving n → HasHeaderOf reading state work texts image
   while_saving n saves =
-      let (m, may, gives) = commit_gives state.map.atom state.disk.atoms reading.reader work.layout
-      (from_of work.zone work.phase) (to_of work.zone work.phase) (stage_of work.phase) handed
-      image reader course.is course.is_next (dated work is) seen.zone.header.laid
-      seen.zone.header.whole seen.zone.header.takes seen.genuine seen.shows.header in
+      let (m, may, gives) = seen.given in
       let shows = subst (λ p. ShowsZone state.map.atom work.layout work.zone texts p broken view)
       saves seen.shows in
       elim (either_header (stage_of work.phase) (from_of work.zone work.phase).means
       (to_of work.zone work.phase).means m may) [
-        | inl same ↦ from_header m same gives (λ i below.
+        | inl same ↦ from_header m may same gives (λ i below.
             subst (λ p. Stands reading.hash work.zone texts image i (side_before p)) (sym saves)
             (shows.own.left i below (image (work.zone.own.start + i)) (seen.zone.own i below)))
         | inr (same, goes) ↦ absurd (goes (ap (λ p. stage_of p) saves))
@@ -174,16 +181,13 @@ module _ {K P Q : Type 0} {state : State K} {seals : Seals} {plain : ℕ → Lis
 
   without_blocks : work.range.end ≤ work.range.start → HasHeaderOf reading state work texts image
   without_blocks none =
-      let (m, may, gives) = commit_gives state.map.atom state.disk.atoms reading.reader work.layout
-      (from_of work.zone work.phase) (to_of work.zone work.phase) (stage_of work.phase) handed
-      image reader course.is course.is_next (dated work is) seen.zone.header.laid
-      seen.zone.header.whole seen.zone.header.takes seen.genuine seen.shows.header in
+      let (m, may, gives) = seen.given in
       let empty : (i : ℕ) → i < work.zone.own.count → ⊥ = λ i below.
       (let count = working.lies.count in omega (arith, count, below, none)) in
       elim (either_header (stage_of work.phase) (from_of work.zone work.phase).means
       (to_of work.zone work.phase).means m may) [
-        | inl same ↦ from_header m same gives (λ i below. absurd (empty i below))
-        | inr (same, goes) ↦ next_header m same goes gives (λ i below. absurd (empty i below))
+        | inl same ↦ from_header m may same gives (λ i below. absurd (empty i below))
+        | inr (same, goes) ↦ next_header m may same goes gives (λ i below. absurd (empty i below))
       ]
 
   header_of : HasHeaderOf reading state work texts image
@@ -191,6 +195,13 @@ module _ {K P Q : Type 0} {state : State K} {seals : Seals} {plain : ℕ → Lis
     | inl some ↦ with_blocks some
     | inr none ↦ without_blocks none
   ]
+
+  -- and each header that it gives is that one
+  image_header : (m : List ℕ) → Gives reading.reader (content_of state.disk.atoms image) m
+      → MayHave m
+  image_header m gives = let it = header_of in
+      subst MayHave (header_is_one reading.reader (content_of state.disk.atoms image) it.means m
+      it.gives gives) it.may
 
   -- ---- the content
   record IsValue (b : ℕ) (value : List ℕ) : Type 0 where
@@ -265,18 +276,25 @@ module _ {K P Q : Type 0} {state : State K} {seals : Seals} {plain : ℕ → Lis
       )
 
 -- by the zone that the volume has
-zone_of_state : {K : Type 0} (state : State K) (reading : Reading) (seals : Seals) (work : Work)
-    (allowed : ℕ → List ℕ → Type 0) (image : Image) → state.work ≡ Some work
-    → (content : Content)
-    × StandsUnder reading state.disk.atoms seals state.map (Some work) image content
-    × ((b : ℕ) → b < state.map.blocks → allowed b (content b))
-    → (content : Content)
-    × StandsUnder reading state.disk.atoms seals state.map state.work image content
-    × ((b : ℕ) → b < state.map.blocks → allowed b (content b))
-zone_of_state state reading seals work allowed image is stands =
-    subst (λ w. (content : Content)
-    × StandsUnder reading state.disk.atoms seals state.map w image content
-    × ((b : ℕ) → b < state.map.blocks → allowed b (content b))) (sym is) stands
+module _ {K P Q : Type 0} {state : State K} {seals : Seals} {plain : ℕ → List ℕ} {left : List Block}
+    (reading : Reading) (here : Here P Q state seals plain left) (work : Work)
+    (is : state.work ≡ Some work) (course : IsOnCourse reading state work)
+    (hashes : ReadsDigests reading state) {allowed : ℕ → List ℕ → Type 0} {broken : Bool} {view : View}
+    {image : Image} (seen : IsSeen reading state seals left work allowed broken view image) where
+  image_stands : (content : Content)
+      × StandsUnder reading state.disk.atoms seals state.map state.work image content
+      × ((b : ℕ) → b < state.map.blocks → allowed b (content b)) × HasHeader reading state image
+  image_stands =
+      let (content, stands, may) = zone_image_stands reading here work is course hashes seen in (
+        content,
+        subst (λ w. StandsUnder reading state.disk.atoms seals state.map w image content) (sym is)
+            stands,
+        may,
+        λ one at m gives. let same : work ≡ one = cc in
+            subst (λ w. MayBe (stage_of w.phase) (from_of w.zone w.phase).means
+            (to_of w.zone w.phase).means m) same
+            (image_header reading here work is course hashes seen m gives),
+      )
 
 -- every image of the table
 pub stands_taken : {K P Q : Type 0} {state : State K} {seals : Seals} {plain : ℕ → List ℕ}
@@ -291,42 +309,53 @@ stands_taken {state = state} {seals = seals} {plain = plain} {left = left} readi
     let atoms_is : length told.now ≡ state.disk.atoms = here.cells all premise told told_is in
     let shown = here.tables premise told told_is in
     let working = here.works work is in
-    zone_of_state state reading seals work (IsAllowedAt state plain left) (value_in image) is
-    (zone_image_stands reading handed here reader work is course dated hashes (record {
-      zone = subst (λ n. IsZoneImage state.map.atom n size work.layout work.zone
-          (view_of_cells told.now) (value_in image)) atoms_is
-          (zone_image_taken state.map.atom size work.layout work.zone told.now image taken.is
-          taken.whole (rw atoms_is course.laid) (rw atoms_is working.within.zone));
-      genuine = subst (λ n. IsGenuine reading.reader size handed (content_of n (value_in image)))
-          atoms_is (taken.genuine work is);
+    let zone_image : IsZoneImage state.map.atom state.disk.atoms size work.layout work.zone
+    (view_of_cells told.now) (value_in image) =
+    subst (λ n. IsZoneImage state.map.atom n size work.layout work.zone (view_of_cells told.now)
+    (value_in image)) atoms_is (zone_image_taken state.map.atom size work.layout work.zone told.now
+    image taken.is taken.whole (rw atoms_is course.laid) (rw atoms_is working.within.zone)) in
+    image_stands reading here work is course hashes {allowed = IsAllowedAt state plain left} (record {
+      zone = zone_image;
+      given = commit_gives state.map.atom state.disk.atoms reading.reader work.layout
+          (from_of work.zone work.phase) (to_of work.zone work.phase) (stage_of work.phase) handed
+          (value_in image) reader course.is course.is_next (dated work is) zone_image.header.laid
+          zone_image.header.whole zone_image.header.takes
+          (subst (λ n. IsGenuine reading.reader size handed (content_of n (value_in image))) atoms_is
+          (taken.genuine work is)) (shown.zone work is).zone.header;
       shows = (shown.zone work is).zone;
       live = λ b live. shown.candidates b live (value_in image (place_in state.map b))
           (image_in told.now image (place_in state.map b) taken.is
           (here.places premise told told_is b live.inside));
       own = λ b from to. inl (newest_contained (block_in left b));
       apart = (shown.zone work is).apart;
-    }))
+    })
 
 -- the disk's current bytes, while nothing has failed
 pub stands_now : {K P Q : Type 0} {state : State K} {seals : Seals} {plain : ℕ → List ℕ}
-    {left : List Block} (reading : Reading) (handed : Handed)
-    (here : Here P Q state seals plain left) → Q → IsReader reading.reader → (work : Work)
-    → state.work ≡ Some work → IsOnCourse reading state work → AreDated reading state handed
-    → ReadsDigests reading state → state.broken ≡ false → IsGenuineNow reading state handed here.bytes
-    → StandsForNow reading state seals plain left here.bytes
-stands_now {state = state} {seals = seals} {plain = plain} {left = left} reading handed here all
-    reader work is course dated hashes whole genuine =
+    {left : List Block} (reading : Reading) (here : Here P Q state seals plain left) → Q
+    → IsReader reading.reader → (work : Work) → state.work ≡ Some work
+    → IsOnCourse reading state work → ReadsDigests reading state → state.broken ≡ false
+    → (content : Content)
+    × StandsUnder reading state.disk.atoms seals state.map state.work
+    (view_of_bytes state.map.atom here.bytes).current content
+    × ((b : ℕ) → b < state.map.blocks → IsNow state plain left b (content b))
+    × HasHeader reading state (view_of_bytes state.map.atom here.bytes).current
+stands_now {state = state} {seals = seals} {plain = plain} {left = left} reading here all reader work
+    is course hashes whole =
     let atom = state.map.atom in
     let view = view_of_bytes atom here.bytes in
     let working = here.works work is in
     let size = here.size all whole in
-    zone_of_state state reading seals work (IsNow state plain left) view.current is
-    (zone_image_stands reading handed here reader work is course dated hashes (record {
+    let shows : ShowsZone atom work.layout work.zone (texts_of atom seals left work) work.phase false
+    view = rw whole at (here.shown.zone work is).zone in
+    let all_whole : (place : ℕ) → place < state.disk.atoms → length (view.current place) ≡ atom =
+    λ place below. length-block_at atom state.disk.atoms here.bytes place below
+    (omega (arith, size)) in
+    image_stands reading here work is course hashes {allowed = IsNow state plain left} (record {
       zone = record {
         header = record {
           laid = course.laid;
-          whole = λ place below. length-block_at atom state.disk.atoms here.bytes place below
-              (omega (arith, size));
+          whole = all_whole;
           takes = λ copy i below. Contains-push []
               (view.current ((place_of work.layout copy).start + i));
         };
@@ -334,9 +363,11 @@ stands_now {state = state} {seals = seals} {plain = plain} {left = left} reading
         target = λ i below. Contains-push [] (view.current (work.zone.target.start + i));
         store = λ i below. Contains-push [] (view.current (work.zone.store.start + i));
       };
-      genuine = genuine work is;
+      given = header_now reading.reader atom state.disk.atoms work.layout
+          (from_of work.zone work.phase) (to_of work.zone work.phase) (stage_of work.phase) view reader
+          course.is course.is_next course.laid all_whole (is_later work course) shows.header;
       shows = zone_sharp atom work.layout work.zone (texts_of atom seals left work) work.phase view
-          (rw whole at (here.shown.zone work is).zone);
+          shows;
       live = λ b live. here.shown.current whole b live;
       own = λ b from to. inr (
         λ lane other tried. zone_untried work b lane other here.logic
@@ -344,4 +375,4 @@ stands_now {state = state} {seals = seals} {plain = plain} {left = left} reading
         refl,
       );
       apart = (here.shown.zone work is).apart;
-    }))
+    })

@@ -2,9 +2,9 @@
 -- header.
 use Rattle.std.specs.Prelude.{ℕ, ◌≡◌, ◌<◌, false, List, Some, length, replicate}
 use Rattle.base_terms.specs.Blocks.{lengths}
-use Rattle.disk_areas.specs.Areas.{content_of}
-use Rattle.disk_areas.specs.Commits.{IsDated}
-use Rattle.disk_areas.specs.Headers.{Handed, Header, IsGenuine, IsReader, Layout}
+use Rattle.disk_areas.specs.Areas.{Image, content_of}
+use Rattle.disk_areas.specs.Commits.{IsDated, MayBe}
+use Rattle.disk_areas.specs.Headers.{Gives, Handed, Header, IsGenuine, IsReader, Layout}
 use Rattle.disk_views.specs.Parts.{block_at, value_in}
 use Rattle.disk_zones.specs.Zones.{checksum, from_of, to_of, stage_of}
 use Rattle.plain_disk.specs.Plain.{Block, Exchange, Legal}
@@ -44,37 +44,41 @@ pub record IsTaken {K : Type 0} (reading : Reading) (state : State K) (handed : 
       (reading.reader.size (from_of work.zone work.phase).means) handed
       (content_of (length cells) (value_in image))
 
--- each such image stands for an allowed content
+-- a header that these bytes give is one that the commit at hand may have left: the one that it leads
+-- from, before its first write that alone, or the next one, behind its first sync that alone
+abbrev pub HasHeader : {K : Type 0} → Reading → State K → Image → Type 0
+HasHeader reading state image = (work : Work) → state.work ≡ Some work → (header : List ℕ)
+    → Gives reading.reader (content_of state.disk.atoms image) header
+    → MayBe (stage_of work.phase) (from_of work.zone work.phase).means
+    (to_of work.zone work.phase).means header
+
+-- each such image stands for an allowed content, by a header that the commit at hand may have left
 abbrev pub StandsTaken : {K : Type 0} → Reading → State K → Seals → (ℕ → List ℕ) → List Block
     → Handed → List Cell → Type 0
 StandsTaken reading state seals plain blocks handed cells =
     (image : List (List ℕ)) → IsTaken reading state handed cells image
     → (content : Content) × Stands reading state seals (value_in image) content
     × ((b : ℕ) → b < state.map.blocks → IsAllowedAt state plain blocks b (content b))
-
--- no copy that these current bytes have is torn or hidden
-abbrev pub IsGenuineNow : {K : Type 0} → Reading → State K → Handed → List ℕ → Type 0
-IsGenuineNow reading state handed now = (work : Work) → state.work ≡ Some work
-    → IsGenuine reading.reader (reading.reader.size (from_of work.zone work.phase).means) handed
-    (content_of state.disk.atoms (λ place. block_at state.map.atom now place))
+    × HasHeader reading state (value_in image)
 
 -- While nothing has failed the current bytes stand, by their own header, for what each block holds.
 abbrev pub NowBeside : {K : Type 0} → Reading → State K → Seals → Type 0
 NowBeside {K} reading start seals =
     (layout : Layout) (header : Header (List ℕ)) (progress : Progress) (blocks : List Block)
-    (bytes : List ℕ) (deeds : List (Deed K)) (exchanges : List Exchange) (handed : Handed)
+    (bytes : List ℕ) (deeds : List (Deed K)) (exchanges : List Exchange)
     → IsReader reading.reader
     → StartsUnder reading layout header progress start seals blocks bytes
-    → AreDated reading start handed → AreDeeds reading seals start deeds
+    → AreDeeds reading seals start deeds
     → AreExchanges (answered_over seals start no_plain deeds) exchanges
     → (state_after start deeds).broken ≡ false
     → (now : List ℕ) → (state_after start deeds).disk.values ≡ Some now
     → (work : Work) → (state_after start deeds).work ≡ Some work
     → ReadsDigests reading (state_after start deeds)
-    → IsGenuineNow reading (state_after start deeds) (handed_over start handed deeds) now
     → (left : List Block) × Legal start.map.atom blocks exchanges left
     × StandsForNow reading (state_after start deeds) seals (plain_over seals start no_plain deeds)
     left now
+    × HasHeader reading (state_after start deeds)
+    (λ place. block_at (state_after start deeds).map.atom now place)
 
 -- Wherever a run of deeds stops: the operations answered by then are legal, and each image that is
 -- taken there of what the disk may hold stands for a content that they allow.

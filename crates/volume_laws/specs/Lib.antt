@@ -8,4 +8,5 @@ pub mod Promises
 pub mod Rest
 pub mod Texts
 pub mod Standing
+pub mod Telling
 pub mod Faulting

@@ -10,6 +10,7 @@ ghost use Rattle.volume_laws.specs.Standing.{Stands, StandsAllowed, StandsForNow
 ghost use Rattle.volume_laws.specs.Converting.{IsInOrder, KeepsBlock, ServesBeside};
 ghost use Rattle.volume_laws.specs.Faulting.{GoesByAnswer};
 ghost use Rattle.volume_laws.specs.Imaging.{NowBeside, StopsBeside};
+ghost use Rattle.volume_laws.specs.Telling.{TellsBeside};
 ghost use Rattle.volume_machine.specs.Courses.{Courses};
 ghost use Rattle.volume_machine.specs.Deeds.{AreDeeds, Deed, state_after};
 ghost use Rattle.volume_machine.specs.WorkSteps.{Worked, WorkStep};
@@ -74,19 +75,30 @@ pub fn every_conversion_is_served<C: SectorCipher>()
         ServesBeside reading start seals }
 {}
 
-/// Wherever a run of deeds stops, each image of what the disk may hold stands, by the header that is
-/// chosen in it, for a content that is allowed: each block holds its last flushed value, one written
-/// since, or one that an unfinished write has tried. While nothing has failed the current bytes stand
-/// by theirs for what each block holds. So it is in each phase of a zone, in both directions, and by
-/// each resilience, where digests are those of SHA-256.
+/// Wherever a run of deeds stops that began with a certain disk, each image of what the disk may hold
+/// stands for a content that is allowed, by the map of the header that is chosen in it, with the zone
+/// at hand, its area and the volume's keys: each block holds its last flushed value, one written
+/// since, or one that an unfinished write has tried. That header is the one that the commit at hand
+/// leads from or the next one. So it is in each phase of a zone that a worker leads, in both
+/// directions, and by each resilience, where digests are those of SHA-256.
 ///
-/// It speaks of images in which no copy of the header is torn and none stands in front of the second
-/// one.
+/// It speaks of images in which no torn copy of the header is valid and none stands in front of the
+/// second one, and of a start at which each text that was handed to a copy's place, where it is valid,
+/// means the header or an older one. While nothing has failed the current bytes stand by their header
+/// for what each block holds, whatever was handed.
 pub fn conversions_stand_where_they_stop<C: SectorCipher>()
     ensures stops { (reading : Reading) (start : State (Keys C)) (seals : Seals) →
         StopsBeside reading start seals }
     ensures now { (reading : Reading) (start : State (Keys C)) (seals : Seals) →
         NowBeside reading start seals }
+{}
+
+/// Each header that an image of a conversion may have tells of the seals what the header at the
+/// start told, of the old side as long as blocks are left to convert; and while a zone that has
+/// blocks is at hand, it tells what guards that zone, and in which area.
+pub fn headers_tell_of_conversions<C: SectorCipher>()
+    ensures { (reading : Reading) (start : State (Keys C)) (seals : Seals) →
+        TellsBeside reading start seals }
 {}
 
 /// While a client's operation holds a block, no step of the worker changes its side, its place or

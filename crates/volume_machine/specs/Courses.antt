@@ -1,5 +1,5 @@
 -- The headers that a zone leads to, and what the maps that they give change.
-use Rattle.std.specs.Prelude.{ℕ, suc, ◌≡◌, ◌+◌, ◌-◌, ◌<◌, ◌≤◌, ◌⊎◌, List, Some}
+use Rattle.std.specs.Prelude.{ℕ, true, suc, ◌≡◌, ◌+◌, ◌-◌, ◌<◌, ◌≤◌, ◌⊎◌, List, Some}
 use Rattle.block_range.specs.declared.BlockRange.{BlockRange}
 use Rattle.disk_areas.specs.Commits.{Follows}
 use Rattle.disk_areas.specs.Headers.{Reader, Header, IsHeader, Layout, IsLaidOut}
@@ -47,6 +47,15 @@ pub record Succeeds (reader : Reader (List ℕ)) (from to : Header (List ℕ)) :
   pub follows : Follows reader from.means to.means
   pub number : reader.seq to.means ≡ suc (reader.seq from.means)
 
+-- a header goes on with the conversion of another one: its sides are sealed the same, its zones are
+-- guarded the same, and it has the same keyslots
+pub record Continues (reading : Reading) (from to : List ℕ) : Type 0 where
+  pub converts : reading.converts to ≡ true
+  pub sealing : (side : Side) → reading.sealing to side ≡ reading.sealing from side
+  pub guard : reading.guard to ≡ reading.guard from
+  pub store : reading.store to ≡ reading.store from
+  pub keyslots : reading.keyslots to ≡ reading.keyslots from
+
 -- the commit 'zone open' is still to come, or at hand
 abbrev pub IsToOpen : Phase → Type 0
 IsToOpen (saving n) = Unit {0}
@@ -68,6 +77,12 @@ pub record Leads {K : Type 0} (reading : Reading) (state : State K) (work : Work
       × Turns state.disk.atoms work.range New (new_start work.zone.resilience work.zone) state.map
       (reading.map_of work.zone.moved.means)
 
+-- and go on with its conversion
+pub record LeadsOn (reading : Reading) (work : Work) : Type 0 where
+  pub opens : IsToOpen work.phase
+      → Continues reading work.zone.before.means work.zone.opened.means
+  pub moves : Continues reading (last_from work.zone work.phase).means work.zone.moved.means
+
 -- no zone is at hand
 abbrev pub IsAtRest : Work → Type 0
 IsAtRest work = work ≡ resting work.layout work.zone.before work.progress
@@ -86,9 +101,15 @@ pub record IsOnCourse {K : Type 0} (reading : Reading) (state : State K) (work :
 abbrev pub Courses : {K : Type 0} → Reading → State K → Type 0
 Courses reading state = (work : Work) → state.work ≡ Some work → IsOnCourse reading state work
 
--- ---- the zone that begins next, whose headers aren't named yet
-pub record IsPlanned {K : Type 0} (state : State K) (layout : Layout)
+-- ---- the zone that begins next, whose headers aren't named yet: it is guarded as its header says,
+-- and what is saved of it is saved from the start of that area on
+pub record IsPlanned {K : Type 0} (reading : Reading) (state : State K) (layout : Layout)
     (header : Header (List ℕ)) (work : Work) : Type 0 where
+  pub converts : reading.converts header.means ≡ true
+  pub guard : work.zone.resilience ≡ reading.guard header.means
+  pub store : 0 < work.zone.store.count
+      → work.zone.store.start ≡ (reading.store header.means).start
+  pub store_within : work.zone.store.count ≤ (reading.store header.means).count
   pub layout_is : work.layout ≡ layout
   pub before : work.zone.before ≡ header
   pub opened : work.zone.opened ≡ header

@@ -1,11 +1,22 @@
 -- How the header of a disk is read for its volume.
-use Rattle.std.specs.Prelude.{List, ℕ}
+use Rattle.std.specs.Prelude.{Bool, List, ℕ}
+use Rattle.disk_areas.specs.Areas.{Area}
 use Rattle.disk_areas.specs.Headers.{Reader}
 use Rattle.disk_zones.specs.Standing.{Hash}
+use Rattle.disk_zones.specs.Zones.{Resilience}
+use Rattle.segment_map.specs.declared.Side.{Side}
 use Rattle.segment_map.specs.declared.map.Map.{Map}
 
--- how headers are read, the map that one gives, and the hash of saved digests
+-- How headers are read; the hash of saved digests; and what a header says. Its map; how each side is
+-- sealed, as the bytes that tell it: the cipher, the sectors, their numbers and the key; whether
+-- blocks are being converted, what guards a zone then, and in which area; and the areas of its
+-- keyslots.
 pub record Reading : Type 0 where
   pub reader : Reader (List ℕ)
   pub map_of : List ℕ → Map
   pub hash : Hash
+  pub sealing : List ℕ → Side → List ℕ
+  pub converts : List ℕ → Bool
+  pub guard : List ℕ → Resilience
+  pub store : List ℕ → Area
+  pub keyslots : List ℕ → List Area

@@ -1,5 +1,5 @@
 -- One step of the conversion's worker: what it asks of the state before, and what it leaves.
-use Rattle.std.specs.Prelude.{ℕ, suc, ◌≡◌, ◌≢◌, ◌+◌, ◌*◌, ◌<◌, ◌≤◌, Bool, true, false, List, [], ◌∷◌}
+use Rattle.std.specs.Prelude.{ℕ, ◌↔◌, suc, ◌≡◌, ◌≢◌, ◌+◌, ◌*◌, ◌<◌, ◌≤◌, Bool, true, false, List, [], ◌∷◌}
 use Rattle.std.specs.Prelude.{length, replicate, Contains, Option, Some, None}
 use Rattle.disk_areas.specs.Areas.{Area}
 use Rattle.disk_areas.specs.Commits.{Stage, begun, first_written, second_written}
@@ -15,7 +15,7 @@ use Rattle.segment_map.specs.declared.Side.TheVariants.{New}
 use Rattle.segment_map.specs.declared.map.Map.{Map}
 use Rattle.sha2.specs.Sha256.{sha256}
 use Rattle.volume_machine.specs.Asks.{IsWrite, range_of, wrong_ask}
-use Rattle.volume_machine.specs.Courses.{IsAtRest, IsPlanned, Leads, Succeeds, Turns}
+use Rattle.volume_machine.specs.Courses.{IsAtRest, IsPlanned, Leads, LeadsOn, Succeeds, Turns}
 use Rattle.volume_machine.specs.Events.{Outcome, held, waits}
 use Rattle.volume_machine.specs.Pieces.{side_in}
 use Rattle.volume_machine.specs.Readings.{Reading}
@@ -87,47 +87,49 @@ abbrev pub AreOn : Map → Open → Side → Type 0
 AreOn map o side = (b : ℕ) → o.range.start ≤ b → b < o.range.end → side_in map b ≡ side
 
 -- ---- the blocks of the next zone are taken: the last lane enters the table
-pub record Takes {K : Type 0} (old new : State K) (outcome : Outcome) : Type 0 where
-  pub layout : Layout
-  pub header : Header (List ℕ)
-  pub was : old.work ≡ Some (resting layout header converting)
-  pub unbroken : old.broken ≡ false
-  pub lane : ℕ
-  pub last : suc lane ≡ length old.lanes
-  pub free : open_at old.lanes lane ≡ None
-  pub session : ℕ
-  pub ask : Ask
-  pub writes : IsWrite ask
-  pub proper : wrong_ask old.map.atom (size_of old.map) ask ≡ None
-  pub next : Work
-  pub planned : IsPlanned old layout header next
-  pub covers : range_of old.map.atom ask ≡ next.range
-  pub admitted : IsAdmitted old lane session ask outcome new
+pub record Takes {K : Type 0} (reading : Reading) (old new : State K) (outcome : Outcome) : Type 0
+  where
+    pub layout : Layout
+    pub header : Header (List ℕ)
+    pub was : old.work ≡ Some (resting layout header converting)
+    pub unbroken : old.broken ≡ false
+    pub lane : ℕ
+    pub last : suc lane ≡ length old.lanes
+    pub free : open_at old.lanes lane ≡ None
+    pub session : ℕ
+    pub ask : Ask
+    pub writes : IsWrite ask
+    pub proper : wrong_ask old.map.atom (size_of old.map) ask ≡ None
+    pub next : Work
+    pub planned : IsPlanned reading old layout header next
+    pub covers : range_of old.map.atom ask ≡ next.range
+    pub admitted : IsAdmitted old lane session ask outcome new
 
 -- it asks again, and the entry of another lane is still in its way
-pub record AsksAgain {K : Type 0} (old new : State K) (other : ℕ) : Type 0 where
-  pub layout : Layout
-  pub header : Header (List ℕ)
-  pub was : old.work ≡ Some (resting layout header converting)
-  pub unbroken : old.broken ≡ false
-  pub lane : ℕ
-  pub last : suc lane ≡ length old.lanes
-  pub o : Open
-  pub at : open_at old.lanes lane ≡ Some o
-  pub next : Work
-  pub planned : IsPlanned old layout header next
-  pub covers : o.range ≡ next.range
-  pub stands : IsStandingOf lane old.entries (Waiting other)
-  pub same : new ≡ old
+pub record AsksAgain {K : Type 0} (reading : Reading) (old new : State K) (other : ℕ) : Type 0
+  where
+    pub layout : Layout
+    pub header : Header (List ℕ)
+    pub was : old.work ≡ Some (resting layout header converting)
+    pub unbroken : old.broken ≡ false
+    pub lane : ℕ
+    pub last : suc lane ≡ length old.lanes
+    pub o : Open
+    pub at : open_at old.lanes lane ≡ Some o
+    pub next : Work
+    pub planned : IsPlanned reading old layout header next
+    pub covers : o.range ≡ next.range
+    pub stands : IsStandingOf lane old.entries (Waiting other)
+    pub same : new ≡ old
 
 -- ---- the zone begins with a sync, once its blocks are held
-pub record Begins {K : Type 0} (old new : State K) : Type 0 where
+pub record Begins {K : Type 0} (reading : Reading) (old new : State K) : Type 0 where
   pub layout : Layout
   pub header : Header (List ℕ)
   pub was : old.work ≡ Some (resting layout header converting)
   pub unbroken : old.broken ≡ false
   pub work : Work
-  pub planned : IsPlanned old layout header work
+  pub planned : IsPlanned reading old layout header work
   pub held : HoldsZone old work
   pub call : SyncCall old.disk new.disk succeeded
   pub goes : Proceeds old new old.map work false
@@ -141,6 +143,7 @@ pub record NamesNext {K : Type 0} (reading : Reading) (old : State K) (work : Wo
   pub is : IsHeader reading.reader opened × IsHeader reading.reader moved
   pub leads : IsFirst work.phase → (IsFirst phase → ⊥)
       → Leads reading old (named work opened moved)
+  pub keeps : IsFirst work.phase → (IsFirst phase → ⊥) → LeadsOn reading (named work opened moved)
 
 pub record StepsOn {K : Type 0} (reading : Reading) (seals : Seals) (old new : State K) : Type 0
   where
@@ -202,8 +205,8 @@ closing layout header last stage areas = record {
   progress = wiping areas;
 }
 
--- its first write, of a header that leaves every block where it is; areas that no block lies in are
--- to be wiped
+-- its first write, of a header that leaves every block where it is, sealed as it is, and converts
+-- nothing; the areas of the keyslots that it hasn't any more, in which no block lies, are to be wiped
 pub record MayConclude {K : Type 0} (reading : Reading) (old : State K) (layout : Layout)
     (header next : Header (List ℕ)) (areas : List Area) : Type 0 where
   pub was : old.work ≡ Some (resting layout header converting)
@@ -214,6 +217,10 @@ pub record MayConclude {K : Type 0} (reading : Reading) (old : State K) (layout 
   pub free : open_at old.lanes lane ≡ None
   pub succeeds : Succeeds reading.reader header next
   pub turns : Turns old.disk.atoms no_blocks New 0 old.map (reading.map_of next.means)
+  pub rests : reading.converts next.means ≡ false
+  pub sealing : reading.sealing next.means New ≡ reading.sealing header.means New
+  pub dropped : (area : Area) → Contains areas area ↔ (Contains (reading.keyslots header.means) area
+      × (Contains (reading.keyslots next.means) area → ⊥))
   pub spare : (area : Area) → Contains areas area → IsSpare old layout area
 
 pub record Concludes {K : Type 0} (reading : Reading) (old new : State K) : Type 0 where
@@ -365,10 +372,12 @@ pub record LeavesBroken {K : Type 0} (old new : State K) : Type 0 where
 -- What one step does, by what it is answered.
 pub data WorkStep {K : Type 0} (reading : Reading) (seals : Seals) (old new : State K) : Worked
     → Type 0 where
-  takes : (grant : Grant) → Takes old new (held grant) → WorkStep reading seals old new stepped
-  queues : (lane : ℕ) → Takes old new (waits lane) → WorkStep reading seals old new (awaits lane)
-  stays : (lane : ℕ) → AsksAgain old new lane → WorkStep reading seals old new (awaits lane)
-  begins : Begins old new → WorkStep reading seals old new stepped
+  takes : (grant : Grant) → Takes reading old new (held grant)
+      → WorkStep reading seals old new stepped
+  queues : (lane : ℕ) → Takes reading old new (waits lane)
+      → WorkStep reading seals old new (awaits lane)
+  stays : (lane : ℕ) → AsksAgain reading old new lane → WorkStep reading seals old new (awaits lane)
+  begins : Begins reading old new → WorkStep reading seals old new stepped
   steps : StepsOn reading seals old new → WorkStep reading seals old new stepped
   opens_zone : OpensZone reading old new → WorkStep reading seals old new stepped
   ends_zone : EndsZone reading old new → WorkStep reading seals old new stepped
