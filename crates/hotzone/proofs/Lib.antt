@@ -4,6 +4,9 @@ pub mod CallLemmas
 pub mod HeadingLemmas
 pub mod KnownLemmas
 pub mod LawLemmas
+pub mod StepCallLemmas
+pub mod GoingLemmas
+pub mod HaltingLemmas
 pub mod MadeLemmas
 pub mod NextLemmas
 pub mod SiteLemmas

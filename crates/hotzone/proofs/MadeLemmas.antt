@@ -194,7 +194,12 @@ unmade-later before blocks next (faults.JsonFull len limit) may opens after is =
     ∙ ap (λ (h : BinHeader). h.hdr_size) after.commit.header in
     let here = progress-in _ may in (
       is.0,
-      inr (next.loaded, (here.0, here.1, opens here.0 here.1), is.1),
+      inr (
+        next.loaded,
+        (here.0, here.1, opens here.0 here.1),
+        sizes-on before next after,
+        is.1,
+      ),
       is.2,
       is.3 ∙ ap (λ n. n - 4097) size,
       is.4,

@@ -104,7 +104,8 @@ IsTurning middle blocks meta =
 abbrev pub IsToCome : Stored → ℕ → Parts → Type 0
 IsToCome before blocks meta =
     IsOpening before blocks meta
-    ⊎ ((middle : Stored) × IsOpening before blocks middle.valid.meta × IsTurning middle blocks meta)
+    ⊎ ((middle : Stored) × IsOpening before blocks middle.valid.meta
+    × (middle.valid.sizes ≡ before.valid.sizes) × IsTurning middle blocks meta)
 
 -- ---- why a header isn't made, of so many commits to come: fewer numbers are left; the text of
 -- one has no room; or memory was wanted, of which nothing is said

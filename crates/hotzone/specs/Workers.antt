@@ -28,6 +28,8 @@ use Rattle.reenc_meta.specs.ConversionMaps.{IsMapAt, IsMapOf}
 use Rattle.reenc_meta.specs.Placements.{all_atoms}
 use Rattle.sector_disk.specs.Devices.{Device}
 use Rattle.sector_disk.specs.Geometry.{IsAtom, IsDisk}
+use Rattle.segment_map.specs.declared.Direction.{Direction}
+use Rattle.segment_map.specs.declared.Direction.TheVariants.{Forward}
 use Rattle.segment_map.specs.declared.map.Map.{Map}
 use Rattle.volume_machine.specs.Seals.{KeysFit}
 use Rattle.volume_machine.specs.Sound.{MapFits}
@@ -152,3 +154,38 @@ pub record IsNew {C : Type 0} (before : Stored) (keys : Keys C) (worker : Worker
   pub zone : IsNextZone worker.loaded worker.map worker.site
   pub first : worker.next ≡ first_call worker.site
   pub runs : worker.halted ≡ None
+
+-- ---- where the blocks of the volume lie between two steps
+-- A map of the same blocks, which is so far.
+pub record IsSoFar (old : Map) (boundary zone place : ℕ) (direction : Direction) (map : Map) : Type 0
+  where
+    pub atom : map.atom ≡ old.atom
+    pub blocks : map.blocks ≡ old.blocks
+    pub boundary_is : map.boundary ≡ boundary
+    pub direction_is : map.direction ≡ direction
+    pub zone_is : map.zone ≡ zone
+    pub old_place : map.old_place ≡ place
+    pub new_place : map.new_place ≡ old.new_place
+
+-- the zone is open; none is; none of a finished volume is old
+abbrev pub IsOpened : {C : Type 0} → Worker C → Map → Type 0
+IsOpened worker map =
+    IsSoFar worker.map worker.map.boundary (count_of worker.site) worker.map.old_place
+    worker.map.direction map
+
+abbrev pub IsDoneWith : Map → Map → Type 0
+IsDoneWith old map = IsSoFar old old.blocks 0 old.new_place Forward map
+
+-- by the header from which the commit at hand leads, or the next one
+abbrev pub IsMapBy : {C : Type 0} → Worker C → NextCall → Map → Type 0
+IsMapBy worker (ReadAgain done headers) map = IsOpened worker map
+IsMapBy worker (Write done headers) map = IsOpened worker map
+IsMapBy worker (Settle headers) map = IsOpened worker map
+IsMapBy worker (Move headers) map = IsOpened worker map
+IsMapBy worker (Wipe done ending) map = IsDoneWith worker.map map
+IsMapBy worker (Rest ending) map = IsDoneWith worker.map map
+IsMapBy worker (Over ending) map = IsDoneWith worker.map map
+IsMapBy worker _ map = map ≡ worker.map
+
+abbrev pub IsMapNow : {C : Type 0} → Worker C → Map → Type 0
+IsMapNow worker map = IsMapBy worker worker.next map

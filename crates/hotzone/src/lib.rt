@@ -8,10 +8,11 @@
 //!
 //! The layer above may rely on [`Zone`]: [`Zone::range`] are the blocks that it must keep for the
 //! zone while its steps go on, and [`Zone::step`] makes exactly the device call that the state names,
-//! with the bytes that it names, and leads to the next state. All that takes memory is made before
-//! the first write of a zone, or of the finish. A step that isn't made, or has failed, leaves its
-//! call in the state, and how it left the conversion ([`Halt`]); one that was given up may begin
-//! [`Zone::again`].
+//! with the bytes that it names, and leads to the next state. [`Zone::map`] is where the volume's
+//! blocks lie between two steps, and [`Zone::is_working`] what is known of the state then. All that
+//! takes memory is made before the first write of a zone, or of the finish. A step that isn't made,
+//! or has failed, leaves its call in the state, and how it left the conversion ([`Halt`]); one that
+//! was given up may begin [`Zone::again`].
 #![tactic(auto)]
 
 mod ending;

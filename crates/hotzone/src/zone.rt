@@ -1,23 +1,27 @@
 // A conversion's zones, one after the other.
 
-ghost use Rattle.std.specs.Prelude.{◌≡◌, ◌↔◌, IfOk, IsTrue, None, Some};
+ghost use Rattle.std.specs.Prelude.{◌≡◌, ◌↔◌, length, IfOk, IsTrue, None, Some};
+ghost use Rattle.cipher_laws.specs.Bytes.{AreBytes};
 ghost use Rattle.hotzone.specs.Steps.{Steps};
 ghost use Rattle.hotzone.specs.Workers.{HasKeys, IsDone, IsNew, IsWorking, MapsFit, MayGoOn};
-ghost use Rattle.hotzone.specs.Workers.{first_call, range_in};
+ghost use Rattle.hotzone.specs.Workers.{IsMapNow, first_call, range_in};
 ghost use Rattle.hotzone.specs.declared.worker.Halt.TheVariants.{GivenUp};
 ghost use Rattle.hotzone.specs.declared.worker.Stepped.TheVariants.{AllDone};
 ghost use Rattle.joined_disk.specs.Counts.{HasSizes};
+ghost use Rattle.luks_rules.specs.States.{IsSound};
+ghost use Rattle.luks_store.specs.Loads.{IsStored};
 ghost use Rattle.reenc_meta.specs.Placements.{all_atoms};
 ghost use Rattle.sector_disk.specs.Geometry.{IsDisk};
 ghost use Rattle.volume_machine.specs.Seals.{seals_of};
 
 use crate::steps::{Made, Stop, begin_with, lay_next};
 use crate::worker::{Halt, NextCall, Stepped, Worker, ZoneFault};
-use base_terms::{Buffer, zeros};
+use base_terms::{Buffer, bytes_are_below_256, zeros};
 use block_range::BlockRange;
 use cipher_laws::SectorCipher;
 use luks_store::Loaded;
 use sector_disk::Disk;
+use segment_map::{Direction, Map};
 use std::alloc::{AllocError, Global};
 use std::marker::Model;
 use std::mem;
@@ -106,11 +110,23 @@ impl<C: SectorCipher + Copy> Zone<C> {
         Some(self.worker.site.blocks)
     }
 
-    /// What holds between its steps: a law, with nothing to run.
+    /// What holds between its steps: a law, with nothing to run. What its calls touch lies on the
+    /// disk, and the next one has what it needs; its header is one that a disk held, whose metadata
+    /// break no rule; and it has two salts of 64 bytes, and a buffer of bytes.
     pub fn is_working(&self)
-        ensures { IsWorking C.sector self.now }
+        ensures working { IsWorking C.sector self.now }
+        ensures stored { IsStored self.now.loaded }
+        ensures ruled { IsSound self.now.loaded.valid.meta self.now.loaded.valid.sizes }
+        ensures first_salt { length self.now.loaded.copies.primary.salt ≡ 64 }
+        ensures second_salt { length self.now.loaded.copies.secondary.salt ≡ 64 }
+        ensures bytes { AreBytes self.now.buffer }
     {
-        let _worker = &self.worker;
+        self.worker.loaded.is_stored();
+        self.worker.loaded.valid().is_sound();
+        let _first = self.worker.loaded.primary().salt;
+        let _second = self.worker.loaded.secondary().salt;
+        let buffer = &self.worker.buffer;
+        bytes_are_below_256(buffer.front(buffer.len()));
     }
 
     /// Whether all steps are made.
@@ -120,6 +136,46 @@ impl<C: SectorCipher + Copy> Zone<C> {
         match &self.worker.next {
             NextCall::Over(_) => true,
             _ => false,
+        }
+    }
+
+    /// Where the blocks of the volume lie now: by the header from which the commit at hand leads, or
+    /// the next one.
+    pub fn map(&self) -> Map
+        ensures { IsMapNow self.now result }
+    {
+        let Map {
+            atom,
+            blocks,
+            boundary,
+            direction,
+            old_place,
+            new_place,
+            ..
+        } = self.worker.map;
+        match &self.worker.next {
+            NextCall::ReadAgain { .. }
+            | NextCall::Write { .. }
+            | NextCall::Settle(_)
+            | NextCall::Move(_) => Map {
+                atom,
+                blocks,
+                boundary,
+                direction,
+                zone: self.worker.site.blocks.len(),
+                old_place,
+                new_place,
+            },
+            NextCall::Wipe { .. } | NextCall::Rest(_) | NextCall::Over(_) => Map {
+                atom,
+                blocks,
+                boundary: blocks,
+                direction: Direction::Forward,
+                zone: 0,
+                old_place: new_place,
+                new_place,
+            },
+            _ => self.worker.map,
         }
     }
 
