@@ -1,15 +1,15 @@
 -- The finished header leaves every block where it is, and the areas that go hold none.
 use Rattle.std.proofs.Common.{◌≡◌, ◌∙◌, inr, ℕ, zero, suc, ◌*◌, ◌<◌}
-use Rattle.std.proofs.Common.{Bool, true, false, List, [], ◌∷◌, length, map, Option, Some, None}
+use Rattle.std.proofs.Common.{Bool, true, false, List, [], ◌∷◌, length, map, Option, Some, None, Ok}
 use Rattle.std.proofs.Common.{refl, sym, ap, subst, arith, cond}
-use Rattle.std.specs.Prelude.{Contains}
+use Rattle.std.specs.Prelude.{Contains, ◌↔◌}
 use Rattle.std.proofs.lemmas.List.Elements.{All-contains, All-filter}
 use Rattle.std.specs.List.{All}
 use Rattle.std.specs.Option.{IsSomeAnd}
 use Rattle.disk_areas.specs.Areas.{Area as DiskArea}
 use Rattle.disk_areas.specs.Headers.{IsLaidOut, Layout}
 use Rattle.disk_sizes.specs.declared.Sizes.{Sizes}
-use Rattle.hotzone.specs.Endings.{IsEnding}
+use Rattle.hotzone.specs.Endings.{IsEnding, wiped}
 use Rattle.hotzone.specs.Known.{header_by}
 use Rattle.hotzone.specs.Sites.{count_of}
 use Rattle.hotzone.specs.Workers.{IsNextZone, IsWorking}
@@ -23,13 +23,14 @@ use Rattle.luks_rules.specs.Idles.{idle_from, idle_of}
 use Rattle.luks_rules.specs.Plans.{blocks_in}
 use Rattle.luks_rules.specs.Segments.{in_progress}
 use Rattle.luks_rules.specs.Shapes.{progress_of, progress_under}
-use Rattle.luks_rules.specs.States.{IsSound as IsRuled}
+use Rattle.luks_rules.specs.States.{IsConverting, IsSound as IsRuled}
 use Rattle.luks_rules.specs.declared.areas.Area.{Area}
+use Rattle.luks_rules.specs.declared.extents.Extent.{Extent}
 use Rattle.luks_rules.specs.declared.idle.Idle.{Idle}
 use Rattle.luks_rules.specs.declared.shape.Progress.{Progress}
 use Rattle.luks_store.specs.Loads.{IsStored}
 use Rattle.luks_store.specs.declared.loaded.Stored.{Stored}
-use Rattle.reenc_meta.specs.Finishes.{IsNewVolume}
+use Rattle.reenc_meta.specs.Finishes.{IsFinished, IsNewVolume}
 use Rattle.reenc_meta.specs.Placements.{place_of as atom_of}
 use Rattle.segment_map.specs.Sides.{left_of}
 use Rattle.segment_map.specs.declared.Direction.TheVariants.{Forward}
@@ -43,18 +44,21 @@ use Rattle.volume_machine.specs.States.{State}
 use Rattle.volume_machine.specs.WorkSteps.{AreAllOn, MayConclude}
 use Rattle.volume_machine.specs.Working.{IsSpare}
 use Rattle.volume_machine.specs.Works.{converting, no_blocks, resting}
+use Rattle.zone_events.proofs.DropLemmas.{areas-drop, seals-stay}
 use Rattle.zone_events.proofs.GroundLemmas.{IsKept, all-kept, area-between, atom-is, closed-zone}
 use Rattle.zone_events.proofs.GroundLemmas.{count-is, is-converting, one-progress, same-places}
 use Rattle.zone_events.proofs.MapLemmas.{HasShape, map-idle}
 use Rattle.zone_events.proofs.NumberLemmas.{next-number}
 use Rattle.zone_events.proofs.PlanLemmas.{copy-ends, map-now, next-zone, places-fit}
 use Rattle.zone_events.proofs.SideLemmas.{all-behind, place-is, side-as}
-use Rattle.zone_events.proofs.TextLemmas.{next-parts}
-use Rattle.zone_events.proofs.TurnLemmas.{IsAlike, turns-by}
+use Rattle.zone_events.proofs.TellLemmas.{converts-told}
+use Rattle.zone_events.proofs.TextLemmas.{next-parts, stored-parts}
+use Rattle.zone_events.proofs.AlikeLemmas.{IsAlike, turns-by}
 use Rattle.zone_events.specs.Heads.{header_on}
 use Rattle.zone_events.specs.Promises.{IsLaneFree}
-use Rattle.zone_events.specs.Readings.{idle_shape, map_of, reading_of}
-use Rattle.zone_events.specs.Works.{area_on, areas_behind}
+use Rattle.zone_events.specs.Readings.{idle_shape, keyslots_in, map_of, parts_in, reading_of}
+use Rattle.zone_events.specs.Tellings.{area_on}
+use Rattle.zone_events.specs.Works.{areas_behind}
 
 -- where nothing is converted no conversion is so far
 idle-none : (m : Parts) (sizes : Sizes) (v : Idle) → idle_of m sizes ≡ Some v
@@ -110,7 +114,7 @@ module _ {C : Type 0} (sector : C → ℕ) (w : Worker C) (working : IsWorking s
       (subst (λ r. IsSomeAnd (idle_of are.meta w.loaded.valid.sizes)
       (IsNewVolume w.loaded.valid.sizes r)) same-end are.finished.idle)
 
-  new-at : atom_of w.loaded.valid.sizes the-volume.0.segment
+  pub new-at : atom_of w.loaded.valid.sizes the-volume.0.segment
       ≡ atom_of w.loaded.valid.sizes q.new
   new-at = ap (atom_of w.loaded.valid.sizes) the-volume.2.segment
 
@@ -245,6 +249,55 @@ module _ {C K : Type 0} (sector : C → ℕ) (layout : Layout) (w : Worker C) (o
         (mapped (area_on w.site.atom) (IsSpare old layout) ending.wipes.areas
         (λ k d below. spare-one _ (kept k d below))) has
 
+    -- what it tells
+    final-parts : parts_in (header_by ending.commit).means ≡ Ok are.meta
+    final-parts = next-parts w.loaded are.meta ending.commit stored are.commit
+
+    nothing : progress_of are.meta w.loaded.valid.sizes ≡ None
+    nothing = idle-none are.meta w.loaded.valid.sizes volume.0 volume.1
+
+    same-progress : are.now ≡ p
+    same-progress =
+        one-progress w.loaded.valid.meta w.loaded.valid.sizes are.now p are.known
+        working.zone.is.known
+
+    finished : IsFinished w.loaded.valid.meta w.loaded.valid.sizes p are.meta
+    finished =
+        subst (λ q. IsFinished w.loaded.valid.meta w.loaded.valid.sizes q are.meta) same-progress
+        are.finished
+
+    converted : (live : List Extent)
+        × IsConverting w.loaded.valid.meta w.loaded.valid.sizes p live
+    converted = is-converting w.loaded stored ruled p working.zone.is.known
+
+    whole : All (IsKept w.loaded.valid.meta w.loaded.valid.sizes)
+        (areas_of w.loaded.valid.meta.keyslots)
+    whole = all-kept w.loaded.valid.meta w.loaded.valid.sizes ruled
+
+    wiped-are : areas_behind w.site.atom 0 ending
+        ≡ map (area_on w.loaded.valid.sizes.atom)
+        (wiped p.conversion.area w.loaded.valid.meta.keyslots are.meta.keyslots)
+    wiped-are =
+        ap (λ k. map (area_on k) ending.wipes.areas)
+        (atom-is w.loaded stored ruled old.map w.site zone)
+        ∙ ap (map (area_on w.loaded.valid.sizes.atom))
+        (are.areas
+        ∙ ap (λ (q : Progress). wiped q.conversion.area w.loaded.valid.meta.keyslots
+        are.meta.keyslots) same-progress)
+
+    drops : (area : DiskArea) → Contains (areas_behind w.site.atom 0 ending) area
+        ↔ (Contains (keyslots_in w.loaded.valid.sizes (meaning_of w.loaded.copies.used.bytes)) area
+        × (Contains (keyslots_in w.loaded.valid.sizes (header_by ending.commit).means) area → ⊥))
+    drops area =
+        subst (λ areas. Contains areas area
+        ↔ (Contains (keyslots_in w.loaded.valid.sizes (meaning_of w.loaded.copies.used.bytes)) area
+        × (Contains (keyslots_in w.loaded.valid.sizes (header_by ending.commit).means) area → ⊥)))
+        (sym wiped-are)
+        (areas-drop w.loaded.valid.sizes p w.loaded.valid.meta are.meta finished volume.0 volume.2
+        converted.0 converted.1 whole (meaning_of w.loaded.copies.used.bytes)
+        (header_by ending.commit).means (stored-parts w.loaded stored) final-parts
+        working.zone.is.known nothing volume.1 area)
+
     pub may-conclude : length w.loaded.copies.primary.salt ≡ 64 → IsLaneFree old → old.work ≡ Some (resting layout (header_on w.loaded) converting)
         → old.broken ≡ false
         → MayConclude (reading_of w.loaded.valid.sizes) old layout (header_on w.loaded)
@@ -258,5 +311,12 @@ module _ {C K : Type 0} (sector : C → ℕ) (layout : Layout) (w : Worker C) (o
       converted = all-new;
       succeeds = succeeds salt;
       turns = turns;
+      rests = converts-told w.loaded.valid.sizes (header_by ending.commit).means are.meta None
+          final-parts nothing;
+      sealing = seals-stay w.loaded.valid.sizes p w.loaded.valid.meta are.meta finished volume.0
+          volume.2 converted.0 converted.1 whole (meaning_of w.loaded.copies.used.bytes)
+          (header_by ending.commit).means (stored-parts w.loaded stored) final-parts
+          working.zone.is.known nothing volume.1;
+      dropped = drops;
       spare = spares;
     }

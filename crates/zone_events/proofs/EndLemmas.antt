@@ -46,7 +46,8 @@ use Rattle.zone_events.proofs.TurnLemmas.{same-headers}
 use Rattle.zone_events.specs.Heads.{header_on}
 use Rattle.zone_events.specs.Promises.{IsOf}
 use Rattle.zone_events.specs.Readings.{map_of, reading_of}
-use Rattle.zone_events.specs.Works.{area_on, areas_behind, map_in, work_by, work_of}
+use Rattle.zone_events.specs.Tellings.{area_on}
+use Rattle.zone_events.specs.Works.{areas_behind, map_in, work_by, work_of}
 
 -- ---- the areas that are left
 -- those from one on begin with it
@@ -251,6 +252,7 @@ module _ {C : Type 0} (sector : C → ℕ) (seals : Seals) (layout : Layout) (be
               (course-by sector seals layout before old of (End ending) at).is_next,
             );
             leads = λ first other. absurd first;
+            keeps = λ first other. absurd first;
           };
           step = calls.moves (stage_of stage) (wanted 0) (stage-far stage far ended)
               (commit-put ending.commit before.loaded.copies.used.header.hdr_size old.map.atom

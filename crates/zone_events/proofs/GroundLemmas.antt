@@ -78,7 +78,7 @@ by-journal Journal atom old new by is = eqb-true new old is
 by-journal (Checksum n) atom old new by is = absurd by
 by-journal (Datashift n) atom old new by is = absurd by
 
-room-journal : (r : Resilience) (atom size : ℕ) → IsByJournal r
+pub room-journal : (r : Resilience) (atom size : ℕ) → IsByJournal r
     → capacity_by atom size r ≡ size / atom
 room-journal Journal atom size by = refl
 room-journal (Checksum n) atom size by = absurd by

@@ -1,7 +1,7 @@
 -- Where the worker of a volume stands: the map of the volume, its copies and atoms, by the call that
 -- comes next.
-use Rattle.std.proofs.Common.{◌≡◌, ◌∙◌, ℕ, ◌*◌, ◌^◌, ◌<◌, false, Some}
-use Rattle.std.proofs.Common.{None, refl, sym, ap, subst, arith}
+use Rattle.std.proofs.Common.{◌≡◌, ◌∙◌, ℕ, ◌*◌, ◌^◌, ◌<◌, Bool, true, false, Some}
+use Rattle.std.proofs.Common.{None, refl, sym, ap, subst, arith, cond}
 use Rattle.disk_areas.specs.Headers.{IsHeader, IsLaidOut, Layout}
 use Rattle.disk_zones.specs.Zones.{from_of}
 use Rattle.hotzone.proofs.WorkingLemmas.{fits-disk}
@@ -35,7 +35,7 @@ use Rattle.zone_events.proofs.TurnLemmas.{open-map, same-headers}
 use Rattle.zone_events.specs.Heads.{header_on}
 use Rattle.zone_events.specs.Promises.{IsOf}
 use Rattle.zone_events.specs.Readings.{map_of, reading_of}
-use Rattle.zone_events.specs.Works.{map_in, work_by, work_of}
+use Rattle.zone_events.specs.Works.{between, map_in, work_by, work_of}
 
 -- ---- calls before the zone is open, or at the end; and those of an open zone
 abbrev pub IsEarly : NextCall → Type 0
@@ -54,6 +54,17 @@ IsLate (Write done headers) other = headers ≡ other
 IsLate (Settle headers) other = headers ≡ other
 IsLate (Move headers) other = headers ≡ other
 IsLate next other = ⊥
+
+-- ---- a zone that begins, or the finish: nothing is at hand
+pub first-rests : {C : Type 0} (seals : Seals) (layout : Layout) (w : Worker C) (b : Bool)
+    → w.next ≡ cond b Finish Begin → w.halted ≡ None → work_of seals layout w ≡ between layout w
+unfolding work_by
+first-rests seals layout w true at none =
+    ap (λ n. work_by seals layout w n w.halted) at
+    ∙ ap (λ h. work_by seals layout w Finish h) none
+first-rests seals layout w false at none =
+    ap (λ n. work_by seals layout w n w.halted) at
+    ∙ ap (λ h. work_by seals layout w Begin h) none
 
 -- the atoms of the disk, and where the copies lie
 pub record IsHere {K : Type 0} (old : State K) (layout : Layout) (size : ℕ) : Type 0 where

@@ -3,14 +3,24 @@ mod TextLemmas
 mod HeadLemmas
 mod NumberLemmas
 mod MapLemmas
-mod GroundLemmas
+mod SameLemmas
+mod TellLemmas
+mod MemberLemmas
+pub mod GroundLemmas
+mod DropLemmas
 mod PlanLemmas
+mod AlikeLemmas
 mod TurnLemmas
 mod ConcludeLemmas
+mod FollowLemmas
 mod CallLemmas
 mod HereLemmas
+mod SizeLemmas
+mod LoadedLemmas
+mod OrderLemmas
 mod SaveLemmas
 mod WriteLemmas
+mod StayLemmas
 mod EndLemmas
 mod StopLemmas
 mod LawLemmas

@@ -31,7 +31,7 @@ pub record HasShape (s : Shape) (map : Map) : Type 0 where
   pub old_place : map.old_place ≡ s.old_place
   pub new_place : map.new_place ≡ s.new_place
 
-shaped-with : (s : Shape) (is : is_map s ≡ true) → HasShape s (map_with s is)
+pub shaped-with : (s : Shape) (is : is_map s ≡ true) → HasShape s (map_with s is)
 unfolding map_with
 shaped-with s is = record {
   atom = refl;
@@ -43,7 +43,7 @@ shaped-with s is = record {
   new_place = refl;
 }
 
-shaped : (s : Shape) → is_map s ≡ true → HasShape s (map_by s)
+pub shaped : (s : Shape) → is_map s ≡ true → HasShape s (map_by s)
 unfolding map_by
 shaped s is = go (is_map s) refl is
   where

@@ -1,35 +1,53 @@
 -- The zone that begins next lies where a volume's worker may plan one.
-use Rattle.std.proofs.Common.{◌≡◌, ◌∙◌, inl, inr, ℕ, ◌+◌, ◌*◌, ◌^◌, ◌<◌, ◌≤◌, List}
+use Rattle.std.proofs.Common.{◌≡◌, ◌∙◌, inl, inr, min, ℕ, ◌+◌, ◌*◌, ◌^◌, ◌<◌, ◌≤◌, List, Some}
 use Rattle.std.proofs.Common.{refl, sym, ap, subst, arith}
 use Rattle.disk_areas.specs.Areas.{Area}
 use Rattle.disk_areas.specs.Headers.{Copy, Header, IsLaidOut, Layout, place_of, primary, secondary}
 use Rattle.disk_views.specs.Views.{IsOutside}
 use Rattle.disk_zones.specs.Zones.{IsApart, Reaches, its_header, its_own, its_store, its_target}
+use Rattle.disk_zones.specs.Zones.{journal}
 use Rattle.hotzone.proofs.WorkingLemmas.{fits-disk}
 use Rattle.hotzone.specs.Known.{zone_by}
-use Rattle.hotzone.specs.Sites.{count_of}
+use Rattle.hotzone.specs.Sites.{IsByJournal, count_of}
+use Rattle.hotzone.specs.declared.site.Site.{Site}
 use Rattle.hotzone.specs.Workers.{FitsDisk, IsNextZone, IsWorking}
 use Rattle.hotzone.specs.declared.worker.Worker.{Worker}
 use Rattle.joined_disk.specs.Counts.{HasSizes}
 use Rattle.luks_copies.specs.Meanings.{meaning_of}
+use Rattle.luks_json.specs.declared.reencrypt.Resilience.{Resilience as Guard}
+use Rattle.luks_json.specs.declared.reencrypt.Resilience.TheVariants as guards
 use Rattle.luks_rules.specs.Plans.{blocks_in}
 use Rattle.luks_rules.specs.States.{IsSound as IsRuled}
 use Rattle.luks_store.specs.Loads.{IsStored}
 use Rattle.reenc_meta.specs.ConversionMaps.{IsMapAt}
 use Rattle.reenc_meta.specs.Placements.{place_of as atom_of}
+use Rattle.segment_map.specs.Sides.{left_of}
 use Rattle.segment_map.specs.declared.map.Map.{Map}
 use Rattle.volume_machine.specs.Courses.{IsBeyond, IsPlanned}
 use Rattle.volume_machine.specs.Pieces.{place_in}
 use Rattle.volume_machine.specs.States.{State}
 use Rattle.volume_machine.specs.Works.{wanted}
-use Rattle.zone_events.proofs.GroundLemmas.{by-map, closed-zone, end-inside, end-is, few, own-is}
-use Rattle.zone_events.proofs.GroundLemmas.{same-places, start-is, store-between}
+use Rattle.zone_events.proofs.GroundLemmas.{by-map, closed-zone, count-is, end-inside, end-is, few}
+use Rattle.zone_events.proofs.GroundLemmas.{own-is, room-journal, same-places, start-is}
+use Rattle.zone_events.proofs.GroundLemmas.{store-between}
 use Rattle.zone_events.proofs.MapLemmas.{map-at}
 use Rattle.zone_events.proofs.SideLemmas.{beside-old, place-is, side-as}
-use Rattle.zone_events.proofs.TextLemmas.{stored-parts}
+use Rattle.zone_events.proofs.TellLemmas.{converts-told, guard-told, store-told}
+use Rattle.zone_events.proofs.TextLemmas.{size-meant, stored-parts}
 use Rattle.zone_events.specs.Heads.{header_on}
-use Rattle.zone_events.specs.Readings.{map_of}
-use Rattle.zone_events.specs.Works.{unnamed}
+use Rattle.zone_events.specs.Holding.{ZonesArePlanned}
+use Rattle.zone_events.specs.Readings.{map_of, reading_of, store_in}
+use Rattle.zone_events.specs.Tellings.{area_on, resilience_of}
+use Rattle.zone_events.specs.Works.{between, unnamed}
+
+-- a journal guards the zone
+by-journal : (r : Guard) → IsByJournal r → resilience_of r ≡ journal
+by-journal guards.Journal by = refl
+by-journal (guards.Checksum n) by = absurd by
+by-journal (guards.Datashift n) by = absurd by
+
+min-right : (left n count : ℕ) {room : ℕ} → count ≡ min left n → n ≡ room → count ≤ room
+min-right left n count is room = omega (arith, is, room)
 
 -- where a copy ends
 pub copy-ends : (atom atoms size : ℕ) (layout : Layout) → IsLaidOut atom atoms size layout
@@ -84,9 +102,9 @@ module _ {C K : Type 0} (sector : C → ℕ) (layout : Layout) (w : Worker C) (o
     fits = fits-disk sector w old.disk working sized
 
     -- where it lies between the copies and the blocks
-    between : (layout.first.count + layout.first.count ≤ w.site.store)
+    lies-between : (layout.first.count + layout.first.count ≤ w.site.store)
         × (w.site.store + count_of w.site ≤ old.map.old_place)
-    between =
+    lies-between =
         store-between w.loaded stored ruled old.map w.site zone layout.first.count
         (ap (λ n. layout.first.count * n) (sym zone.map_is.atom) ∙ laid.long)
 
@@ -101,8 +119,8 @@ module _ {C K : Type 0} (sector : C → ℕ) (layout : Layout) (w : Worker C) (o
         → IsApart layout (zone_by w.site first middle last)
     zone-apart first middle last =
         let here = own in
-        let low = between.0 in
-        let high = between.1 in
+        let low = lies-between.0 in
+        let high = lies-between.1 in
         record {
           own_store = inr (omega (arith, here, high));
           own_target = inr (omega arith);
@@ -132,19 +150,46 @@ module _ {C K : Type 0} (sector : C → ℕ) (layout : Layout) (w : Worker C) (o
         ]
     zone-away first middle last b beyond area its_target = inr (omega arith)
     zone-away first middle last b beyond area its_store =
-        let at = place b in let high = between.1 in inr (omega (arith, at, high))
+        let at = place b in let high = lies-between.1 in inr (omega (arith, at, high))
     zone-away first middle last b beyond area (its_header copy) =
         let at = place b in
-        let low = between.0 in
-        let high = between.1 in
+        let low = lies-between.0 in
+        let high = lies-between.1 in
         let ends = copy-ends old.map.atom old.disk.atoms _ layout laid copy in
         inr (omega (arith, at, low, high, ends))
 
+    guarded-by : store_in w.loaded.valid.sizes (meaning_of w.loaded.copies.used.bytes)
+        ≡ area_on w.loaded.valid.sizes.atom working.zone.now.conversion.area
+    guarded-by =
+        store-told w.loaded.valid.sizes (meaning_of w.loaded.copies.used.bytes)
+        w.loaded.valid.meta (Some working.zone.now) (stored-parts w.loaded stored)
+        working.zone.is.known
+
     pub is-planned : 0 < count_of w.site
-        → IsPlanned old layout (header_on w.loaded) (unnamed layout w (wanted 0))
+        → IsPlanned (reading_of w.loaded.valid.sizes) old layout (header_on w.loaded)
+        (unnamed layout w (wanted 0))
     is-planned some =
         let end = end-is w.loaded stored ruled old.map w.site zone in
         record {
+          converts =
+              converts-told w.loaded.valid.sizes (meaning_of w.loaded.copies.used.bytes)
+              w.loaded.valid.meta (Some working.zone.now) (stored-parts w.loaded stored)
+              working.zone.is.known;
+          guard = sym
+              (guard-told w.loaded.valid.sizes (meaning_of w.loaded.copies.used.bytes)
+              w.loaded.valid.meta (Some working.zone.now) (stored-parts w.loaded stored)
+              working.zone.is.known
+              ∙ by-journal working.zone.now.conversion.resilience working.zone.is.guarded);
+          store = λ some_store.
+              ap (λ (s : Site). s.store) working.zone.site_is
+              ∙ sym (ap (λ (a : Area). a.start) guarded-by);
+          store_within =
+              (let few_left = min-right (left_of w.map.direction w.map.blocks
+              w.map.boundary) _ _ (count-is w.loaded stored ruled w.map w.site working.zone)
+              (room-journal working.zone.now.conversion.resilience w.loaded.valid.sizes.atom
+              working.zone.now.conversion.area.size working.zone.is.guarded) in
+              let area = ap (λ (a : Area). a.count) guarded-by in
+              omega (arith, few_left, area));
           layout_is = refl;
           before = refl;
           opened = refl;
@@ -179,3 +224,10 @@ module _ {C K : Type 0} (sector : C → ℕ) (layout : Layout) (w : Worker C) (o
               zone-away (header_on w.loaded) (header_on w.loaded) (header_on w.loaded) b beyond
               area reaches;
         }
+
+pub zones-planned : {C : Type 0} (sector : C → ℕ) → ZonesArePlanned sector
+zones-planned sector layout w state kept on was some =
+    let course = on.courses (between layout w) was in
+    is-planned sector layout w state kept.working kept.stored kept.ruled on.sizes_are course.map
+    (subst (λ n. IsLaidOut state.map.atom state.disk.atoms n layout)
+    (size-meant w.loaded kept.stored) course.laid) some

@@ -33,7 +33,7 @@ use Rattle.zone_events.proofs.CallLemmas.{most-atoms, part-is, part-long}
 use Rattle.zone_events.proofs.HereLemmas.{early-header, early-here, early-map, fits-by, fits-here, needs}
 use Rattle.zone_events.proofs.HereLemmas.{site-atom, staying, was-by, IsEarly}
 use Rattle.zone_events.proofs.PlanLemmas.{is-planned}
-use Rattle.zone_events.proofs.TurnLemmas.{both-lead, move-header, open-header}
+use Rattle.zone_events.proofs.TurnLemmas.{both-lead, both-lead-on, move-header, open-header}
 use Rattle.zone_events.specs.Heads.{header_on}
 use Rattle.zone_events.specs.Promises.{IsLater, IsOf}
 use Rattle.zone_events.specs.Readings.{reading_of}
@@ -180,7 +180,7 @@ module _ {C : Type 0} (sector : C → ℕ) (seals : Seals) (layout : Layout) (be
         succeeded) (sym (early-here sector seals layout before old of next at early).atom) call
 
     pub begins-on : before.next ≡ Begin → SyncCall old.disk new.disk succeeded
-        → after ≡ record before { next = ReadFirst } → Begins old new
+        → after ≡ record before { next = ReadFirst } → Begins (reading_of sizes) old new
     unfolding work_by
     begins-on at call to =
         let map = early-map sector seals layout before old of Begin at tt in
@@ -222,6 +222,7 @@ module _ {C : Type 0} (sector : C → ℕ) (seals : Seals) (layout : Layout) (be
             stay = λ far. (refl, refl);
             is = (header, header);
             leads = λ first far. absurd (far refl);
+            keeps = λ first far. absurd (far refl);
           };
           step = calls.reads (saving 0) 0 (part_at before.site 0) text refl
               (part-is before.site old.map.atom 0 atom) (some-part 0 some)
@@ -265,6 +266,9 @@ module _ {C : Type 0} (sector : C → ℕ) (seals : Seals) (layout : Layout) (be
             leads = λ first far.
                 both-lead sector before old of.working of.stored of.ruled map (fits-by sector seals layout before old of map) headers
                 are of.salts.0 layout (fetched 0 text);
+            keeps = λ first far.
+                both-lead-on sector before old of.working of.stored of.ruled map (fits-by sector seals layout before old of map) headers
+                are layout (fetched 0 text);
           };
           step = calls.saves 0 many text text
               (saves-text seals layout before (header_by headers.opened)
@@ -310,6 +314,7 @@ module _ {C : Type 0} (sector : C → ℕ) (seals : Seals) (layout : Layout) (be
                   had.1.0,
             );
             leads = λ first other. absurd (other first);
+            keeps = λ first other. absurd (other first);
           };
           step = calls.reads (saving done) done (part_at before.site done) text refl
               (part-is before.site old.map.atom done atom) (some-part done had.0)
@@ -356,6 +361,7 @@ module _ {C : Type 0} (sector : C → ℕ) (seals : Seals) (layout : Layout) (be
                   had.1.0,
             );
             leads = λ first other. absurd (omega (arith, first, far, some));
+            keeps = λ first other. absurd (omega (arith, first, far, some));
           };
           step = calls.saves done many text text
               (saves-text seals layout before (header_by headers.opened)
@@ -399,6 +405,7 @@ module _ {C : Type 0} (sector : C → ℕ) (seals : Seals) (layout : Layout) (be
                   had.1.0,
             );
             leads = λ first other. absurd (let some = had.0 in omega (arith, first, some));
+            keeps = λ first other. absurd (let some = had.0 in omega (arith, first, some));
           };
           step = calls.keeps part call;
           goes = staying seals layout after old new becomes (record before { next = Open headers })

@@ -49,7 +49,8 @@ use Rattle.zone_events.proofs.WriteLemmas.{part-blocks, part-resealed}
 use Rattle.zone_events.specs.Heads.{header_on}
 use Rattle.zone_events.specs.Promises.{IsOf, Leaves}
 use Rattle.zone_events.specs.Readings.{reading_of}
-use Rattle.zone_events.specs.Works.{area_on, areas_behind, at_hand, between, first_part, led_by}
+use Rattle.zone_events.specs.Tellings.{area_on}
+use Rattle.zone_events.specs.Works.{areas_behind, at_hand, between, first_part, led_by}
 use Rattle.zone_events.specs.Works.{unnamed, unsealed, work_by, work_of}
 
 -- ---- blocks that were opened and sealed again are what they were, on the old side too

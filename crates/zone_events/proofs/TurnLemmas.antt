@@ -1,8 +1,7 @@
 -- The headers of a zone turn its blocks: the one with the zone open to a zone, the one with the
 -- boundary moved to new ones.
-use Rattle.std.proofs.Common.{◌≡◌, ◌∙◌, ◌⊎◌, inl, inr, ℕ, ◌+◌, ◌*◌, ◌^◌, ◌<◌, ◌≤◌, Some}
+use Rattle.std.proofs.Common.{◌≡◌, ◌∙◌, ◌⊎◌, inl, inr, ℕ, ◌+◌, ◌<◌, ◌≤◌, Some}
 use Rattle.std.proofs.Common.{Ok, suc, length, refl, sym, ap, ap₂, subst, arith}
-use Rattle.block_range.specs.declared.BlockRange.{BlockRange}
 use Rattle.disk_areas.specs.Commits.{Follows}
 use Rattle.disk_areas.specs.Headers.{IsHeader, Layout}
 use Rattle.hotzone.specs.Headings.{AreOf, IsSame}
@@ -28,12 +27,10 @@ use Rattle.reenc_meta.specs.ConversionMaps.{IsMapAt, boundary_in, direction_of}
 use Rattle.reenc_meta.specs.Layouts.{progress_at}
 use Rattle.reenc_meta.specs.Moves.{moved, opened}
 use Rattle.reenc_meta.specs.Placements.{place_of}
-use Rattle.sector_disk.specs.Geometry.{IsAtom}
 use Rattle.segment_map.specs.Sides.{left_of}
-use Rattle.segment_map.specs.declared.Side.{Side}
 use Rattle.segment_map.specs.declared.Side.TheVariants.{New, Zone}
 use Rattle.segment_map.specs.declared.map.Map.{Map}
-use Rattle.volume_machine.specs.Courses.{IsBeyond, Leads, Succeeds, Turns}
+use Rattle.volume_machine.specs.Courses.{IsBeyond, Leads, LeadsOn, Succeeds, Turns}
 use Rattle.volume_machine.specs.Pieces.{side_in}
 use Rattle.volume_machine.specs.Sound.{MapFits}
 use Rattle.volume_machine.specs.States.{State}
@@ -44,58 +41,13 @@ use Rattle.zone_events.proofs.MapLemmas.{map-at}
 use Rattle.zone_events.proofs.NumberLemmas.{next-number}
 use Rattle.zone_events.proofs.PlanLemmas.{map-now, next-zone, places-fit}
 use Rattle.zone_events.proofs.SideLemmas.{beside-new, beside-zone, beyond-new, beyond-zone}
-use Rattle.zone_events.proofs.SideLemmas.{boundary_behind, place-is, side-as, side-beyond, side_by}
-use Rattle.zone_events.proofs.TextLemmas.{next-parts}
+use Rattle.zone_events.proofs.SideLemmas.{boundary_behind, side-as, side_by}
+use Rattle.zone_events.proofs.TellLemmas.{goes-on}
+use Rattle.zone_events.proofs.TextLemmas.{next-parts, stored-parts}
 use Rattle.zone_events.specs.Heads.{header_on}
 use Rattle.zone_events.specs.Readings.{map_of, parts_in, reading_of}
 use Rattle.zone_events.specs.Works.{unnamed}
-
--- ---- a map that has the same blocks at the same places
-pub record IsAlike (now next : Map) : Type 0 where
-  pub atom : next.atom ≡ now.atom
-  pub blocks : next.blocks ≡ now.blocks
-  pub old_place : next.old_place ≡ now.old_place
-  pub now_same : now.new_place ≡ now.old_place
-  pub next_same : next.new_place ≡ next.old_place
-
-pub turns-by : (atoms : ℕ) (range : BlockRange) (side : Side) (start : ℕ) (now next : Map)
-    → IsAlike now next → MapFits now atoms
-    → ((b : ℕ) → range.start ≤ b → b < range.end → start ≡ now.old_place + range.start)
-    → ((b : ℕ) → b < now.blocks → IsBeyond range b → side_in next b ≡ side_in now b)
-    → ((b : ℕ) → range.start ≤ b → b < range.end → side_in next b ≡ side)
-    → Turns atoms range side start now next
-turns-by atoms range side start now next alike fits begin rest turned =
-    let atom = alike.atom in
-    let blocks = alike.blocks in
-    let place = alike.old_place in
-    let one = alike.now_same in
-    let two = alike.next_same in
-    let old = fits.old_places in
-    record {
-      atom = atom;
-      blocks = blocks;
-      fits = record {
-        known = subst IsAtom (sym atom) fits.known;
-        small = subst (λ n. n < 2 ^ 63)
-            (sym (ap (λ b. b * next.atom) blocks ∙ ap (λ a. now.blocks * a) atom)) fits.small;
-        old_places = omega (arith, old, place, blocks);
-        new_places = omega (arith, old, place, blocks, two);
-      };
-      apart = λ a b inside within same.
-          (let first = place-is next a two in let second = place-is next b two in
-          omega (arith, first, second, same));
-      same_sides = rest;
-      same_places = λ b inside beyond.
-          place-is next b two ∙ ap (λ n. n + b) place ∙ sym (place-is now b one);
-      sides = turned;
-      places = λ b from below.
-          (let at = place-is next b two in let first = begin b from below in
-          omega (arith, at, place, first, from));
-      zoned = λ b from.
-          side-as next next.direction next.blocks next.boundary next.zone b refl refl refl refl
-          ∙ side-beyond next.direction next.blocks next.boundary next.zone b next.within
-          next.zone_left (omega (arith, blocks, from));
-    }
+use Rattle.zone_events.proofs.AlikeLemmas.{IsAlike, turns-by}
 
 -- ---- how far a conversion is with a zone open, and with the boundary moved over it
 boundary-opened : (d : order) (n : ℕ) (plan : Plan) → plan.zone ≡ 0
@@ -220,10 +172,10 @@ module _ {C K : Type 0} (sector : C → ℕ) (w : Worker C) (old : State K)
   begins-at b from below = own-is w.loaded stored ruled old.map w.site zone
 
   -- ---- the header with the zone open
-  abbrev open_progress : Progress
+  abbrev pub open_progress : Progress
   open_progress = progress_at (opened p.conversion.direction (count_of w.site) p.plan) p
 
-  open-plan : (blocks_in open_progress.plan ≡ blocks_in p.plan)
+  pub open-plan : (blocks_in open_progress.plan ≡ blocks_in p.plan)
       × (boundary_in p.conversion.direction open_progress.plan
       ≡ boundary_in p.conversion.direction p.plan) × (open_progress.plan.zone ≡ count_of w.site)
   open-plan =
@@ -349,6 +301,26 @@ module _ {C K : Type 0} (sector : C → ℕ) (w : Worker C) (old : State K)
       subst (λ h. IsHeader header_reader h)
       (same-headers are.follows.first headers.moved.commit are.follows.same)
       are.follows.commit.whole
+
+  -- and go on with the conversion
+  pub both-lead-on : (layout : Layout) (part : Part)
+      → LeadsOn (reading_of w.loaded.valid.sizes)
+      (named (unnamed layout w part) (header_by headers.opened) (header_by headers.moved.commit))
+  both-lead-on layout part = record {
+    opens = λ to.
+        goes-on w.loaded.valid.sizes are.now
+        (opened are.now.conversion.direction (count_of w.site) are.now.plan) w.loaded.valid.meta
+        are.between.valid.meta are.opens (meaning_of w.loaded.copies.used.bytes)
+        (header_by headers.opened).means (stored-parts w.loaded stored) open-parts are.known;
+    moves =
+        goes-on w.loaded.valid.sizes
+        (progress_at (opened are.now.conversion.direction (count_of w.site) are.now.plan) are.now)
+        (moved are.now.conversion.direction (count_of w.site)
+        (opened are.now.conversion.direction (count_of w.site) are.now.plan))
+        are.between.valid.meta headers.moved.loaded.valid.meta are.moves
+        (header_by headers.opened).means (header_by headers.moved.commit).means open-parts
+        move-parts are.opens.progress;
+  }
 
   module _ (salt : length w.loaded.copies.primary.salt ≡ 64) where
     open-number : seqid_in (header_by headers.opened).means

@@ -18,8 +18,8 @@ use Rattle.hotzone.specs.Steps.{Commits, HasMoved, HasRead, IsCommitted, ReadsPa
 use Rattle.hotzone.specs.Steps.{after_open, after_write, moved_by, opened_by, part_in, resealed}
 use Rattle.hotzone.specs.declared.worker.Headers.{Headers}
 use Rattle.hotzone.specs.declared.worker.NextCall.{NextCall}
-use Rattle.hotzone.specs.declared.worker.NextCall.TheVariants.{Begin, Open, ReadAgain, Write, Settle}
-use Rattle.hotzone.specs.declared.worker.NextCall.TheVariants.{Move, Finish}
+use Rattle.hotzone.specs.declared.worker.NextCall.TheVariants.{Open, ReadAgain, Write, Settle}
+use Rattle.hotzone.specs.declared.worker.NextCall.TheVariants.{Move}
 use Rattle.hotzone.specs.declared.worker.Worker.{Worker}
 use Rattle.luks_copies.specs.Held.{primary_of, secondary_of, stage_in}
 use Rattle.luks_copies.specs.Seen.{stage_of}
@@ -40,14 +40,15 @@ use Rattle.volume_machine.specs.declared.keys.Keys.{Keys}
 use Rattle.zone_events.proofs.CallLemmas.{commit-put, moved-sized, opened-sized, part-is, part-long}
 use Rattle.zone_events.proofs.CallLemmas.{most-atoms, stage-far, stage-on}
 use Rattle.zone_events.proofs.HeadLemmas.{header-behind}
-use Rattle.zone_events.proofs.HereLemmas.{becoming, early-here, early-map, fits-here, late-here}
-use Rattle.zone_events.proofs.HereLemmas.{late-map, needs, site-atom, staying, was-by, IsLate}
+use Rattle.zone_events.proofs.HereLemmas.{becoming, early-here, early-map, first-rests, fits-here}
+use Rattle.zone_events.proofs.HereLemmas.{late-here, late-map, needs, site-atom, staying, was-by}
+use Rattle.zone_events.proofs.HereLemmas.{IsLate}
 use Rattle.zone_events.proofs.SaveLemmas.{not-at-rest}
 use Rattle.zone_events.proofs.TurnLemmas.{same-headers}
 use Rattle.zone_events.specs.Heads.{header_on}
 use Rattle.zone_events.specs.Promises.{IsOf}
 use Rattle.zone_events.specs.Readings.{map_of, reading_of}
-use Rattle.zone_events.specs.Works.{at_hand, between, first_part, led_by, map_in, work_by, work_of}
+use Rattle.zone_events.specs.Works.{at_hand, first_part, led_by, map_in, work_by, work_of}
 use Rattle.disk_areas.specs.Headers.{IsHeader}
 use Rattle.luks_copies.specs.Meanings.{header_reader}
 
@@ -172,6 +173,7 @@ module _ {C : Type 0} (sector : C → ℕ) (seals : Seals) (layout : Layout) (be
             stay = λ other. (refl, refl);
             is = both-headers before.loaded (count_of before.site) headers had.1.0;
             leads = λ first other. absurd first;
+            keeps = λ first other. absurd first;
           };
           step = calls.opens (stage_of stage) part (stage-far stage far ended)
               (commit-put headers.opened before.loaded.copies.used.header.hdr_size old.map.atom
@@ -253,6 +255,7 @@ module _ {C : Type 0} (sector : C → ℕ) (seals : Seals) (layout : Layout) (be
             stay = λ other. (refl, refl);
             is = both-headers before.loaded (count_of before.site) headers had.1.0;
             leads = λ first other. absurd first;
+            keeps = λ first other. absurd first;
           };
           step = calls.reads (writing done) done (part_at before.site done) text refl
               (part-is before.site old.map.atom done atom) (some-part done below)
@@ -297,6 +300,7 @@ module _ {C : Type 0} (sector : C → ℕ) (seals : Seals) (layout : Layout) (be
             stay = λ other. (refl, refl);
             is = both-headers before.loaded (count_of before.site) headers had.1.0;
             leads = λ first other. absurd first;
+            keeps = λ first other. absurd first;
           };
           step = calls.writes done many text anew (some-part done below)
               (part-resealed sector seals layout before old of runs done old.map.atom atom)
@@ -335,6 +339,7 @@ module _ {C : Type 0} (sector : C → ℕ) (seals : Seals) (layout : Layout) (be
             stay = λ other. (refl, refl);
             is = both-headers before.loaded count headers had.1.0;
             leads = λ first other. absurd first;
+            keeps = λ first other. absurd first;
           };
           step = calls.settles (wanted count) call;
           goes = staying seals layout after old new becomes (record before { next = Move headers })
@@ -372,6 +377,7 @@ module _ {C : Type 0} (sector : C → ℕ) (seals : Seals) (layout : Layout) (be
             stay = λ other. (refl, refl);
             is = both-headers before.loaded count headers had.1;
             leads = λ first other. absurd first;
+            keeps = λ first other. absurd first;
           };
           step = calls.moves (stage_of stage) (wanted count) (stage-far stage far ended)
               (commit-put headers.moved.commit before.loaded.copies.used.header.hdr_size old.map.atom
@@ -388,14 +394,6 @@ module _ {C : Type 0} (sector : C → ℕ) (seals : Seals) (layout : Layout) (be
         }
 
     -- ---- the last one
-    first-rests : (w : Worker C) (b : Bool) → w.next ≡ cond b Finish Begin → w.halted ≡ None
-        → work_of seals layout w ≡ between layout w
-    unfolding work_by
-    first-rests w true at none =
-        ap (λ n. work_by seals layout w n w.halted) at ∙ ap (λ h. work_by seals layout w Finish h) none
-    first-rests w false at none =
-        ap (λ n. work_by seals layout w n w.halted) at ∙ ap (λ h. work_by seals layout w Begin h) none
-
     pub ends-on : (headers : Headers) → before.next ≡ Move headers
         → Commits headers.moved.commit old.disk new.disk succeeded
         → stage_in headers.moved.commit.copies ≡ SecondWritten
@@ -418,7 +416,7 @@ module _ {C : Type 0} (sector : C → ℕ) (seals : Seals) (layout : Layout) (be
         ∙ moved-sizes before.loaded count headers.opened headers.moved are in
         let rests : work_of seals layout after
         ≡ resting layout (header_by headers.moved.commit) converting =
-        first-rests after (count_of after.site == 0) has.next (has.halted ∙ of.runs)
+        first-rests seals layout after (count_of after.site == 0) has.next (has.halted ∙ of.runs)
         ∙ ap (λ h. resting layout h converting) header in
         record {
           work = led_by layout before headers

@@ -1,4 +1,6 @@
 pub mod Heads
+pub mod Tellings
 pub mod Readings
 pub mod Works
 pub mod Promises
+pub mod Holding

@@ -1,5 +1,5 @@
 -- What is promised of the steps of a zone: each is a step of the volume's worker.
-use Rattle.std.specs.Prelude.{ℕ, suc, ◌≡◌, ◌≤◌, Bool, true, false, List, length, Option, Some, None}
+use Rattle.std.specs.Prelude.{ℕ, suc, ◌≡◌, ◌<◌, ◌≤◌, Bool, true, false, List, length, Option, Some, None}
 use Rattle.std.specs.Prelude.{Result, Ok, Err}
 use Rattle.cipher_laws.specs.Bytes.{AreBytes}
 use Rattle.disk_areas.specs.Headers.{Layout}
@@ -13,6 +13,7 @@ use Rattle.hotzone.specs.declared.worker.Halt.TheVariants.{GivenUp, Failed, InCo
 use Rattle.hotzone.specs.declared.worker.NextCall.{NextCall}
 use Rattle.hotzone.specs.declared.worker.NextCall.TheVariants.{Begin, Read, Save, Finish}
 use Rattle.hotzone.specs.declared.worker.Stepped.{Stepped}
+use Rattle.hotzone.specs.declared.worker.Stepped.TheVariants.{ZoneDone}
 use Rattle.hotzone.specs.declared.worker.Worker.{Worker}
 use Rattle.hotzone.specs.declared.worker.ZoneFault.{ZoneFault}
 use Rattle.hotzone.specs.declared.worker.ZoneFault.TheVariants as faults
@@ -20,7 +21,9 @@ use Rattle.joined_disk.specs.Counts.{HasSizes}
 use Rattle.luks_rules.specs.States.{IsSound as IsRuled}
 use Rattle.luks_store.specs.Loads.{IsStored}
 use Rattle.sector_disk.specs.Devices.{Device}
+use Rattle.segment_map.specs.declared.Side.TheVariants.{New}
 use Rattle.volume_machine.specs.Courses.{Courses}
+use Rattle.volume_machine.specs.Pieces.{side_in}
 use Rattle.volume_machine.specs.Seals.{Seals}
 use Rattle.volume_machine.specs.States.{State, open_at}
 use Rattle.volume_machine.specs.WorkSteps.{Frees, Proceeds, Worked, WorkStep, stepped, hindered}
@@ -29,7 +32,7 @@ use Rattle.volume_machine.specs.Working.{HoldsZone}
 use Rattle.volume_machine.specs.Works.{Work, wanted}
 use Rattle.volume_machine.specs.declared.keys.Keys.{Keys}
 use Rattle.zone_events.specs.Readings.{reading_of}
-use Rattle.zone_events.specs.Works.{map_in, unnamed, work_of}
+use Rattle.zone_events.specs.Works.{layout_of, map_in, unnamed, work_of}
 
 -- ---- between two steps
 -- a part that is read, or saved, behind the first one is one of several
@@ -112,3 +115,30 @@ StepsKeepParts {C} sector seal unseal =
     → IsLater before.site before.next
     → Goes (seals_in seal unseal before) old new before after step
     → IsLater after.site after.next
+
+-- A step leaves the sizes, the seals and where the header's copies lie.
+pub record IsSameGround {C : Type 0} (seal unseal : C → ℕ → List ℕ → List ℕ)
+    (before after : Worker C) : Type 0 where
+  pub sizes : after.loaded.valid.sizes ≡ before.loaded.valid.sizes
+  pub keys : after.keys ≡ before.keys
+  pub seals : seals_in seal unseal after ≡ seals_in seal unseal before
+  pub layout : layout_of after ≡ layout_of before
+
+abbrev pub StepsKeepGround : {C : Type 0} → (C → ℕ) → (C → ℕ → List ℕ → List ℕ)
+    → (C → ℕ → List ℕ → List ℕ) → Type 0
+StepsKeepGround {C} sector seal unseal =
+    (before after : Worker C) (old new : Device) (result : Result Stepped ZoneFault)
+    → IsWorking sector before
+    → Steps (seals_in seal unseal before) old new before after result
+    → IsSameGround seal unseal before after
+
+-- The last step of a zone leaves its blocks new.
+abbrev pub StepsLeaveNew : {C : Type 0} → (C → ℕ) → (C → ℕ → List ℕ → List ℕ)
+    → (C → ℕ → List ℕ → List ℕ) → Type 0
+StepsLeaveNew {C} sector seal unseal =
+    (layout : Layout) (before after : Worker C) (old new : Device) (b : ℕ)
+    → IsWorking sector before → IsStored before.loaded
+    → IsRuled before.loaded.valid.meta before.loaded.valid.sizes → before.halted ≡ None
+    → Goes (seals_in seal unseal before) old new before after ZoneDone
+    → before.site.blocks.start ≤ b → b < before.site.blocks.end
+    → side_in (map_in (seals_in seal unseal before) layout after) b ≡ New

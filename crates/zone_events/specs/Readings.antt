@@ -1,9 +1,11 @@
 -- How the header of a volume is read for its blocks.
 use Rattle.std.specs.Prelude.{ℕ, ◌≡◌, ◌+◌, ◌^◌, ◌&&◌, nat_le, nat_lt, Bool, true, false, List}
-use Rattle.std.specs.Prelude.{drop, Option, Some, None, Result, Ok, Err}
+use Rattle.std.specs.Prelude.{drop, is_some, Option, Some, None, Result, Ok, Err}
 use Rattle.std.proofs.Common.{refl}
 use Rattle.std.proofs.lemmas.Bool.{and_parts, leb-true, ltb-true}
+use Rattle.disk_areas.specs.Areas.{Area}
 use Rattle.disk_sizes.specs.declared.Sizes.{Sizes}
+use Rattle.disk_zones.specs.Zones.{Resilience}
 use Rattle.json_members.specs.declared.faults.JsonFault.{JsonFault}
 use Rattle.luks_bin.specs.Copies.{up_to_nul}
 use Rattle.luks_copies.specs.Meanings.{header_reader, size_in}
@@ -19,9 +21,11 @@ use Rattle.reenc_meta.specs.Placements.{place_of}
 use Rattle.segment_map.specs.Sides.{left_of}
 use Rattle.segment_map.specs.declared.Direction.{Direction}
 use Rattle.segment_map.specs.declared.Direction.TheVariants.{Forward}
+use Rattle.segment_map.specs.declared.Side.{Side}
 use Rattle.segment_map.specs.declared.map.Map.{Map}
 use Rattle.volume_machine.specs.Readings.{Reading}
 use Rattle.volume_machine.specs.Saved.{saved_hash}
+use Rattle.zone_events.specs.Tellings.{conversion_of, guard_by, keyslots_of, sealing_of, store_by}
 
 -- ---- the objects in what a copy means: its JSON area stands behind 370 bytes of the first 512, and
 -- 3584 more
@@ -125,6 +129,31 @@ shape_of sizes (Err fault) = no_shape
 unfoldable pub map_of : Sizes → List ℕ → Map
 map_of sizes means = map_by (shape_of sizes (parts_in means))
 
+-- ---- and what else a header says
+unfoldable pub sealing_in : Sizes → List ℕ → Side → List ℕ
+sealing_in sizes means side = sealing_of sizes (parts_in means) side
+
+unfoldable pub converts_in : Sizes → List ℕ → Bool
+converts_in sizes means = is_some (conversion_of sizes (parts_in means))
+
+unfoldable pub guard_in : Sizes → List ℕ → Resilience
+guard_in sizes means = guard_by (conversion_of sizes (parts_in means))
+
+unfoldable pub store_in : Sizes → List ℕ → Area
+store_in sizes means = store_by sizes.atom (conversion_of sizes (parts_in means))
+
+unfoldable pub keyslots_in : Sizes → List ℕ → List Area
+keyslots_in sizes means = keyslots_of sizes (parts_in means)
+
 -- a LUKS2 header on disks of these sizes
 abbrev pub reading_of : Sizes → Reading
-reading_of sizes = record { reader = header_reader; map_of = map_of sizes; hash = saved_hash }
+reading_of sizes = record {
+  reader = header_reader;
+  map_of = map_of sizes;
+  hash = saved_hash;
+  sealing = sealing_in sizes;
+  converts = converts_in sizes;
+  guard = guard_in sizes;
+  store = store_in sizes;
+  keyslots = keyslots_in sizes;
+}

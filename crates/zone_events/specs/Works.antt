@@ -20,7 +20,6 @@ use Rattle.hotzone.specs.declared.worker.NextCall.TheVariants.{Over}
 use Rattle.hotzone.specs.declared.worker.Worker.{Worker}
 use Rattle.luks_copies.specs.Held.{stage_in}
 use Rattle.luks_copies.specs.Seen.{stage_of}
-use Rattle.luks_rules.specs.declared.areas.Area.{Area}
 use Rattle.segment_map.specs.declared.Side.TheVariants.{Old, New}
 use Rattle.segment_map.specs.declared.map.Map.{Map}
 use Rattle.volume_machine.specs.Seals.{Seals}
@@ -29,6 +28,7 @@ use Rattle.volume_machine.specs.Works.{Part, Work, complete, converting, fetched
 use Rattle.volume_machine.specs.Works.{wiping}
 use Rattle.zone_events.specs.Heads.{header_on}
 use Rattle.zone_events.specs.Readings.{map_of}
+use Rattle.zone_events.specs.Tellings.{area_on}
 
 -- ---- where the copies of a header lie, each of so many bytes
 abbrev pub layout_for : ℕ → ℕ → Layout
@@ -80,9 +80,6 @@ led_by layout worker headers phase part =
     at_hand layout worker (header_by headers.opened) (header_by headers.moved.commit) phase part
 
 -- ---- the end
-abbrev pub area_on : ℕ → Area → DiskArea
-area_on atom a = record { start = a.offset / atom; count = a.size / atom }
-
 -- the areas that are still to be wiped behind so many
 abbrev pub areas_behind : ℕ → ℕ → Ending → List DiskArea
 areas_behind atom done ending = map (area_on atom) (drop done ending.wipes.areas)

@@ -1,4 +1,5 @@
 use Rattle.zone_events.proofs.LawLemmas.{AreCiphers, parts-by, works-by}
+use Rattle.zone_events.proofs.StayLemmas.{steps-keep, steps-leave}
 use Rattle.hotzone.specs.Promises.{seals_in}
 use Rattle.zone_events.proofs.laws.steps_are_works.Goals as goal
 
@@ -21,3 +22,11 @@ returns-clause-parts g c =
     λ before after old new step working later made.
     parts-by g.C.SectorCipher.sector before after working
     (seals_in g.C.SectorCipher.sealed g.C.SectorCipher.opened before) old new step later made
+
+pub returns-clause-ground : goal.returns-clause-ground
+returns-clause-ground g c =
+    let cipher = g.C.SectorCipher in steps-keep cipher.sector cipher.sealed cipher.opened
+
+pub returns-clause-leaves : goal.returns-clause-leaves
+returns-clause-leaves g c =
+    let cipher = g.C.SectorCipher in steps-leave cipher.sector cipher.sealed cipher.opened
