@@ -1,0 +1,99 @@
+-- The steps by which a zone is written again: the device call of each, and what comes next.
+use Rattle.std.specs.Prelude.{ℕ, ◌≡◌, ◌≢◌, ◌+◌, Bool, true, false, List, length, Result, Ok}
+use Rattle.std.specs.Prelude.{Err, IfErr, IfOk}
+use Rattle.base_terms.specs.declared.failed.Failed.{Failed as Failure}
+use Rattle.hotzone.specs.Headings.{IsSame}
+use Rattle.hotzone.specs.Known.{part_of}
+use Rattle.hotzone.specs.Steps.{Commits, IsCommitted, resealed}
+use Rattle.hotzone.specs.declared.site.Site.{Site}
+use Rattle.joined_disk.specs.Counts.{HasSizes}
+use Rattle.luks_copies.specs.declared.commit.Stage.TheVariants.{SecondWritten}
+use Rattle.luks_store.specs.declared.commit.Prepared.{Prepared}
+use Rattle.sector_disk.specs.Devices.{Device, ReadCall, SyncCall, WriteCall, failed_call, succeeded}
+use Rattle.volume_machine.specs.Seals.{Seals}
+use Rattle.zone_mending.specs.Menders.{IsMending, LeavesNext, after_write, stage_of_move}
+use Rattle.zone_mending.specs.declared.mender.MendCall.{MendCall}
+use Rattle.zone_mending.specs.declared.mender.MendCall.TheVariants.{ReadSaved, Write, Settle, Move}
+use Rattle.zone_mending.specs.declared.mender.MendCall.TheVariants.{Done, Failed}
+use Rattle.zone_mending.specs.declared.mender.Mender.{Mender}
+
+-- ---- device calls
+-- the saved atoms of a part come into the buffer
+abbrev pub ReadsSaved : Site → ℕ → List ℕ → Device → Device → Result (Unit {0}) Failure → Type 0
+ReadsSaved site done buffer old new result =
+    ReadCall old.size (site.store + done) (part_of site buffer done) old new result
+
+-- they are sealed anew and written where the zone has the part
+abbrev pub WritesAgain : Seals → Site → ℕ → List ℕ → Device → Device → Result (Unit {0}) Failure
+    → Type 0
+WritesAgain seals site done buffer old new result =
+    WriteCall old.size (site.own + done)
+    (resealed seals (site.blocks.start + done) (part_of site buffer done)) old new result
+
+-- ---- what stands behind one
+-- the buffer has other bytes, as many as before
+pub record HasFilled {C : Type 0} (before after : Mender C) (next : MendCall) : Type 0 where
+  pub is : after ≡ record before { buffer = after.buffer; next = next }
+  pub long : length after.buffer ≡ length before.buffer
+
+-- the commit has one call more
+abbrev pub committed_to : {C : Type 0} → Mender C → Prepared → MendCall → Mender C
+committed_to before commit next =
+    record before { moved = record before.moved { commit = commit }; next = next }
+
+-- ---- A step that is made: its device call, and what comes next. It answers true at the last one.
+pub data Goes {C : Type 0} (seals : Seals) (old new : Device) (before after : Mender C) : Bool
+    → Type 0 where
+  reads : (done : ℕ) → before.next ≡ ReadSaved done
+      → ReadsSaved before.site done after.buffer old new succeeded
+      → HasFilled before after (Write done) → Goes seals old new before after false
+  writes : (done : ℕ) → before.next ≡ Write done
+      → WritesAgain seals before.site done before.buffer old new succeeded
+      → HasFilled before after (after_write before.site done)
+      → Goes seals old new before after false
+  settles : before.next ≡ Settle → SyncCall old new succeeded
+      → after ≡ record before { next = Move } → Goes seals old new before after false
+  moves : (commit : Prepared) → before.next ≡ Move
+      → Commits before.moved.commit old new succeeded → IsCommitted before.moved.commit commit
+      → stage_of_move before ≢ SecondWritten → after ≡ committed_to before commit Move
+      → Goes seals old new before after false
+  ends : (commit : Prepared) → before.next ≡ Move
+      → Commits before.moved.commit old new succeeded → IsCommitted before.moved.commit commit
+      → stage_of_move before ≡ SecondWritten → after ≡ committed_to before commit Done
+      → Goes seals old new before after true
+
+-- ---- A step whose device call failed: none follows it.
+pub record IsFailed {C : Type 0} (before after : Mender C) : Type 0 where
+  pub commit : Prepared
+  pub same : IsSame before.moved.commit commit
+  pub is : after ≡ record (committed_to before commit Failed) { buffer = after.buffer }
+  pub long : length after.buffer ≡ length before.buffer
+
+pub data Fails {C : Type 0} (seals : Seals) (old new : Device) (before after : Mender C) : Type 0
+  where
+    read_fails : (done : ℕ) → before.next ≡ ReadSaved done
+        → ReadsSaved before.site done after.buffer old new failed_call → IsFailed before after
+        → Fails seals old new before after
+    write_fails : (done : ℕ) → before.next ≡ Write done
+        → WritesAgain seals before.site done before.buffer old new failed_call
+        → IsFailed before after → Fails seals old new before after
+    settle_fails : before.next ≡ Settle → SyncCall old new failed_call → IsFailed before after
+        → Fails seals old new before after
+    move_fails : before.next ≡ Move → Commits before.moved.commit old new failed_call
+        → IsFailed before after → Fails seals old new before after
+
+-- ---- one step
+abbrev pub Steps : {C : Type 0} → Seals → Device → Device → Mender C → Mender C
+    → Result Bool Failure → Type 0
+Steps seals old new before after (Ok last) = Goes seals old new before after last
+Steps seals old new before after (Err failed) = Fails seals old new before after
+
+-- what a step leaves: what holds between two steps, the sizes of the disk, and whether another one
+-- follows
+pub record HasStepped {C : Type 0} (sector : C → ℕ) (seals : Seals) (old new : Device)
+    (before after : Mender C) (result : Result Bool Failure) : Type 0 where
+  pub steps : Steps seals old new before after result
+  pub mends : IsMending sector after
+  pub sizes : HasSizes after.loaded.valid.sizes new
+  pub left : IfOk result (λ last. LeavesNext last after.next)
+  pub failed : IfErr result (λ _. after.next ≡ Failed)
