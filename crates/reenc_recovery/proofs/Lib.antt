@@ -2,6 +2,7 @@ mod BeginLemmas
 mod CauseLemmas
 mod CheckLemmas
 mod CipherLemmas
+mod FoundLemmas
 mod FrameLemmas
 mod ImageLemmas
 mod JoinedLemmas

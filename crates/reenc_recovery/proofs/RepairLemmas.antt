@@ -14,20 +14,14 @@ use Rattle.disk_views.specs.Parts.{value_in}
 use Rattle.disk_views.specs.Views.{view_of_cells}
 use Rattle.luks_copies.specs.Meanings.{header_reader, meaning_of}
 use Rattle.luks_rules.specs.Areas.{areas_begin}
-use Rattle.luks_rules.specs.States.{IsSound}
 use Rattle.luks_store.specs.Devices.{front_of}
 use Rattle.luks_store.specs.Loads.{stored_in, IsStored}
 use Rattle.luks_store.specs.Promises.{LoadsByMeaning}
 use Rattle.luks_store.specs.declared.loaded.Stored.{Stored}
-use Rattle.reenc_meta.specs.Placements.{IsPlacementOf}
-use Rattle.reenc_meta.specs.Places.{IsRightFor}
-use Rattle.reenc_meta.specs.declared.placement.Placement.{Placement}
-use Rattle.reenc_recovery.specs.Images.{HoldsOn, StandsAs}
-use Rattle.reenc_recovery.specs.Promises.{ContentsStay, ContentsStayFor, RepairsHoldOn}
+use Rattle.reenc_recovery.specs.Images.{HoldsOn}
 use Rattle.reenc_recovery.specs.Repairing.{IsLeft, IsRepaired, ShowsRepairOf}
 use Rattle.luks_store.proofs.SettledLemmas.{atom_of_joined}
 use Rattle.reenc_recovery.proofs.JoinedLemmas.{even_image, front_text, long_joined, same_behind}
-use Rattle.reenc_recovery.proofs.KeepLemmas.{stands_as}
 use Rattle.sector_disk.specs.Cells.{AreSized, Cell}
 
 module _ (sizes : Sizes) (stored : Stored) (header : Header (List ℕ)) (layout : Layout)
@@ -116,22 +110,3 @@ module _ (sizes : Sizes) (stored : Stored) (header : Header (List ℕ)) (layout 
         same = found.2;
         behind = rest_stays;
       }
-
--- ---- what its images stand for
-abbrev pub RepairsStand : Type 0
-RepairsStand =
-    (sizes : Sizes) (stored : Stored) (header : Header (List ℕ)) (layout : Layout) (handed : Handed)
-    (bad : Copy) (written broken : Bool) (first : List ℕ) (cells : List Cell)
-    (image : List (List ℕ)) (p : Placement) → IsRepaired sizes stored header layout handed
-    → ShowsRepairOf sizes layout header bad written broken first cells
-    → AreSized sizes.atom cells → IsLeft sizes header handed cells image → IsStored stored
-    → stored_in sizes (front_of sizes first) ≡ Ok stored
-    → IsPlacementOf stored.valid.meta sizes p → IsRightFor stored.valid.meta sizes p
-    → IsSound stored.valid.meta sizes → StandsAs sizes stored first (joined image)
-
-pub repairs_stand : RepairsHoldOn → ContentsStay → ContentsStayFor → RepairsStand
-repairs_stand each stay stay_for = λ sizes stored header layout handed bad written broken first
-    cells image p repaired shows sized left is_stored held is right sound.
-    stands_as stay stay_for sizes stored p first (joined image) is right sound
-    (each sizes stored header layout handed bad written broken first cells image repaired shows
-    sized left is_stored held)

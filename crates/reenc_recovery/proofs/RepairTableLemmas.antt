@@ -15,7 +15,6 @@ use Rattle.disk_views.proofs.Blockwise.{blocks_end}
 use Rattle.disk_views.proofs.Entries.{length-changed}
 use Rattle.disk_views.proofs.TableEntries.{length-thinned, length-tried, synced_view}
 use Rattle.disk_views.specs.Views.{IsThinned, view_of_cells}
-use Rattle.joined_disk.specs.Joined.{joined_disk}
 use Rattle.luks_copies.specs.Held.{copy_in, place_in}
 use Rattle.luks_copies.specs.Meanings.{header_of, header_reader}
 use Rattle.luks_copies.specs.Promises.{MeanTheSame}
@@ -29,17 +28,13 @@ use Rattle.luks_store.specs.Devices.{front_of, IsCertain}
 use Rattle.luks_store.specs.Loads.{stored_in}
 use Rattle.luks_store.specs.Promises.{UsedStands}
 use Rattle.luks_store.specs.declared.loaded.Stored.{Stored}
-use Rattle.reenc_meta.specs.declared.placement.Placement.{Placement}
 use Rattle.reenc_recovery.specs.Calls.{DiskSyncsAndReads, TellsSized, WritesRepair}
-use Rattle.reenc_recovery.specs.Images.{StandsAs}
-use Rattle.reenc_recovery.specs.Promises.{RepairGoesOn, RepairsBegin, RepairsGoOn}
+use Rattle.reenc_recovery.specs.Headers.{DiskOpeningsKeepHeaders, FrontsKeep, IsFoundHeader}
+use Rattle.reenc_recovery.specs.Images.{HoldsOn, KeepsContents, StandsAs}
+use Rattle.reenc_recovery.specs.Promises.{RepairGoesOn, RepairsBegin, RepairsGoOn, RepairsHoldOn}
 use Rattle.reenc_recovery.specs.Repairing.{IsLeft, IsRepaired, ShowsRepairOf}
-use Rattle.reenc_recovery.specs.Tables.{DiskOpeningsKeepContents, IsFoundOn, IsSpared}
-use Rattle.reenc_recovery.specs.Tables.{OpeningsKeepContents, ShowsSizes}
-use Rattle.reenc_recovery.specs.Tables.{StandsSince, StandsStill, header_in}
+use Rattle.reenc_recovery.specs.Tables.{IsSpared, ShowsSizes, StandsSince, StandsStill, header_in}
 use Rattle.reenc_recovery.proofs.ImageLemmas.{same_stored}
-use Rattle.reenc_recovery.proofs.JointCallLemmas.{disk_run}
-use Rattle.reenc_recovery.proofs.RepairLemmas.{RepairsStand}
 use Rattle.reenc_recovery.proofs.TableLemmas.{IsSettledSince, StillSince, currents-synced, settled}
 use Rattle.reenc_recovery.proofs.TableLemmas.{disk_reads_keep, stands_later, still_joined, still_none}
 use Rattle.reenc_recovery.proofs.TableLemmas.{still_one}
@@ -103,9 +98,10 @@ many cells atoms atom even =
 
 -- ---- the repair
 module _ (seen : RepairsAreSeen) (begins : RepairsBegin) (goes : RepairsGoOn)
-    (each : RepairsStand) (sizes : Sizes) (header : Stored) (p : Placement)
+    (each : RepairsHoldOn) (sizes : Sizes) (header : Stored)
     (repair : Repair) (old : Device) (shows : ShowsSizes sizes old)
-    (found : IsFoundOn sizes header p (Some repair) old) (first : List ℕ)
+    (found : IsFoundHeader sizes header (Some repair) old) (first : List ℕ)
+    (keeps : (now : List ℕ) → HoldsOn sizes header first now → KeepsContents sizes first now)
     (held : stored_in sizes (front_of sizes first) ≡ Ok header) (bad : Copy) (one two : List ℕ)
     (is : IsWriting header repair first bad one two) where
   abbrev size : ℕ
@@ -179,10 +175,10 @@ module _ (seen : RepairsAreSeen) (begins : RepairsBegin) (goes : RepairsGoOn)
       let same =
       same_stored (stored_in sizes (front_of sizes first)) stored header stored_is held in
       let mine = subst (λ (s : Stored). IsSpared sizes s cells image) same spared in
+      let on = each sizes header both layout mine.handed bad written broken first cells image
+      (repaired mine.handed mine.past) shown sized (left cells image mine) found.stored held in
       subst (λ (s : Stored). StandsAs sizes s first (joined image)) (sym same)
-      (each sizes header both layout mine.handed bad written broken first cells image p
-      (repaired mine.handed mine.past) shown sized (left cells image mine) found.stored held
-      found.placed found.right found.sound)
+      (record { holds = on; keeps = keeps (joined image) on })
 
   -- ---- its calls
   room_for : (device : Device) → device.size ≡ old.size → device.atoms ≡ old.atoms
@@ -366,10 +362,11 @@ many_read sizes old read shows run told is =
     ∙ many has.0.now old.atoms old.size (shows.even has.0 has.1)
 
 module _ (seen : RepairsAreSeen) (begins : RepairsBegin) (goes : RepairsGoOn)
-    (each : RepairsStand) (mean : MeanTheSame) (used : UsedStands) (sizes : Sizes)
-    (header : Stored) (p : Placement) (repair : Repair) (old read : Device)
+    (each : RepairsHoldOn) (mean : MeanTheSame) (used : UsedStands) (sizes : Sizes)
+    (header : Stored) (repair : Repair) (old read : Device)
     (shows : ShowsSizes sizes old)
-    (found : IsFoundOn sizes header p (Some repair) old)
+    (found : IsFoundHeader sizes header (Some repair) old)
+    (fronts : FrontsKeep sizes header old)
     (run : DiskSyncsAndReads old read) (mid : Told) (mid_is : read.told ≡ Some mid) where
   abbrev device : Device
   device = old
@@ -383,6 +380,9 @@ module _ (seen : RepairsAreSeen) (begins : RepairsBegin) (goes : RepairsGoOn)
   held : stored_in sizes (front_of sizes first) ≡ Ok header
   held = found.held first (shows.agrees was.0 was.1)
 
+  keeps : (now : List ℕ) → HoldsOn sizes header first now → KeepsContents sizes first now
+  keeps = fronts first (shows.agrees was.0 was.1)
+
   writes : SomeWriting header repair first
   writes =
       writing mean used sizes header repair first found.stored found.begin found.room held
@@ -395,7 +395,7 @@ module _ (seen : RepairsAreSeen) (begins : RepairsBegin) (goes : RepairsGoOn)
       begins sizes (layout_of sizes.atom header.copies.used.header.hdr_size)
       header.copies.used.header.hdr_size first mid.now (header_of writes.one writes.two) writes.bad
       (certain sizes device was.0 mid shows was.1 was.2.cells)
-      (laid seen begins goes each sizes header p repair device shows found first held writes.bad
+      (laid seen begins goes each sizes header repair device shows found first keeps held writes.bad
       writes.one writes.two writes.is) writes.is.good
 
   read_size : read.size ≡ device.size
@@ -414,7 +414,7 @@ module _ (seen : RepairsAreSeen) (begins : RepairsBegin) (goes : RepairsGoOn)
       → (now : Told) → new.told ≡ Some now → StandsSince sizes was.0 now
   tried new call sized now now_is =
       stands_later sizes was.0 mid now was.2
-      (by_try seen begins goes each sizes header p repair device shows found first held writes.bad
+      (by_try seen begins goes each sizes header repair device shows found first keeps held writes.bad
       writes.one writes.two writes.is read new mid now read_size read_atoms
       (many_read sizes old read shows run) call mid_is now_is begun
       (sized_at new now (call.size ∙ read_size) sized now_is))
@@ -426,14 +426,14 @@ module _ (seen : RepairsAreSeen) (begins : RepairsBegin) (goes : RepairsGoOn)
         (header_of writes.one writes.two) writes.bad true false first late.now
         × (length late.now ≡ length mid.now) × (late ≡ then_table mid late.now)
     after =
-        by_write seen begins goes each sizes header p repair device shows found first held
+        by_write seen begins goes each sizes header repair device shows found first keeps held
         writes.bad writes.one writes.two writes.is read written mid late read_size
         read_atoms (many_read sizes old read shows run) write mid_is late_is begun
 
     still_late : StillSince sizes first mid late
     still_late =
         still_one sizes first mid late after.2
-        (stands seen begins goes each sizes header p repair device shows found first held writes.bad
+        (stands seen begins goes each sizes header repair device shows found first keeps held writes.bad
         writes.one writes.two writes.is true false late.now
         (sized_at written late (write.size ∙ read_size) tells late_is) after.0)
 
@@ -449,7 +449,7 @@ module _ (seen : RepairsAreSeen) (begins : RepairsBegin) (goes : RepairsGoOn)
     by_the_sync new call sized now now_is =
         stands_later sizes was.0 mid now was.2
         (still_joined sizes first mid late now still_late
-        (by_sync seen begins goes each sizes header p repair device shows found first held
+        (by_sync seen begins goes each sizes header repair device shows found first keeps held
         writes.bad writes.one writes.two writes.is written new late now
         (write.size ∙ read_size) (write.atoms ∙ read_atoms) many_written call late_is now_is
         after.0 (sized_at new now (call.size ∙ write.size ∙ read_size) sized now_is)))
@@ -460,7 +460,7 @@ module _ (seen : RepairsAreSeen) (begins : RepairsBegin) (goes : RepairsGoOn)
     by_the_thin new call sized now now_is =
         stands_later sizes was.0 mid now was.2
         (still_joined sizes first mid late now still_late
-        (by_thin seen begins goes each sizes header p repair device shows found first held
+        (by_thin seen begins goes each sizes header repair device shows found first keeps held
         writes.bad writes.one writes.two writes.is written new late now
         (write.size ∙ read_size) (write.atoms ∙ read_atoms) many_written call late_is now_is
         after.0 (sized_at new now (call.size ∙ write.size ∙ read_size) sized now_is)))
@@ -491,28 +491,28 @@ before_try repair from to call now now_is =
       | inr moves ↦ (let moved = moves now now_is in (moved.0, moved.1))
     ]
 
-pub disk_openings_keep : RepairsAreSeen → RepairsBegin → RepairsGoOn → RepairsStand
-    → MeanTheSame → UsedStands → DiskOpeningsKeepContents
-disk_openings_keep seen begins goes each mean used sizes header p None old new (Ok done) shows found run
+pub disk_openings_keep : RepairsAreSeen → RepairsBegin → RepairsGoOn → RepairsHoldOn
+    → MeanTheSame → UsedStands → DiskOpeningsKeepHeaders
+disk_openings_keep seen begins goes each mean used sizes header None old new (Ok done) shows found fronts run
     sized now is =
     disk_reads_keep sizes old run.read run.first now
     (ap (λ (d : Device). d.told) (sym run.run) ∙ is)
-disk_openings_keep seen begins goes each mean used sizes header p None old new (Err failed) shows found
-    run sized now is = absurd run.run
-disk_openings_keep seen begins goes each mean used sizes header p (Some repair) old new (Ok done) shows
-    found run sized now is =
+disk_openings_keep seen begins goes each mean used sizes header None old new (Err failed) shows found
+    fronts run sized now is = absurd run.run
+disk_openings_keep seen begins goes each mean used sizes header (Some repair) old new (Ok done) shows
+    found fronts run sized now is =
     let last = run.run in
     let late = before_sync last.written new last.sync now is in
     let mid = before_write repair run.read last.written last.write late.0 late.1 in
     let since = settled old run.read run.first mid.0 mid.1 in (
       since.0,
       since.1,
-      by_the_sync seen begins goes each mean used sizes header p repair old run.read shows found
+      by_the_sync seen begins goes each mean used sizes header repair old run.read shows found fronts
           run.first mid.0 mid.1 last.written last.write last.sized late.0 late.1 new last.sync sized
           now is,
     )
-disk_openings_keep seen begins goes each mean used sizes header p (Some repair) old new (Err failed)
-    shows found run sized now is =
+disk_openings_keep seen begins goes each mean used sizes header (Some repair) old new (Err failed)
+    shows found fronts run sized now is =
     elim run.run as (λ _. (before : Told) × (old.told ≡ Some before)
     × StandsSince sizes before now) [
       | inl call ↦
@@ -520,7 +520,7 @@ disk_openings_keep seen begins goes each mean used sizes header p (Some repair) 
           let since = settled old run.read run.first mid.0 mid.1 in (
             since.0,
             since.1,
-            tried seen begins goes each mean used sizes header p repair old run.read shows found
+            tried seen begins goes each mean used sizes header repair old run.read shows found fronts
                 run.first mid.0 mid.1 new call sized now is,
           ))
       | inr last ↦
@@ -530,15 +530,9 @@ disk_openings_keep seen begins goes each mean used sizes header p (Some repair) 
           let since = settled old run.read run.first mid.0 mid.1 in (
             since.0,
             since.1,
-            by_the_thin seen begins goes each mean used sizes header p repair old run.read shows
-                found
+            by_the_thin seen begins goes each mean used sizes header repair old run.read shows
+                found fronts
                 run.first mid.0 mid.1 last.written last.write last.sized late.0 late.1 new last.sync
                 sized now is,
           ))
     ]
-
--- and of joined disks
-pub openings_keep : DiskOpeningsKeepContents → OpeningsKeepContents
-openings_keep keep sizes header p repair old new result shows found run =
-    keep sizes header p repair (joined_disk old) new result shows found
-    (disk_run repair old new result run)

@@ -9,3 +9,4 @@ pub mod Repairing
 pub mod Tables
 pub mod Volumes
 pub mod Mended
+pub mod Headers

@@ -4,6 +4,8 @@ ghost use Rattle.std.specs.Prelude.{◌≡◌, ◌*◌, ℕ, List, Option, Some,
 ghost use Rattle.cipher_laws.specs.Bytes.{AreBytes};
 ghost use Rattle.disk_sizes.specs.declared.Sizes.{Sizes};
 ghost use Rattle.luks_store.specs.declared.loaded.Stored.{Stored};
+ghost use Rattle.reenc_recovery.specs.Headers.{AnyDiskOpeningsMend, AnyOpeningsMend};
+ghost use Rattle.reenc_recovery.specs.Headers.{DiskOpeningsKeepHeaders, OpeningsKeepHeaders};
 ghost use Rattle.reenc_recovery.specs.Images.{StandsFor, StandsUnder};
 ghost use Rattle.reenc_recovery.specs.Mended.{DiskOpeningsMend, OpeningsMend};
 ghost use Rattle.reenc_recovery.specs.Openings.{IsOpened, StartsAsImage};
@@ -63,6 +65,25 @@ pub fn repairs_keep_contents()
     metadata_go_by_meaning();
 }
 
+/// While a header is opened, whatever it says of a conversion, each image of each table that its
+/// disks tell stands for what their bytes stood for when the opening began, behind each call of a
+/// repair, done or failed, where what is written in front of the keyslots' areas leaves that; and
+/// once all calls were done the disk holds the header for certain, of which both copies are good. So
+/// it is with joined disks, and with any one disk.
+pub fn openings_keep_headers()
+    ensures joined { OpeningsKeepHeaders }
+    ensures disk { DiskOpeningsKeepHeaders }
+    ensures joined_mended { AnyOpeningsMend }
+    ensures disk_mended { AnyDiskOpeningsMend }
+{
+    calls_are_seen();
+    copies_are_read();
+    copies_mean_what_they_share();
+    used_copies_are_headers();
+    metadata_go_by_meaning();
+    repairs_keep_contents();
+}
+
 /// While a volume is opened each image of each table that its disks tell, from that of the first
 /// sync on, stands for what their bytes stood for when the opening began, under the same keys and
 /// the same passphrase, as long as no torn copy of the header is valid: behind the reads, and
@@ -74,11 +95,8 @@ pub fn openings_keep_contents()
     ensures disk_reads { DiskReadsKeepContents }
     ensures disk_repairs { DiskOpeningsKeepContents }
 {
-    calls_are_seen();
-    copies_mean_what_they_share();
-    used_copies_are_headers();
     contents_stay_behind_headers();
-    repairs_keep_contents();
+    openings_keep_headers();
 }
 
 /// Once all calls of an opening were done, up to the last one of the repair, the disk holds for
@@ -88,11 +106,8 @@ pub fn openings_mend_headers()
     ensures joined { OpeningsMend }
     ensures disk { DiskOpeningsMend }
 {
-    copies_are_read();
-    copies_mean_what_they_share();
-    used_copies_are_headers();
-    metadata_go_by_meaning();
     contents_stay_behind_headers();
+    openings_keep_headers();
 }
 
 /// A volume that was opened by the header and a key of disks that hold some bytes is one from which

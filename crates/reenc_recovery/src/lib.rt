@@ -20,7 +20,8 @@
 //! passed. Where no volume is opened it says why, and what is left of the disks. The reads with all
 //! checks and the repair are public calls of their own, [`check`] and [`mend`], for those who have
 //! more to check before anything is written; behind both the header is certain,
-//! [`openings_mend_headers`].
+//! [`openings_mend_headers`]. What the calls of an opening leave of a header, whatever it says of a
+//! conversion, is said by [`openings_keep_headers`].
 #![tactic(auto)]
 
 mod checking;
@@ -38,7 +39,8 @@ pub use judging::Opening;
 pub use keys::SideKeys;
 pub use laws::{
     contents_stay_behind_headers, images_stand_for_one, opened_volumes_go_by_passphrases,
-    opened_volumes_start, openings_keep_contents, openings_mend_headers, repairs_keep_contents,
+    opened_volumes_start, openings_keep_contents, openings_keep_headers, openings_mend_headers,
+    repairs_keep_contents,
 };
 pub use opening::open_volume;
 pub use repairing::mend;
