@@ -1,0 +1,9 @@
+pub mod AtomLemmas
+pub mod SavedLemmas
+pub mod OneLemmas
+pub mod TurnLemmas
+pub mod FrontLemmas
+pub mod OpeningLemmas
+pub mod MovedLemmas
+pub mod WhichLemmas
+pub mod MendingLemmas

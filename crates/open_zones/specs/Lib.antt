@@ -1,0 +1,5 @@
+pub mod Zones
+pub mod Images
+pub mod Openings
+pub mod Mending
+pub mod Promises
