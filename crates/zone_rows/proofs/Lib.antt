@@ -1,0 +1,4 @@
+pub mod HeaderLemmas
+pub mod MakingLemmas
+pub mod MapLemmas
+pub mod RowLemmas
