@@ -1,6 +1,7 @@
 -- A volume that has begun is sound.
 use Rattle.volume_machine.proofs.Common
-use Common.{List, None, Option, [], false, refl, replicate, slice_get, subst, suc, sym, zero, ℕ}
+use Common.{List, None, Option, [], ap, false, length, refl, replicate, slice_get, subst, suc, sym}
+use Common.{zero, ℕ, ◌^◌}
 use Common.{◌++◌, ◌-◌, ◌<◌, ◌∙◌, ◌≡◌, ◌≢◌, length-replicate, sides, Side, New, Old, Zone, Map}
 use Common.{known_side, side_in, KeysFit, IsSound, MapFits, open_at, count_locks}
 use Rattle.sector_disk.specs.Devices.{Device}
@@ -49,7 +50,7 @@ none_in_zone map b closed is = none_zoned map.direction map.blocks map.boundary 
 module _ (map : Map) (table : Locks) (lanes : List (Option Open)) (n : ℕ) (disk : Device) where
   pub new-sound : {K : Type 0} (keys : K) → 0 < n → MapFits map disk.atoms → map.zone ≡ 0 →
       table.room ≡ n → table.entries ≡ [] → lanes ≡ replicate n None →
-      IsSound (state_of map keys table lanes false disk)
+      IsSound (state_of map keys table lanes false None disk)
   new-sound keys some fits closed room entries are = record {
     fits = fits;
     room = room ∙ sym (length-replicate {A = Option Open} n None) ∙ rw are refl;
@@ -61,12 +62,15 @@ module _ (map : Map) (table : Locks) (lanes : List (Option Open)) (n : ℕ) (dis
     zoned = λ b is. absurd (none_in_zone map b closed is);
   }
 
-  pub new-volume : {C : Type 0} (sector : C → ℕ) (keys : Keys C) → 0 < n → map.atom ≡ disk.size →
+  pub new-volume : {C : Type 0} (sector : C → ℕ) (keys : Keys C) → 0 < n → n < 2 ^ 32 →
+      map.atom ≡ disk.size →
       MapFits map disk.atoms → map.zone ≡ 0 → KeysFit sector keys map.atom map.blocks →
       table.room ≡ n → table.entries ≡ [] → lanes ≡ replicate n None →
-      IsVolume sector (state_of map keys table lanes false disk)
-  new-volume sector keys some atom fits closed keys_fit room entries are = record {
+      IsVolume sector None (state_of map keys table lanes false None disk)
+  new-volume sector keys some few atom fits closed keys_fit room entries are = record {
     atom = atom;
     sound = new-sound keys some fits closed room entries are;
     keys = keys_fit;
+    few = subst (λ k. k < 2 ^ 32) (sym (ap length are ∙ length-replicate {A = Option Open} n None)) few;
+    led = tt;
   }

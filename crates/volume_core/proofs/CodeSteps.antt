@@ -1,6 +1,7 @@
 -- What the calls on a volume find before they do a step, and what a step leaves.
 use Rattle.volume_machine.proofs.Common.{before_first, Bool, List, None, Option, Some, [], arith}
-use Rattle.volume_machine.proofs.Common.{false, length, refl, suc, true, zero, ℕ, ◌<◌, ◌∙◌, ◌∷◌}
+use Rattle.volume_machine.proofs.Common.{false, length, refl, subst, suc, sym, true, zero, ℕ}
+use Rattle.volume_machine.proofs.Common.{◌<◌, ◌∙◌, ◌∷◌, ◌||◌}
 use Rattle.volume_machine.proofs.Common.{◌≡◌, ◌≤◌, All-contains, Conflicts, IsStandingOf, has_entry}
 use Rattle.volume_machine.proofs.Common.{is_of, Entry, Held, entry_of, has_lock, Event, Outcome}
 use Rattle.volume_machine.proofs.Common.{IsSound, State, open_at, Goes, Meets, Step}
@@ -8,7 +9,16 @@ use Rattle.range_lock.specs.declared.Standing.TheVariants.{Waiting}
 use Rattle.volume_machine.specs.declared.{keys.Keys.Keys, open.Open.Open}
 use Rattle.volume_machine.proofs.Soundness.{free-room, has-entry, lacks-entry, sound_kept}
 use Rattle.volume_machine.proofs.{EventEffects.event_effects, Locking.holds-by}
+use Rattle.std.specs.Prelude.{IfSome}
+use Rattle.disk_sizes.specs.declared.Sizes.{Sizes}
+use Rattle.hotzone.specs.declared.worker.Worker.{Worker}
+use Rattle.joined_disk.specs.Counts.{HasSizes}
+use Rattle.sector_disk.specs.Devices.{Device}
 use Rattle.volume_core.specs.Volumes.{IsVolume}
+use Rattle.volume_core.specs.Zones.{FitsZone, IsLed}
+use Rattle.volume_laws.proofs.VolumesKept.{event_in_order}
+use Rattle.volume_machine.specs.Events.{lane_of}
+use Rattle.zone_events.specs.Readings.{reading_of}
 
 -- a lane that has an operation is one of the volume's
 pub has-lane : (lanes : List (Option Open)) (lane : ℕ) (o : Open) → open_at lanes lane ≡ Some o →
@@ -50,15 +60,70 @@ none-unheld lane entries none holds =
     let by = holds-by lane entries holds in
     let some = has-entry lane entries by.entry by.is in cc
 
+-- ---- what a client's event leaves of a volume and its zone
+-- a disk of the same sizes
+still-sized : (sizes : Sizes) (old new : Device) → new.size ≡ old.size → new.atoms ≡ old.atoms
+    → HasSizes sizes old → HasSizes sizes new
+still-sized sizes old new size atoms is = record {
+  atom = is.atom ∙ sym size;
+  header = subst (λ n. sizes.header_atoms ≤ n) (sym atoms) is.header;
+  main = subst (λ n. sizes.main_atoms ≤ n) (sym atoms) is.main;
+  all = is.all ∙ sym atoms;
+  alone = is.alone;
+}
+
+-- what isn't broken wasn't broken before
+whole-before : (before breaks now : Bool) → now ≡ (before || breaks) → now ≡ false → before ≡ false
+whole-before true breaks now is whole = absurd (cc)
+whole-before false breaks now is whole = refl
+
+module _ {C : Type 0} (old new : State (Keys C)) (event : Event) (outcome : Outcome)
+    (meets : Meets old event) (step : Step old event outcome new) where
+  -- the last lane isn't one of clients
+  last-open : (lane : ℕ) (o : Open) → suc lane ≡ length new.lanes → open_at new.lanes lane ≡ Some o
+      → (suc lane ≡ length old.lanes) × (open_at old.lanes lane ≡ Some o)
+  last-open lane o last at =
+      let goes = event_effects old new event outcome step in
+      let count = goes.lane_is.count in
+      let client = meets.client in (
+        last ∙ count,
+        sym (goes.lane_is.others lane (λ same. let is : lane ≡ lane_of event = same in
+            omega (arith, is, client, last, count))) ∙ at,
+      )
+
+  led-kept : (worker : Worker C) → IsLed worker old → IsLed worker new
+  led-kept worker is =
+      let goes = event_effects old new event outcome step in record {
+        later = is.later;
+        none = is.none;
+        keys = is.keys ∙ sym goes.keys;
+        sizes = still-sized worker.loaded.valid.sizes old.disk new.disk goes.disk.size
+            goes.disk.atoms is.sizes;
+        order = event_in_order (reading_of worker.loaded.valid.sizes) old new event outcome is.order
+            meets step;
+        goes_on = λ whole. is.goes_on (whole-before _ _ _ goes.broken_is whole);
+        lane = λ whole lane o last at.
+            let was = last-open lane o last at in
+            subst (λ map. FitsZone worker map o worker.halted) (sym goes.map)
+            (is.lane (whole-before _ _ _ goes.broken_is whole) lane o was.0 was.1);
+      }
+
+  zone-kept : (zone : Option (Worker C)) → IfSome zone (λ worker. IsLed worker old)
+      → IfSome zone (λ worker. IsLed worker new)
+  zone-kept None is = is
+  zone-kept (Some worker) is = led-kept worker is
+
 -- a step leaves a volume
-pub volume-kept : {C : Type 0} (sector : C → ℕ) (old new : State (Keys C)) (event : Event)
-    (outcome : Outcome) → IsVolume sector old → Meets old event →
-    Step old event outcome new → IsVolume sector new
-volume-kept sector old new event outcome is meets step =
+pub volume-kept : {C : Type 0} (sector : C → ℕ) (zone : Option (Worker C)) (old new : State (Keys C))
+    (event : Event) (outcome : Outcome) → IsVolume sector zone old → Meets old event →
+    Step old event outcome new → IsVolume sector zone new
+volume-kept sector zone old new event outcome is meets step =
     let goes = event_effects old new event outcome step in record {
       atom = rw (goes.map, goes.disk.size) is.atom;
       sound = sound_kept old new event outcome is.sound meets step;
       keys = rw (goes.map, goes.keys) is.keys;
+      few = rw goes.lane_is.count is.few;
+      led = zone-kept old new event outcome meets step zone is.led;
     }
 
 -- a lane's operation became this

@@ -2,3 +2,11 @@ pub mod CodeAdmit
 pub mod CodeNew
 pub mod CodePieceSteps
 pub mod CodeSteps
+pub mod WorkerLanes
+pub mod ZoneFacts
+pub mod ZoneTurns
+pub mod ZoneSteps
+pub mod ZoneLeaves
+pub mod ZoneGoes
+pub mod ZoneWorks
+pub mod ArmLemmas

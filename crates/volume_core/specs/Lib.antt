@@ -1,3 +1,5 @@
 pub mod Answers
 pub mod Calls
 pub mod Volumes
+pub mod Zones
+pub mod Turns

@@ -1,6 +1,7 @@
 // What the calls of a volume answer.
 
 use base_terms::Buffer;
+use hotzone::ZoneFault;
 use volume_machine::Grant;
 
 /// How an operation begins.
@@ -30,7 +31,7 @@ pub enum PieceRead {
     Got(Buffer),
     /// The disk failed; the buffer's content isn't to be used.
     Device(Buffer),
-    /// An earlier write or sync failed; the buffer is as it was.
+    /// The volume was broken; the buffer is as it was.
     Broken(Buffer),
 }
 
@@ -40,7 +41,7 @@ pub enum PieceWritten {
     Done(Buffer),
     /// The disk failed, and the volume is broken.
     Device(Buffer),
-    /// An earlier write or sync failed.
+    /// The volume was broken.
     Broken(Buffer),
 }
 
@@ -50,7 +51,24 @@ pub enum Settled {
     Done,
     /// The disk failed, and the volume is broken.
     Device,
-    /// An earlier write or sync failed.
+    /// The volume was broken.
+    Broken,
+}
+
+/// What a step of the conversion comes to.
+#[derive(Clone, Copy, Debug, PartialEq, Eq)]
+pub enum Worked {
+    /// It is made, and another one follows.
+    Stepped,
+    /// The entry of this lane is earlier and conflicts with the blocks of the next zone, which are
+    /// asked for: lanes that come later wait for them. No device call is made.
+    Waiting(u32),
+    /// All steps are made: the header is that of the finished volume.
+    Finished,
+    /// The device call failed, or the zone, or the finish, can't be made. The blocks of the zone are
+    /// left.
+    Fault(ZoneFault),
+    /// The volume was broken. The blocks of the zone are left.
     Broken,
 }
 
@@ -65,8 +83,8 @@ pub struct Progress {
     pub idle: bool,
     /// The bytes of a block.
     pub atom: u32,
-    /// Whether the volume can convert blocks.
+    /// Whether the volume has what its conversion takes.
     pub armed: bool,
-    /// Whether a write or a sync has failed.
+    /// Whether a write or a sync has failed, or a read of the conversion behind a zone's first commit.
     pub broken: bool,
 }

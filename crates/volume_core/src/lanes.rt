@@ -1,6 +1,6 @@
 // The room of lanes.
 
-ghost use Rattle.std.specs.Prelude.{◌≡◌, ◌<◌, [], None, IfOk, replicate};
+ghost use Rattle.std.specs.Prelude.{◌≡◌, ◌<◌, ◌^◌, [], None, IfOk, replicate};
 
 use range_lock::Table;
 use std::alloc::{AllocError, Global};
@@ -40,6 +40,7 @@ impl Lanes {
     /// The table of locks, and the operation of each lane.
     pub(crate) fn into_parts(self) -> (Table, Vec<Option<Open>>)
         ensures some { 0 < self }
+        ensures few { self < 2 ^ 32 }
         ensures room { result.0.room ≡ self }
         ensures entries { result.0.entries ≡ [] }
         ensures lanes { result.1.items ≡ replicate self None }

@@ -5,14 +5,19 @@
 //! layer above may rely on one definition, `Step`: every call ensures it, with what the disk tells.
 //! By the laws of `volume_laws` the operations of every run of calls are then those of one plain
 //! disk, and wherever a run stops the disk holds what that history allows.
+//!
+//! A volume whose header says that it is being converted can be armed; each call of `work` is then
+//! one step of its conversion, a `WorkStep`, between the clients' calls and in any order with them.
 #![tactic(auto)]
 
 mod answers;
 mod calls;
 mod lanes;
 mod volume;
+mod working;
 
-pub use answers::{Admitted, Asked, PieceRead, PieceWritten, Progress, Settled};
+pub use answers::{Admitted, Asked, PieceRead, PieceWritten, Progress, Settled, Worked};
+pub use hotzone::ZoneFault;
 pub use lanes::Lanes;
 pub use volume::Volume;
 pub use volume_machine::Grant;

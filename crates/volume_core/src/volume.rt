@@ -1,7 +1,7 @@
 // A volume: its disk, its map and keys, and the operations under way on it.
 
 ghost use Rattle.std.specs.Prelude.{◌≡◌, ◌<◌, ◌≤◌, ◌↔◌, false, [], length, take, ℕ, None, IfOk};
-ghost use Rattle.std.specs.Prelude.{IfErr, OnOk, IsTrue, replicate};
+ghost use Rattle.std.specs.Prelude.{IfErr, OnOk, IsTrue, is_some, replicate};
 ghost use Rattle.volume_core.specs.Answers.{outcome_of_admitted, outcome_of_asked, outcome_of_read};
 ghost use Rattle.volume_core.specs.Answers.{outcome_of_written, outcome_of_settled, buffer_of_read};
 ghost use Rattle.volume_core.specs.Answers.{buffer_of_written, KeepsBuffer, is_idle};
@@ -24,6 +24,7 @@ use crate::lanes::Lanes;
 use base_terms::{Buffer, DEVICE_ERROR};
 use block_range::BlockRange;
 use cipher_laws::SectorCipher;
+use hotzone::Zone;
 use range_lock::{Standing, Table};
 use sector_cipher::Context;
 use sector_disk::Disk;
@@ -38,29 +39,40 @@ use volume_machine::{Ask, Grant, Keys, Open, Prepared, open_of, set_lane};
 /// calls are given a lane below it.
 ///
 /// Each call on a lane is one event: it makes at most one device call and takes no memory. `Device`
-/// comes exactly where that device call failed, and `Broken` exactly where a write or a sync had
-/// failed before; a failed read breaks nothing.
-#[derive(Drop)]
+/// comes exactly where that device call failed, and `Broken` exactly where the volume was broken: a
+/// write or a sync had failed before, or a read of the conversion behind a zone's first commit. A
+/// lane's failed read breaks nothing.
 pub struct Volume<D: Disk, C: SectorCipher + Copy> {
-    disk: D,
-    map: Map,
-    keys: Keys<C>,
-    table: Table,
-    lanes: Vec<Option<Open>>,
-    broken: bool,
+    pub(crate) disk: D,
+    pub(crate) map: Map,
+    pub(crate) keys: Keys<C>,
+    pub(crate) table: Table,
+    pub(crate) lanes: Vec<Option<Open>>,
+    pub(crate) broken: bool,
+    pub(crate) zone: Option<Zone<C>>,
 }
 
 impl<D: Disk, C: SectorCipher + Copy> Model for Volume<D, C> {
     ghost use Rattle.volume_machine.specs.States.{State};
     ghost use Rattle.volume_core.specs.Volumes.{IsVolume, state_of};
+    ghost use Rattle.volume_core.specs.Zones.{work_in};
     ghost use Rattle.volume_machine.specs.declared.keys.Keys.{Keys};
 
     ghost Value = { State (Keys C) };
 
-    ghost view = { λ v. state_of v.map v.keys v.table v.lanes.items v.broken (D.device v.disk) };
+    ghost view = { λ v. state_of v.map v.keys v.table v.lanes.items v.broken
+        (work_in C.sealed C.opened v.zone) (D.device v.disk) };
 
-    ghost invariant = { λ v. IsVolume C.sector
-        (state_of v.map v.keys v.table v.lanes.items v.broken (D.device v.disk)) };
+    ghost invariant = { λ v. IsVolume C.sector v.zone
+        (state_of v.map v.keys v.table v.lanes.items v.broken
+        (work_in C.sealed C.opened v.zone) (D.device v.disk)) };
+}
+
+// By hand, so that a volume that is dropped in place is one call to the prover.
+impl<D: Disk + Drop, C: SectorCipher + Copy> Drop for Volume<D, C> {
+    fn drop(self) {
+        drop(self.into_disk());
+    }
 }
 
 impl<D: Disk> Volume<D, Context> {
@@ -150,6 +162,7 @@ impl<D: Disk, C: SectorCipher + Copy> Volume<D, C> {
             table,
             lanes,
             broken: false,
+            zone: None,
         }
     }
 
@@ -160,7 +173,7 @@ impl<D: Disk, C: SectorCipher + Copy> Volume<D, C> {
           blocks = self.now.map.blocks;
           idle = is_idle self.now.map;
           atom = self.now.map.atom;
-          armed = false;
+          armed = is_some self.now.work;
           broken = self.now.broken;
         } }
     {
@@ -177,7 +190,7 @@ impl<D: Disk, C: SectorCipher + Copy> Volume<D, C> {
                 Direction::Backward => boundary == 0,
             },
             atom: self.map.atom,
-            armed: false,
+            armed: self.zone.is_some(),
             broken: self.broken,
         }
     }
@@ -242,7 +255,16 @@ impl<D: Disk, C: SectorCipher + Copy> Volume<D, C> {
         ensures size { (D.device result).size ≡ self.map.atom }
         ensures disk { D.device result ≡ self.disk }
     {
-        let Volume { disk, .. } = self;
+        let Volume {
+            disk,
+            map: _,
+            keys: _,
+            table: _,
+            lanes: _,
+            broken: _,
+            zone,
+        } = self;
+        drop(zone);
         disk
     }
 
@@ -380,7 +402,7 @@ impl<D: Disk, C: SectorCipher + Copy> Volume<D, C> {
 }
 
 // Where an operation stands that has just begun: behind all others where it locks its blocks.
-fn lock(table: &mut Table, lane: u32, range: BlockRange, ask: Ask) -> Standing
+pub(crate) fn lock(table: &mut Table, lane: u32, range: BlockRange, ask: Ask) -> Standing
     requires room { length table.old.entries < table.old.room }
     requires new { has_entry lane table.old.entries ≡ false }
     ensures locks { Locks ask (record { lane = lane; range = range; kind = kind_of ask })

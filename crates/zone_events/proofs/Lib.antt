@@ -1,26 +1,26 @@
-mod SideLemmas
-mod TextLemmas
-mod HeadLemmas
-mod NumberLemmas
-mod MapLemmas
-mod SameLemmas
-mod TellLemmas
-mod MemberLemmas
+pub mod SideLemmas
+pub mod TextLemmas
+pub mod HeadLemmas
+pub mod NumberLemmas
+pub mod MapLemmas
+pub mod SameLemmas
+pub mod TellLemmas
+pub mod MemberLemmas
 pub mod GroundLemmas
-mod DropLemmas
-mod PlanLemmas
-mod AlikeLemmas
-mod TurnLemmas
-mod ConcludeLemmas
-mod FollowLemmas
-mod CallLemmas
-mod HereLemmas
-mod SizeLemmas
-mod LoadedLemmas
-mod OrderLemmas
-mod SaveLemmas
-mod WriteLemmas
-mod StayLemmas
-mod EndLemmas
-mod StopLemmas
-mod LawLemmas
+pub mod DropLemmas
+pub mod PlanLemmas
+pub mod AlikeLemmas
+pub mod TurnLemmas
+pub mod ConcludeLemmas
+pub mod FollowLemmas
+pub mod CallLemmas
+pub mod HereLemmas
+pub mod SizeLemmas
+pub mod LoadedLemmas
+pub mod OrderLemmas
+pub mod SaveLemmas
+pub mod WriteLemmas
+pub mod StayLemmas
+pub mod EndLemmas
+pub mod StopLemmas
+pub mod LawLemmas

@@ -23,7 +23,7 @@ lock-requires-clause-new g c =
 pub invariant_of-self : goal.invariant_of-self
 invariant_of-self g c =
     let blocks = rw (← c.self.view_is) at c.requires.blocks in
-    volume-kept g.C.SectorCipher.sector _ _ (admits c.args.lane c.args.session c.args.ask)
+    volume-kept g.C.SectorCipher.sector _ _ _ (admits c.args.lane c.args.session c.args.ask)
     (outcome_of_admitted c.match-lock.result) c.self.invariant
     (rw (← c.self.view_is) at c.requires.meets) (admit-begun _ c.args.lane c.args.session
     c.args.ask _ c.new.result c.lock.result _ (rw (← c.self.view_is) at c.requires.ready) (rw blocks

@@ -15,7 +15,7 @@ set_lane-requires g c =
 
 pub invariant_of-self : goal.invariant_of-self
 unfolding Step
-invariant_of-self g c = volume-kept g.C.SectorCipher.sector
+invariant_of-self g c = volume-kept g.C.SectorCipher.sector _
     _ _ (finishes c.args.lane) done c.self.invariant (rw (← c.self.view_is) at c.requires) (record {
       outcome_is = refl;
       goes = record {

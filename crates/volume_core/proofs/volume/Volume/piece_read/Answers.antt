@@ -23,7 +23,7 @@ read_next-read-requires-clause-can g c =
 pub invariant_of-self : goal.invariant_of-self
 invariant_of-self g c =
     let is = rw c.deref.ensures.value at c.open_of-open.ensures in
-    volume-kept g.C.SectorCipher.sector _ _ (reads c.args.lane c.args.len) (outcome_of_read
+    volume-kept g.C.SectorCipher.sector _ _ _ (reads c.args.lane c.args.len) (outcome_of_read
     c.args.len c.read_next-read.result) c.self.invariant (rw (← c.self.view_is) at c.requires.meets)
     (read-step _ _ c.args.lane _ _ c.args.len _ is c.read_next-read.ensures.reads (record {
       map = refl;

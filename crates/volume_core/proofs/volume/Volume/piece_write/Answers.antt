@@ -23,7 +23,7 @@ write_next-written-requires-clause-can g c =
 pub invariant_of-self : goal.invariant_of-self
 invariant_of-self g c =
     let is = rw c.deref.ensures.value at c.open_of-open.ensures in
-    volume-kept g.C.SectorCipher.sector
+    volume-kept g.C.SectorCipher.sector _
     _ _ (writes c.args.lane c.args.prepared.bytes) (outcome_of_written c.write_next-written.result)
     c.self.invariant (rw (← c.self.view_is) at c.requires) (write-step
     _ _ c.args.lane _ _ c.args.prepared.bytes _ is c.write_next-written.ensures.writes (record {

@@ -11,7 +11,7 @@ open_of-open-requires g c =
 pub invariant_of-self : goal.invariant_of-self
 invariant_of-self g c =
     let is = rw c.deref.ensures.value at c.open_of-open.ensures in
-    volume-kept g.C.SectorCipher.sector _ _ (settles c.args.lane)
+    volume-kept g.C.SectorCipher.sector _ _ _ (settles c.args.lane)
     (outcome_of_settled c.sync_all-settled.result) c.self.invariant (rw (← c.self.view_is)
     at c.requires) (settle-step _ _ c.args.lane _ _ _ is c.sync_all-settled.ensures.syncs (record {
       map = refl;
