@@ -27,7 +27,6 @@ use std::thread::Threads;
 use volume_machine::Keys;
 
 /// A zone that a stop left open is written again, one device call a step.
-#[derive(Drop)]
 pub struct Mending<C: SectorCipher + Copy> {
     mender: Mender<C>,
 }
@@ -46,6 +45,14 @@ impl<C: SectorCipher + Copy> Model for Mending<C> {
     ghost view = { λ mending. mending.mender };
 
     ghost invariant = { λ mending. IsMending C.sector mending.mender };
+}
+
+// By hand, so that one that is dropped in place is one call to the prover.
+impl<C: SectorCipher + Copy> Drop for Mending<C> {
+    fn drop(self) {
+        let Mending { mender } = self;
+        drop(mender);
+    }
 }
 
 /// A zone that is written again by the header to come, with the buffer of a part.
