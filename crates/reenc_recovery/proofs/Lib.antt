@@ -1,25 +1,25 @@
-mod BeginLemmas
-mod CauseLemmas
-mod CheckLemmas
-mod CipherLemmas
-mod FoundLemmas
-mod FrameLemmas
-mod ImageLemmas
-mod JoinedLemmas
-mod JointCallLemmas
-mod KeepLemmas
-mod MendLemmas
-mod MendedLemmas
+pub mod BeginLemmas
+pub mod CauseLemmas
+pub mod CheckLemmas
+pub mod CipherLemmas
+pub mod FoundLemmas
+pub mod FrameLemmas
+pub mod ImageLemmas
+pub mod JoinedLemmas
+pub mod JointCallLemmas
+pub mod KeepLemmas
+pub mod MendLemmas
+pub mod MendedLemmas
 pub mod OpenCauseLemmas
 pub mod OpenLemmas
-mod OpenedLemmas
-mod PassphraseLemmas
+pub mod OpenedLemmas
+pub mod PassphraseLemmas
 pub mod PlacingLemmas
-mod RepairGoesLemmas
-mod RepairLemmas
-mod RepairTableLemmas
-mod RewriteLemmas
-mod StandingLemmas
-mod TableLemmas
-mod VolumeLemmas
+pub mod RepairGoesLemmas
+pub mod RepairLemmas
+pub mod RepairTableLemmas
+pub mod RewriteLemmas
+pub mod StandingLemmas
+pub mod TableLemmas
+pub mod VolumeLemmas
 pub mod WritingLemmas

@@ -26,7 +26,8 @@ pub struct Opening {
     pub keys: Keys<Context>,
 }
 
-fn first_number(segment: &Extent) -> u64
+/// The IV number of a segment's first 512 bytes; 0 of a linear one.
+pub fn first_number(segment: &Extent) -> u64
     ensures { result ≡ tweak_by segment.now.encryption }
 {
     match &segment.encryption {

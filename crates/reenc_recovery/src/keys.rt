@@ -104,7 +104,11 @@ fn cipher_under(
 
 /// The cipher of a segment under the key that was handed in for it, which must be the one of the
 /// segment's digest. A linear segment has the cipher that changes nothing, and no key.
-pub(crate) fn segment_cipher(
+///
+/// # Errors
+///
+/// The key isn't the one of the digest, or there is none: `KeyDiffers`; or memory was wanted.
+pub fn segment_cipher(
     alloc: Global,
     valid: &Valid,
     segment: &Extent,

@@ -21,7 +21,8 @@
 //! checks and the repair are public calls of their own, [`check`] and [`mend`], for those who have
 //! more to check before anything is written; behind both the header is certain,
 //! [`openings_mend_headers`]. What the calls of an opening leave of a header, whatever it says of a
-//! conversion, is said by [`openings_keep_headers`].
+//! conversion, is said by [`openings_keep_headers`]; and the cipher of any one segment under the key
+//! that was handed in for it is [`segment_cipher`].
 #![tactic(auto)]
 
 mod checking;
@@ -35,8 +36,8 @@ mod telling;
 
 pub use checking::{Checked, check};
 pub use fault::{OpenCause, OpenFault};
-pub use judging::Opening;
-pub use keys::SideKeys;
+pub use judging::{Opening, first_number};
+pub use keys::{SideKeys, segment_cipher};
 pub use laws::{
     contents_stay_behind_headers, images_stand_for_one, opened_volumes_go_by_passphrases,
     opened_volumes_start, openings_keep_contents, openings_keep_headers, openings_mend_headers,
