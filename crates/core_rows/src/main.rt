@@ -56,7 +56,7 @@ fn outcome(alloc: Global, subject: &mut Subject, step: &str) -> Result<String> {
     let words: Vec<&str> = step.split(' ').collect(alloc)?;
     let acted_on = mem::replace(subject, Subject::Nothing);
     let (left, found) = perform(alloc, acted_on, words.as_slice())?;
-    *subject = left;
+    drop(mem::replace(subject, left));
     Ok(found)
 }
 

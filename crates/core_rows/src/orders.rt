@@ -194,12 +194,15 @@ fn op_of(alloc: Global, ask: Ask, byte: u8) -> std::result::Result<Op, AllocErro
 }
 
 // Whether two lanes that take their turns in this order, and then one after the other, have the
-// replies of one plain disk, end, and leave on the disk what the plain disk holds.
-fn is_served(alloc: Global, one: [Ask; 2], other: [Ask; 2], order: u32) -> Result<bool> {
-    let Ok(mut volume) = Volume::plain(alloc, RamDisk::new(alloc, 512, BLOCKS)?, 3) else {
-        return Err(anyhow!("no memory for a volume"));
-    };
-    let mut plain = PlainDisk::new(alloc, 512, BLOCKS)?;
+// replies of one plain disk, and end.
+fn is_answered(
+    alloc: Global,
+    volume: &mut Volume<RamDisk, Context>,
+    plain: &mut PlainDisk,
+    asks: [[Ask; 2]; 2],
+    order: u32,
+) -> Result<bool> {
+    let [one, other] = asks;
     let mut first = Lane::new(0, one, [1, 2]);
     let mut second = Lane::new(1, other, [3, 4]);
     for turn in 0..6 * TURNS {
@@ -212,16 +215,32 @@ fn is_served(alloc: Global, one: [Ask; 2], other: [Ask; 2], order: u32) -> Resul
             turn % 2 == 1
         };
         let lane = if is_second { &mut second } else { &mut first };
-        if !lane.turn(alloc, &mut volume, &mut plain)? {
+        if !lane.turn(alloc, volume, plain)? {
             return Ok(false);
         }
     }
-    if !first.is_done() || !second.is_done() {
-        return Ok(false);
+    Ok(first.is_done() && second.is_done())
+}
+
+// Whether so served two lanes leave on the disk what the plain disk holds.
+fn is_served(alloc: Global, one: [Ask; 2], other: [Ask; 2], order: u32) -> Result<bool> {
+    let disk = RamDisk::new(alloc, 512, BLOCKS)?;
+    let mut plain = PlainDisk::new(alloc, 512, BLOCKS)?;
+    match Volume::plain(alloc, disk, 3) {
+        Ok(volume) => {
+            let mut volume = volume;
+            let answered = is_answered(alloc, &mut volume, &mut plain, [one, other], order);
+            let mut disk = volume.into_disk();
+            Ok(answered? && holds_all(&mut disk, &plain)?)
+        }
+        Err(_) => Err(anyhow!("no memory for a volume")),
     }
-    let mut disk = volume.into_disk();
+}
+
+// Whether each atom of the disk is the newest value of the plain disk's block.
+fn holds_all(disk: &mut RamDisk, plain: &PlainDisk) -> Result<bool> {
     for block in 0..BLOCKS {
-        if !holds_the_newest(&mut disk, &plain, block)? {
+        if !holds_the_newest(disk, plain, block)? {
             return Ok(false);
         }
     }

@@ -19,7 +19,6 @@ use std::alloc::Global;
 use volume_core::Volume;
 
 /// What steps act on.
-#[derive(Drop)]
 pub(crate) enum Subject {
     Nothing,
     Plain(PlainDisk),
@@ -27,6 +26,34 @@ pub(crate) enum Subject {
     Disk(MemDisk),
     Volume(Volume<MemDisk, Context>),
     Lane(Lane<MemDisk>),
+}
+
+// By hand, so that one that is dropped in place is one call to the prover.
+impl Drop for Subject {
+    fn drop(self) {
+        match self {
+            Subject::Nothing => {}
+            Subject::Plain(disk) => drop(disk),
+            Subject::Ram(disk) => drop(disk),
+            Subject::Disk(disk) => drop(disk),
+            Subject::Volume(volume) => drop(volume),
+            Subject::Lane(lane) => drop(lane),
+        }
+    }
+}
+
+impl Subject {
+    /// Does a step on what is there.
+    fn acted(self, alloc: Global, words: &[&str]) -> Result<(Subject, String)> {
+        match self {
+            Subject::Nothing => Err(anyhow!("a step without a disk")),
+            Subject::Plain(disk) => on_plain_disk(alloc, disk, words),
+            Subject::Ram(disk) => on_ram(alloc, disk, words),
+            Subject::Disk(disk) => on_disk(alloc, disk, words),
+            Subject::Volume(volume) => on_volume(alloc, volume, words),
+            Subject::Lane(lane) => of_lane(alloc, lane, words),
+        }
+    }
 }
 
 /// The outcome of a step that makes something.
@@ -42,7 +69,7 @@ pub(crate) fn perform(
 ) -> Result<(Subject, String)> {
     match begun(alloc, words)? {
         Some(begun) => Ok(begun),
-        None => acted(alloc, subject, words),
+        None => subject.acted(alloc, words),
     }
 }
 
@@ -64,18 +91,6 @@ fn new_subject(alloc: Global, words: &[&str]) -> Result<Option<Subject>> {
         ["plain_disk", words @ ..] => Ok(Some(Subject::Plain(new_plain(alloc, words)?))),
         ["ram", words @ ..] => Ok(Some(Subject::Ram(new_ram(alloc, words)?))),
         _ => Ok(None),
-    }
-}
-
-/// Does a step on what is there.
-fn acted(alloc: Global, subject: Subject, words: &[&str]) -> Result<(Subject, String)> {
-    match subject {
-        Subject::Nothing => Err(anyhow!("a step without a disk")),
-        Subject::Plain(disk) => on_plain_disk(alloc, disk, words),
-        Subject::Ram(disk) => on_ram(alloc, disk, words),
-        Subject::Disk(disk) => on_disk(alloc, disk, words),
-        Subject::Volume(volume) => on_volume(alloc, volume, words),
-        Subject::Lane(lane) => of_lane(alloc, lane, words),
     }
 }
 
@@ -220,8 +235,9 @@ fn on_volume(
         return made(alloc, Subject::Disk(volume.into_disk()));
     }
     let mut volume = volume;
-    let told = told(alloc, &mut volume, words)?;
-    Ok((Subject::Volume(volume), told))
+    let told = told(alloc, &mut volume, words);
+    let left = Subject::Volume(volume);
+    Ok((left, told?))
 }
 
 /// What a step tells of a volume, or is answered by it.

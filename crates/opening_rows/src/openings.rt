@@ -70,8 +70,9 @@ fn told(
     match opening {
         Ok(volume) => {
             let map = volume.map();
+            let disk = volume.into_disk();
             let text = format!(in alloc; "{} blocks from {}", map.blocks, map.new_place)?;
-            Ok((text, volume.into_disk()))
+            Ok((text, disk))
         }
         Err(fault) => {
             let OpenFault { disk, cause } = fault;

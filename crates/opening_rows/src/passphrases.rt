@@ -88,6 +88,16 @@ fn first_bytes(alloc: Global, volume: &mut Volume<JoinedDisk<MemDisk>, Context>)
     }
 }
 
+/// How many blocks a volume has, and with which bytes the first of them begins, in words.
+fn told(alloc: Global, volume: &mut Volume<JoinedDisk<MemDisk>, Context>) -> Result<String>
+    requires idle { IsIdle volume.old }
+    requires lanes { 1 < length volume.old.lanes }
+{
+    let blocks = volume.map().blocks;
+    let front = first_bytes(alloc, volume)?;
+    Ok(format!(in alloc; "{blocks} blocks, the first begins {front}")?)
+}
+
 /// What opening a volume under this key comes to, with the first bytes of its first block.
 fn opened(alloc: Global, disks: JoinedDisk<MemDisk>, key: Key) -> Result<String> {
     let keys = SideKeys {
@@ -97,12 +107,13 @@ fn opened(alloc: Global, disks: JoinedDisk<MemDisk>, key: Key) -> Result<String>
     match open_volume(alloc, disks, &keys, 2) {
         Ok(volume) => {
             let mut volume = volume;
-            let blocks = volume.map().blocks;
-            let front = first_bytes(alloc, &mut volume)?;
-            Ok(format!(in alloc; "{blocks} blocks, the first begins {front}")?)
+            let text = told(alloc, &mut volume);
+            drop(volume);
+            text
         }
         Err(fault) => {
-            let OpenFault { cause, .. } = fault;
+            let OpenFault { disk, cause } = fault;
+            drop(disk);
             cause_text(alloc, &cause)
         }
     }

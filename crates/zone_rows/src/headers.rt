@@ -23,15 +23,27 @@ pub(crate) fn header_on(alloc: Global, disk: MemDisk) -> Result<(MemDisk, Loaded
     }
 }
 
-/// The disk with a copy of the header written anew that lacks or is older.
+/// Writes the copy of a disk's header anew that lacks or is older.
 #[tactic(auto, using(crate::proofs::HeaderLemmas::repair_begun, crate::proofs::HeaderLemmas::repair_fits))]
+fn mend_by(alloc: Global, disk: &mut MemDisk, loaded: &Loaded) -> Result<()>
+    requires { IsOn (device_of disk.old) loaded.now }
+{
+    loaded.is_stored();
+    let repair = loaded.repair(alloc)?;
+    match mend(disk, repair) {
+        Ok(()) => Ok(()),
+        Err(_) => Err(anyhow!("a header can't be mended")),
+    }
+}
+
+/// The disk with a copy of the header written anew that lacks or is older.
 pub(crate) fn mended(alloc: Global, disk: MemDisk) -> Result<MemDisk> {
     let (disk, loaded) = header_on(alloc, disk)?;
     let mut disk = disk;
-    loaded.is_stored();
-    let repair = loaded.repair(alloc)?;
-    match mend(&mut disk, repair) {
+    let mended = mend_by(alloc, &mut disk, &loaded);
+    drop(loaded);
+    match mended {
         Ok(()) => Ok(disk),
-        Err(_) => Err(anyhow!("a header can't be mended")),
+        Err(fault) => Err(fault),
     }
 }

@@ -96,11 +96,19 @@ fn may_lead(loaded: &Loaded, sides: &Sides) -> bool
 }
 
 /// A conversion under way, and the disk that it is led on.
-#[derive(Drop)]
 pub(crate) struct Led {
     disk: MemDisk,
     zone: Zone<Context>,
     ghost sizes: { HasSizes zone.loaded.valid.sizes (device_of disk) },
+}
+
+// By hand, so that one that is dropped in place is one call to the prover.
+impl Drop for Led {
+    fn drop(self) {
+        let Led { disk, zone } = self;
+        drop(zone);
+        drop(disk);
+    }
 }
 
 /// The conversion of the header that was read from a disk, where it may go on.
@@ -110,6 +118,7 @@ fn begin_with(alloc: Global, disk: MemDisk, loaded: Loaded, sides: &Sides) -> Re
 {
     let leads = may_lead(&loaded, sides);
     if !leads {
+        drop(loaded);
         return Ok(None);
     }
     match Zone::new(alloc, loaded, sides.keys) {

@@ -117,8 +117,14 @@ fn write_new(
     };
     new_volumes_fit_their_disk();
     match write_volume(disk, &mut volume) {
-        Ok(()) => Ok(()),
-        Err(_) => Err(anyhow!("a disk can't be written")),
+        Ok(()) => {
+            drop(volume);
+            Ok(())
+        }
+        Err(_) => {
+            drop(volume);
+            Err(anyhow!("a disk can't be written"))
+        }
     }
 }
 
@@ -172,7 +178,11 @@ fn started(alloc: Global, disk: MemDisk, row: &Row) -> Result<MemDisk> {
     let wish = conversion_wish(row)?;
     match begin_conversion(alloc, disk, &wish, PASS, &seed_from(32)) {
         Ok(started) => Ok(started.disk),
-        Err(unstarted) => Err(anyhow!("no conversion begins: {:?}", unstarted.refusal)),
+        Err(unstarted) => {
+            let fault = anyhow!("no conversion begins: {:?}", unstarted.refusal);
+            drop(unstarted);
+            Err(fault)
+        }
     }
 }
 
@@ -193,8 +203,12 @@ fn unlocked(alloc: Global, disk: &mut MemDisk, loaded: &Loaded, digest: u64) -> 
 fn key_on(alloc: Global, disk: MemDisk, digest: u64) -> Result<(MemDisk, Key)> {
     let (disk, loaded) = header_on(alloc, disk)?;
     let mut disk = disk;
-    let key = unlocked(alloc, &mut disk, &loaded, digest)?;
-    Ok((disk, key))
+    let key = unlocked(alloc, &mut disk, &loaded, digest);
+    drop(loaded);
+    match key {
+        Ok(key) => Ok((disk, key)),
+        Err(fault) => Err(fault),
+    }
 }
 
 /// The disk of a row's volume, whose conversion has begun, and its content with both keys.
