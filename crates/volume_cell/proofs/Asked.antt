@@ -17,7 +17,7 @@ use Rattle.volume_cell.specs.Knowing.{HasCalls, knowing, taking, having_asked}
 use Rattle.volume_cell.specs.History.{Rule}
 use Rattle.volume_cell.specs.Steps.{Learns, Takes, takes_at, gives_back}
 use Rattle.volume_cell.specs.Asking.{IsSameSeat, HasLooked, HasTaken, IsFull, CanAct, HasActed}
-use Rattle.volume_cell.specs.Passes.{IsReady, IsSamePass, IsAnswered}
+use Rattle.volume_cell.specs.Passes.{IsReady, IsSamePass, IsAnswered, HasStood}
 use Rattle.volume_cell.proofs.Lists.{begins_same, begins_through}
 use Rattle.volume_cell.proofs.Stories.{own-of, calls-asked}
 use Rattle.volume_cell.proofs.Turns.{gives-back}
@@ -278,3 +278,15 @@ module _ {M S E O : Type 0} where
 
       pub asked-own : calls_of after.me.0.name after.me.0.history ≡ after.me.0.calls
       asked-own = own-of after.me.0 asked-calls
+
+      -- where it acted, it stood for the history
+      pub asked-stood : HasStood start_of stands_for after.me.0
+      asked-stood = record {
+        machine = a.held.machine;
+        stands = subst (λ (h : List (Entry E O)). stands_for a.held.machine h)
+            (ap (λ (m : Me (Held M E O) (Knowledge S E O)).
+            m.0.history ++ entry m.0.name event outcome ∷ []) t.is
+            ∙ sym (ap (λ (m : Me (Held M E O) (Knowledge S E O)). m.0.history) asked)) a.stands;
+        start = ap (λ (m : Me (Held M E O) (Knowledge S E O)). m.0.start) asked
+            ∙ (sym (ap (λ (m : Me (Held M E O) (Knowledge S E O)). m.0.start) t.is) ∙ a.start);
+      }

@@ -1,5 +1,5 @@
 -- Cells and passes, as callers see them.
-use Rattle.std.specs.Prelude.{◌≡◌, ℕ, ◌<◌, List, [], ◌∷◌, ◌++◌, length}
+use Rattle.std.specs.Prelude.{◌≡◌, ℕ, ◌<◌, List, [], ◌∷◌, ◌++◌, length, Some}
 use Rattle.atomic_table.specs.declared.shared.Seat.{Seat}
 use Rattle.atomic_table.specs.Seated.{TableId}
 use Rattle.volume_cell.specs.declared.history.Entry.{Entry}
@@ -53,6 +53,13 @@ module _ {S E O : Type 0} where
     pub later : Begins before.history after.history
     pub calls : after.calls ≡ before.calls
     pub full : length after.history ≡ limit
+
+  -- a machine with the pass's start stands for the history that the pass knows
+  pub record HasStood {M : Type 0} (start_of : M → S)
+      (stands_for : M → List (Entry E O) → Type 0) (v : Knowledge S E O) : Type 0 where
+    pub machine : M
+    pub stands : stands_for machine v.history
+    pub start : v.start ≡ Some (start_of machine)
 
   -- of each name, the history has the calls that the accounts have
   abbrev pub IsAccounted : Knowledge S E O → Type 0

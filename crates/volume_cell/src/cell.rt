@@ -1,11 +1,11 @@
 //! The cell and its passes.
 ghost use Rattle.std.specs.Prelude.{◌≡◌, ℕ, List, ◌+◌, ◌-◌, ◌^◌, ◌<◌, ◌≤◌, ◌++◌, [], ◌∷◌, Some};
-ghost use Rattle.std.specs.Prelude.{IfOk, IfErr, MatchBool, MatchResult};
+ghost use Rattle.std.specs.Prelude.{IfOk, IfErr, OnOk, MatchBool, MatchResult};
 ghost use Rattle.volume_cell.specs.Histories.{Begins, calls_of};
 ghost use Rattle.volume_cell.specs.Knowing.{IsWhole, HasCalls, having_split, split_off};
 ghost use Rattle.volume_cell.specs.Knowing.{having_joined, retired, beginning};
 ghost use Rattle.volume_cell.specs.Passes.{known, IsPassOf, IsSamePass, IsAnswered, IsSpent};
-ghost use Rattle.volume_cell.specs.Passes.{IsAccounted};
+ghost use Rattle.volume_cell.specs.Passes.{IsAccounted, HasStood};
 ghost use Rattle.volume_cell.specs.Asking.{IsSameSeat, HasLooked, HasTaken, IsFull, CanAct};
 ghost use Rattle.volume_cell.specs.Asking.{HasActed};
 
@@ -127,6 +127,7 @@ impl<M: Machine> Cell<M> {
         ensures answer { MatchResult result
             (IsAnswered self.now.limit (known pass.old) (known pass.new) event)
             (IsSpent self.now.limit (known pass.old) (known pass.new) event) }
+        ensures stood { OnOk result (HasStood M.start M.stands_for (known pass.new)) }
         ensures own { calls_of (known pass.new).name (known pass.new).history
             ≡ (known pass.new).calls }
         ensures calls { HasCalls (known pass.new) }

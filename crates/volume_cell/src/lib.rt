@@ -9,6 +9,7 @@
 //! - A turn answers the last entry of the history that the pass then knows. That history begins
 //!   with what the pass knew, and under the pass's name it has the pass's own calls, each once and
 //!   in order. So it has under the name of each pass that was joined into it that pass's calls.
+//!   A machine with the pass's start stood for that history.
 //! - A turn is refused exactly where the history has as many entries as the cell was made for. The
 //!   event comes back.
 //! - A pass that is split off another knows what that knows, has a name of its own, and has made

@@ -1,6 +1,6 @@
 use Rattle.std.proofs.Common.{◌-◌, ◌^◌, ◌<◌, arith, ◌∙◌, subst}
 use Rattle.volume_cell.proofs.Asked.{can-act, may-give, asked-pass, asked-same, asked-answer}
-use Rattle.volume_cell.proofs.Asked.{asked-own, asked-calls}
+use Rattle.volume_cell.proofs.Asked.{asked-own, asked-calls, asked-stood}
 use Rattle.volume_cell.proofs.cell.Cell+M.turn.Goals as goal
 
 pub act-outcome-requires-clause-can : goal.act-outcome-requires-clause-can
@@ -50,6 +50,14 @@ returns-clause-own g c =
 pub returns-clause-calls : goal.returns-clause-calls
 returns-clause-calls g c =
     asked-calls g.M.Machine.start g.M.Machine.stands_for _
+    c.args.self.now.table.shared.table_id.slots c.fetch_add.result c.args.pass.now c.take.new.pass
+    c.act-outcome.new.pass c.wake.new.pass c.args.event c.act-outcome.result c.if-not-take.ensures
+    c.act-outcome.ensures (λ h n i k. c.wake.ensures.is ∙ c.fetch_add.ensures.2 h n i k)
+    (c.wake.ensures.table ∙ c.fetch_add.ensures.0)
+
+pub returns-clause-stood : goal.returns-clause-stood
+returns-clause-stood g c =
+    asked-stood g.M.Machine.start g.M.Machine.stands_for _
     c.args.self.now.table.shared.table_id.slots c.fetch_add.result c.args.pass.now c.take.new.pass
     c.act-outcome.new.pass c.wake.new.pass c.args.event c.act-outcome.result c.if-not-take.ensures
     c.act-outcome.ensures (λ h n i k. c.wake.ensures.is ∙ c.fetch_add.ensures.2 h n i k)
