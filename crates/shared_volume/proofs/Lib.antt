@@ -1,0 +1,10 @@
+pub mod Entries
+pub mod Standing
+pub mod Stood
+pub mod OwnCalls
+pub mod Answering
+pub mod Turning
+pub mod Coming
+pub mod Going
+pub mod Left
+pub mod Serving

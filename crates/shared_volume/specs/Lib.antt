@@ -1,0 +1,5 @@
+pub mod Calling
+pub mod Histories
+pub mod Lanes
+pub mod Executing
+pub mod Serving
