@@ -1,0 +1,39 @@
+// What a volume's answers are to a worker.
+
+ghost use Rattle.std.specs.Prelude.{◌≡◌, Err};
+ghost use Rattle.reenc_worker.specs.declared.ends.WorkAnswer.TheVariants.{Ended};
+ghost use Rattle.volume_core.specs.Zones.{worked_of};
+ghost use Rattle.worker_laws.specs.Steps.{told_by};
+ghost use Rattle.zone_events.specs.Promises.{answer_of};
+
+use reenc_worker::{NoFit, WorkAnswer, WorkerEnd};
+use volume_core::{Worked, ZoneFault};
+
+/// What a call of a worker is answered by a volume's answer.
+pub(crate) fn told(worked: Worked) -> WorkAnswer
+    ensures { result ≡ told_by (worked_of worked) }
+{
+    match worked {
+        Worked::Stepped => WorkAnswer::Stepped,
+        Worked::Waiting(_) => WorkAnswer::Waiting,
+        Worked::Finished => WorkAnswer::Ended(WorkerEnd::Finished),
+        Worked::Fault(fault) => WorkAnswer::Ended(end_of(fault)),
+        Worked::Broken => WorkAnswer::Ended(WorkerEnd::Broken),
+    }
+}
+
+/// How a worker ends by a step that failed, or can't be made.
+fn end_of(fault: ZoneFault) -> WorkerEnd
+    ensures { Ended result ≡ told_by (answer_of (Err fault)) }
+{
+    match fault {
+        ZoneFault::Device => WorkerEnd::Device,
+        ZoneFault::DigestClash { block, digest } => WorkerEnd::Clash { block, digest },
+        ZoneFault::SeqEnd => WorkerEnd::NoFit(NoFit::SeqEnd),
+        ZoneFault::JsonFull { length, limit } => WorkerEnd::NoFit(NoFit::JsonFull {
+            length,
+            limit,
+        }),
+        ZoneFault::Memory => WorkerEnd::Memory,
+    }
+}

@@ -1,0 +1,30 @@
+// Laws of a conversion that its worker alone leads.
+
+ghost use Rattle.std.specs.Prelude.{List, ◌≡◌, ◌<◌, ◌-◌, ◌^◌, false, ℕ};
+ghost use Rattle.disk_areas.specs.Headers.{Header, Layout};
+ghost use Rattle.reenc_worker.specs.Answers.{AreAnswers};
+ghost use Rattle.reenc_worker.specs.declared.ends.WorkAnswer.{WorkAnswer};
+ghost use Rattle.reenc_worker.specs.declared.ends.WorkerEnd.{WorkerEnd};
+ghost use Rattle.volume_machine.specs.Readings.{Reading};
+ghost use Rattle.volume_machine.specs.Seals.{Seals};
+ghost use Rattle.volume_machine.specs.States.{State};
+ghost use Rattle.volume_machine.specs.declared.keys.Keys.{Keys};
+ghost use Rattle.worker_laws.specs.Conversions.{HasConverted, IsFaultless, MayConvert};
+ghost use Rattle.worker_laws.specs.Steps.{HasWorked};
+
+use cipher_laws::SectorCipher;
+
+/// A worker that leads a conversion alone, with no operation under way, leaves by each of its ends
+/// what that end says. Where no device call failed it ends with `Finished`, `Clash`, `NoFit`,
+/// `Memory` or `Spent`, unless the volume was broken before.
+pub fn conversions_end<C: SectorCipher>()
+    ensures ends { (reading : Reading) (seals : Seals) (layout : Layout)
+        (header : Header (List ℕ)) (old new : State (Keys C)) (answers : List WorkAnswer)
+        (end : WorkerEnd) → MayConvert reading layout header old →
+        HasWorked reading seals old new answers → AreAnswers end answers →
+        HasConverted reading seals layout header old new end }
+    ensures complete { (reading : Reading) (seals : Seals) (layout : Layout)
+        (header : Header (List ℕ)) (old new : State (Keys C)) (end : WorkerEnd) →
+        HasConverted reading seals layout header old new end → old.broken ≡ false →
+        new.disk.faults ≡ old.disk.faults → old.disk.faults < 2 ^ 64 - 1 → IsFaultless end }
+{}

@@ -1,0 +1,9 @@
+//! What follows for every run of a volume's worker alone, step after step up to an end: by that end
+//! the volume is converted, stays in use as far as it is, or is broken. Each law is the contract of a
+//! function that does nothing; a proof above cites it by its call. How the steps come about, by a
+//! volume at hand or by one that threads share, is not said here.
+#![tactic(auto)]
+
+mod laws;
+
+pub use laws::conversions_end;
