@@ -1,0 +1,144 @@
+-- What bytes say whose header has a zone open, from which it is written again, and what other bytes
+-- stand for that have every atom behind the copies where these have it, but for the zone's.
+use Rattle.std.proofs.Common.{◌≡◌, inl, inr, ℕ, ◌+◌, ◌<◌, ◌≤◌, List, Ok, Some, sym, ◌∙◌, ap}
+use Rattle.std.proofs.Common.{subst, arith}
+use Rattle.std.proofs.Math.Nat.{le_of_mul-le-mul_right}
+use Rattle.disk_areas.specs.Areas.{Area}
+use Rattle.disk_areas.specs.Headers.{Gives, Layout}
+use Rattle.disk_sizes.specs.declared.Sizes.{Sizes}
+use Rattle.disk_views.specs.Parts.{block_at}
+use Rattle.disk_views.specs.Views.{IsOutside}
+use Rattle.disk_zones.specs.Zones.{Hotzone, Texts}
+use Rattle.luks_copies.specs.Meanings.{header_reader}
+use Rattle.luks_json.specs.declared.meta.Parts.{Parts}
+use Rattle.luks_rules.specs.Shapes.{progress_of}
+use Rattle.luks_rules.specs.States.{IsSound}
+use Rattle.luks_rules.specs.declared.shape.Progress.{Progress}
+use Rattle.luks_rules.specs.declared.valid.Checked.{Checked}
+use Rattle.luks_store.specs.Devices.{front_of}
+use Rattle.luks_store.specs.Loads.{stored_in}
+use Rattle.luks_store.specs.Promises.{LoadsByMeaning}
+use Rattle.luks_store.specs.declared.loaded.Stored.{Stored}
+use Rattle.open_zones.proofs.FrontLemmas.{block-lies}
+use Rattle.open_zones.proofs.OneLemmas.{same-progress}
+use Rattle.open_zones.proofs.TurnLemmas.{LiesBeside}
+use Rattle.open_zones.specs.Images.{HoldsOpen, OpenStandsUnder, seals_at}
+use Rattle.open_zones.specs.Mending.{AreSavedIn, IsZoneOf, MovesOver}
+use Rattle.reenc_meta.specs.ConversionMaps.{IsMapAt}
+use Rattle.reenc_meta.specs.Layouts.{progress_at}
+use Rattle.reenc_meta.specs.Moves.{moved}
+use Rattle.reenc_meta.specs.Placements.{place_of}
+use Rattle.reenc_recovery.specs.Keys.{IsKeyOf}
+use Rattle.started_volumes.proofs.GapLemmas.{one-header}
+use Rattle.started_volumes.proofs.HeaderLemmas.{known-of}
+use Rattle.volume_machine.specs.Pieces.{place_in}
+use Rattle.zone_images.proofs.ContentLemmas.{ClosesBy, HasContent, OpensBy, place-here}
+use Rattle.zone_images.proofs.ContentLemmas.{stands-moved, stands-open}
+use Rattle.zone_images.proofs.SavedContentLemmas.{open-content}
+
+-- every atom behind the copies but the zone's is where these bytes have it
+abbrev pub HasRest : Sizes → Layout → Hotzone (List ℕ) → List ℕ → List ℕ → Type 0
+HasRest sizes layout zone first now =
+    (place : ℕ) → layout.second.start + layout.second.count ≤ place
+    → IsOutside zone.own.start zone.own.count place
+    → block_at sizes.atom now place ≡ block_at sizes.atom first place
+
+module _ (sizes : Sizes) (header next stored : Stored) (c : Progress) (layout : Layout)
+    (zone : Hotzone (List ℕ)) (texts : Texts) (first : List ℕ) (old new : List ℕ)
+    (content : List (List ℕ)) (some : 0 < sizes.atom) (moves : MovesOver sizes header next c)
+    (by : IsZoneOf sizes header next c layout zone)
+    (saved : AreSavedIn sizes.atom c.plan.first (seals_at sizes.atom c old new) zone first texts)
+    (held : stored_in sizes (front_of sizes first) ≡ Ok stored)
+    (alike : stored.valid ≡ header.valid) (stands : OpenStandsUnder sizes old new first content)
+  where
+    pub same : stands.stored.valid.meta ≡ header.valid.meta
+    same =
+        ap (λ (s : Stored). s.valid.meta)
+        (one-header sizes first stands.stored stored stands.header held)
+        ∙ ap (λ (v : Checked). v.meta) alike
+
+    pub sound : IsSound header.valid.meta sizes
+    sound =
+        subst (λ (v : Checked). IsSound v.meta sizes) alike
+        (known-of sizes (front_of sizes first) stored some held).sound
+
+    pub now-is : stands.now ≡ c
+    now-is =
+        same-progress (progress_of header.valid.meta sizes) stands.now c
+        (subst (λ (m : Parts). progress_of m sizes ≡ Some stands.now) same stands.known) moves.known
+
+    map_is : IsMapAt sizes c stands.map
+    map_is = subst (λ (p : Progress). IsMapAt sizes p stands.map) now-is stands.map_is
+
+    holds : HoldsOpen sizes c stands.map old new first content
+    holds =
+        subst (λ (p : Progress). HoldsOpen sizes p stands.map old new first content) now-is
+        stands.holds
+
+    old_key : IsKeyOf header.valid.meta c.old old
+    old_key =
+        subst (λ (p : Progress). IsKeyOf header.valid.meta p.old old) now-is
+        (subst (λ (m : Parts). IsKeyOf m stands.now.old old) same stands.old_key)
+
+    new_key : IsKeyOf header.valid.meta c.new new
+    new_key =
+        subst (λ (p : Progress). IsKeyOf header.valid.meta p.new new) now-is
+        (subst (λ (m : Parts). IsKeyOf m stands.now.new new) same stands.new_key)
+
+    count : zone.own.count ≡ c.plan.zone
+    count = ap (λ (a : Area). a.count) by.own
+
+    start : zone.own.start ≡ place_of sizes c.old + c.plan.first
+    start = ap (λ (a : Area). a.start) by.own
+
+    behind-copies : (b : ℕ) → layout.second.start + layout.second.count ≤ place_in stands.map b
+    behind-copies b =
+        let lies = block-lies header.valid.meta sizes c sound moves.known stands.map map_is b in
+        let begin = by.begin in
+        le_of_mul-le-mul_right (omega (arith, lies, begin)) some
+
+    out : (b : ℕ) → LiesBeside c.plan b
+        → IsOutside zone.own.start zone.own.count (place_in stands.map b)
+    out b (inl before) =
+        let at = place-here sizes c stands.map map_is moves.in_place b in
+        inl (omega (arith, before, at, start))
+    out b (inr behind) =
+        let at = place-here sizes c stands.map map_is moves.in_place b in
+        inr (omega (arith, behind, at, start, count))
+
+    has : HasContent sizes c stands.map (seals_at sizes.atom c old new) texts first content
+    has =
+        open-content sizes c stands.map map_is moves.in_place old new zone texts first content count
+        by.store by.guarded saved holds
+
+    -- ---- other bytes
+    module _ (loads : LoadsByMeaning) (now : List ℕ)
+        (rest : HasRest sizes layout zone first now) where
+      -- that have the header with the zone open, and what was saved of it
+      pub bytes-open : Gives header_reader (front_of sizes now) zone.opened.means
+          → ((i : ℕ) → i < zone.own.count
+          → block_at sizes.atom now (zone.store.start + i) ≡ texts.old i)
+          → OpensBy sizes header c old new now content
+      bytes-open gives store =
+          stands-open sizes c stands.map map_is moves.in_place old new texts first now content has
+          (λ b beside. rest (place_in stands.map b) (behind-copies b) (out b beside)) by.guarded
+          (λ i few. ap (λ n. block_at sizes.atom now (n + i)) (sym by.store)
+          ∙ store i (let more = count in omega (arith, few, more))) loads header moves.stored
+          moves.sizes_are
+          (subst (λ (x : List ℕ). Gives header_reader (front_of sizes now) x) by.opened gives)
+          moves.known moves.some old_key new_key
+
+      -- that have the one with the boundary moved, and its new atoms
+      pub bytes-moved : Gives header_reader (front_of sizes now) zone.moved.means
+          → ((i : ℕ) → i < zone.own.count
+          → block_at sizes.atom now (zone.own.start + i) ≡ texts.new i)
+          → ClosesBy sizes next (progress_at (moved c.conversion.direction c.plan.zone c.plan) c) old
+          new now content
+      bytes-moved gives own =
+          stands-moved sizes c stands.map map_is moves.in_place old new texts first now content has
+          (λ b beside. rest (place_in stands.map b) (behind-copies b) (out b beside))
+          (λ i few. ap (λ n. block_at sizes.atom now (n + i)) (sym start)
+          ∙ own i (let more = count in omega (arith, few, more))) loads header.valid.meta next
+          moves.next_stored moves.next_sizes
+          (subst (λ (x : List ℕ). Gives header_reader (front_of sizes now) x) by.moved gives)
+          moves.gone old_key new_key
