@@ -1,0 +1,6 @@
+mod SegmentLemmas
+mod VolumeLemmas
+mod StepLemmas
+mod CauseLemmas
+mod ArmLemmas
+mod OpenLemmas

@@ -1,0 +1,4 @@
+pub mod Sides
+pub mod Runs
+pub mod Causes
+pub mod Openings

@@ -1,0 +1,46 @@
+// Why a volume that is being converted isn't opened.
+
+use joined_disk::JoinedDisk;
+use reenc_recovery::OpenCause;
+use sector_disk::Disk;
+use zone_mending::MendFault;
+
+/// Why a volume that is being converted isn't opened: the first of the causes that the disks and the
+/// keys give, unless memory was wanted or a device call failed before.
+#[derive(Debug, Drop)]
+pub enum ConversionCause {
+    /// No header is read, a key isn't the one of its segment's digest, memory ran out, or a device
+    /// call failed. That a conversion is under way is no cause.
+    Opening(OpenCause),
+    /// Nothing is being converted.
+    Idle,
+    /// Zones are guarded by something else than a journal.
+    NotBuilt,
+    /// A zone is open, and its header has the last number that there is.
+    SeqEnd,
+    /// A zone is open, and the text of the header with the boundary moved over it has so many bytes,
+    /// its area room for so many.
+    JsonFull { length: u64, limit: u64 },
+}
+
+/// A volume wasn't opened: the disks are handed back.
+#[derive(Drop)]
+pub struct ConversionFault<D: Disk> {
+    pub disk: JoinedDisk<D>,
+    pub cause: ConversionCause,
+}
+
+impl From<MendFault> for ConversionCause {
+    ghost use Rattle.std.specs.Prelude.{◌≡◌};
+    ghost use Rattle.conversion_opening.specs.Causes.{cause_of};
+
+    ghost from_gives = { λ fault e. e ≡ cause_of fault };
+
+    fn from(fault: MendFault) -> ConversionCause {
+        match fault {
+            MendFault::SeqEnd => ConversionCause::SeqEnd,
+            MendFault::JsonFull { length, limit } => ConversionCause::JsonFull { length, limit },
+            MendFault::Memory => ConversionCause::Opening(OpenCause::Memory),
+        }
+    }
+}
