@@ -1,0 +1,3 @@
+pub mod RowLemmas
+pub mod HeaderLemmas
+pub mod MapLemmas
