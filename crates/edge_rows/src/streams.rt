@@ -4,8 +4,8 @@ use crate::edges::{on_sink, on_source};
 use crate::words::number;
 use anyhow::{Result, anyhow};
 use io_edge::{
-    FaultPlan, Gate, GatheringWriter, OpenGate, OsSeeds, OutputStream, Place, Seeds, Sink, StdSink,
-    StdSource, VoidSink, WritePair,
+    Converted, FaultPlan, Gate, GatheringWriter, OpenGate, OsSeeds, OutputStream, Place, Seeds,
+    Sink, StdSink, StdSource, VoidSink, WritePair,
 };
 use std::alloc::Global;
 use std::cell::Cell;
@@ -252,6 +252,11 @@ pub(crate) fn on_stream(rt: &HostRuntime, words: &[&str]) -> Result<String> {
         ["dropped"] => dropped(alloc),
         ["slowly", words @ ..] => put_slowly(alloc, words),
         ["void", words @ ..] => {
+            OpenGate.tell(Converted {
+                done: 0,
+                blocks: 1,
+                atom: 512,
+            });
             OpenGate.pause(Place::Work);
             put_all(alloc, &mut VoidSink, words)
         }

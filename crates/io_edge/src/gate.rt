@@ -9,16 +9,33 @@ pub enum Place {
     Work,
 }
 
-/// What holds threads at their places. A pause answers nothing, so it can't change an answer.
+/// How far a conversion is.
+#[derive(Clone, Copy, Debug, PartialEq, Eq)]
+pub struct Converted {
+    /// How many blocks are new.
+    pub done: u64,
+    /// How many blocks there are.
+    pub blocks: u64,
+    /// The bytes of a block.
+    pub atom: u32,
+}
+
+/// What holds threads at their places, and is told how far a conversion is. Both answer nothing, so
+/// they can't change an answer.
 pub trait Gate {
     /// Holds the thread at this place as long as the gate wants.
     fn pause(&self, place: Place);
+
+    /// Takes note of how far a conversion is, before each of its steps.
+    fn tell(&self, converted: Converted);
 }
 
-/// A gate that holds nobody.
+/// A gate that holds nobody, and takes no notes.
 #[derive(Clone, Copy, Debug)]
 pub struct OpenGate;
 
 impl Gate for OpenGate {
     fn pause(&self, _place: Place) {}
+
+    fn tell(&self, _converted: Converted) {}
 }

@@ -1,5 +1,5 @@
 //! The edge of the server: where bytes come from and go to, where seeds are drawn, and where a
-//! thread may be held. A source tells what is left of its input and a sink what it was put, so far
+//! thread may be held and how far a conversion is told. A source tells what is left of its input and a sink what it was put, so far
 //! as they are objects in memory; real streams tell nothing of content. A sink tells what it holds
 //! back, which is nothing once it was pushed out. Each object counts its faults and says how many
 //! there were, and a call answers `Failed` only where that count rose in the call. The layer above
@@ -25,7 +25,7 @@ mod source;
 pub use counted::{Counted, answered};
 pub use entropy_source::{EntropySource, OsSeeds};
 pub use fault_plan::FaultPlan;
-pub use gate::{Gate, OpenGate, Place};
+pub use gate::{Converted, Gate, OpenGate, Place};
 pub use gathering::{GatheringWriter, WritePair};
 pub use input_stream::{InputStream, StdSource};
 pub use output_stream::{OutputStream, StdSink};

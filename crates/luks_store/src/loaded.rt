@@ -29,9 +29,16 @@ pub struct Stored {
 }
 
 /// A header as it was loaded, which contracts see as what the disk held.
-#[derive(Drop)]
 pub struct Loaded {
     pub(crate) stored: Stored,
+}
+
+// By hand, so that a header that is dropped in place is one call to the prover.
+impl Drop for Loaded {
+    fn drop(self) {
+        let Loaded { stored } = self;
+        drop(stored);
+    }
 }
 
 impl Model for Loaded {

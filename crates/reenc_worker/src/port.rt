@@ -4,6 +4,7 @@ ghost use Rattle.std.specs.Prelude.{List, [], ◌∷◌, ◌++◌};
 ghost use Rattle.reenc_worker.specs.declared.ends.WorkAnswer.{WorkAnswer};
 
 use crate::ends::WorkAnswer;
+use io_edge::Converted;
 use std::sync::Wait;
 use std::thread::Threads;
 
@@ -21,6 +22,9 @@ pub trait WorkerPort {
         requires stands { stands self.old }
         ensures stands { stands self.new }
         ensures worked { worked self.old self.new (result ∷ []) };
+
+    /// How far the conversion is, as far as the worker knows.
+    fn converted(&self) -> Converted;
 
     ghost worked_none: { (port : Self) → worked port port [] };
 

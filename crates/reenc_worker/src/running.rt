@@ -11,7 +11,7 @@ use std::sync::Wait;
 use std::thread::Threads;
 
 /// Calls for steps of a conversion until an answer ends it, and tells that end. Before each call the
-/// gate may hold the thread. It goes on while steps are made, and while blocks are waited for, and
+/// gate is told how far the conversion is, and may hold the thread. It goes on while steps are made, and while blocks are waited for, and
 /// it makes at most `2^64 - 1` calls. It takes no memory.
 pub fn work_loop<R: Threads + Wait + Sync, P: WorkerPort, G: Gate>(
     rt: &R,
@@ -24,6 +24,7 @@ pub fn work_loop<R: Threads + Wait + Sync, P: WorkerPort, G: Gate>(
         × AreAnswers result answers }
 {
     for _ in 0..u64::MAX {
+        gate.tell(port.converted());
         gate.pause(Place::Work);
         match port.work(rt) {
             WorkAnswer::Stepped | WorkAnswer::Waiting => {}

@@ -1,5 +1,5 @@
 use crate::{NoFit, WorkAnswer, WorkerEnd, WorkerPort, work_loop};
-use io_edge::OpenGate;
+use io_edge::{Converted, OpenGate};
 use std::sync::Wait;
 use std::test::Fail;
 use std::thread::Threads;
@@ -30,6 +30,14 @@ impl WorkerPort for Course {
             return WorkAnswer::Waiting;
         }
         WorkAnswer::Stepped
+    }
+
+    fn converted(&self) -> Converted {
+        Converted {
+            done: self.calls as u64,
+            blocks: 4,
+            atom: 512,
+        }
     }
 }
 

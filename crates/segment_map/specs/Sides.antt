@@ -10,6 +10,11 @@ abbrev pub left_of : Direction → ℕ → ℕ → ℕ
 left_of Forward blocks boundary = blocks - boundary
 left_of Backward blocks boundary = boundary
 
+-- how many it has passed
+abbrev pub passed_of : Direction → ℕ → ℕ → ℕ
+passed_of Forward blocks boundary = boundary
+passed_of Backward blocks boundary = blocks - boundary
+
 -- forward: the new part up to the boundary, the zone, the old part;
 -- backward: the old part, the zone up to the boundary, the new part
 abbrev pub sides : Direction → ℕ → ℕ → ℕ → List Side

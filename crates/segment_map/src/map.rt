@@ -49,7 +49,7 @@ pub struct Piece {
 impl Map {
     ghost use Rattle.std.specs.Prelude.{◌≡◌};
     ghost use Rattle.segment_map.specs.Maps.{IsNextPiece, place_at, side_at, sides_of};
-    ghost use Rattle.segment_map.specs.Sides.{IsRunEnd};
+    ghost use Rattle.segment_map.specs.Sides.{IsRunEnd, passed_of};
 
     /// The side of a block of the volume.
     pub fn side(&self, block: u64) -> Side
@@ -99,6 +99,17 @@ impl Map {
             (Direction::Forward, Side::Zone) => self.boundary + self.zone,
             (Direction::Backward, Side::Old) => self.boundary - self.zone,
             (Direction::Forward, Side::Old) | (Direction::Backward, Side::New) => self.blocks,
+        }
+    }
+
+    /// How many blocks are converted, those of an open zone not among them.
+    pub fn converted(&self) -> u64
+        ensures { result
+            ≡ passed_of self.now.direction self.now.blocks self.now.boundary }
+    {
+        match self.direction {
+            Direction::Forward => self.boundary,
+            Direction::Backward => self.blocks - self.boundary,
         }
     }
 

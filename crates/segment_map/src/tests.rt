@@ -116,3 +116,27 @@ fn each_block_has_its_place(rt: HostRuntime) {
         assert_eq!(rt; map.place(block), place);
     }
 }
+
+// How many of eight blocks are converted where new and old meet at this one.
+fn converted_at(direction: Direction, boundary: u64) -> u64
+    requires { boundary ≤ 8 }
+{
+    let map = Map {
+        atom: 512,
+        blocks: 8,
+        boundary,
+        direction,
+        zone: 0,
+        old_place: 0,
+        new_place: 0,
+    };
+    map.converted()
+}
+
+#[test]
+fn blocks_that_the_boundary_has_passed_are_converted(rt: HostRuntime) {
+    assert_eq!(rt; converted_at(Direction::Forward, 0), 0);
+    assert_eq!(rt; converted_at(Direction::Forward, 3), 3);
+    assert_eq!(rt; converted_at(Direction::Backward, 3), 5);
+    assert_eq!(rt; converted_at(Direction::Backward, 8), 0);
+}

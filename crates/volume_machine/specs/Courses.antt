@@ -48,7 +48,7 @@ pub record Succeeds (reader : Reader (List ℕ)) (from to : Header (List ℕ)) :
   pub number : reader.seq to.means ≡ suc (reader.seq from.means)
 
 -- a header goes on with the conversion of another one: its sides are sealed the same, its zones are
--- guarded the same, and it has the same keyslots
+-- guarded the same, and its keyslots lie in the same areas
 pub record Continues (reading : Reading) (from to : List ℕ) : Type 0 where
   pub converts : reading.converts to ≡ true
   pub sealing : (side : Side) → reading.sealing to side ≡ reading.sealing from side

@@ -13,7 +13,7 @@ ghost use Rattle.worker_laws.specs.Conversions.{HasConverted, IsFaultless, MayCo
 ghost use Rattle.worker_laws.specs.Steps.{HasWorked};
 ghost use Rattle.zone_events.specs.Readings.{reading_of};
 
-use crate::telling::told;
+use crate::telling::{converted_of, told};
 use cipher_laws::SectorCipher;
 use io_edge::{Gate, Place};
 use reenc_worker::{WorkAnswer, WorkerEnd};
@@ -24,7 +24,8 @@ use volume_core::Volume;
 use worker_laws::conversions_end;
 
 /// Leads the conversion of a volume to its end, zone after zone, on which no operation is under way:
-/// all that it does are steps of the volume's worker. Before each the gate may hold the thread.
+/// all that it does are steps of the volume's worker. Before each the gate is told how far the
+/// conversion is, and may hold the thread.
 ///
 /// Of a volume of which blocks were to be converted and no zone was at hand it is told so: with
 /// `Finished` every block is new, by a header that converts nothing, and the areas of the keyslots
@@ -63,6 +64,7 @@ pub fn finish_conversion<R: Threads + Sync, D: Disk, C: SectorCipher + Copy + Sy
 {
     conversions_end::<C>();
     for _ in 0..u64::MAX {
+        gate.tell(converted_of(volume));
         gate.pause(Place::Work);
         match told(volume.work(rt, alloc)) {
             WorkAnswer::Stepped | WorkAnswer::Waiting => {}

@@ -1,4 +1,4 @@
-// What a volume's answers are to a worker.
+// What a volume's answers are to a worker, and what a gate is told.
 
 ghost use Rattle.std.specs.Prelude.{◌≡◌, Err};
 ghost use Rattle.reenc_worker.specs.declared.ends.WorkAnswer.TheVariants.{Ended};
@@ -6,8 +6,11 @@ ghost use Rattle.volume_core.specs.Zones.{worked_of};
 ghost use Rattle.worker_laws.specs.Steps.{told_by};
 ghost use Rattle.zone_events.specs.Promises.{answer_of};
 
+use cipher_laws::SectorCipher;
+use io_edge::Converted;
 use reenc_worker::{NoFit, WorkAnswer, WorkerEnd};
-use volume_core::{Worked, ZoneFault};
+use sector_disk::Disk;
+use volume_core::{Volume, Worked, ZoneFault};
 
 /// What a call of a worker is answered by a volume's answer.
 pub(crate) fn told(worked: Worked) -> WorkAnswer
@@ -19,6 +22,16 @@ pub(crate) fn told(worked: Worked) -> WorkAnswer
         Worked::Finished => WorkAnswer::Ended(WorkerEnd::Finished),
         Worked::Fault(fault) => WorkAnswer::Ended(end_of(fault)),
         Worked::Broken => WorkAnswer::Ended(WorkerEnd::Broken),
+    }
+}
+
+/// How far the conversion of a volume is.
+pub(crate) fn converted_of<D: Disk, C: SectorCipher + Copy>(volume: &Volume<D, C>) -> Converted {
+    let map = volume.map();
+    Converted {
+        done: map.converted(),
+        blocks: map.blocks,
+        atom: map.atom,
     }
 }
 
