@@ -16,13 +16,27 @@ use std::marker::Model;
 
 /// A link in memory, which gives the connections that it was dealt, in their order, and keeps those
 /// that it got back. It fails exactly at the calls of `next` that it was told, counted from 0.
-#[derive(Debug, Drop)]
+#[derive(Debug)]
 pub struct MemLink {
     ahead: VecDeque<(ListSource, ListSink)>,
     handed: Vec<(ListSource, ListSink)>,
     lent: usize,
     room: usize,
     plan: FaultPlan,
+}
+
+// By hand, so that a link that is dropped in place is one call to the prover.
+impl Drop for MemLink {
+    fn drop(self) {
+        let MemLink {
+            ahead,
+            handed,
+            lent: _,
+            room: _,
+            plan,
+        } = self;
+        drop((ahead, handed, plan));
+    }
 }
 
 impl Model for MemLink {
