@@ -3,7 +3,7 @@
 //! tell nothing of content; the layer above may rely on each disk, key and link being what those
 //! calls gave by the name or the address that was asked for, on sessions being dealt to the links
 //! in turn, and on a failure being counted where the system refused something. What the system
-//! refuses, and where clients may connect, is said on standard error.
+//! refuses, where clients may connect, and how far a conversion is, is said on standard error.
 #![tactic(auto)]
 
 mod door;
@@ -12,11 +12,15 @@ mod host_file;
 mod host_link;
 mod network;
 mod notices;
+mod progress;
 mod streams;
+#[cfg(test)]
+mod tests;
 
 pub use door::Door;
 pub use host_bay::HostBay;
 pub use host_file::HostFile;
 pub use host_link::{HostLink, HostSink, HostSource};
 pub use network::{Listener, Network, accept};
+pub use progress::ProgressGate;
 pub use streams::{HostReader, HostWriter};
