@@ -1,0 +1,5 @@
+mod KeyLemmas
+mod RightLemmas
+mod ShortLemmas
+mod ResumeLemmas
+mod RunLemmas
