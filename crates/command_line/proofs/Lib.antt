@@ -6,6 +6,7 @@ pub mod NameLemmas
 pub mod PieceLemmas
 pub mod PlainLemmas
 pub mod ProductLemmas
+pub mod ResumeLemmas
 pub mod RowLemmas
 pub mod StartLemmas
 pub mod TakenLemmas

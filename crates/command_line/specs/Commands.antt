@@ -8,6 +8,7 @@ use Rattle.clap.specs.Simple.{subcommand_of}
 use Rattle.clap.specs.Faults.{fault_of}
 use Rattle.command_line.specs.Formats.{Formatting, IsFormatting, formatting, formatting_in}
 use Rattle.command_line.specs.Product.{product}
+use Rattle.command_line.specs.Resumes.{Resuming, resuming, resuming_in}
 use Rattle.command_line.specs.Starts.{IsStarting, Starting, starting, starting_in}
 use Rattle.command_line.specs.Values.{◌>>=◌, IsAtomSize, atom_or_default, is_given, is_set}
 use Rattle.command_line.specs.Values.{number_or}
@@ -36,6 +37,7 @@ pub data Asked : Type 0 where
   formats : Formatting → Asked
   starts : Starting → Asked
   serves : Serving → Asked
+  resumes : Resuming → Asked
   shows : Showing → Asked
 
 abbrev pub serving : Serve → Serving
@@ -55,6 +57,7 @@ abbrev pub asked_by : Command → Asked
 asked_by (commands.Format words) = formats (formatting words)
 asked_by (commands.Init words) = starts (starting words)
 asked_by (commands.Serve words) = serves (serving words)
+asked_by (commands.Resume words) = resumes (resuming words)
 asked_by (commands.Status words) = shows (showing words)
 
 -- the values of a command are within their bounds
@@ -69,6 +72,7 @@ abbrev pub IsBounded : Asked → Type 0
 IsBounded (formats words) = IsFormatting words
 IsBounded (starts words) = IsStarting words
 IsBounded (serves words) = IsServing words
+IsBounded (resumes words) = IsAtomSize words.atom
 IsBounded (shows words) = IsAtomSize words.atom
 
 -- the key file of a volume that is served, or that a disk is served plain: one of both is asked
@@ -108,7 +112,8 @@ command_in name rows =
     if bytes_eq name (codes "format") then option_map formats (formatting_in rows)
     else (if bytes_eq name (codes "init") then option_map starts (starting_in rows)
     else (if bytes_eq name (codes "serve") then option_map serves (serving_in rows)
-    else (if bytes_eq name (codes "status") then option_map shows (showing_in rows) else None)))
+    else (if bytes_eq name (codes "resume") then option_map resumes (resuming_in rows)
+    else (if bytes_eq name (codes "status") then option_map shows (showing_in rows) else None))))
 
 -- What the words ask for: where `clap` takes them, the command that it finds in them, if each of
 -- its values is of its form and in its range.

@@ -3,6 +3,7 @@ pub mod Formats
 pub mod Items
 pub mod Plain
 pub mod Product
+pub mod Resumes
 pub mod Segments
 pub mod Starts
 pub mod Values

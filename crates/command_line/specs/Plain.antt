@@ -4,8 +4,10 @@ use Rattle.std.specs.Prelude.{Option, Some, None, option_map}
 use Rattle.std.specs.List.{list_any}
 use Rattle.std.specs.Str.{bytes_eq}
 use Rattle.clap.specs.Walk.{Text}
-use Rattle.command_line.specs.Commands.{Asked, Serving, Showing, formats, serves, shows, starts}
+use Rattle.command_line.specs.Commands.{Asked, Serving, Showing, formats, resumes, serves, shows}
+use Rattle.command_line.specs.Commands.{starts}
 use Rattle.command_line.specs.Formats.{Formatting, formatting_by}
+use Rattle.command_line.specs.Resumes.{Resuming}
 use Rattle.command_line.specs.Starts.{Starting, starting_by}
 use Rattle.command_line.specs.Values.{atom_or_default, number_or}
 
@@ -52,7 +54,7 @@ AreOnce [] = Unit {0}
 AreOnce (piece ∷ pieces) =
     (list_any (λ other. bytes_eq (name_of piece) (name_of other)) pieces ≡ false) × AreOnce pieces
 
--- what of these words a `format` may have, an `init`, a `serve`, and a `status`
+-- what of these words a `format` may have, an `init`, a `serve`, a `resume`, and a `status`
 abbrev pub IsFormatPiece : Piece → Type 0
 IsFormatPiece (disk word) = IsPlain word
 IsFormatPiece (valued name value) = IsPlain value × ((name ≡ codes "key-file")
@@ -75,6 +77,12 @@ IsServePiece (valued name value) = IsPlain value × ((name ≡ codes "key-file")
     ⊎ (name ≡ codes "atom") ⊎ (name ≡ codes "listen") ⊎ (name ≡ codes "workers")
     ⊎ (name ≡ codes "sessions"))
 IsServePiece (flag name) = (name ≡ codes "plain") ⊎ (name ≡ codes "no-worker")
+
+abbrev pub IsResumePiece : Piece → Type 0
+IsResumePiece (disk word) = IsPlain word
+IsResumePiece (valued name value) =
+    IsPlain value × ((name ≡ codes "key-file") ⊎ (name ≡ codes "atom"))
+IsResumePiece (flag name) = ⊥
 
 abbrev pub IsStatusPiece : Piece → Type 0
 IsStatusPiece (disk word) = IsPlain word
@@ -121,6 +129,15 @@ pub record IsServe (pieces : List Piece) (words : Serving) : Type 0 where
   pub sessions_are :
       number_or 65535 1 65535 (value_in (codes "sessions") pieces) ≡ Some words.sessions
 
+-- The pieces of a `resume`, in any order: DISK and `--key-file` are there, and no piece is twice.
+-- The atom is 512 or 4096, or left out.
+pub record IsResume (pieces : List Piece) (words : Resuming) : Type 0 where
+  pub known : AllPieces IsResumePiece pieces
+  pub once : AreOnce pieces
+  pub disk_is : value_in (codes "disk") pieces ≡ Some words.disk
+  pub key_file_is : value_in (codes "key-file") pieces ≡ Some words.key_file
+  pub atom_is : atom_or_default (value_in (codes "atom") pieces) ≡ Some words.atom
+
 -- the pieces of a `status`, in any order: DISK is there, and the atom may be
 pub record IsStatus (pieces : List Piece) (words : Showing) : Type 0 where
   pub known : AllPieces IsStatusPiece pieces
@@ -140,6 +157,10 @@ TakesInit asked = (pieces : List Piece) (words : Starting) → IsInit pieces wor
 abbrev pub TakesServe : (List Text → Option Asked) → Type 0
 TakesServe asked = (pieces : List Piece) (words : Serving) → IsServe pieces words →
     asked (codes "serve" ∷ all_spelt pieces) ≡ Some (serves words)
+
+abbrev pub TakesResume : (List Text → Option Asked) → Type 0
+TakesResume asked = (pieces : List Piece) (words : Resuming) → IsResume pieces words →
+    asked (codes "resume" ∷ all_spelt pieces) ≡ Some (resumes words)
 
 abbrev pub TakesStatus : (List Text → Option Asked) → Type 0
 TakesStatus asked = (pieces : List Piece) (words : Showing) → IsStatus pieces words →

@@ -20,6 +20,7 @@ ghost use Rattle.command_line.specs.Commands.{
 
 use crate::formatting::{Format, read_format};
 use crate::product::product;
+use crate::resuming::{Resume, read_resume};
 use crate::starting::{Init, read_init};
 use crate::values::{Refused, atom_or_default, is_given, is_set, number_or, required, text_of};
 use clap::error::ErrorKind;
@@ -56,6 +57,7 @@ pub enum Command<'a> {
     Format(Format<'a>),
     Init(Init<'a>),
     Serve(Serve<'a>),
+    Resume(Resume<'a>),
     Status(Status<'a>),
 }
 
@@ -159,6 +161,10 @@ fn read_command<'a>(name: &str, matches: &ArgMatches<'a>) -> Result<Command<'a>,
     if name == "serve" {
         let serve = read_serve(matches)?;
         return Ok(Command::Serve(serve));
+    }
+    if name == "resume" {
+        let resume = read_resume(matches)?;
+        return Ok(Command::Resume(resume));
     }
     if name == "status" {
         let status = read_status(matches)?;

@@ -222,7 +222,7 @@ fn resume<'a>(alloc: Global) -> Result<Command<'a>, AllocError>
     leaf(
         alloc,
         "resume",
-        "Convert to the end (not built yet)",
+        "Convert a volume to the end of its conversion",
         &items,
     )
 }

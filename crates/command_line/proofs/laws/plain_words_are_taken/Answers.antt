@@ -1,4 +1,5 @@
 use Rattle.command_line.proofs.FormatLemmas.{format_taken}
+use Rattle.command_line.proofs.ResumeLemmas.{resume_taken}
 use Rattle.command_line.proofs.StartLemmas.{init_taken}
 use Rattle.command_line.proofs.TakenLemmas.{serve_taken, status_taken}
 use Rattle.command_line.proofs.laws.plain_words_are_taken.Goals as goal
@@ -11,6 +12,9 @@ returns-clause-init c = init_taken
 
 pub returns-clause-serve : goal.returns-clause-serve
 returns-clause-serve c = serve_taken
+
+pub returns-clause-resume : goal.returns-clause-resume
+returns-clause-resume c = resume_taken
 
 pub returns-clause-status : goal.returns-clause-status
 returns-clause-status c = status_taken
