@@ -38,7 +38,13 @@ mkdir folder
     explains "error: the argument '--plain' cannot be used multiple times" $(plain disk.img stdio) --plain
     explains "error: --atom takes 512 or 4096" status disk.img --atom 1024
     explains "error: --workers takes a number from 1 to 16" $(plain disk.img stdio) --workers 17
-    explains "error: this command is not built yet" resume disk.img --key-file key
+    explains "error: this command is not built yet" demo --seed 1 --blocks 1 --workers 1
+    explains "error: resume takes no --header yet" resume disk.img --key-file key --header other.img
+    explains "--key-file <FILE>" resume disk.img
+    explains "Convert a volume to the end of its conversion" resume --help
+    refuses 2 "fault 2 Device" "reencd: missing.img: No such file or directory" resume missing.img --key-file key
+    refuses 2 "fault 2 Device" "reencd: missing: No such file or directory" resume disk.img --key-file missing
+    refuses 3 "fault 3 NoHeader" "reencd: header: primary: Magic; secondary: Magic" resume disk.img --key-file /dev/null
     refuses 2 "fault 2 Device" "reencd: missing.img: No such file or directory" $(plain missing.img stdio)
     refuses 2 "fault 2 Device" "reencd: folder: Is a directory" $(plain folder stdio)
     refuses 8 "fault 8 NoFit" "reencd: the disk has no room for a block" $(plain small.img stdio)

@@ -76,6 +76,10 @@ fn command_text(alloc: Global, command: &Command<'_>) -> Result<String> {
                 serve.disk, serve.atom, serve.address, serve.workers, serve.sessions,
             )?)
         }
+        Command::Resume(resume) => Ok(format!(in alloc;
+            "resume {} by {} in atoms of {}",
+            resume.disk, resume.key_file, resume.atom,
+        )?),
         Command::Status(status) => {
             Ok(format!(in alloc; "status of {} in atoms of {}", status.disk, status.atom)?)
         }

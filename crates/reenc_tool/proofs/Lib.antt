@@ -2,6 +2,7 @@ mod AskingLemmas
 mod HistoryLemmas
 mod LaneLemmas
 mod MakingLemmas
+mod ResumingLemmas
 mod RoundLemmas
 mod RunLemmas
 mod StartingLemmas

@@ -42,7 +42,7 @@ use Rattle.reenc_tool.specs.Runs.{HasServed, VolumeKeys, StoodStill, cause_of}
 use Rattle.luks_store.specs.declared.fault.StoreFault.{StoreFault}
 use Rattle.volume_machine.specs.declared.keys.Keys.{Keys}
 use Rattle.volume_opening.specs.Openings.{IsOpenedBy}
-use Rattle.volume_opening.specs.declared.refusal.Refusal.{Refusal}
+use Rattle.reenc_tool.specs.declared.volume_refusal.VolumeRefusal.{VolumeRefusal}
 use Rattle.command_line.specs.Commands.{Serving}
 use Rattle.reenc_tool.proofs.HistoryLemmas.{each_of, known_of, untagged-tagged_of}
 use Rattle.reenc_tool.proofs.AskingLemmas.{sessions_unspent}
@@ -270,7 +270,7 @@ links_few state workers sessions links bounded some count few k link inside =
 abbrev pub unserved_of : {D L : Type 0} → Cause → Option D → List L → Outcome D L
 unserved_of cause disk links = unserved cause disk links
 
-abbrev pub handed_back : {D L : Type 0} → Cause → Option StoreFault → Option Refusal → Bool →
+abbrev pub handed_back : {D L : Type 0} → Cause → Option StoreFault → Option VolumeRefusal → Bool →
     Option D → Option D → List L → List (List SessionEnd) → Outcome D L
 handed_back cause fault refusal memory disk header links ends = record {
   cause = cause;
@@ -285,7 +285,7 @@ handed_back cause fault refusal memory disk header links ends = record {
 
 -- what is handed back is the same where each part is
 pub same_outcome : {D L : Type 0} (cause : Cause) (fault fault' : Option StoreFault)
-    (refusal refusal' : Option Refusal) (memory memory' : Bool)
+    (refusal refusal' : Option VolumeRefusal) (memory memory' : Bool)
     (disk disk' header header' : Option D) (links links' : List L)
     (ends ends' : List (List SessionEnd)) → fault ≡ fault' →
     refusal ≡ refusal' → memory ≡ memory' → disk ≡ disk' → header ≡ header' → links ≡ links' →
@@ -294,7 +294,7 @@ pub same_outcome : {D L : Type 0} (cause : Cause) (fault fault' : Option StoreFa
 same_outcome {D} {L} cause fault fault' refusal refusal' memory memory' disk disk' header header'
     links links' ends ends' f r m a h b c =
     ap (λ (w : Option StoreFault). handed_back cause w refusal memory disk header links ends) f
-    ∙ ap (λ (w : Option Refusal). handed_back cause fault' w memory disk header links ends) r
+    ∙ ap (λ (w : Option VolumeRefusal). handed_back cause fault' w memory disk header links ends) r
     ∙ ap (λ (w : Bool). handed_back cause fault' refusal' w disk header links ends) m
     ∙ ap (λ (d : Option D). handed_back cause fault' refusal' memory' d header links ends) a
     ∙ ap (λ (d : Option D). handed_back cause fault' refusal' memory' disk' d links ends) h

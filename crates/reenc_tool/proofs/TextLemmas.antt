@@ -8,7 +8,7 @@ use Rattle.io_edge.specs.Outlet.{Outlet, PutsPiece}
 use Rattle.reenc_tool.specs.declared.ended.Cause.{Cause}
 use Rattle.reenc_tool.specs.declared.ended.Cause.TheVariants.{Fine, Usage, Device, NoHeader}
 use Rattle.reenc_tool.specs.declared.ended.Cause.TheVariants.{Header, NoKey, WrongState, Foreign}
-use Rattle.reenc_tool.specs.declared.ended.Cause.TheVariants.{NoFit, Link}
+use Rattle.reenc_tool.specs.declared.ended.Cause.TheVariants.{NoFit, Clash, Link}
 use Rattle.reenc_tool.specs.declared.ended.Cause.TheVariants.{Output, Seeds, Memory}
 use Rattle.reenc_tool.specs.Texts.{Prints, fault_line, text_of}
 
@@ -59,6 +59,7 @@ text_of-fault NoKey after text other = refl
 text_of-fault WrongState after text other = refl
 text_of-fault Foreign after text other = refl
 text_of-fault (NoFit what number limit) after text other = refl
+text_of-fault (Clash block digest) after text other = refl
 text_of-fault (Link failed faults) after text other = refl
 text_of-fault (Output faults) after text other = refl
 text_of-fault (Seeds faults) after text other = refl

@@ -18,6 +18,7 @@ use Rattle.volume_opening.specs.Refusals.{AreOf, IsUnopenedBy}
 use Rattle.volume_opening.specs.Stops.{StandsAlong}
 use Rattle.volume_opening.specs.declared.refusal.Refusal.{Refusal}
 use Rattle.reenc_tool.specs.declared.ended.Failing.TheVariants.{Keying}
+use Rattle.reenc_tool.specs.declared.volume_refusal.VolumeRefusal.TheVariants.{Opening}
 use Rattle.reenc_tool.specs.Linking.{AsksLinks, IsLinked}
 use Rattle.reenc_tool.specs.Outcomes.{Coming, Outcome, cause_of_fault, ended_by, none_came}
 use Rattle.reenc_tool.specs.Runs.{HasServed, VolumeKeys}
@@ -76,7 +77,7 @@ abbrev pub ended_unopened : {D L : Type 0} → Refusal → Option D → D → �
 ended_unopened refusal header disk faults = record {
   cause = cause_of_refusal refusal faults;
   fault = None;
-  refusal = Some refusal;
+  refusal = Some (Opening refusal);
   memory = false;
   disk = Some disk;
   header = header;

@@ -8,6 +8,7 @@ pub mod Outcomes
 pub mod Plain
 pub mod Ports
 pub mod Promise
+pub mod Resuming
 pub mod Runs
 pub mod Sessions
 pub mod Showing

@@ -11,7 +11,7 @@ use Rattle.reenc_tool.specs.declared.ended.Ended.{Ended}
 use Rattle.reenc_tool.specs.declared.ended.Failing.{Failing}
 use Rattle.reenc_tool.specs.declared.ended.Failing.TheVariants.{Opening}
 use Rattle.reenc_tool.specs.declared.ended.Sessions.{Sessions}
-use Rattle.volume_opening.specs.declared.refusal.Refusal.{Refusal}
+use Rattle.reenc_tool.specs.declared.volume_refusal.VolumeRefusal.{VolumeRefusal}
 
 -- what a command hands back: its cause, and why no header was shown or no volume opened; whether
 -- memory was wanted for a session's end; its disk, and that of a detached header; and its links,
@@ -19,7 +19,7 @@ use Rattle.volume_opening.specs.declared.refusal.Refusal.{Refusal}
 pub record Outcome (D L : Type 0) : Type 0 where
   pub cause : Cause
   pub fault : Option StoreFault
-  pub refusal : Option Refusal
+  pub refusal : Option VolumeRefusal
   pub memory : Bool
   pub disk : Option D
   pub header : Option D

@@ -10,11 +10,14 @@ use Rattle.reenc_tool.specs.Encrypted.{AsksKey, ServesVolume}
 use Rattle.reenc_tool.specs.Linking.{AsksLinks}
 use Rattle.reenc_tool.specs.Making.{HasMade}
 use Rattle.reenc_tool.specs.Plain.{ServesPlain}
+use Rattle.reenc_tool.specs.Resuming.{HasResumed}
 use Rattle.reenc_tool.specs.Showing.{HasShown}
 use Rattle.reenc_tool.specs.Starting.{HasStarted}
 use Rattle.reenc_tool.specs.Outcomes.{AsksDisk, HasNoDisk, Outcome, unserved}
-use Rattle.command_line.specs.Commands.{Serving, Showing, asked, formats, serves, shows, starts}
+use Rattle.command_line.specs.Commands.{Serving, Showing, asked, formats, resumes, serves, shows}
+use Rattle.command_line.specs.Commands.{starts}
 use Rattle.command_line.specs.Formats.{Formatting}
+use Rattle.command_line.specs.Resumes.{Resuming}
 use Rattle.command_line.specs.Starts.{Starting}
 use Rattle.io_edge.specs.Supply.{Supply}
 
@@ -63,9 +66,9 @@ Serviced device state holdings asks_disk asks_key asks_links serve old new outco
     × (HasDisk device state holdings asks_disk asks_key asks_links serve old new outcome
     ⊎ HasNoDisk holdings asks_disk serve.disk serve.atom None old new outcome)
 
--- What a command did whose words were read, or not: it was told to serve, to show, to format or to
--- begin a conversion, which its report belongs to; or nothing was asked of the bay and of the seeds,
--- since the words ask for nothing or memory was wanted.
+-- What a command did whose words were read, or not: it was told to serve, to show, to format, to
+-- begin a conversion or to lead one to its end, which its report belongs to; or nothing was asked of
+-- the bay and of the seeds, since the words ask for nothing or memory was wanted.
 abbrev pub Came : {B D L : Type 0} → (D → DiskState) → (L → LinkState) → (B → Holdings D) →
     AsksDisk B D → AsksDisk B D → AsksKey B → AsksLinks B L → List (List ℕ) → Supply → Supply →
     B → B → Outcome D L → Option (List ℕ) → Type 0
@@ -82,6 +85,8 @@ Came device state holdings asks_disk asks_reading asks_key asks_links words supp
     × HasMade device holdings asks_disk asks_key format supply now old new outcome report)
     ⊎ ((start : Starting) × (asked words ≡ Some (starts start))
     × HasStarted device holdings asks_disk asks_key start supply now old new outcome report)
+    ⊎ ((resume : Resuming) × (asked words ≡ Some (resumes resume)) × (now ≡ supply)
+    × HasResumed device holdings asks_disk asks_key resume old new outcome report)
 
 -- no command has a pass yet
 abbrev pub HasNoPass : {P : Type 0} → Option P → Option P → Type 0

@@ -14,8 +14,9 @@ use Rattle.luks_init.specs.declared.wish.Guard.TheVariants.{Journal, Checksum}
 use Rattle.luks_init.specs.declared.wish.Wish.{Wish}
 use Rattle.luks_json.specs.Reencrypts.{direction_name}
 use Rattle.sector_disk.specs.Devices.{Device as DiskState}
-use Rattle.volume_opening.specs.declared.refusal.Refusal.{Refusal as OpeningRefusal}
 use Rattle.reenc_tool.specs.declared.ended.Cause.TheVariants.{Fine, Memory}
+use Rattle.reenc_tool.specs.declared.volume_refusal.VolumeRefusal.{VolumeRefusal}
+use Rattle.reenc_tool.specs.declared.volume_refusal.VolumeRefusal.TheVariants.{Opening}
 use Rattle.reenc_tool.specs.Encrypted.{AsksKey, HasNoKeyFile}
 use Rattle.reenc_tool.specs.Making.{HasGiven, HasNoSeed, HasSeed}
 use Rattle.reenc_tool.specs.Outcomes.{AsksDisk, HasNoDisk, Outcome, ended_by, none_came, unserved}
@@ -57,8 +58,8 @@ pub record IsStarted {D L : Type 0} (device : D → DiskState) (words : Starting
     pub report_is : report ≡ Some (started_line words)
 
 -- why no volume was opened, where that is why no conversion was begun
-abbrev pub opening_refusal : Refusal → Option OpeningRefusal
-opening_refusal (Unopened refusal) = Some refusal
+abbrev pub opening_refusal : Refusal → Option VolumeRefusal
+opening_refusal (Unopened refusal) = Some (Opening refusal)
 opening_refusal _ = None
 
 -- what a command hands back that began no conversion, of whose disk so many calls failed

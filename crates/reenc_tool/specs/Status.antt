@@ -3,9 +3,14 @@ use Rattle.std.specs.Prelude.{ℕ, ◌-◌, ◌^◌, ◌==◌, if◌then◌else�
 use Rattle.reenc_tool.specs.declared.ended.Cause.{Cause}
 use Rattle.reenc_tool.specs.declared.ended.Cause.TheVariants.{Fine, Usage, Device, NoHeader}
 use Rattle.reenc_tool.specs.declared.ended.Cause.TheVariants.{Header, NoKey, WrongState, Foreign}
-use Rattle.reenc_tool.specs.declared.ended.Cause.TheVariants.{NoFit, Link, Output, Seeds, Memory}
+use Rattle.reenc_tool.specs.declared.ended.Cause.TheVariants.{NoFit, Clash, Link, Output, Seeds}
+use Rattle.reenc_tool.specs.declared.ended.Cause.TheVariants.{Memory}
 use Rattle.reenc_tool.specs.declared.ended.Failing.TheVariants.{Reading, Starting, Writing}
+use Rattle.reenc_tool.specs.declared.ended.Failing.TheVariants.{Converting}
 use Rattle.reenc_tool.specs.declared.ended.Fit.TheVariants.{Area, Blocks, Json, Passphrase, Seqid}
+use Rattle.reenc_tool.specs.declared.ended.Fit.TheVariants.{Events, Numbers}
+use Rattle.conversion_opening.specs.declared.fault.ConversionCause.{ConversionCause}
+use Rattle.conversion_opening.specs.declared.fault.ConversionCause.TheVariants as conversions
 use Rattle.format_disk.specs.declared.fault.FormatFault.{FormatFault}
 use Rattle.format_disk.specs.declared.fault.FormatFault.TheVariants as formats
 use Rattle.init_disk.specs.declared.making.MakeFault.{MakeFault}
@@ -16,6 +21,12 @@ use Rattle.luks_init.specs.declared.fault.InitFault.{InitFault}
 use Rattle.luks_init.specs.declared.fault.InitFault.TheVariants as inits
 use Rattle.reenc_recovery.specs.declared.fault.OpenCause.{OpenCause}
 use Rattle.reenc_recovery.specs.declared.fault.OpenCause.TheVariants as openings
+use Rattle.reenc_worker.specs.declared.ends.NoFit.{NoFit as Unfit}
+use Rattle.reenc_worker.specs.declared.ends.NoFit.TheVariants as unfits
+use Rattle.reenc_worker.specs.declared.ends.WorkerEnd.{WorkerEnd}
+use Rattle.reenc_worker.specs.declared.ends.WorkerEnd.TheVariants as ends
+use Rattle.resume_disk.specs.declared.refusal.Refusal.{Refusal as ResumeRefusal}
+use Rattle.resume_disk.specs.declared.refusal.Refusal.TheVariants as resumes
 use Rattle.luks_slots.specs.declared.fault.SlotFault.{SlotFault}
 use Rattle.luks_slots.specs.declared.fault.SlotFault.TheVariants as slots
 use Rattle.luks_rules.specs.declared.fault.RuleFault.{RuleFault}
@@ -35,6 +46,7 @@ status_of NoKey = 5
 status_of WrongState = 6
 status_of Foreign = 7
 status_of (NoFit what number limit) = 8
+status_of (Clash block digest) = 9
 status_of (Link failed faults) = 10
 status_of (Output faults) = 11
 status_of (Seeds faults) = 12
@@ -114,3 +126,38 @@ cause_of_start (starts.Unopened refusal) count = cause_of_refusal refusal count
 cause_of_start starts.Linear count = WrongState
 cause_of_start (starts.Unmade fault) count = cause_of_making fault
 cause_of_start starts.Writing count = Device Writing count
+
+-- the cause of a command that was given no volume by the header and the keys of a conversion. Where
+-- a zone is open another header is to follow, which none does behind the last number; one whose
+-- zones are guarded by something else than a journal isn't led on yet.
+abbrev pub cause_of_conversion : ConversionCause → ℕ → Cause
+cause_of_conversion (conversions.Opening cause) count = cause_of_volume cause count
+cause_of_conversion conversions.Idle count = WrongState
+cause_of_conversion conversions.NotBuilt count = WrongState
+cause_of_conversion conversions.SeqEnd count = NoFit Seqid (2 ^ 64 - 1) (2 ^ 64 - 2)
+cause_of_conversion (conversions.JsonFull length limit) count = NoFit Json length limit
+
+-- the cause of a command that opened no volume of which a conversion is under way
+abbrev pub cause_of_resume : ResumeRefusal → ℕ → Cause
+cause_of_resume (resumes.Header fault) count = cause_of_store fault count
+cause_of_resume resumes.Idle count = WrongState
+cause_of_resume (resumes.Passphrase length) count =
+    NoFit Passphrase length (passphrase_limit length)
+cause_of_resume (resumes.Slots side fault) count = cause_of_slots fault count
+cause_of_resume (resumes.Unopened cause) count = cause_of_conversion cause count
+
+-- what a zone needs, or the end of a conversion, and doesn't have: numbers for the headers that are
+-- to follow, of which it isn't told how many there are, or room for their text
+abbrev pub cause_of_unfit : Unfit → Cause
+cause_of_unfit unfits.SeqEnd = NoFit Numbers 1 0
+cause_of_unfit (unfits.JsonFull length limit) = NoFit Json length limit
+
+-- the cause of a command whose conversion's worker ended so
+abbrev pub cause_of_end : WorkerEnd → ℕ → Cause
+cause_of_end ends.Finished count = Fine
+cause_of_end ends.Device count = Device Converting count
+cause_of_end (ends.Clash block digest) count = Clash block digest
+cause_of_end (ends.NoFit unfit) count = cause_of_unfit unfit
+cause_of_end ends.Broken count = Device Converting count
+cause_of_end ends.Spent count = NoFit Events (2 ^ 64 - 1) (2 ^ 64 - 2)
+cause_of_end ends.Memory count = Memory

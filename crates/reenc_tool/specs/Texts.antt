@@ -6,7 +6,8 @@ use Rattle.io_edge.specs.Outlet.{Outlet}
 use Rattle.reenc_tool.specs.declared.ended.Cause.{Cause}
 use Rattle.reenc_tool.specs.declared.ended.Cause.TheVariants.{Fine, Usage, Device, NoHeader}
 use Rattle.reenc_tool.specs.declared.ended.Cause.TheVariants.{Header, NoKey, WrongState, Foreign}
-use Rattle.reenc_tool.specs.declared.ended.Cause.TheVariants.{NoFit, Link, Output, Seeds, Memory}
+use Rattle.reenc_tool.specs.declared.ended.Cause.TheVariants.{NoFit, Clash, Link, Output, Seeds}
+use Rattle.reenc_tool.specs.declared.ended.Cause.TheVariants.{Memory}
 
 -- how many sessions lists hold, up to the last value of 64 bits
 abbrev pub sessions_in : {E : Type 0} → (E → ℕ) → List E → ℕ
@@ -26,6 +27,7 @@ fault_line NoKey = codes "fault 5 NoKey" ++ 10 ∷ []
 fault_line WrongState = codes "fault 6 WrongState" ++ 10 ∷ []
 fault_line Foreign = codes "fault 7 Foreign" ++ 10 ∷ []
 fault_line (NoFit what number limit) = codes "fault 8 NoFit" ++ 10 ∷ []
+fault_line (Clash block digest) = codes "fault 9 Clash" ++ 10 ∷ []
 fault_line (Link failed faults) = codes "fault 10 Link" ++ 10 ∷ []
 fault_line (Output faults) = []
 fault_line (Seeds faults) = codes "fault 12 Seeds" ++ 10 ∷ []

@@ -14,6 +14,7 @@ ghost use Rattle.reenc_tool.specs.declared.ended.Cause.{Cause};
 use crate::ended::{Cause, Ended, Failing, Fit, Sessions};
 use crate::making::make;
 use crate::opening::serve_encrypted;
+use crate::resuming::resume;
 use crate::sessions::{LANES, empty_lists, serve_volume};
 use crate::showing::show;
 use crate::starting::start;
@@ -130,11 +131,13 @@ fn serve<'w, B: Bay>(alloc: Global, bay: &mut B, words: &Serve<'_>) -> Ended<'w,
 }
 
 /// Executes the command that the words ask for, and gives its report, where it has one.
-fn execute<'w, B: Bay, R: Seeds>(
+fn execute<'w, W: Threads + Sync, B: Bay, R: Seeds, G: Gate>(
+    rt: &W,
     alloc: Global,
     words: &'w [String],
     bay: &mut B,
     seeds: &mut R,
+    gate: &G,
 ) -> (Ended<'w, B::Disk, B::Link>, Option<String>)
     ensures status { result.0.status ≡ status_of result.0.cause }
     ensures pass { HasNoPass result.0.pass result.0.demo }
@@ -159,14 +162,15 @@ fn execute<'w, B: Bay, R: Seeds>(
         Command::Format(words) => make(alloc, bay, seeds, &words),
         Command::Init(words) => start(alloc, bay, seeds, &words),
         Command::Serve(words) => (serve(alloc, bay, &words), None),
+        Command::Resume(words) => resume(rt, alloc, bay, &words, gate),
         Command::Status(words) => show(alloc, bay, &words),
     }
 }
 
 /// Runs the command that the words behind the program's name ask for, and prints what it says: of
-/// `format` `formatted U`, of `init` `started reencrypt DIRECTION RESILIENCE`, of `serve` `served S
-/// sessions`, of `status` what the header of a disk says, and of one that is refused `fault N NAME`
-/// with the status and the cause. `docs/CLI.md` has the words.
+/// `format` `formatted U`, of `init` `started reencrypt DIRECTION RESILIENCE`, of `resume` `finished N
+/// blocks`, of `serve` `served S sessions`, of `status` what the header of a disk says, and of one
+/// that is refused `fault N NAME` with the status and the cause. `docs/CLI.md` has the words.
 ///
 /// What holds at the end is `Came` of `specs/`, before the text is printed. Where sessions were
 /// served they are sessions of the protocol over the bytes that the links' connections gave, and
@@ -177,20 +181,23 @@ fn execute<'w, B: Bay, R: Seeds>(
 /// volume is what the words wish, made of 32 bytes that the seeds gave once, and its header and its
 /// keyslot's area are written and nothing else. A conversion is what the words wish too, by 32
 /// bytes that the seeds gave once: where it was begun, and in each image that a stop leaves from
-/// the first sync on, the disk stands for the content that it stood for under the passphrase. Each
-/// cause has its reason. The bay is asked once for the disk, once for the header's and once for a
-/// key file, each where the words name one, and for clients once for the links, and for nothing
-/// else. The text changes the cause only where all was fine: to `Output` where it can't be put and
-/// pushed out, to `Memory` where memory is wanted for it. Words that ask for nothing leave the bay
-/// as it was, and those of other commands than `format` and `init` the seeds.
+/// the first sync on, the disk stands for the content that it stood for under the passphrase. A
+/// conversion that is led to its end was opened under the keys that the passphrase has on both
+/// sides, and led on by steps of the volume's worker alone: at its end every block is new, by a
+/// header that converts nothing. Each cause has its reason. The bay is asked once for the disk, once
+/// for the header's and once for a key file, each where the words name one, and for clients once for
+/// the links, and for nothing else. The text changes the cause only where all was fine: to `Output`
+/// where it can't be put and pushed out, to `Memory` where memory is wanted for it. Words that ask
+/// for nothing leave the bay as it was, and those of other commands than `format` and `init` the
+/// seeds. Before each step of a conversion the gate is told how far it is.
 pub fn run<'w, W: Threads + Wait + Sync, B: Bay, R: Seeds, O: Sink, G: Gate>(
-    _rt: &W,
+    rt: &W,
     alloc: Global,
     words: &'w [String],
     bay: &mut B,
     seeds: &mut R,
     out: &mut O,
-    _gate: &G,
+    gate: &G,
 ) -> Ended<'w, B::Disk, B::Link>
     ensures status { result.status ≡ status_of result.cause }
     ensures pass { HasNoPass result.pass result.demo }
@@ -204,7 +211,7 @@ pub fn run<'w, W: Threads + Wait + Sync, B: Bay, R: Seeds, O: Sink, G: Gate>(
     ensures unasked { asked (map string_bytes words.now) ≡ None → bay.new ≡ bay.old }
     ensures seeds { DrawsNone (map string_bytes words.now) seeds.old seeds.new }
 {
-    let (ended, report) = execute(alloc, words, bay, seeds);
+    let (ended, report) = execute(rt, alloc, words, bay, seeds, gate);
     let cause = print(
         alloc,
         out,

@@ -4,6 +4,7 @@ ghost use Rattle.reenc_tool.specs.Status.{cause_of_store, cause_of_volume, passp
 ghost use Rattle.reenc_tool.specs.Status.{status_of};
 ghost use Rattle.reenc_tool.specs.Texts.{fault_line};
 
+use crate::volume_refusal::VolumeRefusal;
 use format_disk::FormatFault;
 use luks_rules::RuleFault;
 use luks_slots::SlotFault;
@@ -33,7 +34,8 @@ pub enum Cause<'w> {
     /// The copies of the header differ, its text has a fault, or its objects break a rule: status
     /// 4.
     Header,
-    /// No keyslot gives the passphrase a key of the volume: status 5.
+    /// No keyslot gives the passphrase a key of the volume, or of one side of its conversion: status
+    /// 5.
     NoKey,
     /// The volume is in a state in which the command can't be done: status 6.
     WrongState,
@@ -41,6 +43,9 @@ pub enum Cause<'w> {
     Foreign,
     /// Something doesn't fit: the counted number is beyond its limit. Status 8.
     NoFit { what: Fit, number: u64, limit: u64 },
+    /// An old atom of this block and its new one have this digest both, so that a checksum doesn't
+    /// tell them: status 9.
+    Clash { block: u64, digest: [u8; 32] },
     /// So many links failed, the first of them at so many calls: status 10.
     Link { failed: u32, faults: u64 },
     /// The text could not be put and pushed out; so many calls of the output had failed then:
@@ -64,10 +69,12 @@ pub enum Failing {
     /// A read of the disk failed.
     Reading,
     /// A call of the disk failed by which its volume was opened: the first sync, a read of the
-    /// header, or the repair of a copy of it.
+    /// header, the repair of a copy of it, or one by which an open zone is written again.
     Starting,
     /// A write or a sync of the disk failed.
     Writing,
+    /// A call of a conversion that was led on failed: a read, a write or a sync of the disk.
+    Converting,
 }
 
 /// What doesn't fit.
@@ -85,6 +92,11 @@ pub enum Fit {
     Passphrase,
     /// The header has the last number, which no other follows.
     Seqid,
+    /// The header has fewer numbers left than a zone of a conversion, or its end, has headers to be
+    /// written.
+    Numbers,
+    /// A conversion has more steps than are counted.
+    Events,
 }
 
 impl<'w> Cause<'w> {
@@ -168,7 +180,7 @@ impl<'w> Cause<'w> {
     }
 
     /// The cause of a command that was given no key by the keyslots of such a disk.
-    fn of_slots(fault: &SlotFault, faults: u64) -> Cause<'w>
+    pub(crate) fn of_slots(fault: &SlotFault, faults: u64) -> Cause<'w>
         ensures { result ≡ cause_of_slots fault.now faults }
     {
         match fault {
@@ -182,7 +194,7 @@ impl<'w> Cause<'w> {
     }
 
     /// The cause of a command that was given no volume by the header and a key of such a disk.
-    fn of_volume(cause: &OpenCause, faults: u64) -> Cause<'w>
+    pub(crate) fn of_volume(cause: &OpenCause, faults: u64) -> Cause<'w>
         ensures { result ≡ cause_of_volume cause.now faults }
     {
         match cause {
@@ -215,6 +227,7 @@ impl<'w> Cause<'w> {
             Cause::WrongState => 6,
             Cause::Foreign => 7,
             Cause::NoFit { .. } => 8,
+            Cause::Clash { .. } => 9,
             Cause::Link { .. } => 10,
             Cause::Output { .. } => 11,
             Cause::Seeds { .. } => 12,
@@ -236,6 +249,7 @@ impl<'w> Cause<'w> {
             Cause::WrongState => "fault 6 WrongState\n",
             Cause::Foreign => "fault 7 Foreign\n",
             Cause::NoFit { .. } => "fault 8 NoFit\n",
+            Cause::Clash { .. } => "fault 9 Clash\n",
             Cause::Link { .. } => "fault 10 Link\n",
             Cause::Seeds { .. } => "fault 12 Seeds\n",
             Cause::Memory => "fault 13 Memory\n",
@@ -256,7 +270,7 @@ pub struct Ended<'w, D, L> {
     /// Why no header was shown, where that is the cause.
     pub fault: Option<StoreFault>,
     /// Why no volume was opened, where that is the cause.
-    pub refusal: Option<Refusal>,
+    pub refusal: Option<VolumeRefusal>,
     /// Whether memory was wanted for a session's end: then clients may have been left, of each
     /// link.
     pub memory: bool,

@@ -3,6 +3,7 @@
 //! is the server's promise: what the clients were put are the answers of one plain disk that was
 //! asked their operations one after the other, and each status has its cause. That plain disk is
 //! the disk as it is, or the content that an encrypted volume on it stands for under a passphrase.
+//! A conversion of a volume is begun, and led to its end, while no client is served.
 #![tactic(auto)]
 
 mod commands;
@@ -12,11 +13,13 @@ mod making;
 mod opening;
 mod port;
 mod refusal_text;
+mod resuming;
 mod serving;
 mod sessions;
 mod showing;
 mod starting;
 mod text;
+mod volume_refusal;
 
 pub use bays::{Bay, BayFault, Link};
 pub use command_line::explain_words;
@@ -26,4 +29,4 @@ pub use header_report::FaultText;
 pub use luks_store::StoreFault;
 pub use nbd_session::{Ending, SessionEnd};
 pub use refusal_text::RefusalText;
-pub use volume_opening::Refusal;
+pub use volume_refusal::VolumeRefusal;

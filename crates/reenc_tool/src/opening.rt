@@ -17,6 +17,7 @@ ghost use Rattle.volume_machine.specs.Sound.{IsSound};
 use crate::commands::{cause_by, unserved};
 use crate::ended::{Cause, Ended, Failing, Sessions};
 use crate::sessions::{LANES, empty_lists, serve_volume};
+use crate::volume_refusal::VolumeRefusal;
 use bays::{Bay, Link};
 use cipher_laws::SectorCipher;
 use command_line::Serve;
@@ -153,7 +154,7 @@ fn ended_unopened<'w, D: Disk, L>(alloc: Global, unopened: Unopened<D>) -> Ended
         status: cause.status(),
         cause,
         fault: None,
-        refusal: Some(refusal),
+        refusal: Some(VolumeRefusal::Opening(refusal)),
         memory: false,
         disk: Some(disk),
         header,

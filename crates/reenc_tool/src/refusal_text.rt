@@ -1,36 +1,121 @@
 // Why a volume isn't opened, for people.
 
+use crate::volume_refusal::VolumeRefusal;
+use conversion_opening::ConversionCause;
 use header_report::FaultText;
 use luks_slots::{Refusal as SlotRefusal, SlotFault};
 use reenc_recovery::OpenCause;
+use resume_disk::Refusal as ResumeRefusal;
+use segment_map::Side;
 use std::fmt;
-use volume_opening::Refusal;
+use volume_opening::Refusal as OpeningRefusal;
 
 /// Why a volume isn't opened by a passphrase, as it is told to people: one line, without its line
 /// feed.
 #[derive(Clone, Copy, Debug)]
-pub struct RefusalText<'a>(pub &'a Refusal);
+pub struct RefusalText<'a>(pub &'a VolumeRefusal);
 
 impl fmt::Display for RefusalText<'_> {
     fn fmt<W: fmt::Write>(&self, f: &mut fmt::Formatter<W>) -> fmt::Result {
         match self.0 {
-            Refusal::Header(fault) => write!(f, "header: {}", FaultText(fault)),
-            Refusal::InProgress => write!(f, "a conversion is under way"),
-            Refusal::Passphrase(length) => {
-                write!(
-                    f,
-                    "a passphrase of {length} bytes, which are to be 1 to 512"
-                )
-            }
-            Refusal::Slots(fault) => write!(f, "{}", SlotsText(fault)),
-            Refusal::Opening(cause) => write!(f, "{}", OpeningText(cause)),
+            VolumeRefusal::Opening(refusal) => write!(f, "{}", UnopenedText(refusal)),
+            VolumeRefusal::Resuming(refusal) => write!(f, "{}", UnresumedText(refusal)),
         }
     }
 }
 
-/// Why the keyslots give no key: of each why it gives none.
+/// Why a volume isn't opened of which nothing is being converted.
 #[derive(Clone, Copy)]
-struct SlotsText<'a>(&'a SlotFault);
+struct UnopenedText<'a>(&'a OpeningRefusal);
+
+impl fmt::Display for UnopenedText<'_> {
+    fn fmt<W: fmt::Write>(&self, f: &mut fmt::Formatter<W>) -> fmt::Result {
+        match self.0 {
+            OpeningRefusal::Header(fault) => write!(f, "header: {}", FaultText(fault)),
+            OpeningRefusal::InProgress => write!(f, "a conversion is under way"),
+            OpeningRefusal::Passphrase(length) => write!(f, "{}", LengthText(*length)),
+            OpeningRefusal::Slots(fault) => write!(
+                f,
+                "{}",
+                SlotsText(fault, "the volume's digest")
+            ),
+            OpeningRefusal::Opening(cause) => write!(f, "{}", OpeningText(cause)),
+        }
+    }
+}
+
+/// Why a volume isn't opened of which a conversion is under way.
+#[derive(Clone, Copy)]
+struct UnresumedText<'a>(&'a ResumeRefusal);
+
+impl fmt::Display for UnresumedText<'_> {
+    fn fmt<W: fmt::Write>(&self, f: &mut fmt::Formatter<W>) -> fmt::Result {
+        match self.0 {
+            ResumeRefusal::Header(fault) => write!(f, "header: {}", FaultText(fault)),
+            ResumeRefusal::Idle => write!(f, "{IDLE}"),
+            ResumeRefusal::Passphrase(length) => write!(f, "{}", LengthText(*length)),
+            ResumeRefusal::Slots(side, fault) => {
+                write!(f, "{}: {}", key_of(*side), SlotsText(fault, "its digest"))
+            }
+            ResumeRefusal::Unopened(cause) => write!(f, "{}", ConversionText(cause)),
+        }
+    }
+}
+
+/// What a volume is told of which nothing is being converted.
+const IDLE: &str = "nothing is being converted";
+
+/// What the key of a conversion's side is called.
+fn key_of(side: Side) -> &'static str {
+    match side {
+        Side::Old | Side::Zone => "the old key",
+        Side::New => "the new key",
+    }
+}
+
+/// That a passphrase has so many bytes, which are none or too many.
+#[derive(Clone, Copy)]
+struct LengthText(usize);
+
+impl fmt::Display for LengthText {
+    fn fmt<W: fmt::Write>(&self, f: &mut fmt::Formatter<W>) -> fmt::Result {
+        write!(
+            f,
+            "a passphrase of {} bytes, which are to be 1 to 512",
+            self.0
+        )
+    }
+}
+
+/// Why a header and the keys of a conversion open no volume.
+#[derive(Clone, Copy)]
+struct ConversionText<'a>(&'a ConversionCause);
+
+impl fmt::Display for ConversionText<'_> {
+    fn fmt<W: fmt::Write>(&self, f: &mut fmt::Formatter<W>) -> fmt::Result {
+        match self.0 {
+            ConversionCause::Opening(cause) => write!(f, "{}", OpeningText(cause)),
+            ConversionCause::Idle => write!(f, "{IDLE}"),
+            ConversionCause::NotBuilt => {
+                write!(
+                    f,
+                    "a conversion whose zones no journal guards, which is not built yet"
+                )
+            }
+            ConversionCause::SeqEnd => write!(f, "the header has the last number"),
+            ConversionCause::JsonFull { length, limit } => {
+                write!(
+                    f,
+                    "a header's text of {length} bytes, for which there are {limit}"
+                )
+            }
+        }
+    }
+}
+
+/// Why the keyslots give no key of this digest: of each why it gives none.
+#[derive(Clone, Copy)]
+struct SlotsText<'a>(&'a SlotFault, &'static str);
 
 impl fmt::Display for SlotsText<'_> {
     fn fmt<W: fmt::Write>(&self, f: &mut fmt::Formatter<W>) -> fmt::Result {
@@ -41,7 +126,7 @@ impl fmt::Display for SlotsText<'_> {
             SlotFault::NoKey(slots) => {
                 write!(f, "the passphrase opens no keyslot")?;
                 for (number, refusal) in slots.as_slice() {
-                    write!(f, "; slot {number}: {}", why(*refusal))?;
+                    write!(f, "; slot {number}: {}", SlotText(*refusal, self.1))?;
                 }
                 Ok(())
             }
@@ -49,13 +134,20 @@ impl fmt::Display for SlotsText<'_> {
     }
 }
 
-/// Why a keyslot gives no key.
-fn why(refusal: SlotRefusal) -> &'static str {
-    match refusal {
-        SlotRefusal::NotAssigned => "it isn't one of the volume's digest",
-        SlotRefusal::Priority => "it is to be ignored",
-        SlotRefusal::Unsupported => "it isn't supported",
-        SlotRefusal::DigestDiffers => "it holds no key of the volume under this passphrase",
+/// Why a keyslot gives no key of this digest.
+#[derive(Clone, Copy)]
+struct SlotText(SlotRefusal, &'static str);
+
+impl fmt::Display for SlotText {
+    fn fmt<W: fmt::Write>(&self, f: &mut fmt::Formatter<W>) -> fmt::Result {
+        match self.0 {
+            SlotRefusal::NotAssigned => write!(f, "it isn't one of {}", self.1),
+            SlotRefusal::Priority => write!(f, "it is to be ignored"),
+            SlotRefusal::Unsupported => write!(f, "it isn't supported"),
+            SlotRefusal::DigestDiffers => {
+                write!(f, "it holds no key of the volume under this passphrase")
+            }
+        }
     }
 }
 

@@ -20,6 +20,7 @@ ghost use Rattle.reenc_tool.specs.Status.{status_of};
 
 use crate::commands::{cause_by, unserved};
 use crate::ended::{Cause, Ended, Failing, Fit, Sessions};
+use crate::volume_refusal::VolumeRefusal;
 use bays::Bay;
 use command_line::{Guard as NamedGuard, Init};
 use init_disk::{MakeFault, Refusal, Unstarted, begin_conversion};
@@ -27,10 +28,9 @@ use io_edge::Seeds;
 use luks_init::{Guard, InitFault, Wish};
 use sector_disk::Disk;
 use std::alloc::{AllocError, Global};
-use volume_opening::Refusal as OpeningRefusal;
 
 /// The last number of a header that another one may follow.
-const LAST_FOLLOWED: u64 = u64::MAX - 1;
+pub(crate) const LAST_FOLLOWED: u64 = u64::MAX - 1;
 
 impl<'w> Cause<'w> {
     /// The cause of a command that can begin no conversion.
@@ -121,11 +121,11 @@ fn started_line(alloc: Global, words: &Init<'_>) -> Result<String, AllocError>
 }
 
 /// Why no volume was opened, where that is why no conversion was begun.
-fn opening_refusal(refusal: Refusal) -> Option<OpeningRefusal>
+fn opening_refusal(refusal: Refusal) -> Option<VolumeRefusal>
     ensures { result ≡ opening_refusal refusal }
 {
     match refusal {
-        Refusal::Unopened(refusal) => Some(refusal),
+        Refusal::Unopened(refusal) => Some(VolumeRefusal::Opening(refusal)),
         Refusal::Linear | Refusal::Unmade(_) | Refusal::Writing => None,
     }
 }

@@ -5,8 +5,8 @@
 mod notices;
 
 use file_disk::FileSystem;
-use host_edge::{HostBay, Network};
-use io_edge::{OpenGate, OsSeeds, Seeds, Sink, StdSink};
+use host_edge::{HostBay, Network, ProgressGate};
+use io_edge::{Gate, OsSeeds, Seeds, Sink, StdSink};
 use notices::{Reason, explain};
 use reenc_tool::{Cause, Ended, run};
 use std::alloc::Global;
@@ -27,6 +27,7 @@ fn main(rt: HostRuntime) -> ExitCode {
     };
     let mut bay = HostBay::new(rt, rt.stdin(), rt.stdout(), rt.stderr());
     let mut seeds = OsSeeds::new(rt);
+    let gate = ProgressGate::new(rt, rt.stderr());
     let told = command(
         &rt,
         rt.alloc(),
@@ -34,26 +35,35 @@ fn main(rt: HostRuntime) -> ExitCode {
         &mut bay,
         &mut seeds,
         &mut out,
+        &gate,
     );
     explain(rt.alloc(), rt.stderr(), &told);
     ExitCode::from(told.cause.status())
 }
 
 /// Runs the command of the words over the machine's bay, and gives why it ended as it did.
-fn command<'w, W: Threads + Wait + Sync, R: FileSystem + Network + Drop, S: Seeds, O: Sink>(
+fn command<
+    'w,
+    W: Threads + Wait + Sync,
+    R: FileSystem + Network + Drop,
+    S: Seeds,
+    O: Sink,
+    G: Gate,
+>(
     rt: &W,
     alloc: Global,
     words: &'w [String],
     bay: &mut HostBay<R>,
     seeds: &mut S,
     out: &mut O,
+    gate: &G,
 ) -> Reason<'w> {
     let Ended {
         cause,
         fault,
         refusal,
         ..
-    } = run(rt, alloc, words, bay, seeds, out, &OpenGate);
+    } = run(rt, alloc, words, bay, seeds, out, gate);
     Reason {
         cause,
         fault,

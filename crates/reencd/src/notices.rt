@@ -1,4 +1,6 @@
-use reenc_tool::{Cause, Failing, FaultText, Fit, Refusal, RefusalText, StoreFault, explain_words};
+use reenc_tool::{
+    Cause, Failing, FaultText, Fit, RefusalText, StoreFault, VolumeRefusal, explain_words,
+};
 use std::alloc::Global;
 use std::io::Stderr;
 
@@ -7,7 +9,7 @@ use std::io::Stderr;
 pub struct Reason<'w> {
     pub cause: Cause<'w>,
     pub fault: Option<StoreFault>,
-    pub refusal: Option<Refusal>,
+    pub refusal: Option<VolumeRefusal>,
 }
 
 /// Says on standard error what was wrong with the words of a command, with its disk, with the
@@ -24,11 +26,12 @@ pub fn explain(alloc: Global, errors: Stderr, reason: &Reason<'_>) {
         Cause::NoHeader | Cause::Header | Cause::Foreign | Cause::NoKey | Cause::WrongState =>
             explain_volume(errors, reason),
         Cause::Device {
-            failing: Failing::Reading | Failing::Starting | Failing::Writing,
+            failing: Failing::Reading | Failing::Starting | Failing::Writing | Failing::Converting,
             faults,
         } => {
             let _ = eprintln!(errors; "reencd: failed calls of the disk: {faults}");
         }
+        Cause::Clash { block, digest } => explain_clash(alloc, errors, block, digest),
         Cause::Link { failed, faults } => {
             let _ = eprintln!(errors;
                 "reencd: failed links: {failed}; failed calls of the first: {faults}"
@@ -63,11 +66,24 @@ fn explain_fit(errors: Stderr, what: Fit, number: u64, limit: u64) {
         Fit::Seqid => eprintln!(errors;
             "reencd: the header's number is {number}, which no other follows"
         ),
+        Fit::Numbers => eprintln!(errors;
+            "reencd: the header has fewer numbers left than there are headers to follow"
+        ),
+        Fit::Events => eprintln!(errors; "reencd: the conversion has more steps than {limit}"),
         Fit::Blocks => eprintln!(errors; "reencd: the disk has no room for a block"),
         Fit::Passphrase => eprintln!(errors;
             "reencd: a passphrase of {number} bytes, which are to be 1 to 512"
         ),
     };
+}
+
+/// Says in one line which block has an old atom and a new one of which digest both.
+fn explain_clash(alloc: Global, errors: Stderr, block: u64, digest: [u8; 32]) {
+    if let Ok(digits) = hex::encode(alloc, digest) {
+        let _ = eprintln!(errors;
+            "reencd: the old and the new atom of block {block} have the digest {digits} both"
+        );
+    }
 }
 
 /// Says in one line what is wrong with a header, or why a volume isn't opened.

@@ -1,0 +1,75 @@
+-- What came of a conversion that was to be led to its end.
+use Rattle.std.proofs.Common.{◌≡◌, ◌∙◌, ℕ, List, Option, Some, None, [], ◌∷◌, ◌++◌, ap, inl, inr}
+use Rattle.std.proofs.Common.{append_assoc, codes, refl}
+use Rattle.aes_core.specs.declared.cipher.Aes.{Aes}
+use Rattle.reenc_worker.specs.declared.ends.WorkerEnd.{WorkerEnd}
+use Rattle.resume_disk.specs.Refusals.{IsRefusedBy}
+use Rattle.resume_disk.specs.Resuming.{IsFinishedBy, IsHaltedBy}
+use Rattle.resume_disk.specs.declared.refusal.Refusal.{Refusal}
+use Rattle.sector_cipher.specs.declared.disk.DiskCipher.{DiskCipher}
+use Rattle.sector_disk.specs.Devices.{Device as DiskState}
+use Rattle.reenc_tool.specs.declared.ended.Cause.TheVariants.{Fine}
+use Rattle.reenc_tool.specs.Outcomes.{Outcome, ended_by, none_came}
+use Rattle.reenc_tool.specs.Resuming.{ComesToResume, ended_unresumed, finished_line}
+use Rattle.reenc_tool.specs.Status.{cause_of_end}
+
+module _ {D L : Type 0} (sector : DiskCipher Aes → ℕ)
+    (sealed opened : DiskCipher Aes → ℕ → List ℕ → List ℕ) (device : D → DiskState)
+    (pass : List ℕ) (disk : D) (header : Option D) (back : D) (outcome : Outcome D L) where
+  pub is_finished : (blocks : ℕ) (line : List ℕ) →
+      IsFinishedBy sector sealed opened device disk pass header back blocks →
+      outcome ≡ ended_by (none_came Fine []) (Some back) header → line ≡ finished_line blocks →
+      ComesToResume device pass disk outcome (Some line)
+  is_finished blocks line finished is line_is = inl (record {
+    sector = sector;
+    sealed = sealed;
+    opened = opened;
+    header = header;
+    back = back;
+    blocks = blocks;
+    finished = finished;
+    outcome_is = is;
+    report_is = ap Some line_is;
+  })
+
+  pub is_halted : (end : WorkerEnd) →
+      IsHaltedBy sector sealed opened device disk pass end header back →
+      outcome ≡ ended_by (none_came (cause_of_end end (device back).faults) []) (Some back) header →
+      ComesToResume device pass disk outcome None
+  is_halted end halted is = inr (inl (record {
+    sector = sector;
+    sealed = sealed;
+    opened = opened;
+    header = header;
+    back = back;
+    end = end;
+    halted = halted;
+    outcome_is = is;
+    report_is = refl;
+  }))
+
+  pub is_refused : (refusal : Refusal) →
+      IsRefusedBy sector sealed opened device disk pass refusal header back →
+      outcome ≡ ended_unresumed refusal header back (device back).faults →
+      ComesToResume device pass disk outcome None
+  is_refused refusal refused is = inr (inr (inl (record {
+    sector = sector;
+    sealed = sealed;
+    opened = opened;
+    refusal = refusal;
+    header = header;
+    back = back;
+    refused = refused;
+    outcome_is = is;
+    report_is = refl;
+  })))
+
+-- its line, part by part
+pub line_is : (empty first second third number : List ℕ) → empty ≡ [] →
+    first ≡ empty ++ codes "finished " → second ≡ first ++ number →
+    third ≡ second ++ (codes " blocks" ++ 10 ∷ []) →
+    third ≡ codes "finished " ++ (number ++ (codes " blocks" ++ 10 ∷ []))
+line_is empty first second third number none a b c =
+    c ∙ ap (λ text. text ++ (codes " blocks" ++ 10 ∷ []))
+    (b ∙ ap (λ text. text ++ number) (a ∙ ap (λ text. text ++ codes "finished ") none))
+    ∙ append_assoc (codes "finished ") number (codes " blocks" ++ 10 ∷ [])

@@ -1,0 +1,130 @@
+-- What `resume` did.
+use Rattle.std.specs.Prelude.{ℕ, ◌≡◌, ◌⊎◌, false, List, [], ◌∷◌, ◌++◌, take, codes}
+use Rattle.std.specs.Prelude.{Option, Some, None, Ok}
+use Rattle.std.specs.Fmt.{decimal}
+use Rattle.aes_core.specs.declared.cipher.Aes.{Aes}
+use Rattle.bays.specs.Bays.{Holdings, LeavesAll}
+use Rattle.command_line.specs.Resumes.{Resuming as Words}
+use Rattle.resume_disk.specs.Refusals.{IsRefusedBy}
+use Rattle.resume_disk.specs.Resuming.{IsFinishedBy, IsHaltedBy}
+use Rattle.resume_disk.specs.declared.refusal.Refusal.{Refusal}
+use Rattle.reenc_worker.specs.declared.ends.WorkerEnd.{WorkerEnd}
+use Rattle.sector_cipher.specs.declared.disk.DiskCipher.{DiskCipher}
+use Rattle.sector_disk.specs.Devices.{Device as DiskState}
+use Rattle.reenc_tool.specs.declared.ended.Cause.TheVariants.{Fine, Memory}
+use Rattle.reenc_tool.specs.declared.volume_refusal.VolumeRefusal.TheVariants.{Resuming}
+use Rattle.reenc_tool.specs.Encrypted.{AsksKey, HasNoKeyFile}
+use Rattle.reenc_tool.specs.Making.{HasGiven}
+use Rattle.reenc_tool.specs.Outcomes.{AsksDisk, HasNoDisk, Outcome, ended_by, none_came, unserved}
+use Rattle.reenc_tool.specs.Status.{cause_of_end, cause_of_resume}
+
+-- the line of a conversion that was led to its end, by the blocks of its volume
+abbrev pub finished_line : ℕ → List ℕ
+finished_line blocks = codes "finished " ++ (decimal blocks ++ (codes " blocks" ++ 10 ∷ []))
+
+-- ---- the volume
+-- The conversion of the disk's volume was led to its end under the passphrase, and the disk is
+-- handed back; so many blocks it has.
+pub record IsFinishedOn {D L : Type 0} (device : D → DiskState) (pass : List ℕ) (disk : D)
+    (outcome : Outcome D L) (report : Option (List ℕ)) : Type 0 where
+  pub sector : DiskCipher Aes → ℕ
+  pub sealed : DiskCipher Aes → ℕ → List ℕ → List ℕ
+  pub opened : DiskCipher Aes → ℕ → List ℕ → List ℕ
+  pub header : Option D
+  pub back : D
+  pub blocks : ℕ
+  pub finished : IsFinishedBy sector sealed opened device disk pass header back blocks
+  pub outcome_is : outcome ≡ ended_by (none_came Fine []) (Some back) header
+  pub report_is : report ≡ Some (finished_line blocks)
+
+-- The volume was opened, and its conversion's worker ended otherwise, which is the cause. The disk is
+-- handed back.
+pub record IsHaltedOn {D L : Type 0} (device : D → DiskState) (pass : List ℕ) (disk : D)
+    (outcome : Outcome D L) (report : Option (List ℕ)) : Type 0 where
+  pub sector : DiskCipher Aes → ℕ
+  pub sealed : DiskCipher Aes → ℕ → List ℕ → List ℕ
+  pub opened : DiskCipher Aes → ℕ → List ℕ → List ℕ
+  pub header : Option D
+  pub back : D
+  pub end : WorkerEnd
+  pub halted : IsHaltedBy sector sealed opened device disk pass end header back
+  pub outcome_is : outcome
+      ≡ ended_by (none_came (cause_of_end end (device back).faults) []) (Some back) header
+  pub report_is : report ≡ None
+
+-- what a command hands back that opened no volume of which a conversion is under way, of whose disk
+-- so many calls failed
+abbrev pub ended_unresumed : {D L : Type 0} → Refusal → Option D → D → ℕ → Outcome D L
+ended_unresumed refusal header disk faults = record {
+  cause = cause_of_resume refusal faults;
+  fault = None;
+  refusal = Some (Resuming refusal);
+  memory = false;
+  disk = Some disk;
+  header = header;
+  links = [];
+  ends = [];
+}
+
+-- No such volume was opened, for this refusal, and the disk is handed back. Nothing was written on it
+-- unless one of its calls failed, or memory was wanted behind an open zone that was written again.
+pub record IsRefusedOn {D L : Type 0} (device : D → DiskState) (pass : List ℕ) (disk : D)
+    (outcome : Outcome D L) (report : Option (List ℕ)) : Type 0 where
+  pub sector : DiskCipher Aes → ℕ
+  pub sealed : DiskCipher Aes → ℕ → List ℕ → List ℕ
+  pub opened : DiskCipher Aes → ℕ → List ℕ → List ℕ
+  pub refusal : Refusal
+  pub header : Option D
+  pub back : D
+  pub refused : IsRefusedBy sector sealed opened device disk pass refusal header back
+  pub outcome_is : outcome ≡ ended_unresumed refusal header back (device back).faults
+  pub report_is : report ≡ None
+
+-- what came of a disk whose volume's conversion was to be led to its end; where memory was wanted
+-- for what is to be said, the disk is as it was
+abbrev pub ComesToResume : {D L : Type 0} → (D → DiskState) → List ℕ → D → Outcome D L →
+    Option (List ℕ) → Type 0
+ComesToResume device pass disk outcome report =
+    IsFinishedOn device pass disk outcome report
+    ⊎ IsHaltedOn device pass disk outcome report
+    ⊎ IsRefusedOn device pass disk outcome report
+    ⊎ ((report ≡ None) × (outcome ≡ unserved Memory (Some disk) []))
+
+-- ---- the bay
+-- The bay was asked once for the key file and gave it: the passphrase is all of it, up to 513
+-- bytes, of which no more than 512 are one. Nothing more was asked.
+pub record HasKey {B D L : Type 0} (device : D → DiskState) (holdings : B → Holdings D)
+    (asks_key : AsksKey B) (words : Words) (disk : D) (between new : B) (outcome : Outcome D L)
+    (report : Option (List ℕ)) : Type 0 where
+  pub pass : List ℕ
+  pub asked : asks_key between words.key_file (Ok pass) new
+  pub whole : (whole : List ℕ) → (holdings between).keyring words.key_file ≡ Some whole →
+      pass ≡ take 513 whole
+  pub leaves : LeavesAll (holdings between) (holdings new)
+  pub stood : (holdings new).faults ≡ (holdings between).faults
+  pub ended : ComesToResume device pass disk outcome report
+
+-- or it gave none, and nothing is said
+abbrev pub AsksForKey : {B D L : Type 0} → (D → DiskState) → (B → Holdings D) → AsksKey B →
+    Words → D → B → B → Outcome D L → Option (List ℕ) → Type 0
+AsksForKey device holdings asks_key words disk between new outcome report =
+    HasKey device holdings asks_key words disk between new outcome report
+    ⊎ ((report ≡ None)
+    × HasNoKeyFile holdings asks_key words.key_file disk None between new outcome)
+
+-- The disk that the words name was given. Then the key file was asked for.
+pub record HasVolume {B D L : Type 0} (device : D → DiskState) (holdings : B → Holdings D)
+    (asks_disk : AsksDisk B D) (asks_key : AsksKey B) (words : Words) (old new : B)
+    (outcome : Outcome D L) (report : Option (List ℕ)) : Type 0 where
+  pub disk : D
+  pub between : B
+  pub given : HasGiven device holdings asks_disk words.disk words.atom disk old between
+  pub ended : AsksForKey device holdings asks_key words disk between new outcome report
+
+-- What `resume` did: it asked for the disk and, where that was given, for the key file.
+abbrev pub HasResumed : {B D L : Type 0} → (D → DiskState) → (B → Holdings D) → AsksDisk B D →
+    AsksKey B → Words → B → B → Outcome D L → Option (List ℕ) → Type 0
+HasResumed device holdings asks_disk asks_key words old new outcome report =
+    HasVolume device holdings asks_disk asks_key words old new outcome report
+    ⊎ ((report ≡ None)
+    × HasNoDisk holdings asks_disk words.disk words.atom None old new outcome)
