@@ -1,0 +1,14 @@
+pub mod WorkerDeeds
+pub mod HeldBlocks
+pub mod RunLemmas
+pub mod TextLemmas
+pub mod SaltLemmas
+pub mod StandLemmas
+pub mod ShowLemmas
+pub mod CallLemmas
+pub mod EndLemmas
+pub mod TableLemmas
+pub mod OpeningLemmas
+pub mod OpenedLemmas
+pub mod StartLemmas
+pub mod ResumeLemmas

@@ -1,0 +1,12 @@
+use Rattle.resumed_volumes.proofs.ResumeLemmas.{resumed-keep, resumed-stand}
+use Rattle.resumed_volumes.proofs.laws.resumed_conversions_keep_content.Goals as goal
+
+pub returns : goal.returns
+returns g c =
+    let keeps = c.openings_of_conversions_keep_content.ensures.opened in
+    let start = c.begun_conversions_start.ensures in
+    let reader = c.copies_are_read.ensures in
+    record {
+      finished = resumed-keep keeps start reader c.conversions_keep_content.ensures.finished;
+      stops = resumed-stand keeps start reader c.conversions_keep_content.ensures.stops;
+    }

@@ -1,0 +1,5 @@
+pub mod Keeping
+pub mod Openings
+pub mod Starts
+pub mod Runs
+pub mod Resuming
