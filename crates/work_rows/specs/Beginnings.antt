@@ -1,0 +1,51 @@
+-- Volumes with which a conversion goes on.
+use Rattle.std.specs.Prelude.{ℕ, ◌≡◌, false, None}
+use Rattle.hotzone.specs.Sites.{IsByJournal}
+use Rattle.hotzone.specs.Workers.{MayGoOn}
+use Rattle.joined_disk.specs.Counts.{HasSizes}
+use Rattle.luks_rules.specs.declared.shape.Progress.{Progress}
+use Rattle.luks_store.specs.declared.loaded.Stored.{Stored}
+use Rattle.reenc_meta.specs.ConversionMaps.{IsMapOf}
+use Rattle.sector_disk.specs.Devices.{Device}
+use Rattle.segment_map.specs.declared.map.Map.{Map}
+use Rattle.volume_machine.specs.Seals.{KeysFit}
+use Rattle.volume_machine.specs.Sound.{MapFits}
+use Rattle.volume_machine.specs.States.{State}
+use Rattle.volume_machine.specs.declared.keys.Keys.{Keys}
+use Rattle.zone_events.specs.Promises.{IsLaneFree}
+
+-- a header that was judged for this disk, on which its volume lies too
+pub record IsOn (device : Device) (stored : Stored) : Type 0 where
+  pub atom : stored.valid.sizes.atom ≡ device.size
+  pub header : stored.valid.sizes.header_atoms ≡ device.atoms
+  pub main : stored.valid.sizes.main_atoms ≡ device.atoms
+  pub alone : stored.valid.sizes.detached ≡ false
+
+-- no zone is open, and zones are guarded by a journal
+pub record IsGuarded (now : Progress) : Type 0 where
+  pub closed : now.plan.zone ≡ 0
+  pub guarded : IsByJournal now.conversion.resilience
+
+-- the blocks of a map are atoms of a disk of so many, and the keys fit them
+pub record FitsDisk {C : Type 0} (sector : C → ℕ) (keys : Keys C) (map : Map) (atoms : ℕ)
+    : Type 0 where
+  pub map_fits : MapFits map atoms
+  pub keys_fit : KeysFit sector keys map.atom map.blocks
+
+-- what a volume asks of the header that it is armed with, and of its map and its keys
+pub record MayArm {C : Type 0} (sector : C → ℕ) (keys : Keys C) (before : Stored) (map : Map)
+    : Type 0 where
+  pub may : MayGoOn before
+  pub map_is : IsMapOf before.valid.meta before.valid.sizes map
+  pub closed : map.zone ≡ 0
+  pub atom : map.atom ≡ before.valid.sizes.atom
+  pub fits : FitsDisk sector keys map before.valid.sizes.main_atoms
+
+-- a volume that a header's conversion may be put into
+pub record IsReady {K : Type 0} (before : Stored) (state : State K) : Type 0 where
+  pub unarmed : state.work ≡ None
+  pub unbroken : state.broken ≡ false
+  pub free : IsLaneFree state
+  pub may : MayGoOn before
+  pub sizes : HasSizes before.valid.sizes state.disk
+  pub map_is : IsMapOf before.valid.meta before.valid.sizes state.map
