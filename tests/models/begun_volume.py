@@ -9,6 +9,7 @@ Run alone, it compares the outcomes of crates/format_rows/data/init.rows with it
 
 import argparse
 import base64
+import functools
 import hashlib
 import json
 import os
@@ -17,6 +18,7 @@ import sys
 
 from cryptography.hazmat.primitives.ciphers import Cipher, algorithms, modes
 
+import conversion_steps
 import new_volume
 from new_volume import KEYS, STOOD, area_size, drawn, sealed, split
 
@@ -331,27 +333,30 @@ class Conversion:
 # ---- what the commands come to
 
 
-def unlock(disk, header, passphrase):
-    """Reads the areas of the keyslots, by rising number, until one gives the passphrase the key."""
-    digests = header.objects["digests"].values()
-    for number, slot in sorted(header.objects["keyslots"].items(), key=lambda one: int(one[0])):
+@functools.lru_cache(None)
+def key_in(area, passphrase, salt, iterations, size):
+    """The key of so many bytes that a passphrase unseals from a keyslot's area."""
+    area_key = hashlib.pbkdf2_hmac("sha256", passphrase, salt, iterations, 64)
+    return merged(opened(area_key, area)[: size * 4000], size)
+
+
+def unlock(disk, objects, digests, passphrase):
+    """Reads the areas of the keyslots that digests list, by rising number, until one gives the
+    passphrase the key of such a digest: that key."""
+    for number, slot in conversion_steps.numbered(objects["keyslots"]):
         if slot["type"] != "luks2" or not any(number in one["keyslots"] for one in digests):
             continue
-        area, kdf = slot["area"], slot["kdf"]
-        length = slot["key_size"] * 4000
-        whole = -(-length // 512) * 512
+        area, kdf, size = slot["area"], slot["kdf"], slot["key_size"]
+        whole = -(-size * 4000 // 512) * 512
         read = -(-whole // disk.atom) * disk.atom
         data = disk.read(int(area["offset"]), read)[:whole]
-        salt = base64.b64decode(kdf["salt"])
-        area_key = hashlib.pbkdf2_hmac("sha256", passphrase, salt, kdf["iterations"], 64)
-        key = merged(opened(area_key, data)[:length], slot["key_size"])
+        key = key_in(data, passphrase, base64.b64decode(kdf["salt"]), kdf["iterations"], size)
         for one in digests:
-            told = hashlib.pbkdf2_hmac(
-                "sha256", key, base64.b64decode(one["salt"]), one["iterations"], 32
-            )
+            salt = base64.b64decode(one["salt"])
+            told = hashlib.pbkdf2_hmac("sha256", key, salt, one["iterations"], 32)
             if number in one["keyslots"] and told == base64.b64decode(one["digest"]):
-                return True
-    return False
+                return key
+    return None
 
 
 def opened(key, data):
@@ -415,7 +420,8 @@ def init(disk, words, seed, fails):
     if not 1 <= len(passphrase) <= 512:
         raise no_fit(NoFit("Passphrase", len(passphrase), 1 if not passphrase else 512))
     try:
-        if not unlock(disk, header, passphrase):
+        digests = header.objects["digests"].values()
+        if not unlock(disk, header.objects, digests, passphrase):
             raise fault(5, "NoKey")
     except Failed:
         raise device("Reading") from None
@@ -478,15 +484,16 @@ def status(disk, words, seed, fails):
     lines = [f"uuid: {header.used.identifier}", f"seqid: {header.used.number}"]
     segments = objects["segments"]
     if header.in_progress():
-        (zones,) = [one for one in objects["keyslots"].values() if one["type"] == "reencrypt"]
-        blocks = int(segments["0"]["size"]) // disk.atom
-        boundary = 0 if zones["direction"] == "forward" else blocks
+        disks = conversion_steps.Disks(disk.atom, "attached", len(disk.held))
+        found = conversion_steps.Conversion(objects, disks)
+        way, zone = ("forward" if found.forward else "backward"), found.counts["zone"]
+        first = found.boundary - (0 if found.forward else zone)
         lines += [
-            f'state: reencrypt {zones["direction"]} {zones["area"]["type"]}',
-            f'old: {segment_text(segments["1"])}',
-            f'new: {segment_text(segments["2"])}',
-            f"boundary: {boundary} of {blocks}",
-            "zone: none",
+            f'state: {found.mode} {way} {found.area["type"]}',
+            f"old: {segment_text(found.old)}",
+            f"new: {segment_text(found.new)}",
+            f"boundary: {found.boundary} of {found.blocks}",
+            f"zone: {first} + {zone}" if zone else "zone: none",
         ]
     else:
         live = segments["0"]

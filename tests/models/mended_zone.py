@@ -38,6 +38,8 @@ def content(length):
 class Open:
     """A volume with an open zone, as both copies of its header say."""
 
+    old, new = OLD, NEW
+
     def __init__(self, atom, offset, blocks, objects, number, letters, salts=(7, 9)):
         self.atom, self.offset, self.blocks = atom, offset, blocks
         self.objects, self.number, self.letters = objects, number, letters
@@ -179,14 +181,15 @@ class Mended:
 
     def calls(self):
         """Its device calls, one a step."""
-        atom, disk, most = self.volume.atom, self.disk, PART // self.volume.atom
+        volume, disk = self.volume, self.disk
+        atom, most = volume.atom, PART // volume.atom
         first = self.found.boundary - (0 if self.found.forward else self.zone)
         for done in range(0, self.zone, most):
             count, at = min(most, self.zone - done), first + done
             saved = int(self.found.area["offset"]) + done * atom
             old = yield disk.read, saved, count * atom
-            new = NEW.sealed(OLD.opened(old, at * atom // 512), at * atom // 512)
-            yield disk.put, self.volume.offset + at * atom, new
+            new = volume.new.sealed(volume.old.opened(old, at * atom // 512), at * atom // 512)
+            yield disk.put, volume.offset + at * atom, new
         yield (disk.settle,)
         for which in range(2):
             salt = self.header.salts[which]
