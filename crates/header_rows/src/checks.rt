@@ -36,7 +36,7 @@ fn sizes_of_row(words: &[&str]) -> Result<Sizes>
     })
 }
 
-/// How far a conversion is, how long its zones may be, and what can't be gone on with.
+/// How far a conversion is, and how long its zones may be.
 fn told_progress(alloc: Global, valid: &Valid, progress: &Progress) -> Result<String> {
     let plan = progress.plan;
     let capacity = match valid.sizes().atom {
@@ -44,7 +44,7 @@ fn told_progress(alloc: Global, valid: &Valid, progress: &Progress) -> Result<St
         atom => progress.capacity(atom),
     };
     Ok(format!(in alloc;
-        "{:?} {:?} {:?}, blocks {}, {}, {}, digests {:?}, {:?}, zones {capacity}, unserved {:?}",
+        "{:?} {:?} {:?}, blocks {}, {}, {}, digests {:?}, {:?}, zones {capacity}",
         progress.conversion.mode,
         progress.conversion.direction,
         progress.conversion.resilience,
@@ -53,7 +53,6 @@ fn told_progress(alloc: Global, valid: &Valid, progress: &Progress) -> Result<St
         plan.last,
         progress.old.digest,
         progress.new.digest,
-        valid.unserved(),
     )?)
 }
 

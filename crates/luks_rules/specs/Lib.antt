@@ -13,4 +13,3 @@ pub mod Rules
 pub mod Segments
 pub mod Shapes
 pub mod States
-pub mod Unserved

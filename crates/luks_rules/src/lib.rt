@@ -27,7 +27,6 @@ mod room;
 mod rules;
 mod segments;
 mod shape;
-mod unserved;
 mod valid;
 
 pub use areas::{Area, list_areas};
