@@ -33,9 +33,10 @@ pub enum WorkerEnd {
 /// What doesn't fit.
 #[derive(Clone, Copy, Debug, PartialEq, Eq)]
 pub enum NoFit {
-    /// The header has fewer numbers left than there are commits to come in the zone, or in the
-    /// finish.
-    SeqEnd,
-    /// The text of a header to come has so many bytes, and its area room for so many.
+    /// The header has so many numbers left, and the zone, or the finish, takes so many more, one a
+    /// commit.
+    SeqEnd { left: u64, wanted: u64 },
+    /// There are enough numbers; but the text of a header to come has so many bytes, and its area
+    /// room for so many.
     JsonFull { length: u64, limit: u64 },
 }

@@ -1,6 +1,7 @@
 // Where a worker's steps are made.
 
-ghost use Rattle.std.specs.Prelude.{List, [], ◌∷◌, ◌++◌};
+ghost use Rattle.std.specs.Prelude.{◌≡◌, List, [], ◌∷◌, ◌++◌};
+ghost use Rattle.io_edge.specs.declared.gate.Converted.{Converted};
 ghost use Rattle.reenc_worker.specs.declared.ends.WorkAnswer.{WorkAnswer};
 
 use crate::ends::WorkAnswer;
@@ -17,6 +18,9 @@ pub trait WorkerPort {
     /// nothing else.
     ghost worked: { Self → Self → List WorkAnswer → Type 0 };
 
+    /// How far the conversion is, as far as the worker knows.
+    ghost tells: { Self → Converted };
+
     /// Makes the next step, unless clients have the blocks that it needs. It may wait for them.
     fn work<R: Threads + Wait + Sync>(&mut self, rt: &R) -> WorkAnswer
         requires stands { stands self.old }
@@ -24,7 +28,8 @@ pub trait WorkerPort {
         ensures worked { worked self.old self.new (result ∷ []) };
 
     /// How far the conversion is, as far as the worker knows.
-    fn converted(&self) -> Converted;
+    fn converted(&self) -> Converted
+        ensures tells { result ≡ tells self.now };
 
     ghost worked_none: { (port : Self) → worked port port [] };
 

@@ -11,8 +11,8 @@ use std::sync::Wait;
 use std::thread::Threads;
 
 /// Calls for steps of a conversion until an answer ends it, and tells that end. Before each call the
-/// gate is told how far the conversion is, and may hold the thread. It goes on while steps are made, and while blocks are waited for, and
-/// it makes at most `2^64 - 1` calls. It takes no memory.
+/// gate is told how far the conversion is, and may hold the thread. It goes on while steps are made,
+/// and while blocks are waited for, and it makes at most `2^64 - 1` calls. It takes no memory.
 pub fn work_loop<R: Threads + Wait + Sync, P: WorkerPort, G: Gate>(
     rt: &R,
     port: &mut P,

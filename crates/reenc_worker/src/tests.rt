@@ -17,6 +17,8 @@ impl WorkerPort for Course {
 
     ghost worked = { λ _ _ _. Unit {0} };
 
+    ghost tells = { λ course. record { done = course.calls; blocks = 4; atom = 512 } };
+
     ghost worked_none = { λ _. tt };
 
     ghost worked_more = { λ _ _ _ _ _ _ _. tt };
@@ -48,7 +50,7 @@ const ENDS: [WorkerEnd; 8] = [
         block: 7,
         digest: [5; 32],
     },
-    WorkerEnd::NoFit(NoFit::SeqEnd),
+    WorkerEnd::NoFit(NoFit::SeqEnd { left: 1, wanted: 2 }),
     WorkerEnd::NoFit(NoFit::JsonFull {
         length: 13,
         limit: 12,

@@ -10,6 +10,7 @@ use Rattle.disk_areas.specs.Headers.{Copy, Layout, place_of}
 use Rattle.disk_zones.specs.Standing.{side_before}
 use Rattle.disk_zones.specs.Zones.{Hotzone, Phase, Texts, saving, opening, writing, mending, moving}
 use Rattle.disk_zones.specs.Zones.{shifting, turning, its_header}
+use Rattle.volume_machine.specs.Readings.{Reading}
 use Rattle.volume_machine.specs.WorkSteps.{GivesUp, Hindrance, IsGivable, IsHindered, MissesPart}
 use Rattle.volume_machine.specs.WorkSteps.{Proceeds}
 use Rattle.volume_machine.specs.Works.{resting}
@@ -208,9 +209,9 @@ pub misses_part_served : {K P Q : Type 0} {old new : State K} {seals : Seals} {p
 misses_part_served here it =
     given_up_served here it.work it.gives_up (moves_by_read it.call here.values)
 
-pub hindered_served : {K P Q : Type 0} {old new : State K} {seals : Seals} {plain : ℕ → List ℕ}
-    {left : List Block} {cause : Hindrance} → Here P Q old seals plain left
-    → IsHindered seals old new cause
+pub hindered_served : {K P Q : Type 0} {reading : Reading} {old new : State K} {seals : Seals}
+    {plain : ℕ → List ℕ} {left : List Block} {cause : Hindrance} → Here P Q old seals plain left
+    → IsHindered reading seals old new cause
     → Here P Q new seals plain left
 hindered_served here it =
     given_up_served here it.work it.gives_up (moves_not it.rests here.values)

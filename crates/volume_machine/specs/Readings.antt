@@ -7,12 +7,13 @@ use Rattle.disk_zones.specs.Zones.{Resilience}
 use Rattle.segment_map.specs.declared.Side.{Side}
 use Rattle.segment_map.specs.declared.map.Map.{Map}
 
--- How headers are read; the hash of saved digests; and what a header says. Its map; how each side is
--- sealed, as the bytes that tell it: the cipher, the sectors, their numbers and the key; whether
--- blocks are being converted, what guards a zone then, and in which area; and the areas of its
--- keyslots.
+-- How headers are read; the hash of saved digests; and what a header says. For how long a text its
+-- copies have room; its map; how each side is sealed, as the bytes that tell it: the cipher, the
+-- sectors, their numbers and the key; whether blocks are being converted, what guards a zone then, and
+-- in which area; and the areas of its keyslots.
 pub record Reading : Type 0 where
   pub reader : Reader (List ℕ)
+  pub room : List ℕ → ℕ
   pub map_of : List ℕ → Map
   pub hash : Hash
   pub sealing : List ℕ → Side → List ℕ

@@ -1,5 +1,6 @@
 -- One step of the conversion's worker: what it asks of the state before, and what it leaves.
-use Rattle.std.specs.Prelude.{ℕ, ◌↔◌, suc, ◌≡◌, ◌≢◌, ◌+◌, ◌*◌, ◌<◌, ◌≤◌, Bool, true, false, List, [], ◌∷◌}
+use Rattle.std.specs.Prelude.{ℕ, ◌↔◌, suc, ◌≡◌, ◌≢◌, ◌+◌, ◌-◌, ◌*◌, ◌^◌, ◌<◌, ◌≤◌, Bool, true, false}
+use Rattle.std.specs.Prelude.{List, [], ◌∷◌}
 use Rattle.std.specs.Prelude.{length, replicate, Contains, Option, Some, None}
 use Rattle.disk_areas.specs.Areas.{Area}
 use Rattle.disk_areas.specs.Commits.{Stage, begun, first_written, second_written}
@@ -31,11 +32,11 @@ use Rattle.volume_machine.specs.declared.grant.Grant.{Grant}
 use Rattle.volume_machine.specs.declared.open.Open.{Open}
 
 -- what hinders a zone or the finish: the old atom and the new one of this block have the same digest;
--- no number is left for the next header; its text is this long, and there is room for so much; memory
--- ran out
+-- so many numbers are left, and so many headers are to come; the text of one is this long, and there
+-- is room for so much; memory ran out
 pub data Hindrance : Type 0 where
   clashes : (block : ℕ) (digest : List ℕ) → Hindrance
-  no_number : Hindrance
+  no_number : (left needed : ℕ) → Hindrance
   no_room : (length limit : ℕ) → Hindrance
   no_memory : Hindrance
 
@@ -286,7 +287,8 @@ pub record MissesPart {K : Type 0} (old new : State K) : Type 0 where
   pub call : ReadCall old.map.atom (work.zone.own.start + first) text old.disk new.disk failed_call
   pub gives_up : GivesUp old new work
 
--- the first block of a part whose old atom and new one have the same digest, and that digest
+-- the first block of a part whose old atom and new one have the same digest, one of the zone's, and
+-- that digest
 pub record IsFirstClash (seals : Seals) (atom : ℕ) (work : Work) (first : ℕ) (text : List ℕ)
     (block : ℕ) (digest : List ℕ) : Type 0 where
   pub by_digests : work.zone.resilience ≡ checksum
@@ -295,6 +297,7 @@ pub record IsFirstClash (seals : Seals) (atom : ℕ) (work : Work) (first : ℕ)
   pub k : ℕ
   pub within : k < count
   pub is : block ≡ work.range.start + first + k
+  pub inside : block < work.range.end
   pub old : sha256 (block_at atom text k) ≡ digest
   pub new : sha256 (resealed seals block (block_at atom text k)) ≡ digest
   pub lower : (i : ℕ) → i < k → sha256 (block_at atom text i)
@@ -309,17 +312,36 @@ abbrev pub IsNoClash : Hindrance → Type 0
 IsNoClash (clashes block digest) = ⊥
 IsNoClash _ = Unit {0}
 
-pub record IsHindered {K : Type 0} (seals : Seals) (old new : State K) (cause : Hindrance) : Type 0
-  where
-    pub work : Work
-    pub first : ℕ
-    pub text : List ℕ
-    pub part : work.part ≡ fetched first text
-    pub hinders : Hinders seals old.map.atom work first text cause
-    pub rests : new.disk ≡ old.disk
-    pub gives_up : GivesUp old new work
+-- What so many headers that are to follow this one lack, each of which takes a number: fewer numbers
+-- are left than are needed, the last one being 2^64 - 1; or there are enough, and the text of one has
+-- no room. Of memory nothing is told.
+abbrev pub Lacks : Reading → Header (List ℕ) → ℕ → Hindrance → Type 0
+Lacks reading header count (clashes block digest) = ⊥
+Lacks reading header count (no_number left needed) =
+    (reading.reader.seq header.means + left ≡ 2 ^ 64 - 1) × (needed ≡ count) × (left < needed)
+Lacks reading header count (no_room length limit) =
+    (reading.reader.seq header.means + count ≤ 2 ^ 64 - 1) × (limit ≡ reading.room header.means)
+    × (limit < length)
+Lacks reading header count no_memory = Unit {0}
 
-pub record IsUnfinished {K : Type 0} (old new : State K) (cause : Hindrance) : Type 0 where
+-- A part of the zone was read, which is guarded as its header says. Two headers are to follow the zone's, and what they lack hinders it
+-- before anything of it was saved; or the part has a clash.
+pub record IsHindered {K : Type 0} (reading : Reading) (seals : Seals) (old new : State K)
+    (cause : Hindrance) : Type 0 where
+  pub work : Work
+  pub first : ℕ
+  pub text : List ℕ
+  pub part : work.part ≡ fetched first text
+  pub guard : work.zone.resilience ≡ reading.guard work.zone.before.means
+  pub hinders : Hinders seals old.map.atom work first text cause
+  pub lacks : IsNoClash cause → Lacks reading work.zone.before 2 cause
+  pub unsaved : IsNoClash cause → work.phase ≡ saving 0
+  pub rests : new.disk ≡ old.disk
+  pub gives_up : GivesUp old new work
+
+-- every block is new, and what the last header lacks hinders the finish
+pub record IsUnfinished {K : Type 0} (reading : Reading) (old new : State K) (cause : Hindrance)
+    : Type 0 where
   pub layout : Layout
   pub header : Header (List ℕ)
   pub was : old.work ≡ Some (resting layout header converting)
@@ -328,7 +350,7 @@ pub record IsUnfinished {K : Type 0} (old new : State K) (cause : Hindrance) : T
   pub lane : ℕ
   pub last : suc lane ≡ length old.lanes
   pub free : open_at old.lanes lane ≡ None
-  pub hinders : IsNoClash cause
+  pub lacks : Lacks reading header 1 cause
   pub same : new ≡ old
 
 -- ---- A write or a sync that fails breaks the volume, and so does a read behind the first commit:
@@ -387,9 +409,9 @@ pub data WorkStep {K : Type 0} (reading : Reading) (seals : Seals) (old new : St
   wiped : IsWiped old new → WorkStep reading seals old new stepped
   ends : IsDone old new → WorkStep reading seals old new finished
   misses_part : MissesPart old new → WorkStep reading seals old new faulted
-  is_hindered : (cause : Hindrance) → IsHindered seals old new cause
+  is_hindered : (cause : Hindrance) → IsHindered reading seals old new cause
       → WorkStep reading seals old new (hindered cause)
-  is_unfinished : (cause : Hindrance) → IsUnfinished old new cause
+  is_unfinished : (cause : Hindrance) → IsUnfinished reading old new cause
       → WorkStep reading seals old new (hindered cause)
   faults : Faults seals old new → WorkStep reading seals old new faulted
   misses_conclusion : MissesConclusion reading old new → WorkStep reading seals old new faulted

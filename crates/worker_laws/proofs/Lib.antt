@@ -1,4 +1,10 @@
 mod HeadersKept
+mod AtomCalls
+mod RestEnds
+mod RestStages
+mod RestAtoms
+mod ClientRest
+mod RestRuns
 mod Stages
 mod StageSteps
 mod LanesIdle

@@ -29,12 +29,12 @@ use Rattle.worker_laws.proofs.Stages.{last_not_rest, opening_not_rest, wipes_on,
 use Rattle.worker_laws.proofs.Wiping.{area_wiped, certain_behind}
 
 -- ---- a step of the commit of the last header
-record IsNextStage (phase : Phase) (part next : Part) : Type 0 where
-  stage : Stage
-  is : phase ≡ moving stage
-  same : next ≡ part
+pub record IsNextStage (phase : Phase) (part next : Part) : Type 0 where
+  pub stage : Stage
+  pub is : phase ≡ moving stage
+  pub same : next ≡ part
 
-closing_step : {seals : Seals} {atom : ℕ} {work : Work} {old new : Device} {phase next : Phase}
+pub closing_step : {seals : Seals} {atom : ℕ} {work : Work} {old new : Device} {phase next : Phase}
     {part next_part : Part} (stage : Stage) → phase ≡ moving stage
     → calls.ZoneStep seals atom work old new phase part next next_part
     → IsNextStage next part next_part
@@ -51,7 +51,7 @@ closing_step stage at (calls.shifts n count text next any is within call) = absu
 closing_step stage at (calls.arrives part call) = absurd (cc)
 closing_step stage at (calls.turns other part goes call) = absurd (cc)
 
-same_closing : {work : Work} {opened moved before last : Header (List ℕ)} {phase : Phase}
+pub same_closing : {work : Work} {opened moved before last : Header (List ℕ)} {phase : Phase}
     {part : Part} {layout : Layout} {stage later : Stage} {areas : List Area}
     → work ≡ closing layout before last stage areas → opened ≡ before → moved ≡ last
     → phase ≡ moving later → part ≡ wanted 0
@@ -64,15 +64,15 @@ GoesOnBy stepped = Unit {0}
 GoesOnBy (awaits lane) = Unit {0}
 GoesOnBy _ = ⊥
 
-contains_first : (area : Area) (areas : List Area) → Contains (area ∷ areas) area
+pub contains_first : (area : Area) (areas : List Area) → Contains (area ∷ areas) area
 contains_first area areas = (0, omega arith, refl)
 
-contains_either : (area : Area) (areas : List Area) (other : Area) → Contains (area ∷ areas) other
+pub contains_either : (area : Area) (areas : List Area) (other : Area) → Contains (area ∷ areas) other
     → (other ≡ area) ⊎ Contains areas other
 contains_either area areas other (zero, below, is) = inl (sym is)
 contains_either area areas other (suc k, below, is) = inr (k, omega (arith, below), is)
 
-none_contained : (area : Area) → Contains [] area → ⊥
+pub none_contained : (area : Area) → Contains [] area → ⊥
 none_contained area (k, below, is) = omega (arith, below)
 
 -- ---- the deeds and one more
@@ -181,10 +181,10 @@ module _ {K : Type 0} {reading : Reading} {layout : Layout} {first : Header (Lis
         stage = first_written;
         areas = it.areas;
         is = ap (λ l. closing l it.header it.next first_written it.areas) lay;
-        says = record { rests = may.rests; sealing = may.sealing ∙ keeps.from.sealing };
+        says = record { rests = may.rests; sealing = may.sealing ∙ keeps.from.sealing New };
         dropped = subst (λ slots. (area : Area) → Contains it.areas area
             ↔ (Contains slots area × (Contains (reading.keyslots it.next.means) area → ⊥)))
-            keeps.from.slots may.dropped;
+            keeps.from.keyslots may.dropped;
         converted = subst (λ m. AreAllOn m New) (sym it.goes.map_is) may.converted;
       })
 

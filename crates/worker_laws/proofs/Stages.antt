@@ -1,6 +1,6 @@
 -- Where a conversion stands between two steps that went on.
 use Rattle.volume_machine.proofs.Common
-use Common.{Contains, List, Some, ap, refl, subst, sym, false, length, ℕ, ◌*◌, ◌++◌, ◌∙◌, ◌≡◌}
+use Common.{Contains, List, Some, ap, refl, subst, sym, length, ℕ, ◌*◌, ◌++◌, ◌∙◌, ◌≡◌}
 use Common.{◌↔◌, ◌⊎◌, inl, inr, New, State}
 use Rattle.disk_areas.specs.Areas.{Area}
 use Rattle.disk_areas.specs.Commits.{Stage}
@@ -13,12 +13,8 @@ use Rattle.volume_machine.specs.Readings.{Reading}
 use Rattle.volume_machine.specs.WorkSteps.{AreAllOn, closing}
 use Rattle.volume_machine.specs.Works.{Work, complete, converting, resting, wiping}
 use Rattle.worker_laws.specs.Conversions.{HasWiped, IsCertain, IsZeroed}
+use Rattle.worker_laws.specs.Leaving.{SaysItEnds}
 use Rattle.worker_laws.proofs.HeadersKept.{AllKeep}
-
--- ---- what is known of the last header
-pub record LastSays (reading : Reading) (first last : List ℕ) : Type 0 where
-  pub rests : reading.converts last ≡ false
-  pub sealing : reading.sealing last New ≡ reading.sealing first New
 
 abbrev pub AreDropped : Reading → List ℕ → List ℕ → List Area → Type 0
 AreDropped reading first last areas = (area : Area) → Contains areas area
@@ -32,7 +28,7 @@ pub record IsClosing {K : Type 0} (reading : Reading) (layout : Layout) (first :
   pub stage : Stage
   pub areas : List Area
   pub is : work ≡ closing layout before last stage areas
-  pub says : LastSays reading first.means last.means
+  pub says : SaysItEnds reading first.means last.means
   pub dropped : AreDropped reading first.means last.means areas
   pub converted : AreAllOn now.map New
 
@@ -68,11 +64,11 @@ pub data Stands {K : Type 0} (reading : Reading) (layout : Layout) (first : Head
       → Stands reading layout first old deeds now
   wipes_on : (last : Header (List ℕ)) (left : List Area)
       → now.work ≡ Some (resting layout last (wiping left))
-      → LastSays reading first.means last.means → AreAllOn now.map New
+      → SaysItEnds reading first.means last.means → AreAllOn now.map New
       → IsWipingOn reading layout first last old deeds now left
       → Stands reading layout first old deeds now
   is_over : (last : Header (List ℕ)) → now.work ≡ Some (resting layout last complete)
-      → LastSays reading first.means last.means → AreAllOn now.map New
+      → SaysItEnds reading first.means last.means → AreAllOn now.map New
       → HasWiped reading layout first last old deeds now → IsCertain now.disk
       → Stands reading layout first old deeds now
 
@@ -81,7 +77,7 @@ pub record WipesAt {K : Type 0} (reading : Reading) (layout : Layout) (first : H
     (old : State K) (deeds : List (Deed K)) (now : State K) (last : Header (List ℕ))
     (left : List Area) (place : Layout) : Type 0 where
   pub lay : place ≡ layout
-  pub says : LastSays reading first.means last.means
+  pub says : SaysItEnds reading first.means last.means
   pub all : AreAllOn now.map New
   pub on : IsWipingOn reading layout first last old deeds now left
 
@@ -89,25 +85,25 @@ pub record OverAt {K : Type 0} (reading : Reading) (layout : Layout) (first : He
     (old : State K) (deeds : List (Deed K)) (now : State K) (last : Header (List ℕ))
     (place : Layout) : Type 0 where
   pub lay : place ≡ layout
-  pub says : LastSays reading first.means last.means
+  pub says : SaysItEnds reading first.means last.means
   pub all : AreAllOn now.map New
   pub wiped : HasWiped reading layout first last old deeds now
   pub certain : IsCertain now.disk
 
 -- ---- what is not the same
-wiping_converts : {areas : List Area} → wiping areas ≡ converting → ⊥
+pub wiping_converts : {areas : List Area} → wiping areas ≡ converting → ⊥
 wiping_converts e = cc
 
-complete_converts : complete ≡ converting → ⊥
+pub complete_converts : complete ≡ converting → ⊥
 complete_converts e = cc
 
 complete_wipes : {areas : List Area} → complete ≡ wiping areas → ⊥
 complete_wipes e = cc
 
-same_areas : {areas others : List Area} → wiping areas ≡ wiping others → areas ≡ others
+pub same_areas : {areas others : List Area} → wiping areas ≡ wiping others → areas ≡ others
 same_areas e = cc
 
-moving_saves : {stage : Stage} {n : ℕ} → moving stage ≡ saving n → ⊥
+pub moving_saves : {stage : Stage} {n : ℕ} → moving stage ≡ saving n → ⊥
 moving_saves e = cc
 
 moving_opens : {stage other : Stage} → moving stage ≡ opening other → ⊥
@@ -167,7 +163,7 @@ module _ {K : Type 0} {reading : Reading} {layout : Layout} {first : Header (Lis
       let head : last ≡ header = ap (λ w. w.zone.before) same in
       let rest : left ≡ areas = same_areas (ap (λ w. w.progress) same) in record {
         lay = sym (ap (λ w. w.layout) same);
-        says = subst (λ h. LastSays reading first.means h.means) head says;
+        says = subst (λ h. SaysItEnds reading first.means h.means) head says;
         all = all;
         on = subst (λ h. IsWipingOn reading layout first h old deeds now areas) head
             (subst (IsWipingOn reading layout first last old deeds now) rest it);
@@ -191,7 +187,7 @@ module _ {K : Type 0} {reading : Reading} {layout : Layout} {first : Header (Lis
       let same : resting layout last complete ≡ resting l header complete = cc in
       let head : last ≡ header = ap (λ w. w.zone.before) same in record {
         lay = sym (ap (λ w. w.layout) same);
-        says = subst (λ h. LastSays reading first.means h.means) head says;
+        says = subst (λ h. SaysItEnds reading first.means h.means) head says;
         all = all;
         wiped = subst (λ h. HasWiped reading layout first h old deeds now) head it;
         certain = certain;

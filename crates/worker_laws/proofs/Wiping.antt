@@ -21,7 +21,7 @@ zeros_at atom count k below =
     ∙ take-replicate atom (count * atom - k * atom) 0 room
 
 -- a place is one of the area, or outside
-inside_or : (start count place : ℕ)
+pub inside_or : (start count place : ℕ)
     → ((k : ℕ) × (k < count) × (place ≡ start + k)) ⊎ IsOutside start count place
 inside_or start count place = elim (cases_lt place start) [
   | inl before ↦ inr (inl before)

@@ -1,22 +1,29 @@
 -- What the last step of a worker leaves, by its answer.
 use Rattle.volume_machine.proofs.Common
 use Common.{List, None, Option, Rose, Some, ap, arith, false, inl, inr, refl, subst, suc, sym, true, ℕ, ◌++◌}
-use Common.{append-nil, append_assoc, block_at, ◌-◌, ◌<◌, ◌^◌, ◌∙◌, ◌∷◌, ◌≡◌, ◌≢◌, Bool, [], length, Seals, State, Work, open_at}
+use Common.{append-nil, append_assoc, block_at, ◌⊎◌, ◌≤◌, ◌-◌, ◌<◌, ◌^◌, ◌∙◌, ◌∷◌, ◌≡◌, ◌≢◌, Bool, [], length, Seals, State, Work, open_at}
 use Rattle.disk_areas.specs.Headers.{Header, Layout}
+use Rattle.disk_zones.specs.Standing.{side_before}
+use Rattle.disk_zones.specs.Zones.{Phase, mending, moving, opening, saving, shifting, turning}
+use Rattle.disk_zones.specs.Zones.{writing}
 use Rattle.reenc_worker.specs.Answers.{AreAnswers, ended, exhausted}
 use Rattle.reenc_worker.specs.declared.ends.WorkAnswer.{WorkAnswer}
 use Rattle.reenc_worker.specs.declared.ends.WorkAnswer.TheVariants.{Ended, Stepped, Waiting}
 use Rattle.reenc_worker.specs.declared.ends.WorkerEnd.{WorkerEnd}
 use Rattle.reenc_worker.specs.declared.ends.WorkerEnd.TheVariants as ends_of
+use Rattle.segment_map.specs.declared.Side.TheVariants.{New, Old}
+use Rattle.segment_map.specs.declared.map.Map.{Map}
 use Rattle.volume_laws.specs.Converting.{IsInOrder}
 use Rattle.volume_laws.proofs.VolumesKept.{step_in_order}
 use Rattle.volume_laws.proofs.WorkFaults.{goes_by_answer}
 use Rattle.volume_machine.specs.Courses.{IsAtRest}
 use Rattle.volume_machine.specs.Deeds.{Deed}
+use Rattle.volume_machine.specs.Pieces.{side_in}
 use Rattle.volume_machine.specs.Readings.{Reading}
 use Rattle.volume_machine.specs.States.{IsIdle}
-use Rattle.volume_machine.specs.WorkSteps.{Frees, GivesUp, Hindrance, IsDone, IsUnfinished, WorkStep}
-use Rattle.volume_machine.specs.WorkSteps.{Hinders, IsNoClash, Worked, begins, clashes}
+use Rattle.volume_machine.specs.WorkSteps.{AreAllOn, Frees, GivesUp, Hindrance, IsDone, IsHindered}
+use Rattle.volume_machine.specs.WorkSteps.{IsUnfinished, Lacks, WorkStep}
+use Rattle.volume_machine.specs.WorkSteps.{Hinders, IsGivable, IsNoClash, Worked, begins, clashes}
 use Rattle.volume_machine.specs.WorkSteps.{concludes, ends, ends_zone, faulted, faults}
 use Rattle.volume_machine.specs.WorkSteps.{is_hindered, is_unfinished, leaves_blocks}
 use Rattle.volume_machine.specs.WorkSteps.{leaves_broken, misses_conclusion, misses_part, misses_wipe}
@@ -95,28 +102,36 @@ module _ {K : Type 0} {reading : Reading} (seals : Seals) {layout : Layout}
   last_idle (leaves_broken it) end told = freed_idle it.frees
 
   -- ---- the volume stays in use
-  given_stays : {worked : Worked} (step : WorkStep reading seals mid new worked) (work : Work)
-      → (it : GivesUp mid new work) → StaysInUse reading layout old new
-  given_stays {worked = worked} step work it =
+  given_up : {worked : Worked} (step : WorkStep reading seals mid new worked) (work : Work)
+      → (it : GivesUp mid new work)
+      → (in_use : StaysInUse reading layout old new) × (in_use.header ≡ work.zone.before)
+  given_up {worked = worked} step work it =
       let away : IsAtRest work → ⊥ = (λ rest. (let some = it.some in
       let none = subst (λ w. w.range.start < w.range.end) rest some in omega (arith, none))) in
       elim (at_hand_at far.stands work it.was away) [
-        | inl on ↦ (let (lay, keeps) = converting_at far.stands work it.was on in record {
-          header = work.zone.before;
-          may = record {
-            order = step_in_order reading seals mid new worked far.order step;
-            idle = freed_idle it.frees;
-            at_rest = it.frees.work ∙ rw (lay, on) refl;
-          };
-          unbroken = it.frees.broken_is;
-          blocks = ap (λ m. m.blocks) it.frees.map ∙ far.blocks;
-        })
+        | inl on ↦ (let (lay, keeps) = converting_at far.stands work it.was on in (
+          record {
+            header = work.zone.before;
+            may = record {
+              order = step_in_order reading seals mid new worked far.order step;
+              idle = freed_idle it.frees;
+              at_rest = it.frees.work ∙ rw (lay, on) refl;
+            };
+            unbroken = it.frees.broken_is;
+            blocks = ap (λ m. m.blocks) it.frees.map ∙ far.blocks;
+          },
+          refl,
+        ))
         | inr closing_so ↦ (let some = it.some in
             let none = subst (λ w. w.range.start < w.range.end) closing_so.is some in
             absurd (omega (arith, none)))
       ]
 
-  unfinished_stays : {cause : Hindrance} → IsUnfinished mid new cause
+  given_stays : {worked : Worked} (step : WorkStep reading seals mid new worked) (work : Work)
+      → (it : GivesUp mid new work) → StaysInUse reading layout old new
+  given_stays step work it = (given_up step work it).0
+
+  unfinished_stays : {cause : Hindrance} → IsUnfinished reading mid new cause
       → StaysInUse reading layout old new
   unfinished_stays it = let (lay, keeps) = converting_at far.stands _ it.was refl in record {
     header = it.header;
@@ -154,23 +169,66 @@ module _ {K : Type 0} {reading : Reading} (seals : Seals) {layout : Layout}
   rose_since (inl more) = inl (let later = far.later in omega (arith, more, later))
   rose_since (inr full) = inr full
 
-  hindered_leaves : (cause : Hindrance) → StaysInUse reading layout old new
-      → ((block : ℕ) (digest : List ℕ) → cause ≡ clashes block digest
-      → IsClash seals old.map.atom block digest)
-      → EndsSo reading seals layout first old all new (end_by cause)
-  hindered_leaves (clashes block digest) in_use clash = (in_use, clash block digest refl)
-  hindered_leaves no_number in_use clash = in_use
-  hindered_leaves (no_room len limit) in_use clash = in_use
-  hindered_leaves no_memory in_use clash = in_use
+  -- what headers to come lack behind this one, where a zone is hindered, or the end
+  LacksSome : Header (List ℕ) → Hindrance → Type 0
+  LacksSome header cause =
+      Lacks reading header 2 cause ⊎ (AreAllOn new.map New × Lacks reading header 1 cause)
 
-  is_clash : (atom : ℕ) (work : Work) (first_atom : ℕ) (text : List ℕ) (cause : Hindrance)
-      → Hinders seals atom work first_atom text cause → (block : ℕ) (digest : List ℕ)
-      → cause ≡ clashes block digest → IsClash seals atom block digest
-  is_clash atom work first_atom text cause hinders block digest same =
-      let found = subst (Hinders seals atom work first_atom text) same hinders in record {
-        value = block_at atom text found.k;
-        size = length-block_at atom found.count text found.k found.within
-            (let long = found.size in omega (arith, long));
+  hindered_leaves : (cause : Hindrance) → (in_use : StaysInUse reading layout old new)
+      → (IsNoClash cause → LacksSome in_use.header cause)
+      → ((block : ℕ) (digest : List ℕ) → cause ≡ clashes block digest
+      → IsClash reading seals in_use.header new block digest)
+      → EndsSo reading seals layout first old all new (end_by cause)
+  unfolding LacksSome
+  hindered_leaves (clashes block digest) in_use lacks clash = (in_use, clash block digest refl)
+  hindered_leaves (no_number left needed) in_use lacks clash = (in_use, lacks tt)
+  hindered_leaves (no_room len limit) in_use lacks clash = (in_use, lacks tt)
+  hindered_leaves no_memory in_use lacks clash = in_use
+
+  zone_lacks : {cause : Hindrance} (it : IsHindered reading seals mid new cause)
+      → (header : Header (List ℕ)) → header ≡ it.work.zone.before → IsNoClash cause
+      → LacksSome header cause
+  unfolding LacksSome
+  zone_lacks {cause = cause} it header same none =
+      inl (subst (λ h. Lacks reading h 2 cause) (sym same) (it.lacks none))
+
+  end_lacks : {cause : Hindrance} (it : IsUnfinished reading mid new cause)
+      → LacksSome it.header cause
+  unfolding LacksSome
+  end_lacks it = inr (subst (λ s. AreAllOn s.map New) (sym it.same) it.converted, it.lacks)
+
+  no_clash : (cause : Hindrance) (header : Header (List ℕ)) → Lacks reading header 1 cause
+      → (block : ℕ) (digest : List ℕ) → cause ≡ clashes block digest → ⊥
+  no_clash cause header lacks block digest same = subst (Lacks reading header 1) same lacks
+
+  old_side : (phase : Phase) → IsGivable phase → side_before phase ≡ Old
+  old_side (saving n) givable = refl
+  old_side (opening stage) givable = absurd givable
+  old_side (writing n) givable = absurd givable
+  old_side (mending n) givable = absurd givable
+  old_side (moving stage) givable = absurd givable
+  old_side (shifting n) givable = refl
+  old_side (turning stage) givable = absurd givable
+
+  is_clash : {cause : Hindrance} (it : IsHindered reading seals mid new cause)
+      → (header : Header (List ℕ)) → header ≡ it.work.zone.before
+      → (block : ℕ) (digest : List ℕ) → cause ≡ clashes block digest
+      → IsClash reading seals header new block digest
+  is_clash it header header_is block digest same =
+      let found = subst (Hinders seals mid.map.atom it.work it.first it.text) same it.hinders in
+      let zone = far.order.works it.work it.gives_up.was in
+      let start : it.work.range.start ≤ block = (let is = found.is in omega (arith, is)) in
+      let map = it.gives_up.frees.map in record {
+        guard = ap (λ (h : Header (List ℕ)). reading.guard h.means) header_is ∙ sym it.guard
+            ∙ found.by_digests;
+        within = subst (λ (m : Map). block < m.blocks) (sym map)
+            (let inside = found.inside in let fits = zone.lies.inside in omega (arith, inside, fits));
+        side = ap (λ (m : Map). side_in m block) map ∙ zone.sides block start found.inside
+            ∙ old_side it.work.phase it.gives_up.phase;
+        value = block_at mid.map.atom it.text found.k;
+        size = length-block_at mid.map.atom found.count it.text found.k found.within
+            (let long = found.size in omega (arith, long))
+            ∙ sym (ap (λ (m : Map). m.atom) map);
         old = found.old;
         new = found.new;
       }
@@ -189,6 +247,7 @@ module _ {K : Type 0} {reading : Reading} (seals : Seals) {layout : Layout}
   pub by_answer : {worked : Worked} → WorkStep reading seals mid new worked
       → (end : WorkerEnd) → told_by worked ≡ Ended end
       → EndsSo reading seals layout first old all new end
+  unfolding unfinished_stays
   by_answer (takes grant it) end told = absurd (stepped_ends told)
   by_answer (queues lane it) end told = absurd (waiting_ends told)
   by_answer (stays lane it) end told = absurd (waiting_ends told)
@@ -207,12 +266,14 @@ module _ {K : Type 0} {reading : Reading} (seals : Seals) {layout : Layout}
         left = inr (given_stays (misses_part it) it.work it.gives_up);
       }) told
   by_answer (is_hindered cause it) end told =
-      at_end {found = end_by cause} (hindered_leaves cause (given_stays (is_hindered cause it) it.work it.gives_up)
-      (λ block digest same. subst (λ n. IsClash seals n block digest) far.atom
-      (is_clash mid.map.atom it.work it.first it.text cause it.hinders block digest same))) told
+      let used = given_up (is_hindered cause it) it.work it.gives_up in
+      at_end {found = end_by cause} (hindered_leaves cause used.0
+      (zone_lacks it used.0.header used.1)
+      (is_clash it used.0.header used.1)) told
   by_answer (is_unfinished cause it) end told =
       at_end {found = end_by cause} (hindered_leaves cause (unfinished_stays it)
-      (λ block digest same. absurd (subst IsNoClash same it.hinders))) told
+      (λ none. end_lacks it)
+      (λ block digest same. absurd (no_clash cause it.header it.lacks block digest same))) told
   by_answer (faults it) end told =
       at_end {found = ends_of.Device} (record {
         rose = rose_since ((goes_by_answer reading seals faulted (faults it)).rose refl);

@@ -21,7 +21,7 @@ use Rattle.volume_machine.specs.WorkSteps.{opens_zone, queues, stays, steps, tak
 use Rattle.volume_machine.specs.Works.{converting, resting}
 use Rattle.worker_laws.specs.Conversions.{MayConvert}
 use Rattle.worker_laws.specs.Steps.{told_by}
-use Rattle.worker_laws.proofs.HeadersKept.{rest_keeps}
+use Rattle.worker_laws.proofs.HeadersKept.{rest_keeps, says_itself}
 use Rattle.worker_laws.proofs.NoWaits.{queues_never, stays_never}
 use Rattle.worker_laws.proofs.LanesIdle.{ClientsIdle, work_leaves}
 use Rattle.worker_laws.proofs.Stages.{Stands, converts}
@@ -44,7 +44,7 @@ pub none_so_far : {K : Type 0} {reading : Reading} {layout : Layout} {first : He
 none_so_far {layout = layout} {first} may = record {
   order = may.order;
   stands = converts (resting layout first converting) may.at_rest refl refl
-      (rest_keeps layout first converting (record { slots = refl; sealing = refl }));
+      (rest_keeps layout first converting says_itself);
   clients = λ lane below. may.idle lane;
   unbroken = inl refl;
   keys = refl;
@@ -77,16 +77,16 @@ going_unbroken {old = old} {new = new} worked on step =
     by_old true was goes same = absurd (subst GoesOnBy (goes.leaves was).0 on)
 
 -- ---- lists
-head_same : {A : Type 0} {x y : A} {xs ys : List A} → x ∷ xs ≡ y ∷ ys → x ≡ y
+pub head_same : {A : Type 0} {x y : A} {xs ys : List A} → x ∷ xs ≡ y ∷ ys → x ≡ y
 head_same e = cc
 
-tail_same : {A : Type 0} {x y : A} {xs ys : List A} → x ∷ xs ≡ y ∷ ys → xs ≡ ys
+pub tail_same : {A : Type 0} {x y : A} {xs ys : List A} → x ∷ xs ≡ y ∷ ys → xs ≡ ys
 tail_same e = cc
 
 nil_not_cons : {A : Type 0} {x : A} {xs : List A} → [] ≡ x ∷ xs → ⊥
 nil_not_cons e = cc
 
-cons_not_nil : {A : Type 0} {x : A} {xs : List A} → x ∷ xs ≡ [] → ⊥
+pub cons_not_nil : {A : Type 0} {x : A} {xs : List A} → x ∷ xs ≡ [] → ⊥
 cons_not_nil e = cc
 
 -- Behind all that went on comes one more, the last one.

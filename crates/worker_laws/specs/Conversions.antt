@@ -5,7 +5,10 @@ use Rattle.base_terms.specs.Causes.{Rose}
 use Rattle.disk_areas.specs.Areas.{Area}
 use Rattle.disk_areas.specs.Headers.{Header, IsHeader, Layout}
 use Rattle.disk_views.specs.Parts.{block_at, cell_in}
+use Rattle.disk_zones.specs.Zones.{checksum}
 use Rattle.reenc_worker.specs.Answers.{AreAnswers}
+use Rattle.reenc_worker.specs.declared.ends.NoFit.{NoFit as Unfit}
+use Rattle.reenc_worker.specs.declared.ends.NoFit.TheVariants.{JsonFull, SeqEnd}
 use Rattle.reenc_worker.specs.declared.ends.WorkAnswer.{WorkAnswer}
 use Rattle.reenc_worker.specs.declared.ends.WorkAnswer.TheVariants.{Waiting}
 use Rattle.reenc_worker.specs.declared.ends.WorkerEnd.{WorkerEnd}
@@ -13,15 +16,16 @@ use Rattle.reenc_worker.specs.declared.ends.WorkerEnd.TheVariants.{Broken, Clash
 use Rattle.reenc_worker.specs.declared.ends.WorkerEnd.TheVariants.{Memory, NoFit, Spent}
 use Rattle.sector_disk.specs.Devices.{Device as Disk}
 use Rattle.sector_disk.specs.Steps.{Told}
-use Rattle.segment_map.specs.declared.Side.TheVariants.{New}
+use Rattle.segment_map.specs.declared.Side.TheVariants.{New, Old}
 use Rattle.sha2.specs.Sha256.{sha256}
 use Rattle.volume_laws.specs.Converting.{IsInOrder}
 use Rattle.volume_machine.specs.Deeds.{Deed, state_after}
+use Rattle.volume_machine.specs.Pieces.{side_in}
 use Rattle.volume_machine.specs.Readings.{Reading}
 use Rattle.volume_machine.specs.Seals.{Seals}
 use Rattle.volume_machine.specs.States.{IsIdle, State}
 use Rattle.volume_machine.specs.WorkCalls.{resealed}
-use Rattle.volume_machine.specs.WorkSteps.{AreAllOn}
+use Rattle.volume_machine.specs.WorkSteps.{AreAllOn, Hindrance, Lacks, no_number, no_room}
 use Rattle.volume_machine.specs.Works.{complete, converting, resting, wiping}
 use Rattle.worker_laws.specs.Steps.{HasWorked}
 
@@ -106,12 +110,28 @@ pub record WasBroken {K : Type 0} (old new : State K) : Type 0 where
   pub rests : new.disk ≡ old.disk
   pub map : new.map ≡ old.map
 
--- an old atom of the block, of so many bytes, and the new one have this digest both
-pub record IsClash (seals : Seals) (atom block : ℕ) (digest : List ℕ) : Type 0 where
+-- Zones are guarded by checksum, and of a block that isn't converted an old atom and the new one have
+-- this digest both.
+pub record IsClash {K : Type 0} (reading : Reading) (seals : Seals) (header : Header (List ℕ))
+    (state : State K) (block : ℕ) (digest : List ℕ) : Type 0 where
+  pub guard : reading.guard header.means ≡ checksum
+  pub within : block < state.map.blocks
+  pub side : side_in state.map block ≡ Old
   pub value : List ℕ
-  pub size : length value ≡ atom
+  pub size : length value ≡ state.map.atom
   pub old : sha256 value ≡ digest
   pub new : sha256 (resealed seals block value) ≡ digest
+
+-- What hinders it: of a zone, which leads to two headers, or, where every block is new, of the end,
+-- which leads to one.
+abbrev pub hindrance_by : Unfit → Hindrance
+hindrance_by (SeqEnd left wanted) = no_number left wanted
+hindrance_by (JsonFull length limit) = no_room length limit
+
+abbrev pub DoesNotFit : {K : Type 0} → Reading → Header (List ℕ) → State K → Unfit → Type 0
+DoesNotFit reading header state what =
+    Lacks reading header 2 (hindrance_by what)
+    ⊎ (AreAllOn state.map New × Lacks reading header 1 (hindrance_by what))
 
 -- what an end leaves
 abbrev pub EndsSo : {K : Type 0} → Reading → Seals → Layout → Header (List ℕ) → State K
@@ -119,8 +139,10 @@ abbrev pub EndsSo : {K : Type 0} → Reading → Seals → Layout → Header (Li
 EndsSo reading seals layout header old deeds new Finished = IsConverted reading layout header old deeds new
 EndsSo reading seals layout header old deeds new Device = HasFailed reading layout old new
 EndsSo reading seals layout header old deeds new (Clash block digest) =
-    StaysInUse reading layout old new × IsClash seals old.map.atom block digest
-EndsSo reading seals layout header old deeds new (NoFit what) = StaysInUse reading layout old new
+    (stays : StaysInUse reading layout old new)
+    × IsClash reading seals stays.header new block digest
+EndsSo reading seals layout header old deeds new (NoFit what) =
+    (stays : StaysInUse reading layout old new) × DoesNotFit reading stays.header new what
 EndsSo reading seals layout header old deeds new Broken = WasBroken old new
 EndsSo reading seals layout header old deeds new Spent = Unit {0}
 EndsSo reading seals layout header old deeds new Memory = StaysInUse reading layout old new

@@ -16,7 +16,7 @@ use Rattle.volume_machine.specs.WorkSteps.{was_broken}
 -- how a worker ends by what hinders a zone, or the finish
 abbrev pub end_by : Hindrance → WorkerEnd
 end_by (clashes block digest) = ends.Clash block digest
-end_by no_number = ends.NoFit SeqEnd
+end_by (no_number left needed) = ends.NoFit (SeqEnd left needed)
 end_by (no_room length limit) = ends.NoFit (JsonFull length limit)
 end_by no_memory = ends.Memory
 
