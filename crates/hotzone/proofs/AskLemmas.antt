@@ -2,19 +2,20 @@
 use Rattle.std.proofs.Common.{◌≡◌, ◌∙◌, ℕ, ◌+◌, ◌*◌, ◌/◌, ◌%◌, ◌<◌, ◌≤◌, min, cond, Bool}
 use Rattle.std.proofs.Common.{true, false, [], length, Option, Some, None, refl, sym, ap, subst}
 use Rattle.std.proofs.Common.{arith}
-use Rattle.std.proofs.Math.Nat.{div-mul-le_self, mul-le-mul_right}
+use Rattle.std.proofs.Math.Nat.{mul-le-mul_right}
 use Rattle.std.proofs.lemmas.List.Elements.{All-filter}
 use Rattle.std.specs.List.{All}
 use Rattle.std.specs.Option.{IsSomeAnd}
 use Rattle.disk_sizes.specs.declared.Sizes.{Sizes}
 use Rattle.hotzone.proofs.BehindLemmas.{closed-behind, left-at, left_in}
+use Rattle.hotzone.proofs.GuardLemmas.{saved-fits}
 use Rattle.hotzone.proofs.HeadingLemmas.{behind-known, between-sizes, moved-sizes}
 use Rattle.hotzone.proofs.SiteLemmas.{area-kept, own-within, site-count, store-within}
 use Rattle.hotzone.proofs.WorkingLemmas.{fits-disk, needs-first}
 use Rattle.hotzone.specs.Endings.{AreWipable, HasZeros, IsWipable, MayFinishFrom, wiped}
 use Rattle.hotzone.specs.Headings.{AreOf, IsSame, MayOpenFrom}
 use Rattle.hotzone.specs.Making.{Asks, MayMake}
-use Rattle.hotzone.specs.Sites.{IsByJournal, bytes_at, count_of}
+use Rattle.hotzone.specs.Sites.{IsSaved, bytes_at, count_of, guard_of, kind_of, saved_count}
 use Rattle.hotzone.specs.Workers.{HasKeys, IsDone, IsNextZone, IsWorking, MapsFit, MayGoOn, Needs}
 use Rattle.hotzone.specs.Workers.{first_call}
 use Rattle.hotzone.specs.declared.site.Site.{Site}
@@ -31,7 +32,7 @@ use Rattle.luks_json.specs.declared.reencrypt.Resilience.{Resilience}
 use Rattle.luks_json.specs.declared.reencrypt.Resilience.TheVariants.{Journal, Checksum, Datashift}
 use Rattle.luks_json.specs.declared.meta.Parts.{Parts}
 use Rattle.luks_rules.specs.Areas.{areas_end, areas_of}
-use Rattle.luks_rules.specs.Rooms.{capacity, capacity_by}
+use Rattle.luks_rules.specs.Rooms.{capacity}
 use Rattle.luks_rules.specs.Shapes.{may_open, progress_of}
 use Rattle.luks_rules.specs.States.{IsSound}
 use Rattle.luks_rules.specs.declared.areas.Area.{Area}
@@ -47,11 +48,12 @@ use Rattle.reenc_meta.specs.Placements.{all_atoms}
 use Rattle.sector_disk.specs.Devices.{Device}
 use Rattle.sector_disk.specs.Geometry.{IsDisk}
 use Rattle.segment_map.specs.declared.map.Map.{Map}
+use Rattle.volume_machine.specs.Saved.{saved_atoms}
 
 -- ---- a zone may be opened, the finish may be made
-opens-by : (r : Resilience) (n : ℕ) → IsByJournal r → may_open r n ≡ true
+opens-by : (r : Resilience) (n : ℕ) → IsSaved r → may_open r n ≡ true
 opens-by Journal n by = refl
-opens-by (Checksum k) n by = absurd by
+opens-by (Checksum k) n by = refl
 opens-by (Datashift k) n by = absurd by
 
 module _ {C : Type 0} (sector : C → ℕ) (w : Worker C) (is : IsWorking sector w)
@@ -60,6 +62,7 @@ module _ {C : Type 0} (sector : C → ℕ) (w : Worker C) (is : IsWorking sector
       ≡ min (left_in w.map) (capacity w.loaded.valid.sizes.atom is.zone.now)
   count-is = ap (λ (s : Site). count_of s) is.zone.site_is ∙ site-count w.map (capacity w.loaded.valid.sizes.atom is.zone.now)
       (is.zone.now.conversion.area.offset / w.loaded.valid.sizes.atom)
+      (guard_of is.zone.now.conversion.resilience)
 
   left-is : left_in w.map ≡ old_blocks is.zone.now.conversion.direction is.zone.now.plan
   left-is = left-at w.loaded.valid.sizes is.zone.now w.map is.zone.map_is is.zone.is.closed
@@ -91,10 +94,10 @@ module _ {C : Type 0} (sector : C → ℕ) (w : Worker C) (is : IsWorking sector
 -- ---- the header behind a zone goes on
 pub goes-behind : (before : Stored) (n : ℕ) (middle : Prepared) (next : NextHeader)
     → ((p : Progress) → progress_of before.valid.meta before.valid.sizes ≡ Some p
-    → IsByJournal p.conversion.resilience)
+    → IsSaved p.conversion.resilience)
     → AreOf before n middle next → MayGoOn next.loaded
 goes-behind before n middle next by are =
-    subst (λ o. IsSomeAnd o (λ now. (now.plan.zone ≡ 0) × IsByJournal now.conversion.resilience))
+    subst (λ o. IsSomeAnd o (λ now. (now.plan.zone ≡ 0) × IsSaved now.conversion.resilience))
     (sym (behind-known before n middle next are))
     (closed-behind are.now.conversion.direction n are.now.plan, by are.now are.known)
 
@@ -137,17 +140,14 @@ areas-kept m sizes sound = λ k d below. record {
 }
 
 -- ---- what guards a zone lies on the disk
-room-fits : (r : Resilience) (atom size : ℕ) → IsByJournal r → capacity_by atom size r * atom ≤ size
-room-fits Journal atom size by = div-mul-le_self size atom
-room-fits (Checksum n) atom size by = absurd by
-room-fits (Datashift n) atom size by = absurd by
-
 pub saved-here : (before : Stored) (p : Progress) (n : ℕ)
     → progress_of before.valid.meta before.valid.sizes ≡ Some p
-    → IsByJournal p.conversion.resilience → n ≤ capacity before.valid.sizes.atom p
+    → IsSaved p.conversion.resilience → n ≤ capacity before.valid.sizes.atom p
     → IsSound before.valid.meta before.valid.sizes
     → IsDisk before.valid.sizes.atom (all_atoms before.valid.sizes)
-    → p.conversion.area.offset / before.valid.sizes.atom + n ≤ all_atoms before.valid.sizes
+    → p.conversion.area.offset / before.valid.sizes.atom
+    + saved_atoms (kind_of (guard_of p.conversion.resilience)) before.valid.sizes.atom n
+    ≤ all_atoms before.valid.sizes
 saved-here before p n known guarded less sound disk =
     let m = before.valid.meta in
     let sizes = before.valid.sizes in
@@ -155,25 +155,32 @@ saved-here before p n known guarded less sound disk =
     let area = area-kept (IsKept m sizes) m.keyslots p.conversion [] (areas-kept m sizes sound)
     way.converting.keyslot in
     let end = areas-within m sizes p sound way in
-    let more = mul-le-mul_right sizes.atom less in
-    let room = room-fits p.conversion.resilience sizes.atom p.conversion.area.size guarded in
+    let room = saved-fits p.conversion.resilience sizes.atom p.conversion.area.size n guarded
+    sound.atom area.size less in
     let within = area.within in
-    store-within sizes.atom p.conversion.area.offset (n * sizes.atom) n (all_atoms sizes)
-    sound.atom area.offset (omega arith) (omega (arith, more, room, within, end))
+    let count = saved_atoms (kind_of (guard_of p.conversion.resilience)) sizes.atom n in
+    store-within sizes.atom p.conversion.area.offset (count * sizes.atom) count (all_atoms sizes)
+    sound.atom area.offset (omega arith) (omega (arith, room, within, end))
 
 pub store-here : (before : Stored) (map : Map) (site : Site) → IsNextZone before map site
     → IsSound before.valid.meta before.valid.sizes
     → IsDisk before.valid.sizes.atom (all_atoms before.valid.sizes)
-    → site.store + count_of site ≤ all_atoms before.valid.sizes
+    → site.store + saved_count site ≤ all_atoms before.valid.sizes
 store-here before map site zone sound disk =
     let sizes = before.valid.sizes in
     let p = zone.now in
     let count = ap (λ (s : Site). count_of s) zone.site_is ∙ site-count map (capacity sizes.atom p)
-    (p.conversion.area.offset / sizes.atom) in
+    (p.conversion.area.offset / sizes.atom) (guard_of p.conversion.resilience) in
     let store = ap (λ (s : Site). s.store) zone.site_is in
+    let guard = ap (λ (s : Site). s.guard) zone.site_is in
+    let atom = ap (λ (s : Site). s.atom) zone.site_is ∙ zone.map_is.atom in
     let fits = saved-here before p (count_of site) zone.is.known zone.is.guarded
     (omega (arith, count)) sound disk in
-    omega (arith, store, fits)
+    subst (λ g. site.store + saved_atoms (kind_of g) site.atom (count_of site) ≤ all_atoms sizes)
+    (sym guard)
+    (subst (λ a. site.store
+    + saved_atoms (kind_of (guard_of p.conversion.resilience)) a (count_of site) ≤ all_atoms sizes)
+    (sym atom) (omega (arith, store, fits)))
 
 -- ---- the areas of keyslots that go may be filled with zeros
 pub wipable : (m : Parts) (sizes : Sizes) (p : Progress) (after : Parts) (guard : Area)
@@ -204,11 +211,11 @@ module _ {C : Type 0} (sector : C → ℕ) (w : Worker C) (is : IsWorking sector
       under-way w.loaded.valid.meta w.loaded.valid.sizes is.zone.now sound is.zone.is.known
       (main-few w.loaded.valid.sizes is.disk.fits)
 
-  by-journal : (p : Progress)
+  by-saved : (p : Progress)
       → progress_of w.loaded.valid.meta w.loaded.valid.sizes ≡ Some p
-      → IsByJournal p.conversion.resilience
-  by-journal p known =
-      subst (λ q. IsByJournal q.conversion.resilience)
+      → IsSaved p.conversion.resilience
+  by-saved p known =
+      subst (λ q. IsSaved q.conversion.resilience)
       (the-one is.zone.now p (sym is.zone.is.known ∙ known)) is.zone.is.guarded
     where
       the-one : (q r : Progress) → ◌≡◌ {A = Option Progress} (Some q) (Some r) → q ≡ r
@@ -224,7 +231,7 @@ module _ {C : Type 0} (sector : C → ℕ) (w : Worker C) (is : IsWorking sector
   asks ReadFirst runs far needs = tt
   asks SaveFirst runs far needs = may-open-zone sector w is sound needs
   asks (Read done headers) runs far needs = needs.0
-  asks (Save done headers) runs far needs = needs.0
+  asks (Save done headers) runs far needs = (needs.0, needs.3)
   asks (Keep headers) runs far needs = tt
   asks (Open headers) runs far needs =
       let are = needs.1.0 in
@@ -242,7 +249,7 @@ module _ {C : Type 0} (sector : C → ℕ) (w : Worker C) (is : IsWorking sector
               ∙ between-sizes w.loaded (count_of w.site) headers.opened headers.moved are)
               are.follows.same,
         ),
-        goes-behind w.loaded (count_of w.site) headers.opened headers.moved by-journal are,
+        goes-behind w.loaded (count_of w.site) headers.opened headers.moved by-saved are,
         subst (λ (s : Sizes). IsDisk s.atom (all_atoms s)) (sym sizes) is.disk,
       )
   asks Finish runs far needs = may-finish-now sector w is sound needs
@@ -295,6 +302,7 @@ works-new sector w disk sound zone maps keys room first =
           subst (λ (s : Site). s.own + count_of s ≤ all_atoms w.loaded.valid.sizes)
           (sym zone.site_is) (own-within w.map (capacity w.loaded.valid.sizes.atom zone.now)
           (zone.now.conversion.area.offset / w.loaded.valid.sizes.atom)
+          (guard_of zone.now.conversion.resilience)
           (all_atoms w.loaded.valid.sizes) fits.old_places);
       store = store-here w.loaded w.map w.site zone sound disk;
       room = room;

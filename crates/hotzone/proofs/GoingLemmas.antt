@@ -13,6 +13,11 @@ use Rattle.disk_zones.specs.Zones.{moving}
 use Rattle.hotzone.proofs.CallLemmas.{Led, led-on, leads-by, synced-leads}
 use Rattle.hotzone.proofs.KnownLemmas.{phase-opened}
 use Rattle.hotzone.proofs.KnownLemmas.{phase-saved, phase-written}
+use Rattle.hotzone.proofs.GuardLemmas.{first-place, first-start, tell-none}
+use Rattle.hotzone.proofs.LawLemmas.{fits-here}
+use Rattle.hotzone.specs.Sites.{count_of, kind_of}
+use Rattle.volume_machine.specs.Saved.{saved_of}
+use Rattle.hotzone.proofs.StepCallLemmas.{tolds, told-on, told-opened, told-written}
 use Rattle.hotzone.proofs.LawLemmas.{stage-on, stage-last, named-anew, known-next, known-read}
 use Rattle.hotzone.proofs.StepCallLemmas.{IsGiven, zone, Known, Then, here, names, holds, needs, by-call, read-part, save-part, write-part, commit-leads, commit-here, open-room, moved-room, names-saved, holds-first, holds-later, names-opened, holds-opened, names-written, holds-written, open-named, moved-named}
 use Rattle.hotzone.specs.Known.{IsAtHand, IsKnown}
@@ -58,9 +63,11 @@ module _ {C : Type 0} {sector : C → ℕ} {seals : Seals} {layout : Layout}
   step-on hand (reads_first at call read) =
       read-part given ReadFirst SaveFirst 0 at (omega arith) call read refl
       (λ was known i from below. (here given ReadFirst was at known).own.now refl i below)
-      (λ was known. tt) (λ was known part. part)
-  step-on hand (saves_first at call headers are fresh to) =
-      led-on old now (Then given) (save-part given SaveFirst 0 at (needs given SaveFirst at) refl call)
+      (λ was known. tt) (λ was known. tolds given ReadFirst was at known) (λ was known part. part)
+  step-on hand (saves_first at tells call headers are fresh to) =
+      let start = first-start before.site (fits-here sector layout before old over).known in
+      led-on old now (Then given) (save-part given SaveFirst 0 at (needs given SaveFirst at) start
+      (ap saving (sym (first-place before.site))) call)
       (λ was is goes_on known.
       let part = holds given SaveFirst was at known in (
         header_by headers.opened,
@@ -68,10 +75,13 @@ module _ {C : Type 0} {sector : C → ℕ} {seals : Seals} {layout : Layout}
         known-next seals layout first middle moved texts before after was is over.runs known
             (header_by headers.opened) (header_by headers.moved.commit)
             (after_save before.site 0 headers) to
-            (names-saved given 0 headers _ _ (refl, refl)) (holds-first given headers part)
+            (names-saved given 0 headers _ _ (refl, refl))
+            (told-on given 0 headers was (needs given SaveFirst at) known part
+            (tolds given SaveFirst was at known) tells) (holds-first given headers part)
             (subst (λ p. ShowsZone before.site.atom layout
             (zone_by before.site first (header_by headers.opened) (header_by headers.moved.commit))
-            texts p false is) (sym (phase-saved before.site 0 headers))
+            texts p false is) (sym (phase-saved before.site 0 headers
+            (fits-here sector layout before old over).known start (omega arith)))
             (named-anew layout before.site before.site.atom first middle moved _ _ texts _ false is
             (goes_on known part))),
       ))
@@ -80,10 +90,12 @@ module _ {C : Type 0} {sector : C → ℕ} {seals : Seals} {layout : Layout}
       (let below = (needs given (Read done headers) at).0 in omega (arith, below)) call read refl
       (λ was known i from below. (here given (Read done headers) was at known).own.now refl i below)
       (λ was known. names given (Read done headers) was at known)
+      (λ was known. tolds given (Read done headers) was at known)
       (λ was known part. (part, holds given (Read done headers) was at known))
-  step-on hand (saves done headers at call to) =
+  step-on hand (saves done headers at tells call to) =
+      let had = needs given (Save done headers) at in
       led-on old now (Then given)
-      (save-part given (Save done headers) done at (needs given (Save done headers) at).0 refl call)
+      (save-part given (Save done headers) done at had.0 had.3 refl call)
       (λ was is goes_on known.
       let held = holds given (Save done headers) was at known in (
         middle,
@@ -91,9 +103,13 @@ module _ {C : Type 0} {sector : C → ℕ} {seals : Seals} {layout : Layout}
         known-next seals layout first middle moved texts before after was is over.runs known middle moved
             (after_save before.site done headers) to
             (names-saved given done headers _ _ (names given (Save done headers) was at known))
+            (told-on given done headers was had.0 known held.0
+            (tolds given (Save done headers) was at known) tells)
             (holds-later given done headers held.1)
             (subst (λ p. ShowsZone before.site.atom layout (zone given) texts p false is)
-            (sym (phase-saved before.site done headers)) (goes_on known held.0)),
+            (sym (phase-saved before.site done headers
+            (fits-here sector layout before old over).known had.3
+            (let below = had.0 in omega (arith, below)))) (goes_on known held.0)),
       ))
   step-on hand (keeps headers at call to) =
       led-on old now (Then given) (synced-leads old new now call told)
@@ -102,6 +118,7 @@ module _ {C : Type 0} {sector : C → ℕ} {seals : Seals} {layout : Layout}
         moved,
         known-next seals layout first middle moved texts before after was is over.runs known middle moved
             (Open headers) to (names given (Keep headers) was at known)
+            (tolds given (Keep headers) was at known)
             (holds given (Keep headers) was at known)
             (subst (λ s. ShowsZone before.site.atom layout (zone given) texts (opening (stage_of s)) false is)
             (sym (needs given (Keep headers) at).2)
@@ -116,6 +133,7 @@ module _ {C : Type 0} {sector : C → ℕ} {seals : Seals} {layout : Layout}
         moved,
         known-next seals layout first middle moved texts before after was is over.runs known middle moved
             (Open (opened_by headers commit)) to (open-named given headers commit on.same named)
+            (tolds given (Open headers) was at known)
             (holds given (Open headers) was at known)
             (subst (λ s. ShowsZone before.site.atom layout (zone given) texts (opening s) false is)
             (stage-on (stage_in headers.opened.copies) far (had.2 over.runs)
@@ -135,6 +153,7 @@ module _ {C : Type 0} {sector : C → ℕ} {seals : Seals} {layout : Layout}
         known-next seals layout first middle moved texts before after was is over.runs known middle moved
             (after_open before.site (opened_by headers commit)) to
             (names-opened given (opened_by headers commit) (open-named given headers commit on.same named))
+            (told-opened given (opened_by headers commit) (tolds given (Open headers) was at known))
             (holds-opened given (opened_by headers commit) (holds given (Open headers) was at known))
             (subst (λ p. ShowsZone before.site.atom layout (zone given) texts p false is)
             (sym (phase-opened before.site (opened_by headers commit)))
@@ -149,7 +168,8 @@ module _ {C : Type 0} {sector : C → ℕ} {seals : Seals} {layout : Layout}
       (let below = (needs given (ReadAgain done headers) at).0 in omega (arith, below)) call read refl
       (λ was known i from below.
       ((here given (ReadAgain done headers) was at known).own.now refl i below).1 from)
-      (λ was known. names given (ReadAgain done headers) was at known) (λ was known part. part)
+      (λ was known. names given (ReadAgain done headers) was at known)
+      (λ was known. tolds given (ReadAgain done headers) was at known) (λ was known part. part)
   step-on hand (writes done headers at call read) =
       led-on old now (Then given) (write-part given done headers at (needs given (Write done headers) at).0 call)
       (λ was is goes_on known. (
@@ -158,6 +178,7 @@ module _ {C : Type 0} {sector : C → ℕ} {seals : Seals} {layout : Layout}
         known-read seals layout first middle moved texts before after was is over.runs known
             (after_write before.site done headers) read
             (names-written given done headers (names given (Write done headers) was at known))
+            (told-written given done headers (tolds given (Write done headers) was at known))
             (holds-written given done headers)
             (subst (λ p. ShowsZone before.site.atom layout (zone given) texts p false is)
             (sym (phase-written before.site done headers)) (goes_on known)),
@@ -168,7 +189,8 @@ module _ {C : Type 0} {sector : C → ℕ} {seals : Seals} {layout : Layout}
         middle,
         moved,
         known-next seals layout first middle moved texts before after was is over.runs known middle moved
-            (Move headers) to (names given (Settle headers) was at known) tt
+            (Move headers) to (names given (Settle headers) was at known)
+            (tolds given (Settle headers) was at known) tt
             (subst (λ s. ShowsZone before.site.atom layout (zone given) texts (moving (stage_of s)) false is)
             (sym (needs given (Settle headers) at).1.1)
             (by-call given was is _ _ known (calls.settles synced) (here given (Settle headers) was at known))),
@@ -181,7 +203,8 @@ module _ {C : Type 0} {sector : C → ℕ} {seals : Seals} {layout : Layout}
         middle,
         moved,
         known-next seals layout first middle moved texts before after was is over.runs known middle moved
-            (Move (moved_by headers commit)) to (moved-named given headers commit on.same named) tt
+            (Move (moved_by headers commit)) to (moved-named given headers commit on.same named)
+            (tolds given (Move headers) was at known) tt
             (subst (λ s. ShowsZone before.site.atom layout (zone given) texts (moving s) false is)
             (stage-on (stage_in headers.moved.commit.copies) far (had.2 over.runs)
             ∙ ap stage_of (sym on.stage))
@@ -234,9 +257,9 @@ module _ {C : Type 0} {sector : C → ℕ} {seals : Seals} {layout : Layout}
   begins-by : (stepped : Stepped) → Goes seals old new before after stepped → BeginsBy before.next
   begins-by stepped (begins at call to) = subst BeginsBy (sym at) (call, to)
   begins-by stepped (reads_first at call read) = subst BeginsBy (sym at) tt
-  begins-by stepped (saves_first at call headers are fresh to) = subst BeginsBy (sym at) tt
+  begins-by stepped (saves_first at tells call headers are fresh to) = subst BeginsBy (sym at) tt
   begins-by stepped (reads done headers at call read) = subst BeginsBy (sym at) tt
-  begins-by stepped (saves done headers at call to) = subst BeginsBy (sym at) tt
+  begins-by stepped (saves done headers at tells call to) = subst BeginsBy (sym at) tt
   begins-by stepped (keeps headers at call to) = subst BeginsBy (sym at) tt
   begins-by stepped (opens headers commit at call on far to) = subst BeginsBy (sym at) tt
   begins-by stepped (opened headers commit at call on last to) = subst BeginsBy (sym at) tt
@@ -256,7 +279,8 @@ module _ {C : Type 0} {sector : C → ℕ} {seals : Seals} {layout : Layout}
   texts_in was = record {
     old = λ i. was.current (before.site.own + i);
     new = λ i. resealed seals (before.site.blocks.start + i) (was.current (before.site.own + i));
-    saved = λ i. was.current (before.site.own + i);
+    saved = saved_of (kind_of before.site.guard) before.site.atom (count_of before.site)
+        (λ i. was.current (before.site.own + i));
   }
 
   abbrev Begun_by : View → View → Type 0
@@ -279,6 +303,7 @@ module _ {C : Type 0} {sector : C → ℕ} {seals : Seals} {layout : Layout}
           headers = tt;
           apart = apart;
           texts_are = record { new = λ i below. refl; saved = λ i. refl };
+          told = tell-none before.site.guard (texts_in was);
           part = tt;
           shows =
               beginning before.site.atom layout (zone_by before.site first first first)

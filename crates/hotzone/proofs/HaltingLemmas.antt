@@ -12,22 +12,23 @@ use Rattle.disk_zones.specs.Zones.{Phase, Texts, ShowsZone, saving}
 use Rattle.disk_zones.specs.Zones.{writing}
 use Rattle.hotzone.proofs.CallLemmas.{Led, led-on, leads-by}
 use Rattle.hotzone.proofs.CallLemmas.{thinned-leads, tried-if, unread-leads}
-use Rattle.hotzone.proofs.KnownLemmas.{SealRuns, part-fits}
-use Rattle.hotzone.proofs.KnownLemmas.{tries-part}
-use Rattle.hotzone.proofs.LawLemmas.{fits-here, some-here, part-long, some-part}
+use Rattle.hotzone.proofs.KnownLemmas.{SealRuns}
+use Rattle.hotzone.proofs.KnownLemmas.{tries-part, tries-save}
+use Rattle.hotzone.proofs.GuardLemmas.{first-place, first-start, saved_part}
+use Rattle.hotzone.proofs.LawLemmas.{fits-here, some-here, some-part, text-long}
 use Rattle.hotzone.proofs.StepCallLemmas.{IsGiven, zone, Known, here, names, holds, needs, open-room, moved-room, open-named, moved-named}
 use Rattle.hotzone.proofs.WorkingLemmas.{halted-as}
 use Rattle.hotzone.specs.Known.{HoldsPart, IsAtHand}
 use Rattle.hotzone.specs.Known.{NamesHeaders, halted_in, header_by, part_of, phase_in}
 use Rattle.hotzone.specs.Known.{phase_of, zone_by}
 use Rattle.hotzone.specs.Promises.{IsOver, Leads}
-use Rattle.hotzone.specs.Sites.{count_of, part_at}
+use Rattle.hotzone.specs.Sites.{IsPartStart, count_of, part_at, saved_at}
 use Rattle.hotzone.specs.Steps.{Commits, ReadsPart, SavesPart, Stops, WritesPart}
 use Rattle.hotzone.specs.Steps.{IsStopped, moved_by}
 use Rattle.hotzone.specs.Steps.{finish_refuses, finish_fails, end_fails, wipe_fails, rest_fails}
 use Rattle.hotzone.specs.Steps.{opened_by, resealed}
 use Rattle.hotzone.specs.Steps.{read_again_fails, write_fails, settle_fails, move_fails}
-use Rattle.hotzone.specs.Steps.{refuses, begin_fails, read_first_fails}
+use Rattle.hotzone.specs.Steps.{clashes_first, clashes, refuses, begin_fails, read_first_fails}
 use Rattle.hotzone.specs.Steps.{save_first_fails, read_fails, save_fails, keep_fails, open_fails}
 use Rattle.hotzone.specs.declared.worker.Halt.TheVariants.{Failed, GivenUp}
 use Rattle.hotzone.specs.declared.worker.Halt.{Halt}
@@ -123,32 +124,41 @@ module _ {C : Type 0} {sector : C → ℕ} {seals : Seals} {layout : Layout}
 
   save-stops : (next : NextCall) (done : ℕ) → before.next ≡ next
       → IsStopped before after next Failed → IsAsFar next Failed → done < count_of before.site
-      → phase_in before.site next ≡ saving done
+      → IsPartStart before.site done → phase_in before.site next ≡ saving (saved_at before.site done)
       → ((was : View) → Known given was → HoldsPart before.site before.buffer texts done)
       → SavesPart before done old new failed_call → Led old now Stopped
-  save-stops next done at stop same below phase held call =
+  save-stops next done at stop same below start phase held call =
       let fits = fits-here sector layout before old over in
       let some = some-part sector layout before old over done below in
       let within : done ≤ count_of before.site = omega (arith, below) in
       led-on old now Stopped
-      (tried-if old new now (before.site.store + done) (part_at before.site done) _
-      (some-here sector layout before old over) call told)
+      (tried-if old new now (before.site.store + saved_at before.site done)
+      (saved_part before.site done) call.text (some-here sector layout before old over) call.call told)
       (λ was is tried known.
-      let part = held was known in
       as-far next Failed was is at stop same known
       (subst (λ p. ShowsZone before.site.atom layout (zone given) texts p true is) (sym phase)
-      (by-fault was is (saving done) (saving done) known
-      (calls.save_fails done (part_at before.site done) (record {
-        some = some;
-        within = part-fits before.site done within;
-        text = part_of before.site before.buffer done;
-        each = λ k below. part.each k below ∙ sym (known.texts_are.saved (done + k));
-        call = subst (λ a. IsTried a (before.site.store + done) (part_at before.site done)
-            (part_of before.site before.buffer done) was is) (sym fits.size)
-            (tried (part-long sector layout before old over before.buffer done fits.room));
-      }))
+      (by-fault was is (saving (saved_at before.site done)) (saving (saved_at before.site done)) known
+      (calls.save_fails (saved_at before.site done) (saved_part before.site done)
+      (tries-save seals layout first middle moved texts before.site before.buffer done call.text was is
+      fits.known start some within known.texts_are (held was known) call.is
+      (subst (λ a. IsTried a (before.site.store + saved_at before.site done)
+      (saved_part before.site done) call.text was is) (sym fits.size)
+      (tried (text-long sector layout before old over done call.text call.is)))))
       (subst (λ p. ShowsZone before.site.atom layout (zone given) texts p false was) phase
       (here given next was at known)))))
+
+  -- no call is made
+  unmade-stops : (next : NextCall) (halt : Halt) → before.next ≡ next
+      → IsStopped before after next halt → IsAsFar next halt → new ≡ old → Led old now Stopped
+  unmade-stops next halt at stop far same =
+      let view = view_of_cells now.now in
+      record {
+        was = now;
+        told = sym (ap (λ (d : Device). d.told) same) ∙ told;
+        step = λ known. as-far next halt view view at stop far known
+            (by-fault view view _ _ known (calls.sync_fails _ (λ place value has. has))
+            (here given next view at known));
+      }
 
   write-stops : (done : ℕ) (headers : Headers) → before.next ≡ Write done headers
       → IsStopped before after (Write done headers) Failed
@@ -197,25 +207,25 @@ module _ {C : Type 0} {sector : C → ℕ} {seals : Seals} {layout : Layout}
 
   stops-on : (fault : ZoneFailure) → IsAtHand before.next → Stops seals old new before after fault
       → Led old now Stopped
-  stops-on fault hand (refuses _ at unmade same stop) =
-      let view = view_of_cells now.now in
-      record {
-        was = now;
-        told = sym (ap (λ (d : Device). d.told) same) ∙ told;
-        step = λ known. as-far SaveFirst GivenUp view view at (halted-as before after _ _ stop) refl known
-            (by-fault view view (saving 0) (saving 0) known
-            (calls.sync_fails (saving 0) (λ place value has. has)) (here given SaveFirst view at known));
-      }
+  stops-on fault hand (clashes_first _ _ at clash same stop) =
+      unmade-stops SaveFirst GivenUp at (halted-as before after _ _ stop) refl same
+  stops-on fault hand (clashes done headers _ _ at clash same stop) =
+      unmade-stops (Save done headers) GivenUp at (halted-as before after _ _ stop) refl same
+  stops-on fault hand (refuses _ at tells unmade same stop) =
+      unmade-stops SaveFirst GivenUp at (halted-as before after _ _ stop) refl same
   stops-on fault hand (begin_fails at call stop) = absurd (subst IsAtHand at hand)
   stops-on fault hand (read_first_fails at call stop) =
       read-stops ReadFirst GivenUp 0 at stop refl call
-  stops-on fault hand (save_first_fails at call stop) =
-      save-stops SaveFirst 0 at (halted-as before after _ _ stop) refl (needs given SaveFirst at) refl
+  stops-on fault hand (save_first_fails at tells call stop) =
+      save-stops SaveFirst 0 at (halted-as before after _ _ stop) refl (needs given SaveFirst at)
+      (first-start before.site (fits-here sector layout before old over).known)
+      (ap saving (sym (first-place before.site)))
       (λ was known. holds given SaveFirst was at known) call
   stops-on fault hand (read_fails done headers at call stop) =
       read-stops (Read done headers) GivenUp done at stop refl call
-  stops-on fault hand (save_fails done headers at call stop) =
-      save-stops (Save done headers) done at (halted-as before after _ _ stop) refl (needs given (Save done headers) at).0 refl
+  stops-on fault hand (save_fails done headers at tells call stop) =
+      save-stops (Save done headers) done at (halted-as before after _ _ stop) refl
+      (needs given (Save done headers) at).0 (needs given (Save done headers) at).3 refl
       (λ was known. (holds given (Save done headers) was at known).0) call
   stops-on fault hand (keep_fails headers at call stop) =
       sync-stops (Keep headers) Failed at (halted-as before after _ _ stop) refl call

@@ -1,7 +1,7 @@
 -- What is known of a zone goes on from call to call.
 use Rattle.std.proofs.Common.{◌≡◌, ◌∙◌, ℕ, ◌+◌, ◌/◌, ◌%◌, ◌<◌, ◌≤◌, ◌==◌, Bool, true, false, List}
 use Rattle.std.proofs.Common.{None, refl, sym, ap, subst, arith, cond}
-use Rattle.std.proofs.lemmas.Bool.{eqb-true}
+use Rattle.std.proofs.lemmas.Bool.{eqb-false, eqb-true}
 use Rattle.cipher_laws.specs.Bytes.{AreSectors}
 use Rattle.cipher_laws.specs.Laws.{GivesBytes, KeepsLengths, UndoesSectors}
 use Rattle.disk_areas.specs.Headers.{Header, Layout}
@@ -11,10 +11,12 @@ use Rattle.disk_views.specs.Views.{View, IsTried, IsWritten}
 use Rattle.disk_zones.specs.Calls.{TriesPart, ZoneCall}
 use Rattle.disk_zones.specs.Calls as calls
 use Rattle.disk_zones.specs.Zones.{Texts, saving, writing}
-use Rattle.hotzone.specs.Known.{AreTexts, HoldsPart}
+use Rattle.hotzone.proofs.GuardLemmas.{saved-each, saved-last, saved-on, saved-some, saved-within}
+use Rattle.hotzone.proofs.GuardLemmas.{saved_part, tell-on}
+use Rattle.hotzone.specs.Known.{AreTexts, AreTold, HoldsPart, TellBy}
 use Rattle.hotzone.specs.Known.{halted_in, part_of, phase_in, zone_by}
-use Rattle.hotzone.specs.Sites.{count_of, part_at}
-use Rattle.hotzone.specs.Steps.{after_open, after_save, after_write, resealed}
+use Rattle.hotzone.specs.Sites.{IsPartStart, count_of, part_at, saved_at}
+use Rattle.hotzone.specs.Steps.{IsSavedText, TellsBy, after_open, after_save, after_write, resealed}
 use Rattle.hotzone.specs.declared.site.Site.{Site}
 use Rattle.hotzone.specs.declared.worker.Headers.{Headers}
 use Rattle.hotzone.specs.declared.worker.NextCall.{NextCall}
@@ -23,6 +25,7 @@ use Rattle.hotzone.specs.declared.worker.NextCall.TheVariants.{Save, Keep, Open,
 use Rattle.hotzone.specs.declared.worker.NextCall.TheVariants.{Settle, Move, Finish, End, Wipe, Rest}
 use Rattle.hotzone.specs.declared.worker.NextCall.TheVariants.{Over}
 use Rattle.hotzone.proofs.CallLemmas.{HasGot}
+use Rattle.sector_disk.specs.Geometry.{IsAtom}
 use Rattle.segment_map.specs.Maps.{most_bytes}
 use Rattle.segment_map.specs.declared.Side.TheVariants.{Old, New}
 use Rattle.volume_machine.proofs.KeyLemmas.{whole-blocks}
@@ -40,15 +43,18 @@ pub part-fits : (site : Site) (done : ℕ) → done ≤ count_of site
 part-fits site done below = omega (arith, below)
 
 -- how far it is behind a part
-pub phase-saved : (site : Site) (done : ℕ) (headers : Headers)
-    → phase_in site (after_save site done headers) ≡ saving (done + part_at site done)
-phase-saved site done headers = go (done + part_at site done == count_of site) refl
+pub phase-saved : (site : Site) (done : ℕ) (headers : Headers) → IsAtom site.atom
+    → IsPartStart site done → done ≤ count_of site
+    → phase_in site (after_save site done headers)
+    ≡ saving (saved_at site done + saved_part site done)
+phase-saved site done headers known start within =
+    go (done + part_at site done == count_of site) refl
   where
     go : (b : Bool) → (done + part_at site done == count_of site) ≡ b
         → phase_in site (cond b (Keep headers) (Read (done + part_at site done) headers))
-        ≡ saving (done + part_at site done)
-    go true is = ap saving (sym (eqb-true _ _ is))
-    go false is = refl
+        ≡ saving (saved_at site done + saved_part site done)
+    go true is = ap saving (sym (saved-last site done known start within (eqb-true _ _ is)))
+    go false is = ap saving (saved-on site done known start within (eqb-false _ _ is))
 
 pub phase-written : (site : Site) (done : ℕ) (headers : Headers)
     → phase_in site (after_write site done headers) ≡ writing (done + part_at site done)
@@ -139,33 +145,59 @@ each-resealed atom seals first count bytes k laws are below =
 module _ (seals : Seals) (layout : Layout) (first middle moved : Header (List ℕ)) (texts : Texts)
     (site : Site) (buffer : List ℕ) where
   -- a part that is saved
-  pub saves-part : (done : ℕ) (was is : View) → 0 < part_at site done → done ≤ count_of site
+  pub saves-part : (done : ℕ) (text : List ℕ) (was is : View) → IsAtom site.atom
+      → IsPartStart site done → 0 < part_at site done → done ≤ count_of site
       → AreTexts seals site texts → HoldsPart site buffer texts done
-      → IsWritten site.atom (site.store + done) (part_at site done) (part_of site buffer done) was is
-      → ZoneCall site.atom layout (zone_by site first middle moved) texts was is (saving done)
-      (saving (done + part_at site done))
-  saves-part done was is some within are part call =
-      calls.saves done (part_at site done) (record {
-        some = some;
-        within = part-fits site done within;
-        text = part_of site buffer done;
-        each = λ k below. part.each k below ∙ sym (are.saved (done + k));
+      → IsSavedText site.guard site.atom (part_at site done) (part_of site buffer done) text
+      → IsWritten site.atom (site.store + saved_at site done) (saved_part site done) text was is
+      → ZoneCall site.atom layout (zone_by site first middle moved) texts was is
+      (saving (saved_at site done)) (saving (saved_at site done + saved_part site done))
+  saves-part done text was is known start some within are part saved call =
+      calls.saves (saved_at site done) (saved_part site done) (record {
+        some = saved-some site.guard site.atom (part_at site done) known some;
+        within = saved-within site done known start within;
+        text = text;
+        each = λ j below.
+            saved-each site done known start within (part_of site buffer done) text texts.old
+            part.each saved j below
+            ∙ sym (are.saved (saved_at site done + j));
         call = call;
       })
 
+  -- a write of it that failed
+  pub tries-save : (done : ℕ) (text : List ℕ) (was is : View) → IsAtom site.atom
+      → IsPartStart site done → 0 < part_at site done → done ≤ count_of site
+      → AreTexts seals site texts → HoldsPart site buffer texts done
+      → IsSavedText site.guard site.atom (part_at site done) (part_of site buffer done) text
+      → IsTried site.atom (site.store + saved_at site done) (saved_part site done) text was is
+      → TriesPart site.atom (zone_by site first middle moved).store texts.saved
+      (saved_at site done) (saved_part site done) was is
+  tries-save done text was is known start some within are part saved call = record {
+    some = saved-some site.guard site.atom (part_at site done) known some;
+    within = saved-within site done known start within;
+    text = text;
+    each = λ j below.
+        saved-each site done known start within (part_of site buffer done) text texts.old
+        part.each saved j below
+        ∙ sym (are.saved (saved_at site done + j));
+    call = call;
+  }
+
   -- a block of a part that is sealed anew
   pub new-block : (done k : ℕ) → SealRuns site.atom seals → HoldsPart site buffer texts done
-      → AreTexts seals site texts → done + part_at site done ≤ count_of site
+      → ((i : ℕ) → i < count_of site
+      → texts.new i ≡ resealed seals (site.blocks.start + i) (texts.old i))
+      → done + part_at site done ≤ count_of site
       → k < part_at site done
       → block_at site.atom
       (resealed seals (site.blocks.start + done) (part_of site buffer done)) k
       ≡ texts.new (done + k)
-  new-block done k laws part are fits below =
+  new-block done k laws part anew fits below =
       each-resealed site.atom seals (site.blocks.start + done) _ _ k laws part.blocks below
       ∙ ap (λ n. resealed seals n (block_at site.atom (part_of site buffer done) k))
       (let e : site.blocks.start + done + k ≡ site.blocks.start + (done + k) = omega arith in e)
       ∙ ap (λ b. resealed seals (site.blocks.start + (done + k)) b) (part.each k below)
-      ∙ sym (are.new (done + k) (omega (arith, fits, below)))
+      ∙ sym (anew (done + k) (omega (arith, fits, below)))
 
   -- a part that is written anew
   pub writes-part : (done : ℕ) (was is : View) → SealRuns site.atom seals → 0 < part_at site done
@@ -180,7 +212,7 @@ module _ (seals : Seals) (layout : Layout) (first middle moved : Header (List �
         some = some;
         within = fits;
         text = resealed seals (site.blocks.start + done) (part_of site buffer done);
-        each = λ k below. new-block done k laws part are fits below;
+        each = λ k below. new-block done k laws part are.new fits below;
         call = call;
       })
 
@@ -197,9 +229,31 @@ module _ (seals : Seals) (layout : Layout) (first middle moved : Header (List �
         some = some;
         within = fits;
         text = resealed seals (site.blocks.start + done) (part_of site buffer done);
-        each = λ k below. new-block done k laws part are fits below;
+        each = λ k below. new-block done k laws part are.new fits below;
         call = call;
       }
+
+  -- digests tell the blocks of one more part
+  pub tells-more : (done : ℕ) → SealRuns site.atom seals → done ≤ count_of site
+      → AreTexts seals site texts → HoldsPart site buffer texts done → TellBy site.guard done texts
+      → TellsBy site.guard site.atom (part_at site done) (part_of site buffer done)
+      (resealed seals (site.blocks.start + done) (part_of site buffer done))
+      → TellBy site.guard (done + part_at site done) texts
+  tells-more done laws within are part told tells =
+      tell-on site.guard site.atom done (part_at site done) texts (part_of site buffer done)
+      (resealed seals (site.blocks.start + done) (part_of site buffer done)) told tells part.each
+      (λ k below. new-block done k laws part are.new (part-fits site done within) below)
+
+-- so behind it
+pub told-saved : (site : Site) (texts : Texts) (done : ℕ) (headers : Headers)
+    → TellBy site.guard (done + part_at site done) texts
+    → AreTold site texts (after_save site done headers)
+told-saved site texts done headers told = go (done + part_at site done == count_of site) refl
+  where
+    go : (b : Bool) → (done + part_at site done == count_of site) ≡ b
+        → AreTold site texts (cond b (Keep headers) (Read (done + part_at site done) headers))
+    go true is = subst (λ n. TellBy site.guard n texts) (eqb-true _ _ is) told
+    go false is = told
 
 -- ---- a part that was read is the old atoms
 pub got-part : (site : Site) (buffer : List ℕ) (texts : Texts) (done : ℕ) (was : View)

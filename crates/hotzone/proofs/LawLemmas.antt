@@ -13,16 +13,17 @@ use Rattle.disk_zones.specs.Calls.{CallBeside}
 use Rattle.disk_zones.specs.Promises.{ZoneStays}
 use Rattle.disk_zones.specs.Zones.{Hotzone, Texts, IsApart, ShowsZone, saving}
 use Rattle.hotzone.proofs.CallLemmas.{table-long}
+use Rattle.hotzone.proofs.GuardLemmas.{saved-long, saved-within, saved_part}
 use Rattle.hotzone.proofs.KnownLemmas.{SealRuns, part-fits, part-some, phase-runs}
 use Rattle.hotzone.proofs.KnownLemmas.{seal-runs}
 use Rattle.hotzone.proofs.WorkingLemmas.{fits-disk}
 use Rattle.hotzone.specs.Headings.{IsSame}
-use Rattle.hotzone.specs.Known.{HoldsFor, IsKnown}
+use Rattle.hotzone.specs.Known.{AreTold, HoldsFor, IsKnown}
 use Rattle.hotzone.specs.Known.{NamesHeaders, halted_in, phase_in}
 use Rattle.hotzone.specs.Known.{phase_of, zone_by}
 use Rattle.hotzone.specs.Promises.{IsOver, TellsAlike, seals_in}
-use Rattle.hotzone.specs.Sites.{bytes_at, count_of, part_at}
-use Rattle.hotzone.specs.Steps.{HasRead}
+use Rattle.hotzone.specs.Sites.{IsPartStart, bytes_at, count_of, part_at, saved_at}
+use Rattle.hotzone.specs.Steps.{HasRead, IsSavedText, part_in}
 use Rattle.hotzone.specs.Workers.{FitsDisk}
 use Rattle.hotzone.specs.declared.site.Site.{Site}
 use Rattle.hotzone.specs.declared.worker.NextCall.{NextCall}
@@ -113,31 +114,33 @@ module _ {C : Type 0} (seals : Seals) (layout : Layout) (first middle moved : He
 
   pub known-next : (other later : Header (List ℕ)) (next : NextCall)
       → after ≡ record before { next = next } → NamesHeaders next other later
-      → HoldsFor before.site before.buffer texts next
+      → AreTold before.site texts next → HoldsFor before.site before.buffer texts next
       → ShowsZone before.site.atom layout (zone_by before.site first other later) texts
       (phase_in before.site next) false is
       → IsKnown seals layout first other later texts after is
-  known-next other later next to names part shows =
+  known-next other later next to names told part shows =
       subst (λ w. IsKnown seals layout first other later texts w is) (sym to) (record {
         means = known.means;
         headers = names;
         apart = apart-as layout before.site first middle moved other later known.apart;
         texts_are = known.texts_are;
+        told = told;
         part = part;
         shows = runs-shown _ next shows;
       })
 
   pub known-read : (next : NextCall) → HasRead before after next → NamesHeaders next middle moved
-      → HoldsFor before.site after.buffer texts next
+      → AreTold before.site texts next → HoldsFor before.site after.buffer texts next
       → ShowsZone before.site.atom layout (zone_by before.site first middle moved) texts
       (phase_in before.site next) false is
       → IsKnown seals layout first middle moved texts after is
-  known-read next read names part shows =
+  known-read next read names told part shows =
       subst (λ w. IsKnown seals layout first middle moved texts w is) (sym read.is) (record {
         means = known.means;
         headers = names;
         apart = known.apart;
         texts_are = known.texts_are;
+        told = told;
         part = part;
         shows = runs-shown _ next shows;
       })
@@ -151,12 +154,17 @@ module _ {C : Type 0} (sector : C → ℕ) (layout : Layout) (before : Worker C)
   pub some-here : 0 < old.size
   some-here = subst (λ n. 0 < n) fits-here.size (some-atom before.site.atom fits-here.known)
 
-  pub part-long : (buffer : List ℕ) (done : ℕ) → bytes_at before.site 0 ≤ length buffer
-      → length (take (bytes_at before.site done) buffer) ≡ part_at before.site done * old.size
-  part-long buffer done room =
+  part-size : (buffer : List ℕ) (done : ℕ) → bytes_at before.site 0 ≤ length buffer
+      → length (take (bytes_at before.site done) buffer) ≡ bytes_at before.site done
+  part-size buffer done room =
       let less : part_at before.site done ≤ part_at before.site 0 = omega arith in
       let fewer = mul-le-mul_right before.site.atom less in
       length-take-le (bytes_at before.site done) buffer (omega (arith, fewer, room))
+
+  pub part-long : (buffer : List ℕ) (done : ℕ) → bytes_at before.site 0 ≤ length buffer
+      → length (take (bytes_at before.site done) buffer) ≡ part_at before.site done * old.size
+  part-long buffer done room =
+      part-size buffer done room
       ∙ ap (λ a. part_at before.site done * a) fits-here.size
 
   -- what lies behind so many atoms of one of its areas lies on the disk
@@ -166,11 +174,21 @@ module _ {C : Type 0} (sector : C → ℕ) (layout : Layout) (before : Worker C)
       let fits = part-fits before.site done within in
       let own = fits-here.own in omega (arith, fits, own)
 
-  pub store-fits : (done : ℕ) → done ≤ count_of before.site
-      → before.site.store + done + part_at before.site done ≤ old.atoms
-  store-fits done within =
-      let fits = part-fits before.site done within in
+  pub store-fits : (done : ℕ) → IsPartStart before.site done → done ≤ count_of before.site
+      → before.site.store + saved_at before.site done + saved_part before.site done ≤ old.atoms
+  store-fits done start within =
+      let fits = saved-within before.site done fits-here.known start within in
       let store = fits-here.store in omega (arith, fits, store)
+
+  -- what is saved of the part at hand
+  pub text-long : (done : ℕ) (text : List ℕ)
+      → IsSavedText before.site.guard before.site.atom (part_at before.site done)
+      (part_in before done) text
+      → length text ≡ saved_part before.site done * old.size
+  text-long done text is =
+      saved-long before.site.guard before.site.atom (part_at before.site done) (part_in before done)
+      text is (part-size before.buffer done fits-here.room)
+      ∙ ap (λ a. saved_part before.site done * a) fits-here.size
 
   pub some-part : (done : ℕ) → done < count_of before.site → 0 < part_at before.site done
   some-part done below =
@@ -229,6 +247,7 @@ step-stays stays seals layout first middle moved texts worker old new call known
   headers = known.headers;
   apart = known.apart;
   texts_are = known.texts_are;
+  told = known.told;
   part = known.part;
   shows =
       stays worker.site.atom layout (zone_by worker.site first middle moved) texts

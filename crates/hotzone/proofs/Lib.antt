@@ -14,9 +14,14 @@ pub mod CommitStepLemmas
 pub mod ReadLemmas
 pub mod StepLemmas
 pub mod WorkingLemmas
+pub mod WorksLemmas
 pub mod CommitLemmas
 pub mod UnmadeLemmas
 pub mod PartLemmas
 pub mod GoneLemmas
 pub mod WipeLemmas
 pub mod EndLemmas
+pub mod SavedLemmas
+pub mod GuardLemmas
+pub mod CompareLemmas
+pub mod KeptLemmas

@@ -1,6 +1,6 @@
 -- The headers of a zone as they are made: the one with the zone open follows the one that was
 -- loaded, and the one with the boundary moved follows that.
-use Rattle.std.proofs.Common.{◌≡◌, ◌∙◌, ℕ, ◌<◌, ◌++◌, ◌-◌, true, List, [], Option, Some, Result}
+use Rattle.std.proofs.Common.{◌≡◌, ◌∙◌, ℕ, ◌+◌, ◌<◌, ◌≤◌, ◌++◌, ◌-◌, true, List, [], Option, Some, Result}
 use Rattle.std.proofs.Common.{None, Ok, Err, cond, false, inl, inr, refl, sym, ap, subst, arith}
 use Rattle.std.proofs.lemmas.Bool.{eqb-true}
 use Rattle.std.specs.Option.{IsSomeAnd, option_and_then}
@@ -15,6 +15,7 @@ use Rattle.json_members.specs.declared.faults.JsonFault.{JsonFault}
 use Rattle.luks_bin.specs.Copies.{text_of}
 use Rattle.luks_bin.specs.declared.header.BinHeader.{BinHeader}
 use Rattle.luks_copies.specs.Held.{primary_of, secondary_of, stage_in}
+use Rattle.luks_copies.specs.Steps.{last_seqid}
 use Rattle.luks_copies.specs.declared.commit.Stage.TheVariants.{Begun}
 use Rattle.luks_json.specs.Metas.{meta_from}
 use Rattle.luks_json.specs.declared.meta.Parts.{Parts}
@@ -165,46 +166,59 @@ pub unmade-by : (before : Stored) (One Other : Parts → Type 0) (fault : ZoneFa
     → IsUnmade before 1 Other fault
 unmade-by before One Other faults.Device on is = is
 unmade-by before One Other (faults.DigestClash block digest) on is = is
-unmade-by before One Other faults.SeqEnd on is = is
+unmade-by before One Other (faults.SeqEnd left wanted) on is = is
 unmade-by before One Other (faults.JsonFull len limit) on is =
-    (is.0, on is.0 is.1, is.2, is.3, is.4)
+    (is.0, on is.0 is.1, is.2, is.3, is.4, is.5)
 unmade-by before One Other faults.Memory on is = tt
 
-pub unmade-first : (before : Stored) (blocks : ℕ) (fault : ZoneFault)
-    → IsUnmade before 1 (IsOpening before blocks) fault
-    → IsUnmade before 2 (IsToCome before blocks) fault
-unmade-first before blocks faults.Device is = is
-unmade-first before blocks (faults.DigestClash block digest) is = is
-unmade-first before blocks faults.SeqEnd is = omega (arith, is)
-unmade-first before blocks (faults.JsonFull len limit) is = (is.0, inl is.1, is.2, is.3, is.4)
-unmade-first before blocks faults.Memory is = tt
+-- enough numbers are left for both
+module _ (before : Stored) (blocks left : ℕ) (all : before.copies.used.header.seqid + left ≡ last_seqid)
+    (enough : 2 ≤ left) where
+  pub unmade-first : (fault : ZoneFault) → IsUnmade before 1 (IsOpening before blocks) fault
+      → IsUnmade before 2 (IsToCome before blocks) fault
+  unmade-first faults.Device is = is
+  unmade-first (faults.DigestClash block digest) is = is
+  unmade-first (faults.SeqEnd l w) is = absurd (omega (arith, all, enough, is.0, is.1, is.2))
+  unmade-first (faults.JsonFull len limit) is =
+      (is.0, inl is.1, is.2, is.3, is.4, omega (arith, all, enough))
+  unmade-first faults.Memory is = tt
 
-pub unmade-later : (before : Stored) (blocks : ℕ) (next : NextHeader) (fault : ZoneFault)
-    → MayOpenFrom before blocks → Opens before blocks next → Follows before next
-    → IsUnmade next.loaded 1 (IsTurning next.loaded blocks) fault
-    → IsUnmade before 2 (IsToCome before blocks) fault
-unmade-later before blocks next faults.Device may opens after is = is
-unmade-later before blocks next (faults.DigestClash block digest) may opens after is = is
-unmade-later before blocks next faults.SeqEnd may opens after is =
-    let number = ap (λ (c : Copies). c.used.header.seqid) after.loaded.copies
-    ∙ ap (λ (h : BinHeader). h.seqid) after.commit.header in
-    omega (arith, is, number)
-unmade-later before blocks next (faults.JsonFull len limit) may opens after is =
-    let size = ap (λ (c : Copies). c.used.header.hdr_size) after.loaded.copies
-    ∙ ap (λ (h : BinHeader). h.hdr_size) after.commit.header in
-    let here = progress-in _ may in (
-      is.0,
-      inr (
-        next.loaded,
-        (here.0, here.1, opens here.0 here.1),
-        sizes-on before next after,
-        is.1,
-      ),
-      is.2,
-      is.3 ∙ ap (λ n. n - 4097) size,
-      is.4,
-    )
-unmade-later before blocks next faults.Memory may opens after is = tt
+-- the number of the header behind it
+number-on : (before : Stored) (next : NextHeader) → Follows before next
+    → next.loaded.copies.used.header.seqid ≡ before.copies.used.header.seqid + 1
+number-on before next after =
+    ap (λ (c : Copies). c.used.header.seqid) after.loaded.copies
+    ∙ ap (λ (h : BinHeader). h.seqid) after.commit.header
+
+module _ (before : Stored) (blocks left : ℕ) (all : before.copies.used.header.seqid + left ≡ last_seqid)
+    (enough : 2 ≤ left) (next : NextHeader) (may : MayOpenFrom before blocks)
+    (opens : Opens before blocks next) (after : Follows before next) where
+  pub unmade-later : (fault : ZoneFault)
+      → IsUnmade next.loaded 1 (IsTurning next.loaded blocks) fault
+      → IsUnmade before 2 (IsToCome before blocks) fault
+  unmade-later faults.Device is = is
+  unmade-later (faults.DigestClash block digest) is = is
+  unmade-later (faults.SeqEnd l w) is =
+      absurd (let number = number-on before next after in
+      omega (arith, all, enough, number, is.0, is.1, is.2))
+  unmade-later (faults.JsonFull len limit) is =
+      let size = ap (λ (c : Copies). c.used.header.hdr_size) after.loaded.copies
+      ∙ ap (λ (h : BinHeader). h.hdr_size) after.commit.header in
+      let number = number-on before next after in
+      let here = progress-in _ may in (
+        is.0,
+        inr (
+          next.loaded,
+          (here.0, here.1, opens here.0 here.1),
+          sizes-on before next after,
+          is.1,
+        ),
+        is.2,
+        is.3 ∙ ap (λ n. n - 4097) size,
+        is.4,
+        omega (arith, number, is.5),
+      )
+  unmade-later faults.Memory is = tt
 
 -- ---- what a header that goes on is known to be
 -- a conversion is under way

@@ -40,15 +40,21 @@ part-inside site device place done size fits within =
     }
 
 -- the numbers of its blocks fit
+pub part-keys-by : {C : Type 0} (sector : C → ℕ) (w : Worker C) (done : ℕ)
+    → KeysFit sector w.keys w.site.atom (w.site.blocks.start + count_of w.site)
+    → done ≤ count_of w.site
+    → KeysFit sector w.keys w.site.atom (w.site.blocks.start + done + part_at w.site done)
+part-keys-by sector w done keys within =
+    fewer-blocks sector w.keys w.site.atom (w.site.blocks.start + count_of w.site) _
+    (let here = part-fits w.site done within in omega (arith, here)) keys
+
 pub part-keys : {C : Type 0} (sector : C → ℕ) (w : Worker C) (device : Device) (done : ℕ)
     → FitsDisk sector w device → done ≤ count_of w.site
     → KeysFit sector w.keys w.site.atom (w.site.blocks.start + done + part_at w.site done)
-part-keys sector w device done fits within =
-    fewer-blocks sector w.keys w.site.atom (w.site.blocks.start + count_of w.site) _
-    (let here = part-fits w.site done within in omega (arith, here)) fits.keys
+part-keys sector w device done fits within = part-keys-by sector w done fits.keys within
 
 -- and have places that fit 64 bits
-atoms-few : (size atoms : ℕ) → IsAtom size → atoms * size < 2 ^ 63 → atoms < 2 ^ 63
+pub atoms-few : (size atoms : ℕ) → IsAtom size → atoms * size < 2 ^ 63 → atoms < 2 ^ 63
 atoms-few size atoms (inl is) fits =
     let here = subst (λ s. atoms * s < 2 ^ 63) is fits in omega (arith, here)
 atoms-few size atoms (inr is) fits =

@@ -7,6 +7,7 @@ use Rattle.std.proofs.lemmas.Nat.{div-add-mod'}
 use Rattle.disk_views.proofs.Blockwise.{blocks_end}
 use Rattle.std.specs.List.{All, cons_option}
 use Rattle.hotzone.specs.Sites.{count_of, next_count, next_start, site_by, start_by}
+use Rattle.hotzone.specs.declared.site.Guard.{Guard}
 use Rattle.luks_json.specs.declared.keyslot.Keyslot.{Keyslot}
 use Rattle.luks_json.specs.declared.keyslot.Keyslot.TheVariants as keyslots
 use Rattle.luks_rules.specs.Areas.{area_of, areas_of}
@@ -19,9 +20,9 @@ use Rattle.segment_map.specs.declared.Direction.TheVariants.{Forward, Backward}
 use Rattle.segment_map.specs.declared.map.Map.{Map}
 
 -- ---- blocks
-pub site-count : (map : Map) (room store : ℕ)
-    → count_of (site_by map room store) ≡ next_count map room
-site-count map room store = omega arith
+pub site-count : (map : Map) (room store : ℕ) (guard : Guard)
+    → count_of (site_by map room store guard) ≡ next_count map room
+site-count map room store guard = omega arith
 
 start-within : (d : Direction) (blocks boundary room : ℕ) → boundary ≤ blocks
     → start_by d boundary (min (left_of d blocks boundary) room)
@@ -32,11 +33,12 @@ start-within Backward blocks boundary room within = omega (arith, within)
 pub site-within : (map : Map) (room : ℕ) → next_start map room + next_count map room ≤ map.blocks
 site-within map room = start-within map.direction map.blocks map.boundary room map.within
 
-pub own-within : (map : Map) (room store atoms : ℕ) → map.old_place + map.blocks ≤ atoms
-    → (site_by map room store).own + count_of (site_by map room store) ≤ atoms
-own-within map room store atoms fits =
+pub own-within : (map : Map) (room store : ℕ) (guard : Guard) (atoms : ℕ)
+    → map.old_place + map.blocks ≤ atoms
+    → (site_by map room store guard).own + count_of (site_by map room store guard) ≤ atoms
+own-within map room store guard atoms fits =
     let within = site-within map room in
-    let count = site-count map room store in
+    let count = site-count map room store guard in
     omega (arith, within, count, fits)
 
 -- ---- the area that guards zones is one of the keyslots'

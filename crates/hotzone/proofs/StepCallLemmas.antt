@@ -14,14 +14,16 @@ use Rattle.disk_zones.specs.Zones.{writing}
 use Rattle.hotzone.proofs.CallLemmas.{HasGot, Led, led-on, read-leads}
 use Rattle.hotzone.proofs.CallLemmas.{written-if, written-leads}
 use Rattle.hotzone.proofs.KnownLemmas.{SealRuns, got-part, phase-runs}
-use Rattle.hotzone.proofs.KnownLemmas.{saves-part, writes-part}
-use Rattle.hotzone.proofs.LawLemmas.{known-read, fits-here, some-here, part-long, own-fits, store-fits, some-part, room-for, AreCiphers, runs-over}
+use Rattle.hotzone.proofs.GuardLemmas.{saved_part}
+use Rattle.hotzone.proofs.KnownLemmas.{saves-part, tells-more, told-saved, writes-part}
+use Rattle.hotzone.proofs.LawLemmas.{known-read, fits-here, some-here, part-long, own-fits, store-fits, some-part, text-long, room-for, AreCiphers, runs-over}
 use Rattle.hotzone.specs.Headings.{AreOf, IsSame}
-use Rattle.hotzone.specs.Known.{AreNamed, HoldsFor, HoldsPart, IsKnown}
+use Rattle.hotzone.specs.Known.{AreNamed, AreTold, TellBy, HoldsFor, HoldsPart, IsKnown}
 use Rattle.hotzone.specs.Known.{IsOnePart, NamesHeaders, halted_in, header_by, part_of, phase_in}
 use Rattle.hotzone.specs.Known.{zone_by}
 use Rattle.hotzone.specs.Promises.{IsOver, seals_in}
-use Rattle.hotzone.specs.Sites.{bytes_at, count_of, part_at}
+use Rattle.hotzone.specs.Sites.{IsPartStart, bytes_at, count_of, part_at, saved_at}
+use Rattle.hotzone.specs.Steps.{TellsPart}
 use Rattle.hotzone.specs.Steps.{Commits, HasRead, ReadsPart, SavesPart, WritesPart}
 use Rattle.hotzone.specs.Steps.{after_open, after_save, after_write, moved_by}
 use Rattle.hotzone.specs.Steps.{opened_by, resealed}
@@ -106,6 +108,10 @@ module _ {C : Type 0} {sector : C → ℕ} {seals : Seals} {layout : Layout}
       → HoldsFor before.site before.buffer texts next
   holds next was at known = subst (HoldsFor before.site before.buffer texts) at known.part
 
+  pub tolds : (next : NextCall) (was : View) → before.next ≡ next → Known was
+      → AreTold before.site texts next
+  tolds next was at known = subst (AreTold before.site texts) at known.told
+
   pub needs : (next : NextCall) → before.next ≡ next → Needs before next
   needs next at = subst (Needs before) at over.working.next
 
@@ -130,10 +136,11 @@ module _ {C : Type 0} {sector : C → ℕ} {seals : Seals} {layout : Layout}
       → (i : ℕ) → done ≤ i → i < count_of before.site
       → was.current (before.site.own + i) ≡ texts.old i)
       → ((was : View) → Known was → NamesHeaders coming middle moved)
+      → ((was : View) → Known was → AreTold before.site texts coming)
       → ((was : View) → Known was → HoldsPart before.site after.buffer texts done
       → HoldsFor before.site after.buffer texts coming)
       → Led old now Then
-  read-part next coming done at within call read phase olds named holding =
+  read-part next coming done at within call read phase olds named telling holding =
       let fits = fits-here sector layout before old over in
       let room : bytes_at before.site 0 ≤ length after.buffer =
       (let had = fits.room in let long = read.long in omega (arith, had, long)) in
@@ -145,7 +152,7 @@ module _ {C : Type 0} {sector : C → ℕ} {seals : Seals} {layout : Layout}
         middle,
         moved,
         known-read seals layout first middle moved texts before after was is over.runs known coming read
-            (named was known)
+            (named was known) (telling was known)
             (holding was known
             (got-part before.site after.buffer texts done was
             (subst (λ a. HasGot a (before.site.own + done) (part_at before.site done)
@@ -158,31 +165,42 @@ module _ {C : Type 0} {sector : C → ℕ} {seals : Seals} {layout : Layout}
   abbrev Saved : ℕ → View → View → Type 0
   Saved done was is =
       Known was → HoldsPart before.site before.buffer texts done
-      → ShowsZone before.site.atom layout zone texts (saving (done + part_at before.site done))
-      false is
+      → ShowsZone before.site.atom layout zone texts
+      (saving (saved_at before.site done + saved_part before.site done)) false is
 
   -- a part is saved
   pub save-part : (next : NextCall) (done : ℕ) → before.next ≡ next
-      → done < count_of before.site → phase_in before.site next ≡ saving done
+      → done < count_of before.site → IsPartStart before.site done
+      → phase_in before.site next ≡ saving (saved_at before.site done)
       → SavesPart before done old new succeeded
       → Led old now (Saved done)
-  save-part next done at below phase call =
+  save-part next done at below start phase call =
       let fits = fits-here sector layout before old over in
       let some = some-part sector layout before old over done below in
       let within : done ≤ count_of before.site = omega (arith, below) in
       led-on old now (Saved done)
-      (written-leads old new now (before.site.store + done) (part_at before.site done) _ over.tells
-      (some-here sector layout before old over)
-      (part-long sector layout before old over before.buffer done fits.room)
-      (store-fits sector layout before old over done within) call told)
+      (written-leads old new now (before.site.store + saved_at before.site done)
+      (saved_part before.site done) call.text over.tells (some-here sector layout before old over)
+      (text-long sector layout before old over done call.text call.is)
+      (store-fits sector layout before old over done start within) call.call told)
       (λ was is wrote known part.
-      by-call was is (saving done) _ known
-      (saves-part seals layout first middle moved texts before.site before.buffer done was is some
-      within known.texts_are part
-      (subst (λ a. IsWritten a (before.site.store + done) (part_at before.site done)
-      (part_of before.site before.buffer done) was is) (sym fits.size) wrote))
+      by-call was is (saving (saved_at before.site done)) _ known
+      (saves-part seals layout first middle moved texts before.site before.buffer done call.text was is
+      fits.known start some within known.texts_are part call.is
+      (subst (λ a. IsWritten a (before.site.store + saved_at before.site done)
+      (saved_part before.site done) call.text was is) (sym fits.size) wrote))
       (subst (λ p. ShowsZone before.site.atom layout zone texts p false was) phase
       (here next was at known)))
+
+  -- its digests tell its blocks
+  pub told-on : (done : ℕ) (headers : Headers) (was : View) → done < count_of before.site
+      → Known was → HoldsPart before.site before.buffer texts done
+      → TellBy before.site.guard done texts → TellsPart seals before done
+      → AreTold before.site texts (after_save before.site done headers)
+  told-on done headers was below known part told tells =
+      told-saved before.site texts done headers
+      (tells-more seals layout first middle moved texts before.site before.buffer done runs
+      (omega (arith, below)) known.texts_are part told tells)
 
   abbrev Written : ℕ → View → View → Type 0
   Written done was is =
@@ -307,6 +325,24 @@ module _ {C : Type 0} {sector : C → ℕ} {seals : Seals} {layout : Layout}
           (cond b (Write 0 headers) (ReadAgain 0 headers))
       go true is = part (eqb-true _ _ is)
       go false is = tt
+
+  pub told-opened : (headers : Headers) → TellBy before.site.guard (count_of before.site) texts
+      → AreTold before.site texts (after_open before.site headers)
+  told-opened headers told = go (part_at before.site 0 == count_of before.site)
+    where
+      go : (b : Bool) → AreTold before.site texts (cond b (Write 0 headers) (ReadAgain 0 headers))
+      go true = told
+      go false = told
+
+  pub told-written : (done : ℕ) (headers : Headers)
+      → TellBy before.site.guard (count_of before.site) texts
+      → AreTold before.site texts (after_write before.site done headers)
+  told-written done headers told = go (done + part_at before.site done == count_of before.site)
+    where
+      go : (b : Bool) → AreTold before.site texts
+          (cond b (Settle headers) (ReadAgain (done + part_at before.site done) headers))
+      go true = told
+      go false = told
 
   pub names-written : (done : ℕ) (headers : Headers) → AreNamed headers middle moved
       → NamesHeaders (after_write before.site done headers) middle moved

@@ -6,7 +6,8 @@ use Rattle.base_terms.specs.declared.failed.Failed.{Failed}
 use Rattle.disk_sizes.specs.declared.Sizes.{Sizes}
 use Rattle.hotzone.proofs.CommitLemmas.{call-atoms, call-size, has-as}
 use Rattle.hotzone.proofs.HeadingLemmas.{moved-sizes}
-use Rattle.hotzone.proofs.WorkingLemmas.{works-on, works-over}
+use Rattle.hotzone.proofs.WorkingLemmas.{no-longer, same-site}
+use Rattle.hotzone.proofs.WorksLemmas.{works-on, works-over}
 use Rattle.hotzone.specs.Endings.{after_wipe}
 use Rattle.hotzone.specs.Making.{HasStepped, IsPut, Makes, MakesBy}
 use Rattle.hotzone.specs.Sites.{count_of, part_at}
@@ -15,6 +16,7 @@ use Rattle.hotzone.specs.Steps.{begins, reads_first, saves_first, reads, saves, 
 use Rattle.hotzone.specs.Steps.{reads_again, writes, settles, moves, ends, finishes, finishes_on}
 use Rattle.hotzone.specs.Steps.{finished, wipes, rests, refuses, begin_fails, read_first_fails}
 use Rattle.hotzone.specs.Steps.{save_first_fails, read_fails, save_fails, keep_fails, open_fails}
+use Rattle.hotzone.specs.Steps.{clashes_first, clashes}
 use Rattle.hotzone.specs.Steps.{read_again_fails, write_fails, settle_fails, move_fails}
 use Rattle.hotzone.specs.Steps.{finish_refuses, finish_fails, end_fails, wipe_fails, rest_fails}
 use Rattle.hotzone.specs.Workers.{IsDone, IsWorking, Needs, first_call}
@@ -52,9 +54,9 @@ module _ {C : Type 0} (seals : Seals) (old new : Device) (before after : Worker 
       → after.halted ≡ before.halted
   halted-on stepped (begins at call to) = ap (λ (w : Worker C). w.halted) to
   halted-on stepped (reads_first at call read) = ap (λ (w : Worker C). w.halted) read.is
-  halted-on stepped (saves_first at call headers are begun to) = ap (λ (w : Worker C). w.halted) to
+  halted-on stepped (saves_first at tells call headers are begun to) = ap (λ (w : Worker C). w.halted) to
   halted-on stepped (reads done headers at call read) = ap (λ (w : Worker C). w.halted) read.is
-  halted-on stepped (saves done headers at call to) = ap (λ (w : Worker C). w.halted) to
+  halted-on stepped (saves done headers at tells call to) = ap (λ (w : Worker C). w.halted) to
   halted-on stepped (keeps headers at call to) = ap (λ (w : Worker C). w.halted) to
   halted-on stepped (opens headers commit at call on far to) = ap (λ (w : Worker C). w.halted) to
   halted-on stepped (opened headers commit at call on last to) =
@@ -125,11 +127,11 @@ module _ {C : Type 0} (seals : Seals) (old new : Device) (before after : Worker 
   last-on stepped (begins at call to) = left-by _ (next-of _ to) (λ is. is)
   last-on stepped (reads_first at call read) =
       left-by _ (ap (λ (w : Worker C). w.next) read.is) (λ is. is)
-  last-on stepped (saves_first at call headers are begun to) =
+  last-on stepped (saves_first at tells call headers are begun to) =
       left-by _ (next-of _ to) (save-left before.site 0 headers)
   last-on stepped (reads done headers at call read) =
       left-by _ (ap (λ (w : Worker C). w.next) read.is) (λ is. is)
-  last-on stepped (saves done headers at call to) =
+  last-on stepped (saves done headers at tells call to) =
       left-by _ (next-of _ to) (save-left before.site done headers)
   last-on stepped (keeps headers at call to) = left-by _ (next-of _ to) (λ is. is)
   last-on stepped (opens headers commit at call on far to) = left-by _ (next-of _ to) (λ is. is)
@@ -179,9 +181,9 @@ module _ {C : Type 0} (sector : C → ℕ) (seals : Seals) (old new : Device) (b
     shape-on : (stepped : Stepped) → Goes seals old new before after stepped → IsAsLarge old new
     shape-on stepped (begins at call to) = (call.size, call.atoms)
     shape-on stepped (reads_first at call read) = (call.size, call.atoms)
-    shape-on stepped (saves_first at call headers are begun to) = (call.size, call.atoms)
+    shape-on stepped (saves_first at tells call headers are begun to) = (call.call.size, call.call.atoms)
     shape-on stepped (reads done headers at call read) = (call.size, call.atoms)
-    shape-on stepped (saves done headers at call to) = (call.size, call.atoms)
+    shape-on stepped (saves done headers at tells call to) = (call.call.size, call.call.atoms)
     shape-on stepped (keeps headers at call to) = (call.size, call.atoms)
     shape-on stepped (opens headers commit at call on far to) = copy-shape headers.opened _ call
     shape-on stepped (opened headers commit at call on last to) = copy-shape headers.opened _ call
@@ -197,12 +199,14 @@ module _ {C : Type 0} (sector : C → ℕ) (seals : Seals) (old new : Device) (b
     shape-on stepped (rests ending at call to) = (call.size, call.atoms)
 
     shape-over : (fault : ZoneFault) → Stops seals old new before after fault → IsAsLarge old new
-    shape-over fault (refuses _ at unmade same stop) = (ap (λ (d : Device). d.size) same, ap (λ (d : Device). d.atoms) same)
+    shape-over fault (clashes_first _ _ at clash same stop) = (ap (λ (d : Device). d.size) same, ap (λ (d : Device). d.atoms) same)
+    shape-over fault (clashes done headers _ _ at clash same stop) = (ap (λ (d : Device). d.size) same, ap (λ (d : Device). d.atoms) same)
+    shape-over fault (refuses _ at tells unmade same stop) = (ap (λ (d : Device). d.size) same, ap (λ (d : Device). d.atoms) same)
     shape-over fault (begin_fails at call stop) = (call.size, call.atoms)
     shape-over fault (read_first_fails at call stop) = (call.size, call.atoms)
-    shape-over fault (save_first_fails at call stop) = (call.size, call.atoms)
+    shape-over fault (save_first_fails at tells call stop) = (call.call.size, call.call.atoms)
     shape-over fault (read_fails done headers at call stop) = (call.size, call.atoms)
-    shape-over fault (save_fails done headers at call stop) = (call.size, call.atoms)
+    shape-over fault (save_fails done headers at tells call stop) = (call.call.size, call.call.atoms)
     shape-over fault (keep_fails headers at call stop) = (call.size, call.atoms)
     shape-over fault (open_fails headers commit at call on stop) = copy-shape headers.opened _ call
     shape-over fault (read_again_fails done headers at call stop) = (call.size, call.atoms)
@@ -222,9 +226,9 @@ module _ {C : Type 0} (sector : C → ℕ) (seals : Seals) (old new : Device) (b
         → Goes seals old new before after stepped → sizes-in after ≡ sizes-in before
     sizes-on stepped is (begins at call to) = ap sizes-in to
     sizes-on stepped is (reads_first at call read) = ap sizes-in read.is
-    sizes-on stepped is (saves_first at call headers are begun to) = ap sizes-in to
+    sizes-on stepped is (saves_first at tells call headers are begun to) = ap sizes-in to
     sizes-on stepped is (reads done headers at call read) = ap sizes-in read.is
-    sizes-on stepped is (saves done headers at call to) = ap sizes-in to
+    sizes-on stepped is (saves done headers at tells call to) = ap sizes-in to
     sizes-on stepped is (keeps headers at call to) = ap sizes-in to
     sizes-on stepped is (opens headers commit at call on far to) = ap sizes-in to
     sizes-on stepped is (opened headers commit at call on last to) = ap sizes-in to
@@ -242,25 +246,38 @@ module _ {C : Type 0} (sector : C → ℕ) (seals : Seals) (old new : Device) (b
     sizes-on stepped is (wipes done ending at call to) = ap sizes-in to
     sizes-on stepped is (rests ending at call to) = ap sizes-in to
 
+    abbrev kept-in : Worker C → Sizes × Site
+    kept-in w = (w.loaded.valid.sizes, w.site)
+
+    kept-over : (fault : ZoneFault) → Stops seals old new before after fault
+        → kept-in after ≡ kept-in before
+    kept-over fault (clashes_first _ _ at clash same stop) = ap kept-in stop.is
+    kept-over fault (clashes done headers _ _ at clash same stop) = ap kept-in stop.is
+    kept-over fault (refuses _ at tells unmade same stop) = ap kept-in stop.is
+    kept-over fault (begin_fails at call stop) = ap kept-in stop.is
+    kept-over fault (read_first_fails at call stop) = ap kept-in stop.is
+    kept-over fault (save_first_fails at tells call stop) = ap kept-in stop.is
+    kept-over fault (read_fails done headers at call stop) = ap kept-in stop.is
+    kept-over fault (save_fails done headers at tells call stop) = ap kept-in stop.is
+    kept-over fault (keep_fails headers at call stop) = ap kept-in stop.is
+    kept-over fault (open_fails headers commit at call on stop) = ap kept-in stop.is
+    kept-over fault (read_again_fails done headers at call stop) = ap kept-in stop.is
+    kept-over fault (write_fails done headers at call stop sealed) = ap kept-in stop.is
+    kept-over fault (settle_fails headers at call stop) = ap kept-in stop.is
+    kept-over fault (move_fails headers commit at call on stop) = ap kept-in stop.is
+    kept-over fault (finish_refuses _ at unmade same stop) = ap kept-in stop.is
+    kept-over fault (finish_fails ending commit at are call on stop) = ap kept-in stop.is
+    kept-over fault (end_fails ending commit at call on stop) = ap kept-in stop.is
+    kept-over fault (wipe_fails done ending at call stop) = ap kept-in stop.is
+    kept-over fault (rest_fails ending at call stop) = ap kept-in stop.is
+
     sizes-over : (fault : ZoneFault) → Stops seals old new before after fault
         → sizes-in after ≡ sizes-in before
-    sizes-over fault (refuses _ at unmade same stop) = ap sizes-in stop.is
-    sizes-over fault (begin_fails at call stop) = ap sizes-in stop.is
-    sizes-over fault (read_first_fails at call stop) = ap sizes-in stop.is
-    sizes-over fault (save_first_fails at call stop) = ap sizes-in stop.is
-    sizes-over fault (read_fails done headers at call stop) = ap sizes-in stop.is
-    sizes-over fault (save_fails done headers at call stop) = ap sizes-in stop.is
-    sizes-over fault (keep_fails headers at call stop) = ap sizes-in stop.is
-    sizes-over fault (open_fails headers commit at call on stop) = ap sizes-in stop.is
-    sizes-over fault (read_again_fails done headers at call stop) = ap sizes-in stop.is
-    sizes-over fault (write_fails done headers at call stop sealed) = ap sizes-in stop.is
-    sizes-over fault (settle_fails headers at call stop) = ap sizes-in stop.is
-    sizes-over fault (move_fails headers commit at call on stop) = ap sizes-in stop.is
-    sizes-over fault (finish_refuses _ at unmade same stop) = ap sizes-in stop.is
-    sizes-over fault (finish_fails ending commit at are call on stop) = ap sizes-in stop.is
-    sizes-over fault (end_fails ending commit at call on stop) = ap sizes-in stop.is
-    sizes-over fault (wipe_fails done ending at call stop) = ap sizes-in stop.is
-    sizes-over fault (rest_fails ending at call stop) = ap sizes-in stop.is
+    sizes-over fault stop = ap (λ (k : Sizes × Site). k.0) (kept-over fault stop)
+
+    pub site-over : (fault : ZoneFault) → Stops seals old new before after fault
+        → after.site ≡ before.site
+    site-over fault stop = ap (λ (k : Sizes × Site). k.1) (kept-over fault stop)
 
     has-behind : IsAsLarge old new → sizes-in after ≡ sizes-in before
         → HasSizes before.loaded.valid.sizes old → HasSizes after.loaded.valid.sizes new
@@ -288,6 +305,7 @@ module _ {C : Type 0} (sector : C → ℕ) (seals : Seals) (old new : Device) (b
     working = works-on sector seals old new before after stepped is made;
     steps = made;
     sizes = has-on sector seals old new before after stepped is has made;
+    site = no-longer sector seals old new before after stepped is made;
     went = halted-on seals old new before after stepped made ∙ runs;
     over = over-on seals old new before after stepped made;
   }
@@ -298,6 +316,7 @@ module _ {C : Type 0} (sector : C → ℕ) (seals : Seals) (old new : Device) (b
     working = works-over sector seals old new before after fault is stop;
     steps = stop;
     sizes = has-over sector seals old new before after fault has stop;
+    site = same-site before after (site-over sector seals old new before after fault stop);
     went = tt;
     over = tt;
   }

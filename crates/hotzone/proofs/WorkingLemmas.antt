@@ -7,32 +7,30 @@ use Rattle.std.proofs.lemmas.Bool.{eqb-false, eqb-true, ltb-true}
 use Rattle.disk_sizes.specs.declared.Sizes.{Sizes}
 use Rattle.hotzone.specs.Endings.{after_wipe}
 use Rattle.hotzone.specs.Headings.{AreOf, IsSame}
-use Rattle.hotzone.specs.Sites.{bytes_at, count_of, part_at, site_by}
-use Rattle.hotzone.specs.Steps.{Goes, HasMoved, HasRead, IsHalted, IsStopped, Stops, after_open}
-use Rattle.hotzone.specs.Steps.{after_save, after_write, ended_by, moved_by, opened_by}
+use Rattle.hotzone.specs.Making.{IsNoLonger}
+use Rattle.hotzone.specs.Sites.{IsPartStart, bytes_at, count_of, guard_of, kind_of, part_at}
+use Rattle.hotzone.specs.Sites.{saved_count, site_by}
+use Rattle.hotzone.specs.Steps.{Goes, HasMoved, HasRead, IsHalted, IsStopped, after_open}
+use Rattle.hotzone.specs.Steps.{after_save, after_write, ended_by}
 use Rattle.hotzone.specs.Steps.{begins, reads_first, saves_first, reads, saves, keeps, opens, opened}
 use Rattle.hotzone.specs.Steps.{reads_again, writes, settles, moves, ends, finishes, finishes_on}
-use Rattle.hotzone.specs.Steps.{finished, wipes, rests, refuses, begin_fails, read_first_fails}
-use Rattle.hotzone.specs.Steps.{save_first_fails, read_fails, save_fails, keep_fails, open_fails}
-use Rattle.hotzone.specs.Steps.{read_again_fails, write_fails, settle_fails, move_fails}
-use Rattle.hotzone.specs.Steps.{finish_refuses, finish_fails, end_fails, wipe_fails, rest_fails}
-use Rattle.hotzone.specs.Workers.{AreReady, FitsDisk, HasEnding, IsWorking, MayGoFrom, Needs}
+use Rattle.hotzone.specs.Steps.{finished, wipes, rests}
+use Rattle.hotzone.specs.Workers.{AreReady, FitsDisk, HasEnding, IsWorking, Needs}
 use Rattle.hotzone.specs.Workers.{first_call}
 use Rattle.hotzone.specs.declared.site.Site.{Site}
 use Rattle.hotzone.specs.declared.worker.Ending.{Ending}
 use Rattle.hotzone.specs.declared.worker.Halt.{Halt}
 use Rattle.hotzone.specs.declared.worker.Headers.{Headers}
 use Rattle.hotzone.specs.declared.worker.NextCall.{NextCall}
-use Rattle.hotzone.specs.declared.worker.NextCall.TheVariants.{Begin, ReadFirst, SaveFirst, Read}
-use Rattle.hotzone.specs.declared.worker.NextCall.TheVariants.{Save, Keep, Open, ReadAgain, Write}
-use Rattle.hotzone.specs.declared.worker.NextCall.TheVariants.{Settle, Move, Finish, End, Wipe, Rest}
-use Rattle.hotzone.specs.declared.worker.NextCall.TheVariants.{Over}
+use Rattle.hotzone.specs.declared.worker.NextCall.TheVariants.{Begin, Read}
+use Rattle.hotzone.specs.declared.worker.NextCall.TheVariants.{Keep, ReadAgain, Write}
+use Rattle.hotzone.specs.declared.worker.NextCall.TheVariants.{Settle, Finish, Wipe, Rest}
 use Rattle.hotzone.specs.declared.worker.NextHeader.{NextHeader}
 use Rattle.hotzone.specs.declared.worker.Stepped.{Stepped}
 use Rattle.hotzone.specs.declared.worker.Worker.{Worker}
-use Rattle.hotzone.specs.declared.worker.ZoneFault.{ZoneFault}
-use Rattle.hotzone.proofs.BehindLemmas.{left-at, map-behind}
-use Rattle.hotzone.proofs.HeadingLemmas.{behind-known, moved-on, moved-sizes, open-on}
+use Rattle.hotzone.proofs.BehindLemmas.{IsBehind, left-at, map-behind}
+use Rattle.hotzone.proofs.GuardLemmas.{saved-fewer, start-on}
+use Rattle.hotzone.proofs.HeadingLemmas.{behind-known, moved-sizes}
 use Rattle.hotzone.proofs.HeadingLemmas.{progress_behind, same-on}
 use Rattle.hotzone.proofs.SiteLemmas.{own-within, site-count, site-within}
 use Rattle.joined_disk.specs.Counts.{HasSizes}
@@ -51,6 +49,7 @@ use Rattle.reenc_meta.specs.Placements.{all_atoms}
 use Rattle.sector_disk.specs.Devices.{Device}
 use Rattle.sector_disk.specs.Geometry.{IsAtom, IsDisk}
 use Rattle.segment_map.specs.Maps.{most_bytes}
+use Rattle.volume_machine.specs.Saved.{saved_atoms}
 use Rattle.volume_machine.specs.Seals.{KeysFit, Seals}
 use Rattle.volume_machine.specs.Sound.{MapFits}
 use Rattle.volume_machine.specs.declared.keys.Keys.{Keys}
@@ -81,7 +80,8 @@ fits-disk sector w device is sizes =
           (subst (λ (s : Site). s.blocks.start + count_of s ≤ w.map.blocks) (sym is.zone.site_is)
           (let within = site-within w.map (capacity w.loaded.valid.sizes.atom is.zone.now) in
           let count = site-count w.map (capacity w.loaded.valid.sizes.atom is.zone.now)
-          (is.zone.now.conversion.area.offset / w.loaded.valid.sizes.atom) in
+          (is.zone.now.conversion.area.offset / w.loaded.valid.sizes.atom)
+          (guard_of is.zone.now.conversion.resilience) in
           omega (arith, within, count))) is.keys);
     }
 
@@ -97,6 +97,22 @@ part-fewer long short atom fewer room fits =
     (omega (arith, fewer)) in
     let more = mul-le-mul_right long.atom less in
     subst (λ a. part_at short 0 * a ≤ room) (sym atom) (omega (arith, more, fits))
+
+-- and less is saved of it
+count-fewer : (long short : Site) → IsAtom long.atom → IsNoLonger long short
+    → saved_count short ≤ saved_count long
+count-fewer long short known is =
+    subst (λ a. saved_atoms (kind_of short.guard) a (count_of short) ≤ saved_count long)
+    (sym is.atom)
+    (subst (λ g. saved_atoms (kind_of g) long.atom (count_of short) ≤ saved_count long)
+    (sym is.guard)
+    (saved-fewer long.guard long.atom (count_of short) (count_of long) known is.fewer))
+
+-- a step that leaves the zone
+pub same-site : {C : Type 0} (before after : Worker C) → after.site ≡ before.site
+    → IsNoLonger before.site after.site
+same-site before after is =
+    subst (IsNoLonger before.site) (sym is) (record { atom = refl; guard = refl; fewer = omega arith })
 
 pub needs-first : {C : Type 0} (worker : Worker C) → Needs worker (first_call worker.site)
 needs-first worker = go (count_of worker.site == 0) refl
@@ -116,6 +132,16 @@ halted-as {C} before after next halt stop =
           (sym kept);
       long = ap length kept;
     }
+
+-- the zone that comes next behind one
+record IsNextBehind {C : Type 0} (before after : Worker C) (now : Progress) : Type 0 where
+  sizes : after.loaded.valid.sizes ≡ before.loaded.valid.sizes
+  map_is : IsBehind (count_of before.site) before.map after.map
+  site_is : after.site ≡ site_by after.map (capacity before.loaded.valid.sizes.atom now)
+      (now.conversion.area.offset / before.loaded.valid.sizes.atom)
+      (guard_of now.conversion.resilience)
+  no_longer : IsNoLonger before.site after.site
+  store : after.site.store ≡ before.site.store
 
 -- ---- behind a step that leaves the zone and its header
 module _ {C : Type 0} (sector : C → ℕ) where
@@ -146,7 +172,7 @@ module _ {C : Type 0} (sector : C → ℕ) where
   })
 
   -- behind one that was stopped
-  works-stopped : (before after : Worker C) (next : NextCall) (halt : Halt) → IsWorking sector before
+  pub works-stopped : (before after : Worker C) (next : NextCall) (halt : Halt) → IsWorking sector before
       → IsStopped before after next halt → Needs (record before { halted = Some halt }) next
       → IsWorking sector after
   works-stopped before after next halt is stop needs =
@@ -161,15 +187,18 @@ module _ {C : Type 0} (sector : C → ℕ) where
         next = needs;
       })
 
+  pub known-atom : (before : Worker C) → IsWorking sector before → IsAtom before.site.atom
+  known-atom before is = subst IsAtom (sym (atom-of sector before is)) is.disk.known
+
   -- a part lies in the zone
   part-within : (before : Worker C) (done : ℕ) → done < count_of before.site
       → done + part_at before.site done ≤ count_of before.site
   part-within before done below = omega (arith, below)
 
-  needs-save : (before : Worker C) (done : ℕ) (headers : Headers) → done < count_of before.site
-      → AreReady before headers → stage_in headers.opened.copies ≡ Begun
-      → Needs before (after_save before.site done headers)
-  needs-save before done headers below ready begun =
+  pub needs-save : (before : Worker C) (done : ℕ) (headers : Headers) → IsAtom before.site.atom
+      → done < count_of before.site → IsPartStart before.site done → AreReady before headers
+      → stage_in headers.opened.copies ≡ Begun → Needs before (after_save before.site done headers)
+  needs-save before done headers known below start ready begun =
       go (done + part_at before.site done == count_of before.site) refl
     where
       go : (b : Bool) → (done + part_at before.site done == count_of before.site) ≡ b
@@ -179,9 +208,10 @@ module _ {C : Type 0} (sector : C → ℕ) where
         (let far = eqb-false _ _ is in omega (arith, below, far)),
         ready,
         begun,
+        start-on before.site done known start (omega (arith, below)) (eqb-false _ _ is),
       )
 
-  needs-open : (before : Worker C) (headers : Headers) → 0 < count_of before.site
+  pub needs-open : (before : Worker C) (headers : Headers) → 0 < count_of before.site
       → AreReady before headers → Needs before (after_open before.site headers)
   needs-open before headers some ready = go (part_at before.site 0 == count_of before.site)
     where
@@ -189,7 +219,7 @@ module _ {C : Type 0} (sector : C → ℕ) where
       go true = (some, ready)
       go false = (some, ready)
 
-  needs-write : (before : Worker C) (done : ℕ) (headers : Headers) → done < count_of before.site
+  pub needs-write : (before : Worker C) (done : ℕ) (headers : Headers) → done < count_of before.site
       → AreReady before headers → Needs before (after_write before.site done headers)
   needs-write before done headers below ready =
       go (done + part_at before.site done == count_of before.site) refl
@@ -203,7 +233,7 @@ module _ {C : Type 0} (sector : C → ℕ) where
         ready,
       )
 
-  needs-wipe : (before : Worker C) (done : ℕ) (ending : Ending) → HasEnding before.loaded ending
+  pub needs-wipe : (before : Worker C) (done : ℕ) (ending : Ending) → HasEnding before.loaded ending
       → Needs before (after_wipe done ending)
   needs-wipe before done ending given = go (nat_lt done (length ending.wipes.areas)) refl
     where
@@ -213,7 +243,7 @@ module _ {C : Type 0} (sector : C → ℕ) where
       go false is = given
 
   -- an ending whose commit goes on, or has ended
-  ending-on : (stored : Stored) (ending : Ending) (commit : Prepared) → HasEnding stored ending
+  pub ending-on : (stored : Stored) (ending : Ending) (commit : Prepared) → HasEnding stored ending
       → IsSame ending.commit commit → HasEnding stored (ended_by ending commit)
   ending-on stored ending commit has same =
       (has.0, has.1, same-on has.0 ending.commit commit has.2 same)
@@ -225,11 +255,11 @@ module _ {C : Type 0} (sector : C → ℕ) where
   not-ended SecondWritten some far = absurd (far refl)
   not-ended Ended some far = absurd (some refl)
 
-  -- behind the zone's last call
-  pub works-behind : (before after : Worker C) (middle : Prepared) (moved : NextHeader)
-      → IsWorking sector before → AreOf before.loaded (count_of before.site) middle moved
-      → HasMoved before after moved.loaded → IsWorking sector after
-  works-behind before after middle moved is are has =
+  -- behind the zone's last call: the zone that comes next
+  next-behind : (before after : Worker C) (middle : Prepared) (moved : NextHeader)
+      → (is : IsWorking sector before) → AreOf before.loaded (count_of before.site) middle moved
+      → HasMoved before after moved.loaded → IsNextBehind before after is.zone.now
+  next-behind before after middle moved is are has =
       let n = count_of before.site in
       let sizes = ap (λ (s : Stored). s.valid.sizes) has.loaded
       ∙ moved-sizes before.loaded n middle moved are in
@@ -243,28 +273,43 @@ module _ {C : Type 0} (sector : C → ℕ) where
       let at : IsMapAt before.loaded.valid.sizes (progress_behind n now) after.map =
       subst (λ p. IsMapAt before.loaded.valid.sizes p after.map) later
       (subst (λ s. IsMapAt s has.zone.now after.map) sizes has.zone.map_is) in
-      let count = ap (λ (s : Site). count_of s) is.zone.site_is ∙ site-count before.map (capacity before.loaded.valid.sizes.atom now)
-      (now.conversion.area.offset / before.loaded.valid.sizes.atom) in
+      let room = capacity before.loaded.valid.sizes.atom now in
+      let place = now.conversion.area.offset / before.loaded.valid.sizes.atom in
+      let guard = guard_of now.conversion.resilience in
+      let count = ap (λ (s : Site). count_of s) is.zone.site_is ∙ site-count before.map room place guard in
       let left = left-at before.loaded.valid.sizes now before.map is.zone.map_is is.zone.is.closed in
       let behind = map-behind before.loaded.valid.sizes now n before.map after.map is.zone.map_is at
       is.zone.is.closed (omega (arith, count, left)) in
-      let site : after.site
-      ≡ site_by after.map (capacity before.loaded.valid.sizes.atom now)
-      (now.conversion.area.offset / before.loaded.valid.sizes.atom) =
+      let site : after.site ≡ site_by after.map room place guard =
       has.zone.site_is
       ∙ ap (λ (s : Sizes). site_by after.map (capacity s.atom has.zone.now)
-      (has.zone.now.conversion.area.offset / s.atom)) sizes
+      (has.zone.now.conversion.area.offset / s.atom)
+      (guard_of has.zone.now.conversion.resilience)) sizes
       ∙ ap (λ (p : Progress). site_by after.map (capacity before.loaded.valid.sizes.atom p)
-      (p.conversion.area.offset / before.loaded.valid.sizes.atom)) later in
-      let next-count = ap (λ (s : Site). count_of s) site ∙ site-count after.map (capacity before.loaded.valid.sizes.atom now)
-      (now.conversion.area.offset / before.loaded.valid.sizes.atom) in
-      let fewer : count_of after.site ≤ n =
-      (let left = behind.left in omega (arith, count, next-count, left)) in
-      let store : after.site.store ≡ before.site.store =
-      ap (λ (s : Site). s.store) site ∙ sym (ap (λ (s : Site). s.store) is.zone.site_is) in
-      let atom : after.site.atom ≡ before.site.atom =
-      ap (λ (s : Site). s.atom) site ∙ behind.atom
-      ∙ sym (ap (λ (s : Site). s.atom) is.zone.site_is) in
+      (p.conversion.area.offset / before.loaded.valid.sizes.atom)
+      (guard_of p.conversion.resilience)) later in
+      let next-count = ap (λ (s : Site). count_of s) site ∙ site-count after.map room place guard in
+      record {
+        sizes = sizes;
+        map_is = behind;
+        site_is = site;
+        no_longer = record {
+          atom = ap (λ (s : Site). s.atom) site ∙ behind.atom
+              ∙ sym (ap (λ (s : Site). s.atom) is.zone.site_is);
+          guard = ap (λ (s : Site). s.guard) site
+              ∙ sym (ap (λ (s : Site). s.guard) is.zone.site_is);
+          fewer = (let left = behind.left in omega (arith, count, next-count, left));
+        };
+        store = ap (λ (s : Site). s.store) site ∙ sym (ap (λ (s : Site). s.store) is.zone.site_is);
+      }
+
+  pub works-behind : (before after : Worker C) (middle : Prepared) (moved : NextHeader)
+      → IsWorking sector before → AreOf before.loaded (count_of before.site) middle moved
+      → HasMoved before after moved.loaded → IsWorking sector after
+  works-behind before after middle moved is are has =
+      let now = is.zone.now in
+      let next = next-behind before after middle moved is are has in
+      let behind = next.map_is in
       let fits : MapFits after.map (all_atoms before.loaded.valid.sizes) =
       record {
         known = subst IsAtom (sym behind.atom) is.fits.known;
@@ -277,18 +322,26 @@ module _ {C : Type 0} (sector : C → ℕ) where
             let b = behind.blocks_are in omega (arith, fits, a, b));
       } in
       record {
-        disk = subst (λ (s : Sizes). IsDisk s.atom (all_atoms s)) (sym sizes) is.disk;
+        disk = subst (λ (s : Sizes). IsDisk s.atom (all_atoms s)) (sym next.sizes) is.disk;
         zone = has.zone;
-        fits = subst (λ (s : Sizes). MapFits after.map (all_atoms s)) (sym sizes) fits;
-        own = subst (λ (s : Sizes). after.site.own + count_of after.site ≤ all_atoms s) (sym sizes)
-            (subst (λ (s : Site). s.own + count_of s ≤ all_atoms before.loaded.valid.sizes) (sym site)
+        fits = subst (λ (s : Sizes). MapFits after.map (all_atoms s)) (sym next.sizes) fits;
+        own = subst (λ (s : Sizes). after.site.own + count_of after.site ≤ all_atoms s)
+            (sym next.sizes)
+            (subst (λ (s : Site). s.own + count_of s ≤ all_atoms before.loaded.valid.sizes)
+            (sym next.site_is)
             (own-within after.map (capacity before.loaded.valid.sizes.atom now)
             (now.conversion.area.offset / before.loaded.valid.sizes.atom)
+            (guard_of now.conversion.resilience)
             (all_atoms before.loaded.valid.sizes) fits.old_places));
-        store = subst (λ (s : Sizes). after.site.store + count_of after.site ≤ all_atoms s)
-            (sym sizes) (let had = is.store in omega (arith, had, store, fewer));
+        store = subst (λ (s : Sizes). after.site.store + saved_count after.site ≤ all_atoms s)
+            (sym next.sizes)
+            (let had = is.store in
+            let store = next.store in
+            let fewer = count-fewer before.site after.site (known-atom before is) next.no_longer in
+            omega (arith, had, store, fewer));
         room = subst (λ (b : List ℕ). bytes_at after.site 0 ≤ length b) (sym has.buffer)
-            (part-fewer before.site after.site atom fewer (length before.buffer) is.room);
+            (part-fewer before.site after.site next.no_longer.atom next.no_longer.fewer
+            (length before.buffer) is.room);
         keys = subst (λ (k : Keys C). KeysFit sector k after.map.atom after.map.blocks)
             (sym has.keys)
             (subst (λ a. KeysFit sector before.keys a after.map.blocks) (sym behind.atom)
@@ -297,139 +350,27 @@ module _ {C : Type 0} (sector : C → ℕ) where
         next = subst (Needs after) (sym has.next) (needs-first after);
       }
 
-  -- ---- behind each step
-  pub works-on : (seals : Seals) (old new : Device) (before after : Worker C) (stepped : Stepped)
-      → IsWorking sector before → Goes seals old new before after stepped → IsWorking sector after
-  works-on seals old new before after stepped is (begins at call to) =
-      works-next before after ReadFirst is to (subst (Needs before) at is.next)
-  works-on seals old new before after stepped is (reads_first at call read) =
-      works-read before after SaveFirst is read (subst (Needs before) at is.next)
-  works-on seals old new before after stepped is (saves_first at call headers are begun to) =
-      works-next before after _ is to
-      (needs-save before 0 headers (subst (Needs before) at is.next) (are, begun.1) begun.0)
-  works-on seals old new before after stepped is (reads done headers at call read) =
-      works-read before after (Save done headers) is read (subst (Needs before) at is.next)
-  works-on seals old new before after stepped is (saves done headers at call to) =
+  -- no zone is longer than the one before it
+  pub no-longer : (seals : Seals) (old new : Device) (before after : Worker C) (stepped : Stepped)
+      → IsWorking sector before → Goes seals old new before after stepped
+      → IsNoLonger before.site after.site
+  no-longer seals old new before after stepped is (begins at call to) = same-site before after (ap (λ (w : Worker C). w.site) to)
+  no-longer seals old new before after stepped is (reads_first at call read) = same-site before after (ap (λ (w : Worker C). w.site) read.is)
+  no-longer seals old new before after stepped is (saves_first at tells call headers are begun to) = same-site before after (ap (λ (w : Worker C). w.site) to)
+  no-longer seals old new before after stepped is (reads done headers at call read) = same-site before after (ap (λ (w : Worker C). w.site) read.is)
+  no-longer seals old new before after stepped is (saves done headers at tells call to) = same-site before after (ap (λ (w : Worker C). w.site) to)
+  no-longer seals old new before after stepped is (keeps headers at call to) = same-site before after (ap (λ (w : Worker C). w.site) to)
+  no-longer seals old new before after stepped is (opens headers commit at call on far to) = same-site before after (ap (λ (w : Worker C). w.site) to)
+  no-longer seals old new before after stepped is (opened headers commit at call on last to) = same-site before after (ap (λ (w : Worker C). w.site) to)
+  no-longer seals old new before after stepped is (reads_again done headers at call read) = same-site before after (ap (λ (w : Worker C). w.site) read.is)
+  no-longer seals old new before after stepped is (writes done headers at call read) = same-site before after (ap (λ (w : Worker C). w.site) read.is)
+  no-longer seals old new before after stepped is (settles headers at call to) = same-site before after (ap (λ (w : Worker C). w.site) to)
+  no-longer seals old new before after stepped is (moves headers commit at call on far to) = same-site before after (ap (λ (w : Worker C). w.site) to)
+  no-longer seals old new before after stepped is (ends headers at call last has) =
       let had = subst (Needs before) at is.next in
-      works-next before after _ is to (needs-save before done headers had.0 had.1 had.2)
-  works-on seals old new before after stepped is (keeps headers at call to) =
-      let had = subst (Needs before) at is.next in
-      works-next before after (Open headers) is to
-      (had.0, had.1, λ runs. subst (λ s. s ≢ Ended) (sym had.2) (λ is. cc))
-  works-on seals old new before after stepped is (opens headers commit at call on far to) =
-      let had = subst (Needs before) at is.next in
-      works-next before after (Open (opened_by headers commit)) is to (
-        had.0,
-        (open-on before.loaded _ headers.opened commit headers.moved had.1.0 on.same, had.1.1),
-        λ runs. subst (λ s. s ≢ Ended) (sym on.stage) (not-ended _ (had.2 runs) far),
-      )
-  works-on seals old new before after stepped is (opened headers commit at call on last to) =
-      let had = subst (Needs before) at is.next in
-      works-next before after _ is to
-      (needs-open before (opened_by headers commit) had.0
-      (open-on before.loaded _ headers.opened commit headers.moved had.1.0 on.same, had.1.1))
-  works-on seals old new before after stepped is (reads_again done headers at call read) =
-      works-read before after (Write done headers) is read (subst (Needs before) at is.next)
-  works-on seals old new before after stepped is (writes done headers at call read) =
-      let had = subst (Needs before) at is.next in
-      works-read before after _ is read (needs-write before done headers had.0 had.1)
-  works-on seals old new before after stepped is (settles headers at call to) =
-      let had = subst (Needs before) at is.next in
-      works-next before after (Move headers) is to
-      (had.0, had.1.0, λ runs. subst (λ s. s ≢ Ended) (sym had.1.1) (λ is. cc))
-  works-on seals old new before after stepped is (moves headers commit at call on far to) =
-      let had = subst (Needs before) at is.next in
-      works-next before after (Move (moved_by headers commit)) is to (
-        had.0,
-        moved-on before.loaded _ headers.opened headers.moved commit had.1 on.same,
-        λ runs. subst (λ s. s ≢ Ended) (sym on.stage) (not-ended _ (had.2 runs) far),
-      )
-  works-on seals old new before after stepped is (ends headers at call last has) =
-      let had = subst (Needs before) at is.next in
-      works-behind before after headers.opened headers.moved is had.1 has
-  works-on seals old new before after stepped is (finishes ending commit at are call on to) =
-      works-next before after (End (ended_by ending commit)) is to (
-        (ending.commit, are, on.same),
-        λ runs. subst (λ s. s ≢ Ended) (sym on.stage)
-            (subst (λ s. next_of s ≢ Ended) (sym are.begun) (λ is. cc)),
-      )
-  works-on seals old new before after stepped is (finishes_on ending commit at call on far to) =
-      let had = subst (Needs before) at is.next in
-      works-next before after (End (ended_by ending commit)) is to (
-        ending-on before.loaded ending commit had.0 on.same,
-        λ runs. subst (λ s. s ≢ Ended) (sym on.stage) (not-ended _ (had.1 runs) far),
-      )
-  works-on seals old new before after stepped is (finished ending commit at call on last to) =
-      let had = subst (Needs before) at is.next in
-      works-next before after _ is to
-      (needs-wipe before 0 (ended_by ending commit)
-      (ending-on before.loaded ending commit had.0 on.same))
-  works-on seals old new before after stepped is (wipes done ending at call to) =
-      let had = subst (Needs before) at is.next in
-      works-next before after _ is to (needs-wipe before (done + 1) ending had.1)
-  works-on seals old new before after stepped is (rests ending at call to) =
-      works-next before after (Over ending) is to (subst (Needs before) at is.next)
-
-  -- ---- behind each that failed, or wasn't made
-  -- what a call needs that is no commit's it needs of a halted worker too
-  works-failed : (before after : Worker C) (next : NextCall) (halt : Halt)
-      → ((halted : Option Halt) → Needs before next
-      → Needs (record before { halted = halted }) next)
-      → IsWorking sector before → before.next ≡ next → IsStopped before after next halt
-      → IsWorking sector after
-  works-failed before after next halt same is at stop =
-      works-stopped before after next halt is stop
-      (same (Some halt) (subst (Needs before) at is.next))
-
-  never-runs : {halt : Halt} {stage : Stage} → MayGoFrom (Some halt) stage
-  never-runs = λ runs. absurd cc
-
-  pub works-over : (seals : Seals) (old new : Device) (before after : Worker C) (fault : ZoneFault)
-      → IsWorking sector before → Stops seals old new before after fault → IsWorking sector after
-  works-over seals old new before after fault is (refuses _ at unmade same stop) =
-      works-failed before after SaveFirst _ (λ halted needs. needs) is at (halted-as before after _ _ stop)
-  works-over seals old new before after fault is (begin_fails at call stop) =
-      works-failed before after Begin _ (λ halted needs. needs) is at (halted-as before after _ _ stop)
-  works-over seals old new before after fault is (read_first_fails at call stop) =
-      works-failed before after ReadFirst _ (λ halted needs. needs) is at stop
-  works-over seals old new before after fault is (save_first_fails at call stop) =
-      works-failed before after SaveFirst _ (λ halted needs. needs) is at (halted-as before after _ _ stop)
-  works-over seals old new before after fault is (read_fails done headers at call stop) =
-      works-failed before after (Read done headers) _ (λ halted needs. needs) is at stop
-  works-over seals old new before after fault is (save_fails done headers at call stop) =
-      works-failed before after (Save done headers) _ (λ halted needs. needs) is at (halted-as before after _ _ stop)
-  works-over seals old new before after fault is (keep_fails headers at call stop) =
-      works-failed before after (Keep headers) _ (λ halted needs. needs) is at (halted-as before after _ _ stop)
-  works-over seals old new before after fault is (open_fails headers commit at call on stop) =
-      let had = subst (Needs before) at is.next in
-      works-stopped before after (Open (opened_by headers commit)) _ is (halted-as before after _ _ stop) (
-        had.0,
-        (open-on before.loaded _ headers.opened commit headers.moved had.1.0 on.same, had.1.1),
-        never-runs,
-      )
-  works-over seals old new before after fault is (read_again_fails done headers at call stop) =
-      works-failed before after (ReadAgain done headers) _ (λ halted needs. needs) is at stop
-  works-over seals old new before after fault is (write_fails done headers at call stop sealed) =
-      works-failed before after (Write done headers) _ (λ halted needs. needs) is at stop
-  works-over seals old new before after fault is (settle_fails headers at call stop) =
-      works-failed before after (Settle headers) _ (λ halted needs. needs) is at (halted-as before after _ _ stop)
-  works-over seals old new before after fault is (move_fails headers commit at call on stop) =
-      let had = subst (Needs before) at is.next in
-      works-stopped before after (Move (moved_by headers commit)) _ is (halted-as before after _ _ stop) (
-        had.0,
-        moved-on before.loaded _ headers.opened headers.moved commit had.1 on.same,
-        never-runs,
-      )
-  works-over seals old new before after fault is (finish_refuses _ at unmade same stop) =
-      works-failed before after Finish _ (λ halted needs. needs) is at (halted-as before after _ _ stop)
-  works-over seals old new before after fault is (finish_fails ending commit at are call on stop) =
-      works-stopped before after (End (ended_by ending commit)) _ is (halted-as before after _ _ stop)
-      ((ending.commit, are, on.same), never-runs)
-  works-over seals old new before after fault is (end_fails ending commit at call on stop) =
-      let had = subst (Needs before) at is.next in
-      works-stopped before after (End (ended_by ending commit)) _ is (halted-as before after _ _ stop)
-      (ending-on before.loaded ending commit had.0 on.same, never-runs)
-  works-over seals old new before after fault is (wipe_fails done ending at call stop) =
-      works-failed before after (Wipe done ending) _ (λ halted needs. needs) is at (halted-as before after _ _ stop)
-  works-over seals old new before after fault is (rest_fails ending at call stop) =
-      works-failed before after (Rest ending) _ (λ halted needs. needs) is at (halted-as before after _ _ stop)
+      (next-behind before after headers.opened headers.moved is had.1 has).no_longer
+  no-longer seals old new before after stepped is (finishes ending commit at are call on to) = same-site before after (ap (λ (w : Worker C). w.site) to)
+  no-longer seals old new before after stepped is (finishes_on ending commit at call on far to) = same-site before after (ap (λ (w : Worker C). w.site) to)
+  no-longer seals old new before after stepped is (finished ending commit at call on last to) = same-site before after (ap (λ (w : Worker C). w.site) to)
+  no-longer seals old new before after stepped is (wipes done ending at call to) = same-site before after (ap (λ (w : Worker C). w.site) to)
+  no-longer seals old new before after stepped is (rests ending at call to) = same-site before after (ap (λ (w : Worker C). w.site) to)

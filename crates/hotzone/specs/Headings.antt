@@ -1,5 +1,5 @@
 -- The headers of a zone.
-use Rattle.std.specs.Prelude.{ℕ, ◌≡◌, ◌+◌, ◌<◌, ◌⊎◌, length, Some, IsSomeAnd}
+use Rattle.std.specs.Prelude.{ℕ, ◌≡◌, ◌+◌, ◌<◌, ◌≤◌, ◌⊎◌, length, Some, IsSomeAnd}
 use Rattle.hotzone.specs.declared.worker.Headers.{Headers}
 use Rattle.hotzone.specs.declared.worker.NextHeader.{NextHeader}
 use Rattle.hotzone.specs.declared.worker.ZoneFault.{ZoneFault}
@@ -107,19 +107,21 @@ IsToCome before blocks meta =
     ⊎ ((middle : Stored) × IsOpening before blocks middle.valid.meta
     × (middle.valid.sizes ≡ before.valid.sizes) × IsTurning middle blocks meta)
 
--- ---- why a header isn't made, of so many commits to come: fewer numbers are left; the text of
--- one has no room; or memory was wanted, of which nothing is said
+-- ---- why a header isn't made, of so many commits to come: fewer numbers are left; or there are
+-- enough, and the text of one has no room; or memory was wanted, of which nothing is said
 abbrev pub IsUnmade : Stored → ℕ → (Parts → Type 0) → ZoneFault → Type 0
 IsUnmade before commits Comes faults.Device = ⊥
 IsUnmade before commits Comes (faults.DigestClash block digest) = ⊥
-IsUnmade before commits Comes faults.SeqEnd =
-    last_seqid < before.copies.used.header.seqid + commits
+IsUnmade before commits Comes (faults.SeqEnd left wanted) =
+    (before.copies.used.header.seqid + left ≡ last_seqid) × (wanted ≡ commits) × (left < wanted)
 IsUnmade before commits Comes (faults.JsonFull len limit) =
     (meta : Parts) × Comes meta × (len ≡ length (text_for meta))
     × (limit ≡ longest_text before.copies.used.header) × (limit < len)
+    × (before.copies.used.header.seqid + commits ≤ last_seqid)
 IsUnmade before commits Comes faults.Memory = Unit {0}
 
+-- of a single commit
 abbrev pub fault_of : CommitError → ZoneFault
 fault_of errors.Memory = faults.Memory
-fault_of errors.SeqEnd = faults.SeqEnd
+fault_of errors.SeqEnd = faults.SeqEnd 0 1
 fault_of (errors.JsonFull len limit) = faults.JsonFull len limit

@@ -1,17 +1,19 @@
 -- What is known of a zone between its steps: what the disk shows of it, and which of its old atoms
 -- are in the buffer.
-use Rattle.std.specs.Prelude.{ℕ, ◌≡◌, ◌+◌, ◌<◌, false, List, take, Option, Some}
+use Rattle.std.specs.Prelude.{ℕ, ◌≡◌, ◌≢◌, ◌+◌, ◌<◌, false, List, take, Option, Some}
 use Rattle.disk_areas.specs.Commits.{failed_stage}
 use Rattle.disk_areas.specs.Headers.{Header, Layout}
 use Rattle.disk_views.specs.Parts.{block_at, AreBlocks}
 use Rattle.disk_views.specs.Views.{View}
-use Rattle.disk_zones.specs.Zones.{Hotzone, Texts, Phase, IsApart, ShowsZone, journal, moving}
+use Rattle.disk_zones.specs.Zones.{Hotzone, Texts, Phase, IsApart, ShowsZone, moving}
 use Rattle.disk_zones.specs.Zones.{opening, saving, writing}
-use Rattle.hotzone.specs.Sites.{bytes_at, count_of, part_at}
+use Rattle.hotzone.specs.Sites.{bytes_at, count_of, kind_of, part_at, saved_at, saved_count}
 use Rattle.hotzone.specs.Steps.{resealed}
+use Rattle.hotzone.specs.declared.site.Guard.{Guard}
+use Rattle.hotzone.specs.declared.site.Guard.TheVariants as guards
 use Rattle.hotzone.specs.declared.site.Site.{Site}
 use Rattle.hotzone.specs.declared.worker.NextCall.{NextCall}
-use Rattle.hotzone.specs.declared.worker.NextCall.TheVariants.{Begin, SaveFirst, Read}
+use Rattle.hotzone.specs.declared.worker.NextCall.TheVariants.{Begin, ReadFirst, SaveFirst, Read}
 use Rattle.hotzone.specs.declared.worker.NextCall.TheVariants.{Save, Keep, Open, ReadAgain, Write}
 use Rattle.hotzone.specs.declared.worker.NextCall.TheVariants.{Settle, Move, Finish, End, Wipe, Rest}
 use Rattle.hotzone.specs.declared.worker.NextCall.TheVariants.{Over}
@@ -23,6 +25,8 @@ use Rattle.luks_copies.specs.Held.{primary_of, secondary_of, stage_in}
 use Rattle.luks_copies.specs.Meanings.{header_of, meaning_of}
 use Rattle.luks_copies.specs.Seen.{stage_of}
 use Rattle.luks_store.specs.declared.commit.Prepared.{Prepared}
+use Rattle.sha2.specs.Sha256.{sha256}
+use Rattle.volume_machine.specs.Saved.{saved_of}
 use Rattle.volume_machine.specs.Seals.{Seals}
 
 -- ---- the zone as the laws of zones name it
@@ -30,13 +34,13 @@ use Rattle.volume_machine.specs.Seals.{Seals}
 abbrev pub header_by : Prepared → Header (List ℕ)
 header_by commit = header_of (primary_of commit.copies) (secondary_of commit.copies)
 
--- a zone that is guarded by a journal: an atom is saved for each of its own
+-- a zone, by what guards it
 abbrev pub zone_by : Site → Header (List ℕ) → Header (List ℕ) → Header (List ℕ) → Hotzone (List ℕ)
 zone_by site before opened moved = record {
-  resilience = journal;
+  resilience = kind_of site.guard;
   own = record { start = site.own; count = count_of site };
   target = record { start = 0; count = 0 };
-  store = record { start = site.store; count = count_of site };
+  store = record { start = site.store; count = saved_count site };
   before = before;
   opened = opened;
   moved = moved;
@@ -60,9 +64,9 @@ NamesHeaders _ opened moved = Unit {0}
 
 -- how far it is by its next call
 abbrev pub phase_in : Site → NextCall → Phase
-phase_in site (Read done headers) = saving done
-phase_in site (Save done headers) = saving done
-phase_in site (Keep headers) = saving (count_of site)
+phase_in site (Read done headers) = saving (saved_at site done)
+phase_in site (Save done headers) = saving (saved_at site done)
+phase_in site (Keep headers) = saving (saved_count site)
 phase_in site (Open headers) = opening (stage_of (stage_in headers.opened.copies))
 phase_in site (ReadAgain done headers) = writing done
 phase_in site (Write done headers) = writing done
@@ -90,11 +94,29 @@ IsAtHand (Over ending) = ⊥
 IsAtHand _ = Unit {0}
 
 -- ---- its atoms
--- new ones are the old ones sealed anew, and the old ones are saved
+-- new ones are the old ones sealed anew, and of the old ones is saved what the zone's guard says
 pub record AreTexts (seals : Seals) (site : Site) (texts : Texts) : Type 0 where
   pub new : (i : ℕ) → i < count_of site
       → texts.new i ≡ resealed seals (site.blocks.start + i) (texts.old i)
-  pub saved : (i : ℕ) → texts.saved i ≡ texts.old i
+  pub saved : (i : ℕ) → texts.saved i
+      ≡ saved_of (kind_of site.guard) site.atom (count_of site) texts.old i
+
+-- By checksum the digests of the old atoms of so many blocks are others than those of the new ones:
+-- of those that are saved.
+abbrev pub TellBy : Guard → ℕ → Texts → Type 0
+TellBy guards.Journal count texts = Unit {0}
+TellBy guards.Checksum count texts =
+    (i : ℕ) → i < count → sha256 (texts.old i) ≢ sha256 (texts.new i)
+
+abbrev pub told_count : Site → NextCall → ℕ
+told_count site ReadFirst = 0
+told_count site SaveFirst = 0
+told_count site (Read done headers) = done
+told_count site (Save done headers) = done
+told_count site _ = count_of site
+
+abbrev pub AreTold : Site → Texts → NextCall → Type 0
+AreTold site texts next = TellBy site.guard (told_count site next) texts
 
 -- the part behind so many old atoms is at the front of the buffer
 abbrev pub part_of : Site → List ℕ → ℕ → List ℕ
@@ -126,6 +148,7 @@ pub record IsKnown {C : Type 0} (seals : Seals) (layout : Layout) (before opened
   pub headers : NamesHeaders worker.next opened moved
   pub apart : IsApart layout (zone_by worker.site before opened moved)
   pub texts_are : AreTexts seals worker.site texts
+  pub told : AreTold worker.site texts worker.next
   pub part : HoldsFor worker.site worker.buffer texts worker.next
   pub shows : ShowsZone worker.site.atom layout (zone_by worker.site before opened moved) texts
       (phase_of worker) false view

@@ -1,10 +1,11 @@
 -- One call of a worker that has none at hand: what it needs, and what it comes to.
-use Rattle.std.specs.Prelude.{ℕ, ◌≡◌, ◌<◌, ◌↔◌, length, IfOk, Result, Ok, Err, Some, None}
+use Rattle.std.specs.Prelude.{ℕ, ◌≡◌, ◌<◌, ◌≤◌, ◌↔◌, length, IfOk, Result, Ok, Err, Some, None}
 use Rattle.hotzone.specs.Endings.{AreWipable, MayFinishFrom}
 use Rattle.hotzone.specs.Headings.{MayOpenFrom}
-use Rattle.hotzone.specs.Sites.{count_of}
+use Rattle.hotzone.specs.Sites.{IsPartStart, count_of}
 use Rattle.hotzone.specs.Steps.{Goes, HasMoved, Steps, Stops}
 use Rattle.hotzone.specs.Workers.{FitsDisk, IsDone, IsWorking, MayCommit, MayGoOn}
+use Rattle.hotzone.specs.declared.site.Site.{Site}
 use Rattle.hotzone.specs.declared.steps.Made.{Made}
 use Rattle.hotzone.specs.declared.steps.Stop.{Stop}
 use Rattle.hotzone.specs.declared.worker.NextCall.{NextCall}
@@ -52,7 +53,8 @@ pub record GoesOn {C : Type 0} (before : Worker C) (headers : Headers) (after : 
 abbrev pub Asks : {C : Type 0} → Worker C → Device → NextCall → Type 0
 Asks worker disk SaveFirst = MayOpenFrom worker.loaded (count_of worker.site)
 Asks worker disk (Read done headers) = done < count_of worker.site
-Asks worker disk (Save done headers) = done < count_of worker.site
+Asks worker disk (Save done headers) =
+    (done < count_of worker.site) × IsPartStart worker.site done
 Asks worker disk (Open headers) = MayCommit headers.opened disk
 Asks worker disk (ReadAgain done headers) = done < count_of worker.site
 Asks worker disk (Write done headers) = done < count_of worker.site
@@ -81,11 +83,18 @@ IsPut before next after (Ok stepped) result =
 IsPut before next after (Err stop) result =
     (after ≡ record before { next = next; halted = Some stop.halt }) × (result ≡ Err stop.fault)
 
+-- a zone of no more blocks, which is guarded alike
+pub record IsNoLonger (before after : Site) : Type 0 where
+  pub atom : after.atom ≡ before.atom
+  pub guard : after.guard ≡ before.guard
+  pub fewer : count_of after ≤ count_of before
+
 -- a step, and what holds behind it
 pub record HasStepped {C : Type 0} (sector : C → ℕ) (seals : Seals) (old new : Device)
     (before after : Worker C) (result : Result Stepped ZoneFault) : Type 0 where
   pub working : IsWorking sector after
   pub steps : Steps seals old new before after result
   pub sizes : HasSizes after.loaded.valid.sizes new
+  pub site : IsNoLonger before.site after.site
   pub went : IfOk result (λ stepped. after.halted ≡ None)
   pub over : IfOk result (λ stepped. (stepped ≡ AllDone) ↔ IsDone after.next)

@@ -6,11 +6,15 @@ use Rattle.disk_areas.specs.Commits.{ShowsCommit, begun}
 use Rattle.disk_areas.specs.Headers.{Header, IsLaidOut, Layout}
 use Rattle.disk_views.specs.Views.{View, view_of_cells}
 use Rattle.disk_zones.specs.Calls.{CallBeside, ShowsMoved}
+use Rattle.disk_zones.specs.Standing.{IsKept}
 use Rattle.disk_zones.specs.Zones.{Texts, IsApart, ShowsZone}
 use Rattle.hotzone.specs.Known.{IsAtHand, IsKnown, NamesHeaders, phase_of, zone_by}
+use Rattle.hotzone.specs.Sites.{kind_of}
 use Rattle.hotzone.specs.Steps.{Goes, Stops}
 use Rattle.hotzone.specs.Workers.{IsWorking}
-use Rattle.hotzone.specs.declared.worker.NextCall.TheVariants.{Begin}
+use Rattle.hotzone.specs.declared.worker.NextCall.{NextCall}
+use Rattle.hotzone.specs.declared.worker.NextCall.TheVariants.{Begin, Keep, Open, ReadAgain, Write}
+use Rattle.hotzone.specs.declared.worker.NextCall.TheVariants.{Settle, Move}
 use Rattle.hotzone.specs.declared.worker.Stepped.{Stepped}
 use Rattle.hotzone.specs.declared.worker.Stepped.TheVariants.{Went, ZoneDone}
 use Rattle.hotzone.specs.declared.worker.Worker.{Worker}
@@ -20,7 +24,9 @@ use Rattle.luks_copies.specs.Meanings.{meaning_of}
 use Rattle.luks_store.specs.Loads.{IsStored}
 use Rattle.sector_disk.specs.Cells.{content, currents}
 use Rattle.sector_disk.specs.Devices.{Device}
+use Rattle.sector_disk.specs.Geometry.{IsAtom}
 use Rattle.sector_disk.specs.Steps.{Told}
+use Rattle.volume_machine.specs.Saved.{saved_hash}
 use Rattle.volume_machine.specs.Seals.{Seals, seals_of}
 
 -- a disk that tells its table and its bytes alike, as each does
@@ -114,3 +120,21 @@ StepStays C =
     → CallBeside layout (zone_by worker.site first middle moved) old new false
     → IsKnown seals layout first middle moved texts worker old
     → IsKnown seals layout first middle moved texts worker new
+
+-- ---- Once all is saved the zone has what its guard needs: its old atoms, or digests of them that
+-- tell each from the new one.
+abbrev pub HasSaved : NextCall → Type 0
+HasSaved (Keep headers) = Unit {0}
+HasSaved (Open headers) = Unit {0}
+HasSaved (ReadAgain done headers) = Unit {0}
+HasSaved (Write done headers) = Unit {0}
+HasSaved (Settle headers) = Unit {0}
+HasSaved (Move headers) = Unit {0}
+HasSaved _ = ⊥
+
+abbrev pub StepKeeps : (C : Type 0) → Type 0
+StepKeeps C =
+    (seals : Seals) (layout : Layout) (first middle moved : Header (List ℕ)) (texts : Texts)
+    (worker : Worker C) (view : View) → IsAtom worker.site.atom → HasSaved worker.next
+    → IsKnown seals layout first middle moved texts worker view
+    → IsKept (kind_of worker.site.guard) saved_hash (zone_by worker.site first middle moved) texts

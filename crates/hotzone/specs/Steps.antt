@@ -2,10 +2,13 @@
 use Rattle.std.specs.Prelude.{ℕ, ◌≡◌, ◌≢◌, ◌+◌, ◌==◌, List, length, take, Result, Ok, Err, Some}
 use Rattle.std.specs.Prelude.{if◌then◌else◌}
 use Rattle.base_terms.specs.declared.failed.Failed.{Failed as CallFailed}
+use Rattle.disk_views.specs.Parts.{block_at}
 use Rattle.hotzone.specs.Endings.{IsEnding, IsFinishing, WipesArea, after_wipe}
 use Rattle.hotzone.specs.Headings.{AreOf, IsSame, IsToCome, IsUnmade}
-use Rattle.hotzone.specs.Sites.{bytes_at, count_of, part_at}
+use Rattle.hotzone.specs.Sites.{bytes_at, count_of, part_at, saved_at}
 use Rattle.hotzone.specs.Workers.{IsNextZone, first_call}
+use Rattle.hotzone.specs.declared.site.Guard.{Guard}
+use Rattle.hotzone.specs.declared.site.Guard.TheVariants as guards
 use Rattle.hotzone.specs.declared.site.Site.{Site}
 use Rattle.hotzone.specs.declared.worker.Ending.{Ending}
 use Rattle.hotzone.specs.declared.worker.Halt.{Halt}
@@ -25,8 +28,11 @@ use Rattle.luks_copies.specs.Steps.{CopyCall, next_of}
 use Rattle.luks_copies.specs.declared.commit.Stage.TheVariants.{Begun, SecondWritten, Ended}
 use Rattle.luks_store.specs.declared.commit.Prepared.{Prepared}
 use Rattle.luks_store.specs.declared.loaded.Stored.{Stored}
+use Rattle.resil_checksum.specs.Clashes.{AllDiffer, IsLowestClash}
+use Rattle.resil_checksum.specs.Digests.{AreSaved, saved_len}
 use Rattle.sector_disk.specs.Devices.{Device, ReadCall, SyncCall, WriteCall, failed_call, succeeded}
 use Rattle.segment_map.specs.declared.Side.TheVariants.{Old, New}
+use Rattle.sha2.specs.Sha256.{sha256}
 use Rattle.volume_machine.specs.Seals.{Seals}
 
 -- ---- the bytes of a part
@@ -38,6 +44,43 @@ resealed seals first bytes = seals.sealed New first (seals.opened Old first byte
 abbrev pub part_in : {C : Type 0} → Worker C → ℕ → List ℕ
 part_in worker done = take (bytes_at worker.site done) worker.buffer
 
+-- ---- what is saved of a part
+-- By journal it is saved as it is, by checksum as the digests of its atoms, in whole atoms.
+abbrev pub IsSavedText : Guard → ℕ → ℕ → List ℕ → List ℕ → Type 0
+IsSavedText guards.Journal atom count part text = text ≡ part
+IsSavedText guards.Checksum atom count part text =
+    AreSaved atom count part text × (length text ≡ saved_len count atom)
+
+-- by checksum the digests of its old atoms are others than those of the new ones
+abbrev pub TellsBy : Guard → ℕ → ℕ → List ℕ → List ℕ → Type 0
+TellsBy guards.Journal atom count old new = Unit {0}
+TellsBy guards.Checksum atom count old new = AllDiffer atom count old new
+
+abbrev pub TellsPart : {C : Type 0} → Seals → Worker C → ℕ → Type 0
+TellsPart seals worker done =
+    TellsBy worker.site.guard worker.site.atom (part_at worker.site done) (part_in worker done)
+    (resealed seals (worker.site.blocks.start + done) (part_in worker done))
+
+-- the first of so many blocks of which they aren't, and its digest
+pub record IsClashBy (by : Guard) (atom first count : ℕ) (old new : List ℕ) (block : ℕ)
+    (digest : List ℕ) : Type 0 where
+  pub guard : by ≡ guards.Checksum
+  pub k : ℕ
+  pub is : block ≡ first + k
+  pub lowest : IsLowestClash atom count old new k
+  pub digest_is : digest ≡ sha256 (block_at atom old k)
+
+abbrev pub IsClash : {C : Type 0} → Seals → Worker C → ℕ → ℕ → List ℕ → Type 0
+IsClash seals worker done block digest =
+    IsClashBy worker.site.guard worker.site.atom (worker.site.blocks.start + done)
+    (part_at worker.site done) (part_in worker done)
+    (resealed seals (worker.site.blocks.start + done) (part_in worker done)) block digest
+
+abbrev pub Clashes : {C : Type 0} → Seals → Worker C → ℕ → ZoneFault → Type 0
+Clashes seals worker done (faults.DigestClash block digest) =
+    IsClash seals worker done block digest
+Clashes seals worker done _ = ⊥
+
 -- ---- device calls
 -- a part of the old atoms comes into the buffer
 abbrev pub ReadsPart : {C : Type 0} → Worker C → ℕ → List ℕ → Device → Device
@@ -46,11 +89,19 @@ ReadsPart worker done buffer old new result =
     ReadCall old.size (worker.site.own + done) (take (bytes_at worker.site done) buffer) old new
     result
 
--- it is saved as it is
+-- so many atoms are saved from a place on, by what guards them
+pub record SavesBy (guard : Guard) (atom count : ℕ) (part : List ℕ) (place : ℕ)
+    (old new : Device) (result : Result (Unit {0}) CallFailed) : Type 0 where
+  pub text : List ℕ
+  pub is : IsSavedText guard atom count part text
+  pub call : WriteCall old.size place text old new result
+
+-- so the part is saved
 abbrev pub SavesPart : {C : Type 0} → Worker C → ℕ → Device → Device
     → Result (Unit {0}) CallFailed → Type 0
 SavesPart worker done old new result =
-    WriteCall old.size (worker.site.store + done) (part_in worker done) old new result
+    SavesBy worker.site.guard worker.site.atom (part_at worker.site done) (part_in worker done)
+    (worker.site.store + saved_at worker.site done) old new result
 
 -- it is written anew
 abbrev pub WritesPart : {C : Type 0} → Seals → Worker C → ℕ → Device → Device
@@ -124,7 +175,8 @@ pub data Goes {C : Type 0} (seals : Seals) (old new : Device) (before after : Wo
       → after ≡ record before { next = ReadFirst } → Goes seals old new before after Went
   reads_first : before.next ≡ ReadFirst → ReadsPart before 0 after.buffer old new succeeded
       → HasRead before after SaveFirst → Goes seals old new before after Went
-  saves_first : before.next ≡ SaveFirst → SavesPart before 0 old new succeeded
+  saves_first : before.next ≡ SaveFirst → TellsPart seals before 0
+      → SavesPart before 0 old new succeeded
       → (headers : Headers) → AreOf before.loaded (count_of before.site) headers.opened headers.moved
       → (stage_in headers.opened.copies ≡ Begun) × (stage_in headers.moved.commit.copies ≡ Begun)
       → after ≡ record before { next = after_save before.site 0 headers }
@@ -133,7 +185,7 @@ pub data Goes {C : Type 0} (seals : Seals) (old new : Device) (before after : Wo
       → ReadsPart before done after.buffer old new succeeded
       → HasRead before after (Save done headers) → Goes seals old new before after Went
   saves : (done : ℕ) (headers : Headers) → before.next ≡ Save done headers
-      → SavesPart before done old new succeeded
+      → TellsPart seals before done → SavesPart before done old new succeeded
       → after ≡ record before { next = after_save before.site done headers }
       → Goes seals old new before after Went
   keeps : (headers : Headers) → before.next ≡ Keep headers → SyncCall old new succeeded
@@ -201,7 +253,14 @@ pub record IsStopped {C : Type 0} (before after : Worker C) (next : NextCall) (h
 
 pub data Stops {C : Type 0} (seals : Seals) (old new : Device) (before after : Worker C) : ZoneFault
     → Type 0 where
-  refuses : (fault : ZoneFault) → before.next ≡ SaveFirst
+  clashes_first : (block : ℕ) (digest : List ℕ) → before.next ≡ SaveFirst
+      → IsClash seals before 0 block digest → new ≡ old → IsHalted before after SaveFirst GivenUp
+      → Stops seals old new before after (faults.DigestClash block digest)
+  clashes : (done : ℕ) (headers : Headers) (block : ℕ) (digest : List ℕ)
+      → before.next ≡ Save done headers → IsClash seals before done block digest → new ≡ old
+      → IsHalted before after (Save done headers) GivenUp
+      → Stops seals old new before after (faults.DigestClash block digest)
+  refuses : (fault : ZoneFault) → before.next ≡ SaveFirst → TellsPart seals before 0
       → IsUnmade before.loaded 2 (IsToCome before.loaded (count_of before.site)) fault
       → new ≡ old → IsHalted before after SaveFirst GivenUp
       → Stops seals old new before after fault
@@ -210,15 +269,15 @@ pub data Stops {C : Type 0} (seals : Seals) (old new : Device) (before after : W
   read_first_fails : before.next ≡ ReadFirst → ReadsPart before 0 after.buffer old new failed_call
       → IsStopped before after ReadFirst GivenUp
       → Stops seals old new before after faults.Device
-  save_first_fails : before.next ≡ SaveFirst → SavesPart before 0 old new failed_call
-      → IsHalted before after SaveFirst Failed
+  save_first_fails : before.next ≡ SaveFirst → TellsPart seals before 0
+      → SavesPart before 0 old new failed_call → IsHalted before after SaveFirst Failed
       → Stops seals old new before after faults.Device
   read_fails : (done : ℕ) (headers : Headers) → before.next ≡ Read done headers
       → ReadsPart before done after.buffer old new failed_call
       → IsStopped before after (Read done headers) GivenUp
       → Stops seals old new before after faults.Device
   save_fails : (done : ℕ) (headers : Headers) → before.next ≡ Save done headers
-      → SavesPart before done old new failed_call
+      → TellsPart seals before done → SavesPart before done old new failed_call
       → IsHalted before after (Save done headers) Failed
       → Stops seals old new before after faults.Device
   keep_fails : (headers : Headers) → before.next ≡ Keep headers → SyncCall old new failed_call

@@ -5,7 +5,11 @@ use Rattle.std.specs.Prelude.{if◌then◌else◌, ◌==◌}
 use Rattle.block_range.specs.declared.BlockRange.{BlockRange}
 use Rattle.hotzone.specs.Endings.{IsEnding}
 use Rattle.hotzone.specs.Headings.{AreOf, IsSame}
-use Rattle.hotzone.specs.Sites.{IsByJournal, bytes_at, count_of, site_by}
+use Rattle.hotzone.specs.Sites.{IsPartStart, IsSaved, bytes_at, count_of, guard_of, part_at}
+use Rattle.hotzone.specs.Sites.{saved_count, site_by}
+use Rattle.hotzone.specs.declared.scratch.Scratch.{Scratch}
+use Rattle.hotzone.specs.declared.site.Guard.{Guard}
+use Rattle.hotzone.specs.declared.site.Guard.TheVariants as guards
 use Rattle.hotzone.specs.declared.site.Site.{Site}
 use Rattle.hotzone.specs.declared.worker.Ending.{Ending}
 use Rattle.hotzone.specs.declared.worker.Halt.{Halt}
@@ -26,6 +30,7 @@ use Rattle.luks_store.specs.declared.commit.Prepared.{Prepared}
 use Rattle.luks_store.specs.declared.loaded.Stored.{Stored}
 use Rattle.reenc_meta.specs.ConversionMaps.{IsMapAt, IsMapOf}
 use Rattle.reenc_meta.specs.Placements.{all_atoms}
+use Rattle.resil_checksum.specs.Digests.{saved_len}
 use Rattle.sector_disk.specs.Devices.{Device}
 use Rattle.sector_disk.specs.Geometry.{IsAtom, IsDisk}
 use Rattle.segment_map.specs.declared.Direction.{Direction}
@@ -36,16 +41,17 @@ use Rattle.volume_machine.specs.Sound.{MapFits}
 use Rattle.volume_machine.specs.declared.keys.Keys.{Keys}
 
 -- ---- where it stands
--- By a header a conversion is under way, no zone of it is open, and zones are guarded by a journal.
+-- By a header a conversion is under way, no zone of it is open, and zones are guarded by what is
+-- saved of their blocks.
 pub record IsClosed (before : Stored) (now : Progress) : Type 0 where
   pub known : progress_of before.valid.meta before.valid.sizes ≡ Some now
   pub closed : now.plan.zone ≡ 0
-  pub guarded : IsByJournal now.conversion.resilience
+  pub guarded : IsSaved now.conversion.resilience
 
 abbrev pub MayGoOn : Stored → Type 0
 MayGoOn before =
     IsSomeAnd (progress_of before.valid.meta before.valid.sizes)
-    (λ now. (now.plan.zone ≡ 0) × IsByJournal now.conversion.resilience)
+    (λ now. (now.plan.zone ≡ 0) × IsSaved now.conversion.resilience)
 
 -- the zone that comes next by a header
 pub record IsNextZone (before : Stored) (map : Map) (site : Site) : Type 0 where
@@ -53,7 +59,7 @@ pub record IsNextZone (before : Stored) (map : Map) (site : Site) : Type 0 where
   pub is : IsClosed before now
   pub map_is : IsMapAt before.valid.sizes now map
   pub site_is : site ≡ site_by map (capacity before.valid.sizes.atom now)
-      (now.conversion.area.offset / before.valid.sizes.atom)
+      (now.conversion.area.offset / before.valid.sizes.atom) (guard_of now.conversion.resilience)
 
 -- ---- what the next call needs
 -- the headers of the zone at hand; of the one with the boundary moved nothing is written
@@ -77,9 +83,9 @@ Needs worker Begin = 0 < count_of worker.site
 Needs worker ReadFirst = 0 < count_of worker.site
 Needs worker SaveFirst = 0 < count_of worker.site
 Needs worker (Read done headers) = (done < count_of worker.site) × AreReady worker headers
-    × (stage_in headers.opened.copies ≡ Begun)
+    × (stage_in headers.opened.copies ≡ Begun) × IsPartStart worker.site done
 Needs worker (Save done headers) = (done < count_of worker.site) × AreReady worker headers
-    × (stage_in headers.opened.copies ≡ Begun)
+    × (stage_in headers.opened.copies ≡ Begun) × IsPartStart worker.site done
 Needs worker (Keep headers) = (0 < count_of worker.site) × AreReady worker headers
     × (stage_in headers.opened.copies ≡ Begun)
 Needs worker (Open headers) = (0 < count_of worker.site) × AreReady worker headers
@@ -115,7 +121,7 @@ pub record IsWorking {C : Type 0} (sector : C → ℕ) (worker : Worker C) : Typ
   pub zone : IsNextZone worker.loaded worker.map worker.site
   pub fits : MapFits worker.map (all_atoms worker.loaded.valid.sizes)
   pub own : worker.site.own + count_of worker.site ≤ all_atoms worker.loaded.valid.sizes
-  pub store : worker.site.store + count_of worker.site ≤ all_atoms worker.loaded.valid.sizes
+  pub store : worker.site.store + saved_count worker.site ≤ all_atoms worker.loaded.valid.sizes
   pub room : bytes_at worker.site 0 ≤ length worker.buffer
   pub keys : KeysFit sector worker.keys worker.map.atom worker.map.blocks
   pub next : Needs worker worker.next
@@ -125,10 +131,25 @@ pub record FitsDisk {C : Type 0} (sector : C → ℕ) (worker : Worker C) (disk 
   pub known : IsAtom worker.site.atom
   pub size : worker.site.atom ≡ disk.size
   pub own : worker.site.own + count_of worker.site ≤ disk.atoms
-  pub store : worker.site.store + count_of worker.site ≤ disk.atoms
+  pub store : worker.site.store + saved_count worker.site ≤ disk.atoms
   pub room : bytes_at worker.site 0 ≤ length worker.buffer
   pub keys : KeysFit sector worker.keys worker.site.atom
       (worker.site.blocks.start + count_of worker.site)
+
+-- by checksum there is room for a part that is sealed anew, and for what is saved of it
+abbrev pub HasRoomBy : Guard → Site → Scratch → Type 0
+HasRoomBy guards.Journal site scratch = Unit {0}
+HasRoomBy guards.Checksum site scratch =
+    (bytes_at site 0 ≤ length scratch.sealed)
+    × (saved_len (part_at site 0) site.atom ≤ length scratch.digests)
+
+abbrev pub HasRoom : Site → Scratch → Type 0
+HasRoom site scratch = HasRoomBy site.guard site scratch
+
+-- as much as there was
+pub record IsAsLong (before after : Scratch) : Type 0 where
+  pub sealed : length after.sealed ≡ length before.sealed
+  pub digests : length after.digests ≡ length before.digests
 
 -- the blocks of the zone at hand, or of the next one; none where no old block is left
 abbrev pub range_in : {C : Type 0} → Worker C → Option BlockRange

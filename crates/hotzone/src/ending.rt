@@ -8,6 +8,7 @@ ghost use Rattle.hotzone.specs.Headings.{IsUnmade};
 ghost use Rattle.reenc_meta.specs.Placements.{all_atoms};
 ghost use Rattle.sector_disk.specs.Geometry.{IsDisk};
 
+use crate::headers::numbers_left;
 use crate::worker::{Ending, Wipes, ZoneFault};
 use base_terms::{Bytes, zeros};
 use json_members::Listed;
@@ -80,6 +81,8 @@ pub(crate) fn make_ending(alloc: Global, before: &Loaded) -> Result<Ending, Zone
     ensures unmade { IfErr result (IsUnmade before.now 1 (IsFinishing before.now)) }
 {
     before.is_stored();
+    // The header's number is at most 2^64 - 1, which is told by what is left.
+    let _left = numbers_left(before);
     let Some(reenc) = Reenc::of(before.valid()) else {
         unreachable!()
     };

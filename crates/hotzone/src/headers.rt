@@ -3,6 +3,7 @@
 ghost use Rattle.std.specs.Prelude.{◌≡◌, ◌<◌, ◌+◌, None, Some, IfErr, IfOk};
 ghost use Rattle.hotzone.specs.Headings.{AreMade, Follows, IsUnmade, Opens, Turns};
 ghost use Rattle.hotzone.specs.Headings.{IsOpening, IsToCome, IsTurning, MayOpenFrom, MayTurn};
+ghost use Rattle.luks_copies.specs.Steps.{last_seqid};
 ghost use Rattle.luks_rules.specs.Rules.{first_fault};
 ghost use Rattle.reenc_meta.specs.Placements.{all_atoms};
 ghost use Rattle.sector_disk.specs.Geometry.{IsDisk};
@@ -33,10 +34,17 @@ impl From<CommitError> for ZoneFault {
     fn from(error: CommitError) -> ZoneFault {
         match error {
             CommitError::Memory => ZoneFault::Memory,
-            CommitError::SeqEnd => ZoneFault::SeqEnd,
+            CommitError::SeqEnd => ZoneFault::SeqEnd { left: 0, wanted: 1 },
             CommitError::JsonFull { len, limit } => ZoneFault::JsonFull { length: len, limit },
         }
     }
+}
+
+/// How many numbers a header has left.
+pub(crate) fn numbers_left(before: &Loaded) -> u64
+    ensures { before.now.copies.used.header.seqid + result ≡ last_seqid }
+{
+    u64::MAX - before.header().seqid
 }
 
 /// The header with these metadata that follows one that was loaded.
@@ -48,6 +56,8 @@ fn follow(alloc: Global, before: &Loaded, meta: &Meta) -> Result<NextHeader, Zon
     ensures unmade { IfErr result (IsUnmade before.now 1 (λ text. text ≡ meta.now)) }
 {
     before.is_stored();
+    // The header's number is at most 2^64 - 1, which is told by what is left.
+    let _left = numbers_left(before);
     let commit = Commit::new(alloc, before, meta)?;
     commit.is_prepared();
     let loaded = commit.next(alloc)?;
@@ -89,6 +99,9 @@ pub fn turn_header(alloc: Global, middle: &Loaded, blocks: u64) -> Result<NextHe
     }
 }
 
+/// The commits of a zone.
+const COMMITS: u64 = 2;
+
 /// The headers of a zone of so many blocks behind one that was loaded.
 pub fn make_headers(alloc: Global, before: &Loaded, blocks: u64) -> Result<Headers, ZoneFault>
     requires disk { IsDisk before.now.valid.sizes.atom (all_atoms before.now.valid.sizes) }
@@ -96,6 +109,13 @@ pub fn make_headers(alloc: Global, before: &Loaded, blocks: u64) -> Result<Heade
     ensures made { IfOk result (AreMade before.now blocks) }
     ensures unmade { IfErr result (IsUnmade before.now 2 (IsToCome before.now blocks)) }
 {
+    let left = numbers_left(before);
+    if left < COMMITS {
+        return Err(ZoneFault::SeqEnd {
+            left,
+            wanted: COMMITS,
+        });
+    }
     let NextHeader { commit, loaded } = open_header(alloc, before, blocks)?;
     let moved = turn_header(alloc, &loaded, blocks)?;
     Ok(Headers {

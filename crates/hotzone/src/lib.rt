@@ -1,10 +1,11 @@
 //! A conversion on its way: one zone of a volume after the other is led from the old segment to the
 //! new one, while the volume is in use, one device call a step (LUKS2 On-Disk Format Specification
 //! 1.1, section 3.4). A zone is the run of old blocks beside the boundary for which what guards it
-//! has room. It is synced, its old atoms are read and saved, part by part of at most 1 MiB; a commit
-//! opens it; its atoms are written anew under the new segment's key; and a commit moves the
-//! boundary over it. Behind the last zone the finished metadata are committed, and the areas of
-//! dropped keyslots, but for the one that guarded zones, are filled with zeros.
+//! has room. It is synced, its old atoms are read, and they or their digests are saved, part by part
+//! of at most 1 MiB, where no digest is that of the new atom too; a commit opens it; its atoms are
+//! written anew under the new segment's key; and a commit moves the boundary over it. Behind the last
+//! zone the finished metadata are committed, and the areas of dropped keyslots, but for the one that
+//! guarded zones, are filled with zeros.
 //!
 //! The layer above may rely on [`Zone`]: [`Zone::range`] are the blocks that it must keep for the
 //! zone while its steps go on, and [`Zone::step`] makes exactly the device call that the state names,
@@ -15,11 +16,14 @@
 //! was given up may begin [`Zone::again`].
 #![tactic(auto)]
 
+mod digests;
 mod ending;
 mod finish;
 mod headers;
 mod laws;
 mod parts;
+mod saving;
+mod scratch;
 mod site;
 mod steps;
 mod worker;
@@ -28,6 +32,6 @@ mod zone;
 pub use headers::{make_headers, open_header, turn_header};
 pub use laws::steps_are_of_zones;
 pub use parts::reseal;
-pub use site::{Site, next_site};
+pub use site::{Guard, Site, next_site};
 pub use worker::{Ending, Halt, Headers, NextCall, NextHeader, Stepped, Wipes, Worker, ZoneFault};
 pub use zone::Zone;

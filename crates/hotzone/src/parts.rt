@@ -1,13 +1,15 @@
 // The parts of a zone: the device calls that read, save and write them.
 
 ghost use Rattle.std.specs.Prelude.{◌≡◌, ◌+◌, ◌*◌, ◌<◌, ◌≤◌, length, take};
-ghost use Rattle.hotzone.specs.Sites.{bytes_at, count_of};
+ghost use Rattle.hotzone.specs.Sites.{IsPartStart, bytes_at, count_of};
 ghost use Rattle.hotzone.specs.Steps.{ReadsPart, SavesPart, WritesPart, part_in, resealed};
-ghost use Rattle.hotzone.specs.Workers.{FitsDisk};
+ghost use Rattle.hotzone.specs.Workers.{FitsDisk, HasRoom, IsAsLong};
+ghost use Rattle.hotzone.specs.declared.site.Guard.TheVariants as guards;
 ghost use Rattle.sector_disk.specs.Geometry.{IsAtom};
 ghost use Rattle.volume_machine.specs.Seals.{KeysFit, seals_of};
 
-use crate::site::Site;
+use crate::scratch::Scratch;
+use crate::site::{Guard, Site};
 use crate::worker::Worker;
 use base_terms::{Buffer, Failed};
 use cipher_laws::SectorCipher;
@@ -116,8 +118,29 @@ impl<C: SectorCipher + Copy> Worker<C> {
         }
     }
 
-    /// Saves the part at hand: by journal as it is.
-    pub(crate) fn save_part<D: Disk>(&self, done: u64, disk: &mut D) -> Result<(), Failed>
+    /// Saves the part at hand, by what guards the zone.
+    pub(crate) fn save_part<D: Disk>(
+        &self,
+        scratch: &mut Scratch,
+        done: u64,
+        disk: &mut D,
+    ) -> Result<(), Failed>
+        requires fits { FitsDisk C.sector self.now (D.device disk.old) }
+        requires room { HasRoom self.now.site scratch.old }
+        requires within { done ≤ count_of self.now.site }
+        requires start { IsPartStart self.now.site done }
+        ensures call { SavesPart self.now done (D.device disk.old) (D.device disk.new) result }
+        ensures scratch { IsAsLong scratch.old scratch.new }
+    {
+        match self.site.guard {
+            Guard::Journal => self.save_atoms(done, disk),
+            Guard::Checksum => self.save_digests(&mut scratch.digests, done, disk),
+        }
+    }
+
+    /// By journal it is saved as it is.
+    fn save_atoms<D: Disk>(&self, done: u64, disk: &mut D) -> Result<(), Failed>
+        requires guard { self.now.site.guard ≡ guards.Journal }
         requires fits { FitsDisk C.sector self.now (D.device disk.old) }
         requires within { done ≤ count_of self.now.site }
         ensures { SavesPart self.now done (D.device disk.old) (D.device disk.new) result }

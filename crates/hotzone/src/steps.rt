@@ -1,22 +1,20 @@
 // The steps of a zone, one device call each.
 
 ghost use Rattle.std.specs.Prelude.{◌≡◌, ◌<◌, ◌≤◌, MatchBool};
-ghost use Rattle.hotzone.specs.Headings.{AreMade, MayOpenFrom};
 ghost use Rattle.hotzone.specs.Making.{GoesOn, IsZoneDone, Makes};
-ghost use Rattle.hotzone.specs.Steps.{HasMoved, after_open, after_save, after_write};
+ghost use Rattle.hotzone.specs.Steps.{HasMoved, after_open, after_write};
 ghost use Rattle.hotzone.specs.Workers.{IsNextZone, MayGoOn};
 ghost use Rattle.hotzone.specs.Workers.{FitsDisk, MayCommit, first_call};
 ghost use Rattle.hotzone.specs.Sites.{count_of};
-ghost use Rattle.hotzone.specs.declared.worker.NextCall.TheVariants.{Begin, ReadFirst, SaveFirst};
-ghost use Rattle.hotzone.specs.declared.worker.NextCall.TheVariants.{Read, Save, Keep, Open};
+ghost use Rattle.hotzone.specs.declared.worker.NextCall.TheVariants.{Begin, ReadFirst};
+ghost use Rattle.hotzone.specs.declared.worker.NextCall.TheVariants.{Read, Keep, Open};
 ghost use Rattle.hotzone.specs.declared.worker.NextCall.TheVariants.{ReadAgain, Write, Settle};
 ghost use Rattle.hotzone.specs.declared.worker.NextCall.TheVariants.{Move};
 ghost use Rattle.reenc_meta.specs.Placements.{all_atoms};
 ghost use Rattle.sector_disk.specs.Geometry.{IsDisk};
 ghost use Rattle.volume_machine.specs.Seals.{seals_of};
 
-use crate::headers::make_headers;
-use crate::site::{Site, next_site, room_of};
+use crate::site::{Site, guard_by, next_site, room_of};
 use crate::worker::{Halt, Headers, NextCall, NextHeader, Stepped, Worker, ZoneFault};
 use base_terms::Failed;
 use cipher_laws::SectorCipher;
@@ -35,22 +33,6 @@ pub(crate) fn begin_with(site: &Site) -> NextCall
         NextCall::Finish
     } else {
         NextCall::Begin
-    }
-}
-
-/// What comes behind a part that was saved.
-fn behind_save(site: &Site, done: u64, headers: Headers) -> NextCall
-    requires some { 0 < site.now.atom }
-    requires within { done ≤ count_of site.now }
-    ensures { result ≡ after_save site.now done headers }
-{
-    let blocks = site.blocks.len();
-    let part = site.part(done);
-    let done = done + part;
-    if done == blocks {
-        NextCall::Keep(headers)
-    } else {
-        NextCall::Read { done, headers }
     }
 }
 
@@ -97,7 +79,8 @@ pub(crate) fn lay_next(loaded: &Loaded) -> (Map, Site)
             let map = reenc.map();
             let conversion = &reenc.progress.conversion;
             let room = room_of(conversion, map.atom);
-            let site = next_site(&map, room, conversion.area.offset / map.atom as u64);
+            let store = conversion.area.offset / map.atom as u64;
+            let site = next_site(&map, room, store, guard_by(conversion.resilience));
             (map, site)
         }
         None => unreachable!(),
@@ -166,46 +149,6 @@ impl<C: SectorCipher + Copy + Sync> Worker<C> {
         }
     }
 
-    /// The headers are made, and the first part is saved.
-    pub(crate) fn save_first<D: Disk>(&self, alloc: Global, disk: &mut D) -> Made
-        requires fits { FitsDisk C.sector self.now (D.device disk.old) }
-        requires disk { IsDisk self.now.loaded.valid.sizes.atom
-            (all_atoms self.now.loaded.valid.sizes) }
-        requires may { MayOpenFrom self.now.loaded (count_of self.now.site) }
-        ensures { Makes (seals_of C.sealed C.opened self.now.site.atom self.now.keys)
-            (D.device disk.old) (D.device disk.new) self.now SaveFirst self.now result }
-    {
-        match make_headers(alloc, &self.loaded, self.site.blocks.len()) {
-            Ok(headers) => self.save_with(headers, disk),
-            Err(fault) => Made {
-                next: NextCall::SaveFirst,
-                answer: Err(Stop {
-                    fault,
-                    halt: Halt::GivenUp,
-                }),
-            },
-        }
-    }
-
-    /// The first part is saved.
-    fn save_with<D: Disk>(&self, headers: Headers, disk: &mut D) -> Made
-        requires fits { FitsDisk C.sector self.now (D.device disk.old) }
-        requires made { AreMade self.now.loaded (count_of self.now.site) headers }
-        ensures { Makes (seals_of C.sealed C.opened self.now.site.atom self.now.keys)
-            (D.device disk.old) (D.device disk.new) self.now SaveFirst self.now result }
-    {
-        match self.save_part(0, disk) {
-            Ok(()) => Made {
-                next: behind_save(&self.site, 0, headers),
-                answer: Ok(Stepped::Went),
-            },
-            Err(Failed) => Made {
-                next: NextCall::SaveFirst,
-                answer: FAILED,
-            },
-        }
-    }
-
     /// A further part of the old atoms is read.
     pub(crate) fn read<D: Disk>(
         &mut self,
@@ -227,25 +170,6 @@ impl<C: SectorCipher + Copy + Sync> Worker<C> {
             Err(Failed) => Made {
                 next: NextCall::Read { done, headers },
                 answer: MISSED,
-            },
-        }
-    }
-
-    /// It is saved.
-    pub(crate) fn save<D: Disk>(&self, done: u64, headers: Headers, disk: &mut D) -> Made
-        requires within { done < count_of self.now.site }
-        requires fits { FitsDisk C.sector self.now (D.device disk.old) }
-        ensures { Makes (seals_of C.sealed C.opened self.now.site.atom self.now.keys)
-            (D.device disk.old) (D.device disk.new) self.now (Save done headers) self.now result }
-    {
-        match self.save_part(done, disk) {
-            Ok(()) => Made {
-                next: behind_save(&self.site, done, headers),
-                answer: Ok(Stepped::Went),
-            },
-            Err(Failed) => Made {
-                next: NextCall::Save { done, headers },
-                answer: FAILED,
             },
         }
     }

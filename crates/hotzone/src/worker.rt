@@ -25,12 +25,14 @@ pub enum Stepped {
 pub enum ZoneFault {
     /// The device call failed.
     Device,
-    /// The old and the new atom of this block have this digest both, so that it doesn't tell them.
+    /// The old and the new atom of this block of the volume have this digest both, so that it
+    /// doesn't tell them; of no lower block of the part that was to be saved they have the same one.
     DigestClash { block: u64, digest: [u8; 32] },
-    /// The header has fewer numbers left than there are commits to come in the zone, or in the
-    /// finish.
-    SeqEnd,
-    /// The text of a header to come has so many bytes, and its area room for so many.
+    /// The header has so many numbers left, and the zone, or the finish, takes so many more, one a
+    /// commit.
+    SeqEnd { left: u64, wanted: u64 },
+    /// There are enough numbers; but the text of a header to come has so many bytes, and its area
+    /// room for so many.
     JsonFull { length: u64, limit: u64 },
     /// There is no memory.
     Memory,
@@ -87,11 +89,11 @@ pub enum NextCall {
     Begin,
     /// The first part of the old atoms is read.
     ReadFirst,
-    /// It is saved; before that the headers are made.
+    /// It is saved; before that its digests are compared, and the headers are made.
     SaveFirst,
     /// A further part of the old atoms is read.
     Read { done: u64, headers: Headers },
-    /// It is saved.
+    /// It is saved; before that its digests are compared.
     Save { done: u64, headers: Headers },
     /// A sync, behind which all is saved for certain.
     Keep(Headers),

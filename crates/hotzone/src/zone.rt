@@ -3,8 +3,8 @@
 ghost use Rattle.std.specs.Prelude.{◌≡◌, ◌↔◌, length, IfOk, IsTrue, None, Some};
 ghost use Rattle.cipher_laws.specs.Bytes.{AreBytes};
 ghost use Rattle.hotzone.specs.Steps.{Steps};
-ghost use Rattle.hotzone.specs.Workers.{HasKeys, IsDone, IsNew, IsWorking, MapsFit, MayGoOn};
-ghost use Rattle.hotzone.specs.Workers.{IsMapNow, first_call, range_in};
+ghost use Rattle.hotzone.specs.Workers.{HasKeys, HasRoom, IsAsLong, IsDone, IsNew, IsWorking};
+ghost use Rattle.hotzone.specs.Workers.{IsMapNow, MapsFit, MayGoOn, first_call, range_in};
 ghost use Rattle.hotzone.specs.declared.worker.Halt.TheVariants.{GivenUp};
 ghost use Rattle.hotzone.specs.declared.worker.Stepped.TheVariants.{AllDone};
 ghost use Rattle.joined_disk.specs.Counts.{HasSizes};
@@ -14,6 +14,7 @@ ghost use Rattle.reenc_meta.specs.Placements.{all_atoms};
 ghost use Rattle.sector_disk.specs.Geometry.{IsDisk};
 ghost use Rattle.volume_machine.specs.Seals.{seals_of};
 
+use crate::scratch::{Scratch, new_scratch};
 use crate::steps::{Made, Stop, begin_with, lay_next};
 use crate::worker::{Halt, NextCall, Stepped, Worker, ZoneFault};
 use base_terms::{Buffer, bytes_are_below_256, zeros};
@@ -32,10 +33,11 @@ use volume_machine::Keys;
 #[derive(Drop)]
 pub struct Zone<C: SectorCipher + Copy> {
     worker: Worker<C>,
+    scratch: Scratch,
 }
 
 impl<C: SectorCipher + Copy> Model for Zone<C> {
-    ghost use Rattle.hotzone.specs.Workers.{IsWorking};
+    ghost use Rattle.hotzone.specs.Workers.{HasRoom, IsWorking};
     ghost use Rattle.hotzone.specs.declared.worker.Worker.{Worker as worker_type};
     ghost use Rattle.luks_store.specs.contracts.commit.Prepared as prepared_type;
     ghost use Rattle.luks_store.specs.contracts.loaded.Stored as stored_type;
@@ -47,7 +49,8 @@ impl<C: SectorCipher + Copy> Model for Zone<C> {
 
     ghost view = { λ zone. zone.worker };
 
-    ghost invariant = { λ zone. IsWorking C.sector zone.worker };
+    ghost invariant = { λ zone. IsWorking C.sector zone.worker
+        × HasRoom zone.worker.site zone.scratch };
 }
 
 /// A worker that begins with a header, with the buffer of a part.
@@ -80,8 +83,9 @@ fn new_worker<C: SectorCipher + Copy>(
 }
 
 impl<C: SectorCipher + Copy> Zone<C> {
-    /// A conversion that goes on behind a header by which no zone is open, guarded by a journal. It
-    /// takes the buffer of a part. The keys fit the blocks of both sides; that they are the keys of
+    /// A conversion that goes on behind a header by which no zone is open, guarded by a journal or by
+    /// checksum. It takes the buffer of a part; by checksum also those of a part sealed anew and of
+    /// its digests. The keys fit the blocks of both sides; that they are the keys of
     /// these segments is for the caller to know, since each step opens and seals by them. So it is
     /// with the disk: before the first step both copies on it hold this header, each atom of theirs
     /// for certain, and between steps nobody else writes what they write. Where there is no memory
@@ -94,7 +98,10 @@ impl<C: SectorCipher + Copy> Zone<C> {
         ensures { IfOk result (λ zone. IsNew loaded keys zone) }
     {
         match new_worker(alloc, loaded, keys) {
-            Ok(worker) => Ok(Zone { worker }),
+            Ok(worker) => match new_scratch(alloc, &worker.site) {
+                Ok(scratch) => Ok(Zone { worker, scratch }),
+                Err(AllocError) => Err(AllocError),
+            },
             Err(AllocError) => Err(AllocError),
         }
     }
@@ -207,8 +214,9 @@ impl<C: SectorCipher + Copy + Sync> Zone<C> {
     ///
     /// # Errors
     ///
-    /// The device call failed; or, before the first write of a zone or of the finish, its headers
-    /// can't be made, and no call was made. The state keeps the call, and says how it was left; no
+    /// The device call failed; or, before a part is saved, a block of it has an old atom and a new
+    /// one of the same digest; or, before the first write of a zone or of the finish, its headers
+    /// can't be made. Of the latter two no call was made. The state keeps the call, and says how it was left; no
     /// step may follow, unless it is given up and begins [`Zone::again`].
     pub fn step<R: Threads + Sync, D: Disk>(
         &mut self,
@@ -225,7 +233,7 @@ impl<C: SectorCipher + Copy + Sync> Zone<C> {
         ensures went { IfOk result (λ _. self.new.halted ≡ None) }
         ensures over { IfOk result (λ stepped. (stepped ≡ AllDone) ↔ IsDone self.new.next) }
     {
-        self.worker.advance(rt, alloc, disk)
+        self.worker.advance(rt, alloc, &mut self.scratch, disk)
     }
 }
 
@@ -238,18 +246,22 @@ impl<C: SectorCipher + Copy + Sync> Worker<C> {
         &mut self,
         rt: &R,
         alloc: Global,
+        scratch: &mut Scratch,
         disk: &mut D,
     ) -> Result<Stepped, ZoneFault>
         requires working { IsWorking C.sector self.old }
+        requires room { HasRoom self.old.site scratch.old }
         requires runs { self.old.halted ≡ None }
         requires next { IsDone self.old.next → ⊥ }
         requires sizes { HasSizes self.old.loaded.valid.sizes (D.device disk.old) }
-        ensures { HasStepped C.sector (seals_of C.sealed C.opened self.old.site.atom self.old.keys)
-            (D.device disk.old) (D.device disk.new) self.old self.new result }
+        ensures stepped { HasStepped C.sector
+            (seals_of C.sealed C.opened self.old.site.atom self.old.keys) (D.device disk.old)
+            (D.device disk.new) self.old self.new result }
+        ensures room { HasRoom self.new.site scratch.new }
     {
         self.loaded.valid().is_sound();
         let call = self.take_next();
-        let Made { next, answer } = self.make(rt, call, alloc, disk);
+        let Made { next, answer } = self.make(rt, call, alloc, scratch, disk);
         self.put_answer(next, answer)
     }
 
@@ -292,18 +304,21 @@ impl<C: SectorCipher + Copy + Sync> Worker<C> {
         rt: &R,
         call: NextCall,
         alloc: Global,
+        scratch: &mut Scratch,
         disk: &mut D,
     ) -> Made
         requires may { MayMake C.sector self.old (D.device disk.old) call }
-        ensures { Makes (seals_of C.sealed C.opened self.old.site.atom self.old.keys)
+        requires room { HasRoom self.old.site scratch.old }
+        ensures makes { Makes (seals_of C.sealed C.opened self.old.site.atom self.old.keys)
             (D.device disk.old) (D.device disk.new) self.old call self.new result }
+        ensures scratch { IsAsLong scratch.old scratch.new }
     {
         match call {
             NextCall::Begin => self.begin(disk),
             NextCall::ReadFirst => self.read_first(alloc, disk),
-            NextCall::SaveFirst => self.save_first(alloc, disk),
+            NextCall::SaveFirst => self.save_first(rt, alloc, scratch, disk),
             NextCall::Read { done, headers } => self.read(alloc, done, headers, disk),
-            NextCall::Save { done, headers } => self.save(done, headers, disk),
+            NextCall::Save { done, headers } => self.save(rt, scratch, done, headers, disk),
             NextCall::Keep(headers) => self.keep(headers, disk),
             NextCall::Open(headers) => self.open(headers, disk),
             NextCall::ReadAgain { done, headers } => self.read_again(alloc, done, headers, disk),

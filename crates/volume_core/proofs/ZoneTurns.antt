@@ -9,7 +9,8 @@ use Rattle.hotzone.specs.Steps.{Goes, IsHalted, IsStopped, Stops, after_open, af
 use Rattle.hotzone.specs.Steps.{begins, ends, finishes, finishes_on, finished, keeps, moves, opened}
 use Rattle.hotzone.specs.Steps.{opens, reads, reads_again, reads_first, rests, saves, saves_first}
 use Rattle.hotzone.specs.Steps.{settles, wipes, writes}
-use Rattle.hotzone.specs.Steps.{begin_fails, end_fails, finish_fails, finish_refuses, keep_fails}
+use Rattle.hotzone.specs.Steps.{begin_fails, clashes, clashes_first, end_fails, finish_fails}
+use Rattle.hotzone.specs.Steps.{finish_refuses, keep_fails}
 use Rattle.hotzone.specs.Steps.{move_fails, open_fails, read_again_fails, read_fails}
 use Rattle.hotzone.specs.Steps.{read_first_fails, refuses, rest_fails, save_fails, save_first_fails}
 use Rattle.hotzone.specs.Steps.{settle_fails, wipe_fails, write_fails}
@@ -117,11 +118,11 @@ module _ {C : Type 0} (before after : Worker C) where
       hand-by _ ReadFirst (ap (λ (v : Worker C). v.next) is) tt
   comes seals old new _ (reads_first from call is) =
       hand-by _ SaveFirst (ap (λ (v : Worker C). v.next) is.is) tt
-  comes seals old new _ (saves_first from call headers are begun is) =
+  comes seals old new _ (saves_first from tells call headers are begun is) =
       hand-by _ _ (ap (λ (v : Worker C). v.next) is) (hand-save before.site 0 headers)
   comes seals old new _ (reads done headers from call is) =
       hand-by _ (Save done headers) (ap (λ (v : Worker C). v.next) is.is) tt
-  comes seals old new _ (saves done headers from call is) =
+  comes seals old new _ (saves done headers from tells call is) =
       hand-by _ _ (ap (λ (v : Worker C). v.next) is) (hand-save before.site done headers)
   comes seals old new _ (keeps headers from call is) =
       hand-by _ (Open headers) (ap (λ (v : Worker C). v.next) is) tt
@@ -216,7 +217,13 @@ module _ {C : Type 0} (before after : Worker C) (old new : Device)
 
   pub halting : (seals : Seals) (fault : ZoneFault) → Stops seals old new before after fault
       → Halting before after old new
-  halting seals _ (refuses fault from made same is) = by-halted SaveFirst _ is tt tt (λ e. absurd (cc))
+  halting seals _ (clashes_first _ _ from clash same is) =
+      by-halted SaveFirst _ is tt tt (λ e. absurd (cc))
+  halting seals _ (clashes done headers _ _ from clash same is) =
+      by-halted (Save done headers) _ is tt (subst (IsLater before.site) from later)
+      (λ e. absurd (cc))
+  halting seals _ (refuses fault from tells made same is) =
+      by-halted SaveFirst _ is tt tt (λ e. absurd (cc))
   halting seals _ (begin_fails from call is) = record {
     halt = _;
     halted_is = ap (λ (v : Worker C). v.halted) is.is;
@@ -228,11 +235,11 @@ module _ {C : Type 0} (before after : Worker C) (old new : Device)
         (let e : Begin ≡ Finish = sym (ap (λ (v : Worker C). v.next) is.is) ∙ finish in cc);
   }
   halting seals _ (read_first_fails from call is) = by-stopped ReadFirst _ is tt tt (λ e. absurd (cc))
-  halting seals _ (save_first_fails from call is) = by-halted SaveFirst _ is tt tt (λ e. absurd (cc))
+  halting seals _ (save_first_fails from tells call is) = by-halted SaveFirst _ is tt tt (λ e. absurd (cc))
   halting seals _ (read_fails done headers from call is) =
       by-stopped (Read done headers) _ is tt (subst (IsLater before.site) from later)
       (λ e. absurd (cc))
-  halting seals _ (save_fails done headers from call is) =
+  halting seals _ (save_fails done headers from tells call is) =
       by-halted (Save done headers) _ is tt (subst (IsLater before.site) from later)
       (λ e. absurd (cc))
   halting seals _ (keep_fails headers from call is) =

@@ -53,11 +53,11 @@ pub(crate) enum Turn {
 }
 
 impl<D: Disk, C: SectorCipher + Copy> Volume<D, C> {
-    /// Takes what the conversion of the volume needs, which is under way by its header: the buffer
-    /// of a zone's part. No zone of it is open, it is guarded by a journal, and the header's map is
-    /// the volume's. What is promised of its steps asks besides that both copies on the disk hold
-    /// this header, and that the volume's keys are those of its segments. Where there is no memory
-    /// the volume is as it was, and the header is gone.
+    /// Takes what the conversion of the volume needs, which is under way by its header: the buffers
+    /// of a zone's part. No zone of it is open, it is guarded by a journal or by checksum, and the
+    /// header's map is the volume's. What is promised of its steps asks besides that both copies on
+    /// the disk hold this header, and that the volume's keys are those of its segments. Where there
+    /// is no memory the volume is as it was, and the header is gone.
     pub fn arm(&mut self, alloc: Global, loaded: Loaded) -> Result<(), AllocError>
         requires unarmed { self.old.work ≡ None }
         requires unbroken { self.old.broken ≡ false }

@@ -28,6 +28,7 @@ use Rattle.luks_rules.specs.declared.areas.Area.{Area}
 use Rattle.luks_rules.specs.declared.extents.Extent.{Extent}
 use Rattle.luks_rules.specs.declared.idle.Idle.{Idle}
 use Rattle.luks_rules.specs.declared.shape.Progress.{Progress}
+use Rattle.luks_store.proofs.StoredLemmas.{rules-kept}
 use Rattle.luks_store.specs.Loads.{IsStored}
 use Rattle.luks_store.specs.declared.loaded.Stored.{Stored}
 use Rattle.reenc_meta.specs.Finishes.{IsFinished, IsNewVolume}
@@ -316,7 +317,7 @@ module _ {C K : Type 0} (sector : C → ℕ) (layout : Layout) (w : Worker C) (o
       sealing = seals-stay w.loaded.valid.sizes p w.loaded.valid.meta are.meta finished volume.0
           volume.2 converted.0 converted.1 whole (meaning_of w.loaded.copies.used.bytes)
           (header_by ending.commit).means (stored-parts w.loaded stored) final-parts
-          working.zone.is.known nothing volume.1;
+          working.zone.is.known nothing volume.1 (rules-kept w.loaded stored);
       dropped = drops;
       spare = spares;
     }

@@ -6,8 +6,8 @@ use Rattle.std.proofs.lemmas.Bool.{and_parts, eqb-true}
 use Rattle.std.proofs.lemmas.List.Elements.{All-contains, All-from_recursion, recursion_from_All}
 use Rattle.std.proofs.lemmas.List.Folds.{list_any-append}
 use Rattle.std.proofs.lemmas.Nat.{div-add-mod'}
-use Rattle.std.specs.Prelude.{Contains, ◌↔◌, ◌||◌, ◌==◌, ◌&&◌, option_and_then}
-use Rattle.std.specs.List.{All, AllByRecursion, cons_option, filter, find}
+use Rattle.std.specs.Prelude.{Contains, ◌↔◌, ◌||◌, ◌==◌, ◌&&◌, option_and_then, option_map}
+use Rattle.std.specs.List.{All, AllByRecursion, cons_option, filter, find, list_any}
 use Rattle.disk_areas.specs.Areas.{Area as DiskArea}
 use Rattle.disk_sizes.specs.declared.Sizes.{Sizes}
 use Rattle.hotzone.specs.Endings.{is_left, wiped}
@@ -17,7 +17,8 @@ use Rattle.luks_json.specs.declared.meta.Parts.{Parts}
 use Rattle.luks_rules.specs.Areas.{area_of, areas_of}
 use Rattle.luks_rules.specs.Idles.{idle_of}
 use Rattle.luks_rules.specs.Plans.{same_digest}
-use Rattle.luks_rules.specs.References.{value_at}
+use Rattle.luks_rules.specs.References.{lists, value_at}
+use Rattle.luks_rules.specs.Rules.{first_fault}
 use Rattle.luks_rules.specs.Shapes.{have_two_digests, progress_of}
 use Rattle.luks_rules.specs.States.{IsConverting}
 use Rattle.luks_rules.specs.declared.areas.Area.{Area}
@@ -25,15 +26,16 @@ use Rattle.luks_rules.specs.declared.extents.Extent.{Extent}
 use Rattle.luks_rules.specs.declared.idle.Idle.{Idle}
 use Rattle.luks_rules.specs.declared.shape.Progress.{Progress}
 use Rattle.reenc_meta.specs.Finishes.{IsFinished, IsNewVolume, finished, finished_digest, is_dropped}
-use Rattle.reenc_meta.specs.Finishes.{is_old_digest}
+use Rattle.reenc_meta.specs.Finishes.{is_old_digest, old_lists, other_lists}
 use Rattle.segment_map.specs.declared.Side.TheVariants.{New}
 use Rattle.zone_events.proofs.GroundLemmas.{IsKept}
 use Rattle.zone_events.proofs.MemberLemmas.{from-filtered, from-mapped, has-filtered, has-mapped}
 use Rattle.zone_events.proofs.MemberLemmas.{left-from, left-to, same-area}
-use Rattle.zone_events.proofs.TellLemmas.{key-mapped, keyslots-told, sealed-same}
+use Rattle.zone_events.proofs.TellLemmas.{key-mapped, keyslots-told, same-alone, same-code}
 use Rattle.zone_events.proofs.TellLemmas.{sealing-told}
 use Rattle.zone_events.specs.Readings.{keyslots_in, parts_in, sealing_in}
-use Rattle.zone_events.specs.Tellings.{area_on, key_text, sealing_by}
+use Rattle.zone_events.specs.Tellings.{area_on, digest_on, for_one, is_listed, sealing_by}
+use Rattle.zone_events.specs.Tellings.{side_alone}
 
 -- ---- a digest that stays is found where others go
 value-filtered : (keep : ℕ × Digest → Bool) (n : ℕ)
@@ -57,16 +59,69 @@ value-filtered keep n pass (d ∷ ds) =
 
 key-filtered : (keep : ℕ × Digest → Bool) (ds : List (ℕ × Digest)) (o : Option ℕ)
     → ((n : ℕ) → o ≡ Some n → (d : ℕ × Digest) → eqb d.0 n ≡ true → keep d ≡ true)
-    → key_text (option_and_then (value_at (filter keep ds)) o)
-    ≡ key_text (option_and_then (value_at ds) o)
+    → option_map for_one (option_and_then (value_at (filter keep ds)) o)
+    ≡ option_map for_one (option_and_then (value_at ds) o)
 key-filtered keep ds None pass = refl
 key-filtered keep ds (Some n) pass =
-    ap (λ (found : Option (ℕ × Digest)). key_text (value-of found))
+    ap (λ (found : Option (ℕ × Digest)). option_map for_one (value-of found))
     (value-filtered keep n (pass n refl) ds)
   where
     value-of : Option (ℕ × Digest) → Option Digest
     value-of None = None
     value-of (Some e) = Some e.1
+
+-- ---- a digest that is found is one of them
+found-any : (test : ℕ × Digest → Bool) (n : ℕ) (d : Digest) (ds : List (ℕ × Digest))
+    → value_at ds n ≡ Some d → ((k : ℕ) → eqb k n ≡ true → test (k, d) ≡ true)
+    → list_any test ds ≡ true
+found-any test n d [] there pass = absurd cc
+found-any test n d (e ∷ ds) there pass = go (eqb e.0 n) refl there (found-any test n d ds)
+  where
+    or_right : (a b : Bool) → b ≡ true → a || b ≡ true
+    or_right true b is = refl
+    or_right false b is = is
+
+    go : (b : Bool) → eqb e.0 n ≡ b
+        → option_map (λ (e : ℕ × Digest). e.1)
+        (cond b (Some e) (find (λ (e : ℕ × Digest). eqb e.0 n) ds)) ≡ Some d
+        → (value_at ds n ≡ Some d → ((k : ℕ) → eqb k n ≡ true → test (k, d) ≡ true)
+        → list_any test ds ≡ true) → test e || list_any test ds ≡ true
+    go true is at later =
+        let same : e.1 ≡ d = cc in
+        ap (λ b. b || list_any test ds)
+        (ap (λ x. test (e.0, x)) same ∙ pass e.0 is)
+    go false is at later = or_right (test e) (list_any test ds) (later at pass)
+
+found-each : (P : ℕ × Digest → Type 0) (n : ℕ) (d : Digest) (ds : List (ℕ × Digest))
+    → AllByRecursion P ds → value_at ds n ≡ Some d → (k : ℕ) × P (k, d)
+found-each P n d [] all there = absurd cc
+found-each P n d (e ∷ ds) all there =
+    go (eqb e.0 n) there (λ at. found-each P n d ds all.1 at)
+  where
+    go : (b : Bool)
+        → option_map (λ (e : ℕ × Digest). e.1)
+        (cond b (Some e) (find (λ (e : ℕ × Digest). eqb e.0 n) ds)) ≡ Some d
+        → (value_at ds n ≡ Some d → (k : ℕ) × P (k, d)) → (k : ℕ) × P (k, d)
+    go true at later = let same : e.1 ≡ d = cc in (e.0, subst (λ x. P (e.0, x)) same all.0)
+    go false at later = later at
+
+-- keyslots that pass stay where others go
+slots-filtered : (keep stay : ℕ × Keyslot → Bool) (slots : List (ℕ × Keyslot))
+    → ((slot : ℕ × Keyslot) → keep slot ≡ true → stay slot ≡ true)
+    → filter keep (filter stay slots) ≡ filter keep slots
+slots-filtered keep stay [] pass = refl
+slots-filtered keep stay (s ∷ slots) pass =
+    go (stay s) refl (keep s) refl (slots-filtered keep stay slots pass)
+  where
+    go : (b : Bool) → stay s ≡ b → (k : Bool) → keep s ≡ k
+        → filter keep (filter stay slots) ≡ filter keep slots
+        → filter keep (cond b (s ∷ filter stay slots) (filter stay slots))
+        ≡ cond k (s ∷ filter keep slots) (filter keep slots)
+    go true stays k is later =
+        ap (λ b. cond b (s ∷ filter keep (filter stay slots)) (filter keep (filter stay slots))) is
+        ∙ ap (λ l. cond k (s ∷ l) l) later
+    go false goes true is later = let bad : false ≡ true = sym goes ∙ pass s is in cc
+    go false goes false is later = later
 
 -- the old digest isn't the new one
 two-digests : (old new : Option ℕ) (n k : ℕ) → have_two_digests old new ≡ true → new ≡ Some n
@@ -225,25 +280,82 @@ module _ (sizes : Sizes) (p : Progress) (m next : Parts) (done : IsFinished m si
   digests-two : have_two_digests p.old.digest p.new.digest ≡ true
   digests-two = (and_parts _ (have_two_digests p.old.digest p.new.digest) busy.state.wholes).1
 
-  key-stays : key_text (option_and_then (value_at next.digests) p.new.digest)
-      ≡ key_text (option_and_then (value_at m.digests) p.new.digest)
+  key-stays : option_map for_one (option_and_then (value_at next.digests) p.new.digest)
+      ≡ option_map for_one (option_and_then (value_at m.digests) p.new.digest)
   key-stays =
-      ap (λ ds. key_text (option_and_then (value_at ds) p.new.digest)) digests-are
+      ap (λ ds. option_map for_one (option_and_then (value_at ds) p.new.digest)) digests-are
       ∙ key-mapped (finished_digest p) (λ d. (refl, refl))
       (filter (λ d. not (is_old_digest p d)) m.digests) p.new.digest
       ∙ key-filtered (λ d. not (is_old_digest p d)) m.digests p.new.digest
       (λ n is d same.
       two-digests p.old.digest p.new.digest n d.0 digests-two is (eqb-true d.0 n same))
 
-  pub seals-stay : sealing_in sizes to New ≡ sealing_in sizes from New
-  seals-stay =
-      sealing-told sizes to next None two none New
+  -- a keyslot that the new digest lists isn't dropped
+  undropped : (n k : ℕ) (d : Digest) → p.new.digest ≡ Some k → value_at m.digests k ≡ Some d
+      → lists d.keyslots n ≡ true → not (is_dropped p m.digests n) ≡ true
+  unfolding is_dropped
+  undropped n k d number there listed = go (eqb n p.conversion.keyslot) refl
+    where
+      both_true : (a b : Bool) → a ≡ true → b ≡ true → a && b ≡ true
+      both_true true b one two = two
+      both_true false b one two = one
+
+      other : other_lists p m.digests n ≡ true
+      other = found-any (λ e. not (is_old_digest p e) && lists e.1.keyslots n) k d m.digests there
+          (λ j same. both_true (not (is_old_digest p (j, d))) (lists d.keyslots n)
+          (two-digests p.old.digest p.new.digest k j digests-two number (eqb-true j k same)) listed)
+
+      spared : (a b : Bool) → b ≡ true → not (false || (a && not b)) ≡ true
+      spared true b is = ap (λ c. not (not c)) is
+      spared false b is = refl
+
+      go : (b : Bool) → eqb n p.conversion.keyslot ≡ b
+          → not (b || (old_lists p m.digests n && not (other_lists p m.digests n))) ≡ true
+      go true is =
+          let (j, unlisted) = found-each
+          (λ (e : ℕ × Digest). lists e.1.keyslots p.conversion.keyslot ≡ false) k d m.digests
+          (recursion_from_All _ m.digests busy.alone) there in
+          let both : false ≡ true =
+          sym unlisted ∙ ap (λ i. lists d.keyslots i) (sym (eqb-true n p.conversion.keyslot is))
+          ∙ listed in cc
+      go false is = spared (old_lists p m.digests n) (other_lists p m.digests n) other
+
+  listed-stays : (o : Option ℕ) → p.new.digest ≡ o → (slot : ℕ × Keyslot)
+      → is_listed (option_map for_one (option_and_then (value_at m.digests) o)) slot.0 ≡ true
+      → not (is_dropped p m.digests slot.0) ≡ true
+  listed-stays None number slot listed = let bad : false ≡ true = listed in cc
+  listed-stays (Some k) number slot listed = go (value_at m.digests k) refl listed
+    where
+      go : (o : Option Digest) → value_at m.digests k ≡ o
+          → is_listed (option_map for_one o) slot.0 ≡ true
+          → not (is_dropped p m.digests slot.0) ≡ true
+      go None there h = let bad : false ≡ true = h in cc
+      go (Some d) there h = undropped slot.0 k d number there h
+
+  slots-stay : filter (λ slot. is_listed (digest_on m p.new) slot.0) next.keyslots
+      ≡ filter (λ slot. is_listed (digest_on m p.new) slot.0) m.keyslots
+  slots-stay =
+      ap (λ (slots : List (ℕ × Keyslot)). filter (λ slot. is_listed (digest_on m p.new) slot.0)
+      slots) keyslots-are
+      ∙ slots-filtered (λ slot. is_listed (digest_on m p.new) slot.0)
+      (λ (slot : ℕ × Keyslot). not (is_dropped p m.digests slot.0)) m.keyslots
+      (λ slot listed. listed-stays p.new.digest refl slot listed)
+
+  side-stays : side_alone next v.segment ≡ side_alone m p.new
+  side-stays =
+      same-alone next m v.segment p.new (ap (λ (e : Extent). e.offset) volume.segment)
+      (ap (λ (e : Extent). e.encryption) volume.segment)
+      (ap (λ (e : Extent). e.digest) volume.segment)
+      (ap (λ (e : Extent). option_map for_one (option_and_then (value_at next.digests) e.digest))
+      volume.segment ∙ key-stays)
+      slots-stay
+
+  pub seals-stay : first_fault m sizes ≡ None → sealing_in sizes to New ≡ sealing_in sizes from New
+  seals-stay valid =
+      sealing-told sizes to next None two none done.valid New
       ∙ ap (λ o. sealing_by next None o New) idle
-      ∙ sealed-same next m v.segment p.new (ap (λ (e : Extent). e.encryption) volume.segment)
-      (ap (λ (e : Extent). key_text (option_and_then (value_at next.digests) e.digest))
-      volume.segment
-      ∙ key-stays)
-      ∙ sym (sealing-told sizes from m (Some p) one known New)
+      ∙ same-code next m v.segment p.new side-stays
+      ∙ sym (sealing-told sizes from m (Some p) one known valid New)
 
   pub areas-drop : (area : DiskArea)
       → Contains (map (λ a. area_on sizes.atom a)

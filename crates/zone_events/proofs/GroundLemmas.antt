@@ -1,6 +1,6 @@
 -- The ground that a zone stands on, by a header that breaks no rule: the copies of the header, then
 -- the keyslots' areas, then the blocks of the volume, each where it was.
-use Rattle.std.proofs.Common.{◌≡◌, ◌∙◌, ℕ, ◌+◌, ◌*◌, ◌/◌, ◌%◌, ◌≤◌}
+use Rattle.std.proofs.Common.{◌≡◌, ◌∙◌, ℕ, ◌+◌, ◌*◌, ◌/◌, ◌%◌, ◌<◌, ◌≤◌, ◌==◌}
 use Rattle.std.proofs.Common.{min, Bool, true, false, List, [], Option, Some, None}
 use Rattle.std.proofs.Common.{refl, sym, ap, subst, arith, cond}
 use Rattle.std.proofs.Math.Nat.{le_of_mul-le-mul_right, mul-le-mul_right}
@@ -9,9 +9,12 @@ use Rattle.std.proofs.lemmas.Nat.{div-add-mod'}
 use Rattle.std.specs.List.{All}
 use Rattle.std.specs.Option.{option_and_then}
 use Rattle.disk_sizes.specs.declared.Sizes.{Sizes}
+use Rattle.hotzone.proofs.GuardLemmas.{saved-fits}
 use Rattle.hotzone.proofs.SiteLemmas.{area-kept, site-count, site-within}
-use Rattle.hotzone.specs.Sites.{IsByJournal, count_of, site_by, start_by}
+use Rattle.hotzone.specs.Sites.{IsSaved, count_of, guard_of, kind_of, saved_count, site_by}
+use Rattle.hotzone.specs.Sites.{start_by}
 use Rattle.hotzone.specs.Workers.{IsNextZone}
+use Rattle.hotzone.specs.declared.site.Guard.{Guard}
 use Rattle.hotzone.specs.declared.site.Site.{Site}
 use Rattle.luks_json.specs.declared.meta.Parts.{Parts}
 use Rattle.luks_json.specs.declared.reencrypt.Resilience.{Resilience}
@@ -35,6 +38,7 @@ use Rattle.reenc_meta.specs.ConversionMaps.{IsMapAt}
 use Rattle.reenc_meta.specs.Placements.{base_of, place_of}
 use Rattle.segment_map.specs.Sides.{left_of}
 use Rattle.segment_map.specs.declared.map.Map.{Map}
+use Rattle.volume_machine.specs.Saved.{saved_atoms}
 
 -- ---- a conversion that is read
 pub busy-of : (m : Parts) (sizes : Sizes) (p : Progress) → progress_of m sizes ≡ Some p
@@ -54,7 +58,7 @@ one-progress m sizes p q one other = go (sym one ∙ other)
     go : ◌≡◌ {A = Option Progress} (Some p) (Some q) → p ≡ q
     go h = cc
 
-converting : (m : Parts) (sizes : Sizes) (p : Progress) → IsSound m sizes
+pub converting : (m : Parts) (sizes : Sizes) (p : Progress) → IsSound m sizes
     → progress_of m sizes ≡ Some p → (live : List Extent) × IsConverting m sizes p live
 converting m sizes p sound known =
     let here = (sound.busy (busy-of m sizes p known)).1 in (
@@ -72,17 +76,20 @@ place-of atom c old new is =
     let three = and_parts _ (has_own_digest old.encryption old.digest) two.0 in
     (and_parts _ (fits_place atom c.resilience old.offset new.offset) three.0).1
 
-by-journal : (r : Resilience) (atom old new : ℕ) → IsByJournal r
+same-offset : (r : Resilience) (atom old new : ℕ) → IsSaved r
     → fits_place atom r old new ≡ true → new ≡ old
-by-journal Journal atom old new by is = eqb-true new old is
-by-journal (Checksum n) atom old new by is = absurd by
-by-journal (Datashift n) atom old new by is = absurd by
+same-offset Journal atom old new by is = eqb-true new old is
+same-offset (Checksum n) atom old new by is =
+    eqb-true new old (and_parts (n == atom) (new == old) is).1
+same-offset (Datashift n) atom old new by is = absurd by
 
-pub room-journal : (r : Resilience) (atom size : ℕ) → IsByJournal r
-    → capacity_by atom size r ≡ size / atom
-room-journal Journal atom size by = refl
-room-journal (Checksum n) atom size by = absurd by
-room-journal (Datashift n) atom size by = absurd by
+-- what is saved of as many blocks as an area has room for are no more atoms than it has
+pub saved-room : (r : Resilience) (atom size n : ℕ) → IsSaved r → 0 < atom → size % atom ≡ 0
+    → n ≤ capacity_by atom size r → saved_atoms (kind_of (guard_of r)) atom n ≤ size / atom
+saved-room r atom size n by some whole less =
+    let fits = saved-fits r atom size n by some whole less in
+    let cut = div-add-mod' size atom in
+    le_of_mul-le-mul_right (omega (arith, fits, cut, whole)) some
 
 -- ---- areas of keyslots
 -- one lies in whole atoms between the copies and the blocks
@@ -127,11 +134,11 @@ module _ (loaded : Stored) (stored : IsStored loaded)
   pub is-converting : (live : List Extent) × IsConverting loaded.valid.meta loaded.valid.sizes p live
   is-converting = converting loaded.valid.meta loaded.valid.sizes p ruled known
 
-  pub same-place : IsByJournal p.conversion.resilience
+  pub same-place : IsSaved p.conversion.resilience
       → place_of loaded.valid.sizes p.new ≡ place_of loaded.valid.sizes p.old
   same-place by =
       ap (λ offset. base_of loaded.valid.sizes + offset / loaded.valid.sizes.atom)
-      (by-journal p.conversion.resilience loaded.valid.sizes.atom p.old.offset p.new.offset by
+      (same-offset p.conversion.resilience loaded.valid.sizes.atom p.old.offset p.new.offset by
       (place-of loaded.valid.sizes.atom p.conversion p.old p.new
       is-converting.1.state.wholes))
 
@@ -177,11 +184,11 @@ module _ (loaded : Stored) (stored : IsStored loaded)
 
 -- ---- the next zone
 -- by a map of the same numbers it is the same
-same-site : (map other : Map) (room store : ℕ) → other.atom ≡ map.atom
+same-site : (map other : Map) (room store : ℕ) (guard : Guard) → other.atom ≡ map.atom
     → other.blocks ≡ map.blocks → other.boundary ≡ map.boundary
     → other.direction ≡ map.direction → other.old_place ≡ map.old_place
-    → site_by map room store ≡ site_by other room store
-same-site map other room store atom blocks boundary direction place =
+    → site_by map room store guard ≡ site_by other room store guard
+same-site map other room store guard atom blocks boundary direction place =
     rw (atom, blocks, boundary, direction, place) refl
 
 pub by-map : (loaded : Stored) (map other : Map) (site : Site) → (zone : IsNextZone loaded map site)
@@ -191,7 +198,7 @@ by-map loaded map other site zone at = record {
   is = zone.is;
   map_is = at;
   site_is = zone.site_is
-      ∙ same-site map other _ _ (at.atom ∙ sym zone.map_is.atom)
+      ∙ same-site map other _ _ _ (at.atom ∙ sym zone.map_is.atom)
       (at.blocks ∙ sym zone.map_is.blocks) (at.boundary ∙ sym zone.map_is.boundary)
       (at.direction ∙ sym zone.map_is.direction) (at.old_place ∙ sym zone.map_is.old_place);
 }
@@ -206,6 +213,7 @@ module _ (loaded : Stored) (stored : IsStored loaded)
       ap (λ (s : Site). count_of s) zone.site_is
       ∙ site-count map (capacity loaded.valid.sizes.atom zone.now)
       (zone.now.conversion.area.offset / loaded.valid.sizes.atom)
+      (guard_of zone.now.conversion.resilience)
 
   pub few : count_of site ≤ left_of map.direction map.blocks map.boundary
   few = let count = count-is in omega (arith, count)
@@ -245,20 +253,35 @@ module _ (loaded : Stored) (stored : IsStored loaded)
       ∙ same-place loaded stored ruled zone.now zone.is.known zone.is.guarded
       ∙ sym zone.map_is.old_place
 
+  pub guard-is : site.guard ≡ guard_of zone.now.conversion.resilience
+  guard-is = ap (λ (s : Site). s.guard) zone.site_is
+
+  -- what is saved are no more atoms than the area has
+  pub store-few : saved_count site
+      ≤ zone.now.conversion.area.size / loaded.valid.sizes.atom
+  store-few =
+      let p = zone.now in
+      let atom = loaded.valid.sizes.atom in
+      let kept = guard-kept loaded stored ruled p zone.is.known in
+      subst (λ g. saved_atoms (kind_of g) site.atom (count_of site) ≤ p.conversion.area.size / atom)
+      (sym guard-is)
+      (subst (λ a. saved_atoms (kind_of (guard_of p.conversion.resilience)) a (count_of site)
+      ≤ p.conversion.area.size / atom) (sym atom-is)
+      (saved-room p.conversion.resilience atom p.conversion.area.size (count_of site)
+      zone.is.guarded ruled.atom kept.size (let count = count-is in omega (arith, count))))
+
   -- what is saved lies behind both copies, each of so many atoms, and in front of the blocks
   pub store-between : (n : ℕ)
       → n * loaded.valid.sizes.atom ≡ loaded.copies.used.header.hdr_size
-      → (n + n ≤ site.store) × (site.store + count_of site ≤ map.old_place)
+      → (n + n ≤ site.store) × (site.store + saved_count site ≤ map.old_place)
   store-between n long =
       let p = zone.now in
-      let atom = loaded.valid.sizes.atom in
       let between =
       area-between loaded stored ruled p zone.is.known p.conversion.area n
       (guard-kept loaded stored ruled p zone.is.known) long in
       let store = ap (λ (s : Site). s.store) zone.site_is in
-      let count = count-is in
-      let room = room-journal p.conversion.resilience atom p.conversion.area.size zone.is.guarded in
+      let few = store-few in
       let place = zone.map_is.old_place in
       let one = between.0 in
       let two = between.1 in
-      (omega (arith, one, store), omega (arith, two, store, count, room, place))
+      (omega (arith, one, store), omega (arith, two, store, few, place))

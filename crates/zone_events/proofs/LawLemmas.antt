@@ -29,9 +29,11 @@ use Rattle.volume_machine.specs.WorkSteps.{Worked, WorkStep}
 use Rattle.volume_machine.specs.WorkSteps as works
 use Rattle.volume_machine.specs.declared.keys.Keys.{Keys}
 use Rattle.zone_events.proofs.EndLemmas.{finished-on, finishes-more, finishes-on, rests-on, wipes-on}
+use Rattle.zone_events.proofs.LackLemmas.{lacks-number, lacks-room}
 use Rattle.zone_events.proofs.SaveLemmas.{begins-on, keeps-on, reads-first-on, reads-on}
 use Rattle.zone_events.proofs.SaveLemmas.{saves-first-on, saves-on}
-use Rattle.zone_events.proofs.StopLemmas.{OldRuns, begin-fails-on, end-fails-on, finish-fails-on}
+use Rattle.zone_events.proofs.StopLemmas.{OldRuns, begin-fails-on, clashes-first-on, clashes-on}
+use Rattle.zone_events.proofs.StopLemmas.{end-fails-on, finish-fails-on}
 use Rattle.zone_events.proofs.StopLemmas.{hindered-on, keep-fails-on, move-fails-on, open-fails-on}
 use Rattle.zone_events.proofs.StopLemmas.{read-again-fails-on, read-fails-on, read-first-fails-on}
 use Rattle.zone_events.proofs.StopLemmas.{rest-fails-on, save-fails-on, save-first-fails-on}
@@ -109,20 +111,24 @@ module _ {C : Type 0} (sector : C → ℕ) (seal unseal : C → ℕ → List ℕ
   goes-by : (step : Stepped) → Goes seals old.disk new.disk before after step
       → Becomes seals layout after old new (Ok step) → Answered works.stepped
   goes-by step (steps.begins at call to) becomes =
-      works.begins (begins-on sector seals layout before after old new of becomes at call to)
+      works.begins (begins-on sector seals layout before after old new of runs becomes at call to)
   goes-by step (steps.reads_first at call read) becomes =
-      works.steps (reads-first-on sector seals layout before after old new of becomes at call read)
-  goes-by step (steps.saves_first at call headers are begun to) becomes =
       works.steps
-      (saves-first-on sector seals layout before after old new of becomes at call headers are to)
+      (reads-first-on sector seals layout before after old new of runs becomes at call read)
+  goes-by step (steps.saves_first at tells call headers are begun to) becomes =
+      works.steps
+      (saves-first-on sector seals layout before after old new of runs becomes at tells call headers
+      are to)
   goes-by step (steps.reads done headers at call read) becomes =
       works.steps
-      (reads-on sector seals layout before after old new of becomes done headers at call read)
-  goes-by step (steps.saves done headers at call to) becomes =
+      (reads-on sector seals layout before after old new of runs becomes done headers at call read)
+  goes-by step (steps.saves done headers at tells call to) becomes =
       works.steps
-      (saves-on sector seals layout before after old new of becomes done headers at call to)
+      (saves-on sector seals layout before after old new of runs becomes done headers at tells call
+      to)
   goes-by step (steps.keeps headers at call to) becomes =
-      works.steps (keeps-on sector seals layout before after old new of becomes headers at call to)
+      works.steps
+      (keeps-on sector seals layout before after old new of runs becomes headers at call to)
   goes-by step (steps.opens headers commit at call on far to) becomes =
       works.steps
       (opens-on sector seals layout before after old new of runs becomes headers commit at call on
@@ -174,18 +180,21 @@ module _ {C : Type 0} (sector : C → ℕ) (seal unseal : C → ℕ → List ℕ
       → Answered (answer_of (Err fault))
   refuses-by faults.Device unmade at same stop leaves = absurd unmade
   refuses-by (faults.DigestClash block digest) unmade at same stop leaves = absurd unmade
-  refuses-by faults.SeqEnd unmade at same stop leaves =
-      works.is_hindered works.no_number
-      (hindered-on sector seals layout before after old new of runs back leaves works.no_number tt at
-      same stop)
-  refuses-by (faults.JsonFull len limit) unmade at same stop leaves =
+  refuses-by (faults.SeqEnd left needed) unmade at same stop leaves =
+      works.is_hindered (works.no_number left needed)
+      (hindered-on sector seals layout before after old new of runs back leaves
+      (works.no_number left needed) tt
+      (lacks-number before.loaded of.stored 2 left needed unmade.0 unmade.1 unmade.2) at same stop)
+  refuses-by (faults.JsonFull len limit) (meta, comes, length_is, limit_is, longer, enough) at same
+      stop leaves =
       works.is_hindered (works.no_room len limit)
       (hindered-on sector seals layout before after old new of runs back leaves
-      (works.no_room len limit) tt at same stop)
+      (works.no_room len limit) tt
+      (lacks-room before.loaded of.stored 2 len limit limit_is longer enough) at same stop)
   refuses-by faults.Memory unmade at same stop leaves =
       works.is_hindered works.no_memory
-      (hindered-on sector seals layout before after old new of runs back leaves works.no_memory tt at
-      same stop)
+      (hindered-on sector seals layout before after old new of runs back leaves works.no_memory tt tt
+      at same stop)
 
   unmade-by : (fault : ZoneFault) → IsUnmade before.loaded 1 (IsFinishing before.loaded) fault
       → before.next ≡ next.Finish → IsHalted before after next.Finish GivenUp
@@ -193,22 +202,33 @@ module _ {C : Type 0} (sector : C → ℕ) (seal unseal : C → ℕ → List ℕ
       → Answered (answer_of (Err fault))
   unmade-by faults.Device unmade at stop leaves = absurd unmade
   unmade-by (faults.DigestClash block digest) unmade at stop leaves = absurd unmade
-  unmade-by faults.SeqEnd unmade at stop leaves =
-      works.is_unfinished works.no_number
-      (unfinished-on sector seals layout before after old new of runs back leaves works.no_number tt
-      at stop)
-  unmade-by (faults.JsonFull len limit) unmade at stop leaves =
+  unmade-by (faults.SeqEnd left needed) unmade at stop leaves =
+      works.is_unfinished (works.no_number left needed)
+      (unfinished-on sector seals layout before after old new of runs back leaves
+      (works.no_number left needed)
+      (lacks-number before.loaded of.stored 1 left needed unmade.0 unmade.1 unmade.2) at stop)
+  unmade-by (faults.JsonFull len limit) (meta, comes, length_is, limit_is, longer, enough) at stop
+      leaves =
       works.is_unfinished (works.no_room len limit)
       (unfinished-on sector seals layout before after old new of runs back leaves
-      (works.no_room len limit) tt at stop)
+      (works.no_room len limit)
+      (lacks-room before.loaded of.stored 1 len limit limit_is longer enough) at stop)
   unmade-by faults.Memory unmade at stop leaves =
       works.is_unfinished works.no_memory
-      (unfinished-on sector seals layout before after old new of runs back leaves works.no_memory tt
-      at stop)
+      (unfinished-on sector seals layout before after old new of runs back leaves works.no_memory tt at
+      stop)
 
   stops-by : (fault : ZoneFault) → Stops seals old.disk new.disk before after fault
       → Becomes seals layout after old new (Err fault) → Answered (answer_of (Err fault))
-  stops-by fault (steps.refuses _ at unmade same stop) leaves =
+  stops-by fault (steps.clashes_first block digest at clash same stop) leaves =
+      works.is_hindered (works.clashes block digest)
+      (clashes-first-on sector seals layout before after old new of runs back leaves block digest at
+      clash same stop)
+  stops-by fault (steps.clashes done headers block digest at clash same stop) leaves =
+      works.is_hindered (works.clashes block digest)
+      (clashes-on sector seals layout before after old new of runs back leaves done headers block
+      digest at clash same stop)
+  stops-by fault (steps.refuses _ at tells unmade same stop) leaves =
       refuses-by fault unmade at same stop leaves
   stops-by fault (steps.begin_fails at call stop) leaves =
       works.faults
@@ -216,17 +236,18 @@ module _ {C : Type 0} (sector : C → ℕ) (seal unseal : C → ℕ → List ℕ
   stops-by fault (steps.read_first_fails at call stop) leaves =
       works.misses_part
       (read-first-fails-on sector seals layout before after old new of runs back leaves at call stop)
-  stops-by fault (steps.save_first_fails at call stop) leaves =
+  stops-by fault (steps.save_first_fails at tells call stop) leaves =
       works.faults
-      (save-first-fails-on sector seals layout before after old new of runs back leaves at call stop)
+      (save-first-fails-on sector seals layout before after old new of runs back leaves at tells call
+      stop)
   stops-by fault (steps.read_fails done headers at call stop) leaves =
       works.misses_part
       (read-fails-on sector seals layout before after old new of runs back leaves done headers at
       call stop)
-  stops-by fault (steps.save_fails done headers at call stop) leaves =
+  stops-by fault (steps.save_fails done headers at tells call stop) leaves =
       works.faults
       (save-fails-on sector seals layout before after old new of runs back leaves done headers at
-      call stop)
+      tells call stop)
   stops-by fault (steps.keep_fails headers at call stop) leaves =
       works.faults
       (keep-fails-on sector seals layout before after old new of runs back leaves headers at call
@@ -334,11 +355,11 @@ module _ {C : Type 0} (sector : C → ℕ) (before after : Worker C) (working : 
         → IsLater after.site after.next
     parts-by seals old new step later (steps.begins at call to) = later-next _ to tt
     parts-by seals old new step later (steps.reads_first at call read) = later-next _ read.is tt
-    parts-by seals old new step later (steps.saves_first at call headers are begun to) =
+    parts-by seals old new step later (steps.saves_first at tells call headers are begun to) =
         later-next _ to (behind-save 0 headers (omega arith))
     parts-by seals old new step later (steps.reads done headers at call read) =
         later-next _ read.is (subst (IsLater before.site) at later)
-    parts-by seals old new step later (steps.saves done headers at call to) =
+    parts-by seals old new step later (steps.saves done headers at tells call to) =
         later-next _ to (behind-save done headers
         (let far : part_at before.site 0 ≤ done = subst (IsLater before.site) at later in
         omega (arith, far)))

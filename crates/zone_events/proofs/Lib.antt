@@ -15,12 +15,16 @@ pub mod ConcludeLemmas
 pub mod FollowLemmas
 pub mod CallLemmas
 pub mod HereLemmas
+pub mod LackLemmas
 pub mod SizeLemmas
 pub mod LoadedLemmas
 pub mod OrderLemmas
 pub mod SaveLemmas
+pub mod SavedLemmas
 pub mod WriteLemmas
 pub mod StayLemmas
 pub mod EndLemmas
 pub mod StopLemmas
 pub mod LawLemmas
+pub mod CodeLemmas
+pub mod SidesToldLemmas

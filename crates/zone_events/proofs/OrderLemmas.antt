@@ -7,7 +7,7 @@ use Rattle.disk_areas.specs.Areas.{Area}
 use Rattle.disk_areas.specs.Headers.{Copy, IsHeader, IsLaidOut, Layout, place_of}
 use Rattle.disk_views.specs.Views.{IsOutside}
 use Rattle.disk_zones.specs.Zones.{Reaches, its_header, its_own, its_store, its_target}
-use Rattle.hotzone.specs.Sites.{count_of}
+use Rattle.hotzone.specs.Sites.{count_of, saved_count}
 use Rattle.hotzone.specs.Workers.{IsNextZone}
 use Rattle.hotzone.specs.declared.worker.Worker.{Worker}
 use Rattle.joined_disk.specs.Counts.{HasSizes}
@@ -89,7 +89,7 @@ module _ {C : Type 0} (sector : C → ℕ) (w : Worker C) (state : State (Keys C
       (size-pages w.loaded.copies.used.header.hdr_size kept.stored.copies.whole.one_of_nine)
 
   low : (layout.first.count + layout.first.count ≤ w.site.store)
-      × (w.site.store + count_of w.site ≤ w.map.old_place)
+      × (w.site.store + saved_count w.site ≤ w.map.old_place)
   low = store-between w.loaded kept.stored kept.ruled w.map w.site zone layout.first.count whole
 
   laid : IsLaidOut state.map.atom state.disk.atoms w.loaded.copies.used.header.hdr_size layout

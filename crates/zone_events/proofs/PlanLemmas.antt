@@ -1,35 +1,40 @@
 -- The zone that begins next lies where a volume's worker may plan one.
-use Rattle.std.proofs.Common.{◌≡◌, ◌∙◌, inl, inr, min, ℕ, ◌+◌, ◌*◌, ◌^◌, ◌<◌, ◌≤◌, List, Some}
+use Rattle.std.proofs.Common.{◌≡◌, ◌∙◌, inl, inr, ℕ, ◌+◌, ◌*◌, ◌^◌, ◌<◌, ◌≤◌, List, Some}
 use Rattle.std.proofs.Common.{refl, sym, ap, subst, arith}
+use Rattle.std.proofs.lemmas.Grind.{div_ceil_times}
 use Rattle.disk_areas.specs.Areas.{Area}
 use Rattle.disk_areas.specs.Headers.{Copy, Header, IsLaidOut, Layout, place_of, primary, secondary}
 use Rattle.disk_views.specs.Views.{IsOutside}
-use Rattle.disk_zones.specs.Zones.{IsApart, Reaches, its_header, its_own, its_store, its_target}
-use Rattle.disk_zones.specs.Zones.{journal}
+use Rattle.disk_zones.specs.Standing.{IsPhaseOf}
+use Rattle.disk_zones.specs.Zones.{Hotzone, IsApart, Reaches, its_header, its_own, its_store}
+use Rattle.disk_zones.specs.Zones.{its_target, saving}
 use Rattle.hotzone.proofs.WorkingLemmas.{fits-disk}
 use Rattle.hotzone.specs.Known.{zone_by}
-use Rattle.hotzone.specs.Sites.{IsByJournal, count_of}
+use Rattle.hotzone.specs.Sites.{IsSaved, count_of, guard_of, kind_of, saved_count}
+use Rattle.hotzone.specs.declared.site.Guard.{Guard}
+use Rattle.hotzone.specs.declared.site.Guard.TheVariants as guards
 use Rattle.hotzone.specs.declared.site.Site.{Site}
 use Rattle.hotzone.specs.Workers.{FitsDisk, IsNextZone, IsWorking}
 use Rattle.hotzone.specs.declared.worker.Worker.{Worker}
 use Rattle.joined_disk.specs.Counts.{HasSizes}
 use Rattle.luks_copies.specs.Meanings.{meaning_of}
-use Rattle.luks_json.specs.declared.reencrypt.Resilience.{Resilience as Guard}
-use Rattle.luks_json.specs.declared.reencrypt.Resilience.TheVariants as guards
+use Rattle.luks_json.specs.declared.reencrypt.Resilience.{Resilience}
+use Rattle.luks_json.specs.declared.reencrypt.Resilience.TheVariants as kinds
 use Rattle.luks_rules.specs.Plans.{blocks_in}
 use Rattle.luks_rules.specs.States.{IsSound as IsRuled}
 use Rattle.luks_store.specs.Loads.{IsStored}
 use Rattle.reenc_meta.specs.ConversionMaps.{IsMapAt}
 use Rattle.reenc_meta.specs.Placements.{place_of as atom_of}
-use Rattle.segment_map.specs.Sides.{left_of}
 use Rattle.segment_map.specs.declared.map.Map.{Map}
 use Rattle.volume_machine.specs.Courses.{IsBeyond, IsPlanned}
 use Rattle.volume_machine.specs.Pieces.{place_in}
+use Rattle.volume_machine.specs.Saved.{saved_atoms}
 use Rattle.volume_machine.specs.States.{State}
+use Rattle.volume_machine.specs.Working.{HasRoom}
 use Rattle.volume_machine.specs.Works.{wanted}
-use Rattle.zone_events.proofs.GroundLemmas.{by-map, closed-zone, count-is, end-inside, end-is, few}
-use Rattle.zone_events.proofs.GroundLemmas.{own-is, room-journal, same-places, start-is}
-use Rattle.zone_events.proofs.GroundLemmas.{store-between}
+use Rattle.zone_events.proofs.GroundLemmas.{by-map, closed-zone, end-inside, end-is, few}
+use Rattle.zone_events.proofs.GroundLemmas.{atom-is, guard-is, own-is, same-places, start-is}
+use Rattle.zone_events.proofs.GroundLemmas.{store-between, store-few}
 use Rattle.zone_events.proofs.MapLemmas.{map-at}
 use Rattle.zone_events.proofs.SideLemmas.{beside-old, place-is, side-as}
 use Rattle.zone_events.proofs.TellLemmas.{converts-told, guard-told, store-told}
@@ -40,14 +45,23 @@ use Rattle.zone_events.specs.Readings.{map_of, reading_of, store_in}
 use Rattle.zone_events.specs.Tellings.{area_on, resilience_of}
 use Rattle.zone_events.specs.Works.{between, unnamed}
 
--- a journal guards the zone
-by-journal : (r : Guard) → IsByJournal r → resilience_of r ≡ journal
-by-journal guards.Journal by = refl
-by-journal (guards.Checksum n) by = absurd by
-by-journal (guards.Datashift n) by = absurd by
+-- what guards the zone
+pub kind-told : (r : Resilience) → IsSaved r → resilience_of r ≡ kind_of (guard_of r)
+kind-told kinds.Journal by = refl
+kind-told (kinds.Checksum n) by = refl
+kind-told (kinds.Datashift n) by = absurd by
 
-min-right : (left n count : ℕ) {room : ℕ} → count ≡ min left n → n ≡ room → count ≤ room
-min-right left n count is room = omega (arith, is, room)
+phased-by : (g : Guard) → IsPhaseOf (kind_of g) (saving 0)
+phased-by guards.Journal = tt
+phased-by guards.Checksum = tt
+
+-- and that there is room for what is saved of it
+enough-by : (g : Guard) (atom : ℕ) (zone : Hotzone (List ℕ)) → 0 < atom
+    → zone.store.count ≡ saved_atoms (kind_of g) atom zone.own.count → HasRoom (kind_of g) atom zone
+enough-by guards.Journal atom zone some is = is
+enough-by guards.Checksum atom zone some is =
+    subst (λ n. zone.own.count * 32 ≤ n * atom) (sym is)
+    (div_ceil_times (zone.own.count * 32) atom some).0
 
 -- where a copy ends
 pub copy-ends : (atom atoms size : ℕ) (layout : Layout) → IsLaidOut atom atoms size layout
@@ -103,7 +117,7 @@ module _ {C K : Type 0} (sector : C → ℕ) (layout : Layout) (w : Worker C) (o
 
     -- where it lies between the copies and the blocks
     lies-between : (layout.first.count + layout.first.count ≤ w.site.store)
-        × (w.site.store + count_of w.site ≤ old.map.old_place)
+        × (w.site.store + saved_count w.site ≤ old.map.old_place)
     lies-between =
         store-between w.loaded stored ruled old.map w.site zone layout.first.count
         (ap (λ n. layout.first.count * n) (sym zone.map_is.atom) ∙ laid.long)
@@ -179,17 +193,15 @@ module _ {C K : Type 0} (sector : C → ℕ) (layout : Layout) (w : Worker C) (o
               (guard-told w.loaded.valid.sizes (meaning_of w.loaded.copies.used.bytes)
               w.loaded.valid.meta (Some working.zone.now) (stored-parts w.loaded stored)
               working.zone.is.known
-              ∙ by-journal working.zone.now.conversion.resilience working.zone.is.guarded);
+              ∙ kind-told working.zone.now.conversion.resilience working.zone.is.guarded
+              ∙ sym (ap kind_of (guard-is w.loaded stored ruled w.map w.site working.zone)));
           store = λ some_store.
               ap (λ (s : Site). s.store) working.zone.site_is
               ∙ sym (ap (λ (a : Area). a.start) guarded-by);
           store_within =
-              (let few_left = min-right (left_of w.map.direction w.map.blocks
-              w.map.boundary) _ _ (count-is w.loaded stored ruled w.map w.site working.zone)
-              (room-journal working.zone.now.conversion.resilience w.loaded.valid.sizes.atom
-              working.zone.now.conversion.area.size working.zone.is.guarded) in
+              (let few = store-few w.loaded stored ruled w.map w.site working.zone in
               let area = ap (λ (a : Area). a.count) guarded-by in
-              omega (arith, few_left, area));
+              omega (arith, few, area));
           layout_is = refl;
           before = refl;
           opened = refl;
@@ -197,7 +209,7 @@ module _ {C K : Type 0} (sector : C → ℕ) (layout : Layout) (w : Worker C) (o
           part = refl;
           progress = refl;
           first = refl;
-          phased = tt;
+          phased = phased-by w.site.guard;
           apart = zone-apart (header_on w.loaded) (header_on w.loaded) (header_on w.loaded);
           within = record {
             own = fits.own;
@@ -208,7 +220,11 @@ module _ {C K : Type 0} (sector : C → ℕ) (layout : Layout) (w : Worker C) (o
           inside = end-inside w.loaded stored ruled old.map w.site zone;
           some = omega (arith, some, end);
           fewer = omega arith;
-          enough = refl;
+          enough = enough-by w.site.guard old.map.atom
+              (zone_by w.site (header_on w.loaded) (header_on w.loaded) (header_on w.loaded))
+              (subst (λ a. 0 < a) (sym zone.map_is.atom) ruled.atom)
+              (ap (λ a. saved_atoms (kind_of w.site.guard) a (count_of w.site))
+              (atom-is w.loaded stored ruled old.map w.site zone ∙ sym zone.map_is.atom));
           sides = λ b from below.
               side-as old.map old.map.direction old.map.blocks old.map.boundary 0 b refl refl refl
               (closed-zone w.loaded stored ruled old.map w.site zone)

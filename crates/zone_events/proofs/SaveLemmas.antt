@@ -1,18 +1,17 @@
 -- The steps of a zone up to its first commit.
-use Rattle.std.proofs.Common.{◌≡◌, ◌∙◌, ℕ, zero, suc, ◌+◌, ◌-◌, ◌<◌}
-use Rattle.std.proofs.Common.{◌≤◌, ◌==◌, Bool, true, false, List, length, take, None, cond}
+use Rattle.std.proofs.Common.{◌≡◌, ◌∙◌, ℕ, ◌+◌, ◌<◌}
+use Rattle.std.proofs.Common.{◌≤◌, false, List, take}
 use Rattle.std.proofs.Common.{refl, sym, ap, subst, arith}
-use Rattle.std.proofs.lemmas.Bool.{eqb-true, ne_eqb}
 use Rattle.disk_areas.specs.Commits.{begun}
 use Rattle.disk_areas.specs.Headers.{Header, Layout}
-use Rattle.disk_views.specs.Parts.{block_at}
 use Rattle.disk_sizes.specs.declared.Sizes.{Sizes}
 use Rattle.disk_zones.specs.Zones.{Phase, opening, saving}
-use Rattle.hotzone.proofs.KnownLemmas.{part-fits, part-some}
+use Rattle.hotzone.proofs.GuardLemmas.{first-place, first-start, saved-some, saved_part}
+use Rattle.hotzone.proofs.KnownLemmas.{SealRuns, part-some}
 use Rattle.hotzone.specs.Headings.{AreOf}
 use Rattle.hotzone.specs.Known.{header_by}
-use Rattle.hotzone.specs.Sites.{bytes_at, count_of, part_at}
-use Rattle.hotzone.specs.Steps.{HasRead, ReadsPart, SavesPart, after_save, part_in}
+use Rattle.hotzone.specs.Sites.{bytes_at, count_of, kind_of, part_at, saved_at, saved_count}
+use Rattle.hotzone.specs.Steps.{HasRead, ReadsPart, SavesPart, TellsPart, after_save, part_in}
 use Rattle.hotzone.specs.declared.worker.Headers.{Headers}
 use Rattle.hotzone.specs.declared.worker.NextCall.{NextCall}
 use Rattle.hotzone.specs.declared.worker.NextCall.TheVariants.{Begin, ReadFirst, SaveFirst, Read}
@@ -20,11 +19,13 @@ use Rattle.hotzone.specs.declared.worker.NextCall.TheVariants.{Save, Keep, Open}
 use Rattle.hotzone.specs.declared.worker.Worker.{Worker}
 use Rattle.luks_copies.specs.Held.{stage_in}
 use Rattle.luks_copies.specs.Seen.{stage_of}
-use Rattle.sector_disk.specs.Devices.{ReadCall, SyncCall, WriteCall, succeeded}
+use Rattle.sector_disk.specs.Devices.{ReadCall, SyncCall, succeeded}
+use Rattle.sector_disk.specs.Geometry.{IsAtom}
 use Rattle.volume_machine.specs.Courses.{IsAtRest}
 use Rattle.volume_machine.specs.Seals.{Seals}
 use Rattle.volume_machine.specs.States.{State}
-use Rattle.volume_machine.specs.WorkCalls.{SavesPart as SavesText, after_saving, part_of}
+use Rattle.volume_machine.specs.Saved.{saved_before}
+use Rattle.volume_machine.specs.WorkCalls.{ZoneStep, after_saving}
 use Rattle.volume_machine.specs.WorkCalls as calls
 use Rattle.volume_machine.specs.WorkSteps.{Begins, Proceeds, StepsOn}
 use Rattle.volume_machine.specs.Works.{Part, Work, fetched, wanted}
@@ -33,6 +34,7 @@ use Rattle.zone_events.proofs.CallLemmas.{most-atoms, part-is, part-long}
 use Rattle.zone_events.proofs.HereLemmas.{early-header, early-here, early-map, fits-by, fits-here, needs}
 use Rattle.zone_events.proofs.HereLemmas.{site-atom, staying, was-by, IsEarly}
 use Rattle.zone_events.proofs.PlanLemmas.{is-planned}
+use Rattle.zone_events.proofs.SavedLemmas.{behind-first, behind-later, save-step, saved-far}
 use Rattle.zone_events.proofs.TurnLemmas.{both-lead, both-lead-on, move-header, open-header}
 use Rattle.zone_events.specs.Heads.{header_on}
 use Rattle.zone_events.specs.Promises.{IsLater, IsOf}
@@ -47,101 +49,10 @@ not-at-rest layout w opened moved phase part some is =
     let end : w.site.blocks.end ≡ 0 = ap (λ (k : Work). k.range.end) is in
     absurd (omega (arith, end, some))
 
--- ---- what is saved by a journal is the part itself
-pub saves-text : {C : Type 0} (seals : Seals) (layout : Layout) (w : Worker C)
-    (opened moved : Header (List ℕ)) (phase : Phase) (part : Part) (atom done : ℕ)
-    → w.site.atom ≡ atom → bytes_at w.site 0 ≤ length w.buffer → done ≤ count_of w.site
-    → SavesText seals atom (at_hand layout w opened moved phase part) done (part_at w.site done)
-    (part_in w done) (part_in w done)
-saves-text seals layout w opened moved phase part atom done is room within = record {
-  size = part-long w.site w.buffer atom done is room;
-  is = record {
-    size = part-long w.site w.buffer atom done is room;
-    of_part = λ j below. (omega arith, omega (arith, below));
-    each = λ j below. ap (λ n. block_at atom (part_in w done) n)
-        (let e : j ≡ done + j - done = omega arith in e);
-  };
-  within = part-fits w.site done within;
-  tells = tt;
-}
-
--- ---- what comes behind a part that was saved: of the first one; of a later one
-module _ {C : Type 0} (seals : Seals) (layout : Layout) (w : Worker C) (headers : Headers) where
-  abbrev count : ℕ
-  count = count_of w.site
-
-  pub behind-first : work_by seals layout (record w { next = after_save w.site 0 headers })
-      (after_save w.site 0 headers) None
-      ≡ led_by layout w headers (saving (0 + part_at w.site 0))
-      (after_saving count 0 (part_at w.site 0) (part_in w 0))
-  unfolding work_by
-  behind-first =
-      let zero : 0 + part_at w.site 0 ≡ part_at w.site 0 = omega arith in
-      go (after_save w.site 0 headers) (part_at w.site 0 == count) refl
-      (ap (λ n. cond (n == count) (Keep headers) (Read n headers)) zero)
-    where
-      go : (now : NextCall) (b : Bool) → (part_at w.site 0 == count) ≡ b
-          → after_save w.site 0 headers
-          ≡ cond (part_at w.site 0 == count) (Keep headers) (Read (part_at w.site 0) headers)
-          → work_by seals layout (record w { next = now }) (after_save w.site 0 headers) None
-          ≡ led_by layout w headers (saving (0 + part_at w.site 0))
-          (cond (part_at w.site 0 == count) (fetched 0 (part_in w 0))
-          (wanted (part_at w.site 0)))
-      go now true is to =
-          let zero : 0 + part_at w.site 0 ≡ part_at w.site 0 = omega arith in
-          ap (λ n. work_by seals layout (record w { next = now }) n None)
-          (to ∙ ap (λ b. cond b (Keep headers) (Read (part_at w.site 0) headers)) is)
-          ∙ ap (λ n. led_by layout w headers (saving n)
-          (cond (part_at w.site 0 == count) (fetched 0 (part_in w 0)) (wanted 0)))
-          (sym (zero ∙ eqb-true (part_at w.site 0) count is))
-          ∙ ap (λ b. led_by layout w headers (saving (0 + part_at w.site 0))
-          (cond b (fetched 0 (part_in w 0)) (wanted 0))) is
-          ∙ sym (ap (λ b. led_by layout w headers (saving (0 + part_at w.site 0))
-          (cond b (fetched 0 (part_in w 0)) (wanted (part_at w.site 0)))) is)
-      go now false is to =
-          let zero : 0 + part_at w.site 0 ≡ part_at w.site 0 = omega arith in
-          ap (λ n. work_by seals layout (record w { next = now }) n None)
-          (to ∙ ap (λ b. cond b (Keep headers) (Read (part_at w.site 0) headers)) is)
-          ∙ ap (λ n. led_by layout w headers (saving n) (wanted (part_at w.site 0))) (sym zero)
-          ∙ sym (ap (λ b. led_by layout w headers (saving (0 + part_at w.site 0))
-          (cond b (fetched 0 (part_in w 0)) (wanted (part_at w.site 0)))) is)
-
-  pub behind-later : (done : ℕ) → 0 < part_at w.site 0 → part_at w.site 0 ≤ done → done < count
-      → work_by seals layout (record w { next = after_save w.site done headers })
-      (after_save w.site done headers) None
-      ≡ led_by layout w headers (saving (done + part_at w.site done))
-      (after_saving count done (part_at w.site done) (part_in w done))
-  unfolding work_by
-  behind-later zero some far below = absurd (omega (arith, some, far))
-  behind-later (suc done) some far below =
-      go (suc done) (after_save w.site (suc done) headers)
-      (suc done + part_at w.site (suc done) == count) refl far below
-    where
-      go : (n : ℕ) (now : NextCall) (b : Bool) → (n + part_at w.site n == count) ≡ b
-          → part_at w.site 0 ≤ n → n < count
-          → work_by seals layout (record w { next = now }) (after_save w.site n headers) None
-          ≡ led_by layout w headers (saving (n + part_at w.site n))
-          (cond (n + part_at w.site n == count) (wanted 0) (wanted (n + part_at w.site n)))
-      go n now true is from below =
-          ap (λ b. work_by seals layout (record w { next = now })
-          (cond b (Keep headers) (Read (n + part_at w.site n) headers)) None) is
-          ∙ ap (λ k. led_by layout w headers (saving k)
-          (cond (part_at w.site 0 == count) (fetched 0 (part_in w 0)) (wanted 0)))
-          (sym (eqb-true (n + part_at w.site n) count is))
-          ∙ ap (λ b. led_by layout w headers (saving (n + part_at w.site n))
-          (cond b (fetched 0 (part_in w 0)) (wanted 0)))
-          (ne_eqb (part_at w.site 0) count (λ e. absurd (omega (arith, e, from, below))))
-          ∙ sym (ap (λ b. led_by layout w headers (saving (n + part_at w.site n))
-          (cond b (wanted 0) (wanted (n + part_at w.site n)))) is)
-      go n now false is from below =
-          ap (λ b. work_by seals layout (record w { next = now })
-          (cond b (Keep headers) (Read (n + part_at w.site n) headers)) None) is
-          ∙ sym (ap (λ b. led_by layout w headers (saving (n + part_at w.site n))
-          (cond b (wanted 0) (wanted (n + part_at w.site n)))) is)
-
 -- ---- the steps
 module _ {C : Type 0} (sector : C → ℕ) (seals : Seals) (layout : Layout) (before after : Worker C)
     (old new : State (Keys C)) (of : IsOf sector seals layout before old)
+    (runs : SealRuns before.site.atom seals)
     (becomes : Proceeds old new (map_in seals layout after) (work_of seals layout after) false)
   where
     abbrev sizes : Sizes
@@ -171,13 +82,14 @@ module _ {C : Type 0} (sector : C → ℕ) (seals : Seals) (layout : Layout) (be
         (take (bytes_at before.site done) after.buffer) old.disk new.disk succeeded)
         (sym (early-here sector seals layout before old of next at early).atom) call
 
-    save-call : (next : NextCall) → before.next ≡ next → IsEarly next → (done : ℕ)
-        → SavesPart before done old.disk new.disk succeeded
-        → WriteCall old.map.atom (before.site.store + done) (part_in before done) old.disk new.disk
-        succeeded
-    save-call next at early done call =
-        subst (λ a. WriteCall a (before.site.store + done) (part_in before done) old.disk new.disk
-        succeeded) (sym (early-here sector seals layout before old of next at early).atom) call
+    -- what is saved of the parts before one
+    before-read : (next : NextCall) → before.next ≡ next → IsEarly next → (done : ℕ)
+        → saved_at before.site done ≡ saved_before (kind_of before.site.guard) old.map.atom done
+    before-read next at early done =
+        ap (λ a. saved_before (kind_of before.site.guard) a done) (atom-here next at early)
+
+    known : IsAtom before.site.atom
+    known = (fits-here sector seals layout before old of).known
 
     pub begins-on : before.next ≡ Begin → SyncCall old.disk new.disk succeeded
         → after ≡ record before { next = ReadFirst } → Begins (reading_of sizes) old new
@@ -224,7 +136,8 @@ module _ {C : Type 0} (sector : C → ℕ) (seals : Seals) (layout : Layout) (be
             leads = λ first far. absurd (far refl);
             keeps = λ first far. absurd (far refl);
           };
-          step = calls.reads (saving 0) 0 (part_at before.site 0) text refl
+          step = calls.reads (saving 0) 0 (part_at before.site 0) text
+              (sym (first-place before.site) ∙ before-read ReadFirst at tt 0)
               (part-is before.site old.map.atom 0 atom) (some-part 0 some)
               (part-long before.site after.buffer old.map.atom 0 atom
               (let room = of.working.room in let long = read.long in omega (arith, room, long)))
@@ -234,17 +147,18 @@ module _ {C : Type 0} (sector : C → ℕ) (seals : Seals) (layout : Layout) (be
               refl (unnamed layout before (fetched 0 text)) refl map;
         }
 
-    pub saves-first-on : before.next ≡ SaveFirst → SavesPart before 0 old.disk new.disk succeeded
+    pub saves-first-on : before.next ≡ SaveFirst → TellsPart seals before 0
+        → SavesPart before 0 old.disk new.disk succeeded
         → (headers : Headers) → AreOf before.loaded (count_of before.site) headers.opened headers.moved
         → after ≡ record before { next = after_save before.site 0 headers }
         → StepsOn (reading_of sizes) seals old new
     unfolding work_by
-    saves-first-on at call headers are to =
+    saves-first-on at tells call headers are to =
         let map = early-map sector seals layout before old of SaveFirst at tt in
         let some = needs sector seals layout before old of SaveFirst at in
         let text = part_in before 0 in
-        let atom = atom-here SaveFirst at tt in
         let many = part_at before.site 0 in
+        let saved = saved_at before.site 0 + saved_part before.site 0 in
         record {
           work = unnamed layout before (fetched 0 text);
           was = was-by sector seals layout before old of SaveFirst at;
@@ -253,7 +167,7 @@ module _ {C : Type 0} (sector : C → ℕ) (seals : Seals) (layout : Layout) (be
               not-at-rest layout before before_header before_header (saving 0) (fetched 0 text) some;
           opened = header_by headers.opened;
           moved = header_by headers.moved.commit;
-          phase = saving (0 + many);
+          phase = saving saved;
           part = after_saving (count_of before.site) 0 many text;
           names = record {
             stay = λ far. absurd (far refl);
@@ -270,17 +184,20 @@ module _ {C : Type 0} (sector : C → ℕ) (seals : Seals) (layout : Layout) (be
                 both-lead-on sector before old of.working of.stored of.ruled map (fits-by sector seals layout before old of map) headers
                 are layout (fetched 0 text);
           };
-          step = calls.saves 0 many text text
-              (saves-text seals layout before (header_by headers.opened)
-              (header_by headers.moved.commit) (saving 0) (fetched 0 text) old.map.atom 0 atom
-              of.working.room (omega arith))
-              (some-part 0 some) (save-call SaveFirst at tt 0 call);
+          step = subst (λ n. ZoneStep seals old.map.atom
+              (at_hand layout before (header_by headers.opened) (header_by headers.moved.commit)
+              (saving 0) (fetched 0 text)) old.disk new.disk (saving n) (fetched 0 text)
+              (saving saved) (after_saving (count_of before.site) 0 many text))
+              (first-place before.site)
+              (save-step sector seals layout before old of runs (atom-here SaveFirst at tt) new.disk
+              succeeded 0 some (first-start before.site known) tells call (header_by headers.opened)
+              (header_by headers.moved.commit) (saving 0) (fetched 0 text) refl);
           goes = staying seals layout after old new becomes
               (record before { next = after_save before.site 0 headers }) to of.runs
               (after_save before.site 0 headers) refl
-              (led_by layout before headers (saving (0 + many))
+              (led_by layout before headers (saving saved)
               (after_saving (count_of before.site) 0 many text))
-              (behind-first seals layout before headers) map;
+              (behind-first seals layout before headers known) map;
         }
 
     pub reads-on : (done : ℕ) (headers : Headers) → before.next ≡ Read done headers
@@ -295,15 +212,15 @@ module _ {C : Type 0} (sector : C → ℕ) (seals : Seals) (layout : Layout) (be
         let text = take (bytes_at before.site done) after.buffer in
         let atom = atom-here (Read done headers) at tt in
         record {
-          work = led_by layout before headers (saving done) (wanted done);
+          work = led_by layout before headers (saving (saved_at before.site done)) (wanted done);
           was = was-by sector seals layout before old of (Read done headers) at;
           unbroken = of.unbroken;
           at_hand = not-at-rest layout before (header_by headers.opened)
-              (header_by headers.moved.commit) (saving done) (wanted done)
+              (header_by headers.moved.commit) (saving (saved_at before.site done)) (wanted done)
               (let below = had.0 in omega (arith, below));
           opened = header_by headers.opened;
           moved = header_by headers.moved.commit;
-          phase = saving done;
+          phase = saving (saved_at before.site done);
           part = fetched done text;
           names = record {
             stay = λ other. (refl, refl);
@@ -316,41 +233,43 @@ module _ {C : Type 0} (sector : C → ℕ) (seals : Seals) (layout : Layout) (be
             leads = λ first other. absurd (other first);
             keeps = λ first other. absurd (other first);
           };
-          step = calls.reads (saving done) done (part_at before.site done) text refl
+          step = calls.reads (saving (saved_at before.site done)) done (part_at before.site done)
+              text (before-read (Read done headers) at tt done)
               (part-is before.site old.map.atom done atom) (some-part done had.0)
               (part-long before.site after.buffer old.map.atom done atom
               (let room = of.working.room in let long = read.long in omega (arith, room, long)))
               (read-call (Read done headers) at tt done call);
           goes = staying seals layout after old new becomes
               (record before { buffer = after.buffer; next = Save done headers }) read.is of.runs
-              (Save done headers) refl (led_by layout before headers (saving done) (fetched done text))
+              (Save done headers) refl (led_by layout before headers (saving (saved_at before.site done)) (fetched done text))
               refl map;
         }
 
     pub saves-on : (done : ℕ) (headers : Headers) → before.next ≡ Save done headers
-        → SavesPart before done old.disk new.disk succeeded
+        → TellsPart seals before done → SavesPart before done old.disk new.disk succeeded
         → after ≡ record before { next = after_save before.site done headers }
         → StepsOn (reading_of sizes) seals old new
     unfolding work_by
-    saves-on done headers at call to =
+    saves-on done headers at tells call to =
         let map = early-map sector seals layout before old of (Save done headers) at tt in
         let had = needs sector seals layout before old of (Save done headers) at in
         let far : part_at before.site 0 ≤ done = subst (IsLater before.site) at of.later in
         let below = had.0 in
         let some = some-part 0 (omega (arith, below)) in
         let text = part_in before done in
-        let atom = atom-here (Save done headers) at tt in
         let many = part_at before.site done in
+        let saved = saved_at before.site done + saved_part before.site done in
+        let begun = saved-far before.site done known far below in
         record {
-          work = led_by layout before headers (saving done) (fetched done text);
+          work = led_by layout before headers (saving (saved_at before.site done)) (fetched done text);
           was = was-by sector seals layout before old of (Save done headers) at;
           unbroken = of.unbroken;
           at_hand = not-at-rest layout before (header_by headers.opened)
-              (header_by headers.moved.commit) (saving done) (fetched done text)
+              (header_by headers.moved.commit) (saving (saved_at before.site done)) (fetched done text)
               (omega (arith, below));
           opened = header_by headers.opened;
           moved = header_by headers.moved.commit;
-          phase = saving (done + many);
+          phase = saving saved;
           part = after_saving (count_of before.site) done many text;
           names = record {
             stay = λ other. (refl, refl);
@@ -360,20 +279,19 @@ module _ {C : Type 0} (sector : C → ℕ) (seals : Seals) (layout : Layout) (be
               move-header sector before old of.working of.stored of.ruled map (fits-by sector seals layout before old of map) headers
                   had.1.0,
             );
-            leads = λ first other. absurd (omega (arith, first, far, some));
-            keeps = λ first other. absurd (omega (arith, first, far, some));
+            leads = λ first other. absurd (omega (arith, first, begun));
+            keeps = λ first other. absurd (omega (arith, first, begun));
           };
-          step = calls.saves done many text text
-              (saves-text seals layout before (header_by headers.opened)
-              (header_by headers.moved.commit) (saving done) (fetched done text) old.map.atom done
-              atom of.working.room (omega (arith, below)))
-              (some-part done below) (save-call (Save done headers) at tt done call);
+          step = save-step sector seals layout before old of runs
+              (atom-here (Save done headers) at tt) new.disk succeeded done below had.3 tells call
+              (header_by headers.opened) (header_by headers.moved.commit)
+              (saving (saved_at before.site done)) (fetched done text) refl;
           goes = staying seals layout after old new becomes
               (record before { next = after_save before.site done headers }) to of.runs
               (after_save before.site done headers) refl
-              (led_by layout before headers (saving (done + many))
+              (led_by layout before headers (saving saved)
               (after_saving (count_of before.site) done many text))
-              (behind-later seals layout before headers done some far below) map;
+              (behind-later seals layout before headers known done had.3 some far below) map;
         }
 
     pub keeps-on : (headers : Headers) → before.next ≡ Keep headers
@@ -384,7 +302,8 @@ module _ {C : Type 0} (sector : C → ℕ) (seals : Seals) (layout : Layout) (be
         let map = early-map sector seals layout before old of (Keep headers) at tt in
         let had = needs sector seals layout before old of (Keep headers) at in
         let part = first_part before in
-        let count = count_of before.site in
+        let count = saved_count before.site in
+        let any = saved-some before.site.guard before.site.atom (count_of before.site) known had.0 in
         let start : stage_of (stage_in headers.opened.copies) ≡ begun = ap stage_of had.2 in
         record {
           work = led_by layout before headers (saving count) part;
@@ -404,8 +323,8 @@ module _ {C : Type 0} (sector : C → ℕ) (seals : Seals) (layout : Layout) (be
               move-header sector before old of.working of.stored of.ruled map (fits-by sector seals layout before old of map) headers
                   had.1.0,
             );
-            leads = λ first other. absurd (let some = had.0 in omega (arith, first, some));
-            keeps = λ first other. absurd (let some = had.0 in omega (arith, first, some));
+            leads = λ first other. absurd (omega (arith, first, any));
+            keeps = λ first other. absurd (omega (arith, first, any));
           };
           step = calls.keeps part call;
           goes = staying seals layout after old new becomes (record before { next = Open headers })

@@ -91,9 +91,9 @@ module _ {C : Type 0} (sector : C → ℕ) (seal unseal : C → ℕ → List ℕ
       → Goes seals old new before after step → Same
   goes-same seals old new step (steps.begins at call to) = kept _ _ _ to
   goes-same seals old new step (steps.reads_first at call read) = kept _ _ _ read.is
-  goes-same seals old new step (steps.saves_first at call headers are begun to) = kept _ _ _ to
+  goes-same seals old new step (steps.saves_first at tells call headers are begun to) = kept _ _ _ to
   goes-same seals old new step (steps.reads n headers at call read) = kept _ _ _ read.is
-  goes-same seals old new step (steps.saves n headers at call to) = kept _ _ _ to
+  goes-same seals old new step (steps.saves n headers at tells call to) = kept _ _ _ to
   goes-same seals old new step (steps.keeps headers at call to) = kept _ _ _ to
   goes-same seals old new step (steps.opens headers commit at call on far to) = kept _ _ _ to
   goes-same seals old new step (steps.opened headers commit at call on last to) = kept _ _ _ to
@@ -111,13 +111,16 @@ module _ {C : Type 0} (sector : C → ℕ) (seal unseal : C → ℕ → List ℕ
 
   stops-same : (seals : Seals) (old new : Device) (fault : ZoneFault)
       → Stops seals old new before after fault → Same
-  stops-same seals old new fault (steps.refuses f at un same stop) = kept _ _ _ stop.is
+  stops-same seals old new fault (steps.clashes_first _ _ at clash same stop) = kept _ _ _ stop.is
+  stops-same seals old new fault (steps.clashes n headers _ _ at clash same stop) =
+      kept _ _ _ stop.is
+  stops-same seals old new fault (steps.refuses f at tells un same stop) = kept _ _ _ stop.is
   stops-same seals old new fault (steps.begin_fails at call stop) = kept _ _ _ stop.is
   stops-same seals old new fault (steps.read_first_fails at call stop) = kept _ _ _ stop.is
-  stops-same seals old new fault (steps.save_first_fails at call stop) = kept _ _ _ stop.is
+  stops-same seals old new fault (steps.save_first_fails at tells call stop) = kept _ _ _ stop.is
   stops-same seals old new fault (steps.read_fails n headers at call stop) =
       kept _ _ _ stop.is
-  stops-same seals old new fault (steps.save_fails n headers at call stop) =
+  stops-same seals old new fault (steps.save_fails n headers at tells call stop) =
       kept _ _ _ stop.is
   stops-same seals old new fault (steps.keep_fails headers at call stop) = kept _ _ _ stop.is
   stops-same seals old new fault (steps.open_fails headers commit at call broken stop) =

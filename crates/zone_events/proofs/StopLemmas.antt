@@ -3,17 +3,19 @@ use Rattle.std.proofs.Common.{◌≡◌, ◌∙◌, ℕ, ◌+◌, ◌<◌, true}
 use Rattle.std.proofs.Common.{List, [], take, Some, refl, sym, ap, subst}
 use Rattle.std.proofs.Common.{arith}
 use Rattle.disk_areas.specs.Commits.{failed_stage, first_written}
-use Rattle.disk_areas.specs.Headers.{Layout}
+use Rattle.disk_areas.specs.Headers.{Header, Layout}
 use Rattle.disk_views.proofs.Blockwise.{one_block, same_blocks}
 use Rattle.disk_views.specs.Parts.{AreBlocks, block_at}
 use Rattle.disk_sizes.specs.declared.Sizes.{Sizes}
-use Rattle.disk_zones.specs.Zones.{moving, opening, saving, writing}
+use Rattle.disk_zones.specs.Zones.{Phase, moving, opening, saving, writing}
+use Rattle.hotzone.proofs.GuardLemmas.{first-place, first-start}
 use Rattle.hotzone.proofs.HeadingLemmas.{same-self}
 use Rattle.hotzone.proofs.KnownLemmas.{SealRuns, part-some}
 use Rattle.hotzone.specs.Endings.{IsEnding, WipesArea, area_at}
 use Rattle.hotzone.specs.Known.{header_by}
-use Rattle.hotzone.specs.Sites.{bytes_at, count_of, part_at}
-use Rattle.hotzone.specs.Steps.{Commits, IsBroken, IsHalted, IsStopped, ReadsPart, SavesPart, WritesPart}
+use Rattle.hotzone.specs.Sites.{bytes_at, count_of, kind_of, part_at, saved_at, saved_count}
+use Rattle.hotzone.specs.Steps.{Commits, IsBroken, IsClash, IsHalted, IsStopped, ReadsPart}
+use Rattle.hotzone.specs.Steps.{SavesPart, TellsPart, WritesPart}
 use Rattle.hotzone.specs.Steps.{ended_by, moved_by, opened_by, part_in, resealed}
 use Rattle.hotzone.specs.declared.worker.Ending.{Ending}
 use Rattle.hotzone.specs.declared.worker.Halt.{Halt}
@@ -25,30 +27,36 @@ use Rattle.hotzone.specs.declared.worker.NextCall.TheVariants.{Save, Keep, Open,
 use Rattle.hotzone.specs.declared.worker.NextCall.TheVariants.{Settle, Move, Finish, End, Wipe, Rest}
 use Rattle.hotzone.specs.declared.worker.Worker.{Worker}
 use Rattle.luks_copies.specs.Held.{stage_in}
+use Rattle.luks_copies.specs.Meanings.{meaning_of}
 use Rattle.luks_copies.specs.Seen.{stage_of}
 use Rattle.luks_store.specs.declared.commit.Prepared.{Prepared}
 use Rattle.sector_disk.specs.Devices.{ReadCall, SyncCall, WriteCall, failed_call}
 use Rattle.segment_map.specs.declared.Side.TheVariants.{Old}
 use Rattle.volume_machine.specs.Seals.{AreLawful, Seals}
 use Rattle.volume_machine.specs.States.{State}
-use Rattle.volume_machine.specs.WorkCalls.{PutsCopy}
+use Rattle.volume_machine.specs.WorkCalls.{PutsCopy, StepFails}
 use Rattle.volume_machine.specs.WorkCalls as calls
-use Rattle.volume_machine.specs.WorkSteps.{Faults, Frees, IsHindered, IsUnfinished}
-use Rattle.volume_machine.specs.WorkSteps.{Hinders, Hindrance, IsNoClash, MissesConclusion, MissesPart, MissesWipe}
+use Rattle.volume_machine.specs.WorkSteps.{Faults, Frees, IsFirstClash, IsHindered, IsUnfinished}
+use Rattle.volume_machine.specs.WorkSteps.{Hinders, Hindrance, IsNoClash, Lacks, MissesConclusion}
+use Rattle.volume_machine.specs.WorkSteps.{MissesPart, MissesWipe}
 use Rattle.volume_machine.specs.WorkSteps.{clashes, closing, no_memory, no_number, no_room}
 use Rattle.volume_machine.specs.Works.{Work, fetched, resting, wanted, wiping}
 use Rattle.volume_machine.specs.declared.keys.Keys.{Keys}
 use Rattle.zone_events.proofs.CallLemmas.{commit-put, moved-sized, most-atoms, opened-sized}
 use Rattle.zone_events.proofs.ConcludeLemmas.{all-new, may-conclude}
 use Rattle.zone_events.proofs.EndLemmas.{ending-sized, wipe-call, wiping-was}
+use Rattle.zone_events.proofs.GroundLemmas.{guard-is}
 use Rattle.zone_events.proofs.HereLemmas.{IsEarly, early-here, early-map, fits-by, fits-here}
 use Rattle.zone_events.proofs.HereLemmas.{late-here, needs, site-atom, was-by}
-use Rattle.zone_events.proofs.SaveLemmas.{saves-text}
+use Rattle.zone_events.proofs.SavedLemmas.{first-clash, part-blocks, save-fault}
+use Rattle.zone_events.proofs.PlanLemmas.{kind-told}
+use Rattle.zone_events.proofs.TellLemmas.{guard-told}
+use Rattle.zone_events.proofs.TextLemmas.{stored-parts}
 use Rattle.zone_events.proofs.TurnLemmas.{same-headers}
-use Rattle.zone_events.proofs.WriteLemmas.{part-blocks, part-resealed}
+use Rattle.zone_events.proofs.WriteLemmas.{part-resealed}
 use Rattle.zone_events.specs.Heads.{header_on}
 use Rattle.zone_events.specs.Promises.{IsOf, Leaves}
-use Rattle.zone_events.specs.Readings.{reading_of}
+use Rattle.zone_events.specs.Readings.{guard_in, reading_of}
 use Rattle.zone_events.specs.Tellings.{area_on}
 use Rattle.zone_events.specs.Works.{areas_behind, at_hand, between, first_part, led_by}
 use Rattle.zone_events.specs.Works.{unnamed, unsealed, work_by, work_of}
@@ -121,24 +129,36 @@ module _ {C : Type 0} (sector : C → ℕ) (seals : Seals) (layout : Layout) (be
   range-some some = omega (arith, some)
 
   -- ---- of the zone up to its first commit
+  guarded : kind_of before.site.guard ≡ guard_in sizes (meaning_of before.loaded.copies.used.bytes)
+  guarded = sym
+      (guard-told sizes (meaning_of before.loaded.copies.used.bytes) before.loaded.valid.meta
+      (Some of.working.zone.now) (stored-parts before.loaded of.stored) of.working.zone.is.known
+      ∙ kind-told of.working.zone.now.conversion.resilience of.working.zone.is.guarded
+      ∙ sym (ap kind_of (guard-is before.loaded of.stored of.ruled before.map before.site
+      of.working.zone)))
+
   hinders-by : (cause : Hindrance) (work : Work) (text : List ℕ) → IsNoClash cause
       → Hinders seals old.map.atom work 0 text cause
   hinders-by (clashes block digest) work text none = absurd none
-  hinders-by no_number work text none = tt
+  hinders-by (no_number left needed) work text none = tt
   hinders-by (no_room len limit) work text none = tt
   hinders-by no_memory work text none = tt
 
-  pub hindered-on : (cause : Hindrance) → IsNoClash cause → before.next ≡ SaveFirst
+  pub hindered-on : (cause : Hindrance) → IsNoClash cause
+      → Lacks (reading_of sizes) (header_on before.loaded) 2 cause → before.next ≡ SaveFirst
       → new.disk ≡ old.disk → IsHalted before after SaveFirst GivenUp
-      → IsHindered seals old new cause
+      → IsHindered (reading_of sizes) seals old new cause
   unfolding work_by
-  hindered-on cause none at same stop = record {
+  hindered-on cause none lacks at same stop = record {
     work = unnamed layout before (fetched 0 (part_in before 0));
     first = 0;
     text = part_in before 0;
     part = refl;
+    guard = guarded;
     hinders = hinders-by cause (unnamed layout before (fetched 0 (part_in before 0)))
         (part_in before 0) none;
+    lacks = λ _. lacks;
+    unsaved = λ _. refl;
     rests = same;
     gives_up = record {
       was = was-by sector seals layout before old of SaveFirst at;
@@ -146,6 +166,80 @@ module _ {C : Type 0} (sector : C → ℕ) (seals : Seals) (layout : Layout) (be
       some = range-some (needs sector seals layout before old of SaveFirst at);
       phase = tt;
       frees = left SaveFirst GivenUp stop;
+    };
+  }
+
+  atom-here : (next : NextCall) → before.next ≡ next → IsEarly next
+      → before.site.atom ≡ old.map.atom
+  atom-here next at early =
+      site-atom sector seals layout before old of
+      ∙ sym (early-here sector seals layout before old of next at early).atom
+
+  -- a part of which digests don't tell a block
+  clash-here : (next : NextCall) → before.next ≡ next → IsEarly next
+      → (opened moved : Header (List ℕ)) (phase : Phase) (done block : ℕ) (digest : List ℕ)
+      → IsClash seals before done block digest
+      → IsFirstClash seals old.map.atom
+      (at_hand layout before opened moved phase (fetched done (part_in before done))) done
+      (part_in before done) block digest
+  clash-here next at early opened moved phase done block digest clash =
+      subst (λ a. IsFirstClash seals a
+      (at_hand layout before opened moved phase (fetched done (part_in before done))) done
+      (part_in before done) block digest) (atom-here next at early)
+      (first-clash seals layout before opened moved phase (fetched done (part_in before done)) done
+      block digest runs (part-blocks sector seals layout before old of done) clash)
+
+  pub clashes-first-on : (block : ℕ) (digest : List ℕ) → before.next ≡ SaveFirst
+      → IsClash seals before 0 block digest → new.disk ≡ old.disk
+      → IsHalted before after SaveFirst GivenUp
+      → IsHindered (reading_of sizes) seals old new (clashes block digest)
+  unfolding work_by
+  clashes-first-on block digest at clash same stop = record {
+    work = unnamed layout before (fetched 0 (part_in before 0));
+    first = 0;
+    text = part_in before 0;
+    part = refl;
+    guard = guarded;
+    hinders = clash-here SaveFirst at tt (header_on before.loaded) (header_on before.loaded)
+        (saving 0) 0 block digest clash;
+    lacks = λ none. absurd none;
+    unsaved = λ none. absurd none;
+    rests = same;
+    gives_up = record {
+      was = was-by sector seals layout before old of SaveFirst at;
+      unbroken = of.unbroken;
+      some = range-some (needs sector seals layout before old of SaveFirst at);
+      phase = tt;
+      frees = left SaveFirst GivenUp stop;
+    };
+  }
+
+  pub clashes-on : (done : ℕ) (headers : Headers) (block : ℕ) (digest : List ℕ)
+      → before.next ≡ Save done headers → IsClash seals before done block digest
+      → new.disk ≡ old.disk → IsHalted before after (Save done headers) GivenUp
+      → IsHindered (reading_of sizes) seals old new (clashes block digest)
+  unfolding work_by
+  clashes-on done headers block digest at clash same stop = record {
+    work = led_by layout before headers (saving (saved_at before.site done))
+        (fetched done (part_in before done));
+    first = done;
+    text = part_in before done;
+    part = refl;
+    guard = guarded;
+    hinders = clash-here (Save done headers) at tt (header_by headers.opened)
+        (header_by headers.moved.commit) (saving (saved_at before.site done)) done block digest
+        clash;
+    lacks = λ none. absurd none;
+    unsaved = λ none. absurd none;
+    rests = same;
+    gives_up = record {
+      was = was-by sector seals layout before old of (Save done headers) at;
+      unbroken = of.unbroken;
+      some = range-some
+          (let below = (needs sector seals layout before old of (Save done headers) at).0 in
+          omega (arith, below));
+      phase = tt;
+      frees = left (Save done headers) GivenUp stop;
     };
   }
 
@@ -170,20 +264,6 @@ module _ {C : Type 0} (sector : C → ℕ) (seals : Seals) (layout : Layout) (be
       (take (bytes_at before.site done) after.buffer) old.disk new.disk failed_call)
       (sym (early-here sector seals layout before old of next at early).atom) call
 
-  early-save : (next : NextCall) → before.next ≡ next → IsEarly next → (done : ℕ)
-      → SavesPart before done old.disk new.disk failed_call
-      → WriteCall old.map.atom (before.site.store + done) (part_in before done) old.disk new.disk
-      failed_call
-  early-save next at early done call =
-      subst (λ a. WriteCall a (before.site.store + done) (part_in before done) old.disk new.disk
-      failed_call) (sym (early-here sector seals layout before old of next at early).atom) call
-
-  atom-here : (next : NextCall) → before.next ≡ next → IsEarly next
-      → before.site.atom ≡ old.map.atom
-  atom-here next at early =
-      site-atom sector seals layout before old of
-      ∙ sym (early-here sector seals layout before old of next at early).atom
-
   pub read-first-fails-on : before.next ≡ ReadFirst
       → ReadsPart before 0 after.buffer old.disk new.disk failed_call
       → IsStopped before after ReadFirst GivenUp → MissesPart old new
@@ -203,23 +283,23 @@ module _ {C : Type 0} (sector : C → ℕ) (seals : Seals) (layout : Layout) (be
     };
   }
 
-  pub save-first-fails-on : before.next ≡ SaveFirst
+  pub save-first-fails-on : before.next ≡ SaveFirst → TellsPart seals before 0
       → SavesPart before 0 old.disk new.disk failed_call
       → IsHalted before after SaveFirst Failed → Faults seals old new
   unfolding work_by
-  save-first-fails-on at call stop =
+  save-first-fails-on at tells call stop =
       let text = part_in before 0 in
       record {
         work = unnamed layout before (fetched 0 text);
         was = was-by sector seals layout before old of SaveFirst at;
         unbroken = of.unbroken;
         phase = saving 0;
-        fails = calls.save_fails 0 (part_at before.site 0) text text
-            (saves-text seals layout before (header_on before.loaded) (header_on before.loaded)
-            (saving 0) (fetched 0 text) old.map.atom 0 (atom-here SaveFirst at tt) of.working.room
-            (omega arith))
-            (some-part 0 (needs sector seals layout before old of SaveFirst at))
-            (early-save SaveFirst at tt 0 call);
+        fails = subst (λ n. StepFails seals old.map.atom (unnamed layout before (fetched 0 text))
+            old.disk new.disk (saving n) (fetched 0 text) (saving n)) (first-place before.site)
+            (save-fault sector seals layout before old of runs (atom-here SaveFirst at tt) new.disk
+            failed_call 0 (needs sector seals layout before old of SaveFirst at)
+            (first-start before.site (fits-here sector seals layout before old of).known) tells call
+            (header_on before.loaded) (header_on before.loaded) (saving 0) (fetched 0 text) refl);
         frees = left SaveFirst Failed stop;
       }
 
@@ -228,7 +308,7 @@ module _ {C : Type 0} (sector : C → ℕ) (seals : Seals) (layout : Layout) (be
       → IsStopped before after (Read done headers) GivenUp → MissesPart old new
   unfolding work_by
   read-fails-on done headers at call stop = record {
-    work = led_by layout before headers (saving done) (wanted done);
+    work = led_by layout before headers (saving (saved_at before.site done)) (wanted done);
     first = done;
     part = refl;
     text = take (bytes_at before.site done) after.buffer;
@@ -245,22 +325,21 @@ module _ {C : Type 0} (sector : C → ℕ) (seals : Seals) (layout : Layout) (be
   }
 
   pub save-fails-on : (done : ℕ) (headers : Headers) → before.next ≡ Save done headers
-      → SavesPart before done old.disk new.disk failed_call
+      → TellsPart seals before done → SavesPart before done old.disk new.disk failed_call
       → IsHalted before after (Save done headers) Failed → Faults seals old new
   unfolding work_by
-  save-fails-on done headers at call stop =
+  save-fails-on done headers at tells call stop =
       let text = part_in before done in
-      let below = (needs sector seals layout before old of (Save done headers) at).0 in
+      let had = needs sector seals layout before old of (Save done headers) at in
       record {
-        work = led_by layout before headers (saving done) (fetched done text);
+        work = led_by layout before headers (saving (saved_at before.site done)) (fetched done text);
         was = was-by sector seals layout before old of (Save done headers) at;
         unbroken = of.unbroken;
-        phase = saving done;
-        fails = calls.save_fails done (part_at before.site done) text text
-            (saves-text seals layout before (header_by headers.opened)
-            (header_by headers.moved.commit) (saving done) (fetched done text) old.map.atom done
-            (atom-here (Save done headers) at tt) of.working.room (omega (arith, below)))
-            (some-part done below) (early-save (Save done headers) at tt done call);
+        phase = saving (saved_at before.site done);
+        fails = save-fault sector seals layout before old of runs
+            (atom-here (Save done headers) at tt) new.disk failed_call done had.0 had.3 tells call
+            (header_by headers.opened) (header_by headers.moved.commit)
+            (saving (saved_at before.site done)) (fetched done text) refl;
         frees = left (Save done headers) Failed stop;
       }
 
@@ -269,7 +348,7 @@ module _ {C : Type 0} (sector : C → ℕ) (seals : Seals) (layout : Layout) (be
       → Faults seals old new
   unfolding work_by
   keep-fails-on headers at call stop =
-      let count = count_of before.site in
+      let count = saved_count before.site in
       record {
         work = led_by layout before headers (saving count) (first_part before);
         was = was-by sector seals layout before old of (Keep headers) at;
@@ -350,7 +429,7 @@ module _ {C : Type 0} (sector : C → ℕ) (seals : Seals) (layout : Layout) (be
       let again : unsealed seals first (take (bytes_at before.site done) after.buffer) ≡ text =
       ap (unsealed seals first) told
       ∙ unseals before.site.atom seals runs back first (part_at before.site done) text
-      (part-blocks sector seals layout before old of runs done) in
+      (part-blocks sector seals layout before old of done) in
       record {
         work = led_by layout before headers (writing done) (fetched done text);
         was = was-by sector seals layout before old of (Write done headers) at;
@@ -409,10 +488,11 @@ module _ {C : Type 0} (sector : C → ℕ) (seals : Seals) (layout : Layout) (be
       }
 
   -- ---- of the end
-  pub unfinished-on : (cause : Hindrance) → IsNoClash cause → before.next ≡ Finish
-      → IsHalted before after Finish GivenUp → IsUnfinished old new cause
+  pub unfinished-on : (cause : Hindrance)
+      → Lacks (reading_of sizes) (header_on before.loaded) 1 cause → before.next ≡ Finish
+      → IsHalted before after Finish GivenUp → IsUnfinished (reading_of sizes) old new cause
   unfolding work_by
-  unfinished-on cause none at stop =
+  unfinished-on cause lacks at stop =
       let map = early-map sector seals layout before old of Finish at tt in
       let here = early-here sector seals layout before old of Finish at tt in
       record {
@@ -425,7 +505,7 @@ module _ {C : Type 0} (sector : C → ℕ) (seals : Seals) (layout : Layout) (be
         lane = (of.free at).lane;
         last = (of.free at).last;
         free = (of.free at).free;
-        hinders = none;
+        lacks = lacks;
         same = left Finish GivenUp stop;
       }
 

@@ -39,7 +39,7 @@ area-in copy long =
     (long-field 264 184 copy (omega (arith, long)))
     ∙ drop-drop 3584 512 copy
 
-text-in : (copy : List ℕ) → 4096 ≤ length copy → text_in (meaning_of copy) ≡ text_of copy
+pub text-in : (copy : List ℕ) → 4096 ≤ length copy → text_in (meaning_of copy) ≡ text_of copy
 unfolding text_of
 text-in copy long = ap up_to_nul (area-in copy long)
 

@@ -1,13 +1,17 @@
 -- The headers of a zone turn its blocks: the one with the zone open to a zone, the one with the
 -- boundary moved to new ones.
-use Rattle.std.proofs.Common.{◌≡◌, ◌∙◌, ◌⊎◌, inl, inr, ℕ, ◌+◌, ◌<◌, ◌≤◌, Some}
+use Rattle.std.proofs.Common.{◌≡◌, ◌∙◌, ◌⊎◌, inl, inr, ℕ, ◌+◌, ◌<◌, ◌≤◌, List, Some}
 use Rattle.std.proofs.Common.{Ok, suc, length, refl, sym, ap, ap₂, subst, arith}
 use Rattle.disk_areas.specs.Commits.{Follows}
 use Rattle.disk_areas.specs.Headers.{IsHeader, Layout}
+use Rattle.disk_zones.specs.Standing.{new_start}
+use Rattle.disk_zones.specs.Zones.{Hotzone}
 use Rattle.hotzone.specs.Headings.{AreOf, IsSame}
 use Rattle.hotzone.specs.Known.{header_by}
-use Rattle.hotzone.specs.Sites.{count_of, start_by}
+use Rattle.hotzone.specs.Sites.{count_of, kind_of, start_by}
 use Rattle.hotzone.specs.Workers.{IsNextZone, IsWorking}
+use Rattle.hotzone.specs.declared.site.Guard.{Guard}
+use Rattle.hotzone.specs.declared.site.Guard.TheVariants as guards
 use Rattle.hotzone.specs.declared.worker.Headers.{Headers}
 use Rattle.hotzone.specs.declared.worker.Worker.{Worker}
 use Rattle.luks_bin.specs.declared.header.BinHeader.{BinHeader}
@@ -20,6 +24,7 @@ use Rattle.luks_rules.specs.Shapes.{progress_of}
 use Rattle.luks_rules.specs.States.{IsSound as IsRuled}
 use Rattle.luks_rules.specs.declared.plan.Plan.{Plan}
 use Rattle.luks_rules.specs.declared.shape.Progress.{Progress}
+use Rattle.luks_store.proofs.StoredLemmas.{rules-kept}
 use Rattle.luks_store.specs.Loads.{IsStored}
 use Rattle.luks_store.specs.declared.commit.Prepared.{Prepared}
 use Rattle.luks_store.specs.declared.copies.Copies.{Copies}
@@ -48,6 +53,11 @@ use Rattle.zone_events.specs.Heads.{header_on}
 use Rattle.zone_events.specs.Readings.{map_of, parts_in, reading_of}
 use Rattle.zone_events.specs.Works.{unnamed}
 use Rattle.zone_events.proofs.AlikeLemmas.{IsAlike, turns-by}
+
+-- new atoms take the places of the old ones
+new-place : (g : Guard) (zone : Hotzone (List ℕ)) → new_start (kind_of g) zone ≡ zone.own.start
+new-place guards.Journal zone = refl
+new-place guards.Checksum zone = refl
 
 -- ---- how far a conversion is with a zone open, and with the boundary moved over it
 boundary-opened : (d : order) (n : ℕ) (plan : Plan) → plan.zone ≡ 0
@@ -311,7 +321,8 @@ module _ {C K : Type 0} (sector : C → ℕ) (w : Worker C) (old : State K)
         goes-on w.loaded.valid.sizes are.now
         (opened are.now.conversion.direction (count_of w.site) are.now.plan) w.loaded.valid.meta
         are.between.valid.meta are.opens (meaning_of w.loaded.copies.used.bytes)
-        (header_by headers.opened).means (stored-parts w.loaded stored) open-parts are.known;
+        (header_by headers.opened).means (stored-parts w.loaded stored) open-parts
+        (rules-kept w.loaded stored) are.known;
     moves =
         goes-on w.loaded.valid.sizes
         (progress_at (opened are.now.conversion.direction (count_of w.site) are.now.plan) are.now)
@@ -319,7 +330,7 @@ module _ {C K : Type 0} (sector : C → ℕ) (w : Worker C) (old : State K)
         (opened are.now.conversion.direction (count_of w.site) are.now.plan))
         are.between.valid.meta headers.moved.loaded.valid.meta are.moves
         (header_by headers.opened).means (header_by headers.moved.commit).means open-parts
-        move-parts are.opens.progress;
+        move-parts are.opens.valid are.opens.progress;
   }
 
   module _ (salt : length w.loaded.copies.primary.salt ≡ 64) where
@@ -367,5 +378,11 @@ module _ {C K : Type 0} (sector : C → ℕ) (w : Worker C) (old : State K)
         (header_by headers.moved.commit))
     both-lead layout part = record {
       opens = λ to. (open-succeeds, open-turns);
-      moves = (move-succeeds, move-turns);
+      moves = (
+        move-succeeds,
+        subst (λ n. Turns old.disk.atoms w.site.blocks New n old.map
+            (map_of w.loaded.valid.sizes (header_by headers.moved.commit).means))
+            (sym (new-place w.site.guard (named (unnamed layout w part) (header_by headers.opened)
+            (header_by headers.moved.commit)).zone)) move-turns,
+      );
     }

@@ -5,8 +5,6 @@ use Rattle.std.proofs.Common.{refl, sym, ap, ap₂, subst, arith}
 use Rattle.std.proofs.lemmas.Bool.{eqb-true}
 use Rattle.disk_areas.specs.Commits.{begun, next_stage}
 use Rattle.disk_areas.specs.Headers.{Layout}
-use Rattle.disk_views.proofs.Blockwise.{bytes-take}
-use Rattle.disk_views.specs.Parts.{AreBlocks}
 use Rattle.disk_sizes.specs.declared.Sizes.{Sizes}
 use Rattle.disk_zones.specs.Zones.{from_of, moving, opening, writing}
 use Rattle.hotzone.proofs.KnownLemmas.{SealRuns, each-resealed, part-some}
@@ -44,6 +42,7 @@ use Rattle.zone_events.proofs.HereLemmas.{becoming, early-here, early-map, first
 use Rattle.zone_events.proofs.HereLemmas.{late-here, late-map, needs, site-atom, staying, was-by}
 use Rattle.zone_events.proofs.HereLemmas.{IsLate}
 use Rattle.zone_events.proofs.SaveLemmas.{not-at-rest}
+use Rattle.zone_events.proofs.SavedLemmas.{part-blocks}
 use Rattle.zone_events.proofs.TurnLemmas.{same-headers}
 use Rattle.zone_events.specs.Heads.{header_on}
 use Rattle.zone_events.specs.Promises.{IsOf}
@@ -108,19 +107,12 @@ module _ {C : Type 0} (sector : C → ℕ) (seals : Seals) (layout : Layout) (be
     (old : State (Keys C)) (of : IsOf sector seals layout before old)
     (runs : SealRuns before.site.atom seals) where
   -- a part that is sealed anew
-  pub part-blocks : (done : ℕ)
-      → AreBlocks before.site.atom (part_at before.site done) (part_in before done)
-  part-blocks done = record {
-    size = part-long before.site before.buffer before.site.atom done refl of.working.room;
-    are_bytes = bytes-take (bytes_at before.site done) before.buffer of.bytes;
-  }
-
   pub part-resealed : (done atom : ℕ) → before.site.atom ≡ atom
       → IsResealed seals atom (before.site.blocks.start + done) (part_at before.site done)
       (part_in before done)
       (resealed seals (before.site.blocks.start + done) (part_in before done))
   part-resealed done atom is =
-      let blocks = part-blocks done in
+      let blocks = part-blocks sector seals layout before old of done in
       let first = before.site.blocks.start + done in
       let plain = runs.lawful.keeps_opened Old first _ _ blocks in
       subst (λ a. IsResealed seals a first (part_at before.site done) (part_in before done)

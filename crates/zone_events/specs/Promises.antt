@@ -73,7 +73,7 @@ abbrev pub answer_of : Result Stepped ZoneFault → Worked
 answer_of (Ok step) = stepped
 answer_of (Err faults.Device) = faulted
 answer_of (Err (faults.DigestClash block digest)) = hindered (clashes block digest)
-answer_of (Err faults.SeqEnd) = hindered no_number
+answer_of (Err (faults.SeqEnd left needed)) = hindered (no_number left needed)
 answer_of (Err (faults.JsonFull len limit)) = hindered (no_room len limit)
 answer_of (Err faults.Memory) = hindered no_memory
 

@@ -1,5 +1,5 @@
 -- How the header of a volume is read for its blocks.
-use Rattle.std.specs.Prelude.{ℕ, ◌≡◌, ◌+◌, ◌^◌, ◌&&◌, nat_le, nat_lt, Bool, true, false, List}
+use Rattle.std.specs.Prelude.{ℕ, ◌≡◌, ◌+◌, ◌-◌, ◌^◌, ◌&&◌, nat_le, nat_lt, Bool, true, false, List}
 use Rattle.std.specs.Prelude.{drop, is_some, Option, Some, None, Result, Ok, Err}
 use Rattle.std.proofs.Common.{refl}
 use Rattle.std.proofs.lemmas.Bool.{and_parts, leb-true, ltb-true}
@@ -129,7 +129,11 @@ shape_of sizes (Err fault) = no_shape
 unfoldable pub map_of : Sizes → List ℕ → Map
 map_of sizes means = map_by (shape_of sizes (parts_in means))
 
--- ---- and what else a header says
+-- ---- and what else a header says: its text has room behind the 4096 bytes of the binary header, but
+-- for the byte that ends it
+unfoldable pub room_in : List ℕ → ℕ
+room_in means = size_in means - 4097
+
 unfoldable pub sealing_in : Sizes → List ℕ → Side → List ℕ
 sealing_in sizes means side = sealing_of sizes (parts_in means) side
 
@@ -149,6 +153,7 @@ keyslots_in sizes means = keyslots_of sizes (parts_in means)
 abbrev pub reading_of : Sizes → Reading
 reading_of sizes = record {
   reader = header_reader;
+  room = room_in;
   map_of = map_of sizes;
   hash = saved_hash;
   sealing = sealing_in sizes;

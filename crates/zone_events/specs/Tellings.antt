@@ -1,60 +1,94 @@
--- What the metadata of a header tell besides the map: how its sides are sealed, what guards the zones
--- of a conversion, and where its keyslots lie.
-use Rattle.std.specs.Prelude.{ℕ, ◌/◌, not, List, [], ◌∷◌, ◌++◌, map, Option, Some, None}
-use Rattle.std.specs.Prelude.{option_and_then, Result, Ok, Err}
+-- What the metadata of a header tell besides the map: how its sides are sealed and which keyslots give
+-- the key, what guards the zones of a conversion, and where its keyslots lie.
+use Rattle.std.specs.Prelude.{ℕ, ◌/◌, not, Bool, false, List, [], ◌∷◌, map, Option, Some, None}
+use Rattle.std.specs.Prelude.{option_and_then, option_map, Result, Ok, Err}
 use Rattle.std.specs.List.{filter}
 use Rattle.disk_areas.specs.Areas.{Area as DiskArea}
 use Rattle.disk_sizes.specs.declared.Sizes.{Sizes}
 use Rattle.disk_zones.specs.Zones.{Resilience, checksum, datashift, journal}
 use Rattle.hotzone.specs.Endings.{is_left}
 use Rattle.json_members.specs.declared.faults.JsonFault.{JsonFault}
-use Rattle.luks_json.specs.Digests.{digest_members}
-use Rattle.luks_json.specs.Segments.{encryption_fields}
+use Rattle.luks_json.specs.Metas.{data_of}
+use Rattle.luks_json.specs.declared.config.Config.{Config}
 use Rattle.luks_json.specs.declared.digest.Digest.{Digest}
 use Rattle.luks_json.specs.declared.meta.Parts.{Parts}
 use Rattle.luks_json.specs.declared.reencrypt.Resilience.{Resilience as Guard}
 use Rattle.luks_json.specs.declared.reencrypt.Resilience.TheVariants as guards
-use Rattle.luks_json.specs.declared.segment.Encryption.{Encryption}
-use Rattle.json_members.specs.Members.{put_all}
+use Rattle.luks_json.specs.declared.segment.Segment.{Segment}
+use Rattle.luks_json.specs.declared.segment.SegmentSize.TheVariants.{Dynamic}
 use Rattle.luks_rules.specs.Areas.{areas_of}
 use Rattle.luks_rules.specs.Idles.{idle_of}
-use Rattle.luks_rules.specs.References.{value_at}
+use Rattle.luks_rules.specs.References.{lists, value_at}
+use Rattle.luks_rules.specs.Rules.{first_fault}
 use Rattle.luks_rules.specs.Shapes.{progress_of}
 use Rattle.luks_rules.specs.declared.areas.Area.{Area}
 use Rattle.luks_rules.specs.declared.extents.Extent.{Extent}
+use Rattle.luks_rules.specs.declared.fault.RuleFault.{RuleFault}
 use Rattle.luks_rules.specs.declared.idle.Idle.{Idle}
 use Rattle.luks_rules.specs.declared.shape.Progress.{Progress}
 use Rattle.reenc_meta.specs.Layouts.{whole_on}
 use Rattle.segment_map.specs.declared.Side.{Side}
-use Rattle.serde_json.specs.Data.{no_members, object}
-use Rattle.serde_json.specs.Written.{compact_text}
+use Rattle.serde_json.specs.Data.{no_members}
 use Rattle.volume_machine.specs.Works.{nowhere}
+use Rattle.zone_events.specs.Codes.{value_code}
 
--- ---- how a segment is sealed, as text: the cipher, the sectors and the number of the first one, and
--- the digest that tells the key, whatever it lists; a linear one has neither
-abbrev pub encryption_text : Option Encryption → List ℕ
-encryption_text None = []
-encryption_text (Some e) = compact_text (object (put_all (encryption_fields e) no_members))
+-- ---- a side of the volume by itself, as metadata: its whole segment, the digest that tells its key,
+-- and the keyslots which that lists, and nothing else. A linear segment of a conversion has neither.
+abbrev pub for_one : Digest → Digest
+for_one d = record d { segments = 0 ∷ [] }
 
-abbrev pub without_lists : Digest → Digest
-without_lists d = record d { keyslots = []; segments = [] }
+abbrev pub digest_on : Parts → Extent → Option Digest
+digest_on m e = option_map for_one (option_and_then (value_at m.digests) e.digest)
 
-abbrev pub key_text : Option Digest → List ℕ
-key_text None = []
-key_text (Some d) = compact_text (object (digest_members (without_lists d)))
+abbrev pub is_listed : Option Digest → ℕ → Bool
+is_listed None n = false
+is_listed (Some d) n = lists d.keyslots n
 
-unfoldable pub seal_text : Parts → Extent → List ℕ
-seal_text m e =
-    encryption_text e.encryption ++ key_text (option_and_then (value_at m.digests) e.digest)
+abbrev pub numbered : Option ℕ → Option Digest → List (ℕ × Digest)
+numbered (Some n) (Some d) = (n, d) ∷ []
+numbered _ _ = []
+
+abbrev pub whole_segment : Extent → Segment
+whole_segment e = record {
+  offset = e.offset;
+  size = Dynamic;
+  encryption = e.encryption;
+  flags = None;
+  rest = no_members;
+}
+
+abbrev pub no_config : Config
+no_config =
+    record { json_size = 0; keyslots_size = 0; requirements = None; rest = no_members }
+
+unfoldable pub side_alone : Parts → Extent → Parts
+side_alone m e = record {
+  keyslots = filter (λ slot. is_listed (digest_on m e) slot.0) m.keyslots;
+  tokens = [];
+  segments = (0, whole_segment e) ∷ [];
+  digests = numbered e.digest (digest_on m e);
+  config = no_config;
+  rest = no_members;
+}
+
+-- and as the numbers that tell it
+unfoldable pub side_code : Parts → Extent → List ℕ
+side_code m e = value_code (data_of (side_alone m e))
 
 -- the two whole segments of a conversion, or the one of a volume of which nothing is converted
 abbrev pub sealing_by : Parts → Option Progress → Option Idle → Side → List ℕ
-sealing_by m (Some p) idle side = seal_text m (whole_on p side)
-sealing_by m None (Some v) side = seal_text m v.segment
+sealing_by m (Some p) idle side = side_code m (whole_on p side)
+sealing_by m None (Some v) side = side_code m v.segment
 sealing_by m None None side = []
 
+-- metadata that break a rule tell of no side
+abbrev pub unless_broken : Option RuleFault → List ℕ → List ℕ
+unless_broken None code = code
+unless_broken (Some fault) code = []
+
 abbrev pub sealing_of : Sizes → Result Parts JsonFault → Side → List ℕ
-sealing_of sizes (Ok m) side = sealing_by m (progress_of m sizes) (idle_of m sizes) side
+sealing_of sizes (Ok m) side =
+    unless_broken (first_fault m sizes) (sealing_by m (progress_of m sizes) (idle_of m sizes) side)
 sealing_of sizes (Err fault) side = []
 
 -- ---- the conversion: whether there is one; what guards its zones, and in which area

@@ -6,7 +6,7 @@ use Rattle.disk_areas.specs.Commits.{Stage, failed_stage}
 use Rattle.disk_areas.specs.Headers.{Header, Layout}
 use Rattle.disk_zones.specs.Zones.{Phase, from_of, saving, writing}
 use Rattle.hotzone.specs.Known.{halted_in, header_by, zone_by}
-use Rattle.hotzone.specs.Sites.{count_of, part_at}
+use Rattle.hotzone.specs.Sites.{count_of, part_at, saved_at, saved_count}
 use Rattle.hotzone.specs.Steps.{part_in}
 use Rattle.hotzone.specs.declared.worker.Ending.{Ending}
 use Rattle.hotzone.specs.declared.worker.Halt.{Halt}
@@ -99,11 +99,12 @@ work_by seals layout worker ReadFirst halted = unnamed layout worker (wanted 0)
 work_by seals layout worker SaveFirst halted =
     unnamed layout worker (fetched 0 (part_in worker 0))
 work_by seals layout worker (Read done headers) halted =
-    led_by layout worker headers (saving done) (wanted done)
+    led_by layout worker headers (saving (saved_at worker.site done)) (wanted done)
 work_by seals layout worker (Save done headers) halted =
-    led_by layout worker headers (saving done) (fetched done (part_in worker done))
+    led_by layout worker headers (saving (saved_at worker.site done))
+    (fetched done (part_in worker done))
 work_by seals layout worker (Keep headers) halted =
-    led_by layout worker headers (saving (count_of worker.site)) (first_part worker)
+    led_by layout worker headers (saving (saved_count worker.site)) (first_part worker)
 work_by seals layout worker (Open headers) halted =
     led_by layout worker headers (halted_in worker.site (Open headers) halted) (first_part worker)
 work_by seals layout worker (ReadAgain done headers) halted =

@@ -4,6 +4,7 @@ ghost use Rattle.zone_events.specs.Holding.{AtomsAgree, MapsFollow, SizesAreTold
 ghost use Rattle.zone_events.specs.Holding.{ZonesArePlanned, ZonesBeginInOrder};
 ghost use Rattle.zone_events.specs.Promises.{StepsAreWorks, StepsKeepGround, StepsKeepParts};
 ghost use Rattle.zone_events.specs.Promises.{StepsLeaveNew};
+ghost use Rattle.zone_events.specs.Sides.{SidesAreTold};
 
 use cipher_laws::SectorCipher;
 use volume_laws::keys_seal_lawfully;
@@ -40,4 +41,11 @@ pub fn zones_begin_in_order<C: SectorCipher>()
 pub fn sizes_are_told<C: SectorCipher>()
     ensures sizes { SizesAreTold C.sector }
     ensures atoms { AtomsAgree C.sector }
+{}
+
+/// A header that tells of a side what one tells that breaks no rule breaks none either, and by itself
+/// the side is by its metadata what it is by the other's: its segment lies at the same place and is
+/// encrypted the same, its key has the same digest, and the same keyslots give it, in the same areas.
+pub fn sides_are_told()
+    ensures { SidesAreTold }
 {}

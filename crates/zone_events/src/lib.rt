@@ -9,5 +9,6 @@
 mod laws;
 
 pub use laws::{
-    maps_follow, sizes_are_told, steps_are_works, zones_are_planned, zones_begin_in_order,
+    maps_follow, sides_are_told, sizes_are_told, steps_are_works, zones_are_planned,
+    zones_begin_in_order,
 };

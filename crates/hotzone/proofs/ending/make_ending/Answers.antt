@@ -38,7 +38,7 @@ returns-in_err-commit-clause-unmade c =
     let p = err_from_is_err_and step.result step.ensures.1 in
     rw (p.1, p.2)
     (unmade-refused c.args.before.now c.in_ok-meta.meta (IsFinishing c.args.before.now)
-    c.in_err-commit.field-0.0
+    c.numbers_left-left.result c.in_err-commit.field-0.0 c.numbers_left-left.ensures
     (is-finishing c.args.before.now c.in-Some.reenc.progress c.in_ok-meta.meta
     (ends (goal.at.returns-in_err-commit-clause-unmade c).In_ok-meta))
     c.in_err-commit.ensures.refused)

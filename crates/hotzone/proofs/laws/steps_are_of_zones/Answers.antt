@@ -2,6 +2,7 @@ use Rattle.std.proofs.Common.{[]}
 use Rattle.disk_zones.specs.Zones.{Texts}
 use Rattle.hotzone.proofs.GoingLemmas.{step-begins, step-ends, step-goes}
 use Rattle.hotzone.proofs.HaltingLemmas.{step-stops}
+use Rattle.hotzone.proofs.KeptLemmas.{step-keeps}
 use Rattle.hotzone.proofs.LawLemmas.{AreCiphers, step-stays}
 use Rattle.hotzone.proofs.StepCallLemmas.{given-by}
 use Rattle.hotzone.proofs.laws.steps_are_of_zones.Goals as goal
@@ -39,4 +40,6 @@ returns g c =
       stays = λ seals layout first middle moved texts worker old new call known.
           step-stays c.zones_stay.ensures seals layout first middle moved texts worker old new call
           known;
+      keeps = λ seals layout first middle moved texts worker view atom saved known.
+          step-keeps seals layout first middle moved texts worker view atom saved known;
     }

@@ -1,6 +1,8 @@
 use Rattle.std.proofs.Common.{subst}
 use Rattle.hotzone.proofs.AskLemmas.{may-make}
+use Rattle.hotzone.proofs.GuardLemmas.{room-later}
 use Rattle.hotzone.proofs.StepLemmas.{made-on, stepped-by}
+use Rattle.hotzone.proofs.WorkingLemmas.{known-atom}
 use Rattle.luks_rules.specs.States.{IsSound}
 use Rattle.luks_rules.specs.declared.valid.Checked.{Checked}
 use Rattle.hotzone.proofs.worker.Worker.advance.Goals as goal
@@ -13,10 +15,22 @@ make-next-requires-clause-may g c =
     c.requires.sizes c.requires.runs c.requires.next in
     rw (next.rest, next.next) (λ κs lives. may)
 
-pub returns : goal.returns
-returns g c =
+pub returns-clause-stepped : goal.returns-clause-stepped
+returns-clause-stepped g c =
     let next = c.take_next-call.ensures in
     stepped-by g.C.SectorCipher.sector _ _ _ c.args.self.now c.requires.working c.requires.runs
     c.requires.sizes c.make-next.new.self _ c.make-next.result.next c.make-next.result.answer _
     (made-on _ _ _ c.args.self.now c.make-next.new.self _ c.make-next.result next.next
-    (rw next.rest at c.make-next.ensures)) c.put_answer.ensures
+    (rw next.rest at c.make-next.ensures.makes)) c.put_answer.ensures
+
+pub returns-clause-room : goal.returns-clause-room
+returns-clause-room g c =
+    let next = c.take_next-call.ensures in
+    let stepped = stepped-by g.C.SectorCipher.sector _ _ _ c.args.self.now c.requires.working
+    c.requires.runs c.requires.sizes c.make-next.new.self _ c.make-next.result.next
+    c.make-next.result.answer _
+    (made-on _ _ _ c.args.self.now c.make-next.new.self _ c.make-next.result next.next
+    (rw next.rest at c.make-next.ensures.makes)) c.put_answer.ensures in
+    room-later c.args.self.now.site _ c.args.scratch.now c.make-next.new.scratch
+    (known-atom g.C.SectorCipher.sector c.args.self.now c.requires.working) stepped.site
+    c.make-next.ensures.scratch c.requires.room

@@ -1,12 +1,13 @@
-use Rattle.std.proofs.Common.{refl, ap}
-use Rattle.hotzone.specs.Steps.{saves, save_fails}
+use Rattle.hotzone.proofs.CompareLemmas.{clash-later, long-on}
+use Rattle.std.proofs.Common.{refl}
 use Rattle.hotzone.proofs.worker.Worker.save.Goals as goal
 
-pub returns-in-Ok : goal.returns-in-Ok
-returns-in-Ok g c =
-    saves c.args.done c.args.headers refl c.in-Ok.ensures
-    (ap (λ n. record c.args.self.now { next = n }) c.behind_save.ensures)
+pub returns-in-Some-clause-makes : goal.returns-in-Some-clause-makes
+returns-in-Some-clause-makes g c =
+    rw c.give_up.ensures
+    (clash-later _ _ _ c.args.self.now c.args.done c.args.headers c.in-Some.fault
+    c.in-Some.ensures.finds refl)
 
-pub returns-in-Err : goal.returns-in-Err
-returns-in-Err g c =
-    save_fails c.args.done c.args.headers refl c.in-Err.ensures (record { is = refl })
+pub returns-in-None-clause-scratch : goal.returns-in-None-clause-scratch
+returns-in-None-clause-scratch g c =
+    long-on _ _ _ c.in-None.ensures.scratch c.save_told.ensures.scratch

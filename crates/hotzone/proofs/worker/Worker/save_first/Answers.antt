@@ -1,11 +1,12 @@
-use Rattle.std.proofs.Common.{refl, subst}
-use Rattle.hotzone.specs.Headings.{IsToCome, IsUnmade}
-use Rattle.hotzone.specs.Steps.{refuses}
+use Rattle.hotzone.proofs.CompareLemmas.{clash-first, long-on}
+use Rattle.std.proofs.Common.{refl}
 use Rattle.hotzone.proofs.worker.Worker.save_first.Goals as goal
 
-pub returns-in-Err : goal.returns-in-Err
-returns-in-Err g c =
-    let before = c.args.self.now.loaded in
-    refuses _ refl
-    (subst (λ n. IsUnmade before 2 (IsToCome before n) c.in-Err.fault) c.len.ensures
-    c.in-Err.ensures.unmade) refl (record { is = refl })
+pub returns-in-Some-clause-makes : goal.returns-in-Some-clause-makes
+returns-in-Some-clause-makes g c =
+    rw c.give_up.ensures
+    (clash-first _ _ _ c.args.self.now c.in-Some.fault c.in-Some.ensures.finds refl)
+
+pub returns-in-None-clause-scratch : goal.returns-in-None-clause-scratch
+returns-in-None-clause-scratch g c =
+    long-on _ _ _ c.in-None.ensures.scratch c.save_made.ensures.scratch

@@ -1,0 +1,19 @@
+use Rattle.std.proofs.Common.{◌+◌, sym, subst}
+use Rattle.hotzone.specs.Sites.{part_at}
+use Rattle.hotzone.specs.Steps.{TellsBy, part_in, resealed}
+use Rattle.hotzone.specs.Workers.{HasRoomBy}
+use Rattle.volume_machine.specs.Seals.{seals_of}
+use Rattle.hotzone.proofs.worker.Worker.find_clash.Goals as goal
+
+pub compare-requires-clause-room : goal.compare-requires-clause-room
+compare-requires-clause-room g c κs within =
+    (subst (λ k. HasRoomBy k c.args.self.now.site c.args.scratch.now) c.in-Checksum.is
+    c.requires.room).0
+
+pub returns-in-Journal-clause-finds : goal.returns-in-Journal-clause-finds
+returns-in-Journal-clause-finds g c =
+    subst (λ k. TellsBy k c.args.self.now.site.atom (part_at c.args.self.now.site c.args.done)
+    (part_in c.args.self.now c.args.done)
+    (resealed (seals_of g.C.SectorCipher.sealed g.C.SectorCipher.opened c.args.self.now.site.atom
+    c.args.self.now.keys) (c.args.self.now.site.blocks.start + c.args.done)
+    (part_in c.args.self.now c.args.done))) (sym c.in-Journal.is) tt
