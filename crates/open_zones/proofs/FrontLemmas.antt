@@ -1,8 +1,7 @@
 -- What is written in front of the keyslots' areas leaves what an image stands for with an open zone.
-use Rattle.std.proofs.Common.{◌≡◌, ◌⊎◌, inl, inr, ℕ, zero, suc, ◌+◌, ◌-◌, ◌*◌, ◌/◌, ◌%◌, ◌<◌, ◌≤◌}
-use Rattle.std.proofs.Common.{◌++◌}
+use Rattle.std.proofs.Common.{◌≡◌, ◌⊎◌, inl, inr, ℕ, ◌+◌, ◌-◌, ◌*◌, ◌/◌, ◌%◌, ◌<◌, ◌≤◌}
 use Rattle.std.proofs.Common.{Bool, true, false, List, [], ◌∷◌, drop, Option, Some, None, Ok}
-use Rattle.std.proofs.Common.{if◌then◌else◌, refl, sym, ◌∙◌, ap, ap₂, subst, arith}
+use Rattle.std.proofs.Common.{if◌then◌else◌, refl, sym, ◌∙◌, ap, subst, arith}
 use Rattle.std.proofs.lemmas.List.Elements.{All-head, All-tail}
 use Rattle.std.proofs.lemmas.Nat.{div-add-mod'}
 use Rattle.std.specs.List.{All, cons_option}
@@ -34,6 +33,7 @@ use Rattle.luks_store.specs.Devices.{front_of}
 use Rattle.luks_store.specs.Loads.{stored_in}
 use Rattle.luks_store.specs.declared.loaded.Stored.{Stored}
 use Rattle.open_zones.proofs.AtomLemmas.{same-atom-from}
+use Rattle.open_zones.proofs.RecoverLemmas.{same-text}
 use Rattle.open_zones.specs.Images.{HoldsOnSide, HoldsOpen, OpenStandsFor}
 use Rattle.open_zones.specs.Images.{OpenStandsUnder, atom_in, seals_at}
 use Rattle.open_zones.specs.Promises.{FrontsKeepImages}
@@ -129,15 +129,6 @@ module _ (m : Parts) (sizes : Sizes) (c : Progress) (sound : IsSound m sizes)
       omega (arith, begin, at, sum)
 
 -- ---- what was saved of a block
-same-text : (one other : Image) (start n : ℕ)
-    → ((place : ℕ) → start ≤ place → one place ≡ other place)
-    → text_from one start n ≡ text_from other start n
-unfolding text_from
-same-text one other start zero same = refl
-same-text one other start (suc n) same =
-    ap₂ (λ x xs. x ++ xs) (same start (omega arith))
-    (same-text one other (suc start) n (λ place from. same place (omega (arith, from))))
-
 module _ (zone : Hotzone (Unit {0})) (first now : Image)
     (own : (k : ℕ) → first (zone.own.start + k) ≡ now (zone.own.start + k))
     (store : (place : ℕ) → zone.store.start ≤ place → first place ≡ now place) (texts : Texts)
@@ -151,7 +142,8 @@ module _ (zone : Hotzone (Unit {0})) (first now : Image)
       (texts.new i)) (own i)
       (subst (λ (text : List ℕ). TellsDigest saved_hash (digest_at saved_hash text i)
       (first (zone.own.start + i)) (texts.old i) (texts.new i))
-      (same-text first now zone.store.start zone.store.count store) is)
+      (same-text first now zone.store.start zone.store.start zone.store.count
+      (λ j below. store (zone.store.start + j) (omega arith))) is)
   tells-on datashift is = absurd is
 
 -- ---- an image

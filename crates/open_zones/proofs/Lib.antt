@@ -2,6 +2,7 @@ pub mod AtomLemmas
 pub mod SavedLemmas
 pub mod OneLemmas
 pub mod TurnLemmas
+pub mod RecoverLemmas
 pub mod FrontLemmas
 pub mod OpeningLemmas
 pub mod MovedLemmas

@@ -1,5 +1,5 @@
 -- Each image that a stop leaves while an open zone is written again stands for the same.
-use Rattle.std.proofs.Common.{◌≡◌, ◌⊎◌, inl, inr, ℕ, ◌+◌, ◌-◌, ◌*◌, ◌<◌, ◌≤◌, Bool}
+use Rattle.std.proofs.Common.{◌≡◌, ◌≢◌, ◌⊎◌, inl, inr, ℕ, ◌+◌, ◌-◌, ◌*◌, ◌<◌, ◌≤◌, Bool}
 use Rattle.std.proofs.Common.{List, take, length, Ok, Some, refl, sym}
 use Rattle.std.proofs.Common.{◌∙◌, ap, subst, arith}
 use Rattle.std.proofs.Math.Nat.{le_of_mul-le-mul_right, mul-le-mul_right}
@@ -14,10 +14,9 @@ use Rattle.disk_views.proofs.Entries.{image_in}
 use Rattle.disk_views.specs.Parts.{AreBlocks, block_at, value_in}
 use Rattle.disk_views.specs.Views.{IsOutside, view_of_cells}
 use Rattle.disk_zones.specs.Promises.{ZoneImageTaken, ZoneStands}
-use Rattle.disk_zones.specs.Standing.{IsKept, IsPhaseOf, IsZoneImage, Recovers}
-use Rattle.disk_zones.specs.Standing.{Stands, new_start}
-use Rattle.disk_zones.specs.Zones.{Hotzone, Phase, ShowsZone, Texts, mending, moving, opening}
-use Rattle.disk_zones.specs.Zones.{saving, shifting, stage_of, turning, writing}
+use Rattle.disk_zones.specs.Standing.{IsPhaseOf, IsZoneImage, Recovers, Stands}
+use Rattle.disk_zones.specs.Zones.{Hotzone, Phase, ShowsZone, Texts, datashift, mending, moving}
+use Rattle.disk_zones.specs.Zones.{opening, saving, shifting, stage_of, turning, writing}
 use Rattle.disk_zones.specs.Zones.{Resilience as Guard}
 use Rattle.luks_copies.specs.Meanings.{header_reader}
 use Rattle.luks_json.specs.declared.meta.Parts.{Parts}
@@ -35,12 +34,13 @@ use Rattle.open_zones.proofs.FrontLemmas.{block-lies}
 use Rattle.open_zones.proofs.MovedLemmas.{key-stays, next-map, next-placed, next-placement}
 use Rattle.open_zones.proofs.MovedLemmas.{next-plan, next-progress, next-turns}
 use Rattle.open_zones.proofs.OneLemmas.{same-progress}
+use Rattle.open_zones.proofs.RecoverLemmas.{kept-few, recovers-as}
 use Rattle.open_zones.proofs.TurnLemmas.{LiesBeside, LiesIn, Turns, beside-zone, map-side}
 use Rattle.open_zones.proofs.TurnLemmas.{zone-is-run}
-use Rattle.open_zones.proofs.WhichLemmas.{Has, phase-of, side-of, sides-in, which}
+use Rattle.open_zones.proofs.WhichLemmas.{Has, new-place, phase-of, side-of, sides-in, which}
 use Rattle.open_zones.specs.Images.{HoldsOnSide, HoldsOpen, HoldsSaved, ImageStandsUnder}
 use Rattle.open_zones.specs.Images.{OpenStandsUnder, atom_in, seals_at, sealed_both}
-use Rattle.open_zones.specs.Mending.{AreSavedIn, IsLeftOf, IsZoneOf, MendingsKeepImages, MovesOver}
+use Rattle.open_zones.specs.Mending.{AreTextsOf, IsLeftOf, IsZoneOf, MendingsKeepImages, MovesOver}
 use Rattle.open_zones.specs.Mending.{ShowsMending, WritesAgain}
 use Rattle.open_zones.specs.Zones.{zone_of}
 use Rattle.reenc_meta.specs.ConversionMaps.{IsMapAt}
@@ -63,7 +63,7 @@ module _ (zones : ZoneStands) (zone_taken : ZoneImageTaken) (taken : ImageTaken)
     (texts : Texts) (phase : Phase) (broken : Bool) (first : List ℕ) (cells : List Cell)
     (image : List (List ℕ)) (old new : List ℕ) (content : List (List ℕ)) (some : 0 < sizes.atom)
     (moves : MovesOver sizes header next c) (by : IsZoneOf sizes header next c layout zone)
-    (saved : AreSavedIn sizes.atom c.plan.first (seals_at sizes.atom c old new) zone first texts)
+    (are : AreTextsOf c.plan.first (seals_at sizes.atom c old new) zone content texts)
     (shows : ShowsMending sizes layout zone texts phase broken first cells)
     (left : IsLeftOf sizes zone phase cells image)
     (held : stored_in sizes (front_of sizes first) ≡ Ok header)
@@ -126,11 +126,11 @@ module _ (zones : ZoneStands) (zone_taken : ZoneImageTaken) (taken : ImageTaken)
   EachStands side = (i : ℕ) → i < zone.own.count
       → Stands saved_hash zone texts (value_in image) i side
 
-  kept : IsKept zone.resilience saved_hash zone texts
-  kept = subst (λ (r : Guard). IsKept r saved_hash zone texts) (sym by.kind) saved.kept
+  unshifted : zone.resilience ≢ datashift
+  unshifted = λ is. by.guarded (sym by.kind ∙ is)
 
   phased : (at : Phase) → WritesAgain at → IsPhaseOf zone.resilience at
-  phased at is = subst (λ (r : Guard). IsPhaseOf r at) (sym by.kind) (phase-of at is)
+  phased at is = phase-of zone.resilience at unshifted is
 
   genuine : IsGenuine header_reader (header_reader.size zone.opened.means) left.handed
       (content_of sizes.header_atoms (value_in image))
@@ -149,12 +149,12 @@ module _ (zones : ZoneStands) (zone_taken : ZoneImageTaken) (taken : ImageTaken)
   found-in (mending n) is dated shown =
       zones sizes.atom sizes.header_atoms header_reader layout zone texts (mending n) saved_hash
       side-by left.handed (value_in image) broken (view_of_cells cells) is_reader
-      (record { before = by.whole; after = by.moved_whole }) (phased (mending n) tt) kept
+      (record { before = by.whole; after = by.moved_whole }) (phased (mending n) tt) are.kept
       (sides-in zone (mending n) tt dated.later) dated in_front genuine shown
   found-in (moving stage) is dated shown =
       zones sizes.atom sizes.header_atoms header_reader layout zone texts (moving stage) saved_hash
       side-by left.handed (value_in image) broken (view_of_cells cells) is_reader
-      (record { before = by.whole; after = by.moved_whole }) (phased (moving stage) tt) kept
+      (record { before = by.whole; after = by.moved_whole }) (phased (moving stage) tt) are.kept
       (sides-in zone (moving stage) tt dated.later) dated in_front genuine shown
   found-in (saving n) is dated shown = absurd is
   found-in (opening stage) is dated shown = absurd is
@@ -254,54 +254,49 @@ module _ (zones : ZoneStands) (zone_taken : ZoneImageTaken) (taken : ImageTaken)
           let at = place-here b in inr (omega (arith, behind, at, start, count))
 
   -- ---- a block of the zone
-  module _ (b : ℕ) (value : List ℕ) (inside : LiesIn c.plan b)
-      (is : HoldsSaved sizes.atom (zone_of sizes c) c.plan.first (seals_at sizes.atom c old new)
-      (atom_in sizes.atom first) b value) where
+  module _ (b : ℕ) (inside : LiesIn c.plan b) where
+    abbrev value : List ℕ
+    value = value_in content b
+
     few : b - c.plan.first < zone.own.count
     few = let from = inside.0 in let below = inside.1 in omega (arith, from, below, count)
 
     whole : c.plan.first + (b - c.plan.first) ≡ b
     whole = let from = inside.0 in omega (arith, from)
 
-    told : block_at sizes.atom first ((zone_of sizes c).store.start + (b - c.plan.first))
-        ≡ (seals_at sizes.atom c old new).sealed Old b value
-    told =
-        subst (λ (r : Guard). Recovers r saved_hash (zone_of sizes c)
-        (sealed_both (seals_at sizes.atom c old new) b value) (atom_in sizes.atom first)
-        (b - c.plan.first)) by.guarded is.tells
-
     old-text : texts.old (b - c.plan.first) ≡ (seals_at sizes.atom c old new).sealed Old b value
     old-text =
-        saved.old (b - c.plan.first) few
-        ∙ ap (λ n. block_at sizes.atom first (n + (b - c.plan.first))) by.store ∙ told
+        are.old (b - c.plan.first) few
+        ∙ ap (λ n. (seals_at sizes.atom c old new).sealed Old n (value_in content n)) whole
 
     new-text : texts.new (b - c.plan.first) ≡ (seals_at sizes.atom c old new).sealed New b value
     new-text =
-        saved.new (b - c.plan.first) few
-        ∙ ap (λ n. (seals_at sizes.atom c old new).sealed New n
-        ((seals_at sizes.atom c old new).opened Old n (texts.old (b - c.plan.first)))) whole
-        ∙ ap (λ text. (seals_at sizes.atom c old new).sealed New b
-        ((seals_at sizes.atom c old new).opened Old b text)) old-text
-        ∙ ap (λ text. (seals_at sizes.atom c old new).sealed New b text) (sym is.old)
+        are.new (b - c.plan.first) few
+        ∙ ap (λ n. (seals_at sizes.atom c old new).sealed New n (value_in content n)) whole
 
     -- by the header that has the zone open
-    saved-still : EachStands Zone → HoldsSaved sizes.atom (zone_of sizes c) c.plan.first
-        (seals_at sizes.atom c old new) (atom_in sizes.atom (joined image)) b value
-    saved-still each =
-        let stored = subst (λ (r : Guard). Recovers r saved_hash zone texts (value_in image)
-        (b - c.plan.first)) by.kind (each (b - c.plan.first) few) in
-        let fits = shows.within.store in
-        let enough = saved.kept.enough in
-        let at = ap (λ n. n + (b - c.plan.first)) by.store in
-        let below : zone.store.start + (b - c.plan.first) < length cells =
-        omega (arith, few, fits, enough) in
+    saved-still : EachStands Zone
+        → HoldsSaved sizes.atom (zone_of sizes c) c.plan.first (seals_at sizes.atom c old new)
+        (atom_in sizes.atom first) b value
+        → HoldsSaved sizes.atom (zone_of sizes c) c.plan.first (seals_at sizes.atom c old new)
+        (atom_in sizes.atom (joined image)) b value
+    saved-still each is =
+        let i = b - c.plan.first in
+        let own_fits = shows.within.own in
+        let store_fits = shows.within.store in
         record {
           are = is.are;
           tells = subst (λ (r : Guard). Recovers r saved_hash (zone_of sizes c)
               (sealed_both (seals_at sizes.atom c old new) b value)
-              (atom_in sizes.atom (joined image)) (b - c.plan.first)) (sym by.guarded)
-              (ap (λ n. block_at sizes.atom (joined image) n) (sym at)
-              ∙ atom-of (zone.store.start + (b - c.plan.first)) below ∙ stored ∙ old-text);
+              (atom_in sizes.atom (joined image)) i) by.kind
+              (recovers-as zone (zone_of sizes c) (value_in image)
+              (atom_in sizes.atom (joined image)) texts
+              (sealed_both (seals_at sizes.atom c old new) b value) i by.store
+              (sym (atom-of (zone.own.start + i) (omega (arith, few, own_fits)))
+              ∙ ap (λ (a : Area). block_at sizes.atom (joined image) (a.start + i)) by.own)
+              (λ place from below. sym (atom-of place (omega (arith, below, store_fits)))) old-text
+              new-text zone.resilience (kept-few zone.resilience zone texts i are.kept few)
+              (each i few));
           old = is.old;
           new = is.new;
         }
@@ -310,8 +305,9 @@ module _ (zones : ZoneStands) (zone_taken : ZoneImageTaken) (taken : ImageTaken)
     new-atom : EachStands New → block_at sizes.atom (joined image) (place_of sizes c.old + b)
         ≡ (seals_at sizes.atom c old new).sealed New b value
     new-atom each =
-        let stored = subst (λ (r : Guard). value_in image (new_start r zone + (b - c.plan.first))
-        ≡ texts.new (b - c.plan.first)) by.kind (each (b - c.plan.first) few) in
+        let stored = subst (λ n. value_in image (n + (b - c.plan.first))
+        ≡ texts.new (b - c.plan.first)) (new-place zone.resilience zone unshifted)
+        (each (b - c.plan.first) few) in
         let fits = shows.within.own in
         let at : zone.own.start + (b - c.plan.first) ≡ place_of sizes c.old + b =
         omega (arith, start, whole) in
@@ -329,17 +325,17 @@ module _ (zones : ZoneStands) (zone_taken : ZoneImageTaken) (taken : ImageTaken)
       (λ is. other (map-side sizes c stands.map b map_is ∙ is))
 
   -- ---- by the header that has the zone open
-  open-block : EachStands Zone → (b : ℕ) (value : List ℕ) (side : Side)
+  open-block : EachStands Zone → (b : ℕ) (side : Side)
       → side_in stands.map b ≡ side
-      → HoldsOnSide sizes c stands.map (seals_at sizes.atom c old new) first b value side
-      → HoldsOnSide sizes c stands.map (seals_at sizes.atom c old new) (joined image) b value side
-  open-block each b value Old at is =
-      subst (λ (text : List ℕ). HoldsBlock stands.map (seals_at sizes.atom c old new) b value text)
+      → HoldsOnSide sizes c stands.map (seals_at sizes.atom c old new) first b (value_in content b) side
+      → HoldsOnSide sizes c stands.map (seals_at sizes.atom c old new) (joined image) b (value_in content b) side
+  open-block each b Old at is =
+      subst (λ (text : List ℕ). HoldsBlock stands.map (seals_at sizes.atom c old new) b (value_in content b) text)
       (sym (rest-atom b (beside b (λ e. let f : Old ≡ Zone = sym at ∙ e in cc)))) is
-  open-block each b value New at is =
-      subst (λ (text : List ℕ). HoldsBlock stands.map (seals_at sizes.atom c old new) b value text)
+  open-block each b New at is =
+      subst (λ (text : List ℕ). HoldsBlock stands.map (seals_at sizes.atom c old new) b (value_in content b) text)
       (sym (rest-atom b (beside b (λ e. let f : New ≡ Zone = sym at ∙ e in cc)))) is
-  open-block each b value Zone at is = saved-still b value (inside-zone b at) is each
+  open-block each b Zone at is = saved-still b (inside-zone b at) each is
 
   still-open : (m : List ℕ) → Gives header_reader (front_of sizes (joined image)) m
       → m ≡ zone.opened.means → EachStands Zone
@@ -363,7 +359,7 @@ module _ (zones : ZoneStands) (zone_taken : ZoneImageTaken) (taken : ImageTaken)
         new_key = subst (λ (x : Parts). IsKeyOf x c.new new) meta new_key;
         holds = record {
           count = holds.count;
-          blocks = λ b below. open-block each b (value_in content b) (side_in stands.map b) refl
+          blocks = λ b below. open-block each b (side_in stands.map b) refl
               (holds.blocks b below);
         };
       }
@@ -398,24 +394,24 @@ module _ (zones : ZoneStands) (zone_taken : ZoneImageTaken) (taken : ImageTaken)
             ∙ ap (λ a. (seals_at sizes.atom c old new).opened (side_in turned-map b) b a) (sym text);
       }
 
-  next-block : EachStands New → (b : ℕ) (value : List ℕ) (side : Side)
+  next-block : EachStands New → (b : ℕ) (side : Side)
       → side_in stands.map b ≡ side → Turns side (side_in turned-map b)
-      → HoldsOnSide sizes c stands.map (seals_at sizes.atom c old new) first b value side
-      → HoldsBlock turned-map (seals_at sizes.atom c old new) b value
+      → HoldsOnSide sizes c stands.map (seals_at sizes.atom c old new) first b (value_in content b) side
+      → HoldsBlock turned-map (seals_at sizes.atom c old new) b (value_in content b)
       (block_at sizes.atom (joined image) (place_in turned-map b))
-  next-block each b value Old at turns is =
-      other-block b value (beside b (λ e. let f : Old ≡ Zone = sym at ∙ e in cc)) (at ∙ sym turns) is
-  next-block each b value New at turns is =
-      other-block b value (beside b (λ e. let f : New ≡ Zone = sym at ∙ e in cc)) (at ∙ sym turns) is
-  next-block each b value Zone at turns is =
+  next-block each b Old at turns is =
+      other-block b (value_in content b) (beside b (λ e. let f : Old ≡ Zone = sym at ∙ e in cc)) (at ∙ sym turns) is
+  next-block each b New at turns is =
+      other-block b (value_in content b) (beside b (λ e. let f : New ≡ Zone = sym at ∙ e in cc)) (at ∙ sym turns) is
+  next-block each b Zone at turns is =
       let text : block_at sizes.atom (joined image) (place_in turned-map b)
-      ≡ (seals_at sizes.atom c old new).sealed New b value =
+      ≡ (seals_at sizes.atom c old new).sealed New b (value_in content b) =
       ap (λ n. block_at sizes.atom (joined image) n) (place-next b)
-      ∙ new-atom b value (inside-zone b at) is each in
+      ∙ new-atom b (inside-zone b at) each in
       record {
         sealed = (
-          subst (λ (n : ℕ). AreBlocks n 1 value) (sym map_is.atom) is.are,
-          text ∙ ap (λ s. (seals_at sizes.atom c old new).sealed s b value) (sym turns),
+          subst (λ (n : ℕ). AreBlocks n 1 (value_in content b)) (sym map_is.atom) is.are,
+          text ∙ ap (λ s. (seals_at sizes.atom c old new).sealed s b (value_in content b)) (sym turns),
         );
         opened = is.new
             ∙ ap (λ a. (seals_at sizes.atom c old new).opened New b a) (sym text)
@@ -449,7 +445,7 @@ module _ (zones : ZoneStands) (zone_taken : ZoneImageTaken) (taken : ImageTaken)
             (key-stays header.valid.meta sizes c plan next.valid.meta c.new new moves.gone new_key);
         holds = record {
           count = holds.count;
-          blocks = λ b below. next-block each b (value_in content b) (side_in stands.map b) refl
+          blocks = λ b below. next-block each b (side_in stands.map b) refl
               (next-turns sizes c stands.map map_is b) (holds.blocks b below);
         };
       }
@@ -470,6 +466,6 @@ module _ (zones : ZoneStands) (zone_taken : ZoneImageTaken) (taken : ImageTaken)
 pub mendings-keep : ZoneStands → ZoneImageTaken → ImageTaken → IsReader header_reader
     → LoadsByMeaning → MendingsKeepImages
 mendings-keep zones zone_taken taken is_reader loads sizes header next c layout zone texts phase
-    broken first cells image old new content some moves by saved shows left held stands =
+    broken first cells image old new content some moves by are shows left held stands =
     stands-on zones zone_taken taken is_reader loads sizes header next c layout zone texts phase
-    broken first cells image old new content some moves by saved shows left held stands
+    broken first cells image old new content some moves by are shows left held stands

@@ -128,7 +128,7 @@ in-run zero b side rest below = absurd (omega (arith, below))
 in-run (suc n) zero side rest below = refl
 in-run (suc n) (suc b) side rest below = in-run n b side rest (omega (arith, below))
 
-in-zone : (way : Direction) (plan : Plan) (b : ℕ) → plan.first ≤ b → b < plan.first + plan.zone
+pub in-zone : (way : Direction) (plan : Plan) (b : ℕ) → plan.first ≤ b → b < plan.first + plan.zone
     → side_by way plan b ≡ Zone
 in-zone Forward plan b from below =
     skip-run plan.first b New _ from

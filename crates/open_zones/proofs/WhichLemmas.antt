@@ -4,9 +4,9 @@ use Rattle.std.proofs.Common.{◌≡◌, ◌≢◌, ◌⊎◌, inl, inr, ℕ, �
 use Rattle.std.proofs.lemmas.Bool.{eq-eqb, ne_eqb}
 use Rattle.disk_areas.specs.Commits.{IsLater, MayBe, Stage, begun, first_kept, first_written}
 use Rattle.disk_areas.specs.Commits.{second_written}
-use Rattle.disk_zones.specs.Standing.{HasSides, IsPhaseOf}
-use Rattle.disk_zones.specs.Zones.{Hotzone, Phase, journal, mending, moving, opening, saving, shifting}
-use Rattle.disk_zones.specs.Zones.{stage_of, turning, writing}
+use Rattle.disk_zones.specs.Standing.{HasSides, IsPhaseOf, new_start}
+use Rattle.disk_zones.specs.Zones.{Hotzone, Phase, Resilience, checksum, datashift, journal, mending}
+use Rattle.disk_zones.specs.Zones.{moving, opening, saving, shifting, stage_of, turning, writing}
 use Rattle.luks_copies.specs.Meanings.{header_reader}
 use Rattle.open_zones.specs.Mending.{WritesAgain}
 use Rattle.segment_map.specs.declared.Side.{Side}
@@ -53,14 +53,25 @@ which second_written from to m later is =
     inr (is, ap (side-of (header_reader.seq from)) is ∙ new-side from to later.0)
 
 -- ---- the phases in which a zone is written again
-pub phase-of : (phase : Phase) → WritesAgain phase → IsPhaseOf journal phase
-phase-of (mending n) is = tt
-phase-of (moving stage) is = tt
-phase-of (saving n) is = absurd is
-phase-of (opening stage) is = absurd is
-phase-of (writing n) is = absurd is
-phase-of (shifting n) is = absurd is
-phase-of (turning stage) is = absurd is
+pub phase-of : (r : Resilience) (phase : Phase) → r ≢ datashift → WritesAgain phase
+    → IsPhaseOf r phase
+phase-of journal (mending n) other is = tt
+phase-of journal (moving stage) other is = tt
+phase-of checksum (mending n) other is = tt
+phase-of checksum (moving stage) other is = tt
+phase-of datashift phase other is = absurd (other refl)
+phase-of r (saving n) other is = absurd is
+phase-of r (opening stage) other is = absurd is
+phase-of r (writing n) other is = absurd is
+phase-of r (shifting n) other is = absurd is
+phase-of r (turning stage) other is = absurd is
+
+-- each new atom stands where the old one does
+pub new-place : (r : Resilience) (zone : Hotzone (List ℕ)) → r ≢ datashift
+    → new_start r zone ≡ zone.own.start
+new-place journal zone other = refl
+new-place checksum zone other = refl
+new-place datashift zone other = absurd (other refl)
 
 module _ (zone : Hotzone (List ℕ)) where
   -- the sides of the zone's blocks by the two headers

@@ -1,16 +1,16 @@
 -- A zone that a stop left open is written again from what was saved of it: what each image stands for
 -- that a stop leaves of that.
-use Rattle.std.specs.Prelude.{ℕ, ◌≡◌, ◌+◌, ◌*◌, ◌<◌, ◌≤◌, Bool, List, length, replicate, Some}
+use Rattle.std.specs.Prelude.{ℕ, ◌≡◌, ◌≢◌, ◌+◌, ◌*◌, ◌<◌, ◌≤◌, Bool, List, length, replicate, Some}
 use Rattle.std.specs.Prelude.{Contains, Ok}
 use Rattle.base_terms.specs.Blocks.{joined, lengths}
 use Rattle.disk_areas.specs.Commits.{IsDated}
 use Rattle.disk_areas.specs.Headers.{Handed, IsGenuine, IsHeader, IsLaidOut, Layout}
 use Rattle.disk_sizes.specs.declared.Sizes.{Sizes}
-use Rattle.disk_views.specs.Parts.{block_at, cell_in}
+use Rattle.disk_views.specs.Parts.{block_at, cell_in, value_in}
 use Rattle.disk_views.specs.Views.{IsOutside, view_of_cells}
-use Rattle.disk_zones.specs.Standing.{HasAtoms, IsWithin}
-use Rattle.disk_zones.specs.Zones.{Hotzone, Phase, ShowsZone, Texts, journal, mending, moving}
-use Rattle.disk_zones.specs.Zones.{stage_of}
+use Rattle.disk_zones.specs.Standing.{IsKept, IsWithin}
+use Rattle.disk_zones.specs.Zones.{Hotzone, Phase, ShowsZone, Texts, datashift, mending}
+use Rattle.disk_zones.specs.Zones.{moving, stage_of}
 use Rattle.luks_copies.specs.Meanings.{header_reader, meaning_of}
 use Rattle.luks_rules.specs.Areas.{areas_begin}
 use Rattle.luks_rules.specs.Shapes.{progress_of}
@@ -24,6 +24,7 @@ use Rattle.reenc_meta.specs.Moves.{IsGoneTo, moved}
 use Rattle.reenc_meta.specs.Placements.{place_of}
 use Rattle.sector_disk.specs.Cells.{Cell, IsImage}
 use Rattle.segment_map.specs.declared.Side.TheVariants.{New, Old}
+use Rattle.volume_machine.specs.Saved.{saved_hash}
 use Rattle.volume_machine.specs.Seals.{Seals}
 
 -- A zone of a conversion is open by the one header, and the other one has the boundary moved over
@@ -39,14 +40,14 @@ pub record MovesOver (sizes : Sizes) (header next : Stored) (c : Progress) : Typ
       (moved c.conversion.direction c.plan.zone c.plan) next.valid.meta
   pub in_place : place_of sizes c.new ≡ place_of sizes c.old
 
--- The zone of the laws of zones is the one that the header has open, guarded by a journal; and both
--- copies lie in front of the keyslots' areas.
+-- The zone of the laws of zones is the one that the header has open, whose blocks are written in
+-- their places; and both copies lie in front of the keyslots' areas.
 pub record IsZoneOf (sizes : Sizes) (header next : Stored) (c : Progress) (layout : Layout)
     (zone : Hotzone (List ℕ)) : Type 0 where
-  pub kind : zone.resilience ≡ journal
-  pub guarded : (zone_of sizes c).resilience ≡ journal
+  pub kind : zone.resilience ≡ (zone_of sizes c).resilience
+  pub guarded : (zone_of sizes c).resilience ≢ datashift
   pub own : zone.own ≡ (zone_of sizes c).own
-  pub store : zone.store.start ≡ (zone_of sizes c).store.start
+  pub store : zone.store ≡ (zone_of sizes c).store
   pub opened : zone.opened.means ≡ meaning_of header.copies.used.bytes
   pub moved : zone.moved.means ≡ meaning_of next.copies.used.bytes
   pub whole : IsHeader header_reader zone.opened
@@ -55,14 +56,16 @@ pub record IsZoneOf (sizes : Sizes) (header next : Stored) (c : Progress) (layou
   pub begin : areas_begin header.valid.meta.config
       ≡ (layout.second.start + layout.second.count) * sizes.atom
 
--- its old atoms are those that these bytes have saved, and its new ones are they sealed anew
-pub record AreSavedIn (atom start : ℕ) (seals : Seals) (zone : Hotzone (List ℕ)) (first : List ℕ)
-    (texts : Texts) : Type 0 where
+-- Its old atoms and its new ones are what the blocks of a content, from this one on, are sealed to on
+-- either side; and it has what its guard needs: by journal the old atoms are saved, by checksum
+-- digests of them that tell them from the new ones.
+pub record AreTextsOf (start : ℕ) (seals : Seals) (zone : Hotzone (List ℕ))
+    (content : List (List ℕ)) (texts : Texts) : Type 0 where
   pub old : (i : ℕ) → i < zone.own.count
-      → texts.old i ≡ block_at atom first (zone.store.start + i)
-  pub new : (i : ℕ) → i < zone.own.count → texts.new i
-      ≡ seals.sealed New (start + i) (seals.opened Old (start + i) (texts.old i))
-  pub kept : HasAtoms zone texts
+      → texts.old i ≡ seals.sealed Old (start + i) (value_in content (start + i))
+  pub new : (i : ℕ) → i < zone.own.count
+      → texts.new i ≡ seals.sealed New (start + i) (value_in content (start + i))
+  pub kept : IsKept zone.resilience saved_hash zone texts
 
 -- it is being written again, or the commit 'boundary moved' is under way
 abbrev pub WritesAgain : Phase → Type 0
@@ -94,14 +97,15 @@ pub record IsLeftOf (sizes : Sizes) (zone : Hotzone (List ℕ)) (phase : Phase) 
       (front_of sizes (joined image))
 
 -- It stands for what the bytes stood for from which the zone is written again, by the header that
--- it has itself: the one with the zone open, or the one with the boundary moved.
+-- it has itself: the one with the zone open, or the one with the boundary moved. So it is by journal
+-- and by checksum.
 abbrev pub MendingsKeepImages : Type 0
 MendingsKeepImages =
     (sizes : Sizes) (header next : Stored) (c : Progress) (layout : Layout)
     (zone : Hotzone (List ℕ)) (texts : Texts) (phase : Phase) (broken : Bool) (first : List ℕ)
     (cells : List Cell) (image : List (List ℕ)) (old new : List ℕ) (content : List (List ℕ))
     → 0 < sizes.atom → MovesOver sizes header next c → IsZoneOf sizes header next c layout zone
-    → AreSavedIn sizes.atom c.plan.first (seals_at sizes.atom c old new) zone first texts
+    → AreTextsOf c.plan.first (seals_at sizes.atom c old new) zone content texts
     → ShowsMending sizes layout zone texts phase broken first cells
     → IsLeftOf sizes zone phase cells image
     → stored_in sizes (front_of sizes first) ≡ Ok header

@@ -65,8 +65,8 @@ pub fn openings_mend_images()
     openings_keep_headers();
 }
 
-/// While a zone that a stop left open is written again from its journal, and the boundary moved over
-/// it, each image that a stop leaves stands for what the bytes stood for from which this began, by
+/// While a zone that a stop left open is written again, guarded by a journal or by checksum, and the
+/// boundary moved over it, each image that a stop leaves stands for what the bytes stood for from which this began, by
 /// the header that it has itself, as long as no torn copy of a header is valid: the zone open, or
 /// the boundary moved.
 pub fn mendings_keep_images()

@@ -11,8 +11,8 @@
 //! keyslots' areas leaves it, [`fronts_keep_images`]. So it is with each image that a stop leaves
 //! of the sync, the reads and the repair of an opening, [`openings_keep_images`]; and behind them
 //! the header is certain, whatever it says of a conversion, [`openings_mend_images`]. An image that a
-//! stop leaves while the open zone is written again from its journal stands for the same by the
-//! header that it has itself, [`mendings_keep_images`].
+//! stop leaves while the open zone is written again, by journal or by checksum, stands for the same
+//! by the header that it has itself, [`mendings_keep_images`].
 #![tactic(auto)]
 
 mod laws;

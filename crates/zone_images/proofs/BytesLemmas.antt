@@ -6,8 +6,9 @@ use Rattle.std.proofs.Math.Nat.{le_of_mul-le-mul_right}
 use Rattle.disk_areas.specs.Areas.{Area}
 use Rattle.disk_areas.specs.Headers.{Gives, Layout}
 use Rattle.disk_sizes.specs.declared.Sizes.{Sizes}
-use Rattle.disk_views.specs.Parts.{block_at}
+use Rattle.disk_views.specs.Parts.{block_at, value_in}
 use Rattle.disk_views.specs.Views.{IsOutside}
+use Rattle.disk_zones.specs.Standing.{Recovers}
 use Rattle.disk_zones.specs.Zones.{Hotzone, Texts}
 use Rattle.luks_copies.specs.Meanings.{header_reader}
 use Rattle.luks_json.specs.declared.meta.Parts.{Parts}
@@ -22,8 +23,9 @@ use Rattle.luks_store.specs.declared.loaded.Stored.{Stored}
 use Rattle.open_zones.proofs.FrontLemmas.{block-lies}
 use Rattle.open_zones.proofs.OneLemmas.{same-progress}
 use Rattle.open_zones.proofs.TurnLemmas.{LiesBeside}
-use Rattle.open_zones.specs.Images.{HoldsOpen, OpenStandsUnder, seals_at}
-use Rattle.open_zones.specs.Mending.{AreSavedIn, IsZoneOf, MovesOver}
+use Rattle.open_zones.specs.Images.{HoldsOpen, HoldsSaved, OpenStandsUnder, atom_in, seals_at}
+use Rattle.open_zones.specs.Mending.{AreTextsOf, IsZoneOf, MovesOver}
+use Rattle.open_zones.specs.Zones.{zone_of}
 use Rattle.reenc_meta.specs.ConversionMaps.{IsMapAt}
 use Rattle.reenc_meta.specs.Layouts.{progress_at}
 use Rattle.reenc_meta.specs.Moves.{moved}
@@ -32,9 +34,10 @@ use Rattle.reenc_recovery.specs.Keys.{IsKeyOf}
 use Rattle.started_volumes.proofs.GapLemmas.{one-header}
 use Rattle.started_volumes.proofs.HeaderLemmas.{known-of}
 use Rattle.volume_machine.specs.Pieces.{place_in}
+use Rattle.volume_machine.specs.Saved.{saved_hash}
 use Rattle.zone_images.proofs.ContentLemmas.{ClosesBy, HasContent, OpensBy, place-here}
 use Rattle.zone_images.proofs.ContentLemmas.{stands-moved, stands-open}
-use Rattle.zone_images.proofs.SavedContentLemmas.{open-content}
+use Rattle.zone_images.proofs.SavedContentLemmas.{held-zone, open-content}
 
 -- every atom behind the copies but the zone's is where these bytes have it
 abbrev pub HasRest : Sizes → Layout → Hotzone (List ℕ) → List ℕ → List ℕ → Type 0
@@ -43,11 +46,10 @@ HasRest sizes layout zone first now =
     → IsOutside zone.own.start zone.own.count place
     → block_at sizes.atom now place ≡ block_at sizes.atom first place
 
-module _ (sizes : Sizes) (header next stored : Stored) (c : Progress) (layout : Layout)
-    (zone : Hotzone (List ℕ)) (texts : Texts) (first : List ℕ) (old new : List ℕ)
-    (content : List (List ℕ)) (some : 0 < sizes.atom) (moves : MovesOver sizes header next c)
-    (by : IsZoneOf sizes header next c layout zone)
-    (saved : AreSavedIn sizes.atom c.plan.first (seals_at sizes.atom c old new) zone first texts)
+-- ---- what they say
+module _ (sizes : Sizes) (header stored : Stored) (c : Progress) (first old new : List ℕ)
+    (content : List (List ℕ)) (some : 0 < sizes.atom)
+    (known : progress_of header.valid.meta sizes ≡ Some c)
     (held : stored_in sizes (front_of sizes first) ≡ Ok stored)
     (alike : stored.valid ≡ header.valid) (stands : OpenStandsUnder sizes old new first content)
   where
@@ -65,25 +67,51 @@ module _ (sizes : Sizes) (header next stored : Stored) (c : Progress) (layout : 
     pub now-is : stands.now ≡ c
     now-is =
         same-progress (progress_of header.valid.meta sizes) stands.now c
-        (subst (λ (m : Parts). progress_of m sizes ≡ Some stands.now) same stands.known) moves.known
+        (subst (λ (m : Parts). progress_of m sizes ≡ Some stands.now) same stands.known) known
 
-    map_is : IsMapAt sizes c stands.map
-    map_is = subst (λ (p : Progress). IsMapAt sizes p stands.map) now-is stands.map_is
+    pub map-here : IsMapAt sizes c stands.map
+    map-here = subst (λ (p : Progress). IsMapAt sizes p stands.map) now-is stands.map_is
 
-    holds : HoldsOpen sizes c stands.map old new first content
-    holds =
+    pub holds-here : HoldsOpen sizes c stands.map old new first content
+    holds-here =
         subst (λ (p : Progress). HoldsOpen sizes p stands.map old new first content) now-is
         stands.holds
 
-    old_key : IsKeyOf header.valid.meta c.old old
-    old_key =
+    -- each block of the zone as what is saved tells it
+    pub zone-held : (i : ℕ) → i < c.plan.zone
+        → HoldsSaved sizes.atom (zone_of sizes c) c.plan.first (seals_at sizes.atom c old new)
+        (atom_in sizes.atom first) (c.plan.first + i) (value_in content (c.plan.first + i))
+    zone-held = held-zone sizes c stands.map map-here old new first content holds-here
+
+    pub old-key-here : IsKeyOf header.valid.meta c.old old
+    old-key-here =
         subst (λ (p : Progress). IsKeyOf header.valid.meta p.old old) now-is
         (subst (λ (m : Parts). IsKeyOf m stands.now.old old) same stands.old_key)
 
-    new_key : IsKeyOf header.valid.meta c.new new
-    new_key =
+    pub new-key-here : IsKeyOf header.valid.meta c.new new
+    new-key-here =
         subst (λ (p : Progress). IsKeyOf header.valid.meta p.new new) now-is
         (subst (λ (m : Parts). IsKeyOf m stands.now.new new) same stands.new_key)
+
+-- ---- and what other bytes stand for
+module _ (sizes : Sizes) (header next stored : Stored) (c : Progress) (layout : Layout)
+    (zone : Hotzone (List ℕ)) (texts : Texts) (first : List ℕ) (old new : List ℕ)
+    (content : List (List ℕ)) (some : 0 < sizes.atom) (moves : MovesOver sizes header next c)
+    (by : IsZoneOf sizes header next c layout zone)
+    (are : AreTextsOf c.plan.first (seals_at sizes.atom c old new) zone content texts)
+    (held : stored_in sizes (front_of sizes first) ≡ Ok stored)
+    (alike : stored.valid ≡ header.valid) (stands : OpenStandsUnder sizes old new first content)
+  where
+    map_is : IsMapAt sizes c stands.map
+    map_is = map-here sizes header stored c first old new content some moves.known held alike stands
+
+    old_key : IsKeyOf header.valid.meta c.old old
+    old_key =
+        old-key-here sizes header stored c first old new content some moves.known held alike stands
+
+    new_key : IsKeyOf header.valid.meta c.new new
+    new_key =
+        new-key-here sizes header stored c first old new content some moves.known held alike stands
 
     count : zone.own.count ≡ c.plan.zone
     count = ap (λ (a : Area). a.count) by.own
@@ -93,7 +121,9 @@ module _ (sizes : Sizes) (header next stored : Stored) (c : Progress) (layout : 
 
     behind-copies : (b : ℕ) → layout.second.start + layout.second.count ≤ place_in stands.map b
     behind-copies b =
-        let lies = block-lies header.valid.meta sizes c sound moves.known stands.map map_is b in
+        let lies = block-lies header.valid.meta sizes c
+        (sound sizes header stored c first old new content some moves.known held alike stands)
+        moves.known stands.map map_is b in
         let begin = by.begin in
         le_of_mul-le-mul_right (omega (arith, lies, begin)) some
 
@@ -108,8 +138,9 @@ module _ (sizes : Sizes) (header next stored : Stored) (c : Progress) (layout : 
 
     has : HasContent sizes c stands.map (seals_at sizes.atom c old new) texts first content
     has =
-        open-content sizes c stands.map map_is moves.in_place old new zone texts first content count
-        by.store by.guarded saved holds
+        open-content sizes c stands.map map_is old new first content
+        (holds-here sizes header stored c first old new content some moves.known held alike stands)
+        zone texts count are
 
     -- ---- other bytes
     module _ (loads : LoadsByMeaning) (now : List ℕ)
@@ -117,13 +148,13 @@ module _ (sizes : Sizes) (header next stored : Stored) (c : Progress) (layout : 
       -- that have the header with the zone open, and what was saved of it
       pub bytes-open : Gives header_reader (front_of sizes now) zone.opened.means
           → ((i : ℕ) → i < zone.own.count
-          → block_at sizes.atom now (zone.store.start + i) ≡ texts.old i)
+          → Recovers (zone_of sizes c).resilience saved_hash (zone_of sizes c) texts
+          (atom_in sizes.atom now) i)
           → OpensBy sizes header c old new now content
-      bytes-open gives store =
+      bytes-open gives tells =
           stands-open sizes c stands.map map_is moves.in_place old new texts first now content has
-          (λ b beside. rest (place_in stands.map b) (behind-copies b) (out b beside)) by.guarded
-          (λ i few. ap (λ n. block_at sizes.atom now (n + i)) (sym by.store)
-          ∙ store i (let more = count in omega (arith, few, more))) loads header moves.stored
+          (λ b beside. rest (place_in stands.map b) (behind-copies b) (out b beside))
+          (λ i few. tells i (let more = count in omega (arith, few, more))) loads header moves.stored
           moves.sizes_are
           (subst (λ (x : List ℕ). Gives header_reader (front_of sizes now) x) by.opened gives)
           moves.known moves.some old_key new_key

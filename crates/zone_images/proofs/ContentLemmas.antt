@@ -7,7 +7,7 @@ use Rattle.disk_areas.specs.Headers.{Gives}
 use Rattle.disk_sizes.specs.declared.Sizes.{Sizes}
 use Rattle.disk_views.specs.Parts.{AreBlocks, block_at, value_in}
 use Rattle.disk_zones.specs.Standing.{Recovers}
-use Rattle.disk_zones.specs.Zones.{Texts, journal}
+use Rattle.disk_zones.specs.Zones.{Texts}
 use Rattle.disk_zones.specs.Zones.{Resilience as Guard}
 use Rattle.luks_copies.specs.Meanings.{header_reader, meaning_of}
 use Rattle.luks_json.specs.declared.meta.Parts.{Parts}
@@ -20,6 +20,7 @@ use Rattle.luks_store.specs.Promises.{LoadsByMeaning}
 use Rattle.luks_store.specs.declared.loaded.Stored.{Stored}
 use Rattle.open_zones.proofs.MovedLemmas.{key-stays, next-map, next-placed, next-placement}
 use Rattle.open_zones.proofs.MovedLemmas.{next-plan, next-progress, next-turns}
+use Rattle.open_zones.proofs.RecoverLemmas.{recovers-as}
 use Rattle.open_zones.proofs.TurnLemmas.{LiesBeside, LiesIn, Turns, beside-zone, map-side}
 use Rattle.open_zones.proofs.TurnLemmas.{zone-is-run}
 use Rattle.open_zones.specs.Images.{HoldsOnSide, HoldsOpen, HoldsSaved, OpenStandsUnder, atom_in}
@@ -35,7 +36,7 @@ use Rattle.segment_map.specs.declared.Side.{Side}
 use Rattle.segment_map.specs.declared.Side.TheVariants.{New, Old, Zone}
 use Rattle.segment_map.specs.declared.map.Map.{Map}
 use Rattle.volume_machine.specs.Pieces.{place_in, side_in}
-use Rattle.volume_machine.specs.Saved.{saved_hash}
+use Rattle.volume_machine.specs.Saved.{saved_atoms, saved_hash}
 use Rattle.volume_machine.specs.Seals.{Seals}
 
 -- a block of the zone: its old atom and its new one are what it is sealed to on either side
@@ -123,9 +124,9 @@ module _ (sizes : Sizes) (c : Progress) (map : Map) (map_is : IsMapAt sizes c ma
         (sym (rest b (beside b other))) (has.rest b below other)
 
     -- ---- by the header that has the zone open
-    module _ (guarded : (zone_of sizes c).resilience ≡ journal)
-        (store : (i : ℕ) → i < c.plan.zone
-        → block_at sizes.atom now ((zone_of sizes c).store.start + i) ≡ texts.old i) where
+    module _ (tells : (i : ℕ) → i < c.plan.zone
+        → Recovers (zone_of sizes c).resilience saved_hash (zone_of sizes c) texts
+        (atom_in sizes.atom now) i) where
       saved-block : (b : ℕ) → b < map.blocks → side_in map b ≡ Zone
           → HoldsSaved sizes.atom (zone_of sizes c) c.plan.first seals (atom_in sizes.atom now) b
           (value_in content b)
@@ -134,13 +135,16 @@ module _ (sizes : Sizes) (c : Progress) (map : Map) (map_is : IsMapAt sizes c ma
           let inside = inside-zone b at in
           let from = inside.0 in
           let end = inside.1 in
-          let few : b - c.plan.first < c.plan.zone = omega (arith, from, end) in
+          let i = b - c.plan.first in
+          let few : i < c.plan.zone = omega (arith, from, end) in
           record {
             are = is.are;
-            tells = subst (λ (r : Guard). Recovers r saved_hash (zone_of sizes c)
-                (sealed_both seals b (value_in content b)) (atom_in sizes.atom now)
-                (b - c.plan.first)) (sym guarded)
-                (store (b - c.plan.first) few ∙ is.old_text);
+            tells = recovers-as (zone_of sizes c) (zone_of sizes c) (atom_in sizes.atom now)
+                (atom_in sizes.atom now) texts (sealed_both seals b (value_in content b)) i refl refl
+                (λ place from_it below_it. refl) is.old_text is.new_text (zone_of sizes c).resilience
+                (λ by. subst (λ n. i < n)
+                (sym (ap (λ (r : Guard). saved_atoms r sizes.atom c.plan.zone) by)) few)
+                (tells i few);
             old = is.old;
             new = is.new;
           }

@@ -1,10 +1,10 @@
--- The header that an image has which a stop leaves while a zone is led or written again from its
--- journal, and how each block of the zone stands by it.
-use Rattle.std.proofs.Common.{◌≡◌, ◌⊎◌, inl, inr, ℕ, ◌+◌, ◌-◌, ◌*◌, ◌<◌, ◌≤◌, Bool, List, length, take}
+-- The header that an image has which a stop leaves while a zone is led or written again, and how each
+-- block of the zone stands by it.
+use Rattle.std.proofs.Common.{◌≡◌, ◌≢◌, ◌⊎◌, inl, inr, ℕ, ◌+◌, ◌-◌, ◌*◌, ◌<◌, ◌≤◌, Bool, List, length, take}
 use Rattle.std.proofs.Common.{replicate}
-use Rattle.std.proofs.Common.{sym, ◌∙◌, ap, subst, arith}
+use Rattle.std.proofs.Common.{refl, sym, ◌∙◌, ap, subst, arith}
 use Rattle.base_terms.specs.Blocks.{joined, lengths}
-use Rattle.disk_areas.specs.Areas.{content_of}
+use Rattle.disk_areas.specs.Areas.{Area, content_of}
 use Rattle.disk_areas.specs.Commits.{IsDated, MayBe}
 use Rattle.disk_areas.specs.Headers.{Gives, Handed, IsGenuine, IsLaidOut, IsReader, Layout}
 use Rattle.disk_areas.specs.Promises.{ImageTaken}
@@ -12,17 +12,25 @@ use Rattle.disk_sizes.specs.declared.Sizes.{Sizes}
 use Rattle.disk_views.specs.Parts.{block_at, value_in}
 use Rattle.disk_views.specs.Views.{view_of_cells}
 use Rattle.disk_zones.specs.Promises.{ZoneImageTaken, ZoneStands}
-use Rattle.disk_zones.specs.Standing.{HasAtoms, HasHeaders, HasSides, IsKept, IsPhaseOf, IsWithin}
-use Rattle.disk_zones.specs.Standing.{IsZoneImage, Stands, side_after, side_before}
-use Rattle.disk_zones.specs.Zones.{Hotzone, Phase, ShowsZone, Texts, from_of, journal, stage_of}
-use Rattle.disk_zones.specs.Zones.{to_of}
+use Rattle.disk_zones.specs.Standing.{HasHeaders, HasSides, IsKept, IsPhaseOf, IsWithin}
+use Rattle.disk_zones.specs.Standing.{IsZoneImage, Recovers, Stands, side_after}
+use Rattle.disk_zones.specs.Standing.{side_before}
+use Rattle.disk_zones.specs.Zones.{Hotzone, Phase, ShowsZone, Texts, datashift, from_of}
+use Rattle.disk_zones.specs.Zones.{stage_of}
 use Rattle.disk_zones.specs.Zones.{Resilience as Guard}
+use Rattle.disk_zones.specs.Zones.{to_of}
 use Rattle.luks_copies.specs.Meanings.{header_reader}
+use Rattle.luks_rules.specs.declared.shape.Progress.{Progress}
 use Rattle.luks_store.proofs.SettledLemmas.{atom_of_joined}
 use Rattle.luks_store.specs.Devices.{front_of}
 use Rattle.open_zones.proofs.AtomLemmas.{front-text, long-joined}
+use Rattle.open_zones.proofs.RecoverLemmas.{kept-few, recovers-as}
+use Rattle.open_zones.proofs.WhichLemmas.{new-place}
+use Rattle.open_zones.specs.Images.{atom_in}
+use Rattle.open_zones.specs.Zones.{zone_of}
 use Rattle.sector_disk.specs.Cells.{Cell, IsImage}
 use Rattle.segment_map.specs.declared.Side.{Side}
+use Rattle.segment_map.specs.declared.Side.TheVariants.{New, Zone}
 use Rattle.volume_machine.specs.Saved.{saved_hash}
 use Rattle.zone_images.proofs.SideLemmas.{Has, near-side, next-side, side-of, which}
 
@@ -53,8 +61,9 @@ pub record Found (sizes : Sizes) (zone : Hotzone (List ℕ)) (texts : Texts) (ph
 module _ (zones : ZoneStands) (zone_taken : ZoneImageTaken) (taken : ImageTaken)
     (is_reader : IsReader header_reader) (sizes : Sizes) (layout : Layout)
     (zone : Hotzone (List ℕ)) (texts : Texts) (phase : Phase) (broken : Bool) (cells : List Cell)
-    (image : List (List ℕ)) (kind : zone.resilience ≡ journal) (led : IsPhaseOf journal phase)
-    (whole : HasHeaders header_reader zone phase) (atoms : HasAtoms zone texts)
+    (image : List (List ℕ)) (led : IsPhaseOf zone.resilience phase)
+    (whole : HasHeaders header_reader zone phase)
+    (kept : IsKept zone.resilience saved_hash zone texts)
     (laid : IsLaidOut sizes.atom sizes.header_atoms
     (header_reader.size (from_of zone phase).means) layout)
     (within : IsWithin (length cells) zone) (more : sizes.header_atoms ≤ length cells)
@@ -121,10 +130,8 @@ module _ (zones : ZoneStands) (zone_taken : ZoneImageTaken) (taken : ImageTaken)
       → Stands saved_hash zone texts (value_in image) i (side-by m))
   found-first =
       zones sizes.atom sizes.header_atoms header_reader layout zone texts phase saved_hash side-by
-      left.handed (value_in image) broken (view_of_cells cells) is_reader whole
-      (subst (λ (r : Guard). IsPhaseOf r phase) (sym kind) led)
-      (subst (λ (r : Guard). IsKept r saved_hash zone texts) (sym kind) atoms) sides left.dated
-      in_front
+      left.handed (value_in image) broken (view_of_cells cells) is_reader whole led kept sides
+      left.dated in_front
       (subst (λ (text : List ℕ). IsGenuine header_reader size left.handed text) (sym front_is)
       left.genuine) shows
 
@@ -158,3 +165,35 @@ module _ (zones : ZoneStands) (zone_taken : ZoneImageTaken) (taken : ImageTaken)
 
   pub long : length (joined image) ≡ length cells * sizes.atom
   long = long-joined sizes.atom (length cells) image left.even
+
+-- ---- a block of the zone in the image's bytes, whose atoms are the image's
+module _ (sizes : Sizes) (c : Progress) (zone : Hotzone (List ℕ)) (texts : Texts)
+    (image : List (List ℕ)) (atoms : ℕ) (within : IsWithin atoms zone)
+    (value-at : (place : ℕ) → place < atoms
+    → block_at sizes.atom (joined image) place ≡ value_in image place) where
+  -- as what is saved of it tells it
+  pub tells-in : zone.resilience ≡ (zone_of sizes c).resilience → zone.own ≡ (zone_of sizes c).own
+      → zone.store ≡ (zone_of sizes c).store → IsKept zone.resilience saved_hash zone texts
+      → EachStands zone texts image Zone → (i : ℕ) → i < zone.own.count
+      → Recovers (zone_of sizes c).resilience saved_hash (zone_of sizes c) texts
+      (atom_in sizes.atom (joined image)) i
+  tells-in kind own store kept each i below =
+      let own_fits = within.own in
+      let store_fits = within.store in
+      subst (λ (r : Guard). Recovers r saved_hash (zone_of sizes c) texts
+      (atom_in sizes.atom (joined image)) i) kind
+      (recovers-as zone (zone_of sizes c) (value_in image) (atom_in sizes.atom (joined image)) texts
+      texts i store
+      (sym (value-at (zone.own.start + i) (omega (arith, below, own_fits)))
+      ∙ ap (λ (a : Area). block_at sizes.atom (joined image) (a.start + i)) own)
+      (λ place from inside. sym (value-at place (omega (arith, inside, store_fits)))) refl refl
+      zone.resilience (kept-few zone.resilience zone texts i kept below) (each i below))
+
+  -- as its new atom
+  pub new-in : zone.resilience ≢ datashift → EachStands zone texts image New → (i : ℕ)
+      → i < zone.own.count → block_at sizes.atom (joined image) (zone.own.start + i) ≡ texts.new i
+  new-in unshifted each i below =
+      let own_fits = within.own in
+      value-at (zone.own.start + i) (omega (arith, below, own_fits))
+      ∙ subst (λ n. value_in image (n + i) ≡ texts.new i)
+      (new-place zone.resilience zone unshifted) (each i below)

@@ -41,8 +41,7 @@ use Rattle.zone_images.proofs.RunLemmas.{known-own, many-same, one-told, over-be
 use Rattle.zone_images.proofs.RunLemmas.{stays-kept, tells-failed, tells-on, zone-same}
 use Rattle.zone_images.proofs.SinceLemmas.{since-more, since-weaker}
 use Rattle.zone_images.proofs.StartLemmas.{Begun, KeepsElsewhere, Laws, long-now, many-now, more-now}
-use Rattle.zone_images.proofs.StartLemmas.{read-now, start, the-saved}
-use Rattle.zone_images.proofs.StartLemmas.{the-zone, within-now}
+use Rattle.zone_images.proofs.StartLemmas.{StartsWith, read-now, start, the-zone, within-now}
 use Rattle.zone_images.proofs.TableForLemmas.{closed-pass}
 use Rattle.zone_images.proofs.ZoneLemmas.{atom-is, follows-on, moved-means, moves-over, size-is}
 use Rattle.zone_images.specs.Holding.{HoldsHeader, TellsLawfully, TellsOn}
@@ -79,8 +78,11 @@ module _ {C : Type 0} {sector : C → ℕ} {sealed opened : C → ℕ → List �
     abbrev texts : Texts
     texts = (start b laws was was_is).1
 
-    known : IsKnown (seals_in sealed opened m) layout shown texts m (view_of_cells was.now)
-    known = (start b laws was was_is).2
+    started : StartsWith b shown texts was
+    started = (start b laws was was_is).2
+
+    abbrev known : IsKnown (seals_in sealed opened m) layout shown texts m (view_of_cells was.now)
+    known = started.is
 
     abbrev zone : Hotzone (List ℕ)
     zone = zone_in m shown
@@ -130,16 +132,16 @@ module _ {C : Type 0} {sector : C → ℕ} {sealed opened : C → ℕ → List �
         last-synced (seals_in sealed opened before) at new before after now made now_is
 
     long : length bytes ≡ length now.now * m.loaded.valid.sizes.atom
-    long = long-now b was was_is shown texts known new now has tells now_is
+    long = long-now b was was_is shown texts started new now has tells now_is
 
     many : length now.now ≡ new.atoms
-    many = many-now b was was_is shown texts known new now has tells now_is
+    many = many-now b was was_is shown texts started new now has tells now_is
 
     more : m.loaded.valid.sizes.header_atoms ≤ length now.now
-    more = more-now b was was_is shown texts known new now has tells now_is
+    more = more-now b was was_is shown texts started new now has tells now_is
 
     within : zone.own.start + zone.own.count ≤ length now.now
-    within = (within-now b was was_is shown texts known new now has tells now_is).own
+    within = (within-now b was was_is shown texts started new now has tells now_is).own
 
     certain : IsCertain m.loaded.valid.sizes (content now.now) now.now
     certain =
@@ -189,8 +191,8 @@ module _ {C : Type 0} {sector : C → ℕ} {sealed opened : C → ℕ → List �
     closed told open_stands =
         bytes-moved m.loaded.valid.sizes m.loaded m.moved.loaded b.holds.stored b.mends.zone.now
         layout zone texts bytes old_key new_key told b.mends.stored.atom
-        (moves-over sector m b.mends) (the-zone b was was_is shown texts known)
-        (the-saved b was was_is shown texts known) b.holds.held b.holds.same open_stands laws.loads
+        (moves-over sector m b.mends) (the-zone b was was_is shown texts started)
+        (started.fits told open_stands) b.holds.held b.holds.same open_stands laws.loads
         (content now.now) rest-atoms gives own-atoms
 
     closed-by : (told : List (List ℕ))
@@ -206,10 +208,9 @@ module _ {C : Type 0} {sector : C → ℕ} {sealed opened : C → ℕ → List �
         → ClosedForBy m.loaded.valid.sizes m.moved.loaded pass (content now.now) told
     closed-for pass told =
         closed-pass m.loaded.valid.sizes m.loaded m.moved.loaded b.holds.stored b.mends.zone.now
-        layout zone texts bytes old_key new_key b.mends.stored.atom (moves-over sector m b.mends)
-        (the-zone b was was_is shown texts known) (the-saved b was was_is shown texts known)
-        b.holds.held b.holds.same (content now.now) pass
-        (read-now b was was_is shown texts known new now has tells now_is (content now.now) long-now-is
+        bytes old_key new_key b.mends.stored.atom (moves-over sector m b.mends) b.holds.held
+        b.holds.same (content now.now) pass
+        (read-now b was was_is shown texts started new now has tells now_is (content now.now) long-now-is
         rest-atoms) told (closed told)
 
     holds-now : HoldsHeader m.loaded.valid.sizes m.moved.loaded (content now.now) new
@@ -345,6 +346,7 @@ module _ {C : Type 0} (sector : C → ℕ) (sealed opened : C → ℕ → List �
     pub begun : Begun sector sealed opened m old (layout_of atom size) old_key new_key bytes
     begun = record {
       mends = from.mends;
+      stands = from.stands;
       first = from.first;
       laid = laid;
       keys = the-keys;

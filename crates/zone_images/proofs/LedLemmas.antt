@@ -1,7 +1,7 @@
 -- Each image that a stop leaves while a zone is led stands for what the bytes stood for from which it
 -- is led.
 use Rattle.std.proofs.Common.{length, Ok, Some, sym, ◌∙◌, ap, subst, arith}
-use Rattle.std.proofs.Common.{◌≡◌, ◌⊎◌, inl, inr, ℕ, ◌+◌, ◌*◌, ◌<◌, ◌≤◌, Bool, List}
+use Rattle.std.proofs.Common.{◌≡◌, ◌≢◌, ◌⊎◌, inl, inr, ℕ, ◌+◌, ◌*◌, ◌<◌, ◌≤◌, Bool, List}
 use Rattle.std.proofs.Math.Nat.{le_of_mul-le-mul_right, mul-le-mul_right}
 use Rattle.std.proofs.lemmas.Bool.{cases_lt}
 use Rattle.base_terms.specs.Blocks.{joined}
@@ -13,10 +13,9 @@ use Rattle.disk_views.proofs.Entries.{image_in}
 use Rattle.disk_views.specs.Parts.{block_at, value_in}
 use Rattle.disk_views.specs.Views.{IsOutside}
 use Rattle.disk_zones.specs.Promises.{ZoneImageTaken, ZoneStands}
-use Rattle.disk_zones.specs.Standing.{HasHeaders, Recovers, new_start, side_after}
+use Rattle.disk_zones.specs.Standing.{HasHeaders, side_after}
 use Rattle.disk_zones.specs.Standing.{side_before}
-use Rattle.disk_zones.specs.Zones.{Hotzone, Phase, Texts, from_of}
-use Rattle.disk_zones.specs.Zones.{Resilience as Guard}
+use Rattle.disk_zones.specs.Zones.{Hotzone, Phase, Texts, datashift, from_of}
 use Rattle.disk_zones.specs.Zones.{to_of}
 use Rattle.luks_copies.specs.Meanings.{header_reader}
 use Rattle.luks_json.specs.declared.meta.Parts.{Parts}
@@ -47,10 +46,10 @@ use Rattle.segment_map.specs.declared.map.Map.{Map}
 use Rattle.started_volumes.proofs.GapLemmas.{one-header}
 use Rattle.started_volumes.proofs.HeaderLemmas.{known-of}
 use Rattle.volume_machine.specs.Pieces.{place_in}
-use Rattle.volume_machine.specs.Saved.{saved_hash}
 use Rattle.volume_machine.specs.Seals.{AreLawful, Seals}
 use Rattle.zone_images.proofs.ContentLemmas.{HasContent, place-here, stands-moved, stands-open}
 use Rattle.zone_images.proofs.FoundLemmas.{EachStands, Found, IsLeftAt, atom-of, found}
+use Rattle.zone_images.proofs.FoundLemmas.{new-in, tells-in}
 use Rattle.zone_images.proofs.FoundLemmas.{long as image-length}
 use Rattle.zone_images.proofs.LedContentLemmas.{closed-holds, led-content, open-is, open-map}
 use Rattle.zone_images.proofs.LedPhaseLemmas.{Turns, converting, led-phase, lies, opens-as-long}
@@ -192,6 +191,9 @@ module _ (zones : ZoneStands) (zone_taken : ZoneImageTaken) (taken : ImageTaken)
   at : Turns zone phase
   at = turn-of zone phase shows.phased
 
+  unshifted : zone.resilience ≢ datashift
+  unshifted = λ is. led.opened.guarded (sym led.opened.kind ∙ is)
+
   left-at : IsLeftAt sizes zone phase cells image
   left-at = record {
     is = left.is;
@@ -204,14 +206,16 @@ module _ (zones : ZoneStands) (zone_taken : ZoneImageTaken) (taken : ImageTaken)
   has-found : Found sizes zone texts phase image
   has-found =
       found zones zone_taken taken is_reader sizes layout zone texts phase broken cells image
-      led.opened.kind (led-phase phase shows.phased) (whole-at at) are.kept (laid-at at) shows.within
+      (led-phase zone.resilience phase unshifted shows.phased) (whole-at at) are.kept (laid-at at)
+      shows.within
       shows.header_atoms left-at shows.shows
 
   value-at : (place : ℕ) → place < length cells
       → block_at sizes.atom (joined image) place ≡ value_in image place
   value-at place below =
       atom-of zones zone_taken taken is_reader sizes layout zone texts phase broken cells image
-      led.opened.kind (led-phase phase shows.phased) (whole-at at) are.kept (laid-at at) shows.within
+      (led-phase zone.resilience phase unshifted shows.phased) (whole-at at) are.kept (laid-at at)
+      shows.within
       shows.header_atoms left-at shows.shows place below
 
   rest-is : (b : ℕ) → LiesBeside c.plan b
@@ -228,30 +232,16 @@ module _ (zones : ZoneStands) (zone_taken : ZoneImageTaken) (taken : ImageTaken)
         | inr far ↦
             none-behind sizes.atom (length cells) (place_in map b) (joined image) first
             (image-length zones zone_taken taken is_reader sizes layout zone texts phase broken cells
-            image led.opened.kind (led-phase phase shows.phased) (whole-at at) are.kept (laid-at at)
-            shows.within shows.header_atoms left-at shows.shows) shows.long
+            image (led-phase zone.resilience phase unshifted shows.phased) (whole-at at) are.kept
+            (laid-at at) shows.within shows.header_atoms left-at shows.shows) shows.long
             (mul-le-mul_right sizes.atom far)
       ]
 
   -- its atoms by the side on which each block stands
-  store-is : EachStands zone texts image Zone → (i : ℕ) → i < zone.own.count
-      → block_at sizes.atom (joined image) (zone.store.start + i) ≡ texts.old i
-  store-is each i here =
-      let stood : value_in image (zone.store.start + i) ≡ texts.old i =
-      subst (λ (r : Guard). Recovers r saved_hash zone texts (value_in image) i) led.opened.kind
-      (each i here) in
-      let fits = shows.within.store in
-      let enough = are.kept.enough in
-      value-at (zone.store.start + i) (omega (arith, here, fits, enough)) ∙ stood
-
   own-new : EachStands zone texts image New → (i : ℕ) → i < zone.own.count
       → block_at sizes.atom (joined image) (zone.own.start + i) ≡ texts.new i
-  own-new each i here =
-      let stood : value_in image (zone.own.start + i) ≡ texts.new i =
-      subst (λ (r : Guard). value_in image (new_start r zone + i) ≡ texts.new i) led.opened.kind
-      (each i here) in
-      let fits = shows.within.own in
-      value-at (zone.own.start + i) (omega (arith, here, fits)) ∙ stood
+  own-new =
+      new-in sizes c zone texts image (length cells) shows.within value-at unshifted
 
   own-old : EachStands zone texts image Old → (i : ℕ) → i < zone.own.count
       → block_at sizes.atom (joined image) (zone.own.start + i) ≡ texts.old i
@@ -264,10 +254,10 @@ module _ (zones : ZoneStands) (zone_taken : ZoneImageTaken) (taken : ImageTaken)
       → EachStands zone texts image Zone → OpenBy sizes header old new (joined image) content
   by-open gives each =
       let by = stands-open sizes c map (open-is sizes closed n over.none over.left p.map placed.map)
-      over.moves.in_place old new texts first (joined image) content has rest-is led.opened.guarded
-      (λ i few. ap (λ k. block_at sizes.atom (joined image) (k + i)) (sym led.opened.store)
-      ∙ store-is each i (omega (arith, few, count))) loads header over.moves.stored
-      over.moves.sizes_are
+      over.moves.in_place old new texts first (joined image) content has rest-is
+      (λ i few. tells-in sizes c zone texts image (length cells) shows.within value-at led.opened.kind
+      led.opened.own led.opened.store are.kept each i (omega (arith, few, count))) loads header
+      over.moves.stored over.moves.sizes_are
       (subst (λ (x : List ℕ). Gives header_reader (front_of sizes (joined image)) x)
       led.opened.opened gives) over.moves.known over.moves.some old-key-open new-key-open in
       record { stands = by.stands; valid = by.valid }

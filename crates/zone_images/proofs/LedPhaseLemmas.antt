@@ -1,14 +1,15 @@
 -- Where a volume's blocks lie by a header without an open zone, and which two headers the commit at
 -- hand leads from and to in each phase of a zone that is led.
-use Rattle.std.proofs.Common.{◌≡◌, ◌⊎◌, inl, inr, ℕ, ◌+◌, true, false, List}
+use Rattle.std.proofs.Common.{◌≡◌, ◌≢◌, ◌⊎◌, inl, inr, ℕ, ◌+◌, true, false, List}
 use Rattle.std.proofs.Common.{Some, refl, sym, ◌∙◌, ap, ap₂, subst}
 use Rattle.std.proofs.lemmas.Bool.{cases_lt}
 use Rattle.disk_areas.specs.Headers.{Header}
 use Rattle.disk_sizes.specs.declared.Sizes.{Sizes}
 use Rattle.disk_zones.specs.Standing.{IsPhaseOf, side_after}
 use Rattle.disk_zones.specs.Standing.{side_before}
-use Rattle.disk_zones.specs.Zones.{Hotzone, Phase, from_of, journal, mending, moving, opening}
-use Rattle.disk_zones.specs.Zones.{saving, shifting, to_of, turning, writing}
+use Rattle.disk_zones.specs.Zones.{Hotzone, Phase, checksum, datashift, from_of, journal, mending}
+use Rattle.disk_zones.specs.Zones.{moving, opening, saving, shifting, to_of, turning, writing}
+use Rattle.disk_zones.specs.Zones.{Resilience as Guard}
 use Rattle.hotzone.proofs.MadeLemmas.{config-on}
 use Rattle.luks_json.specs.declared.config.Config.{Config}
 use Rattle.luks_json.specs.declared.meta.Parts.{Parts}
@@ -67,14 +68,19 @@ lies plan b =
     ]
 
 -- ---- the phases
-pub led-phase : (phase : Phase) → IsLed phase → IsPhaseOf journal phase
-led-phase (saving n) is = tt
-led-phase (opening stage) is = tt
-led-phase (writing n) is = tt
-led-phase (moving stage) is = tt
-led-phase (mending n) is = absurd is
-led-phase (shifting n) is = absurd is
-led-phase (turning stage) is = absurd is
+pub led-phase : (r : Guard) (phase : Phase) → r ≢ datashift → IsLed phase → IsPhaseOf r phase
+led-phase journal (saving n) other is = tt
+led-phase journal (opening stage) other is = tt
+led-phase journal (writing n) other is = tt
+led-phase journal (moving stage) other is = tt
+led-phase checksum (saving n) other is = tt
+led-phase checksum (opening stage) other is = tt
+led-phase checksum (writing n) other is = tt
+led-phase checksum (moving stage) other is = tt
+led-phase datashift phase other is = absurd (other refl)
+led-phase r (mending n) other is = absurd is
+led-phase r (shifting n) other is = absurd is
+led-phase r (turning stage) other is = absurd is
 
 -- which commit is at hand, or to come
 pub record Turn (zone : Hotzone (List ℕ)) (phase : Phase) (from to : Header (List ℕ))

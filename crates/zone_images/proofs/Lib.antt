@@ -15,6 +15,7 @@ pub mod LedContentLemmas
 pub mod LedPhaseLemmas
 pub mod LedLemmas
 pub mod ZoneLemmas
+pub mod TextLemmas
 pub mod TableLemmas
 pub mod ForLemmas
 pub mod TableForLemmas

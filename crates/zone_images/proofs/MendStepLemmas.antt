@@ -13,10 +13,10 @@ use Rattle.zone_images.proofs.SinceLemmas.{one-or-none}
 use Rattle.zone_mending.proofs.MendLemmas.{same-header}
 use Rattle.zone_mending.specs.Menders.{after_write, stage_of_move}
 use Rattle.zone_mending.specs.Steps.{Fails, Goes, committed_to}
-use Rattle.zone_mending.specs.Steps.{reads, writes, settles, moves, ends, read_fails, write_fails}
-use Rattle.zone_mending.specs.Steps.{settle_fails, move_fails}
+use Rattle.zone_mending.specs.Steps.{reads, lays, finds, writes, settles, moves, ends, read_fails}
+use Rattle.zone_mending.specs.Steps.{lay_fails, find_fails, write_fails, settle_fails, move_fails}
 use Rattle.zone_mending.specs.declared.mender.MendCall.{MendCall}
-use Rattle.zone_mending.specs.declared.mender.MendCall.TheVariants.{Done, Move, Write}
+use Rattle.zone_mending.specs.declared.mender.MendCall.TheVariants.{Done, Move, ReadOwn, Write}
 use Rattle.zone_mending.specs.declared.mender.Mender.{Mender}
 
 -- ---- what stays
@@ -41,11 +41,11 @@ same-along first mid last one two = record {
 }
 
 module _ {C : Type 0} (seals : Seals) (old new : Device) (before after : Mender C) where
-  same-as : (commit : Prepared) (buffer : List ℕ) (next : MendCall)
+  same-as : (commit : Prepared) (buffer digests : List ℕ) (next : MendCall)
       → IsSame before.moved.commit commit
-      → after ≡ record (committed_to before commit next) { buffer = buffer }
+      → after ≡ record (committed_to before commit next) { buffer = buffer; digests = digests }
       → IsSameMender before after
-  same-as commit buffer next same to = record {
+  same-as commit buffer digests next same to = record {
     loaded = ap (λ (m : Mender C). m.loaded) to;
     keys = ap (λ (m : Mender C). m.keys) to;
     site = ap (λ (m : Mender C). m.site) to;
@@ -55,18 +55,30 @@ module _ {C : Type 0} (seals : Seals) (old new : Device) (before after : Mender 
   }
 
   pub same-on : (last : Bool) → Goes seals old new before after last → IsSameMender before after
-  same-on last (reads done at call filled) =
-      same-as before.moved.commit after.buffer (Write done) (same-self before.moved.commit) filled.is
-  same-on last (writes done at call filled) =
-      same-as before.moved.commit after.buffer (after_write before.site done)
+  same-on last (reads done by at call filled) =
+      same-as before.moved.commit after.buffer before.digests (Write done)
+      (same-self before.moved.commit) filled.is
+  same-on last (lays done by at call laid) =
+      same-as before.moved.commit before.buffer after.digests (ReadOwn done)
+      (same-self before.moved.commit) laid.is
+  same-on last (finds done at call filled) =
+      same-as before.moved.commit after.buffer before.digests (Write done)
+      (same-self before.moved.commit) filled.is
+  same-on last (writes done at again filled) =
+      same-as before.moved.commit after.buffer before.digests (after_write before.site done)
       (same-self before.moved.commit) filled.is
   same-on last (settles at call to) =
-      same-as before.moved.commit before.buffer Move (same-self before.moved.commit) to
-  same-on last (moves commit at call on far to) = same-as commit before.buffer Move on.same to
-  same-on last (ends commit at call on is_last to) = same-as commit before.buffer Done on.same to
+      same-as before.moved.commit before.buffer before.digests Move (same-self before.moved.commit)
+      to
+  same-on last (moves commit at call on far to) =
+      same-as commit before.buffer before.digests Move on.same to
+  same-on last (ends commit at call on is_last to) =
+      same-as commit before.buffer before.digests Done on.same to
 
   pub same-failed : Fails seals old new before after → after.loaded ≡ before.loaded
-  same-failed (read_fails done at call failed) = ap (λ (m : Mender C). m.loaded) failed.is
+  same-failed (read_fails done by at call failed) = ap (λ (m : Mender C). m.loaded) failed.is
+  same-failed (lay_fails done by at call failed) = ap (λ (m : Mender C). m.loaded) failed.is
+  same-failed (find_fails done at call failed) = ap (λ (m : Mender C). m.loaded) failed.is
   same-failed (write_fails done at call failed) = ap (λ (m : Mender C). m.loaded) failed.is
   same-failed (settle_fails at call failed) = ap (λ (m : Mender C). m.loaded) failed.is
   same-failed (move_fails at call failed) = ap (λ (m : Mender C). m.loaded) failed.is
@@ -74,8 +86,10 @@ module _ {C : Type 0} (seals : Seals) (old new : Device) (before after : Mender 
   -- ---- its table
   pub goes-one : (last : Bool) → Goes seals old new before after last → (now : Told)
       → new.told ≡ Some now → OneMore old now
-  goes-one last (reads done at call filled) now is = one-by _ old new now call.told is
-  goes-one last (writes done at call filled) now is = one-by _ old new now call.told is
+  goes-one last (reads done by at call filled) now is = one-by _ old new now call.told is
+  goes-one last (lays done by at call laid) now is = one-by _ old new now call.told is
+  goes-one last (finds done at call filled) now is = one-by _ old new now call.told is
+  goes-one last (writes done at again filled) now is = one-by _ old new now again.call.told is
   goes-one last (settles at call to) now is = one-by _ old new now call.told is
   goes-one last (moves commit at call on far to) now is =
       commit-one (stage_of_move before) _ _ _ old new now call is
@@ -84,7 +98,10 @@ module _ {C : Type 0} (seals : Seals) (old new : Device) (before after : Mender 
 
   pub fails-one : Fails seals old new before after → (now : Told) → new.told ≡ Some now
       → OneOrNone old now
-  fails-one (read_fails done at call failed) now is = one-or-none _ old new now call.told is
-  fails-one (write_fails done at call failed) now is = one-or-none _ old new now call.told is
+  fails-one (read_fails done by at call failed) now is = one-or-none _ old new now call.told is
+  fails-one (lay_fails done by at call failed) now is = one-or-none _ old new now call.told is
+  fails-one (find_fails done at call failed) now is = one-or-none _ old new now call.told is
+  fails-one (write_fails done at again failed) now is =
+      one-or-none _ old new now again.call.told is
   fails-one (settle_fails at call failed) now is = one-or-none _ old new now call.told is
   fails-one (move_fails at call failed) now is = commit-or-none (stage_of_move before) _ _ _ old new now call is

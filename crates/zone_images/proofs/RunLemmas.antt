@@ -37,7 +37,7 @@ use Rattle.zone_mending.specs.Promises.{IsOver, seals_in}
 use Rattle.zone_mending.specs.Steps.{Fails, Goes, Steps}
 use Rattle.zone_mending.specs.declared.mender.MendCall.{MendCall}
 use Rattle.zone_mending.specs.declared.mender.MendCall.TheVariants.{Done, Failed, Move, ReadSaved}
-use Rattle.zone_mending.specs.declared.mender.MendCall.TheVariants.{Settle, Write}
+use Rattle.zone_mending.specs.declared.mender.MendCall.TheVariants.{ReadOwn, Settle, Write}
 use Rattle.zone_mending.specs.declared.mender.Mender.{Mender}
 
 -- ---- small facts
@@ -47,6 +47,7 @@ one-told a b o is also = (let e : Some a ≡ Some b = sym is ∙ also in cc)
 pub phase-again : (count : ℕ) (stage : Stage) (next : MendCall)
     → WritesAgain (phase_by count stage next)
 phase-again count stage (ReadSaved n) = tt
+phase-again count stage (ReadOwn n) = tt
 phase-again count stage (Write n) = tt
 phase-again count stage Settle = tt
 phase-again count stage Move = tt
@@ -56,6 +57,7 @@ phase-again count stage Failed = tt
 failed-again : (count : ℕ) (stage : Stage) (next : MendCall)
     → WritesAgain (failed_by count stage next)
 failed-again count stage (ReadSaved n) = tt
+failed-again count stage (ReadOwn n) = tt
 failed-again count stage (Write n) = tt
 failed-again count stage Settle = tt
 failed-again count stage Move = tt
@@ -193,18 +195,15 @@ module _ {C : Type 0} {sector : C → ℕ} {sealed opened : C → ℕ → List �
     where
       first-at : (now : Told) (is : old.told ≡ Some now) → At now is m now
       first-at now is =
-          let known =
-          (start b laws now is).2 in
-          let elsewhere =
-          first-elsewhere b now is
-          (header-at now is) (texts-at now is) known in
+          let begun = (start b laws now is).2 in
+          let elsewhere = first-elsewhere b now is (header-at now is) (texts-at now is) begun in
           record {
-            known = known;
+            known = begun.is;
             elsewhere = elsewhere;
             since = since-none Stands now
                 (stands-now now is (phase_in m) false old now (phase-again _ _ m.next) b.disk b.tells
                 is (as-first m (header-at now is) (texts-at now is) (phase_in m) false now
-                (same-mender m) known.shows) elsewhere.left);
+                (same-mender m) begun.is.shows) elsewhere.left);
           }
 
   -- ---- a step behind these

@@ -1,19 +1,22 @@
 -- The beginning of a zone that is written again, and what follows for each table in which this is known
 -- of the disk: its images stand for what the bytes stood for.
-use Rattle.std.proofs.Common.{◌≡◌, ℕ, ◌+◌, ◌*◌, ◌<◌, ◌≤◌, Bool, false, List, length, Some, refl, sym}
+use Rattle.std.proofs.Common.{◌≡◌, ℕ, ◌+◌, ◌*◌, ◌<◌, ◌≤◌, Bool, List, length, Some, refl, sym}
 use Rattle.std.proofs.Common.{◌∙◌, ap, subst, arith}
 use Rattle.std.specs.List.{All}
 use Rattle.std.specs.Prelude.{Contains}
 use Rattle.base_terms.specs.Blocks.{joined}
+use Rattle.disk_areas.specs.Areas.{IsWhole}
 use Rattle.disk_areas.specs.Headers.{Header, IsLaidOut, IsReader, Layout}
 use Rattle.disk_areas.specs.Promises.{ImageTaken}
+use Rattle.disk_views.proofs.Blockwise.{length-block_at}
 use Rattle.disk_views.specs.Parts.{block_at, cell_in}
 use Rattle.disk_views.specs.Views.{view_of_cells}
 use Rattle.disk_zones.specs.Promises.{ZoneImageTaken, ZoneStands}
 use Rattle.disk_zones.specs.Standing.{IsWithin}
 use Rattle.disk_zones.specs.Zones.{Hotzone, Phase, ShowsZone, Texts}
 use Rattle.hotzone.proofs.CallLemmas.{table-long}
-use Rattle.hotzone.specs.Sites.{count_of}
+use Rattle.hotzone.specs.Sites.{saved_count}
+use Rattle.hotzone.specs.declared.site.Guard.TheVariants as guards
 use Rattle.joined_disk.specs.Counts.{HasSizes}
 use Rattle.luks_copies.specs.Meanings.{header_reader}
 use Rattle.luks_store.proofs.SettledLemmas.{current_is}
@@ -22,7 +25,8 @@ use Rattle.luks_store.specs.Promises.{BothAreGood, GivenIsUsed, LoadsByMeaning}
 use Rattle.luks_store.specs.declared.loaded.Stored.{Stored}
 use Rattle.open_zones.proofs.AtomLemmas.{long-joined}
 use Rattle.open_zones.specs.Images.{OpenStandsFor, OpenStandsUnder, seals_at}
-use Rattle.open_zones.specs.Mending.{AreSavedIn, IsZoneOf, WritesAgain}
+use Rattle.open_zones.specs.Mending.{AreTextsOf, IsZoneOf, WritesAgain}
+use Rattle.open_zones.specs.Promises.{OneUnder}
 use Rattle.sector_disk.specs.Cells.{AreSized, Cell, currents}
 use Rattle.sector_disk.specs.Devices.{Device}
 use Rattle.sector_disk.specs.Steps.{Told}
@@ -30,7 +34,8 @@ use Rattle.zone_images.proofs.AreaLemmas.{read-alike}
 use Rattle.zone_images.proofs.BytesLemmas.{HasRest}
 use Rattle.zone_images.proofs.TableForLemmas.{image-pass}
 use Rattle.zone_images.proofs.TableLemmas.{ImageBy, image-by, image-long, image-under, rest-is}
-use Rattle.zone_images.proofs.ZoneLemmas.{follows-on, moves-over, own-is, saved-in, size-is, zone-is}
+use Rattle.zone_images.proofs.TextLemmas.{starts-by}
+use Rattle.zone_images.proofs.ZoneLemmas.{atom-is, follows-on, moves-over, own-is, size-is, zone-is}
 use Rattle.zone_images.specs.Holding.{HoldsHeader, TellsLawfully}
 use Rattle.zone_images.specs.Keys.{AreCiphersOf}
 use Rattle.zone_images.specs.Spared.{IsSparedTurn}
@@ -39,8 +44,8 @@ use Rattle.started_volumes.proofs.AgreeLemmas.{IsReadAlike}
 use Rattle.started_volumes.specs.Gaps.{key_areas}
 use Rattle.zone_mending.proofs.MenderLemmas.{fits-disk}
 use Rattle.zone_mending.specs.Elsewhere.{IsElsewhere}
-use Rattle.zone_mending.specs.Known.{IsKnown, phase_by, zone_in}
-use Rattle.zone_mending.specs.Menders.{IsMending, stage_of_move}
+use Rattle.zone_mending.specs.Known.{IsKnown, zone_in}
+use Rattle.zone_mending.specs.Menders.{IsMending}
 use Rattle.zone_mending.specs.Promises.{IsOver, MendEnds, MendFails, MendGoes, MendStarts, seals_in}
 use Rattle.zone_mending.specs.declared.mender.MendCall.TheVariants.{ReadSaved}
 use Rattle.zone_mending.specs.declared.mender.Mender.{Mender}
@@ -49,6 +54,8 @@ use Rattle.zone_mending.specs.declared.mender.Mender.{Mender}
 pub record Begun {C : Type 0} (sector : C → ℕ) (sealed opened : C → ℕ → List ℕ → List ℕ)
     (m : Mender C) (old : Device) (layout : Layout) (old_key new_key bytes : List ℕ) : Type 0 where
   pub mends : IsMending sector m
+  pub stands : m.site.guard ≡ guards.Checksum → (content : List (List ℕ))
+      × OpenStandsUnder m.loaded.valid.sizes old_key new_key bytes content
   pub first : m.next ≡ ReadSaved 0
   pub laid : IsLaidOut m.loaded.valid.sizes.atom m.loaded.valid.sizes.header_atoms
       m.loaded.copies.used.header.hdr_size layout
@@ -72,6 +79,7 @@ pub record Laws {C : Type 0} (sector : C → ℕ) (sealed opened : C → ℕ →
     pub loads : LoadsByMeaning
     pub both : BothAreGood
     pub given : GivenIsUsed
+    pub one : OneUnder
 
 -- what each atom elsewhere holds, and what a stop may leave there, is what these bytes have there
 pub record KeepsElsewhere (atom : ℕ) (bytes : List ℕ) (layout : Layout) (zone : Hotzone (List ℕ))
@@ -115,19 +123,49 @@ module _ {C : Type 0} {sector : C → ℕ} {sealed opened : C → ℕ → List �
     tells = b.tells.alike;
   }
 
+  -- what is known of the zone then, and that its atoms are those of the content for which the bytes
+  -- stand
+  pub record StartsWith (shown : Header (List ℕ)) (texts : Texts) (was : Told) : Type 0 where
+    pub is : IsKnown (seals_in sealed opened m) layout shown texts m (view_of_cells was.now)
+    pub fits : (content : List (List ℕ))
+        → OpenStandsUnder m.loaded.valid.sizes old_key new_key bytes content
+        → AreTextsOf b.mends.zone.now.plan.first
+        (seals_at m.loaded.valid.sizes.atom b.mends.zone.now old_key new_key) (zone_in m shown)
+        content texts
+
   abbrev pub Started : Told → Type 0
-  Started was = (shown : Header (List ℕ)) × (texts : Texts)
-      × IsKnown (seals_in sealed opened m) layout shown texts m (view_of_cells was.now)
+  Started was = (shown : Header (List ℕ)) × (texts : Texts) × StartsWith shown texts was
+
+  -- an atom that is saved has an atom's bytes
+  saved-whole : (was : Told) → old.told ≡ Some was
+      → IsWhole m.site.atom (saved_count m.site)
+      (λ j. block_at m.site.atom bytes (m.site.store + j))
+  saved-whole was was_is j below =
+      let fits = fits-disk sector m old b.mends b.disk in
+      let store = fits.store in
+      let many = table-long old b.tells.alike was was_is in
+      let certain = b.holds.certain was was_is in
+      let long = ap length (sym certain.holds)
+      ∙ long-joined m.loaded.valid.sizes.atom (length was.now) (currents was.now) certain.even
+      ∙ ap (λ a. length was.now * a) (sym (atom-is sector m b.mends)) in
+      length-block_at m.site.atom (length was.now) bytes (m.site.store + j)
+      (omega (arith, below, store, many)) (omega (arith, long))
 
   pub start : Laws sector sealed opened → (was : Told) → old.told ≡ Some was → Started was
   start laws was is =
-      laws.starts layout m old was bytes b.holds.stored over b.first is (b.holds.certain was is)
-      b.holds.held b.holds.good b.holds.means
+      let texts = starts-by sector sealed opened m b.mends old_key new_key bytes b.keys b.holds.stored
+      b.holds.held b.holds.same (saved-whole was is) laws.one b.stands in
+      let known = laws.starts layout m old was bytes b.holds.stored texts.0 over b.first is
+      (b.holds.certain was is) b.holds.held b.holds.good b.holds.means
       (subst (λ (n : ℕ). IsLaidOut m.loaded.valid.sizes.atom m.loaded.valid.sizes.header_atoms n
-      layout) (sym b.same_size) b.laid)
+      layout) (sym b.same_size) b.laid) texts.1.holds texts.1.has in
+      (known.0, texts.0, record { is = known.1; fits = texts.1.fits known.0 })
 
   module _ (was : Told) (was_is : old.told ≡ Some was) (shown : Header (List ℕ)) (texts : Texts)
-      (known : IsKnown (seals_in sealed opened m) layout shown texts m (view_of_cells was.now)) where
+      (begun : StartsWith shown texts was) where
+    abbrev known : IsKnown (seals_in sealed opened m) layout shown texts m (view_of_cells was.now)
+    known = begun.is
+
     certain : IsCertain m.loaded.valid.sizes bytes was.now
     certain = b.holds.certain was was_is
 
@@ -151,26 +189,6 @@ module _ {C : Type 0} {sector : C → ℕ} {sealed opened : C → ℕ → List �
         (zone_in m shown)
     the-zone =
         zone-is sector m b.mends layout shown known.means known.is_header known.next_header b.laid
-
-    -- what is saved stands in the bytes
-    stand : (i : ℕ) → i < count_of m.site → texts.saved i
-        ≡ block_at m.loaded.valid.sizes.atom bytes (m.site.store + i)
-    stand i below =
-        let shows = subst (λ n. ShowsZone m.site.atom layout (zone_in m shown) texts
-        (phase_by (count_of m.site) (stage_of_move m) n) false (view_of_cells was.now)) b.first
-        known.shows in
-        let fits = fits-disk sector m old b.mends b.disk in
-        let store = fits.store in
-        let all = many in
-        sym (shows.store.now refl i below)
-        ∙ now-is (m.site.store + i) (omega (arith, below, store, all))
-
-    pub the-saved : AreSavedIn m.loaded.valid.sizes.atom b.mends.zone.now.plan.first
-        (seals_at m.loaded.valid.sizes.atom b.mends.zone.now old_key new_key) (zone_in m shown) bytes
-        texts
-    the-saved =
-        saved-in sector m b.mends sealed opened old_key new_key bytes b.keys shown texts
-        known.texts_are stand
 
     -- ---- a table
     module _ (device : Device) (now : Told) (has : HasSizes m.loaded.valid.sizes device)
@@ -239,7 +257,7 @@ module _ {C : Type 0} {sector : C → ℕ} {sealed opened : C → ℕ → List �
             image-by laws.zones laws.zone_taken laws.taken laws.is_reader laws.loads
             m.loaded.valid.sizes m.loaded m.moved.loaded b.holds.stored b.mends.zone.now layout
             (zone_in m shown) texts bytes old_key new_key b.mends.stored.atom
-            (moves-over sector m b.mends) the-zone the-saved
+            (moves-over sector m b.mends) the-zone known.texts_are.kept begun.fits
             (follows-on sector m b.mends shown known.means)
             (ap header_reader.size known.means ∙ size-is sector m b.mends) b.holds.held b.holds.same
             phase broken now.now phased shows rest long-now more-now within-now sized-now image spared
@@ -250,7 +268,7 @@ module _ {C : Type 0} {sector : C → ℕ} {sealed opened : C → ℕ → List �
             rest-is laws.zones laws.zone_taken laws.taken laws.is_reader laws.loads
             m.loaded.valid.sizes m.loaded m.moved.loaded b.holds.stored b.mends.zone.now layout
             (zone_in m shown) texts bytes old_key new_key b.mends.stored.atom
-            (moves-over sector m b.mends) the-zone the-saved
+            (moves-over sector m b.mends) the-zone known.texts_are.kept begun.fits
             (follows-on sector m b.mends shown known.means)
             (ap header_reader.size known.means ∙ size-is sector m b.mends) b.holds.held b.holds.same
             phase broken now.now phased shows rest long-now more-now within-now sized-now image spared
@@ -260,7 +278,7 @@ module _ {C : Type 0} {sector : C → ℕ} {sealed opened : C → ℕ → List �
             image-long laws.zones laws.zone_taken laws.taken laws.is_reader laws.loads
             m.loaded.valid.sizes m.loaded m.moved.loaded b.holds.stored b.mends.zone.now layout
             (zone_in m shown) texts bytes old_key new_key b.mends.stored.atom
-            (moves-over sector m b.mends) the-zone the-saved
+            (moves-over sector m b.mends) the-zone known.texts_are.kept begun.fits
             (follows-on sector m b.mends shown known.means)
             (ap header_reader.size known.means ∙ size-is sector m b.mends) b.holds.held b.holds.same
             phase broken now.now phased shows rest long-now more-now within-now sized-now image spared
@@ -279,6 +297,5 @@ module _ {C : Type 0} {sector : C → ℕ} {sealed opened : C → ℕ → List �
             → StandsForBy m.loaded.valid.sizes m.loaded m.moved.loaded pass (joined image) content
         table-for pass content =
             image-pass m.loaded.valid.sizes m.loaded m.moved.loaded b.holds.stored b.mends.zone.now
-            layout (zone_in m shown) texts bytes old_key new_key b.mends.stored.atom
-            (moves-over sector m b.mends) the-zone the-saved b.holds.held b.holds.same (joined image)
-            pass (read-now (joined image) whole-long image-rest) content (by-image content)
+            bytes old_key new_key b.mends.stored.atom (moves-over sector m b.mends) b.holds.held
+            b.holds.same (joined image) pass (read-now (joined image) whole-long image-rest) content (by-image content)

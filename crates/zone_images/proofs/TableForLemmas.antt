@@ -1,15 +1,13 @@
 -- A table of a disk on which an open zone is written again, under a passphrase.
 use Rattle.std.proofs.Common.{◌≡◌, ℕ, ◌<◌, List, Ok, Some, ap}
 use Rattle.std.specs.List.{All}
-use Rattle.disk_areas.specs.Headers.{Layout}
 use Rattle.disk_sizes.specs.declared.Sizes.{Sizes}
-use Rattle.disk_zones.specs.Zones.{Hotzone, Texts}
 use Rattle.luks_rules.specs.declared.shape.Progress.{Progress}
 use Rattle.luks_store.specs.Devices.{front_of}
 use Rattle.luks_store.specs.Loads.{stored_in}
 use Rattle.luks_store.specs.declared.loaded.Stored.{Stored}
-use Rattle.open_zones.specs.Images.{OpenStandsFor, OpenStandsUnder, seals_at}
-use Rattle.open_zones.specs.Mending.{AreSavedIn, IsZoneOf, MovesOver}
+use Rattle.open_zones.specs.Images.{OpenStandsFor, OpenStandsUnder}
+use Rattle.open_zones.specs.Mending.{MovesOver}
 use Rattle.reenc_meta.specs.Layouts.{progress_at}
 use Rattle.reenc_meta.specs.Moves.{moved}
 use Rattle.reenc_recovery.specs.Keys.{key_for}
@@ -21,10 +19,8 @@ use Rattle.zone_images.proofs.ForLemmas.{closed-for, for-keys, image-for, key-as
 use Rattle.zone_images.proofs.TableLemmas.{ImageBy}
 use Rattle.zone_images.specs.Turned.{ClosedForBy, StandsForBy}
 
-module _ (sizes : Sizes) (header next stored : Stored) (c : Progress) (layout : Layout)
-    (zone : Hotzone (List ℕ)) (texts : Texts) (bytes old new : List ℕ) (some : 0 < sizes.atom)
-    (moves : MovesOver sizes header next c) (by : IsZoneOf sizes header next c layout zone)
-    (saved : AreSavedIn sizes.atom c.plan.first (seals_at sizes.atom c old new) zone bytes texts)
+module _ (sizes : Sizes) (header next stored : Stored) (c : Progress) (bytes old new : List ℕ)
+    (some : 0 < sizes.atom) (moves : MovesOver sizes header next c)
     (held : stored_in sizes (front_of sizes bytes) ≡ Ok stored)
     (alike : stored.valid ≡ header.valid) (now pass : List ℕ)
     (read : All (IsReadAlike bytes now) (key_areas header.valid.meta.keyslots))
@@ -35,32 +31,28 @@ module _ (sizes : Sizes) (header next stored : Stored) (c : Progress) (layout : 
     first-old : key_for header.valid.meta bytes pass c.old ≡ Some old
     first-old =
         key-as bytes pass old under.stored.valid.meta header.valid.meta under.now.old c.old
-        (same sizes header next stored c layout zone texts bytes old new content some moves by saved
-        held alike under)
-        (ap (λ (p : Progress). p.old) (now-is sizes header next stored c layout zone texts bytes old
-        new content some moves by saved held alike under)) old_is
+        (same sizes header stored c bytes old new content some moves.known held alike under)
+        (ap (λ (p : Progress). p.old) (now-is sizes header stored c bytes old new content some
+        moves.known held alike under)) old_is
 
     first-new : key_for header.valid.meta bytes pass c.new ≡ Some new
     first-new =
         key-as bytes pass new under.stored.valid.meta header.valid.meta under.now.new c.new
-        (same sizes header next stored c layout zone texts bytes old new content some moves by saved
-        held alike under)
-        (ap (λ (p : Progress). p.new) (now-is sizes header next stored c layout zone texts bytes old
-        new content some moves by saved held alike under)) new_is
+        (same sizes header stored c bytes old new content some moves.known held alike under)
+        (ap (λ (p : Progress). p.new) (now-is sizes header stored c bytes old new content some
+        moves.known held alike under)) new_is
 
     by-image : ImageBy sizes header next c old new now content
         → StandsForBy sizes header next pass now content
     by-image is =
         image-for sizes header next c old new bytes now pass content some
-        (sound sizes header next stored c layout zone texts bytes old new content some moves by saved
-        held alike under) moves.known moves.gone read first-old first-new is
+        (sound sizes header stored c bytes old new content some moves.known held alike under) moves.known moves.gone read first-old first-new is
 
     by-closed : ClosesBy sizes next (progress_at (moved c.conversion.direction c.plan.zone c.plan) c)
         old new now content → ClosedForBy sizes next pass now content
     by-closed is =
         closed-for sizes header next c old new bytes now pass content some
-        (sound sizes header next stored c layout zone texts bytes old new content some moves by saved
-        held alike under) moves.known moves.gone read first-old first-new is
+        (sound sizes header stored c bytes old new content some moves.known held alike under) moves.known moves.gone read first-old first-new is
 
   -- what the bytes stand for under the passphrase
   pub image-pass : ((under : OpenStandsUnder sizes old new bytes content)

@@ -1,6 +1,6 @@
 -- A table of a disk on which an open zone is written again: each image of it stands for what the bytes
 -- stood for from which this began.
-use Rattle.std.proofs.Common.{◌≡◌, ◌⊎◌, inl, inr, ℕ, ◌+◌, ◌*◌, ◌<◌, ◌≤◌, Bool, List, length, Ok}
+use Rattle.std.proofs.Common.{◌≡◌, ◌≢◌, ◌⊎◌, inl, inr, ℕ, ◌+◌, ◌*◌, ◌<◌, ◌≤◌, Bool, List, length, Ok}
 use Rattle.std.proofs.Common.{refl, sym, ◌∙◌, ap, subst, arith}
 use Rattle.std.proofs.Math.Nat.{mul-le-mul_right}
 use Rattle.std.proofs.lemmas.Bool.{cases_lt}
@@ -16,12 +16,11 @@ use Rattle.disk_views.proofs.Entries.{image_in}
 use Rattle.disk_views.specs.Parts.{block_at, cell_in, value_in}
 use Rattle.disk_views.specs.Views.{IsOutside, view_of_cells}
 use Rattle.disk_zones.specs.Promises.{ZoneImageTaken, ZoneStands}
-use Rattle.disk_zones.specs.Standing.{HasHeaders, IsPhaseOf, IsWithin, Recovers, new_start}
+use Rattle.disk_zones.specs.Standing.{HasHeaders, IsKept, IsPhaseOf, IsWithin}
 use Rattle.disk_zones.specs.Standing.{side_after, side_before}
-use Rattle.disk_zones.specs.Zones.{Hotzone, Phase, ShowsZone, Texts, from_of, journal, mending}
+use Rattle.disk_zones.specs.Zones.{Hotzone, Phase, ShowsZone, Texts, datashift, from_of, mending}
 use Rattle.disk_zones.specs.Zones.{moving, opening, saving, shifting, stage_of, to_of, turning}
 use Rattle.disk_zones.specs.Zones.{writing}
-use Rattle.disk_zones.specs.Zones.{Resilience as Guard}
 use Rattle.luks_copies.specs.Meanings.{header_reader, meaning_of}
 use Rattle.luks_rules.specs.declared.shape.Progress.{Progress}
 use Rattle.luks_store.specs.Devices.{front_of}
@@ -29,8 +28,9 @@ use Rattle.luks_store.specs.Loads.{stored_in}
 use Rattle.luks_store.specs.Promises.{LoadsByMeaning}
 use Rattle.luks_store.specs.declared.loaded.Stored.{Stored}
 use Rattle.open_zones.proofs.AtomLemmas.{none-behind}
+use Rattle.open_zones.proofs.WhichLemmas.{phase-of}
 use Rattle.open_zones.specs.Images.{OpenStandsUnder, seals_at}
-use Rattle.open_zones.specs.Mending.{AreSavedIn, IsZoneOf, MovesOver, WritesAgain}
+use Rattle.open_zones.specs.Mending.{AreTextsOf, IsZoneOf, MovesOver, WritesAgain}
 use Rattle.reenc_meta.specs.Layouts.{progress_at}
 use Rattle.reenc_meta.specs.Moves.{moved}
 use Rattle.reenc_recovery.proofs.JoinedLemmas.{even_image}
@@ -41,6 +41,7 @@ use Rattle.volume_machine.specs.Saved.{saved_hash}
 use Rattle.zone_images.proofs.BytesLemmas.{HasRest, bytes-moved, bytes-open}
 use Rattle.zone_images.proofs.ContentLemmas.{ClosesBy, OpensBy}
 use Rattle.zone_images.proofs.FoundLemmas.{EachStands, Found, IsLeftAt, atom-of, found, long}
+use Rattle.zone_images.proofs.FoundLemmas.{new-in, tells-in}
 use Rattle.zone_images.proofs.SpareLemmas.{dated, genuine, held}
 use Rattle.zone_images.specs.Promises.{StandsOn}
 use Rattle.zone_images.specs.Spared.{IsSparedTurn}
@@ -65,16 +66,6 @@ elsewhere-behind atom atoms size layout zone laid place behind outside = record 
   own = outside;
   copies = copies-away atom atoms size layout laid place behind;
 }
-
--- ---- the phases in which a zone is written again
-again-phase : (phase : Phase) → WritesAgain phase → IsPhaseOf journal phase
-again-phase (mending n) is = tt
-again-phase (moving stage) is = tt
-again-phase (saving n) is = absurd is
-again-phase (opening stage) is = absurd is
-again-phase (writing n) is = absurd is
-again-phase (shifting n) is = absurd is
-again-phase (turning stage) is = absurd is
 
 -- the commit at hand, or to come, leads from the header with the zone open to the one with the
 -- boundary moved
@@ -114,7 +105,9 @@ module _ (zones : ZoneStands) (zone_taken : ZoneImageTaken) (taken : ImageTaken)
     (header next stored : Stored) (c : Progress) (layout : Layout) (zone : Hotzone (List ℕ))
     (texts : Texts) (bytes old new : List ℕ) (some : 0 < sizes.atom)
     (moves : MovesOver sizes header next c) (by : IsZoneOf sizes header next c layout zone)
-    (saved : AreSavedIn sizes.atom c.plan.first (seals_at sizes.atom c old new) zone bytes texts)
+    (kept : IsKept zone.resilience saved_hash zone texts)
+    (fits : (content : List (List ℕ)) → OpenStandsUnder sizes old new bytes content
+    → AreTextsOf c.plan.first (seals_at sizes.atom c old new) zone content texts)
     (follows : Follows header_reader zone.opened.means zone.moved.means)
     (size_is : header_reader.size zone.opened.means ≡ header.copies.used.header.hdr_size)
     (held_is : stored_in sizes (front_of sizes bytes) ≡ Ok stored)
@@ -125,6 +118,12 @@ module _ (zones : ZoneStands) (zone_taken : ZoneImageTaken) (taken : ImageTaken)
     → Contains (cell_in cells place).candidates value → value ≡ block_at sizes.atom bytes place)
     (long_is : length bytes ≡ length cells * sizes.atom) (more : sizes.header_atoms ≤ length cells)
     (within : IsWithin (length cells) zone) (sized : AreSized sizes.atom cells) where
+  unshifted : zone.resilience ≢ datashift
+  unshifted = λ is. by.guarded (sym by.kind ∙ is)
+
+  again-led : IsPhaseOf zone.resilience phase
+  again-led = phase-of zone.resilience phase unshifted phased
+
   at : IsAgain zone phase
   at = again zone phase phased
 
@@ -177,18 +176,18 @@ module _ (zones : ZoneStands) (zone_taken : ZoneImageTaken) (taken : ImageTaken)
     has-found : Found sizes zone texts phase image
     has-found =
         found zones zone_taken taken is_reader sizes layout zone texts phase broken cells image
-        by.kind (again-phase phase phased) whole saved.kept from-laid within more left shows
+        again-led whole kept from-laid within more left shows
 
     pub image-long : length (joined image) ≡ length cells * sizes.atom
     image-long =
-        long zones zone_taken taken is_reader sizes layout zone texts phase broken cells image by.kind
-        (again-phase phase phased) whole saved.kept from-laid within more left shows
+        long zones zone_taken taken is_reader sizes layout zone texts phase broken cells image
+        again-led whole kept from-laid within more left shows
 
     value-at : (place : ℕ) → place < length cells
         → block_at sizes.atom (joined image) place ≡ value_in image place
     value-at place below =
         atom-of zones zone_taken taken is_reader sizes layout zone texts phase broken cells image
-        by.kind (again-phase phase phased) whole saved.kept from-laid within more left shows place
+        again-led whole kept from-laid within more left shows place
         below
 
     pub rest-is : HasRest sizes layout zone bytes (joined image)
@@ -205,26 +204,6 @@ module _ (zones : ZoneStands) (zone_taken : ZoneImageTaken) (taken : ImageTaken)
               (mul-le-mul_right sizes.atom far)
         ]
 
-    -- by the header with the zone open
-    store-is : EachStands zone texts image Zone → (i : ℕ) → i < zone.own.count
-        → block_at sizes.atom (joined image) (zone.store.start + i) ≡ texts.old i
-    store-is each i here =
-        let stood : value_in image (zone.store.start + i) ≡ texts.old i =
-        subst (λ (r : Guard). Recovers r saved_hash zone texts (value_in image) i) by.kind (each i here) in
-        let fits = within.store in
-        let enough = saved.kept.enough in
-        value-at (zone.store.start + i) (omega (arith, here, fits, enough)) ∙ stood
-
-    -- by the one with the boundary moved
-    own-is : EachStands zone texts image New → (i : ℕ) → i < zone.own.count
-        → block_at sizes.atom (joined image) (zone.own.start + i) ≡ texts.new i
-    own-is each i here =
-        let stood : value_in image (zone.own.start + i) ≡ texts.new i =
-        subst (λ (r : Guard). value_in image (new_start r zone + i) ≡ texts.new i) by.kind
-        (each i here) in
-        let fits = within.own in
-        value-at (zone.own.start + i) (omega (arith, here, fits)) ∙ stood
-
     module _ (content : List (List ℕ)) (stands : OpenStandsUnder sizes old new bytes content) where
       by-found : (m : List ℕ) → Gives header_reader (front_of sizes (joined image)) m
           → ((m ≡ (from_of zone phase).means)
@@ -233,16 +212,18 @@ module _ (zones : ZoneStands) (zone_taken : ZoneImageTaken) (taken : ImageTaken)
           → ImageBy sizes header next c old new (joined image) content
       by-found m gives (inl (is, each)) =
           inl (bytes-open sizes header next stored c layout zone texts bytes old new content some
-          moves by saved held_is alike stands loads (joined image) rest-is
+          moves by (fits content stands) held_is alike stands loads (joined image) rest-is
           (subst (λ (x : List ℕ). Gives header_reader (front_of sizes (joined image)) x)
           (is ∙ ap (λ (h : Header (List ℕ)). h.means) at.from) gives)
-          (store-is (subst (λ (s : Side). EachStands zone texts image s) at.near each)))
+          (tells-in sizes c zone texts image (length cells) within value-at by.kind by.own by.store
+          kept (subst (λ (s : Side). EachStands zone texts image s) at.near each)))
       by-found m gives (inr (is, each)) =
           inr (bytes-moved sizes header next stored c layout zone texts bytes old new content some
-          moves by saved held_is alike stands loads (joined image) rest-is
+          moves by (fits content stands) held_is alike stands loads (joined image) rest-is
           (subst (λ (x : List ℕ). Gives header_reader (front_of sizes (joined image)) x)
           (is ∙ ap (λ (h : Header (List ℕ)). h.means) at.to) gives)
-          (own-is (subst (λ (s : Side). EachStands zone texts image s) at.far each)))
+          (new-in sizes c zone texts image (length cells) within value-at unshifted
+          (subst (λ (s : Side). EachStands zone texts image s) at.far each)))
 
       pub image-by : ImageBy sizes header next c old new (joined image) content
       image-by = by-found has-found.means has-found.gives has-found.by

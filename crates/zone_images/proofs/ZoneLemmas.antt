@@ -1,12 +1,14 @@
 -- The zone that is written again, as the laws of images name it: where it lies by its header, and the
 -- header that comes behind it.
-use Rattle.std.proofs.Common.{◌≡◌, ℕ, ◌+◌, ◌-◌, ◌*◌, ◌/◌, ◌<◌, List, refl, sym, ◌∙◌, ap}
+use Rattle.std.proofs.Common.{◌≡◌, ◌≢◌, ℕ, ◌+◌, ◌-◌, ◌*◌, ◌/◌, List, refl, sym, ◌∙◌, ap}
 use Rattle.std.proofs.Common.{subst, arith}
 use Rattle.disk_areas.specs.Commits.{Follows}
 use Rattle.disk_areas.specs.Headers.{Header, IsHeader, IsLaidOut, Layout}
-use Rattle.disk_zones.specs.Zones.{Texts, journal}
-use Rattle.hotzone.specs.Known.{AreTexts, header_by}
-use Rattle.hotzone.specs.Sites.{IsByJournal, count_of, next_count, start_by}
+use Rattle.disk_zones.specs.Zones.{datashift}
+use Rattle.hotzone.specs.Known.{header_by}
+use Rattle.hotzone.specs.Sites.{IsSaved, count_of, guard_of as saved_by, kind_of, next_count}
+use Rattle.hotzone.specs.Sites.{saved_count, start_by}
+use Rattle.hotzone.specs.Steps.{resealed}
 use Rattle.hotzone.specs.declared.site.Site.{Site}
 use Rattle.luks_copies.specs.Meanings.{header_reader, meaning_of}
 use Rattle.luks_json.specs.declared.reencrypt.Direction.{Direction as Way}
@@ -20,9 +22,8 @@ use Rattle.luks_store.proofs.GivenLemmas.{sized-by}
 use Rattle.luks_store.proofs.StoredLemmas.{size-kept}
 use Rattle.luks_store.specs.declared.copies.Copies.{Copies}
 use Rattle.open_zones.specs.Images.{seals_at}
-use Rattle.open_zones.specs.Mending.{AreSavedIn, IsZoneOf, MovesOver}
+use Rattle.open_zones.specs.Mending.{IsZoneOf, MovesOver}
 use Rattle.open_zones.specs.Zones.{guard_of}
-use Rattle.disk_views.specs.Parts.{block_at}
 use Rattle.reenc_meta.specs.ConversionMaps.{boundary_in, direction_of}
 use Rattle.reenc_meta.specs.Moves.{IsGoneTo, moved}
 use Rattle.reenc_meta.specs.Placements.{place_of}
@@ -32,15 +33,22 @@ use Rattle.volume_machine.specs.Seals.{seals_of}
 use Rattle.zone_events.proofs.GroundLemmas.{one-progress, same-place}
 use Rattle.zone_images.proofs.KeyLemmas.{same-opened, same-sealed}
 use Rattle.zone_images.specs.Keys.{AreCiphersOf}
-use Rattle.zone_mending.proofs.OpenZoneLemmas.{count-open}
+use Rattle.volume_machine.specs.Saved.{saved_atoms}
+use Rattle.zone_mending.proofs.OpenZoneLemmas.{count-open, zone-guard}
 use Rattle.zone_mending.specs.Known.{zone_in}
 use Rattle.zone_mending.specs.Menders.{IsMending}
 use Rattle.zone_mending.specs.declared.mender.Mender.{Mender}
 
-pub guard-is : (r : Resilience) → IsByJournal r → guard_of r ≡ journal
-guard-is Journal by = refl
-guard-is (Checksum n) by = absurd by
-guard-is (Datashift n) by = absurd by
+-- what guards it, in the words of the laws of zones
+kind-of : (r : Resilience) → IsSaved r → kind_of (saved_by r) ≡ guard_of r
+kind-of Journal some = refl
+kind-of (Checksum n) some = refl
+kind-of (Datashift n) some = absurd some
+
+unshifted : (r : Resilience) → IsSaved r → guard_of r ≢ datashift
+unshifted Journal some = λ is. cc
+unshifted (Checksum n) some = λ is. cc
+unshifted (Datashift n) some = absurd some
 
 -- the zone beside the boundary begins with its plan's first block of it
 pub start-of : (way : Way) (plan : Plan) (d : Direction) (boundary count : ℕ)
@@ -84,6 +92,19 @@ module _ {C : Type 0} (sector : C → ℕ) (m : Mender C) (mends : IsMending sec
   pub store-is : m.site.store
       ≡ mends.zone.now.conversion.area.offset / m.loaded.valid.sizes.atom
   store-is = ap (λ (s : Site). s.store) mends.zone.site_is
+
+  pub kind-is : kind_of m.site.guard ≡ guard_of mends.zone.now.conversion.resilience
+  kind-is =
+      ap kind_of (zone-guard m.loaded mends.map m.site mends.zone)
+      ∙ kind-of c.conversion.resilience mends.zone.is.guarded
+
+  pub store-count : saved_count m.site
+      ≡ saved_atoms (guard_of mends.zone.now.conversion.resilience) m.loaded.valid.sizes.atom
+      mends.zone.now.plan.zone
+  store-count =
+      ap (λ r. saved_atoms r m.site.atom (count_of m.site)) kind-is
+      ∙ ap (λ a. saved_atoms (guard_of c.conversion.resilience) a (count_of m.site)) atom-is
+      ∙ ap (λ n. saved_atoms (guard_of c.conversion.resilience) m.loaded.valid.sizes.atom n) count-is
 
   -- ---- the header behind it
   the-state : mends.moves.moves.0 ≡ mends.zone.now
@@ -151,10 +172,10 @@ module _ {C : Type 0} (sector : C → ℕ) (m : Mender C) (mends : IsMending sec
     pub zone-is : IsZoneOf m.loaded.valid.sizes m.loaded m.moved.loaded mends.zone.now layout
         (zone_in m opened)
     zone-is = record {
-      kind = refl;
-      guarded = guard-is mends.zone.now.conversion.resilience mends.zone.is.guarded;
+      kind = kind-is;
+      guarded = unshifted c.conversion.resilience mends.zone.is.guarded;
       own = λ i. record { start = own-is i; count = count-is i };
-      store = store-is;
+      store = λ i. record { start = store-is i; count = store-count i };
       opened = means;
       moved = moved-means;
       whole = whole;
@@ -167,38 +188,23 @@ module _ {C : Type 0} (sector : C → ℕ) (m : Mender C) (mends : IsMending sec
           ≡ layout.second.start + layout.second.count = omega (arith, start, same) in e));
     }
 
-  -- ---- what is saved of it
-  module _ (sealed opened : C → ℕ → List ℕ → List ℕ) (old_key new_key bytes : List ℕ)
-      (keys : AreCiphersOf sector sealed opened mends.zone.now old_key new_key m.keys)
-      (shown : Header (List ℕ)) (texts : Texts)
-      (are : AreTexts (seals_of sealed opened m.site.atom m.keys) m.site texts)
-      (stand : (i : ℕ) → i < count_of m.site → texts.saved i
-      ≡ block_at m.loaded.valid.sizes.atom bytes (m.site.store + i)) where
-    new-text : (i : ℕ) → i < count_of m.site → texts.new i
-        ≡ (seals_at m.loaded.valid.sizes.atom mends.zone.now old_key new_key).sealed New
-        (mends.zone.now.plan.first + i)
-        ((seals_at m.loaded.valid.sizes.atom mends.zone.now old_key new_key).opened Old
-        (mends.zone.now.plan.first + i) (texts.old i))
-    new-text i below =
-        are.new i below
-        ∙ ap (λ text. (seals_of sealed opened m.site.atom m.keys).sealed New
-        (m.site.blocks.start + i) text)
-        (same-opened sector sealed opened mends.zone.now old_key new_key m.keys keys m.site.atom Old
-        (m.site.blocks.start + i) (texts.old i))
-        ∙ same-sealed sector sealed opened mends.zone.now old_key new_key m.keys keys m.site.atom New
-        (m.site.blocks.start + i) _
-        ∙ ap (λ a. (seals_at a mends.zone.now old_key new_key).sealed New (m.site.blocks.start + i)
-        ((seals_at a mends.zone.now old_key new_key).opened Old (m.site.blocks.start + i)
-        (texts.old i))) atom-is
-        ∙ ap (λ n. (seals_at m.loaded.valid.sizes.atom mends.zone.now old_key new_key).sealed New
-        (n + i) ((seals_at m.loaded.valid.sizes.atom mends.zone.now old_key new_key).opened Old
-        (n + i) (texts.old i))) first-is
-
-    pub saved-in : AreSavedIn m.loaded.valid.sizes.atom mends.zone.now.plan.first
-        (seals_at m.loaded.valid.sizes.atom mends.zone.now old_key new_key) (zone_in m shown) bytes
-        texts
-    saved-in = record {
-      old = λ i below. sym (are.saved i) ∙ stand i below;
-      new = new-text;
-      kept = record { are = λ i below. are.saved i; enough = omega arith };
-    }
+  -- ---- what becomes of an old atom
+  pub reseal-is : (sealed opened : C → ℕ → List ℕ → List ℕ) (old_key new_key : List ℕ)
+      → AreCiphersOf sector sealed opened mends.zone.now old_key new_key m.keys → (i : ℕ)
+      (text : List ℕ)
+      → resealed (seals_of sealed opened m.site.atom m.keys) (m.site.blocks.start + i) text
+      ≡ (seals_at m.loaded.valid.sizes.atom mends.zone.now old_key new_key).sealed New
+      (mends.zone.now.plan.first + i)
+      ((seals_at m.loaded.valid.sizes.atom mends.zone.now old_key new_key).opened Old
+      (mends.zone.now.plan.first + i) text)
+  reseal-is sealed opened old_key new_key keys i text =
+      ap (λ x. (seals_of sealed opened m.site.atom m.keys).sealed New (m.site.blocks.start + i) x)
+      (same-opened sector sealed opened mends.zone.now old_key new_key m.keys keys m.site.atom Old
+      (m.site.blocks.start + i) text)
+      ∙ same-sealed sector sealed opened mends.zone.now old_key new_key m.keys keys m.site.atom New
+      (m.site.blocks.start + i) _
+      ∙ ap (λ a. (seals_at a mends.zone.now old_key new_key).sealed New (m.site.blocks.start + i)
+      ((seals_at a mends.zone.now old_key new_key).opened Old (m.site.blocks.start + i) text)) atom-is
+      ∙ ap (λ n. (seals_at m.loaded.valid.sizes.atom mends.zone.now old_key new_key).sealed New
+      (n + i) ((seals_at m.loaded.valid.sizes.atom mends.zone.now old_key new_key).opened Old
+      (n + i) text)) first-is

@@ -8,7 +8,7 @@ use Rattle.disk_areas.specs.Headers.{Handed, IsGenuine, IsHeader, Layout}
 use Rattle.disk_sizes.specs.declared.Sizes.{Sizes}
 use Rattle.disk_views.specs.Parts.{block_at, cell_in}
 use Rattle.disk_views.specs.Views.{IsOutside, view_of_cells}
-use Rattle.disk_zones.specs.Standing.{HasAtoms, IsWithin}
+use Rattle.disk_zones.specs.Standing.{IsKept, IsWithin}
 use Rattle.disk_zones.specs.Zones.{Hotzone, Phase, ShowsZone, Texts, from_of, moving}
 use Rattle.disk_zones.specs.Zones.{opening, saving, stage_of, to_of, writing}
 use Rattle.luks_copies.specs.Meanings.{header_reader, meaning_of}
@@ -25,6 +25,7 @@ use Rattle.reenc_meta.specs.Placements.{place_of}
 use Rattle.reenc_recovery.specs.Images.{StandsUnder}
 use Rattle.sector_disk.specs.Cells.{Cell, IsImage}
 use Rattle.segment_map.specs.declared.Side.TheVariants.{New, Old}
+use Rattle.volume_machine.specs.Saved.{saved_hash}
 use Rattle.volume_machine.specs.Seals.{AreLawful, Seals}
 use Rattle.zone_images.specs.Turned.{ClosedBy, StandsBy}
 
@@ -46,8 +47,7 @@ pub record LeadsOver (sizes : Sizes) (before header next : Stored) (closed : Pro
       (opened closed.conversion.direction blocks closed.plan) header.valid.meta
   pub moves : MovesOver sizes header next (open_in blocks closed)
 
--- The zone of the laws of zones is that one, guarded by a journal; what is saved of it lies in front
--- of the volume's blocks.
+-- The zone of the laws of zones is that one; what is saved of it lies in front of the volume's blocks.
 pub record IsLedZone (sizes : Sizes) (before header next : Stored) (c : Progress) (layout : Layout)
     (zone : Hotzone (List ℕ)) : Type 0 where
   pub opened : IsZoneOf sizes header next c layout zone
@@ -56,14 +56,15 @@ pub record IsLedZone (sizes : Sizes) (before header next : Stored) (c : Progress
   pub same_size : header_reader.size zone.opened.means ≡ header_reader.size zone.before.means
   pub store : zone.store.start + zone.store.count ≤ place_of sizes c.old
 
--- its old atoms are those that these bytes have, and its new ones are they sealed anew
+-- its old atoms are those that these bytes have, and its new ones are they sealed anew; and it has
+-- what its guard needs
 pub record AreFirstIn (atom start : ℕ) (seals : Seals) (zone : Hotzone (List ℕ)) (first : List ℕ)
     (texts : Texts) : Type 0 where
   pub old : (i : ℕ) → i < zone.own.count
       → texts.old i ≡ block_at atom first (zone.own.start + i)
   pub new : (i : ℕ) → i < zone.own.count → texts.new i
       ≡ seals.sealed New (start + i) (seals.opened Old (start + i) (texts.old i))
-  pub kept : HasAtoms zone texts
+  pub kept : IsKept zone.resilience saved_hash zone texts
 
 -- ---- the phases
 abbrev pub IsLed : Phase → Type 0

@@ -3,6 +3,7 @@ use Rattle.std.specs.Prelude.{ℕ, ◌≡◌, ◌*◌, ◌≤◌, Bool, true, Li
 use Rattle.base_terms.specs.Blocks.{joined}
 use Rattle.base_terms.specs.declared.failed.Failed.{Failed}
 use Rattle.disk_sizes.specs.declared.Sizes.{Sizes}
+use Rattle.hotzone.specs.declared.site.Guard.TheVariants as guards
 use Rattle.joined_disk.specs.Counts.{HasSizes}
 use Rattle.luks_rules.specs.Areas.{header_bytes}
 use Rattle.luks_rules.specs.Shapes.{progress_of}
@@ -24,11 +25,14 @@ use Rattle.zone_mending.specs.declared.mender.Mender.{Mender}
 
 -- ---- the beginning
 -- A zone is about to be written again, under keys that are these ones' ciphers, behind the header by
--- which it is open; the disk holds its bytes for certain, and in them both copies of this header.
+-- which it is open; the disk holds its bytes for certain, and in them both copies of this header. By
+-- checksum they stand for something, by which it is known of each atom what it is.
 pub record MendsFrom {C : Type 0} (sector : C → ℕ) (sealed opened : C → ℕ → List ℕ → List ℕ)
     (sizes : Sizes) (header : Stored) (old_key new_key bytes : List ℕ) (mender : Mender C)
     (device : Device) : Type 0 where
   pub mends : IsMending sector mender
+  pub stands : mender.site.guard ≡ guards.Checksum
+      → (content : List (List ℕ)) × OpenStandsUnder sizes old_key new_key bytes content
   pub loaded : mender.loaded ≡ header
   pub first : mender.next ≡ ReadSaved 0
   pub sizes_are : header.valid.sizes ≡ sizes
@@ -58,10 +62,10 @@ pub record StandsTurned (sizes : Sizes) (next : Stored) (old new bytes : List �
   pub stands : (content : List (List ℕ)) → OpenStandsUnder sizes old new bytes content
       → StandsUnder sizes old new now content
 
--- While an open zone is written again from its journal, step by step, done or failed at the last,
--- each image of each table since stands for what the bytes stood for from which this began; and
--- once all steps were made the disk, where it tells its tables, holds for certain the header with
--- the boundary moved, and stands for the same by it.
+-- While an open zone is written again, step by step, done or failed at the last, each image of each
+-- table since stands for what the bytes stood for from which this began; and once all steps were made
+-- the disk, where it tells its tables, holds for certain the header with the boundary moved, and
+-- stands for the same by it.
 abbrev pub MendingsStand : {C : Type 0} → (C → ℕ) → (C → ℕ → List ℕ → List ℕ)
     → (C → ℕ → List ℕ → List ℕ) → Type 0
 MendingsStand {C} sector sealed opened =

@@ -8,12 +8,13 @@ use disk_areas::images_are_taken;
 use disk_zones::zones_keep_contents;
 use luks_copies::copies_are_read;
 use luks_store::{headers_stand_in_front, metadata_go_by_meaning, used_copies_are_headers};
+use open_zones::images_stand_for_one_content;
 use zone_mending::mendings_are_of_zones;
 
-/// While a zone that a stop left open is written again from its journal by its steps, each image of
-/// each table that the disk tells since stands, under the keys of the volume's sides, for what the
-/// bytes stood for from which this began, as long as no torn copy of a header is valid; behind each
-/// step, done or failed. Once the last one was made the disk, where it tells its tables, holds for
+/// While a zone that a stop left open is written again by its steps, guarded by a journal or by
+/// checksum, each image of each table that the disk tells since stands, under the keys of the volume's
+/// sides, for what the bytes stood for from which this began, as long as no torn copy of a header is
+/// valid; behind each step, done or failed. Once the last one was made the disk, where it tells its tables, holds for
 /// certain the header with the boundary moved, and stands for the same by it. So it is under each
 /// passphrase to which the keyslots give these keys.
 pub fn mendings_stand<C: SectorCipher>()
@@ -22,6 +23,7 @@ pub fn mendings_stand<C: SectorCipher>()
 {
     copies_are_read();
     images_are_taken();
+    images_stand_for_one_content();
     headers_stand_in_front();
     used_copies_are_headers();
     metadata_go_by_meaning();

@@ -2,17 +2,16 @@
 use Rattle.std.proofs.Common.{◌≡◌, ◌∙◌, inl, inr, ℕ, ◌+◌, ◌*◌, ◌≤◌, List, ap, arith}
 use Rattle.disk_areas.specs.Headers.{Copy, Header, IsLaidOut, Layout, place_of, primary, secondary}
 use Rattle.disk_zones.specs.Zones.{IsApart}
-use Rattle.hotzone.specs.Known.{zone_by}
-use Rattle.hotzone.specs.Sites.{count_of}
+use Rattle.hotzone.specs.Sites.{count_of, saved_count}
 use Rattle.hotzone.specs.declared.site.Site.{Site}
 use Rattle.luks_rules.specs.States.{IsSound}
 use Rattle.luks_store.specs.Loads.{IsStored}
 use Rattle.luks_store.specs.declared.loaded.Stored.{Stored}
 use Rattle.sector_disk.specs.Devices.{Device}
 use Rattle.segment_map.specs.declared.map.Map.{Map}
-use Rattle.zone_events.proofs.GroundLemmas.{area-between, guard-kept, is-converting, room-journal}
-use Rattle.zone_mending.proofs.OpenZoneLemmas.{count-open}
-use Rattle.zone_mending.specs.Known.{zone_in}
+use Rattle.zone_events.proofs.GroundLemmas.{area-between, guard-kept, is-converting, saved-room}
+use Rattle.zone_mending.proofs.OpenZoneLemmas.{count-open, saved-is}
+use Rattle.zone_mending.specs.Known.{mended_zone, zone_in}
 use Rattle.zone_mending.specs.OpenZones.{IsOpenZone}
 use Rattle.zone_mending.specs.Promises.{IsOver}
 use Rattle.zone_mending.specs.declared.mender.Mender.{Mender}
@@ -21,25 +20,25 @@ use Rattle.zone_mending.specs.declared.mender.Mender.{Mender}
 store-between : (header : Stored) (map : Map) (site : Site) (n : ℕ) → IsStored header
     → IsSound header.valid.meta header.valid.sizes → IsOpenZone header map site
     → n * header.valid.sizes.atom ≡ header.copies.used.header.hdr_size
-    → (n + n ≤ site.store) × (site.store + count_of site ≤ site.own)
+    → (n + n ≤ site.store) × (site.store + saved_count site ≤ site.own)
 store-between header map site n stored sound is long =
     let p = is.now in
     let known = is.is.known in
     let live = is-converting header stored sound p known in
-    let between =
-    area-between header stored sound p known p.conversion.area n
-    (guard-kept header stored sound p known) long in
+    let kept = guard-kept header stored sound p known in
+    let between = area-between header stored sound p known p.conversion.area n kept long in
     let store = ap (λ (s : Site). s.store) is.site_is in
     let own = ap (λ (s : Site). s.own) is.site_is in
     let count = count-open header map site is in
     let zone = live.1.zone in
     let room =
-    room-journal p.conversion.resilience header.valid.sizes.atom p.conversion.area.size
-    is.is.guarded in
+    saved-room p.conversion.resilience header.valid.sizes.atom p.conversion.area.size
+    (count_of site) is.is.guarded sound.atom kept.size (omega (arith, zone, count)) in
+    let same = saved-is header map site is in
     let place = is.map_is.old_place in
     let low = between.0 in
     let high = between.1 in
-    (omega (arith, low, store), omega (arith, high, store, own, count, zone, room, place))
+    (omega (arith, low, store), omega (arith, high, store, own, room, same, place))
 
 -- ---- a zone whose blocks lie behind what is saved of them, and that behind both copies
 copy-ends : (atom atoms size : ℕ) (layout : Layout) → IsLaidOut atom atoms size layout
@@ -53,11 +52,11 @@ copy-ends atom atoms size layout laid secondary =
 
 -- its areas lie apart, whatever its headers are
 site-apart : (atom atoms size : ℕ) (layout : Layout) (site : Site)
-    (first middle last : Header (List ℕ)) → IsLaidOut atom atoms size layout
+    (opened last : Header (List ℕ)) → IsLaidOut atom atoms size layout
     → layout.first.count + layout.first.count ≤ site.store
-    → site.store + count_of site ≤ site.own
-    → IsApart layout (zone_by site first middle last)
-site-apart atom atoms size layout site first middle last laid low high = record {
+    → site.store + saved_count site ≤ site.own
+    → IsApart layout (mended_zone site opened last)
+site-apart atom atoms size layout site opened last laid low high = record {
   own_store = inr (omega (arith, high));
   own_target = inr (omega arith);
   target_store = inl (omega arith);
@@ -77,5 +76,5 @@ zone-apart sector layout m device over opened =
     let between =
     store-between m.loaded mends.map m.site layout.first.count mends.stored mends.sound mends.zone
     (ap (λ a. layout.first.count * a) over.sizes.atom ∙ over.laid.long) in
-    site-apart device.size device.atoms _ layout m.site opened opened _ over.laid between.0
+    site-apart device.size device.atoms _ layout m.site opened _ over.laid between.0
     between.1

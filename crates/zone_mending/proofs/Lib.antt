@@ -5,3 +5,5 @@ pub mod MenderLemmas
 pub mod OpenZoneLemmas
 pub mod StartLemmas
 pub mod StepLemmas
+pub mod FoundLemmas
+pub mod JudgeLemmas

@@ -1,22 +1,30 @@
 -- Each step by which a zone is written again leads from what is known of it to what is known.
-use Rattle.std.proofs.Common.{◌≡◌, ◌≢◌, ◌∙◌, ℕ, ◌+◌, ◌*◌, ◌≤◌, ◌==◌, Bool, true, false, List}
-use Rattle.std.proofs.Common.{length, Some, refl, sym, ap, subst, arith, cond}
+use Rattle.std.proofs.Common.{◌≡◌, ◌≢◌, ◌∙◌, ℕ, ◌+◌, ◌*◌, ◌<◌, ◌≤◌, ◌==◌, Bool, true, false}
+use Rattle.std.proofs.Common.{List, length, Result, Some, refl, sym, ap, subst, arith, cond}
+use Rattle.base_terms.specs.declared.failed.Failed.{Failed as Failure}
 use Rattle.disk_areas.specs.Commits.{CommitCall, CommitFails, second_written}
 use Rattle.disk_areas.specs.Headers.{Header, IsHeader, Layout}
+use Rattle.disk_views.specs.Parts.{AreBlocks, block_at}
 use Rattle.disk_views.specs.Views.{View, IsSynced, IsTried, IsWritten, view_of_cells}
 use Rattle.disk_zones.specs.Calls.{CallBeside, IsSettled, ZoneCall, ZoneFault}
 use Rattle.disk_zones.specs.Calls as calls
 use Rattle.disk_zones.specs.Promises.{ZoneEnds, ZoneGoes, ZoneStays}
-use Rattle.disk_zones.specs.Zones.{Hotzone, Phase, Texts, IsApart, ShowsZone, mending, moving}
+use Rattle.disk_zones.specs.Standing.{IsKept}
+use Rattle.disk_zones.specs.Zones.{Hotzone, Is, Phase, Texts, IsApart, ShowsZone, found_by}
+use Rattle.disk_zones.specs.Zones.{mending, moving}
 use Rattle.hotzone.proofs.CallLemmas.{HasGot, Led, led-on, leads-by, read-leads, synced-leads}
 use Rattle.hotzone.proofs.CallLemmas.{thinned-leads, tried-if, unread-leads, written-if}
-use Rattle.hotzone.proofs.KnownLemmas.{SealRuns, got-part, new-block, part-fits}
+use Rattle.hotzone.proofs.GuardLemmas.{saved-within, saved_part}
+use Rattle.hotzone.proofs.KnownLemmas.{SealRuns, got-part, part-fits}
 use Rattle.hotzone.proofs.LawLemmas.{room-for, stage-last, stage-on}
 use Rattle.hotzone.specs.Headings.{IsSame}
 use Rattle.hotzone.specs.Known.{HoldsPart, header_by, part_of}
 use Rattle.hotzone.specs.Promises.{Leads}
-use Rattle.hotzone.specs.Sites.{bytes_at, count_of, part_at}
-use Rattle.hotzone.specs.Steps.{Commits, resealed}
+use Rattle.hotzone.specs.Sites.{bytes_at, count_of, kind_of, part_at, saved_at}
+use Rattle.hotzone.specs.Steps.{Commits}
+use Rattle.hotzone.specs.declared.site.Guard.{Guard}
+use Rattle.hotzone.specs.declared.site.Guard.TheVariants as guards
+use Rattle.hotzone.specs.declared.site.Site.{Site}
 use Rattle.luks_copies.specs.Held.{primary_of, secondary_of, stage_in}
 use Rattle.luks_copies.specs.Meanings.{header_of, header_reader, meaning_of}
 use Rattle.luks_copies.specs.Seen.{CallsAreSeen, HasRoomFor, stage_of}
@@ -25,30 +33,54 @@ use Rattle.luks_copies.specs.declared.commit.Stage.{Stage}
 use Rattle.luks_copies.specs.declared.commit.Stage.TheVariants.{SecondWritten}
 use Rattle.luks_store.specs.declared.commit.Prepared.{Prepared}
 use Rattle.luks_store.specs.declared.copies.Copies.{Copies}
-use Rattle.sector_disk.specs.Devices.{Device, failed_call, succeeded}
+use Rattle.sector_disk.specs.Devices.{Device, ReadCall, failed_call, succeeded}
 use Rattle.sector_disk.specs.Steps.{Told}
-use Rattle.segment_map.specs.declared.Side.TheVariants.{Old}
+use Rattle.volume_machine.specs.Saved.{saved_hash}
 use Rattle.volume_machine.specs.Seals.{Seals}
 use Rattle.zone_mending.proofs.ElsewhereLemmas.{stays-committed, stays-synced, stays-thinned}
 use Rattle.zone_mending.proofs.ElsewhereLemmas.{stays-torn, stays-tried, stays-unchanged}
 use Rattle.zone_mending.proofs.ElsewhereLemmas.{stays-written}
-use Rattle.zone_mending.proofs.MenderLemmas.{fits-disk, own-fits, part-long, phase-written, some-here}
+use Rattle.zone_mending.proofs.FoundLemmas.{anew-block, anew-long, found-either, holds-digests}
+use Rattle.zone_mending.proofs.FoundLemmas.{tell-by}
+use Rattle.zone_mending.proofs.MenderLemmas.{all-saved, atoms-fit, digests-long, fits-disk}
+use Rattle.zone_mending.proofs.MenderLemmas.{own-fits, part-long, phase-written, some-here}
 use Rattle.zone_mending.proofs.MenderLemmas.{some-part, store-fits}
 use Rattle.zone_mending.specs.Elsewhere.{StaysElsewhere}
-use Rattle.zone_mending.specs.Known.{HoldsFor, IsKnown, IsThrough, failed_by, failed_in, mended_zone}
-use Rattle.zone_mending.specs.Known.{phase_by, zone_in}
+use Rattle.zone_mending.specs.Known.{HasTexts, HoldsBy, HoldsFor, HoldsFound, IsKnown}
+use Rattle.zone_mending.specs.Known.{IsThrough}
+use Rattle.zone_mending.specs.Known.{failed_by, failed_in, mended_zone, phase_by, zone_in}
 use Rattle.zone_mending.specs.Menders.{FitsDisk, Needs, after_write, stage_of_move}
 use Rattle.zone_mending.specs.Promises.{IsOver}
-use Rattle.zone_mending.specs.Steps.{Fails, Goes, HasFilled, ReadsSaved, WritesAgain, committed_to}
-use Rattle.zone_mending.specs.Steps.{reads, writes, settles, moves, ends, read_fails, write_fails}
-use Rattle.zone_mending.specs.Steps.{settle_fails, move_fails}
+use Rattle.zone_mending.specs.Steps.{Fails, Goes, HasFilled, HasLaid, ReadsDigests, ReadsOwn}
+use Rattle.zone_mending.specs.Steps.{ReadsSaved, WritesAgain, committed_to, digests_of}
+use Rattle.zone_mending.specs.Steps.{reads, lays, finds, writes, settles, moves, ends, read_fails}
+use Rattle.zone_mending.specs.Steps.{lay_fails, find_fails, write_fails, settle_fails, move_fails}
 use Rattle.zone_mending.specs.declared.mender.MendCall.{MendCall}
-use Rattle.zone_mending.specs.declared.mender.MendCall.TheVariants.{ReadSaved, Write, Settle, Move}
+use Rattle.zone_mending.specs.declared.mender.MendCall.TheVariants.{ReadSaved, ReadOwn, Write}
+use Rattle.zone_mending.specs.declared.mender.MendCall.TheVariants.{Settle, Move}
 use Rattle.zone_mending.specs.declared.mender.Mender.{Mender}
 
 -- a commit with one call more is of the same header
 pub same-header : (one two : Prepared) → IsSame one two → header_by two ≡ header_by one
 same-header one two same = λ i. header_of (same.primary i) (same.secondary i)
+
+-- ---- by journal each old atom is saved
+old-saved : (g : Guard) (zone : Hotzone (List ℕ)) (texts : Texts) (i : ℕ) → g ≡ guards.Journal
+    → IsKept (kind_of g) saved_hash zone texts → i < zone.own.count → texts.saved i ≡ texts.old i
+old-saved guards.Journal zone texts i by kept below = kept.are i below
+old-saved guards.Checksum zone texts i by kept below = absurd cc
+
+by-journal : (g : Guard) (site : Site) (buffer digests : List ℕ) (texts : Texts) (done : ℕ)
+    → g ≡ guards.Journal → HoldsPart site buffer texts done
+    → HoldsBy g site buffer digests texts done
+by-journal guards.Journal site buffer digests texts done by part = part
+by-journal guards.Checksum site buffer digests texts done by part = absurd cc
+
+by-checksum : (g : Guard) (site : Site) (buffer digests : List ℕ) (texts : Texts) (done : ℕ)
+    → g ≡ guards.Checksum → HoldsFound site buffer digests texts done
+    → HoldsBy g site buffer digests texts done
+by-checksum guards.Journal site buffer digests texts done by part = absurd cc
+by-checksum guards.Checksum site buffer digests texts done by part = part
 
 -- ---- each step
 module _ {C : Type 0} (sector : C → ℕ) (seals : Seals) (goes : ZoneGoes) (stays : ZoneStays)
@@ -61,6 +93,9 @@ module _ {C : Type 0} (sector : C → ℕ) (seals : Seals) (goes : ZoneGoes) (st
 
   abbrev count : ℕ
   count = count_of before.site
+
+  abbrev guard : Guard
+  guard = before.site.guard
 
   abbrev stage : Stage
   stage = stage_of_move before
@@ -85,12 +120,13 @@ module _ {C : Type 0} (sector : C → ℕ) (seals : Seals) (goes : ZoneGoes) (st
       → Shown (phase_by count stage next) false was
   here next was at known = subst (λ n. Shown (phase_by count stage n) false was) at known.shows
 
-  needs : (next : MendCall) → before.next ≡ next → Needs count stage next
-  needs next at = subst (Needs count stage) at over.mends.next
+  needs : (next : MendCall) → before.next ≡ next → Needs before.site stage next
+  needs next at = subst (Needs before.site stage) at over.mends.next
 
-  holds : (done : ℕ) (was : View) → before.next ≡ Write done → Known was
-      → HoldsPart before.site before.buffer texts done
-  holds done was at known = subst (HoldsFor before.site before.buffer texts) at known.part
+  holds-for : (next : MendCall) (was : View) → before.next ≡ next → Known was
+      → HoldsFor before.site before.buffer before.digests texts next
+  holds-for next was at known =
+      subst (HoldsFor before.site before.buffer before.digests texts) at known.part
 
   by-call : (was is : View) (phase next : Phase) → Known was
       → ZoneCall before.site.atom layout zone texts was is phase next
@@ -106,7 +142,7 @@ module _ {C : Type 0} (sector : C → ℕ) (seals : Seals) (goes : ZoneGoes) (st
 
   -- the buffer has other bytes
   known-filled : (next : MendCall) (was is : View) → HasFilled before after next → Known was
-      → HoldsFor before.site after.buffer texts next
+      → HoldsFor before.site after.buffer before.digests texts next
       → Shown (phase_by count stage next) false is
       → IsKnown seals layout opened texts after is
   known-filled next was is filled known part shows =
@@ -120,24 +156,43 @@ module _ {C : Type 0} (sector : C → ℕ) (seals : Seals) (goes : ZoneGoes) (st
         shows = shows;
       })
 
-  -- a part is read: what is saved are the old atoms
-  held-part : (done : ℕ) (was : View) → done ≤ count → before.next ≡ ReadSaved done → Known was
+  -- the digests are others
+  known-laid : (next : MendCall) (was is : View) → HasLaid before after next → Known was
+      → HoldsFor before.site before.buffer after.digests texts next
+      → Shown (phase_by count stage next) false is
+      → IsKnown seals layout opened texts after is
+  known-laid next was is laid known part shows =
+      subst (λ m. IsKnown seals layout opened texts m is) (sym laid.is) (record {
+        means = known.means;
+        is_header = known.is_header;
+        next_header = known.next_header;
+        apart = known.apart;
+        texts_are = known.texts_are;
+        part = part;
+        shows = shows;
+      })
+
+  -- a part is read by journal: what is saved are the old atoms
+  held-part : (done : ℕ) (was : View) → guard ≡ guards.Journal → done ≤ count
+      → before.next ≡ ReadSaved done → Known was
       → HasGot old.size (before.site.store + done) (part_at before.site done)
       (part_of before.site after.buffer done) was
       → HoldsPart before.site after.buffer texts done
-  held-part done was within at known got =
+  held-part done was by within at known got =
+      let all = all-saved guard before.site.atom count by in
       let part = got-part (record before.site { own = before.site.store }) after.buffer texts done
       was
       (subst (λ a. HasGot a (before.site.store + done) (part_at before.site done)
       (part_of before.site after.buffer done) was) (sym fits.size) got)
-      (λ i from below. (here (ReadSaved done) was at known).store.now refl i below
-      ∙ known.texts_are.saved i) within in
+      (λ i from below.
+      (here (ReadSaved done) was at known).store.now refl i (omega (arith, below, all))
+      ∙ old-saved guard zone texts i by known.texts_are.kept below) within in
       record { blocks = part.blocks; each = part.each }
 
-  read-on : (done : ℕ) → before.next ≡ ReadSaved done
+  read-on : (done : ℕ) → guard ≡ guards.Journal → before.next ≡ ReadSaved done
       → ReadsSaved before.site done after.buffer old new succeeded
       → HasFilled before after (Write done) → Led old now Then
-  read-on done at call filled =
+  read-on done by at call filled =
       let below = (needs (ReadSaved done) at).0 in
       let within : done ≤ count = omega (arith, below) in
       let room : bytes_at before.site 0 ≤ length after.buffer =
@@ -145,61 +200,148 @@ module _ {C : Type 0} (sector : C → ℕ) (seals : Seals) (goes : ZoneGoes) (st
       led-on old now Then
       (read-leads old new now (before.site.store + done) (part_at before.site done) _ over.tells
       (part-long sector before old fits after.buffer done room)
-      (store-fits sector before old fits done within) call told)
+      (atoms-fit sector before old fits done by within) call told)
       (λ was is got known. (
-        known-filled (Write done) was is filled known (held-part done was within at known got.1)
+        known-filled (Write done) was is filled known
+            (by-journal guard before.site after.buffer before.digests texts done by
+            (held-part done was by within at known got.1))
             (stays before.site.atom layout zone texts (mending done) false was is
             (calls.reads got.0) (here (ReadSaved done) was at known)),
         stays-unchanged layout zone was is got.0,
       ))
 
-  -- the bytes that a part becomes
-  abbrev again : ℕ → List ℕ
-  again done =
-      resealed seals (before.site.blocks.start + done) (part_of before.site before.buffer done)
+  -- its digests are, by checksum
+  lay-on : (done : ℕ) → guard ≡ guards.Checksum → before.next ≡ ReadSaved done
+      → ReadsDigests before.site done after.digests old new succeeded
+      → HasLaid before after (ReadOwn done) → Led old now Then
+  lay-on done by at call laid =
+      let had = needs (ReadSaved done) at in
+      let below = had.0 in
+      let within : done ≤ count = omega (arith, below) in
+      led-on old now Then
+      (read-leads old new now (before.site.store + saved_at before.site done)
+      (saved_part before.site done) _ over.tells
+      (digests-long sector before old fits after.digests done by laid.long)
+      (store-fits sector before old fits done within had.2) call told)
+      (λ was is got known. (
+        known-laid (ReadOwn done) was is laid known
+            (holds-digests before.site zone after.digests texts done fits.known had.2 within by refl
+            refl known.texts_are.kept (known.texts_are.whole by)
+            (subst (λ a. AreBlocks a (saved_part before.site done)
+            (digests_of before.site after.digests done)) (sym fits.size) got.1.blocks)
+            (λ j few.
+            subst (λ a. block_at a (digests_of before.site after.digests done) j
+            ≡ was.current (before.site.store + saved_at before.site done + j)) (sym fits.size)
+            (got.1.each j few)
+            ∙ ap (λ n. was.current n)
+            (let e : before.site.store + saved_at before.site done + j
+            ≡ before.site.store + (saved_at before.site done + j) = omega arith in e)
+            ∙ (here (ReadSaved done) was at known).store.now refl
+            (saved_at before.site done + j)
+            (let inside = saved-within before.site done fits.known had.2 within in
+            omega (arith, few, inside))))
+            (stays before.site.atom layout zone texts (mending done) false was is
+            (calls.reads got.0) (here (ReadSaved done) was at known)),
+        stays-unchanged layout zone was is got.0,
+      ))
 
-  again-long : (done : ℕ) → HoldsPart before.site before.buffer texts done
-      → length (again done) ≡ part_at before.site done * old.size
-  again-long done part =
-      let start = before.site.blocks.start + done in
-      (runs.keeps start _ _ (runs.lawful.keeps_opened Old start _
-      (part_of before.site before.buffer done) part.blocks)).size
+  -- the part is, as it stands in the zone
+  find-on : (done : ℕ) → before.next ≡ ReadOwn done
+      → ReadsOwn before.site done after.buffer old new succeeded
+      → HasFilled before after (Write done) → Led old now Then
+  find-on done at call filled =
+      let had = needs (ReadOwn done) at in
+      let by = had.3 in
+      let below = had.0 in
+      let within : done ≤ count = omega (arith, below) in
+      let inside = part-fits before.site done within in
+      let room : bytes_at before.site 0 ≤ length after.buffer =
+      (let had = fits.room in let long = filled.long in omega (arith, had, long)) in
+      led-on old now Then
+      (read-leads old new now (before.site.own + done) (part_at before.site done) _ over.tells
+      (part-long sector before old fits after.buffer done room)
+      (own-fits sector before old fits done within) call told)
+      (λ was is got known. (
+        known-filled (Write done) was is filled known
+            (by-checksum guard before.site after.buffer before.digests texts done by (record {
+              blocks = subst (λ a. AreBlocks a (part_at before.site done)
+                  (part_of before.site after.buffer done)) (sym fits.size) got.1.blocks;
+              each = λ k few.
+                  found-either guard texts (done + k)
+                  (block_at before.site.atom (part_of before.site after.buffer done) k) by
+                  (subst (λ v. Is (found_by (kind_of guard)) texts (done + k) v)
+                  (sym (subst (λ a. block_at a (part_of before.site after.buffer done) k
+                  ≡ was.current (before.site.own + done + k)) (sym fits.size) (got.1.each k few)
+                  ∙ ap (λ n. was.current n)
+                  (let e : before.site.own + done + k ≡ before.site.own + (done + k) =
+                  omega arith in e)))
+                  (((here (ReadOwn done) was at known).own.now refl (done + k)
+                  (omega (arith, inside, few))).1 (omega arith)));
+              told = holds-for (ReadOwn done) was at known;
+            }))
+            (stays before.site.atom layout zone texts (mending done) false was is
+            (calls.reads got.0) (here (ReadOwn done) was at known)),
+        stays-unchanged layout zone was is got.0,
+      ))
+
+  abbrev Again : ℕ → Result (Unit {0}) Failure → Type 0
+  Again done result =
+      WritesAgain seals before.site done before.digests before.buffer old new result
+
+  -- the bytes that a part becomes
+  again-long : (done : ℕ) (result : Result (Unit {0}) Failure) (is : Again done result) (was : View)
+      → done + part_at before.site done ≤ count → before.next ≡ Write done → Known was
+      → length is.text ≡ part_at before.site done * old.size
+  again-long done result is was inside at known =
+      anew-long seals layout opened opened (header_by before.moved.commit) texts before.site
+      before.buffer before.digests is.text done runs known.texts_are.new inside guard is.is
+      (holds-for (Write done) was at known)
       ∙ ap (λ a. part_at before.site done * a) fits.size
 
-  holds-written : (done : ℕ) → HoldsFor before.site after.buffer texts (after_write before.site done)
+  again-block : (done : ℕ) (result : Result (Unit {0}) Failure) (is : Again done result) (was : View)
+      → done + part_at before.site done ≤ count → before.next ≡ Write done → Known was
+      → (k : ℕ) → k < part_at before.site done
+      → block_at before.site.atom is.text k ≡ texts.new (done + k)
+  again-block done result is was inside at known k few =
+      anew-block seals layout opened opened (header_by before.moved.commit) texts before.site
+      before.buffer before.digests is.text done runs known.texts_are.new inside guard k is.is
+      (holds-for (Write done) was at known)
+      (tell-by guard zone texts known.texts_are.kept) few
+
+  holds-written : (done : ℕ)
+      → HoldsFor before.site after.buffer before.digests texts (after_write before.site done)
   holds-written done = go (done + part_at before.site done == count)
     where
-      go : (b : Bool) → HoldsFor before.site after.buffer texts
+      go : (b : Bool) → HoldsFor before.site after.buffer before.digests texts
           (cond b Settle (ReadSaved (done + part_at before.site done)))
       go true = tt
       go false = tt
 
   write-on : (done : ℕ) → before.next ≡ Write done
-      → WritesAgain seals before.site done before.buffer old new succeeded
-      → HasFilled before after (after_write before.site done) → Led old now Then
-  write-on done at call filled =
+      → Again done succeeded → HasFilled before after (after_write before.site done)
+      → Led old now Then
+  write-on done at again filled =
       let below = (needs (Write done) at).0 in
       let within : done ≤ count = omega (arith, below) in
       let inside = part-fits before.site done within in
       led-on old now Then
       (written-if old new now (before.site.own + done) (part_at before.site done) _ over.tells
-      (some-here sector before old fits) (own-fits sector before old fits done within) call told)
+      (some-here sector before old fits) (own-fits sector before old fits done within) again.call
+      told)
       (λ was is wrote known.
-      let part = holds done was at known in
-      let written = wrote (again-long done part) in (
+      let written = wrote (again-long done succeeded again was inside at known) in (
         known-filled (after_write before.site done) was is filled known (holds-written done)
             (subst (λ p. Shown p false is) (sym (phase-written before.site stage done))
             (by-call was is (mending done) _ known (calls.mends done (part_at before.site done)
             (record {
               some = some-part sector before old fits done below;
               within = inside;
-              text = again done;
-              each = λ k few. new-block seals layout opened opened (header_by before.moved.commit)
-                  texts before.site before.buffer done k runs part known.texts_are inside few;
+              text = again.text;
+              each = again-block done succeeded again was inside at known;
               call = subst (λ a. IsWritten a (before.site.own + done) (part_at before.site done)
-                  (again done) was is) (sym fits.size) written;
+                  again.text was is) (sym fits.size) written;
             })) (here (Write done) was at known))),
-        stays-written layout zone old.size done (part_at before.site done) (again done) was is
+        stays-written layout zone old.size done (part_at before.site done) again.text was is
             inside written,
       ))
 
@@ -237,7 +379,8 @@ module _ {C : Type 0} (sector : C → ℕ) (seals : Seals) (goes : ZoneGoes) (st
           is_header = known.is_header;
           next_header = subst (IsHeader header_reader) header known.next_header;
           apart = subst (λ h. IsApart layout (mended_zone before.site opened h)) header known.apart;
-          texts_are = known.texts_are;
+          texts_are = subst (λ h. HasTexts seals before.site (mended_zone before.site opened h) texts)
+              header known.texts_are;
           part = tt;
           shows = subst (λ h. ShowsZone before.site.atom layout (mended_zone before.site opened h)
               texts (moving (stage_of (stage_in commit.copies))) false is) header
@@ -251,8 +394,10 @@ module _ {C : Type 0} (sector : C → ℕ) (seals : Seals) (goes : ZoneGoes) (st
 
   -- ---- each step but the last
   step-on : Goes seals old new before after false → Led old now Then
-  step-on (reads done at call filled) = read-on done at call filled
-  step-on (writes done at call filled) = write-on done at call filled
+  step-on (reads done by at call filled) = read-on done by at call filled
+  step-on (lays done by at call laid) = lay-on done by at call laid
+  step-on (finds done at call filled) = find-on done at call filled
+  step-on (writes done at again filled) = write-on done at again filled
   step-on (settles at call to) =
       led-on old now Then (synced-leads old new now call told)
       (λ was is synced known. (
@@ -305,46 +450,55 @@ module _ {C : Type 0} (sector : C → ℕ) (seals : Seals) (goes : ZoneGoes) (st
       → Shown (failed_by count stage next) true is → Shown (failed_in before) true is
   named next is at shows = subst (λ n. Shown (failed_by count stage n) true is) (sym at) shows
 
-  read-fails : (done : ℕ) → before.next ≡ ReadSaved done
-      → ReadsSaved before.site done after.buffer old new failed_call → Led old now Failed_by
-  read-fails done at call =
-      led-on old now Failed_by (unread-leads old new now _ _ failed_call call told)
+  read-fails : (done place : ℕ) (bytes : List ℕ) → before.next ≡ ReadSaved done
+      → ReadCall old.size place bytes old new failed_call → Led old now Failed_by
+  read-fails done place bytes at call =
+      led-on old now Failed_by (unread-leads old new now place bytes failed_call call told)
       (λ was is kept known. (
         named (ReadSaved done) is at (by-fault was is _ _ known (calls.sync_fails _ kept.candidates)
             (here (ReadSaved done) was at known)),
         stays-thinned layout zone was is kept.candidates,
       ))
 
+  find-fails : (done : ℕ) → before.next ≡ ReadOwn done
+      → ReadsOwn before.site done after.buffer old new failed_call → Led old now Failed_by
+  find-fails done at call =
+      led-on old now Failed_by (unread-leads old new now _ _ failed_call call told)
+      (λ was is kept known. (
+        named (ReadOwn done) is at (by-fault was is _ _ known (calls.sync_fails _ kept.candidates)
+            (here (ReadOwn done) was at known)),
+        stays-thinned layout zone was is kept.candidates,
+      ))
+
   write-fails : (done : ℕ) → before.next ≡ Write done
-      → WritesAgain seals before.site done before.buffer old new failed_call
-      → Led old now Failed_by
-  write-fails done at call =
+      → Again done failed_call → Led old now Failed_by
+  write-fails done at again =
       let below = (needs (Write done) at).0 in
       let within : done ≤ count = omega (arith, below) in
       let inside = part-fits before.site done within in
       led-on old now Failed_by
       (tried-if old new now (before.site.own + done) (part_at before.site done) _
-      (some-here sector before old fits) call told)
+      (some-here sector before old fits) again.call told)
       (λ was is tried known.
-      let part = holds done was at known in
-      let torn = tried (again-long done part) in (
+      let torn = tried (again-long done failed_call again was inside at known) in (
         named (Write done) is at (by-fault was is (mending done) (mending done) known
             (calls.mend_fails done (part_at before.site done) (record {
               some = some-part sector before old fits done below;
               within = inside;
-              text = again done;
-              each = λ k few. new-block seals layout opened opened (header_by before.moved.commit)
-                  texts before.site before.buffer done k runs part known.texts_are inside few;
+              text = again.text;
+              each = again-block done failed_call again was inside at known;
               call = subst (λ a. IsTried a (before.site.own + done) (part_at before.site done)
-                  (again done) was is) (sym fits.size) torn;
+                  again.text was is) (sym fits.size) torn;
             })) (here (Write done) was at known)),
-        stays-tried layout zone old.size done (part_at before.site done) (again done) was is inside
+        stays-tried layout zone old.size done (part_at before.site done) again.text was is inside
             torn,
       ))
 
   fails-on : Fails seals old new before after → Led old now Failed_by
-  fails-on (read_fails done at call failed) = read-fails done at call
-  fails-on (write_fails done at call failed) = write-fails done at call
+  fails-on (read_fails done by at call failed) = read-fails done _ _ at call
+  fails-on (lay_fails done by at call failed) = read-fails done _ _ at call
+  fails-on (find_fails done at call failed) = find-fails done at call
+  fails-on (write_fails done at again failed) = write-fails done at again
   fails-on (settle_fails at call failed) =
       led-on old now Failed_by (thinned-leads old new now call told)
       (λ was is thinned known. (

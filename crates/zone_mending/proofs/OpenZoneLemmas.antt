@@ -8,7 +8,7 @@ use Rattle.hotzone.proofs.AskLemmas.{saved-here}
 use Rattle.hotzone.proofs.HeadingLemmas.{same-self}
 use Rattle.hotzone.proofs.MadeLemmas.{known-by, unmade-by}
 use Rattle.hotzone.specs.Headings.{Follows, IsTurning, IsUnmade, MayTurn, Turns}
-use Rattle.hotzone.specs.Sites.{IsByJournal, count_of}
+use Rattle.hotzone.specs.Sites.{IsSaved, count_of, guard_of, kind_of, saved_count}
 use Rattle.hotzone.specs.Workers.{HasKeys, MapsFit, MayGoOn}
 use Rattle.hotzone.specs.declared.site.Site.{Site}
 use Rattle.hotzone.specs.declared.worker.NextHeader.{NextHeader}
@@ -30,6 +30,7 @@ use Rattle.reenc_meta.specs.Moves.{IsGoneTo, MayMove, MayMoveBy, moved}
 use Rattle.reenc_meta.specs.Placements.{all_atoms}
 use Rattle.sector_disk.specs.Geometry.{IsAtom, IsDisk}
 use Rattle.segment_map.specs.declared.map.Map.{Map}
+use Rattle.volume_machine.specs.Saved.{saved_atoms}
 use Rattle.volume_machine.specs.Seals.{KeysFit}
 use Rattle.volume_machine.specs.Sound.{MapFits}
 use Rattle.volume_machine.specs.declared.keys.Keys.{Keys}
@@ -56,11 +57,25 @@ pub zone-known : (header : Stored) (map : Map) (site : Site) → IsOpenZone head
 zone-known header map site is disk =
     subst IsAtom (sym (ap (λ (s : Site). s.atom) is.site_is ∙ is.map_is.atom)) disk.known
 
+pub zone-guard : (header : Stored) (map : Map) (site : Site) (is : IsOpenZone header map site)
+    → site.guard ≡ guard_of is.now.conversion.resilience
+zone-guard header map site is = ap (λ (s : Site). s.guard) is.site_is
+
+-- so many atoms are saved of it
+pub saved-is : (header : Stored) (map : Map) (site : Site) (is : IsOpenZone header map site)
+    → saved_count site
+    ≡ saved_atoms (kind_of (guard_of is.now.conversion.resilience)) header.valid.sizes.atom
+    (count_of site)
+saved-is header map site is =
+    ap (λ g. saved_atoms (kind_of g) site.atom (count_of site)) (zone-guard header map site is)
+    ∙ ap (λ a. saved_atoms (kind_of (guard_of is.now.conversion.resilience)) a (count_of site))
+    (ap (λ (s : Site). s.atom) is.site_is ∙ is.map_is.atom)
+
 -- what is saved of it lies on the disk
 pub zone-store : (header : Stored) (map : Map) (site : Site) → IsOpenZone header map site
     → IsSound header.valid.meta header.valid.sizes
     → IsDisk header.valid.sizes.atom (all_atoms header.valid.sizes)
-    → site.store + count_of site ≤ all_atoms header.valid.sizes
+    → site.store + saved_count site ≤ all_atoms header.valid.sizes
 zone-store header map site is sound disk =
     let sizes = header.valid.sizes in
     let p = is.now in
@@ -68,14 +83,15 @@ zone-store header map site is sound disk =
     let zone = way.converting.zone in
     let count = count-open header map site is in
     let store = ap (λ (s : Site). s.store) is.site_is in
+    let same = saved-is header map site is in
     let fits = saved-here header p (count_of site) is.is.known is.is.guarded
     (omega (arith, zone, count)) sound disk in
-    omega (arith, store, fits)
+    omega (arith, store, fits, same)
 
 -- ---- the boundary may move over it
-moves-by : (r : Resilience) (zone room left : ℕ) → IsByJournal r → MayMoveBy r zone room left zone
+moves-by : (r : Resilience) (zone room left : ℕ) → IsSaved r → MayMoveBy r zone room left zone
 moves-by Journal zone room left by = refl
-moves-by (Checksum n) zone room left by = absurd by
+moves-by (Checksum n) zone room left by = refl
 moves-by (Datashift n) zone room left by = absurd by
 
 may-move : (header : Stored) (p : Progress) → IsOpen header p
@@ -147,10 +163,10 @@ module _ (header : Stored) (next : NextHeader) (map : Map) (site : Site)
   pub behind-goes : MayGoOn next.loaded
   behind-goes =
       let p = moves.moves.0 in
-      subst (λ o. IsSomeAnd o (λ now. (now.plan.zone ≡ 0) × IsByJournal now.conversion.resilience))
+      subst (λ o. IsSomeAnd o (λ now. (now.plan.zone ≡ 0) × IsSaved now.conversion.resilience))
       (sym (ap (progress_of next.loaded.valid.meta) sizes-behind ∙ moves.moves.2.progress)) (
         moved-closed p.conversion.direction p.plan.zone p.plan,
-        subst (λ (q : Progress). IsByJournal q.conversion.resilience) (sym the-state) is.is.guarded,
+        subst (λ (q : Progress). IsSaved q.conversion.resilience) (sym the-state) is.is.guarded,
       )
 
   -- the volume lies where it lay

@@ -1,15 +1,18 @@
 -- What is known of a zone that is written again when it begins, and what calls of others leave.
-use Rattle.std.proofs.Common.{◌≡◌, ◌∙◌, ℕ, ◌+◌, false, List, Ok, refl, sym, subst}
+use Rattle.std.proofs.Common.{◌≡◌, ◌∙◌, ℕ, ◌+◌, ◌<◌, false, List, length, Ok, Some, sym}
+use Rattle.std.proofs.Common.{subst, arith}
 use Rattle.disk_areas.specs.Commits.{begun, ShowsCommit}
 use Rattle.disk_areas.specs.Headers.{Header, IsHeader, IsLaidOut, Layout}
+use Rattle.disk_views.specs.Parts.{block_at, cell_in}
 use Rattle.disk_views.specs.Views.{View, view_of_cells}
-use Rattle.disk_zones.specs.Calls.{CallBeside, IsSettled}
-use Rattle.disk_zones.specs.Promises.{ZoneResumes, ZoneStays}
-use Rattle.disk_zones.specs.Zones.{Texts, ShowsZone}
+use Rattle.disk_zones.specs.Calls.{CallBeside}
+use Rattle.disk_zones.specs.Promises.{IsFound, ZoneResumes, ZoneStays}
+use Rattle.disk_zones.specs.Zones.{Is, Texts, ShowsZone, found_by}
+use Rattle.hotzone.proofs.CallLemmas.{table-long}
 use Rattle.hotzone.specs.Known.{header_by}
-use Rattle.hotzone.specs.Sites.{count_of}
-use Rattle.hotzone.specs.Steps.{resealed}
+use Rattle.hotzone.specs.Sites.{count_of, kind_of}
 use Rattle.luks_copies.specs.Meanings.{header_reader, meaning_of}
+use Rattle.luks_store.proofs.SettledLemmas.{current_is}
 use Rattle.luks_store.specs.Commits.{AreGood}
 use Rattle.luks_store.specs.Devices.{IsCertain, front_of}
 use Rattle.luks_store.specs.Loads.{stored_in}
@@ -21,7 +24,8 @@ use Rattle.volume_machine.specs.Seals.{Seals}
 use Rattle.zone_mending.proofs.ApartLemmas.{zone-apart}
 use Rattle.zone_mending.proofs.MendLemmas.{same-header}
 use Rattle.zone_mending.proofs.MenderLemmas.{fits-disk}
-use Rattle.zone_mending.specs.Known.{HoldsFor, IsKnown, phase_by, zone_in}
+use Rattle.zone_mending.specs.Known.{HasTexts, HoldsFor, HoldsZone, IsKnown, phase_by}
+use Rattle.zone_mending.specs.Known.{zone_in}
 use Rattle.zone_mending.specs.Menders.{IsMending, stage_of_move}
 use Rattle.zone_mending.specs.Promises.{IsOver}
 use Rattle.zone_mending.specs.declared.mender.MendCall.TheVariants.{ReadSaved}
@@ -35,74 +39,75 @@ next-header sector m mends =
     subst (IsHeader header_reader)
     (sym (same-header follows.first m.moved.commit follows.same)) follows.commit.whole
 
--- ---- its beginning: the old atoms are those that are saved
-pub mend-begins : {C : Type 0} (sector : C → ℕ) (seals : Seals) → ZoneResumes → (layout : Layout)
-    (opened : Header (List ℕ)) (mender : Mender C) (device : Device) (view : View)
+-- ---- its beginning, where old atoms and new ones are known
+pub mend-resumes : {C : Type 0} (sector : C → ℕ) (seals : Seals) → ZoneResumes → (layout : Layout)
+    (opened : Header (List ℕ)) (texts : Texts) (mender : Mender C) (device : Device) (view : View)
     → IsOver sector layout mender device → mender.next ≡ ReadSaved 0
     → opened.means ≡ meaning_of mender.loaded.copies.used.bytes → IsHeader header_reader opened
-    → IsSettled view (zone_in mender opened).own
-    → IsSettled view (zone_in mender opened).store
-    → ((to : Header (List ℕ)) → ShowsCommit mender.site.atom layout opened to begun false view)
-    → (texts : Texts) × IsKnown seals layout opened texts mender view
-mend-begins sector seals resumes layout opened mender device view over at means header own store
-    shown = (
-      texts,
-      record {
-        means = means;
-        is_header = header;
-        next_header = next-header sector mender over.mends;
-        apart = zone-apart sector layout mender device over opened;
-        texts_are = record { new = λ i below. refl; saved = λ i. refl };
-        part = subst (HoldsFor mender.site mender.buffer texts) (sym at) tt;
-        shows = subst (λ n. ShowsZone mender.site.atom layout (zone_in mender opened) texts
-            (phase_by (count_of mender.site) (stage_of_move mender) n) false view) (sym at)
-            (resumes mender.site.atom layout (zone_in mender opened) texts view (record {
-              own_settled = own;
-              store_settled = store;
-              own = λ i below. tt;
-              store = λ i below. refl;
-              header = shown (header_by mender.moved.commit);
-            }));
-      },
-    )
-  where
-    texts : Texts
-    texts = record {
-      old = λ i. view.current (mender.site.store + i);
-      new = λ i. resealed seals (mender.site.blocks.start + i)
-          (view.current (mender.site.store + i));
-      saved = λ i. view.current (mender.site.store + i);
+    → HasTexts seals mender.site (zone_in mender opened) texts
+    → IsFound mender.site.atom layout (zone_in mender opened) texts view
+    → IsKnown seals layout opened texts mender view
+mend-resumes sector seals resumes layout opened texts mender device view over at means header are
+    found = record {
+      means = means;
+      is_header = header;
+      next_header = next-header sector mender over.mends;
+      apart = zone-apart sector layout mender device over opened;
+      texts_are = are;
+      part = subst (HoldsFor mender.site mender.buffer mender.digests texts) (sym at) tt;
+      shows = subst (λ n. ShowsZone mender.site.atom layout (zone_in mender opened) texts
+          (phase_by (count_of mender.site) (stage_of_move mender) n) false view) (sym at)
+          (resumes mender.site.atom layout (zone_in mender opened) texts view found);
     }
 
--- so on a disk that holds its bytes for certain, and in them both copies of the header
+-- ---- so on a disk that holds its bytes for certain, and in them both copies of the header
 pub mend-starts : {C : Type 0} (sector : C → ℕ) (seals : Seals) → ZoneResumes → CommitsBegin
     → (layout : Layout) (mender : Mender C) (device : Device) (now : Told) (bytes : List ℕ)
-    (stored : Stored) → IsOver sector layout mender device → mender.next ≡ ReadSaved 0
+    (stored : Stored) (texts : Texts) → IsOver sector layout mender device
+    → mender.next ≡ ReadSaved 0 → device.told ≡ Some now
     → IsCertain mender.loaded.valid.sizes bytes now.now
     → stored_in mender.loaded.valid.sizes (front_of mender.loaded.valid.sizes bytes) ≡ Ok stored
     → AreGood stored.copies
     → meaning_of stored.copies.used.bytes ≡ meaning_of mender.loaded.copies.used.bytes
     → IsLaidOut mender.loaded.valid.sizes.atom mender.loaded.valid.sizes.header_atoms
     stored.copies.used.header.hdr_size layout
-    → (opened : Header (List ℕ)) × (texts : Texts)
-    × IsKnown seals layout opened texts mender (view_of_cells now.now)
-mend-starts sector seals resumes begins layout mender device now bytes stored over at certain held
-    good means laid =
+    → HoldsZone mender.site bytes texts
+    → ((opened : Header (List ℕ)) → HasTexts seals mender.site (zone_in mender opened) texts)
+    → (opened : Header (List ℕ)) × IsKnown seals layout opened texts mender (view_of_cells now.now)
+mend-starts sector seals resumes begins layout mender device now bytes stored texts over at told
+    certain held good means laid found has =
     let sizes = mender.loaded.valid.sizes in
-    let view = view_of_cells now.now in
+    let site = mender.site in
     let from = begins sizes bytes now.now stored layout (header_by mender.moved.commit) certain laid
     held good in
     let fits = fits-disk sector mender device over.mends over.sizes in
-    let atom : sizes.atom ≡ mender.site.atom = over.sizes.atom ∙ sym fits.size in
-    let shown : ShowsCommit mender.site.atom layout from.0 (header_by mender.moved.commit) begun
-    false view =
-    subst (λ a. ShowsCommit a layout from.0 (header_by mender.moved.commit) begun false view) atom
-    from.4 in
-    let known = mend-begins sector seals resumes layout from.0 mender device view over at
-    (from.2 ∙ means) from.1 (λ i below value has. certain.only _ value has)
-    (λ i below value has. certain.only _ value has)
-    (λ to. record { first = shown.first; second = shown.second }) in
-    (from.0, known.0, known.1)
+    let own_fits = fits.own in
+    let store_fits = fits.store in
+    let many = table-long device over.tells now told in (
+      from.0,
+      mend-resumes sector seals resumes layout from.0 texts mender device (view_of_cells now.now) over
+          at (from.2 ∙ means) from.1 (has from.0) (record {
+            own_settled = λ i below value is. certain.only _ value is;
+            store_settled = λ i below value is. certain.only _ value is;
+            own = λ i below.
+                subst (λ v. Is (found_by (kind_of site.guard)) texts i v)
+                (sym (now-is fits.size (site.own + i) (omega (arith, below, own_fits, many))))
+                (found.own i below);
+            store = λ j below.
+                now-is fits.size (site.store + j) (omega (arith, below, store_fits, many))
+                ∙ found.saved j below;
+            header = subst (λ a. ShowsCommit a layout from.0 (header_by mender.moved.commit) begun
+                false (view_of_cells now.now)) (over.sizes.atom ∙ sym fits.size) from.4;
+          }),
+    )
+  where
+    now-is : mender.site.atom ≡ device.size → (place : ℕ) → place < length now.now
+        → (cell_in now.now place).current ≡ block_at mender.site.atom bytes place
+    now-is size place below =
+        subst (λ a. (cell_in now.now place).current ≡ block_at a bytes place)
+        (over.sizes.atom ∙ sym size)
+        (current_is mender.loaded.valid.sizes layout stored.copies.used.header.hdr_size bytes now.now
+        certain laid place below)
 
 -- ---- what others do beside it
 pub mend-stays : {C : Type 0} → ZoneStays → (seals : Seals) (layout : Layout)

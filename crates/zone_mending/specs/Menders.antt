@@ -1,7 +1,9 @@
 -- A zone that is written again, between two of its steps.
 use Rattle.std.specs.Prelude.{ℕ, ◌≡◌, ◌≢◌, ◌+◌, ◌<◌, ◌≤◌, ◌==◌, length, Bool, true, false}
-use Rattle.std.specs.Prelude.{if◌then◌else◌}
-use Rattle.hotzone.specs.Sites.{bytes_at, count_of, part_at}
+use Rattle.std.specs.Prelude.{if◌then◌else◌, List}
+use Rattle.hotzone.specs.Sites.{IsPartStart, bytes_at, count_of, part_at, saved_count}
+use Rattle.hotzone.specs.declared.site.Guard.{Guard}
+use Rattle.hotzone.specs.declared.site.Guard.TheVariants as guards
 use Rattle.hotzone.specs.declared.site.Site.{Site}
 use Rattle.joined_disk.specs.Counts.{HasSizes}
 use Rattle.luks_copies.specs.Held.{stage_in}
@@ -11,6 +13,7 @@ use Rattle.luks_rules.specs.States.{IsSound}
 use Rattle.luks_store.specs.Loads.{IsStored}
 use Rattle.luks_store.specs.declared.loaded.Stored.{Stored}
 use Rattle.reenc_meta.specs.Placements.{all_atoms}
+use Rattle.resil_checksum.specs.Digests.{saved_len}
 use Rattle.sector_disk.specs.Devices.{Device}
 use Rattle.sector_disk.specs.Geometry.{IsAtom, IsDisk}
 use Rattle.segment_map.specs.declared.map.Map.{Map}
@@ -19,21 +22,34 @@ use Rattle.volume_machine.specs.Sound.{MapFits}
 use Rattle.volume_machine.specs.declared.keys.Keys.{Keys}
 use Rattle.zone_mending.specs.OpenZones.{IsMoved, IsOpenZone}
 use Rattle.zone_mending.specs.declared.mender.MendCall.{MendCall}
-use Rattle.zone_mending.specs.declared.mender.MendCall.TheVariants.{ReadSaved, Write, Settle, Move}
-use Rattle.zone_mending.specs.declared.mender.MendCall.TheVariants.{Done, Failed}
+use Rattle.zone_mending.specs.declared.mender.MendCall.TheVariants.{ReadSaved, ReadOwn, Write}
+use Rattle.zone_mending.specs.declared.mender.MendCall.TheVariants.{Settle, Move, Done, Failed}
 use Rattle.zone_mending.specs.declared.mender.Mender.{Mender}
 
--- ---- what the next call needs: an atom that isn't written, and how far the commit is
-abbrev pub Needs : ℕ → Stage → MendCall → Type 0
-Needs count stage (ReadSaved done) = (done < count) × (stage ≡ Begun)
-Needs count stage (Write done) = (done < count) × (stage ≡ Begun)
-Needs count stage Settle = stage ≡ Begun
-Needs count stage Move = stage ≢ Ended
-Needs count stage Done = Unit {0}
-Needs count stage Failed = Unit {0}
+-- ---- what the next call needs: a part of which nothing is written, and how far the commit is
+abbrev pub Needs : Site → Stage → MendCall → Type 0
+Needs site stage (ReadSaved done) =
+    (done < count_of site) × (stage ≡ Begun) × IsPartStart site done
+Needs site stage (ReadOwn done) =
+    (done < count_of site) × (stage ≡ Begun) × IsPartStart site done
+    × (site.guard ≡ guards.Checksum)
+Needs site stage (Write done) =
+    (done < count_of site) × (stage ≡ Begun) × IsPartStart site done
+Needs site stage Settle = stage ≡ Begun
+Needs site stage Move = stage ≢ Ended
+Needs site stage Done = Unit {0}
+Needs site stage Failed = Unit {0}
 
 abbrev pub stage_of_move : {C : Type 0} → Mender C → Stage
 stage_of_move mender = stage_in mender.moved.commit.copies
+
+-- by checksum there is room for the digests of a part
+abbrev pub HasRoomBy : Guard → Site → List ℕ → Type 0
+HasRoomBy guards.Journal site digests = Unit {0}
+HasRoomBy guards.Checksum site digests = saved_len (part_at site 0) site.atom ≤ length digests
+
+abbrev pub HasRoom : Site → List ℕ → Type 0
+HasRoom site digests = HasRoomBy site.guard site digests
 
 -- ---- what holds between two steps
 -- Its header breaks no rule, what its calls touch lies on the disk, the buffer has room for a part,
@@ -46,11 +62,12 @@ pub record IsMending {C : Type 0} (sector : C → ℕ) (mender : Mender C) : Typ
   pub map : Map
   pub zone : IsOpenZone mender.loaded map mender.site
   pub fits : MapFits map (all_atoms mender.loaded.valid.sizes)
-  pub store : mender.site.store + count_of mender.site ≤ all_atoms mender.loaded.valid.sizes
+  pub store : mender.site.store + saved_count mender.site ≤ all_atoms mender.loaded.valid.sizes
   pub room : bytes_at mender.site 0 ≤ length mender.buffer
+  pub digest_room : HasRoom mender.site mender.digests
   pub keys : KeysFit sector mender.keys map.atom map.blocks
   pub moves : IsMoved mender.loaded mender.moved
-  pub next : Needs (count_of mender.site) (stage_of_move mender) mender.next
+  pub next : Needs mender.site (stage_of_move mender) mender.next
 
 -- What its calls touch lies on a disk, whose atoms are its own.
 pub record FitsDisk {C : Type 0} (sector : C → ℕ) (mender : Mender C) (disk : Device) : Type 0
@@ -58,15 +75,19 @@ pub record FitsDisk {C : Type 0} (sector : C → ℕ) (mender : Mender C) (disk 
     pub known : IsAtom mender.site.atom
     pub size : mender.site.atom ≡ disk.size
     pub own : mender.site.own + count_of mender.site ≤ disk.atoms
-    pub store : mender.site.store + count_of mender.site ≤ disk.atoms
+    pub store : mender.site.store + saved_count mender.site ≤ disk.atoms
     pub room : bytes_at mender.site 0 ≤ length mender.buffer
+    pub digest_room : HasRoom mender.site mender.digests
     pub keys : KeysFit sector mender.keys mender.site.atom
         (mender.site.blocks.start + count_of mender.site)
 
 -- what the call that comes next asks
 abbrev pub Asks : {C : Type 0} → (C → ℕ) → Mender C → Device → MendCall → Type 0
 Asks sector mender disk (ReadSaved done) =
-    (done < count_of mender.site) × FitsDisk sector mender disk
+    (done < count_of mender.site) × IsPartStart mender.site done × FitsDisk sector mender disk
+Asks sector mender disk (ReadOwn done) =
+    (done < count_of mender.site) × (mender.site.guard ≡ guards.Checksum)
+    × FitsDisk sector mender disk
 Asks sector mender disk (Write done) = (done < count_of mender.site) × FitsDisk sector mender disk
 Asks sector mender disk Settle = Unit {0}
 Asks sector mender disk Move =

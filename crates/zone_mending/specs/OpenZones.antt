@@ -1,7 +1,7 @@
 -- An open zone by its header: where it lies, and the header with the boundary moved over it.
 use Rattle.std.specs.Prelude.{◌≡◌, ◌/◌, ◌<◌, Some, IsSomeAnd}
 use Rattle.hotzone.specs.Headings.{FollowsBy, IsUnmade}
-use Rattle.hotzone.specs.Sites.{IsByJournal, site_by}
+use Rattle.hotzone.specs.Sites.{IsSaved, guard_of, site_by}
 use Rattle.hotzone.specs.declared.site.Site.{Site}
 use Rattle.hotzone.specs.declared.worker.NextHeader.{NextHeader}
 use Rattle.hotzone.specs.declared.worker.ZoneFault.{ZoneFault}
@@ -17,16 +17,17 @@ use Rattle.zone_mending.specs.declared.mender.MendFault.{MendFault}
 use Rattle.zone_mending.specs.declared.mender.MendFault.TheVariants.{SeqEnd, JsonFull, Memory}
 
 -- ---- where it lies
--- By a header a conversion is under way, a zone of it is open, and zones are guarded by a journal.
+-- By a header a conversion is under way, a zone of it is open, and something is saved of the blocks of
+-- zones.
 pub record IsOpen (header : Stored) (now : Progress) : Type 0 where
   pub known : progress_of header.valid.meta header.valid.sizes ≡ Some now
   pub some : 0 < now.plan.zone
-  pub guarded : IsByJournal now.conversion.resilience
+  pub guarded : IsSaved now.conversion.resilience
 
 abbrev pub HasZone : Stored → Type 0
 HasZone header =
     IsSomeAnd (progress_of header.valid.meta header.valid.sizes)
-    (λ now. (0 < now.plan.zone) × IsByJournal now.conversion.resilience)
+    (λ now. (0 < now.plan.zone) × IsSaved now.conversion.resilience)
 
 -- the blocks of the open zone, beside the boundary, and what is saved of them
 pub record IsOpenZone (header : Stored) (map : Map) (site : Site) : Type 0 where
@@ -35,6 +36,7 @@ pub record IsOpenZone (header : Stored) (map : Map) (site : Site) : Type 0 where
   pub map_is : IsMapAt header.valid.sizes now map
   pub site_is : site
       ≡ site_by map map.zone (now.conversion.area.offset / header.valid.sizes.atom)
+      (guard_of now.conversion.resilience)
 
 -- ---- the header that comes behind it
 -- the metadata with the boundary moved over the open zone
@@ -51,7 +53,7 @@ pub record IsMoved (header : Stored) (next : NextHeader) : Type 0 where
 
 -- why it isn't made: no number is left, or its text has no room; want of memory says nothing
 abbrev pub as_zone : MendFault → ZoneFault
-as_zone SeqEnd = faults.SeqEnd
+as_zone (SeqEnd left wanted) = faults.SeqEnd left wanted
 as_zone (JsonFull len limit) = faults.JsonFull len limit
 as_zone Memory = faults.Memory
 

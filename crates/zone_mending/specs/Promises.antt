@@ -1,9 +1,9 @@
 -- What is promised of the steps by which a zone is written again, on a disk that tells its tables.
 use Rattle.std.specs.Prelude.{ℕ, ◌≡◌, true, false, List, Some, Ok}
-use Rattle.disk_areas.specs.Commits.{ShowsCommit, begun}
 use Rattle.disk_areas.specs.Headers.{Header, IsHeader, IsLaidOut, Layout}
 use Rattle.disk_views.specs.Views.{View, view_of_cells}
-use Rattle.disk_zones.specs.Calls.{CallBeside, IsSettled}
+use Rattle.disk_zones.specs.Calls.{CallBeside}
+use Rattle.disk_zones.specs.Promises.{IsFound}
 use Rattle.disk_zones.specs.Zones.{Texts, ShowsZone}
 use Rattle.hotzone.specs.Promises.{Leads, TellsAlike}
 use Rattle.joined_disk.specs.Counts.{HasSizes}
@@ -16,7 +16,8 @@ use Rattle.sector_disk.specs.Devices.{Device}
 use Rattle.sector_disk.specs.Steps.{Told}
 use Rattle.volume_machine.specs.Seals.{Seals, seals_of}
 use Rattle.zone_mending.specs.Elsewhere.{StaysElsewhere}
-use Rattle.zone_mending.specs.Known.{IsKnown, IsThrough, failed_in, zone_in}
+use Rattle.zone_mending.specs.Known.{HasTexts, HoldsZone, IsKnown, IsThrough, failed_in}
+use Rattle.zone_mending.specs.Known.{zone_in}
 use Rattle.zone_mending.specs.Menders.{IsMending}
 use Rattle.zone_mending.specs.Steps.{Fails, Goes}
 use Rattle.zone_mending.specs.declared.mender.MendCall.TheVariants.{ReadSaved}
@@ -35,38 +36,40 @@ abbrev pub seals_in : {C : Type 0} → (C → ℕ → List ℕ → List ℕ) →
     → Mender C → Seals
 seals_in seal unseal mender = seals_of seal unseal mender.site.atom mender.keys
 
--- ---- It begins on a disk on which neither the zone's atoms nor the saved ones are in doubt, and
--- both copies are the header by which the zone is open. The old atoms are the saved ones, whatever
--- stands in the zone.
-abbrev pub MendBegins : {C : Type 0} → (C → ℕ) → (C → ℕ → List ℕ → List ℕ)
+-- ---- It begins on a disk on which neither the zone's atoms nor what is saved of them is in doubt, and
+-- both copies are the header by which the zone is open. By journal the old atoms are those that are
+-- saved, whatever stands in the zone; by checksum each atom there is the old one or the new one, and
+-- digests tell which.
+abbrev pub MendResumes : {C : Type 0} → (C → ℕ) → (C → ℕ → List ℕ → List ℕ)
     → (C → ℕ → List ℕ → List ℕ) → Type 0
-MendBegins {C} sector seal unseal =
-    (layout : Layout) (opened : Header (List ℕ)) (mender : Mender C) (device : Device) (now : Told)
-    → IsOver sector layout mender device → mender.next ≡ ReadSaved 0
-    → opened.means ≡ meaning_of mender.loaded.copies.used.bytes → IsHeader header_reader opened
-    → device.told ≡ Some now
-    → IsSettled (view_of_cells now.now) (zone_in mender opened).own
-    → IsSettled (view_of_cells now.now) (zone_in mender opened).store
-    → ((to : Header (List ℕ))
-    → ShowsCommit mender.site.atom layout opened to begun false (view_of_cells now.now))
-    → (texts : Texts)
-    × IsKnown (seals_in seal unseal mender) layout opened texts mender (view_of_cells now.now)
+MendResumes {C} sector seal unseal =
+    (layout : Layout) (opened : Header (List ℕ)) (texts : Texts) (mender : Mender C)
+    (device : Device) (now : Told) → IsOver sector layout mender device
+    → mender.next ≡ ReadSaved 0 → opened.means ≡ meaning_of mender.loaded.copies.used.bytes
+    → IsHeader header_reader opened → device.told ≡ Some now
+    → HasTexts (seals_in seal unseal mender) mender.site (zone_in mender opened) texts
+    → IsFound mender.site.atom layout (zone_in mender opened) texts (view_of_cells now.now)
+    → IsKnown (seals_in seal unseal mender) layout opened texts mender (view_of_cells now.now)
 
--- So it begins where a disk holds its bytes for certain, and in them both copies of a header that
--- says what the one says by which the zone is open: as an opening leaves it, once a copy that lacked
--- or was older is written anew.
+-- So it begins where a disk holds its bytes for certain, and in them what is saved, and both copies of
+-- a header that says what the one says by which the zone is open: as an opening leaves it, once a
+-- copy that lacked or was older is written anew.
 abbrev pub MendStarts : {C : Type 0} → (C → ℕ) → (C → ℕ → List ℕ → List ℕ)
     → (C → ℕ → List ℕ → List ℕ) → Type 0
 MendStarts {C} sector seal unseal =
     (layout : Layout) (mender : Mender C) (device : Device) (now : Told) (bytes : List ℕ)
-    (stored : Stored) → IsOver sector layout mender device → mender.next ≡ ReadSaved 0
+    (stored : Stored) (texts : Texts) → IsOver sector layout mender device
+    → mender.next ≡ ReadSaved 0
     → device.told ≡ Some now → IsCertain mender.loaded.valid.sizes bytes now.now
     → stored_in mender.loaded.valid.sizes (front_of mender.loaded.valid.sizes bytes) ≡ Ok stored
     → AreGood stored.copies
     → meaning_of stored.copies.used.bytes ≡ meaning_of mender.loaded.copies.used.bytes
     → IsLaidOut mender.loaded.valid.sizes.atom mender.loaded.valid.sizes.header_atoms
     stored.copies.used.header.hdr_size layout
-    → (opened : Header (List ℕ)) × (texts : Texts)
+    → HoldsZone mender.site bytes texts
+    → ((opened : Header (List ℕ))
+    → HasTexts (seals_in seal unseal mender) mender.site (zone_in mender opened) texts)
+    → (opened : Header (List ℕ))
     × IsKnown (seals_in seal unseal mender) layout opened texts mender (view_of_cells now.now)
 
 -- Each step but the last leads from what is known to what is known, and changes nothing but the

@@ -8,9 +8,10 @@ use volume_machine::Keys;
 /// Why a zone isn't begun to be written again.
 #[derive(Clone, Copy, Debug, PartialEq, Eq)]
 pub enum MendFault {
-    /// The header has the last number that there is.
-    SeqEnd,
-    /// The text of the header to come has so many bytes, and its area room for so many.
+    /// The header has so many numbers left, and the commit to come takes so many more.
+    SeqEnd { left: u64, wanted: u64 },
+    /// There is a number; but the text of the header to come has so many bytes, and its area room
+    /// for so many.
     JsonFull { length: u64, limit: u64 },
     /// There is no memory.
     Memory,
@@ -19,8 +20,10 @@ pub enum MendFault {
 /// The device call that comes next. `done` atoms of the zone were written.
 #[derive(Clone, Copy, Debug, PartialEq, Eq)]
 pub enum MendCall {
-    /// What was saved of a part is read.
+    /// What was saved of a part is read: by journal its old atoms, by checksum their digests.
     ReadSaved { done: u64 },
+    /// By checksum the part is read as it stands in the zone.
+    ReadOwn { done: u64 },
     /// The part is written anew.
     Write { done: u64 },
     /// A sync, behind which all is written for certain.
@@ -46,6 +49,8 @@ pub struct Mender<C> {
     pub site: Site,
     /// The part at hand.
     pub buffer: Buffer,
+    /// What was saved of it, where that is digests; by journal it has no memory.
+    pub digests: Buffer,
     /// The device call that comes next.
     pub next: MendCall,
 }

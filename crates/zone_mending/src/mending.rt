@@ -2,14 +2,15 @@
 
 ghost use Rattle.std.specs.Prelude.{◌≡◌, ◌↔◌, IfErr, IfOk, IsTrue, false};
 ghost use Rattle.hotzone.specs.Workers.{HasKeys, MapsFit, MayGoOn};
+ghost use Rattle.hotzone.specs.declared.site.Guard.TheVariants as guards;
 ghost use Rattle.joined_disk.specs.Counts.{HasSizes};
 ghost use Rattle.luks_copies.specs.Held.{stage_in};
 ghost use Rattle.luks_copies.specs.declared.commit.Stage.TheVariants.{Begun};
 ghost use Rattle.reenc_meta.specs.Placements.{all_atoms};
-ghost use Rattle.sector_disk.specs.Geometry.{IsDisk};
+ghost use Rattle.sector_disk.specs.Geometry.{IsAtom, IsDisk};
 ghost use Rattle.segment_map.specs.declared.map.Map.{Map as map_type};
 ghost use Rattle.volume_machine.specs.Seals.{seals_of};
-ghost use Rattle.zone_mending.specs.Menders.{IsMending, IsNew, IsUnderWay, LeavesNext};
+ghost use Rattle.zone_mending.specs.Menders.{HasRoom, IsMending, IsNew, IsUnderWay, LeavesNext};
 ghost use Rattle.zone_mending.specs.OpenZones.{HasZone, IsMoved, IsNotMade, IsOpenZone};
 ghost use Rattle.zone_mending.specs.Steps.{Steps};
 ghost use Rattle.zone_mending.specs.declared.mender.MendCall.TheVariants as calls;
@@ -18,7 +19,7 @@ use crate::mender::{MendCall, MendFault, Mender};
 use crate::zone::{find_zone, move_header};
 use base_terms::{Buffer, Failed, zeros};
 use cipher_laws::SectorCipher;
-use hotzone::{NextHeader, Site};
+use hotzone::{Guard, NextHeader, Site};
 use luks_store::Loaded;
 use sector_disk::Disk;
 use std::alloc::{AllocError, Global};
@@ -55,6 +56,27 @@ impl<C: SectorCipher + Copy> Drop for Mending<C> {
     }
 }
 
+/// Room for the digests of a part, where digests are saved.
+fn digest_room(alloc: Global, site: &Site) -> Result<Buffer, AllocError>
+    requires atom { IsAtom site.now.atom }
+    ensures { IfOk result (HasRoom site.now) }
+{
+    match site.guard {
+        Guard::Journal => Ok(Buffer::empty(alloc)),
+        Guard::Checksum => make_room(alloc, site),
+    }
+}
+
+/// So where they are.
+fn make_room(alloc: Global, site: &Site) -> Result<Buffer, AllocError>
+    requires atom { IsAtom site.now.atom }
+    requires guard { site.now.guard ≡ guards.Checksum }
+    ensures { IfOk result (HasRoom site.now) }
+{
+    let bytes = zeros(alloc, site.digest_bytes(0))?;
+    Ok(Buffer::new(bytes))
+}
+
 /// A zone that is written again by the header to come, with the buffer of a part.
 fn make_mender<C: SectorCipher + Copy>(
     alloc: Global,
@@ -75,14 +97,18 @@ fn make_mender<C: SectorCipher + Copy>(
     loaded.is_stored();
     loaded.valid().is_sound();
     match zeros(alloc, site.bytes(0)) {
-        Ok(bytes) => Ok(Mender {
-            keys,
-            loaded,
-            moved,
-            site,
-            buffer: Buffer::new(bytes),
-            next: MendCall::ReadSaved { done: 0 },
-        }),
+        Ok(bytes) => match digest_room(alloc, &site) {
+            Ok(digests) => Ok(Mender {
+                keys,
+                loaded,
+                moved,
+                site,
+                buffer: Buffer::new(bytes),
+                digests,
+                next: MendCall::ReadSaved { done: 0 },
+            }),
+            Err(AllocError) => Err(AllocError),
+        },
         Err(AllocError) => Err(AllocError),
     }
 }
@@ -126,6 +152,7 @@ fn take_moved<C: SectorCipher + Copy>(mender: Mender<C>) -> Loaded
         moved,
         site: _,
         buffer: _,
+        digests: _,
         next: _,
     } = mender;
     let NextHeader { commit: _, loaded } = moved;
@@ -133,8 +160,9 @@ fn take_moved<C: SectorCipher + Copy>(mender: Mender<C>) -> Loaded
 }
 
 impl<C: SectorCipher + Copy + Sync> Mending<C> {
-    /// The zone that is open by a header, guarded by a journal, under the keys of the volume's
-    /// sides. The header to come is made, and the buffer of a part is taken. The condition of the
+    /// The zone that is open by a header, guarded by a journal or by checksum, under the keys of the
+    /// volume's sides. The header to come is made, and the buffer of a part is taken, by checksum also
+    /// that of its digests. The condition of the
     /// first step is that both copies on the disk are this header, and that no atom is in doubt.
     ///
     /// # Errors
@@ -170,14 +198,16 @@ impl<C: SectorCipher + Copy + Sync> Mending<C> {
         match self.mender.next {
             MendCall::Done | MendCall::Failed => true,
             MendCall::ReadSaved { .. }
+            | MendCall::ReadOwn { .. }
             | MendCall::Write { .. }
             | MendCall::Settle
             | MendCall::Move => false,
         }
     }
 
-    /// The next step: the one device call that the state names. Part by part what was saved is read
-    /// and written anew to the zone; a sync follows, and four calls commit the header with the
+    /// The next step: the one device call that the state names. Part by part what was saved is read,
+    /// by checksum also the part as it stands, and what is old of it is written anew to the zone; a
+    /// sync follows, and four calls commit the header with the
     /// boundary moved over the zone. It answers true at the last one; behind one that failed none
     /// may follow.
     pub fn step<R: Threads + Sync, D: Disk>(&mut self, rt: &R, disk: &mut D) -> Result<bool, Failed>
@@ -237,6 +267,7 @@ impl<C: SectorCipher + Copy + Sync> Mender<C> {
     {
         match call {
             MendCall::ReadSaved { done } => self.read_saved(done, disk),
+            MendCall::ReadOwn { done } => self.read_own(done, disk),
             MendCall::Write { done } => self.write_again(rt, done, disk),
             MendCall::Settle => self.settle(disk),
             MendCall::Move => self.move_on(disk),

@@ -1,7 +1,8 @@
 // The steps by which a zone is written again, one device call each.
 
 ghost use Rattle.std.specs.Prelude.{◌≡◌, ◌≢◌, ◌<◌, ◌≤◌};
-ghost use Rattle.hotzone.specs.Sites.{count_of};
+ghost use Rattle.hotzone.specs.Sites.{IsPartStart, count_of};
+ghost use Rattle.hotzone.specs.declared.site.Guard.TheVariants as guards;
 ghost use Rattle.joined_disk.specs.Counts.{HasSizes};
 ghost use Rattle.luks_copies.specs.declared.commit.Stage.TheVariants.{Ended};
 ghost use Rattle.volume_machine.specs.Seals.{seals_of};
@@ -13,7 +14,7 @@ ghost use Rattle.zone_mending.specs.declared.mender.MendCall.TheVariants as call
 use crate::mender::{MendCall, Mender};
 use base_terms::Failed;
 use cipher_laws::SectorCipher;
-use hotzone::Site;
+use hotzone::{Guard, Site};
 use sector_disk::Disk;
 use std::thread::Threads;
 
@@ -44,11 +45,69 @@ impl<C: SectorCipher + Copy> Mender<C> {
     pub(crate) fn read_saved<D: Disk>(&mut self, done: u64, disk: &mut D) -> Result<bool, Failed>
         requires next { self.old.next ≡ calls.ReadSaved done }
         requires within { done < count_of self.old.site }
+        requires start { IsPartStart self.old.site done }
+        requires fits { FitsDisk C.sector self.old (D.device disk.old) }
+        ensures { Steps (seals_of C.sealed C.opened self.old.site.atom self.old.keys)
+            (D.device disk.old) (D.device disk.new) self.old self.new result }
+    {
+        match self.site.guard {
+            Guard::Journal => self.read_atoms(done, disk),
+            Guard::Checksum => self.read_digests(done, disk),
+        }
+    }
+
+    /// By journal its old atoms are.
+    fn read_atoms<D: Disk>(&mut self, done: u64, disk: &mut D) -> Result<bool, Failed>
+        requires guard { self.old.site.guard ≡ guards.Journal }
+        requires next { self.old.next ≡ calls.ReadSaved done }
+        requires within { done < count_of self.old.site }
         requires fits { FitsDisk C.sector self.old (D.device disk.old) }
         ensures { Steps (seals_of C.sealed C.opened self.old.site.atom self.old.keys)
             (D.device disk.old) (D.device disk.new) self.old self.new result }
     {
         match self.read_part(done, disk) {
+            Ok(()) => {
+                self.next = MendCall::Write { done };
+                Ok(false)
+            }
+            Err(Failed) => {
+                self.next = MendCall::Failed;
+                Err(Failed)
+            }
+        }
+    }
+
+    /// By checksum their digests are.
+    fn read_digests<D: Disk>(&mut self, done: u64, disk: &mut D) -> Result<bool, Failed>
+        requires guard { self.old.site.guard ≡ guards.Checksum }
+        requires next { self.old.next ≡ calls.ReadSaved done }
+        requires within { done < count_of self.old.site }
+        requires start { IsPartStart self.old.site done }
+        requires fits { FitsDisk C.sector self.old (D.device disk.old) }
+        ensures { Steps (seals_of C.sealed C.opened self.old.site.atom self.old.keys)
+            (D.device disk.old) (D.device disk.new) self.old self.new result }
+    {
+        match self.lay_digests(done, disk) {
+            Ok(()) => {
+                self.next = MendCall::ReadOwn { done };
+                Ok(false)
+            }
+            Err(Failed) => {
+                self.next = MendCall::Failed;
+                Err(Failed)
+            }
+        }
+    }
+
+    /// The part is read as it stands in the zone.
+    pub(crate) fn read_own<D: Disk>(&mut self, done: u64, disk: &mut D) -> Result<bool, Failed>
+        requires next { self.old.next ≡ calls.ReadOwn done }
+        requires within { done < count_of self.old.site }
+        requires fits { FitsDisk C.sector self.old (D.device disk.old) }
+        ensures { Steps (seals_of C.sealed C.opened self.old.site.atom self.old.keys)
+            (D.device disk.old) (D.device disk.new) self.old self.new result }
+    {
+        match self.find_part(done, disk) {
             Ok(()) => {
                 self.next = MendCall::Write { done };
                 Ok(false)

@@ -1,7 +1,7 @@
 // Where an open zone lies, and the header behind it.
 
 ghost use Rattle.std.specs.Prelude.{◌≡◌, ◌≢◌, ◌<◌, ◌↔◌, ℕ, List, IfErr, IfOk, IsTrue};
-ghost use Rattle.hotzone.specs.Sites.{IsByJournal};
+ghost use Rattle.hotzone.specs.Sites.{IsSaved, guard_of};
 ghost use Rattle.hotzone.specs.declared.worker.ZoneFault.TheVariants as faults;
 ghost use Rattle.luks_copies.specs.Held.{stage_in};
 ghost use Rattle.luks_copies.specs.declared.commit.Stage.TheVariants.{Begun};
@@ -11,31 +11,44 @@ ghost use Rattle.sector_disk.specs.Geometry.{IsDisk};
 ghost use Rattle.zone_mending.specs.OpenZones.{HasZone, IsMoved, IsNotMade, IsOpenZone, as_zone};
 
 use crate::mender::MendFault;
-use hotzone::{NextHeader, Site, ZoneFault, next_site, turn_header};
+use hotzone::{Guard, NextHeader, Site, ZoneFault, next_site, turn_header};
 use luks_json::Resilience;
 use luks_rules::Progress;
 use luks_store::Loaded;
 use reenc_meta::Reenc;
 use std::alloc::Global;
 
-/// Whether a zone is open that is guarded by a journal.
+/// Whether a zone is open that is guarded by a journal or by checksum.
 fn is_open(progress: &Progress) -> bool
     ensures { IsTrue result ↔ ((0 < progress.now.plan.zone)
-        × IsByJournal progress.now.conversion.resilience) }
+        × IsSaved progress.now.conversion.resilience) }
 {
     match progress.conversion.resilience {
-        Resilience::Journal => 0 < progress.plan.zone,
-        Resilience::Checksum(_) | Resilience::Datashift(_) => false,
+        Resilience::Journal | Resilience::Checksum(_) => 0 < progress.plan.zone,
+        Resilience::Datashift(_) => false,
     }
 }
 
-/// Whether by a header a zone is open that is guarded by a journal, so that it can be written again.
+/// Whether by a header a zone is open that is guarded by a journal or by checksum, so that it can be
+/// written again.
 pub fn has_zone(loaded: &Loaded) -> bool
     ensures { IsTrue result ↔ HasZone loaded.now }
 {
     match loaded.valid().progress() {
         Some(progress) => is_open(&progress),
         None => false,
+    }
+}
+
+/// What guards the zones of a conversion.
+fn guard_by(resilience: Resilience) -> Guard
+    requires saved { IsSaved resilience }
+    ensures { result ≡ guard_of resilience }
+{
+    match resilience {
+        Resilience::Journal => Guard::Journal,
+        Resilience::Checksum(_) => Guard::Checksum,
+        Resilience::Datashift(_) => unreachable!(),
     }
 }
 
@@ -49,8 +62,9 @@ pub(crate) fn find_zone(loaded: &Loaded) -> Site
     match Reenc::of(loaded.valid()) {
         Some(reenc) => {
             let map = reenc.map();
-            let store = reenc.progress.conversion.area.offset / map.atom as u64;
-            next_site(&map, map.zone, store)
+            let conversion = &reenc.progress.conversion;
+            let store = conversion.area.offset / map.atom as u64;
+            next_site(&map, map.zone, store, guard_by(conversion.resilience))
         }
         None => unreachable!(),
     }
@@ -63,7 +77,7 @@ fn name_fault(fault: ZoneFault) -> MendFault
     ensures { as_zone result ≡ fault }
 {
     match fault {
-        ZoneFault::SeqEnd => MendFault::SeqEnd,
+        ZoneFault::SeqEnd { left, wanted } => MendFault::SeqEnd { left, wanted },
         ZoneFault::JsonFull { length, limit } => MendFault::JsonFull { length, limit },
         ZoneFault::Memory => MendFault::Memory,
         ZoneFault::Device | ZoneFault::DigestClash { .. } => unreachable!(),

@@ -17,6 +17,7 @@ returns g c =
       loads = c.metadata_go_by_meaning.ensures.loads;
       both = c.used_copies_are_headers.ensures.both;
       given = c.used_copies_are_headers.ensures.given;
+      one = c.images_stand_for_one_content.ensures.keys;
     }) c.headers_stand_in_front.ensures.areas in
     record {
       keys = mendings-stand cipher.sector cipher.sealed cipher.opened both;

@@ -6,7 +6,7 @@ use Rattle.sector_disk.specs.Devices.{Device}
 use Rattle.disk_areas.specs.Headers.{Layout}
 use Rattle.zone_mending.proofs.MendLemmas.{step-ends, step-fails, step-goes}
 use Rattle.zone_mending.proofs.MenderLemmas.{fits-disk}
-use Rattle.zone_mending.proofs.StartLemmas.{mend-begins, mend-starts, mend-stays}
+use Rattle.zone_mending.proofs.StartLemmas.{mend-resumes, mend-starts, mend-stays}
 use Rattle.zone_mending.specs.Promises.{IsOver, seals_in}
 use Rattle.zone_mending.specs.declared.mender.Mender.{Mender}
 use Rattle.zone_mending.proofs.laws.mendings_are_of_zones.Goals as goal
@@ -36,14 +36,15 @@ returns g c =
     let stays = c.zones_stay.ensures in
     let seen = c.calls_are_seen.ensures.commits in
     record {
-      begins = λ layout opened mender device now over at means header told own store shown.
-          mend-begins cipher.sector (seals_in cipher.sealed cipher.opened mender)
-          c.zones_are_resumed.ensures.resumes layout opened mender device (view_of_cells now.now)
-          over at means header own store shown;
-      starts = λ layout mender device now bytes stored over at told certain held good means laid.
+      resumes = λ layout opened texts mender device now over at means header told are found.
+          mend-resumes cipher.sector (seals_in cipher.sealed cipher.opened mender)
+          c.zones_are_resumed.ensures.resumes layout opened texts mender device
+          (view_of_cells now.now) over at means header are found;
+      starts = λ layout mender device now bytes stored texts over at told certain held good means
+          laid found has.
           mend-starts cipher.sector (seals_in cipher.sealed cipher.opened mender)
           c.zones_are_resumed.ensures.resumes c.commits_begin.ensures layout mender device now bytes
-          stored over at certain held good means laid;
+          stored texts over at told certain held good means laid found has;
       goes = λ layout opened texts before after old new now over made told.
           step-goes cipher.sector (seals_in cipher.sealed cipher.opened before) goes stays seen
           layout opened texts before after old new now over told

@@ -24,4 +24,5 @@ returns-in-Err g c =
           is.second is.same is.stage).same;
       is = refl;
       long = refl;
+      digests_long = refl;
     })

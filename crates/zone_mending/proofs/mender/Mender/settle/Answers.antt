@@ -13,4 +13,5 @@ returns-in-Err g c =
       same = same-self c.args.self.now.moved.commit;
       is = refl;
       long = refl;
+      digests_long = refl;
     })

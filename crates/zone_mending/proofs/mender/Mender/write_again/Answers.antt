@@ -1,9 +1,8 @@
 use Rattle.std.proofs.Common.{ap, ◌∙◌}
-use Rattle.hotzone.proofs.HeadingLemmas.{same-self}
 use Rattle.zone_mending.specs.Menders.{after_write}
+use Rattle.zone_mending.proofs.StepLemmas.{failed-filled}
 use Rattle.zone_mending.specs.Steps.{writes, write_fails}
 use Rattle.zone_mending.specs.declared.mender.MendCall.{MendCall}
-use Rattle.zone_mending.specs.declared.mender.MendCall.TheVariants.{Failed}
 use Rattle.zone_mending.specs.declared.mender.Mender.{Mender}
 use Rattle.zone_mending.proofs.mender.Mender.write_again.Goals as goal
 
@@ -19,9 +18,5 @@ returns-in-Ok g c =
 
 pub returns-in-Err : goal.returns-in-Err
 returns-in-Err g c =
-    write_fails c.args.done c.requires.next c.in-Err.ensures.call (record {
-      commit = c.args.self.now.moved.commit;
-      same = same-self c.args.self.now.moved.commit;
-      is = ap (λ (m : Mender g.row.C.Denot). record m { next = Failed }) c.in-Err.ensures.rest;
-      long = c.in-Err.ensures.long;
-    })
+    write_fails c.args.done c.requires.next c.in-Err.ensures.call
+    (failed-filled c.args.self.now c.write_part.new.self c.in-Err.ensures.rest c.in-Err.ensures.long)
