@@ -10,3 +10,4 @@ mod telling;
 
 pub use finishing::finish_conversion;
 pub use reenc_worker::{NoFit, WorkerEnd};
+pub use telling::{converted_of, told};

@@ -3,6 +3,7 @@
 ghost use Rattle.std.specs.Prelude.{◌≡◌, Err};
 ghost use Rattle.reenc_worker.specs.declared.ends.WorkAnswer.TheVariants.{Ended};
 ghost use Rattle.volume_core.specs.Zones.{worked_of};
+ghost use Rattle.volume_worker.specs.Telling.{converted_in};
 ghost use Rattle.worker_laws.specs.Steps.{told_by};
 ghost use Rattle.zone_events.specs.Promises.{answer_of};
 
@@ -13,7 +14,7 @@ use sector_disk::Disk;
 use volume_core::{Volume, Worked, ZoneFault};
 
 /// What a call of a worker is answered by a volume's answer.
-pub(crate) fn told(worked: Worked) -> WorkAnswer
+pub fn told(worked: Worked) -> WorkAnswer
     ensures { result ≡ told_by (worked_of worked) }
 {
     match worked {
@@ -26,7 +27,9 @@ pub(crate) fn told(worked: Worked) -> WorkAnswer
 }
 
 /// How far the conversion of a volume is.
-pub(crate) fn converted_of<D: Disk, C: SectorCipher + Copy>(volume: &Volume<D, C>) -> Converted {
+pub fn converted_of<D: Disk, C: SectorCipher + Copy>(volume: &Volume<D, C>) -> Converted
+    ensures { result ≡ converted_in volume.now.map }
+{
     let map = volume.map();
     Converted {
         done: map.converted(),
@@ -42,7 +45,7 @@ fn end_of(fault: ZoneFault) -> WorkerEnd
     match fault {
         ZoneFault::Device => WorkerEnd::Device,
         ZoneFault::DigestClash { block, digest } => WorkerEnd::Clash { block, digest },
-        ZoneFault::SeqEnd => WorkerEnd::NoFit(NoFit::SeqEnd),
+        ZoneFault::SeqEnd { left, wanted } => WorkerEnd::NoFit(NoFit::SeqEnd { left, wanted }),
         ZoneFault::JsonFull { length, limit } => WorkerEnd::NoFit(NoFit::JsonFull {
             length,
             limit,
