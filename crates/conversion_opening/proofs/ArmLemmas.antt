@@ -5,7 +5,7 @@ use Rattle.std.specs.Option.{IsSomeAnd}
 use Rattle.conversion_opening.specs.Openings.{armed_volume}
 use Rattle.conversion_opening.specs.Runs.{FitsVolume}
 use Rattle.hotzone.proofs.MadeLemmas.{known-by}
-use Rattle.hotzone.specs.Sites.{IsByJournal}
+use Rattle.hotzone.specs.Sites.{IsSaved}
 use Rattle.hotzone.specs.Workers.{MayGoOn}
 use Rattle.joined_disk.specs.Counts.{HasSizes}
 use Rattle.luks_rules.specs.Segments.{in_progress}
@@ -29,7 +29,7 @@ use Rattle.zone_events.specs.Promises.{IsLaneFree}
 -- ---- the header at hand
 -- a conversion is under way by it
 some_progress : (found : Option Progress)
-    → IsSomeAnd found (λ now. (now.plan.zone ≡ 0) × IsByJournal now.conversion.resilience)
+    → IsSomeAnd found (λ now. (now.plan.zone ≡ 0) × IsSaved now.conversion.resilience)
     → (now : Progress) × (found ≡ Some now)
 some_progress None may = absurd may
 some_progress (Some now) may = (now, refl)

@@ -35,8 +35,8 @@ use Rattle.volume_machine.specs.declared.keys.Keys.{Keys}
 use Rattle.zone_images.specs.Runs.{MendRun, none, one_more}
 use Rattle.zone_mending.specs.Promises.{seals_in}
 use Rattle.zone_mending.specs.Steps.{Fails, Goes, Steps}
-use Rattle.zone_mending.specs.Steps.{reads, writes, settles, moves, ends, read_fails, write_fails}
-use Rattle.zone_mending.specs.Steps.{settle_fails, move_fails}
+use Rattle.zone_mending.specs.Steps.{reads, lays, finds, writes, settles, moves, ends, read_fails}
+use Rattle.zone_mending.specs.Steps.{lay_fails, find_fails, write_fails, settle_fails, move_fails}
 use Rattle.zone_mending.specs.Menders.{stage_of_move}
 use Rattle.zone_mending.specs.declared.mender.MendFault.{MendFault}
 use Rattle.zone_mending.specs.declared.mender.MendFault.TheVariants as mendings
@@ -97,7 +97,7 @@ refused_cause : (sizes : Sizes) (handed : SideKeys) (held : Result Stored Refusa
     → IsNotLed stored.valid.meta sizes handed cause → IsCauseIn sizes handed held cause
 refused_cause sizes handed held stored causes.Idle is refusal = (stored, is, refusal)
 refused_cause sizes handed held stored causes.NotBuilt is refusal = (stored, is, refusal)
-refused_cause sizes handed held stored causes.SeqEnd is refusal = absurd refusal
+refused_cause sizes handed held stored (causes.SeqEnd left wanted) is refusal = absurd refusal
 refused_cause sizes handed held stored (causes.JsonFull length limit) is refusal = absurd refusal
 refused_cause sizes handed held stored (causes.Opening openings.Memory) is refusal = tt
 refused_cause sizes handed held stored (causes.Opening openings.Device) is refusal = tt
@@ -126,7 +126,7 @@ pub refused_without_reads : (m : Parts) (sizes : Sizes) (handed : SideKeys) (old
     (cause : ConversionCause) → IsNotLed m sizes handed cause → HasCauseIn old new cause
 refused_without_reads m sizes handed old new causes.Idle refusal = tt
 refused_without_reads m sizes handed old new causes.NotBuilt refusal = tt
-refused_without_reads m sizes handed old new causes.SeqEnd refusal = tt
+refused_without_reads m sizes handed old new (causes.SeqEnd left wanted) refusal = tt
 refused_without_reads m sizes handed old new (causes.JsonFull length limit) refusal = tt
 refused_without_reads m sizes handed old new (causes.Opening openings.Memory) refusal = tt
 refused_without_reads m sizes handed old new (causes.Opening openings.Device) refusal =
@@ -145,7 +145,7 @@ refused_without_reads m sizes handed old new
 not_moved : (sizes : Sizes) (handed : SideKeys) (header : Stored) (fault : MendFault)
     (held : Result Stored Refusal) → held ≡ Ok header → IsNotMoved sizes handed header fault
     → IsCauseIn sizes handed held (cause_of fault)
-not_moved sizes handed header mendings.SeqEnd held is refusal = (header, is, refusal)
+not_moved sizes handed header (mendings.SeqEnd left wanted) held is refusal = (header, is, refusal)
 not_moved sizes handed header (mendings.JsonFull length limit) held is refusal =
     (header, is, refusal)
 not_moved sizes handed header mendings.Memory held is refusal = tt
@@ -158,7 +158,7 @@ not_moved_in sizes handed header fault cause held by is refusal =
     (not_moved sizes handed header fault held is refusal)
 
 not_device : (old new : Device) (fault : MendFault) → HasCauseIn old new (cause_of fault)
-not_device old new mendings.SeqEnd = tt
+not_device old new (mendings.SeqEnd left wanted) = tt
 not_device old new (mendings.JsonFull length limit) = tt
 not_device old new mendings.Memory = tt
 
@@ -173,7 +173,7 @@ pub cause_since : (a b c : Device) (cause : ConversionCause) → a.faults ≤ b.
 cause_since a b c (causes.Opening cause) later has = since a b c cause later has
 cause_since a b c causes.Idle later has = tt
 cause_since a b c causes.NotBuilt later has = tt
-cause_since a b c causes.SeqEnd later has = tt
+cause_since a b c (causes.SeqEnd left wanted) later has = tt
 cause_since a b c (causes.JsonFull length limit) later has = tt
 
 -- of disks whose sizes are still the same behind their sync
@@ -207,8 +207,10 @@ copy_rose Ended one two size old new call = absurd call
 
 step_later : {C : Type 0} (seals : Seals) (old new : Device) (before after : Mender C) (last : Bool)
     → Goes seals old new before after last → old.faults ≤ new.faults
-step_later seals old new before after last (reads done at call filled) = call.cause.later
-step_later seals old new before after last (writes done at call filled) = call.cause.later
+step_later seals old new before after last (reads done by at call filled) = call.cause.later
+step_later seals old new before after last (lays done by at call laid) = call.cause.later
+step_later seals old new before after last (finds done at call filled) = call.cause.later
+step_later seals old new before after last (writes done at again filled) = again.call.cause.later
 step_later seals old new before after last (settles at call to) = call.cause.later
 step_later seals old new before after last (moves commit at call on far to) =
     copy_later (stage_of_move before) _ _ _ old new _ call
@@ -217,8 +219,11 @@ step_later seals old new before after last (ends commit at call on is_last to) =
 
 step_rose : {C : Type 0} (seals : Seals) (old new : Device) (before after : Mender C)
     → Fails seals old new before after → Rose old.faults new.faults
-step_rose seals old new before after (read_fails done at call failed) = call.cause.failed refl
-step_rose seals old new before after (write_fails done at call failed) = call.cause.failed refl
+step_rose seals old new before after (read_fails done by at call failed) = call.cause.failed refl
+step_rose seals old new before after (lay_fails done by at call failed) = call.cause.failed refl
+step_rose seals old new before after (find_fails done at call failed) = call.cause.failed refl
+step_rose seals old new before after (write_fails done at again failed) =
+    again.call.cause.failed refl
 step_rose seals old new before after (settle_fails at call failed) = call.cause.failed refl
 step_rose seals old new before after (move_fails at call failed) =
     copy_rose (stage_of_move before) _ _ _ old new call

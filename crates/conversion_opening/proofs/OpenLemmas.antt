@@ -12,7 +12,7 @@ use Rattle.conversion_opening.specs.Sides.{IsConversion}
 use Rattle.conversion_opening.specs.declared.fault.ConversionCause.{ConversionCause}
 use Rattle.disk_sizes.specs.declared.Sizes.{Sizes}
 use Rattle.hotzone.proofs.CommitLemmas.{has-as}
-use Rattle.hotzone.specs.Sites.{IsByJournal}
+use Rattle.hotzone.specs.Sites.{IsSaved}
 use Rattle.hotzone.specs.Workers.{MayGoOn}
 use Rattle.joined_disk.specs.Counts.{HasSizes}
 use Rattle.joined_disk.specs.Joined.{Joint, joined_disk}
@@ -39,6 +39,7 @@ use Rattle.sector_disk.specs.Devices.{Device, SyncCall, succeeded}
 use Rattle.sector_disk.specs.Geometry.{IsAtom, IsDisk}
 use Rattle.volume_machine.specs.States.{State}
 use Rattle.volume_machine.specs.declared.keys.Keys.{Keys}
+use Rattle.zone_images.specs.Holding.{TellsLawfully}
 use Rattle.zone_mending.specs.Menders.{IsNew}
 use Rattle.zone_mending.specs.OpenZones.{HasZone, IsNotMade}
 use Rattle.zone_mending.specs.declared.mender.MendFault.{MendFault}
@@ -78,16 +79,14 @@ pub conversion_in : {C : Type 0} (sector : C → ℕ) (sealed opened : C → ℕ
 conversion_in sector sealed opened handed header valid keys same is =
     subst (λ (v : Checked). IsConversion sector sealed opened v.meta v.sizes handed keys) same is
 
--- zones are guarded by a journal
+-- it may be led on
 pub guarded_by : {C : Type 0} (sector : C → ℕ) (sealed opened : C → ℕ → List ℕ → List ℕ)
     (handed : SideKeys) (header : Stored) (valid : Checked) (keys : Keys C) → valid ≡ header.valid
     → IsConversion sector sealed opened valid.meta valid.sizes handed keys
-    → IsSomeAnd (progress_of header.valid.meta header.valid.sizes)
-    (λ now. IsByJournal now.conversion.resilience)
+    → IsSomeAnd (progress_of header.valid.meta header.valid.sizes) (λ now. IsSaved now.conversion.resilience)
 guarded_by sector sealed opened handed header valid keys same judged =
     let is = conversion_in sector sealed opened handed header valid keys same judged in
-    subst (λ o. IsSomeAnd o (λ now. IsByJournal now.conversion.resilience)) (sym is.known)
-    is.guarded
+    subst (λ o. IsSomeAnd o (λ now. IsSaved now.conversion.resilience)) (sym is.known) is.guarded
 
 -- the volume fits the disk and its keys
 pub fits_by : {C : Type 0} (sector : C → ℕ) (sealed opened : C → ℕ → List ℕ → List ℕ)
@@ -128,19 +127,19 @@ held_here sizes header here values is held all told =
 -- ---- how it is led on
 -- no zone is open, and so it may go on; or one is
 may_from : (found : Option Progress)
-    → IsSomeAnd found (λ now. IsByJournal now.conversion.resilience)
-    → (IsSomeAnd found (λ now. (0 < now.plan.zone) × IsByJournal now.conversion.resilience) → ⊥)
-    → IsSomeAnd found (λ now. (now.plan.zone ≡ 0) × IsByJournal now.conversion.resilience)
+    → IsSomeAnd found (λ now. IsSaved now.conversion.resilience)
+    → (IsSomeAnd found (λ now. (0 < now.plan.zone) × IsSaved now.conversion.resilience) → ⊥)
+    → IsSomeAnd found (λ now. (now.plan.zone ≡ 0) × IsSaved now.conversion.resilience)
 may_from None guarded none = absurd guarded
-may_from (Some now) guarded none = (closed now.plan.zone (λ some. none (some, guarded)), guarded)
+may_from (Some now) guarded none =
+    (closed now.plan.zone (λ some. none (some, guarded)), guarded)
   where
     closed : (n : ℕ) → (0 < n → ⊥) → n ≡ 0
     closed zero none = refl
     closed (suc n) none = absurd (none (omega arith))
 
 pub may_by : (header : Stored)
-    → IsSomeAnd (progress_of header.valid.meta header.valid.sizes)
-    (λ now. IsByJournal now.conversion.resilience)
+    → IsSomeAnd (progress_of header.valid.meta header.valid.sizes) (λ now. IsSaved now.conversion.resilience)
     → (HasZone header → ⊥) → MayGoOn header
 may_by header guarded none =
     may_from (progress_of header.valid.meta header.valid.sizes) guarded none
@@ -159,10 +158,10 @@ passed_by sector sealed opened sizes handed header here keys is passed =
 
 -- the header behind an open zone can't be made
 some_zone : (found : Option Progress) (c : Progress) → found ≡ Some c
-    → IsSomeAnd found (λ now. (0 < now.plan.zone) × IsByJournal now.conversion.resilience)
+    → IsSomeAnd found (λ now. (0 < now.plan.zone) × IsSaved now.conversion.resilience)
     → 0 < c.plan.zone
 some_zone found c is has =
-    (subst (λ o. IsSomeAnd o (λ now. (0 < now.plan.zone) × IsByJournal now.conversion.resilience)) is
+    (subst (λ o. IsSomeAnd o (λ now. (0 < now.plan.zone) × IsSaved now.conversion.resilience)) is
     has).0
 
 pub not_moved_by : {C : Type 0} (sector : C → ℕ) (sealed opened : C → ℕ → List ℕ → List ℕ)
@@ -249,13 +248,13 @@ pub led_on : {C : Type 0} (sector : C → ℕ) (sealed opened : C → ℕ → Li
     (header : Stored)
     (keys : Keys C) (repair : Option Repair) (lanes : ℕ) (old mended led : Device) (last : Stored)
     (volume : State (Keys C)) → RepairRun repair old mended succeeded
-    → LeadsTo sector sealed opened header keys mended led last
+    → LeadsTo sector sealed opened header keys mended led last → TellsLawfully led
     → last.valid.sizes ≡ header.valid.sizes → volume.disk ≡ led → volume.keys ≡ keys
     → IsMapOf last.valid.meta last.valid.sizes volume.map
     → volume ≡ armed_volume last lanes volume
     → IsLedOn sector sealed opened header.valid.sizes header keys repair lanes old volume
-led_on sector sealed opened header keys repair lanes old mended led last volume run leads same disk own map
-    armed = record {
+led_on sector sealed opened header keys repair lanes old mended led last volume run leads lawful same
+    disk own map armed = record {
       mended = mended;
       repairs = run;
       last = last;
@@ -264,6 +263,7 @@ led_on sector sealed opened header keys repair lanes old mended led last volume 
       keys_are = own;
       map = subst (λ (z : Sizes). IsMapOf last.valid.meta z volume.map) same map;
       armed = armed;
+      tells = subst TellsLawfully (sym disk) lawful;
     }
 
 -- memory for the buffer of the conversion was wanted

@@ -1,5 +1,5 @@
 -- The steps by which a zone is written again: they end, and stay those of one zone.
-use Rattle.std.proofs.Common.{◌≡◌, ◌≢◌, ◌∙◌, ℕ, ◌+◌, ◌-◌, ◌<◌, ◌==◌, Bool, true, false}
+use Rattle.std.proofs.Common.{◌≡◌, ◌≢◌, ◌∙◌, ℕ, ◌+◌, ◌-◌, ◌*◌, ◌<◌, ◌==◌, Bool, true, false}
 use Rattle.std.proofs.Common.{List, replicate, Some, Result, Ok, Err, refl, sym, ap}
 use Rattle.std.proofs.Common.{subst, arith, cond}
 use Rattle.base_terms.specs.Blocks.{lengths}
@@ -34,11 +34,11 @@ use Rattle.zone_mending.specs.Menders.{stage_of_move}
 use Rattle.zone_mending.specs.OpenZones.{IsMoved}
 use Rattle.zone_mending.specs.Promises.{seals_in}
 use Rattle.zone_mending.specs.Steps.{Fails, Goes, Steps}
-use Rattle.zone_mending.specs.Steps.{reads, writes, settles, moves, ends, read_fails, write_fails}
-use Rattle.zone_mending.specs.Steps.{settle_fails, move_fails}
+use Rattle.zone_mending.specs.Steps.{reads, lays, finds, writes, settles, moves, ends, read_fails}
+use Rattle.zone_mending.specs.Steps.{lay_fails, find_fails, write_fails, settle_fails, move_fails}
 use Rattle.zone_mending.specs.declared.mender.MendCall.{MendCall}
-use Rattle.zone_mending.specs.declared.mender.MendCall.TheVariants.{ReadSaved, Write, Settle, Move}
-use Rattle.zone_mending.specs.declared.mender.MendCall.TheVariants.{Done, Failed}
+use Rattle.zone_mending.specs.declared.mender.MendCall.TheVariants.{ReadSaved, ReadOwn, Write}
+use Rattle.zone_mending.specs.declared.mender.MendCall.TheVariants.{Settle, Move, Done, Failed}
 use Rattle.zone_mending.specs.declared.mender.Mender.{Mender}
 
 -- ---- how many calls are left
@@ -50,8 +50,9 @@ commits_left SecondWritten = 1
 commits_left Ended = 0
 
 abbrev pub calls_by : ℕ → Stage → MendCall → ℕ
-calls_by count stage (ReadSaved done) = (count - done) + (count - done) + 5
-calls_by count stage (Write done) = (count - done) + (count - done) + 4
+calls_by count stage (ReadSaved done) = (count - done) * 3 + 6
+calls_by count stage (ReadOwn done) = (count - done) * 3 + 5
+calls_by count stage (Write done) = (count - done) * 3 + 4
 calls_by count stage Settle = 5
 calls_by count stage Move = commits_left stage
 calls_by count stage Done = 0
@@ -75,7 +76,7 @@ fewer_written site stage done below some = go (done + part_at site done == count
   where
     go : (b : Bool)
         → calls_by (count_of site) stage (cond b Settle (ReadSaved (done + part_at site done)))
-        < (count_of site - done) + (count_of site - done) + 4
+        < (count_of site - done) * 3 + 4
     go true = omega (arith, below)
     go false = omega (arith, below, some)
 
@@ -93,8 +94,8 @@ module _ {C : Type 0} (sector : C → ℕ) (before after : Mender C) (is : IsMen
         omega (arith, here, left, fewer)
 
     needs_at : (next : MendCall) → before.next ≡ next
-        → Needs (count_of before.site) (stage_of_move before) next
-    needs_at next at = subst (Needs (count_of before.site) (stage_of_move before)) at is.next
+        → Needs before.site (stage_of_move before) next
+    needs_at next at = subst (Needs before.site (stage_of_move before)) at is.next
 
     some_part : (done : ℕ) → done < count_of before.site → 0 < part_at before.site done
     some_part done below =
@@ -104,9 +105,13 @@ module _ {C : Type 0} (sector : C → ℕ) (before after : Mender C) (is : IsMen
 
     fewer_unless : (seals : Seals) (old new : Device) (last : Bool)
         → Goes seals old new before after last → IsFewerUnless last (calls_left after) (calls_left before)
-    fewer_unless seals old new last (reads done at call filled) =
+    fewer_unless seals old new last (reads done by at call filled) =
         fewer_by (ReadSaved done) _ at (ap calls_left filled.is) (omega arith)
-    fewer_unless seals old new last (writes done at call filled) =
+    fewer_unless seals old new last (lays done by at call laid) =
+        fewer_by (ReadSaved done) _ at (ap calls_left laid.is) (omega arith)
+    fewer_unless seals old new last (finds done at call filled) =
+        fewer_by (ReadOwn done) _ at (ap calls_left filled.is) (omega arith)
+    fewer_unless seals old new last (writes done at again filled) =
         let needs = needs_at (Write done) at in
         fewer_by (Write done) _ at (ap calls_left filled.is)
         (fewer_written before.site (stage_of_move before) done needs.0 (some_part done needs.0))
@@ -147,7 +152,11 @@ same_as now next to is same = subst (λ m. IsSameZone now m) (sym is) same
 
 pub same_gone : {C : Type 0} (seals : Seals) (old new : Device) (before after : Mender C)
     (last : Bool) → Goes seals old new before after last → IsSameZone before after
-same_gone seals old new before after last (reads done at call filled) =
+same_gone seals old new before after last (reads done by at call filled) =
+    same_as before after _ filled.is (record { loaded = refl; keys = refl; site = refl; moved = refl })
+same_gone seals old new before after last (lays done by at call laid) =
+    same_as before after _ laid.is (record { loaded = refl; keys = refl; site = refl; moved = refl })
+same_gone seals old new before after last (finds done at call filled) =
     same_as before after _ filled.is (record { loaded = refl; keys = refl; site = refl; moved = refl })
 same_gone seals old new before after last (writes done at call filled) =
     same_as before after _ filled.is (record { loaded = refl; keys = refl; site = refl; moved = refl })
@@ -160,7 +169,11 @@ same_gone seals old new before after last (ends commit at call committed far to)
 
 pub same_failed : {C : Type 0} (seals : Seals) (old new : Device) (before after : Mender C)
     → Fails seals old new before after → IsSameZone before after
-same_failed seals old new before after (read_fails done at call failed) =
+same_failed seals old new before after (read_fails done by at call failed) =
+    same_as before after _ failed.is (record { loaded = refl; keys = refl; site = refl; moved = refl })
+same_failed seals old new before after (lay_fails done by at call failed) =
+    same_as before after _ failed.is (record { loaded = refl; keys = refl; site = refl; moved = refl })
+same_failed seals old new before after (find_fails done at call failed) =
     same_as before after _ failed.is (record { loaded = refl; keys = refl; site = refl; moved = refl })
 same_failed seals old new before after (write_fails done at call failed) =
     same_as before after _ failed.is (record { loaded = refl; keys = refl; site = refl; moved = refl })

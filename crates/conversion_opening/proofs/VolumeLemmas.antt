@@ -1,4 +1,5 @@
--- The volume of a conversion that is guarded by a journal fits its disk, and its keys fit its blocks.
+-- The volume of a conversion of whose blocks something is saved fits its disk, and its keys fit its
+-- blocks.
 use Rattle.std.proofs.Common.{◌≡◌, ℕ, ◌+◌, ◌-◌, ◌*◌, ◌/◌, ◌%◌, ◌^◌, ◌<◌, ◌≤◌, inl, inr, zero, suc}
 use Rattle.std.proofs.Common.{Bool, true, false, List, Option, Some, None, nat_lt, if◌then◌else◌}
 use Rattle.std.proofs.Common.{refl, sym, ap, subst, arith}
@@ -9,7 +10,7 @@ use Rattle.std.specs.Option.{IfSome}
 use Rattle.conversion_opening.specs.Runs.{FitsVolume}
 use Rattle.conversion_opening.specs.Sides.{AreSides}
 use Rattle.disk_sizes.specs.declared.Sizes.{Sizes}
-use Rattle.hotzone.specs.Sites.{IsByJournal}
+use Rattle.hotzone.specs.Sites.{IsSaved}
 use Rattle.hotzone.specs.Workers.{HasKeys, MapsFit}
 use Rattle.luks_json.specs.declared.reencrypt.Direction.{Direction}
 use Rattle.luks_json.specs.declared.reencrypt.Direction.TheVariants.{Forward, Backward}
@@ -112,7 +113,7 @@ same_byte base a b atom whole even same =
 module _ (header : Stored) (stored : IsStored header)
     (sound : IsSound header.valid.meta header.valid.sizes) (p : Progress)
     (known : progress_of header.valid.meta header.valid.sizes ≡ Some p)
-    (guarded : IsByJournal p.conversion.resilience)
+    (guarded : IsSaved p.conversion.resilience)
     (disk : IsDisk header.valid.sizes.atom (all_atoms header.valid.sizes)) where
   abbrev sizes : Sizes
   sizes = header.valid.sizes

@@ -4,7 +4,7 @@ use Rattle.conversion_opening.specs.Sides.{IsNoSide}
 use Rattle.conversion_opening.specs.declared.fault.ConversionCause.{ConversionCause}
 use Rattle.conversion_opening.specs.declared.fault.ConversionCause.TheVariants as causes
 use Rattle.disk_sizes.specs.declared.Sizes.{Sizes}
-use Rattle.hotzone.specs.Sites.{IsByJournal}
+use Rattle.hotzone.specs.Sites.{IsSaved}
 use Rattle.luks_json.specs.declared.meta.Parts.{Parts}
 use Rattle.luks_rules.specs.Segments.{in_progress}
 use Rattle.luks_rules.specs.Shapes.{progress_of}
@@ -31,29 +31,29 @@ device_failed = causes.Opening openings.Device
 
 -- why a zone isn't begun to be written again, as a cause of an opening
 abbrev pub cause_of : MendFault → ConversionCause
-cause_of mendings.SeqEnd = causes.SeqEnd
+cause_of (mendings.SeqEnd left wanted) = causes.SeqEnd left wanted
 cause_of (mendings.JsonFull length limit) = causes.JsonFull length limit
 cause_of mendings.Memory = no_memory
 
 -- ---- why metadata are led on by no keys
--- a conversion is under way that is guarded by a journal, and the keys that were handed in for its
--- sides are those of their segments' digests
+-- a conversion is under way that may be led on, and the keys that were handed in for its sides are
+-- those of their segments' digests
 pub record HasSides (m : Parts) (sizes : Sizes) (handed : SideKeys) (now : Progress) : Type 0 where
   pub known : progress_of m sizes ≡ Some now
-  pub guarded : IsByJournal now.conversion.resilience
+  pub guarded : IsSaved now.conversion.resilience
   pub old_key : IsKeyOf m now.old (used_by now.old.encryption handed.old)
   pub new_key : IsKeyOf m now.new (used_by now.new.encryption handed.new)
 
--- Nothing is being converted; or zones are guarded by something else than a journal; or a key isn't
--- that of its segment's digest.
+-- Nothing is being converted; or nothing is saved of the blocks of zones; or a key isn't that of its
+-- segment's digest.
 abbrev pub IsNotLed : Parts → Sizes → SideKeys → ConversionCause → Type 0
 IsNotLed m sizes handed causes.Idle = in_progress m.config ≡ false
 IsNotLed m sizes handed causes.NotBuilt =
     (now : Progress) × (progress_of m sizes ≡ Some now)
-    × (IsByJournal now.conversion.resilience → ⊥)
+    × (IsSaved now.conversion.resilience → ⊥)
 IsNotLed m sizes handed (causes.Opening cause) =
-    (now : Progress) × (progress_of m sizes ≡ Some now)
-    × IsByJournal now.conversion.resilience × IsNoSide m now handed cause
+    (now : Progress) × (progress_of m sizes ≡ Some now) × IsSaved now.conversion.resilience
+    × IsNoSide m now handed cause
 IsNotLed m sizes handed _ = ⊥
 
 -- a zone is open by a header, which else may be led on, and the one with the boundary moved over it
@@ -79,8 +79,9 @@ IsCauseIn sizes handed held causes.Idle =
 IsCauseIn sizes handed held causes.NotBuilt =
     (stored : Stored) × (held ≡ Ok stored)
     × IsNotLed stored.valid.meta sizes handed causes.NotBuilt
-IsCauseIn sizes handed held causes.SeqEnd =
-    (stored : Stored) × (held ≡ Ok stored) × IsNotMoved sizes handed stored mendings.SeqEnd
+IsCauseIn sizes handed held (causes.SeqEnd left wanted) =
+    (stored : Stored) × (held ≡ Ok stored)
+    × IsNotMoved sizes handed stored (mendings.SeqEnd left wanted)
 IsCauseIn sizes handed held (causes.JsonFull length limit) =
     (stored : Stored) × (held ≡ Ok stored)
     × IsNotMoved sizes handed stored (mendings.JsonFull length limit)

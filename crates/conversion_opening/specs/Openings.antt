@@ -23,6 +23,7 @@ use Rattle.volume_machine.specs.Works.{converting, resting}
 use Rattle.volume_machine.specs.declared.keys.Keys.{Keys}
 use Rattle.zone_events.specs.Heads.{header_on}
 use Rattle.zone_events.specs.Works.{layout_for}
+use Rattle.zone_images.specs.Holding.{TellsLawfully}
 
 -- ---- a header that passed all checks
 -- It breaks no rule for disks of these sizes, on which both its copies have room in front of its
@@ -59,7 +60,8 @@ armed_volume header lanes volume =
 
 -- All checks passed of a header, on a disk on which then the copy that lacked or was older was written
 -- anew, and synced, and the zone that was open, where there was one, was written again. The volume
--- lies where the last header says, under these keys, and its conversion goes on by that header.
+-- lies where the last header says, under these keys, and its conversion goes on by that header; its
+-- disk tells its table and its bytes alike.
 pub record IsLedOn {C : Type 0} (sector : C → ℕ) (sealed opened : C → ℕ → List ℕ → List ℕ) (sizes : Sizes)
     (header : Stored) (keys : Keys C) (repair : Option Repair) (lanes : ℕ) (old : Device)
     (volume : State (Keys C)) : Type 0 where
@@ -71,6 +73,7 @@ pub record IsLedOn {C : Type 0} (sector : C → ℕ) (sealed opened : C → ℕ 
   pub keys_are : volume.keys ≡ keys
   pub map : IsMapOf last.valid.meta sizes volume.map
   pub armed : volume ≡ armed_volume last lanes volume
+  pub tells : TellsLawfully volume.disk
 
 -- A volume was opened of disks: they were synced, and then read; and it is led on by the header that
 -- was found, under the keys of its sides.

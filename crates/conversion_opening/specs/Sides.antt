@@ -1,7 +1,7 @@
 -- The keys of the sides of a volume that is being converted.
 use Rattle.std.specs.Prelude.{◌≡◌, ◌⊎◌, ℕ, List, Some}
 use Rattle.disk_sizes.specs.declared.Sizes.{Sizes}
-use Rattle.hotzone.specs.Sites.{IsByJournal}
+use Rattle.hotzone.specs.Sites.{IsSaved}
 use Rattle.luks_json.specs.declared.meta.Parts.{Parts}
 use Rattle.luks_rules.specs.Shapes.{progress_of}
 use Rattle.luks_rules.specs.declared.shape.Progress.{Progress}
@@ -32,11 +32,11 @@ IsNoSide m c handed (causes.KeyDiffers computed stored) =
     × Differs m c.new handed.new computed stored)
 IsNoSide m c handed _ = ⊥
 
--- By metadata a conversion is under way whose zones are guarded by a journal, and the keys are those
--- of its sides.
+-- By metadata a conversion is under way of whose blocks something is saved, and the keys are those of
+-- its sides.
 pub record IsConversion {C : Type 0} (sector : C → ℕ) (sealed opened : C → ℕ → List ℕ → List ℕ)
     (m : Parts) (sizes : Sizes) (handed : SideKeys) (keys : Keys C) : Type 0 where
   pub now : Progress
   pub known : progress_of m sizes ≡ Some now
-  pub guarded : IsByJournal now.conversion.resilience
+  pub guarded : IsSaved now.conversion.resilience
   pub sides : AreSides sector sealed opened m now handed keys

@@ -4,7 +4,7 @@ ghost use Rattle.std.specs.Prelude.{◌≡◌, ℕ, List, Ok, Some, IfErr, IfOk,
 ghost use Rattle.conversion_opening.specs.Causes.{HasCauseIn, IsCauseIn};
 ghost use Rattle.conversion_opening.specs.Openings.{HasPassed};
 ghost use Rattle.conversion_opening.specs.Runs.{BeginsBy, FitsVolume, header_in};
-ghost use Rattle.hotzone.specs.Sites.{IsByJournal};
+ghost use Rattle.hotzone.specs.Sites.{IsSaved};
 ghost use Rattle.joined_disk.specs.Counts.{joint_in, sizes_of};
 ghost use Rattle.luks_rules.specs.Shapes.{progress_of};
 ghost use Rattle.luks_store.specs.Commits.{FitsDisks};
@@ -48,8 +48,8 @@ pub struct Begun {
     pub repair: Option<Repair>,
 }
 
-/// How a conversion that is guarded by a journal is led on by a header. Where a zone is open the
-/// header with the boundary moved over it is made, and the buffer of a part is taken.
+/// How a conversion that may be led on is led by a header. Where a zone is open the header with the
+/// boundary moved over it is made, and the buffers of a part are taken.
 fn begin_course<C: SectorCipher + Copy + Sync>(
     alloc: Global,
     header: Loaded,
@@ -57,7 +57,7 @@ fn begin_course<C: SectorCipher + Copy + Sync>(
 ) -> Result<Course<Mending<C>>, MendFault>
     requires disk { IsDisk header.valid.sizes.atom (all_atoms header.valid.sizes) }
     requires guarded { IsSomeAnd (progress_of header.valid.meta header.valid.sizes)
-        (λ now. IsByJournal now.conversion.resilience) }
+        (λ now. IsSaved now.conversion.resilience) }
     requires fits { FitsVolume C.sector header keys }
     ensures begins { IfOk result (BeginsBy keys) }
     ensures header { IfOk result (λ course. header_in course ≡ header) }

@@ -14,12 +14,13 @@ pub enum ConversionCause {
     Opening(OpenCause),
     /// Nothing is being converted.
     Idle,
-    /// Zones are guarded by something else than a journal.
+    /// Nothing is saved of the blocks of zones: they are shifted.
     NotBuilt,
-    /// A zone is open, and its header has the last number that there is.
-    SeqEnd,
-    /// A zone is open, and the text of the header with the boundary moved over it has so many bytes,
-    /// its area room for so many.
+    /// A zone is open, and its header has so many numbers left, where the one with the boundary moved
+    /// over it takes so many more.
+    SeqEnd { left: u64, wanted: u64 },
+    /// A zone is open, and there is a number; but the text of the header with the boundary moved over
+    /// it has so many bytes, its area room for so many.
     JsonFull { length: u64, limit: u64 },
 }
 
@@ -38,7 +39,7 @@ impl From<MendFault> for ConversionCause {
 
     fn from(fault: MendFault) -> ConversionCause {
         match fault {
-            MendFault::SeqEnd => ConversionCause::SeqEnd,
+            MendFault::SeqEnd { left, wanted } => ConversionCause::SeqEnd { left, wanted },
             MendFault::JsonFull { length, limit } => ConversionCause::JsonFull { length, limit },
             MendFault::Memory => ConversionCause::Opening(OpenCause::Memory),
         }

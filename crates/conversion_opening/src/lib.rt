@@ -1,5 +1,5 @@
 //! The opening of a volume of which a conversion is under way (LUKS2 On-Disk Format Specification
-//! 1.1, sections 3.3 and 3.4), guarded by a journal.
+//! 1.1, sections 3.3 and 3.4), guarded by a journal or by checksum.
 //!
 //! [`open_conversion`] makes a volume of joined disks: a sync, the reads of the header with all
 //! checks of it and of the keys of both sides, the repair of a copy of the header that lacks or is

@@ -14,6 +14,7 @@ ghost use Rattle.volume_core.specs.Zones.{IsReadBy};
 ghost use Rattle.volume_laws.specs.Converting.{IsInOrder};
 ghost use Rattle.volume_machine.specs.Sound.{IsSound};
 ghost use Rattle.zone_events.specs.Readings.{reading_of};
+ghost use Rattle.zone_images.specs.Holding.{TellsLawfully};
 
 use crate::arming::arm_volume;
 use crate::checking::{Begun, check_conversion};
@@ -22,12 +23,19 @@ use crate::stepping::lead;
 use base_terms::Failed;
 use cipher_laws::SectorCipher;
 use joined_disk::JoinedDisk;
-use reenc_recovery::{OpenCause, SideKeys, mend};
+use reenc_recovery::{OpenCause, SideKeys, disks_tell_lawfully, mend};
 use sector_cipher::Context;
 use sector_disk::Disk;
 use std::alloc::{AllocError, Global};
 use std::thread::Threads;
 use volume_core::{Lanes, Volume};
+
+/// Joined disks tell their table and their bytes alike, as each disk does.
+fn tell_lawfully<D: Disk>(disk: &JoinedDisk<D>)
+    ensures { TellsLawfully (device_of disk.now) }
+{
+    disks_tell_lawfully(disk);
+}
 
 /// Leads a conversion on that passed all checks: the repair of its header, the steps by which a zone
 /// that is open is written again, and the volume.
@@ -80,6 +88,7 @@ fn lead_on<R: Threads + Sync, D: Disk>(
             });
         }
     };
+    disks_tell_lawfully(&disk);
     match arm_volume(alloc, disk, header, keys, lanes) {
         Ok(volume) => Ok(volume),
         Err(disk) => Err(ConversionFault {
@@ -90,13 +99,13 @@ fn lead_on<R: Threads + Sync, D: Disk>(
 }
 
 /// The volume that lies under the header of joined disks, by which a conversion is under way that is
-/// guarded by a journal, with so many lanes; it has what its conversion takes, and goes on with it.
-/// The disks are synced; then the header is read and checked, and the keys of both sides are compared
-/// with the digests of their segments; a copy of the header that lacks or is older is written anew,
-/// and synced; and last the zone that a stop left open, where there is one, is written again, and the
-/// boundary moved over it. Nothing is written before all checks have passed, the header with the
-/// boundary moved among them. Where no volume is opened the disks are handed back; the keys are the
-/// caller's, whatever is answered.
+/// guarded by a journal or by checksum, with so many lanes; it has what its conversion takes, and goes
+/// on with it. The disks are synced; then the header is read and checked, and the keys of both sides
+/// are compared with the digests of their segments; a copy of the header that lacks or is older is
+/// written anew, and synced; and last the zone that a stop left open, where there is one, is written
+/// again, and the boundary moved over it. Nothing is written before all checks have passed, the header
+/// with the boundary moved among them. Where no volume is opened the disks are handed back, which tell
+/// their table and their bytes alike; the keys are the caller's, whatever is answered.
 ///
 /// # Errors
 ///
@@ -124,12 +133,14 @@ pub fn open_conversion<R: Threads + Sync, D: Disk>(
     ensures refused { IfErr result (λ fault. (all : List ℕ) → (device_of disk).values ≡ Some all →
         IsCauseIn (sizes_of disk) keys.now
         (stored_in (sizes_of disk) (front_of (sizes_of disk) all)) fault.cause) }
+    ensures lawful { IfErr result (λ fault. TellsLawfully (device_of fault.disk)) }
 {
     let _sizes = disk.sizes();
     let mut disk = disk;
     let lanes = match Lanes::new(alloc, lanes) {
         Ok(lanes) => lanes,
         Err(AllocError) => {
+            tell_lawfully(&disk);
             return Err(ConversionFault {
                 disk,
                 cause: ConversionCause::Opening(OpenCause::Memory),
@@ -139,6 +150,7 @@ pub fn open_conversion<R: Threads + Sync, D: Disk>(
     match disk.sync() {
         Ok(()) => {}
         Err(Failed) => {
+            tell_lawfully(&disk);
             return Err(ConversionFault {
                 disk,
                 cause: ConversionCause::Opening(OpenCause::Device),
@@ -147,10 +159,16 @@ pub fn open_conversion<R: Threads + Sync, D: Disk>(
     }
     let begun = match check_conversion(alloc, &mut disk, keys) {
         Ok(begun) => begun,
-        Err(cause) => return Err(ConversionFault { disk, cause }),
+        Err(cause) => {
+            tell_lawfully(&disk);
+            return Err(ConversionFault { disk, cause });
+        }
     };
     match lead_on(rt, alloc, disk, begun, lanes) {
         Ok(volume) => Ok(volume),
-        Err(fault) => Err(fault),
+        Err(fault) => {
+            tell_lawfully(&fault.disk);
+            Err(fault)
+        }
     }
 }

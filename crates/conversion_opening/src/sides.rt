@@ -3,7 +3,7 @@
 ghost use Rattle.std.specs.Prelude.{◌≡◌, ◌↔◌, Some, IfErr, IfOk, IsTrue};
 ghost use Rattle.conversion_opening.specs.Causes.{IsNotLed};
 ghost use Rattle.conversion_opening.specs.Sides.{AreSides, IsConversion, IsNoSide};
-ghost use Rattle.hotzone.specs.Sites.{IsByJournal};
+ghost use Rattle.hotzone.specs.Sites.{IsSaved};
 ghost use Rattle.luks_rules.specs.Shapes.{progress_of};
 ghost use Rattle.luks_rules.specs.States.{IsSound};
 
@@ -53,17 +53,17 @@ pub fn find_sides(
     }
 }
 
-/// Whether zones of a conversion are guarded by a journal.
-fn has_journal(progress: &Progress) -> bool
-    ensures { IsTrue result ↔ IsByJournal progress.now.conversion.resilience }
+/// Whether a conversion may be led on: something is saved of the blocks of its zones.
+fn may_be_led(progress: &Progress) -> bool
+    ensures { IsTrue result ↔ IsSaved progress.now.conversion.resilience }
 {
     match progress.conversion.resilience {
-        Resilience::Journal => true,
-        Resilience::Checksum(_) | Resilience::Datashift(_) => false,
+        Resilience::Journal | Resilience::Checksum(_) => true,
+        Resilience::Datashift(_) => false,
     }
 }
 
-/// The keys of the sides of a conversion that metadata say is under way, guarded by a journal.
+/// The keys of the sides of a conversion that metadata say is under way, and that may be led on.
 pub(crate) fn judge_conversion(
     alloc: Global,
     valid: &Valid,
@@ -79,7 +79,7 @@ pub(crate) fn judge_conversion(
     let Some(progress) = valid.progress() else {
         return Err(ConversionCause::Idle);
     };
-    if !has_journal(&progress) {
+    if !may_be_led(&progress) {
         return Err(ConversionCause::NotBuilt);
     }
     match find_sides(alloc, valid, &progress, keys) {

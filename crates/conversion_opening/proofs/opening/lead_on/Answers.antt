@@ -1,5 +1,6 @@
 use Rattle.std.proofs.Common.{refl, subst}
 use Rattle.conversion_opening.proofs.OpenLemmas.{led_on, left_unarmed}
+use Rattle.conversion_opening.proofs.StepLemmas.{tells}
 use Rattle.conversion_opening.proofs.opening.lead_on.Goals as goal
 use Rattle.conversion_opening.specs.Openings.{unmended, unrepaired}
 use Rattle.conversion_opening.specs.Runs.{header_in}
@@ -35,10 +36,12 @@ arm_volume-requires-clause-fits g c =
 
 pub returns-in-Ok-arm_volume-clause-led : goal.returns-in-Ok-arm_volume-clause-led
 returns-in-Ok-arm_volume-clause-led g c =
+    let law = c.disks_tell_lawfully.ensures in
     led_on _ _ _ (header_in c.args.begun.course) c.args.begun.keys c.args.begun.repair c.args.lanes
     (device_of c.args.disk) (device_of c.mend.new.disk) (device_of c.lead.new.disk)
     c.in-Ok-lead.header c.in-Ok-arm_volume.volume c.in-Ok.ensures.run
-    (c.in-Ok-lead.ensures.leads c.args.begun.keys c.requires.begins) c.in-Ok-lead.ensures.same
+    (c.in-Ok-lead.ensures.leads c.args.begun.keys c.requires.begins)
+    (tells _ law.agrees law.even law.bytes law.sized) c.in-Ok-lead.ensures.same
     c.in-Ok-arm_volume.ensures.disk c.in-Ok-arm_volume.ensures.keys c.in-Ok-arm_volume.ensures.map
     c.in-Ok-arm_volume.ensures.armed
 

@@ -1,11 +1,11 @@
 use Rattle.std.proofs.Common.{refl, sym}
 use Rattle.conversion_opening.proofs.sides.judge_conversion.Goals as goal
 
-pub returns-then-not-has_journal-clause-refused : goal.returns-then-not-has_journal-clause-refused
-returns-then-not-has_journal-clause-refused c = (
+pub returns-then-not-may_be_led-clause-refused : goal.returns-then-not-may_be_led-clause-refused
+returns-then-not-may_be_led-clause-refused c = (
   c.in-Some.progress,
   sym c.in-Some.ensures,
-  λ by. (let e = c.if-not-has_journal.ensures.1 by in cc),
+  λ by. (let e = c.if-not-may_be_led.ensures.1 by in cc),
 )
 
 pub find_sides-requires : goal.find_sides-requires
@@ -15,7 +15,7 @@ pub returns-in-Ok-clause-conversion : goal.returns-in-Ok-clause-conversion
 returns-in-Ok-clause-conversion c = record {
   now = c.in-Some.progress;
   known = sym c.in-Some.ensures;
-  guarded = c.if-not-has_journal.ensures.0 refl;
+  guarded = c.if-not-may_be_led.ensures.0 refl;
   sides = c.in-Ok.ensures.sides;
 }
 
@@ -23,6 +23,6 @@ pub returns-in-Err-clause-refused : goal.returns-in-Err-clause-refused
 returns-in-Err-clause-refused c = (
   c.in-Some.progress,
   sym c.in-Some.ensures,
-  c.if-not-has_journal.ensures.0 refl,
+  c.if-not-may_be_led.ensures.0 refl,
   c.in-Err.ensures.refused,
 )
