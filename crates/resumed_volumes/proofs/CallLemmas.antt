@@ -106,7 +106,7 @@ module _ (sizes : Sizes) (old read : Joint) (first_run : SyncsAndReads old read)
   mended-size : mended.size ≡ (joined_disk old).size
   mended-size = repair-size repair (joined_disk read) mended run ∙ read-size old read first_run
 
-  mended-atoms : mended.atoms ≡ (joined_disk old).atoms
+  pub mended-atoms : mended.atoms ≡ (joined_disk old).atoms
   mended-atoms = repair-atoms repair (joined_disk read) mended run ∙ read-atoms old read first_run
 
   pub has-mended : HasSizes sizes mended

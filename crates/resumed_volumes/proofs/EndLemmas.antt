@@ -33,13 +33,18 @@ use Rattle.zone_images.specs.Promises.{MendsFrom}
 use Rattle.zone_images.specs.Runs.{MendRun, none, one_more}
 use Rattle.zone_mending.specs.Known.{IsKnown, IsThrough}
 use Rattle.zone_mending.specs.Promises.{seals_in}
-use Rattle.zone_mending.specs.Steps.{Fails, Goes, Steps, move_fails, read_fails, settle_fails, write_fails}
+use Rattle.zone_mending.specs.Steps.{Fails, Goes, Steps, find_fails, lay_fails, move_fails}
+use Rattle.zone_mending.specs.Steps.{read_fails, settle_fails, write_fails}
 use Rattle.zone_mending.specs.declared.mender.Mender.{Mender}
 
 -- ---- the header to come stays along a run
 fails-moved : {C : Type 0} (seals : Seals) (old new : Device) (before after : Mender C)
     → Fails seals old new before after → after.moved.loaded ≡ before.moved.loaded
-fails-moved {C} seals old new before after (read_fails done at call failed) =
+fails-moved {C} seals old new before after (read_fails done by at call failed) =
+    ap (λ (m : Mender C). m.moved.loaded) failed.is
+fails-moved {C} seals old new before after (lay_fails done by at call failed) =
+    ap (λ (m : Mender C). m.moved.loaded) failed.is
+fails-moved {C} seals old new before after (find_fails done at call failed) =
     ap (λ (m : Mender C). m.moved.loaded) failed.is
 fails-moved {C} seals old new before after (write_fails done at call failed) =
     ap (λ (m : Mender C). m.moved.loaded) failed.is

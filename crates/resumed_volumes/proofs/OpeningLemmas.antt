@@ -3,12 +3,14 @@ use Rattle.std.proofs.Common.{◌≡◌, ◌∙◌, ◌+◌, ◌*◌, ◌/◌, �
 use Rattle.std.proofs.Common.{Some, Ok, Result, ap, arith, refl, subst, sym}
 use Rattle.std.proofs.Math.Nat.{le_of_mul-le-mul_right}
 use Rattle.std.specs.Prelude.{IsSomeAnd}
+use Rattle.base_terms.specs.Blocks.{joined}
 use Rattle.base_terms.specs.declared.failed.Failed.{Failed}
 use Rattle.conversion_opening.specs.Openings.{IsFound}
 use Rattle.conversion_opening.specs.Runs.{MendsZone, last_of}
 use Rattle.disk_areas.specs.Headers.{IsLaidOut}
 use Rattle.disk_sizes.specs.declared.Sizes.{Sizes}
-use Rattle.hotzone.specs.Sites.{IsByJournal}
+use Rattle.hotzone.proofs.CallLemmas.{table-long}
+use Rattle.hotzone.specs.Sites.{IsSaved}
 use Rattle.hotzone.specs.Workers.{MayGoOn}
 use Rattle.joined_disk.specs.Joined.{Joint, joined_disk}
 use Rattle.luks_copies.specs.Promises.{MeanTheSame}
@@ -22,6 +24,7 @@ use Rattle.luks_store.specs.Devices.{front_of}
 use Rattle.luks_store.specs.Loads.{IsStored, stored_in}
 use Rattle.luks_store.specs.Promises.{AreasBeginBehind, UsedStands}
 use Rattle.luks_store.specs.declared.loaded.Stored.{Stored}
+use Rattle.open_zones.proofs.AtomLemmas.{long-joined}
 use Rattle.open_zones.specs.Images.{ImageStandsUnder, OpenStandsUnder}
 use Rattle.open_zones.specs.Openings.{IsMendedImage, TellsKept}
 use Rattle.open_zones.specs.Promises.{OpeningsKeepImages, OpeningsMendImages, ReadsKeepImages}
@@ -35,14 +38,16 @@ use Rattle.reenc_recovery.specs.Images.{StandsUnder}
 use Rattle.reenc_recovery.specs.Keys.{used_by}
 use Rattle.reenc_recovery.specs.Tables.{ShowsSizes}
 use Rattle.reenc_recovery.specs.declared.keys.SideKeys.{SideKeys}
-use Rattle.resumed_volumes.proofs.CallLemmas.{has-mended, repaired, shows-mended}
-use Rattle.resumed_volumes.proofs.EndLemmas.{ends-both}
+use Rattle.resumed_volumes.proofs.CallLemmas.{IsRepaired, has-mended, mended-atoms, repaired}
+use Rattle.resumed_volumes.proofs.CallLemmas.{shows-mended}
+use Rattle.resumed_volumes.proofs.EndLemmas.{ends-both, run-moved}
 use Rattle.resumed_volumes.proofs.ShowLemmas.{shows-loaded}
 use Rattle.resumed_volumes.proofs.StandLemmas.{StandTwice, second-salt-long}
-use Rattle.resumed_volumes.proofs.TableLemmas.{Reads, tells-led, tells-read}
-use Rattle.resumed_volumes.specs.Keeping.{HoldsBoth, KeepsContent, StandsArmed, StandsAtMending, StandsAtRepair}
+use Rattle.resumed_volumes.proofs.TableLemmas.{Reads, tells-read}
+use Rattle.resumed_volumes.specs.Keeping.{HoldsBoth, KeepsAtRepair, KeepsContent, StandsArmed}
+use Rattle.resumed_volumes.specs.Keeping.{StandsAtMending, StandsAtRepair}
 use Rattle.resumed_volumes.specs.Openings.{OpensOn}
-use Rattle.sector_disk.specs.Cells.{content as bytes_in}
+use Rattle.sector_disk.specs.Cells.{content as bytes_in, currents}
 use Rattle.sector_disk.specs.Devices.{Device, failed_call, succeeded}
 use Rattle.sector_disk.specs.Geometry.{IsAtom}
 use Rattle.sector_disk.specs.Steps.{Told}
@@ -53,7 +58,7 @@ use Rattle.volume_machine.specs.declared.keys.Keys.{Keys}
 use Rattle.zone_events.specs.Works.{layout_for}
 use Rattle.zone_images.proofs.SinceLemmas.{since-weaker}
 use Rattle.zone_images.proofs.StartLemmas.{Laws}
-use Rattle.zone_images.specs.Holding.{HoldsHeader, TellsLawfully}
+use Rattle.zone_images.specs.Holding.{HoldsHeader, TellsLawfully, TellsOn}
 use Rattle.zone_images.specs.Keys.{AreCiphersOf}
 use Rattle.zone_images.specs.Promises.{MendingsStand, MendsFrom, StandsOn}
 
@@ -111,9 +116,8 @@ open-places m sizes p now known some (inr (c, is, placed)) =
 
 -- ---- the keys that were handed in are those of a header that was found
 module _ {C : Type 0} {sector : C → ℕ} {sealed opened : C → ℕ → List ℕ → List ℕ} (sizes : Sizes)
-    (handed : SideKeys) (old : Joint) (new : Device) (first old_key new_key : List ℕ)
-    (content : List (List ℕ))
-    (opens : OpensOn sizes handed old new first old_key new_key content)
+    (handed : SideKeys) (old : Joint) (first old_key new_key : List ℕ) (content : List (List ℕ))
+    (opens : OpensOn sizes handed old first old_key new_key content)
     (found : IsFound sector sealed opened sizes handed old) where
   pub keys-handed : AreCiphersOf sector sealed opened found.passed.conversion.now old_key new_key
       found.keys
@@ -128,8 +132,8 @@ module _ {C : Type 0} {sector : C → ℕ} {sealed opened : C → ℕ → List �
 -- ---- the premises
 module _ {C : Type 0} {sector : C → ℕ} {sealed opened : C → ℕ → List ℕ → List ℕ}
     (laws : OpeningLaws sector sealed opened) (sizes : Sizes) (handed : SideKeys) (old : Joint)
-    (new : Device) (first old_key new_key : List ℕ) (content : List (List ℕ))
-    (opens : OpensOn sizes handed old new first old_key new_key content) where
+    (first old_key new_key : List ℕ) (content : List (List ℕ))
+    (opens : OpensOn sizes handed old first old_key new_key content) where
   -- what a table keeps of the bytes at the start stands for the content
   pub reads-stand : (header : Stored) → stored_in sizes (front_of sizes first) ≡ Ok header
       → Reads sizes (StandsAtRepair sizes header old_key new_key content) (joined_disk old)
@@ -139,9 +143,13 @@ module _ {C : Type 0} {sector : C → ℕ} {sealed opened : C → ℕ → List �
       sym (opens.shows.agrees before was) ∙ opens.values in cc) in
       let on = still header
       (subst (λ bytes. stored_in sizes (front_of sizes bytes) ≡ Ok header) (sym same) held) image
-      spared in
-      (on.keeps.keys old_key new_key content).0
-      (subst (λ bytes. ImageStandsUnder sizes old_key new_key bytes content) (sym same) opens.stands)
+      spared in (
+        (on.keeps.keys old_key new_key content).0
+            (subst (λ bytes. ImageStandsUnder sizes old_key new_key bytes content) (sym same)
+            opens.stands),
+        λ other is. ap (λ (s : Stored). s.valid)
+            (one-header sizes (joined image) other on.holds.stored is on.holds.held) ∙ on.holds.same,
+      )
 
   -- ---- a header was found, under whose keys the volume is led on
   module _ (found : IsFound sector sealed opened sizes handed old) where
@@ -154,12 +162,12 @@ module _ {C : Type 0} {sector : C → ℕ} {sealed opened : C → ℕ → List �
     held : stored_in sizes (front_of sizes first) ≡ Ok found.header
     held = found.held first opens.values
 
-    known-own : progress_of found.header.valid.meta found.header.valid.sizes ≡ Some now
+    pub known-own : progress_of found.header.valid.meta found.header.valid.sizes ≡ Some now
     known-own =
         subst (λ (s : Sizes). progress_of found.header.valid.meta s ≡ Some now)
         (sym found.passed.sizes_are) found.passed.conversion.known
 
-    is-found : IsFoundHeader sizes found.header found.repair (joined_disk old)
+    pub is-found : IsFoundHeader sizes found.header found.repair (joined_disk old)
     is-found = record {
       stored = found.passed.stored;
       sizes_are = found.passed.sizes_are;
@@ -170,35 +178,33 @@ module _ {C : Type 0} {sector : C → ℕ} {sealed opened : C → ℕ → List �
     }
 
     the-keys : AreCiphersOf sector sealed opened now old_key new_key found.keys
-    the-keys = keys-handed sizes handed old new first old_key new_key content opens found
+    the-keys = keys-handed sizes handed old first old_key new_key content opens found
 
     -- whether a zone is open is said by the header
     pub no-zone : MayGoOn found.header → now.plan.zone ≡ 0
     no-zone may =
         (subst (λ o. IsSomeAnd o (λ (p : Progress).
-        (p.plan.zone ≡ 0) × IsByJournal p.conversion.resilience)) known-own may).0
+        (p.plan.zone ≡ 0) × IsSaved p.conversion.resilience)) known-own may).0
 
     salt : length found.header.copies.secondary.salt ≡ 64
     salt =
         second-salt-long found.header found.passed.stored laws.spelt laws.mean laws.used sizes
         found.passed.room first (opens.shows.whole first opens.values) held
 
-    pub failed-tables : (read : Joint) → SyncsAndReads old read
-        → RepairRun found.repair (joined_disk read) new failed_call
-        → (next : Stored)
-        → KeepsContent sizes found.header next old_key new_key content (joined_disk old) new
-    failed-tables read first_run run next =
+    pub failed-tables : (new : Device) → TellsLawfully new → (read : Joint)
+        → SyncsAndReads old read → RepairRun found.repair (joined_disk read) new failed_call
+        → KeepsAtRepair sizes found.header old_key new_key content (joined_disk old) new
+    failed-tables new tells read first_run run =
         tells-read sizes (StandsAtRepair sizes found.header old_key new_key content)
-        (StandsAtMending sizes found.header next old_key new_key content) (joined_disk old) new
-        (reads-stand found.header held)
+        (joined_disk old) new (reads-stand found.header held)
         (laws.keeps sizes found.header found.repair old new failed_call opens.shows is-found
-        (record { read = read; first = first_run; run = run }) opens.tells.sized)
+        (record { read = read; first = first_run; run = run }) tells.sized)
 
     -- ---- behind the repair
     module _ (read : Joint) (first_run : SyncsAndReads old read) (mended : Device)
         (repairs : RepairRun found.repair (joined_disk read) mended succeeded)
         (tells : TellsLawfully mended) where
-      run : OpeningRun found.repair old mended succeeded
+      pub run : OpeningRun found.repair old mended succeeded
       run = record { read = read; first = first_run; run = repairs }
 
       shows-now : ShowsSizes sizes mended
@@ -207,12 +213,12 @@ module _ {C : Type 0} {sector : C → ℕ} {sealed opened : C → ℕ → List �
           laws.spelt laws.mean laws.used found.header found.passed.stored found.passed.room
           found.asked first opens.values held tells
 
-      image : IsMendedImage sizes found.header first mended
+      pub image : IsMendedImage sizes found.header first mended
       image =
           laws.mends sizes found.header found.repair old mended opens.shows is-found shows-now run
           first opens.values
 
-      kept : TellsKept sizes (joined_disk old) mended
+      pub kept : TellsKept sizes (joined_disk old) mended
       kept =
           laws.keeps sizes found.header found.repair old mended succeeded opens.shows is-found run
           tells.sized
@@ -228,14 +234,23 @@ module _ {C : Type 0} {sector : C → ℕ} {sealed opened : C → ℕ → List �
         certain = image.certain;
       }
 
+      anew : IsRepaired found.header first mended
+      anew =
+          repaired sizes old read first_run found.repair mended repairs opens.has opens.shows laws.spelt
+          laws.mean laws.used found.header found.passed.stored found.passed.room found.asked first
+          opens.values held tells
+
+      same-bytes : anew.now ≡ image.now
+      same-bytes = (let e : Some anew.now ≡ Some image.now = sym anew.values ∙ image.values in cc)
+
       twice : StandTwice found.header image.now
-      twice =
-          let is = repaired sizes old read first_run found.repair mended repairs opens.has opens.shows
-          laws.spelt laws.mean laws.used found.header found.passed.stored found.passed.room
-          found.asked first opens.values held tells in
-          subst (StandTwice found.header)
-          (let e : Some is.now ≡ Some image.now = sym is.values ∙ image.values in
-          let same : is.now ≡ image.now = cc in same) is.stand
+      twice = subst (StandTwice found.header) same-bytes anew.stand
+
+      whole : length image.now ≡ mended.atoms * sizes.atom
+      whole =
+          ap length (sym same-bytes) ∙ anew.long ∙ opens.long
+          ∙ ap (λ n. n * sizes.atom)
+          (sym (mended-atoms sizes old read first_run found.repair mended repairs opens.has opens.shows))
 
       both : HoldsBoth sizes found.header image.now mended
       both = record {
@@ -272,7 +287,7 @@ module _ {C : Type 0} {sector : C → ℕ} {sealed opened : C → ℕ → List �
                 )
           ]
 
-      open-now : 0 < now.plan.zone → OpenStandsUnder sizes old_key new_key image.now content
+      pub open-now : 0 < now.plan.zone → OpenStandsUnder sizes old_key new_key image.now content
       open-now some =
           elim stands-now as (λ _. OpenStandsUnder sizes old_key new_key image.now content) [
             | inl stands ↦ absurd (open-places stands.stored.valid.meta sizes stands.placement now
@@ -280,18 +295,27 @@ module _ {C : Type 0} {sector : C → ℕ} {sealed opened : C → ℕ → List �
             | inr stood ↦ stood
           ]
 
-      -- ---- no zone is open
-      pub closed-tables : (next : Stored)
-          → KeepsContent sizes found.header next old_key new_key content (joined_disk old) mended
-      closed-tables next =
+      pub mended-tables : KeepsAtRepair sizes found.header old_key new_key content
+          (joined_disk old) mended
+      mended-tables =
           tells-read sizes (StandsAtRepair sizes found.header old_key new_key content)
-          (StandsAtMending sizes found.header next old_key new_key content) (joined_disk old) mended
-          (reads-stand found.header held) kept
+          (joined_disk old) mended (reads-stand found.header held) kept
+
+      -- ---- no zone is open
+      pub closed-tables : MayGoOn found.header
+          → KeepsContent sizes found.header found.header old_key new_key content (joined_disk old)
+          mended mended
+      closed-tables may = record {
+        at_repair = mended-tables;
+        closed = λ _. (refl, refl);
+        moves = λ busy. absurd (busy may);
+        at_mending = λ busy. absurd (busy may);
+      }
 
       pub closed-armed : MayGoOn found.header
           → StandsArmed sizes found.header old_key new_key content mended
       closed-armed may =
-          record { now = image.now; holds = both; stands = closed (no-zone may) }
+          record { now = image.now; holds = both; long = whole; stands = closed (no-zone may) }
 
       -- ---- one is
       module _ (result : Result (Unit {0}) Failed) (last : Device)
@@ -303,10 +327,11 @@ module _ {C : Type 0} {sector : C → ℕ} {sealed opened : C → ℕ → List �
             own.is.known known-own in
             subst (λ (p : Progress). 0 < p.plan.zone) same own.is.some
 
-        from : MendsFrom sector sealed opened sizes found.header old_key new_key image.now zone.before
+        pub from : MendsFrom sector sealed opened sizes found.header old_key new_key image.now zone.before
             mended
         from = record {
           mends = zone.is;
+          stands = λ by. (content, open-now some-zone);
           loaded = zone.begins.loaded;
           first = zone.begins.first;
           sizes_are = found.passed.sizes_are;
@@ -320,40 +345,61 @@ module _ {C : Type 0} {sector : C → ℕ} {sealed opened : C → ℕ → List �
           holds = holds;
         }
 
-        pub led-tables : KeepsContent sizes found.header zone.before.moved.loaded old_key new_key
-            content (joined_disk old) last
-        led-tables =
-            let told = (laws.stands sizes found.header old_key new_key image.now zone.before zone.after
-            mended last (last_of result) from zone.run).0 in
-            tells-led sizes (StandsAtRepair sizes found.header old_key new_key content)
-            (StandsAtMending sizes found.header zone.before.moved.loaded old_key new_key content)
-            (joined_disk old) mended last (reads-stand found.header held) kept
-            (λ now is.
-            let t = told now is in (
-              t.0,
-              t.1,
-              since-weaker
-                  (StandsOn sizes found.header zone.before.moved.loaded old_key new_key image.now)
-                  (StandsAtMending sizes found.header zone.before.moved.loaded old_key new_key content)
-                  (λ cells stand image spared. stand image spared content (open-now some-zone)) t.0 now
-                  t.2,
-            ))
+        pub led-tables : KeepsContent sizes found.header zone.after.moved.loaded old_key new_key
+            content (joined_disk old) mended last
+        led-tables = record {
+          at_repair = mended-tables;
+          closed = λ may.
+              absurd (let none = no-zone may in let some = some-zone in omega (arith, none, some));
+          moves = λ busy. (zone.after.moved, zone.moves, refl);
+          at_mending = λ busy. led-on;
+        }
+          where
+            told : TellsOn
+                (StandsOn sizes found.header zone.before.moved.loaded old_key new_key image.now) mended
+                last
+            told =
+                (laws.stands sizes found.header old_key new_key image.now zone.before zone.after mended
+                last (last_of result) from zone.run).0
+
+            led-on : TellsOn
+                (StandsAtMending sizes found.header zone.after.moved.loaded old_key new_key content)
+                mended last
+            led-on =
+                subst (λ (next : Stored). TellsOn
+                (StandsAtMending sizes found.header next old_key new_key content) mended last)
+                (sym (run-moved sealed opened zone.before mended zone.after last (last_of result)
+                zone.run)) (λ now is.
+                let t = told now is in (
+                  t.0,
+                  t.1,
+                  since-weaker
+                      (StandsOn sizes found.header zone.before.moved.loaded old_key new_key image.now)
+                      (StandsAtMending sizes found.header zone.before.moved.loaded old_key new_key
+                      content)
+                      (λ cells stand image spared. stand image spared content (open-now some-zone)) t.0
+                      now t.2,
+                ))
 
       module _ (last : Device)
           (zone : MendsZone sector sealed opened found.header found.keys mended last succeeded) where
-        pub led-armed : (told : Told) → last.told ≡ Some told
+        pub led-armed : TellsLawfully last → (told : Told) → last.told ≡ Some told
             → StandsArmed sizes zone.before.moved.loaded old_key new_key content last
-        led-armed told told_is =
+        led-armed lawful told told_is =
             let origin = from succeeded last zone in
             let turned = (laws.stands sizes found.header old_key new_key image.now zone.before
             zone.after mended last (Ok true) origin zone.run).1 refl told told_is in
+            let certain = turned.holds.certain told told_is in
             record {
               now = turned.now;
               holds = record {
                 holds = turned.holds;
                 copies = ends-both laws.steps laws.areas zone.before zone.after mended last old_key
                     new_key image.now zone.run sizes found.header origin salt turned.now told told_is
-                    (turned.holds.certain told told_is);
+                    certain;
               };
+              long = ap length (sym certain.holds)
+                  ∙ long-joined sizes.atom (length told.now) (currents told.now) certain.even
+                  ∙ ap (λ n. n * sizes.atom) (table-long last lawful.alike told told_is);
               stands = turned.stands content (open-now (some-zone succeeded last zone));
             }

@@ -63,7 +63,7 @@ module _ (atom atoms size : ℕ) (layout : Layout) (laid : IsLaidOut atom atoms 
   }
 
 -- ---- by a table that holds the bytes for certain
-current-in : (cells : List Cell) (place : ℕ)
+pub current-in : (cells : List Cell) (place : ℕ)
     → value_in (currents cells) place ≡ (cell_in cells place).current
 unfolding currents
 current-in [] place = refl

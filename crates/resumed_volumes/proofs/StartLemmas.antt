@@ -86,7 +86,7 @@ module _ {C : Type 0} {sector : C → ℕ} {sealed opened : C → ℕ → List �
   atom-known = subst (λ (n : ℕ). IsAtom n) b.map.atom known-atom
 
   -- its header breaks no rule
-  ruled : IsRuled header.valid.meta sizes
+  pub ruled : IsRuled header.valid.meta sizes
   ruled =
       subst (λ (v : Checked). IsRuled v.meta sizes) b.holds.holds.same
       (known-of sizes (front_of sizes bytes) b.holds.holds.stored (some-atom sizes.atom atom-known)
@@ -112,10 +112,10 @@ module _ {C : Type 0} {sector : C → ℕ} {sealed opened : C → ℕ → List �
 
   -- ---- the content
   -- how the header of the bytes places it
-  record IsPlaced : Type 0 where
-    map : IsMapAt sizes b.now stands.placement.map
-    old : stands.placement.old ≡ b.now.old
-    new : stands.placement.new ≡ b.now.new
+  pub record IsPlaced : Type 0 where
+    pub map : IsMapAt sizes b.now stands.placement.map
+    pub old : stands.placement.old ≡ b.now.old
+    pub new : stands.placement.new ≡ b.now.new
 
   known-here : progress_of stands.stored.valid.meta sizes ≡ Some b.now
   known-here =
@@ -124,7 +124,7 @@ module _ {C : Type 0} {sector : C → ℕ} {sealed opened : C → ℕ → List �
       (one-header sizes bytes stands.stored b.holds.holds.stored stands.header b.holds.holds.held)
       ∙ b.holds.holds.same)) b.known
 
-  placed : IsPlaced
+  pub placed : IsPlaced
   placed = elim stands.placed [
     | inl idle ↦ absurd (let e : false ≡ true =
         sym (is_idle stands.stored.valid.meta sizes stands.placement idle)

@@ -14,13 +14,13 @@ use Rattle.volume_machine.specs.WorkSteps.{queues, stays, steps, takes, wiped, w
 use Rattle.volume_machine.specs.Works.{Work}
 
 -- ---- lists
-head-same : {A : Type 0} {x y : A} {xs ys : List A} → x ∷ xs ≡ y ∷ ys → x ≡ y
+pub head-same : {A : Type 0} {x y : A} {xs ys : List A} → x ∷ xs ≡ y ∷ ys → x ≡ y
 head-same e = cc
 
-tail-same : {A : Type 0} {x y : A} {xs ys : List A} → x ∷ xs ≡ y ∷ ys → xs ≡ ys
+pub tail-same : {A : Type 0} {x y : A} {xs ys : List A} → x ∷ xs ≡ y ∷ ys → xs ≡ ys
 tail-same e = cc
 
-cons-not-nil : {A : Type 0} {x : A} {xs : List A} → x ∷ xs ≡ [] → ⊥
+pub cons-not-nil : {A : Type 0} {x : A} {xs : List A} → x ∷ xs ≡ [] → ⊥
 cons-not-nil e = cc
 
 -- deeds that are the worker's
@@ -71,7 +71,7 @@ deeds-front reading seals old (one ∷ earlier) later (does, are) =
     (does, deeds-front reading seals one.after earlier later are)
 
 -- ---- the work
-abbrev HasWork : {K : Type 0} → State K → Type 0
+abbrev pub HasWork : {K : Type 0} → State K → Type 0
 HasWork state = (work : Work) × (state.work ≡ Some work)
 
 step-works : {K : Type 0} {reading : Reading} {seals : Seals} {old new : State K} {worked : Worked}

@@ -1,11 +1,13 @@
 -- What the images of a disk stand for while a volume is opened that is being converted, and what the
 -- disk holds behind that.
-use Rattle.std.specs.Prelude.{ℕ, ◌≡◌, ◌⊎◌, ◌++◌, ◌∷◌, false, List, map, Option, Some, Ok}
+use Rattle.std.specs.Prelude.{ℕ, ◌≡◌, ◌*◌, ◌++◌, ◌∷◌, false, List, length, map, Option, Some, Ok}
 use Rattle.std.specs.List.{All}
 use Rattle.base_terms.specs.Blocks.{joined}
 use Rattle.disk_areas.specs.Commits.{ShowsCommit, begun}
 use Rattle.disk_sizes.specs.declared.Sizes.{Sizes}
 use Rattle.disk_views.specs.Views.{view_of_bytes}
+use Rattle.hotzone.specs.Workers.{MayGoOn}
+use Rattle.hotzone.specs.declared.worker.NextHeader.{NextHeader}
 use Rattle.luks_rules.specs.Shapes.{progress_of}
 use Rattle.luks_rules.specs.declared.shape.Progress.{Progress}
 use Rattle.luks_store.specs.Devices.{front_of}
@@ -21,9 +23,10 @@ use Rattle.sector_disk.specs.Devices.{Device}
 use Rattle.sector_disk.specs.Steps.{Told}
 use Rattle.zone_events.specs.Heads.{header_on}
 use Rattle.zone_events.specs.Works.{layout_for}
-use Rattle.zone_images.specs.Holding.{HoldsHeader}
+use Rattle.zone_images.specs.Holding.{HoldsHeader, TellsOn}
 use Rattle.zone_images.specs.Spared.{IsSparedTurn}
 use Rattle.zone_images.specs.Turned.{StandsBy}
+use Rattle.zone_mending.specs.OpenZones.{IsMoved}
 
 -- ---- the keys
 -- Where these bytes have a header by which a conversion is under way, the keys are those that were
@@ -36,28 +39,30 @@ AreHandedIn sizes handed bytes old new =
 
 -- ---- tables
 -- The tables since an opening began: that of its first sync, by which each atom is certain; then some
--- behind its reads and the calls of the repair, of which this holds; and then some behind the steps
--- by which the open zone is written again, of which that holds. One of both holds of the table at
--- hand.
-pub record OpenedSince (Read Led : List Cell → Type 0) (before now : Told) : Type 0 where
-  pub read : List (Option ℕ × List Cell)
-  pub led : List (Option ℕ × List Cell)
-  pub past : now.past ≡ before.past ++ (before.mark, map synced before.now) ∷ (read ++ led)
-  pub each_read : All (λ table. Read table.1) read
-  pub each_led : All (λ table. Led table.1) led
-  pub last : Read now.now ⊎ Led now.now
+-- behind its reads and the calls of the repair, of each of which this holds; and of the one at hand.
+pub record OpenedSince (Holds : List Cell → Type 0) (before now : Told) : Type 0 where
+  pub more : List (Option ℕ × List Cell)
+  pub past : now.past ≡ before.past ++ (before.mark, map synced before.now) ∷ more
+  pub each : All (λ table. Holds table.1) more
+  pub last : Holds now.now
 
 -- where a disk tells its tables, it told them when the opening began
-abbrev pub TellsOpened : (List Cell → Type 0) → (List Cell → Type 0) → Device → Device → Type 0
-TellsOpened Read Led old new = (now : Told) → new.told ≡ Some now
-    → (before : Told) × (old.told ≡ Some before) × OpenedSince Read Led before now
+abbrev pub TellsOpened : (List Cell → Type 0) → Device → Device → Type 0
+TellsOpened Holds old new = (now : Told) → new.told ≡ Some now
+    → (before : Told) × (old.told ≡ Some before) × OpenedSince Holds before now
 
 -- ---- under the keys of the sides
--- each image of a table in which no torn copy of the header is valid stands for the content
+-- the header that bytes have says what this one says
+abbrev pub IsBy : Sizes → Stored → List ℕ → Type 0
+IsBy sizes header bytes = (stored : Stored) → stored_in sizes (front_of sizes bytes) ≡ Ok stored
+    → stored.valid ≡ header.valid
+
+-- each image of a table in which no torn copy of the header is valid has this header, and stands for
+-- the content
 abbrev pub StandsAtRepair : Sizes → Stored → List ℕ → List ℕ → List (List ℕ) → List Cell → Type 0
 StandsAtRepair sizes header old new content cells =
     (image : List (List ℕ)) → IsSpared sizes header cells image
-    → ImageStandsUnder sizes old new (joined image) content
+    → ImageStandsUnder sizes old new (joined image) content × IsBy sizes header (joined image)
 
 -- each in which no torn copy of it or of the next one is valid does, by the one that it has itself
 abbrev pub StandsAtMending : Sizes → Stored → Stored → List ℕ → List ℕ → List (List ℕ) → List Cell
@@ -66,12 +71,23 @@ StandsAtMending sizes header next old new content cells =
     (image : List (List ℕ)) → IsSparedTurn sizes header next cells image
     → StandsBy sizes header next old new (joined image) content
 
--- so it is with each table since an opening began
-abbrev pub KeepsContent : Sizes → Stored → Stored → List ℕ → List ℕ → List (List ℕ) → Device
-    → Device → Type 0
-KeepsContent sizes header next old_key new_key content old new =
-    TellsOpened (StandsAtRepair sizes header old_key new_key content)
-    (StandsAtMending sizes header next old_key new_key content) old new
+-- Up to the end of the repair each table since the first sync stands by the header that was found
+-- alone: nothing of another one was handed to the disk yet.
+abbrev pub KeepsAtRepair : Sizes → Stored → List ℕ → List ℕ → List (List ℕ) → Device → Device
+    → Type 0
+KeepsAtRepair sizes header old_key new_key content old mended =
+    TellsOpened (StandsAtRepair sizes header old_key new_key content) old mended
+
+-- Behind the repair nothing is done where no zone is open by the header; else each table from there on
+-- stands by this header, or by the one with the boundary moved over the zone.
+pub record KeepsContent (sizes : Sizes) (header next : Stored) (old_key new_key : List ℕ)
+    (content : List (List ℕ)) (old mended new : Device) : Type 0 where
+  pub at_repair : KeepsAtRepair sizes header old_key new_key content old mended
+  pub closed : MayGoOn header → (new ≡ mended) × (next ≡ header)
+  pub moves : (MayGoOn header → ⊥)
+      → (moved : NextHeader) × IsMoved header moved × (next ≡ moved.loaded)
+  pub at_mending : (MayGoOn header → ⊥)
+      → TellsOn (StandsAtMending sizes header next old_key new_key content) mended new
 
 -- ---- behind an opening
 -- The disk holds these bytes for certain, and in them both copies of this header, each under the salt
@@ -83,10 +99,11 @@ pub record HoldsBoth (sizes : Sizes) (header : Stored) (bytes : List ℕ) (devic
         (layout_for sizes.atom header.copies.used.header.hdr_size) (header_on header)
         (header_on header) begun false (view_of_bytes sizes.atom bytes)
 
--- It does so, and no zone is open by that header, by which it stands for the content under the keys of
--- the sides.
+-- It does so, and tells all its bytes; and no zone is open by that header, by which it stands for the
+-- content under the keys of the sides.
 pub record StandsArmed (sizes : Sizes) (header : Stored) (old new : List ℕ)
     (content : List (List ℕ)) (device : Device) : Type 0 where
   pub now : List ℕ
   pub holds : HoldsBoth sizes header now device
+  pub long : length now ≡ device.atoms * sizes.atom
   pub stands : StandsUnder sizes old new now content

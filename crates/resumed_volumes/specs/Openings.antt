@@ -1,33 +1,36 @@
 -- What is promised of the content of a volume whose conversion is taken up again, while it is opened.
-use Rattle.std.specs.Prelude.{ℕ, ◌≡◌, ◌⊎◌, List, Some, Ok}
-use Rattle.conversion_opening.specs.Openings.{IsOpenedOf, IsUnopened}
+use Rattle.std.specs.Prelude.{ℕ, ◌≡◌, ◌*◌, ◌⊎◌, List, length, Option, Some, Ok}
+use Rattle.conversion_opening.specs.Openings.{IsNotLedOn, IsOpenedOf, IsUnopened, not_led_on}
+use Rattle.conversion_opening.specs.Openings.{only_read, unarmed, uncalled, unmended, unrepaired}
+use Rattle.conversion_opening.specs.Openings.{unsynced}
 use Rattle.conversion_opening.specs.declared.fault.ConversionCause.{ConversionCause}
 use Rattle.disk_sizes.specs.declared.Sizes.{Sizes}
 use Rattle.hotzone.specs.Workers.{MayGoOn}
 use Rattle.joined_disk.specs.Counts.{HasSizes}
 use Rattle.joined_disk.specs.Joined.{Joint, joined_disk}
+use Rattle.luks_copies.specs.declared.repair.Repair.{Repair}
 use Rattle.luks_store.specs.Devices.{front_of}
 use Rattle.luks_store.specs.Loads.{stored_in}
 use Rattle.luks_store.specs.declared.loaded.Stored.{Stored}
 use Rattle.open_zones.specs.Images.{ImageStandsUnder}
 use Rattle.reenc_recovery.specs.Tables.{ShowsSizes}
 use Rattle.reenc_recovery.specs.declared.keys.SideKeys.{SideKeys}
-use Rattle.resumed_volumes.specs.Keeping.{AreHandedIn, KeepsContent, StandsArmed}
-use Rattle.sector_disk.specs.Devices.{Device, SyncCall, failed_call}
+use Rattle.resumed_volumes.specs.Keeping.{AreHandedIn, KeepsAtRepair, KeepsContent, StandsArmed}
+use Rattle.sector_disk.specs.Devices.{Device}
 use Rattle.sector_disk.specs.Steps.{Told}
 use Rattle.volume_machine.specs.States.{State}
 use Rattle.volume_machine.specs.declared.keys.Keys.{Keys}
 use Rattle.zone_images.specs.Holding.{TellsLawfully}
 
 -- ---- the premises
--- Disks of these sizes tell these bytes, which stand for a content under the keys that were handed in
--- for the sides; and a disk that was theirs tells its tables and its bytes alike, as each does.
-pub record OpensOn (sizes : Sizes) (handed : SideKeys) (old : Joint) (new : Device)
+-- Disks of these sizes tell these bytes, all that they have, which stand for a content under the keys
+-- that were handed in for the sides.
+pub record OpensOn (sizes : Sizes) (handed : SideKeys) (old : Joint)
     (first old_key new_key : List ℕ) (content : List (List ℕ)) : Type 0 where
   pub has : HasSizes sizes (joined_disk old)
   pub shows : ShowsSizes sizes (joined_disk old)
-  pub tells : TellsLawfully new
   pub values : (joined_disk old).values ≡ Some first
+  pub long : length first ≡ (joined_disk old).atoms * sizes.atom
   pub handed_in : AreHandedIn sizes handed first old_key new_key
   pub stands : ImageStandsUnder sizes old_key new_key first content
 
@@ -44,29 +47,54 @@ abbrev pub OpeningsKeepContent : {C : Type 0} → (C → ℕ) → (C → ℕ →
 OpeningsKeepContent {C} sector sealed opened =
     (sizes : Sizes) (handed : SideKeys) (lanes : ℕ) (old : Joint) (volume : State (Keys C))
     (first old_key new_key : List ℕ) (content : List (List ℕ))
-    → OpensOn sizes handed old volume.disk first old_key new_key content
+    → OpensOn sizes handed old first old_key new_key content
     → (is : IsOpenedOf sector sealed opened sizes handed lanes old volume)
     → KeepsContent sizes is.found.header is.led.last old_key new_key content (joined_disk old)
-    volume.disk
+    is.led.mended volume.disk
     × (IsKnownBehind is.found.header volume.disk
     → StandsArmed sizes is.led.last old_key new_key content volume.disk)
 
 -- ---- an opening that made none
--- nothing was called, or the first sync failed
-abbrev pub IsBeforeSync : Joint → Joint → Type 0
-IsBeforeSync old new = (new ≡ old) ⊎ SyncCall (joined_disk old) (joined_disk new) failed_call
+-- By the calls that were made behind the reads: of a repair that failed, each table stands as at the
+-- repair; behind one that was done, as where the volume is led on.
+abbrev pub KeepsUnled : {C : Type 0} {sector : C → ℕ} {sealed opened : C → ℕ → List ℕ → List ℕ}
+    {header : Stored} {keys : Keys C} {repair : Option Repair} {read new : Device}
+    {cause : ConversionCause} → Sizes → List ℕ → List ℕ → List (List ℕ) → Device
+    → IsNotLedOn sector sealed opened header keys repair read new cause → Type 0
+KeepsUnled {C} {sector} {sealed} {opened} {header} {keys} {repair} {read} {new} {cause} sizes old_key
+    new_key content old (unrepaired run is) =
+    KeepsAtRepair sizes header old_key new_key content old new
+KeepsUnled {C} {sector} {sealed} {opened} {header} {keys} {repair} {read} {new} {cause} sizes old_key
+    new_key content old (unmended mended run zone is) =
+    KeepsContent sizes header zone.after.moved.loaded old_key new_key content old mended new
+KeepsUnled {C} {sector} {sealed} {opened} {header} {keys} {repair} {read} {new} {cause} sizes old_key
+    new_key content old (unarmed mended run last leads is) =
+    KeepsContent sizes header last old_key new_key content old mended new
+
+-- By all calls: where the first sync wasn't made, nothing is said; where disks were only read each
+-- table stands as at the repair.
+abbrev pub KeepsUnopened : {C : Type 0} {sector : C → ℕ}
+    {sealed opened : C → ℕ → List ℕ → List ℕ} {sizes later : Sizes} {handed : SideKeys}
+    {old new : Joint} {cause : ConversionCause} → Stored → List ℕ → List ℕ → List (List ℕ)
+    → IsUnopened sector sealed opened sizes later handed old new cause → Type 0
+KeepsUnopened header old_key new_key content (uncalled same_sizes same is) = Unit {0}
+KeepsUnopened header old_key new_key content (unsynced same_sizes call is) = Unit {0}
+KeepsUnopened {C} {sector} {sealed} {opened} {sizes} {later} {handed} {old} {new} {cause} header
+    old_key new_key content (only_read same_sizes run) =
+    KeepsAtRepair sizes header old_key new_key content (joined_disk old) (joined_disk new)
+KeepsUnopened {C} {sector} {sealed} {opened} {sizes} {later} {handed} {old} {new} {cause} header
+    old_key new_key content (not_led_on found read first left) =
+    KeepsUnled sizes old_key new_key content (joined_disk old) left
 
 -- Behind its first sync each image of each table stands for the content, whichever call failed, or
--- why else no volume was opened. `next` is the header with the boundary moved over the zone that was
--- open, where one was.
+-- why else no volume was opened. The disks that are handed back tell their tables and their bytes
+-- alike, as each does.
 abbrev pub UnopenedKeepContent : {C : Type 0} → (C → ℕ) → (C → ℕ → List ℕ → List ℕ)
     → (C → ℕ → List ℕ → List ℕ) → Type 0
 UnopenedKeepContent {C} sector sealed opened =
     (sizes later : Sizes) (handed : SideKeys) (old new : Joint) (cause : ConversionCause)
     (first old_key new_key : List ℕ) (content : List (List ℕ)) (header : Stored)
-    → OpensOn sizes handed old (joined_disk new) first old_key new_key content
+    → OpensOn sizes handed old first old_key new_key content → TellsLawfully (joined_disk new)
     → stored_in sizes (front_of sizes first) ≡ Ok header
-    → IsUnopened sector sealed opened sizes later handed old new cause
-    → IsBeforeSync old new
-    ⊎ ((next : Stored) × KeepsContent sizes header next old_key new_key content (joined_disk old)
-    (joined_disk new))
+    → (is : IsUnopened sector sealed opened sizes later handed old new cause)
+    → KeepsUnopened header old_key new_key content is

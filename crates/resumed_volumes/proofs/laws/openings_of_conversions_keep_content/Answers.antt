@@ -23,6 +23,7 @@ returns g c =
         loads = c.metadata_go_by_meaning.ensures.loads;
         both = c.used_copies_are_headers.ensures.both;
         given = c.used_copies_are_headers.ensures.given;
+        one = c.images_stand_for_one_content.ensures.keys;
       };
       areas = c.headers_stand_in_front.ensures.areas;
       spelt = c.copies_are_spelt.ensures;

@@ -1,4 +1,4 @@
-use Rattle.resumed_volumes.proofs.ResumeLemmas.{resumed-keep, resumed-stand}
+use Rattle.resumed_volumes.proofs.ResumeLemmas.{resumed-keep, resumed-stand, taken-begin}
 use Rattle.resumed_volumes.proofs.laws.resumed_conversions_keep_content.Goals as goal
 
 pub returns : goal.returns
@@ -7,6 +7,7 @@ returns g c =
     let start = c.begun_conversions_start.ensures in
     let reader = c.copies_are_read.ensures in
     record {
+      begins = taken-begin keeps start reader;
       finished = resumed-keep keeps start reader c.conversions_keep_content.ensures.finished;
       stops = resumed-stand keeps start reader c.conversions_keep_content.ensures.stops;
     }
