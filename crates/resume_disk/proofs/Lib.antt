@@ -2,4 +2,7 @@ mod KeyLemmas
 mod RightLemmas
 mod ShortLemmas
 mod ResumeLemmas
-mod RunLemmas
+pub mod RunLemmas
+mod StandingLemmas
+mod CountLemmas
+mod CompleteLemmas

@@ -7,15 +7,17 @@ use Rattle.conversion_opening.specs.declared.fault.ConversionCause.{ConversionCa
 use Rattle.disk_sizes.specs.declared.Sizes.{Sizes}
 use Rattle.header_report.proofs.ExamineLemmas.{alone_values, whole_front}
 use Rattle.header_report.specs.Examinations.{sizes_alone}
+use Rattle.joined_disk.specs.Counts.{HasSizes}
 use Rattle.joined_disk.specs.Joined.{Joint, joined_disk}
 use Rattle.luks_store.specs.Devices.{KeepsBytes, front_of}
 use Rattle.luks_store.specs.Loads.{stored_in}
 use Rattle.luks_store.specs.declared.loaded.Stored.{Stored}
+use Rattle.reenc_recovery.specs.Tables.{ShowsSizes}
 use Rattle.reenc_recovery.specs.declared.keys.SideKeys.{SideKeys}
 use Rattle.resume_disk.proofs.ShortLemmas.{short_under}
 use Rattle.resume_disk.specs.Keys.{AreKeysFound, IsNoKeysFound}
 use Rattle.resume_disk.specs.Refusals.{IsLockedBy, IsRefusedBy, IsRefusedKeys, IsUnopenedUnder}
-use Rattle.resume_disk.specs.Resuming.{AreUnderKeys, IsResumed}
+use Rattle.resume_disk.specs.Resuming.{AreUnderKeys, BeginsWith, IsOpenedMidway}
 use Rattle.resume_disk.specs.declared.refusal.Refusal.{Refusal}
 use Rattle.resume_disk.specs.declared.refusal.Refusal.TheVariants as refusals
 use Rattle.sector_disk.specs.Devices.{Device}
@@ -29,6 +31,7 @@ use Rattle.volume_opening.proofs.OpenedLemmas.{same_sizes, same_stored}
 use Rattle.volume_opening.proofs.ReadLemmas.{keeps_on}
 use Rattle.volume_opening.specs.Openings.{IsFound, alone}
 use Rattle.zone_events.specs.Readings.{reading_of}
+use Rattle.zone_images.specs.Holding.{TellsLawfully}
 
 -- ---- header and keys
 pub under_keys : (device read new : Device) (pass : List ℕ) (stored : Stored) (keys : SideKeys)
@@ -98,19 +101,40 @@ module _ (device read : Device) (pass : List ℕ) (keys : SideKeys)
       alone_values read bytes disk (under.unwritten.values ∙ told)
       (long bytes told ∙ ap₂ (λ a s. a * s) (sym under.unwritten.atoms) (sym under.unwritten.size))
 
-  pub resumed_by : {C : Type 0} (sector : C → ℕ) (sealed opened : C → ℕ → List ℕ → List ℕ)
-      (volume : State (Keys C)) → IsOpenedOf sector sealed opened sizes keys 1 joint volume
+  -- what the opening began with
+  begins : HasSizes sizes (joined_disk joint) → ShowsSizes sizes (joined_disk joint)
+      → ((all : List ℕ) → (joined_disk joint).values ≡ Some all
+      → length all ≡ (joined_disk joint).atoms * sizes.atom) → BeginsWith device read
+  begins has shows whole = record {
+    has = subst (λ (z : Sizes). HasSizes z (joined_disk (alone read))) sizes_same
+        (subst (λ (j : Joint). HasSizes sizes (joined_disk j)) joint_is has);
+    shows = subst (λ (z : Sizes). ShowsSizes z (joined_disk (alone read))) sizes_same
+        (subst (λ (j : Joint). ShowsSizes sizes (joined_disk j)) joint_is shows);
+    shown = shown;
+    long = λ first told.
+        whole first (ap (λ (j : Joint). (joined_disk j).values) joint_is ∙ shown first told)
+        ∙ ap (λ (j : Joint). (joined_disk j).atoms * sizes.atom) joint_is
+        ∙ ap (λ (z : Sizes). (joined_disk (alone read)).atoms * z.atom) sizes_same;
+  }
+
+  pub opened_midway : {C : Type 0} (sector : C → ℕ) (sealed opened : C → ℕ → List ℕ → List ℕ)
+      (lanes : ℕ) (volume : State (Keys C))
+      → IsOpenedOf sector sealed opened sizes keys lanes joint volume
       → IsReadBy sizes volume → IsInOrder (reading_of sizes) volume → IsSound volume
-      → IsResumed sector sealed opened device pass volume
-  resumed_by {C} sector sealed opened volume calls is_read order sound =
-      let here : IsOpenedOf sector sealed opened (sizes_alone device) keys 1 (alone read) volume =
-      subst (λ (s : Sizes). IsOpenedOf sector sealed opened s keys 1 (alone read) volume) sizes_same
-      (subst (λ (j : Joint). IsOpenedOf sector sealed opened sizes keys 1 j volume) joint_is calls)
+      → HasSizes sizes (joined_disk joint) → ShowsSizes sizes (joined_disk joint)
+      → ((all : List ℕ) → (joined_disk joint).values ≡ Some all
+      → length all ≡ (joined_disk joint).atoms * sizes.atom)
+      → IsOpenedMidway sector sealed opened device pass lanes volume
+  opened_midway {C} sector sealed opened lanes volume calls is_read order sound has shows whole =
+      let here : IsOpenedOf sector sealed opened (sizes_alone device) keys lanes (alone read) volume =
+      subst (λ (s : Sizes). IsOpenedOf sector sealed opened s keys lanes (alone read) volume) sizes_same
+      (subst (λ (j : Joint). IsOpenedOf sector sealed opened sizes keys lanes j volume) joint_is calls)
       in
       record {
         keys = keys;
         read = read;
         under = under;
+        begins = begins has shows whole;
         calls = here;
         same = λ first told.
             same_stored (stored_in (sizes_alone device) first) here.found.header under.stored
@@ -124,12 +148,16 @@ module _ (device read : Device) (pass : List ℕ) (keys : SideKeys)
 
   pub unopened_by : {C : Type 0} (sector : C → ℕ) (sealed opened : C → ℕ → List ℕ → List ℕ)
       (cause : ConversionCause) (later : Sizes) (new : Joint)
+      → HasSizes sizes (joined_disk joint) → ShowsSizes sizes (joined_disk joint)
+      → ((all : List ℕ) → (joined_disk joint).values ≡ Some all
+      → length all ≡ (joined_disk joint).atoms * sizes.atom)
       → IsUnopened sector sealed opened sizes later keys joint new cause
+      → TellsLawfully (joined_disk new)
       → HasCauseIn (joined_disk joint) (joined_disk new) cause
       → ((all : List ℕ) → (joined_disk joint).values ≡ Some all
       → IsCauseIn sizes keys (stored_in sizes (front_of sizes all)) cause)
       → IsUnopenedUnder sector sealed opened device pass cause new
-  unopened_by {C} sector sealed opened cause later new unopened cause_is refused =
+  unopened_by {C} sector sealed opened cause later new has shows whole unopened tells cause_is refused =
       let held : (bytes : List ℕ) → device.values ≡ Some bytes
       → IsCauseIn (sizes_alone device) keys (stored_in (sizes_alone device) bytes) cause =
       λ bytes told.
@@ -143,6 +171,7 @@ module _ (device read : Device) (pass : List ℕ) (keys : SideKeys)
         keys = keys;
         read = read;
         under = under;
+        begins = begins has shows whole;
         unopened = (
           later,
           subst (λ (s : Sizes). IsUnopened sector sealed opened s later keys (alone read) new cause)
@@ -150,6 +179,7 @@ module _ (device read : Device) (pass : List ℕ) (keys : SideKeys)
               (subst (λ (j : Joint). IsUnopened sector sealed opened sizes later keys j new cause)
               joint_is unopened),
         );
+        tells = tells;
         cause_is = subst (λ (j : Joint). HasCauseIn (joined_disk j) (joined_disk new) cause)
             joint_is cause_is;
         refused = held;

@@ -1,5 +1,5 @@
 -- A key that is one of a side's digest doesn't differ from it.
-use Rattle.std.proofs.Common.{◌≡◌, ◌∙◌, ◌≤◌, ◌==◌, ◌⊎◌, ◌||◌, ◌&&◌, not, nat_le, inl, inr, ℕ}
+use Rattle.std.proofs.Common.{◌≡◌, ◌∙◌, ◌==◌, ◌⊎◌, ◌||◌, ◌&&◌, not, nat_le, inl, inr, ℕ}
 use Rattle.std.proofs.Common.{Bool, true, false, List, [], ◌∷◌, ◌++◌, length, map, sym, subst, refl}
 use Rattle.std.proofs.Common.{arith, Option, Some, None, IsSome}
 use Rattle.std.proofs.lemmas.Bool.{and_parts, leb-true}

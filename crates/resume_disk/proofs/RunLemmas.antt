@@ -11,7 +11,7 @@ use Rattle.reenc_recovery.specs.declared.keys.SideKeys.{SideKeys}
 use Rattle.reenc_worker.specs.declared.ends.WorkerEnd.{WorkerEnd}
 use Rattle.reenc_worker.specs.declared.ends.WorkerEnd.TheVariants.{Broken as WasBroken, Finished as AtEnd}
 use Rattle.resume_disk.specs.Refusals.{IsUnfinishedBy}
-use Rattle.resume_disk.specs.Resuming.{HasRun, IsFinishedBy, IsHaltedBy, IsLedTo, IsResumed}
+use Rattle.resume_disk.specs.Resuming.{HasRun, IsFinishedBy, IsLedTo, IsResumed}
 use Rattle.resume_disk.specs.declared.refusal.Finished.{Finished}
 use Rattle.resume_disk.specs.declared.refusal.Unfinished.{Unfinished}
 use Rattle.resume_disk.specs.declared.refusal.Unfinished.TheVariants as unfinished

@@ -1,6 +1,6 @@
 -- A disk that told its bytes, of which header and keys are known, isn't opened only where memory was
 -- wanted or a device call failed, or where the conversion can't be led on by its header.
-use Rattle.std.proofs.Common.{◌≡◌, ◌∙◌, inl, inr, ℕ, true, false, List, [], ◌∷◌, ◌++◌, map, sym}
+use Rattle.std.proofs.Common.{◌≡◌, ◌∙◌, inl, inr, ℕ, true, false, List, [], ◌∷◌, ◌++◌, sym}
 use Rattle.std.proofs.Common.{subst, append_assoc, Option, Some, Result, Ok}
 use Rattle.conversion_opening.specs.Causes.{IsCauseIn}
 use Rattle.conversion_opening.specs.declared.fault.ConversionCause.{ConversionCause}
@@ -8,10 +8,8 @@ use Rattle.conversion_opening.specs.declared.fault.ConversionCause.TheVariants a
 use Rattle.disk_sizes.specs.declared.Sizes.{Sizes}
 use Rattle.header_report.specs.Examinations.{sizes_alone}
 use Rattle.luks_json.specs.declared.meta.Parts.{Parts}
-use Rattle.luks_rules.specs.Extents.{extent_of}
 use Rattle.luks_rules.specs.Segments.{in_progress}
 use Rattle.luks_rules.specs.Shapes.{progress_of}
-use Rattle.luks_rules.specs.declared.extents.Extent.{Extent}
 use Rattle.luks_rules.specs.declared.shape.Progress.{Progress}
 use Rattle.luks_store.specs.Loads.{stored_in}
 use Rattle.luks_store.specs.Used.{Refusal}
@@ -88,7 +86,7 @@ module _ (sizes : Sizes) (pass : List ℕ) (values : Option (List ℕ)) (keys : 
       subst (λ (s : Stored). in_progress s.valid.meta.config ≡ false) (one_stored other also) idle in
       let no : false ≡ true = sym rests ∙ busy in cc)
   short_by causes.NotBuilt cause_is = tt
-  short_by causes.SeqEnd cause_is = tt
+  short_by (causes.SeqEnd left wanted) cause_is = tt
   short_by (causes.JsonFull length limit) cause_is = tt
 
 pub short_under : (device : Device) (pass : List ℕ) (keys : SideKeys) (read : Device)

@@ -1,3 +1,5 @@
 pub mod Keys
 pub mod Resuming
 pub mod Refusals
+pub mod Standing
+pub mod Complete

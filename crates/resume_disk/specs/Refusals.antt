@@ -12,7 +12,7 @@ use Rattle.luks_store.specs.Loads.{HasCause, stored_in}
 use Rattle.luks_store.specs.declared.loaded.Stored.{Stored}
 use Rattle.reenc_recovery.specs.declared.keys.SideKeys.{SideKeys}
 use Rattle.resume_disk.specs.Keys.{IsNoKeysFound}
-use Rattle.resume_disk.specs.Resuming.{AreUnderKeys, IsHaltedBy}
+use Rattle.resume_disk.specs.Resuming.{AreUnderKeys, BeginsWith, IsHaltedBy}
 use Rattle.resume_disk.specs.declared.refusal.Refusal.{Refusal}
 use Rattle.resume_disk.specs.declared.refusal.Refusal.TheVariants as refusals
 use Rattle.resume_disk.specs.declared.refusal.Unfinished.{Unfinished}
@@ -21,6 +21,7 @@ use Rattle.sector_disk.specs.Devices.{Device}
 use Rattle.volume_opening.specs.Openings.{IsFound, alone}
 use Rattle.volume_opening.specs.Refusals.{AreOf}
 use Rattle.volume_opening.specs.Shorts.{IsShort as IsOpeningShort}
+use Rattle.zone_images.specs.Holding.{TellsLawfully}
 
 -- ---- no keys
 -- No keys were found under the header of a disk, which was only read.
@@ -46,19 +47,21 @@ abbrev pub IsShort : ConversionCause → Type 0
 IsShort (causes.Opening cause) = IsOpeningShort cause
 IsShort causes.Idle = ⊥
 IsShort causes.NotBuilt = Unit {0}
-IsShort causes.SeqEnd = Unit {0}
+IsShort (causes.SeqEnd left wanted) = Unit {0}
 IsShort (causes.JsonFull length limit) = Unit {0}
 
 -- The header and the keys opened no volume. A disk that told its bytes has this header, and the keys
--- are those of its segments' digests.
+-- are those of its segments' digests. What is handed back tells its table and its bytes alike.
 pub record IsUnopenedUnder {C : Type 0} (sector : C → ℕ)
     (sealed opened : C → ℕ → List ℕ → List ℕ) (device : Device) (pass : List ℕ)
     (cause : ConversionCause) (joint : Joint) : Type 0 where
   pub keys : SideKeys
   pub read : Device
   pub under : AreUnderKeys device pass keys read
+  pub begins : BeginsWith device read
   pub unopened : (later : Sizes)
       × IsUnopened sector sealed opened (sizes_alone device) later keys (alone read) joint cause
+  pub tells : TellsLawfully (joined_disk joint)
   pub cause_is : HasCauseIn (joined_disk (alone read)) (joined_disk joint) cause
   pub refused : (bytes : List ℕ) → device.values ≡ Some bytes →
       IsCauseIn (sizes_alone device) keys (stored_in (sizes_alone device) bytes) cause

@@ -1,10 +1,12 @@
 -- What a conversion is that was opened on a disk and led on from there, up to an end.
-use Rattle.std.specs.Prelude.{ℕ, ◌≡◌, ◌≢◌, List, Option, Some}
+use Rattle.std.specs.Prelude.{ℕ, ◌≡◌, ◌≢◌, ◌*◌, List, length, Option, Some}
 use Rattle.conversion_opening.specs.Openings.{IsOpenedOf}
 use Rattle.header_report.specs.Examinations.{sizes_alone}
+use Rattle.joined_disk.specs.Counts.{HasSizes}
 use Rattle.joined_disk.specs.Joined.{Joint, joined_disk}
 use Rattle.luks_store.specs.Devices.{KeepsBytes}
 use Rattle.luks_store.specs.declared.loaded.Stored.{Stored}
+use Rattle.reenc_recovery.specs.Tables.{ShowsSizes}
 use Rattle.reenc_recovery.specs.declared.keys.SideKeys.{SideKeys}
 use Rattle.reenc_worker.specs.declared.ends.WorkerEnd.{WorkerEnd}
 use Rattle.reenc_worker.specs.declared.ends.WorkerEnd.TheVariants.{Broken as WasBroken, Finished}
@@ -34,19 +36,36 @@ pub record AreUnderKeys (device : Device) (pass : List ℕ) (keys : SideKeys) (r
     pub are : AreKeysFound stored.valid.meta stored.valid.sizes pass device.values keys
 
 -- ---- opened
--- Then the volume was opened under the keys, by the header that the disk has; of a disk that told its
--- bytes this is the one by which the keys were found. Its header is read by the sizes of the disk,
--- and it is in order by that.
-pub record IsResumed {C : Type 0} (sector : C → ℕ) (sealed opened : C → ℕ → List ℕ → List ℕ)
-    (device : Device) (pass : List ℕ) (volume : State (Keys C)) : Type 0 where
+-- What an opening begins with behind them: a disk of the sizes of the one that was handed in, which
+-- tells its table and its bytes alike, and the bytes that were told, which are all that it has.
+pub record BeginsWith (device read : Device) : Type 0 where
+  pub has : HasSizes (sizes_alone device) (joined_disk (alone read))
+  pub shows : ShowsSizes (sizes_alone device) (joined_disk (alone read))
+  pub shown : (first : List ℕ) → device.values ≡ Some first
+      → (joined_disk (alone read)).values ≡ Some first
+  pub long : (first : List ℕ) → device.values ≡ Some first
+      → length first ≡ (joined_disk (alone read)).atoms * (sizes_alone device).atom
+
+-- Then the volume was opened under the keys, with so many lanes, by the header that the disk has; of a
+-- disk that told its bytes this is the one by which the keys were found. Its header is read by the
+-- sizes of the disk, and it is in order by that.
+pub record IsOpenedMidway {C : Type 0} (sector : C → ℕ) (sealed opened : C → ℕ → List ℕ → List ℕ)
+    (device : Device) (pass : List ℕ) (lanes : ℕ) (volume : State (Keys C)) : Type 0 where
   pub keys : SideKeys
   pub read : Device
   pub under : AreUnderKeys device pass keys read
-  pub calls : IsOpenedOf sector sealed opened (sizes_alone device) keys 1 (alone read) volume
+  pub begins : BeginsWith device read
+  pub calls : IsOpenedOf sector sealed opened (sizes_alone device) keys lanes (alone read) volume
   pub same : (first : List ℕ) → device.values ≡ Some first → calls.found.header ≡ under.stored
   pub is_read : IsReadBy (sizes_alone device) volume
   pub order : IsInOrder (reading_of (sizes_alone device)) volume
   pub sound : IsSound volume
+
+-- the only lane is the conversion's own
+abbrev pub IsResumed : {C : Type 0} → (C → ℕ) → (C → ℕ → List ℕ → List ℕ)
+    → (C → ℕ → List ℕ → List ℕ) → Device → List ℕ → State (Keys C) → Type 0
+IsResumed sector sealed opened device pass volume =
+    IsOpenedMidway sector sealed opened device pass 1 volume
 
 -- ---- led on from there
 -- By steps of the volume's worker alone, on which no operation of a client was under way, up to this

@@ -7,16 +7,24 @@
 //! `IsFinishedBy` every block is new once it is at its end, by a header that converts nothing, and
 //! each call that was made since is one of the opening or of a step of the volume's worker. Else it
 //! says why it isn't at its end: what was refused, or how the worker ended. The disk is handed back,
-//! whatever is answered.
+//! whatever is answered. [`standing_conversions_end`]: where the bytes of the disk stand for a content
+//! under the passphrase, and no device call failed, only memory, or what a header or a checksum has no
+//! room for, keeps it from its end.
 //!
-//! [`find_side_keys`] is a call of its own, for those who do something else with such a volume than
-//! lead its conversion to the end.
+//! [`take_up_conversion`] is what of that comes before the first zone: it opens the volume, for those
+//! who do something else with it than lead its conversion to the end. By `IsOpenedMidway` it is the volume
+//! of the header that the disk has, under the keys that its keyslots give to the passphrase, in order
+//! and with nothing under way. [`find_side_keys`] finds those keys.
 #![tactic(auto)]
 
 mod refusal;
 mod resuming;
+mod standing;
+mod taking;
 mod unlocking;
 
 pub use refusal::{Finished, Halted, Refusal, Refused, Unfinished};
 pub use resuming::resume_conversion;
+pub use standing::{standing_conversions_are_led_on, standing_conversions_end};
+pub use taking::take_up_conversion;
 pub use unlocking::find_side_keys;

@@ -6,12 +6,10 @@ ghost use Rattle.resume_disk.specs.Refusals.{IsUnfinishedBy};
 ghost use Rattle.resume_disk.specs.Resuming.{IsFinishedBy};
 ghost use Rattle.resume_disk.specs.declared.refusal.Unfinished.TheVariants.{Halted as halted_run};
 
-use crate::refusal::{Finished, Halted, Refusal, Refused, Unfinished};
-use crate::unlocking::unlock_sides;
+use crate::refusal::{Finished, Halted, Unfinished};
+use crate::taking::take_up_conversion;
 use cipher_laws::SectorCipher;
-use conversion_opening::{ConversionFault, open_conversion};
 use io_edge::Gate;
-use joined_disk::JoinedDisk;
 use reenc_worker::WorkerEnd;
 use sector_cipher::Context;
 use sector_disk::Disk;
@@ -75,20 +73,7 @@ pub fn resume_conversion<R: Threads + Sync, D: Disk, G: Gate>(
         ⟦<Context as SectorCipher>⟧.sealed ⟦<Context as SectorCipher>⟧.opened D.device disk
         pass.now) }
 {
-    let (disk, found) = unlock_sides(alloc, disk, pass);
-    let keys = match found {
-        Ok(keys) => keys,
-        Err(refusal) => {
-            return Err(Unfinished::Refused(Refused {
-                header: None,
-                disk,
-                refusal,
-            }));
-        }
-    };
-    let joined = JoinedDisk::alone(disk);
-    let _sizes = joined.sizes();
-    match open_conversion(rt, alloc, joined, &keys, 1) {
+    match take_up_conversion(rt, alloc, disk, pass, 1) {
         Ok(volume) => {
             let mut volume = volume;
             let end = finish_conversion(rt, alloc, &mut volume, gate);
@@ -96,13 +81,6 @@ pub fn resume_conversion<R: Threads + Sync, D: Disk, G: Gate>(
             let (header, disk) = volume.into_disk().parts();
             conclude(header, disk, end, blocks)
         }
-        Err(ConversionFault { disk, cause }) => {
-            let (header, disk) = disk.parts();
-            Err(Unfinished::Refused(Refused {
-                header,
-                disk,
-                refusal: Refusal::Unopened(cause),
-            }))
-        }
+        Err(refused) => Err(Unfinished::Refused(refused)),
     }
 }

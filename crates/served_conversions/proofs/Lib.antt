@@ -1,0 +1,5 @@
+pub mod WorkLemmas
+mod KeyLemmas
+mod StartLemmas
+mod StopLemmas
+mod ServeLemmas
