@@ -58,6 +58,8 @@ impl<D: Disk + Drop> Port for DiskPort<D> {
 
     ghost is_spent = { λ _. Unit {0} };
 
+    ghost usable = { λ _. Unit {0} };
+
     fn submit(
         &mut self,
         alloc: Global,
@@ -85,10 +87,10 @@ impl<D: Disk + Drop> Port for DiskPort<D> {
 
 /// Serves the next client of a link, with an export of so many bytes, and tells how that ended, how
 /// many bytes were taken and how many were put.
-pub(crate) fn serve<L: Link, P: Port>(
+pub(crate) fn serve<L: Link, D: Disk + Drop>(
     alloc: Global,
     link: &mut L,
-    port: &mut P,
+    port: &mut DiskPort<D>,
     size: u64,
 ) -> Result<String> {
     match link.next() {

@@ -24,12 +24,17 @@ pub trait Port {
     /// It has come to its end, and takes no operation any more.
     ghost is_spent: { Self → Type 0 };
 
+    /// Operations may be submitted to it. It stays so, also where it is spent.
+    ghost usable: { Self → Type 0 };
+
     /// Executes an operation and answers it: a read by its content or an error, any other by
     /// `Done` or an error. A content is of as many bytes as the read asks for, at most 33554432,
     /// ending within 2^64; an error isn't 0, and its place, which a read's may have, is an offset
     /// in the range. The spare buffer is for its use, as for the content of a read; what is in it
     /// isn't to be used. Where memory is wanted, or the port is spent, nothing was done.
     fn submit(&mut self, alloc: Global, op: Op, spare: Bytes) -> Result<Submitted, AllocError>
+        requires usable { usable self.old }
+        ensures usable { usable self.new }
         ensures ok { IfOk result
             (λ submitted. (n : ℕ) × did self.old self.new (exchanges_by op n submitted)) }
         ensures reply { IfOk result (λ submitted. IsRepliedTo op submitted) }

@@ -48,6 +48,8 @@ pub fn serve_session<S: Source, K: Sink, P: Port>(
     port: &mut P,
     export: &Export,
 ) -> SessionEnd
+    requires usable { P.usable port.old }
+    ensures usable { P.usable port.new }
     ensures out { (result.ending ≡ Ending.WriteFault) ⊎ IsOut (K.outlet sink.new) }
     ensures spent { result.ending ≡ Ending.PortSpent → P.is_spent port.new }
     ensures session { (log : Log) × P.did port.old port.new (exchanges_of log.turns)
@@ -91,7 +93,9 @@ fn serve_requests<S: Source, K: Sink, P: Port>(
     structured: bool,
     tally: &mut Tally,
 ) -> Ending
-    requires { IsOut (K.outlet sink.old) }
+    requires out { IsOut (K.outlet sink.old) }
+    requires usable { P.usable port.old }
+    ensures usable { P.usable port.new }
     ensures out { (result ≡ Ending.WriteFault) ⊎ IsOut (K.outlet sink.new) }
     ensures spent { result ≡ Ending.PortSpent → P.is_spent port.new }
     ensures served { (turns : List Turn) × (taken : List ℕ) × (whole : List ℕ) × (front : List ℕ)
@@ -123,7 +127,9 @@ fn serve_request<S: Source, K: Sink, P: Port>(
     spare: &mut Buffer,
     tally: &mut Tally,
 ) -> Option<Ending>
-    requires { IsOut (K.outlet sink.old) }
+    requires out { IsOut (K.outlet sink.old) }
+    requires usable { P.usable port.old }
+    ensures usable { P.usable port.new }
     ensures out { (result ≡ Some Ending.WriteFault) ⊎ IsOut (K.outlet sink.new) }
     ensures spent { result ≡ Some Ending.PortSpent → P.is_spent port.new }
     ensures served { (turns : List Turn) × (taken : List ℕ) × (whole : List ℕ) × (front : List ℕ)

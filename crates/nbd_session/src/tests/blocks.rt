@@ -52,6 +52,8 @@ impl Port for Blocks {
 
     ghost is_spent = { λ _. Unit {0} };
 
+    ghost usable = { λ _. Unit {0} };
+
     fn submit(&mut self, alloc: Global, op: Op, spare: Bytes) -> Result<Submitted, AllocError> {
         if !self.has_memory {
             return Err(AllocError);

@@ -7,7 +7,8 @@ use Rattle.nbd_session.proofs.session.serve_requests.Goals as goal
 
 pub loop-number-init : goal.loop-number-init
 loop-number-init g c = record {
-  out = c.requires;
+  out = c.requires.out;
+  usable = c.requires.usable;
   served = (
     [],
     [],
@@ -42,6 +43,7 @@ loop-number-preserved g c =
     let new = c.in-None.ensures.served in
     record {
       out = ⊎_elim (λ is. absurd (cc)) (λ out. out) c.in-None.ensures.out;
+      usable = c.in-None.ensures.usable;
       served = (
         old.0 ++ new.0,
         old.1 ++ new.1,

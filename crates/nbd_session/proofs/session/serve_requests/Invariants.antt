@@ -8,6 +8,7 @@ use Rattle.nbd_session.proofs.session.serve_requests.Given as goal
 abbrev pub invariant-loop-number : goal.invariant-loop-number
 invariant-loop-number g l = record {
   out : IsOut (g.K.Sink.outlet l.sink);
+  usable : g.P.Port.usable l.port;
   served : (turns : List Turn) × (taken : List ℕ) × (whole : List ℕ) × (length turns ≡ l.number)
       × g.P.Port.did l.initial.port l.port (exchanges_of turns)
       × Serves l.structured 0
