@@ -1,7 +1,8 @@
 -- Plain words ask for what they say.
-use Rattle.std.proofs.Common.{◌≡◌, ◌∙◌, true, false, List, [], ◌∷◌, ◌++◌, inl, inr}
+use Rattle.std.proofs.Common.{◌≡◌, ◌∙◌, Bool, true, false, not, List, [], ◌∷◌, ◌++◌, inl, inr}
 use Rattle.std.proofs.Common.{refl, sym, ap, subst, Option, Some, None, codes}
 use Rattle.std.specs.List.{fold}
+use Rattle.std.specs.Option.{option_map_or}
 use Rattle.std.specs.Str.{bytes_eq}
 use Rattle.clap.specs.Faults.{check_fault, defaults_fault}
 use Rattle.clap.specs.Faults.{walk_fault}
@@ -12,12 +13,12 @@ use Rattle.clap.specs.Walk.{walked, with_default}
 use Rattle.command_line.specs.Commands.{Serving, Showing, asked, command_in, serves}
 use Rattle.command_line.specs.Commands.{key_file_in, serving_in}
 use Rattle.command_line.specs.Commands.{showing_in, shows}
-use Rattle.command_line.specs.Plain.{IsServePiece, IsServed}
+use Rattle.command_line.specs.Plain.{IsLedOn, IsServePiece, IsServed}
 use Rattle.command_line.specs.Plain.{IsStatusPiece, Piece, all_spelt, disk, flag, valued, name_of}
 use Rattle.command_line.specs.Plain.{TakesServe, TakesStatus, value_in}
 use Rattle.command_line.specs.Product.{product}
 use Rattle.command_line.specs.Product.{serve_rules, status_rules}
-use Rattle.command_line.specs.Values.{atom_or_default, number_or}
+use Rattle.command_line.specs.Values.{atom_or_default, is_set, number_or}
 use Rattle.command_line.proofs.LeafLemmas.{HasDefault, HaveFineDefaults, NoDefault, all_have}
 use Rattle.command_line.proofs.LeafLemmas.{default_value, fine_defaults, first_value, is_taken}
 use Rattle.command_line.proofs.LeafLemmas.{is_there, none_named}
@@ -114,10 +115,12 @@ serve_command : (rows : List Row) (words : Serving) →
     first_of (codes "listen") rows ≡ Some words.address →
     number_or 4 1 16 (first_of (codes "workers") rows) ≡ Some words.workers →
     number_or 65535 1 65535 (first_of (codes "sessions") rows) ≡ Some words.sessions →
-    key_file_in rows ≡ Some words.key_file → command_in (codes "serve") rows ≡ Some (serves words)
+    key_file_in rows ≡ Some words.key_file →
+    not (is_set (codes "no-worker") rows) ≡ words.converts →
+    command_in (codes "serve") rows ≡ Some (serves words)
 unfolding command_in serving_in
-serve_command rows words name atom address workers sessions key_file =
-    rw (name, atom, address, workers, sessions, key_file) refl
+serve_command rows words name atom address workers sessions key_file converts =
+    rw (name, atom, address, workers, sessions, key_file, converts) refl
 
 -- a disk that is served plain, and one whose volume is
 no_key_file : (rows : List Row) → first_of (codes "header") rows ≡ None →
@@ -157,6 +160,41 @@ served_by pieces rows key_file None (Some word) are header given plain file one 
 served_by pieces rows key_file None None are header given plain file none = absurd none
 served_by pieces rows key_file (Some set) (Some word) are header given plain file none =
     absurd none
+
+-- a conversion that is led on, and one that isn't
+worker_default : HasDefault (codes "no-worker") (codes "false") serve_built
+unfolding HasDefault serve_rules
+worker_default = inr (
+  inl refl,
+  inr (
+    inl refl,
+    inr (
+      inl refl,
+      inr (
+        inl refl,
+        inr (
+          inr refl,
+          inr (inl refl, inr (inl refl, inr (inl refl, inl (refl, refl)))),
+        ),
+      ),
+    ),
+  ),
+)
+
+led_on_by : (pieces : List Piece) (rows : List Row) (converts : Bool) (set : Option Text) →
+    rows ≡ fold with_default (rows_for pieces) serve_built →
+    value_in (codes "no-worker") pieces ≡ set → IsLedOn set converts →
+    not (is_set (codes "no-worker") rows) ≡ converts
+led_on_by pieces rows converts (Some word) are set (is, off) =
+    ap (λ found. not (option_map_or (λ w. bytes_eq w (codes "true")) found false))
+    (ap (first_of (codes "no-worker")) are
+    ∙ (is_there serve_built pieces (codes "no-worker") word set).first ∙ ap Some is)
+    ∙ sym off
+led_on_by pieces rows converts None are set on =
+    ap (λ found. not (option_map_or (λ w. bytes_eq w (codes "true")) found false))
+    (ap (first_of (codes "no-worker")) are
+    ∙ default_value serve_built pieces (codes "no-worker") (codes "false") worker_default set)
+    ∙ sym on
 
 -- options that have no default of their own
 serve_kept : (name : Text) → (bytes_eq (codes "plain") name ≡ false)
@@ -208,7 +246,8 @@ serve_taken pieces words is =
     (ap (number_or 65535 1 65535) (value (codes "sessions") (refl, refl)) ∙ is.sessions_are)
     (served_by pieces rows words.key_file _ _ refl
     (value (codes "header") (refl, refl) ∙ header) (value (codes "key-file") (refl, refl)) refl
-    refl is.served_is) in
+    refl is.served_is)
+    (led_on_by pieces rows words.converts _ refl refl is.led_on_is) in
     asks (codes "serve") serve_built (all_spelt pieces) (serves words) serve_named
     (taken.fine (serve_checked rows name.given address.given))
     (ap (command_in (codes "serve")) taken.rows ∙ command)

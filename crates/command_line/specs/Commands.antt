@@ -1,5 +1,5 @@
 -- What the words of a command line ask for.
-use Rattle.std.specs.Prelude.{ℕ, ◌<◌, ◌≤◌, ◌==◌, List, length, codes}
+use Rattle.std.specs.Prelude.{ℕ, ◌<◌, ◌≤◌, ◌==◌, Bool, not, List, length, codes}
 use Rattle.std.specs.Prelude.{if◌then◌else◌}
 use Rattle.std.specs.Prelude.{Option, Some, None, option_and_then, option_map}
 use Rattle.std.specs.Str.{bytes_eq}
@@ -19,7 +19,7 @@ use Rattle.command_line.specs.declared.command.Command.TheVariants as commands
 
 -- sessions over a disk, in atoms of so many bytes, that are dealt to so many links to the clients
 -- of an address: over the volume that a key file's passphrase opens there, or, where there is none,
--- over the plain disk as it is
+-- over the plain disk as it is; and whether a conversion that is under way is led on meanwhile
 pub record Serving : Type 0 where
   pub disk : Text
   pub key_file : Option Text
@@ -27,6 +27,7 @@ pub record Serving : Type 0 where
   pub address : Text
   pub workers : ℕ
   pub sessions : ℕ
+  pub converts : Bool
 
 -- what the header of a disk says, which is read in atoms of so many bytes
 pub record Showing : Type 0 where
@@ -48,6 +49,7 @@ serving words = record {
   address = words.address.now;
   workers = words.workers;
   sessions = words.sessions;
+  converts = words.converts;
 }
 
 abbrev pub showing : Status → Showing
@@ -98,6 +100,7 @@ serving_in rows = do
     address = address;
     workers = workers;
     sessions = sessions;
+    converts = not (is_set (codes "no-worker") rows);
   })
 
 unfoldable pub showing_in : List Row → Option Showing

@@ -1,5 +1,5 @@
 -- Plain words: a command's disk and its options, each in words of its own.
-use Rattle.std.specs.Prelude.{◌≡◌, ◌≢◌, ◌⊎◌, false, List, [], ◌∷◌, ◌++◌, codes, find}
+use Rattle.std.specs.Prelude.{◌≡◌, ◌≢◌, ◌⊎◌, Bool, true, false, List, [], ◌∷◌, ◌++◌, codes, find}
 use Rattle.std.specs.Prelude.{Option, Some, None, option_map}
 use Rattle.std.specs.List.{list_any}
 use Rattle.std.specs.Str.{bytes_eq}
@@ -113,9 +113,14 @@ IsServed (Some word) None key_file = (word ≡ codes "true") × (key_file ≡ No
 IsServed None (Some file) key_file = key_file ≡ Some file
 IsServed _ _ key_file = ⊥
 
+-- a conversion is led on, but where `--no-worker` is there
+abbrev pub IsLedOn : Option Text → Bool → Type 0
+IsLedOn (Some word) converts = (word ≡ codes "true") × (converts ≡ false)
+IsLedOn None converts = converts ≡ true
+
 -- The pieces of a `serve`, in any order: DISK, `--listen`, and `--plain` or `--key-file` are there,
--- and no piece is twice. The atom is 512 or 4096, or left out; the workers are 1 to 16, and the
--- sessions 1 to 65535, or left out.
+-- `--no-worker` may be, and no piece is twice. The atom is 512 or 4096, or left out; the workers are
+-- 1 to 16, and the sessions 1 to 65535, or left out.
 pub record IsServe (pieces : List Piece) (words : Serving) : Type 0 where
   pub known : AllPieces IsServePiece pieces
   pub once : AreOnce pieces
@@ -128,6 +133,7 @@ pub record IsServe (pieces : List Piece) (words : Serving) : Type 0 where
   pub workers_are : number_or 4 1 16 (value_in (codes "workers") pieces) ≡ Some words.workers
   pub sessions_are :
       number_or 65535 1 65535 (value_in (codes "sessions") pieces) ≡ Some words.sessions
+  pub led_on_is : IsLedOn (value_in (codes "no-worker") pieces) words.converts
 
 -- The pieces of a `resume`, in any order: DISK and `--key-file` are there, and no piece is twice.
 -- The atom is 512 or 4096, or left out.

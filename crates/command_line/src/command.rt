@@ -41,6 +41,8 @@ pub struct Serve<'a> {
     pub workers: u32,
     /// How many sessions are served at most: 1 to 65535.
     pub sessions: u32,
+    /// Whether a conversion that is under way is led on meanwhile.
+    pub converts: bool,
 }
 
 /// `status`: what the header of a disk says.
@@ -124,6 +126,7 @@ fn read_serve<'a>(matches: &ArgMatches<'a>) -> Result<Serve<'a>, Refused>
         address,
         workers: workers as u32,
         sessions: sessions as u32,
+        converts: !is_set(matches, "no-worker"),
     })
 }
 
