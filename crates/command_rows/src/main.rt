@@ -20,6 +20,10 @@
 //!   answers them: the words, the bytes of a block and the most that come at once, what the client
 //!   sends first, what it is to be put for it, and what it sends last; `walks in chunks` does so
 //!   for one whose reads are answered by chunks;
+//! - `turns` runs commands one after the other on one disk: what each comes to, as `serves` tells it,
+//!   with a semicolon behind it. Then come the disk's atoms of 512 bytes, and the numbers of its calls
+//!   that fail, counted on from one command to the next; and in turn the words of a command, what a
+//!   client sends, and what it is to be put: nothing where the command meets none;
 //! - `cuts` serves clients who all send the same, over one link: the input of each ends at another
 //!   byte. It tells how many those are: the words, what is put first, and in turn a message and its
 //!   answer.
@@ -37,6 +41,7 @@ mod messages;
 mod running;
 mod serving;
 mod spelling;
+mod turning;
 mod walking;
 
 use anyhow::{Result, anyhow};
@@ -59,6 +64,7 @@ fn outcome<W: Threads + Wait + Sync>(
     match *first {
         "asks" => asking::asked(rt.alloc(), line),
         "serves" => serving::served(rt, threads, messages, line, rest),
+        "turns" => turning::turned(rt, threads, messages, line, rest),
         "cuts" => cutting::cut(threads, rt.alloc(), messages, line, rest),
         "walks" => walking::walked(threads, rt.alloc(), messages, line, rest, false),
         "walks in chunks" => walking::walked(threads, rt.alloc(), messages, line, rest, true),
@@ -96,6 +102,7 @@ fn main(rt: HostRuntime) -> Result<ExitCode> {
         "status.rows",
         "sessions.rows",
         "encrypted.rows",
+        "midway.rows",
     ] {
         let text = fs::read_to_string(&rt, name)?;
         for line in text.as_str().lines() {

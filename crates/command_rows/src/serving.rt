@@ -74,8 +74,9 @@ fn front_of<'c>(rt: &HostRuntime, column: &'c str) -> Result<(Vec<u8>, &'c str)>
 }
 
 /// A disk of so many atoms of 512 bytes, which begins with the bytes of a file, where the column
-/// begins with its name; and the disk's calls that fail.
-fn disk_of(rt: &HostRuntime, column: &str) -> Result<MemDisk> {
+/// begins with its name; and the disk's calls that fail. It has room for so many calls and written
+/// atoms, and for each of its atoms once more.
+pub(crate) fn disk_of(rt: &HostRuntime, column: &str, room: u32) -> Result<MemDisk> {
     let (front, rest) = front_of(rt, column)?;
     let calls = u64::from(!front.is_empty());
     let numbers = numbers_of(rt.alloc(), rest, 0)?;
@@ -89,7 +90,13 @@ fn disk_of(rt: &HostRuntime, column: &str) -> Result<MemDisk> {
     for fail in fails {
         later.push(fail.saturating_add(calls))?;
     }
-    let mut disk = MemDisk::new(rt.alloc(), 512, *atoms, 600 + *atoms, later.as_slice())?;
+    let mut disk = MemDisk::new(
+        rt.alloc(),
+        512,
+        *atoms,
+        u64::from(room) + *atoms,
+        later.as_slice(),
+    )?;
     if !front.is_empty() && disk.write(0, front.as_slice()).is_err() {
         return Err(anyhow!("a file can't be put"));
     }
@@ -188,7 +195,7 @@ pub(crate) fn served(
     let clients = clients_of(alloc, messages, clients)?;
     let connections = connections_of(alloc, clients.as_slice(), *piece, *room)?;
     let lists = lists_of(alloc, fails)?;
-    let mut bay = bay_of(alloc, disk_of(rt, disk)?, connections, lists)?;
+    let mut bay = bay_of(alloc, disk_of(rt, disk, 600)?, connections, lists)?;
     let mut out = out_of(alloc, out)?;
     let words = words_of_row(alloc, line)?;
     let ended = run_in(threads, alloc, words.as_slice(), &mut bay, &mut out)?;

@@ -271,7 +271,7 @@ fn walk_of_row(
 }
 
 /// The disk that a command handed back.
-fn handed_back(ended: Ended<'_, MemDisk, MemLink>) -> Result<MemDisk> {
+pub(crate) fn handed_back(ended: Ended<'_, MemDisk, MemLink>) -> Result<MemDisk> {
     let Ended { disk, .. } = ended;
     let Some(disk) = disk else {
         return Err(anyhow!("no disk is handed back"));

@@ -2,9 +2,11 @@ mod AskingLemmas
 mod HistoryLemmas
 mod LaneLemmas
 mod MakingLemmas
+mod KeptLemmas
 mod ResumingLemmas
 mod RoundLemmas
 mod RunLemmas
 mod StartingLemmas
+mod TakenLemmas
 mod TextLemmas
 mod TurnLemmas

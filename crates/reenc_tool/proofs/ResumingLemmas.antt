@@ -3,11 +3,14 @@ use Rattle.std.proofs.Common.{◌≡◌, ◌∙◌, ℕ, List, Option, Some, Non
 use Rattle.std.proofs.Common.{append_assoc, codes, refl}
 use Rattle.aes_core.specs.declared.cipher.Aes.{Aes}
 use Rattle.reenc_worker.specs.declared.ends.WorkerEnd.{WorkerEnd}
+use Rattle.reenc_worker.specs.declared.ends.WorkerEnd.TheVariants.{Finished}
 use Rattle.resume_disk.specs.Refusals.{IsRefusedBy}
 use Rattle.resume_disk.specs.Resuming.{IsFinishedBy, IsHaltedBy}
 use Rattle.resume_disk.specs.declared.refusal.Refusal.{Refusal}
 use Rattle.sector_cipher.specs.declared.disk.DiskCipher.{DiskCipher}
 use Rattle.sector_disk.specs.Devices.{Device as DiskState}
+use Rattle.sector_disk.specs.Geometry.{IsDisk}
+use Rattle.reenc_tool.proofs.KeptLemmas.{KeptLaws, holds-new, keeps-refused, keeps-run, knows-run}
 use Rattle.reenc_tool.specs.declared.ended.Cause.TheVariants.{Fine}
 use Rattle.reenc_tool.specs.Outcomes.{Outcome, ended_by, none_came}
 use Rattle.reenc_tool.specs.Resuming.{ComesToResume, ended_unresumed, finished_line}
@@ -15,7 +18,9 @@ use Rattle.reenc_tool.specs.Status.{cause_of_end}
 
 module _ {D L : Type 0} (sector : DiskCipher Aes → ℕ)
     (sealed opened : DiskCipher Aes → ℕ → List ℕ → List ℕ) (device : D → DiskState)
-    (pass : List ℕ) (disk : D) (header : Option D) (back : D) (outcome : Outcome D L) where
+    (pass : List ℕ) (disk : D) (header : Option D) (back : D) (outcome : Outcome D L)
+    (laws : KeptLaws sector sealed opened)
+    (geometry : IsDisk (device disk).size (device disk).atoms) where
   pub is_finished : (blocks : ℕ) (line : List ℕ) →
       IsFinishedBy sector sealed opened device disk pass header back blocks →
       outcome ≡ ended_by (none_came Fine []) (Some back) header → line ≡ finished_line blocks →
@@ -28,6 +33,10 @@ module _ {D L : Type 0} (sector : DiskCipher Aes → ℕ)
     back = back;
     blocks = blocks;
     finished = finished;
+    known = knows-run laws device pass disk header back Finished finished.after finished.run;
+    keeps = λ first old_key new_key content stood. keeps-run laws device pass disk header back Finished
+        finished.after finished.run first old_key new_key content stood geometry;
+    holds = holds-new laws device pass disk header back finished.after finished.run;
     outcome_is = is;
     report_is = ap Some line_is;
   })
@@ -44,6 +53,9 @@ module _ {D L : Type 0} (sector : DiskCipher Aes → ℕ)
     back = back;
     end = end;
     halted = halted;
+    known = knows-run laws device pass disk header back end halted.after halted.run;
+    keeps = λ first old_key new_key content stood. keeps-run laws device pass disk header back end
+        halted.after halted.run first old_key new_key content stood geometry;
     outcome_is = is;
     report_is = refl;
   }))
@@ -60,6 +72,7 @@ module _ {D L : Type 0} (sector : DiskCipher Aes → ℕ)
     header = header;
     back = back;
     refused = refused;
+    keeps = keeps-refused laws device pass disk header back refusal refused;
     outcome_is = is;
     report_is = refl;
   })))

@@ -27,16 +27,18 @@ use Rattle.volume_machine.specs.Seals.{Seals, AreLawful}
 use Rattle.volume_machine.specs.Sound.{IsSound, AreApart}
 use Rattle.sector_disk.specs.Devices.{Device}
 use Rattle.volume_machine.specs.States.{State, size_of}
+use Rattle.volume_machine.specs.Works.{Work}
+use Rattle.served_conversions.specs.Clients.{without_work}
 use Rattle.volume_machine.specs.Beginnings.{IsWholeDisk}
 use Rattle.reenc_tool.specs.declared.ended.Cause.{Cause}
 use Rattle.reenc_tool.specs.declared.serving.Standing.{Standing}
 use Rattle.reenc_tool.specs.declared.serving.Standing.TheVariants.{Live, Ended, Failed}
 use Rattle.reenc_tool.specs.Lanes.{Served, StandsBy, failed_in}
 use Rattle.reenc_tool.specs.Sessions.{Played, AreSessions, NumbersRise, tagged_of}
-use Rattle.reenc_tool.specs.Outcomes.{Coming, Outcome, unserved}
+use Rattle.reenc_tool.specs.Outcomes.{Coming, Outcome, none_came, unserved}
 use Rattle.reenc_tool.specs.Plain.{IsPlainVolume}
-use Rattle.reenc_tool.specs.Encrypted.{AsksKey, HandsBack}
-use Rattle.reenc_tool.specs.Linking.{AsksLinks}
+use Rattle.reenc_tool.specs.Encrypted.{AsksKey, HandsBack, RanOver}
+use Rattle.reenc_tool.specs.Linking.{AsksLinks, IsLinked}
 use Rattle.reenc_tool.specs.Promise.{LeavesRest, ServesBy}
 use Rattle.reenc_tool.specs.Runs.{HasServed, VolumeKeys, StoodStill, cause_of}
 use Rattle.luks_store.specs.declared.fault.StoreFault.{StoreFault}
@@ -191,8 +193,8 @@ module _ {L : Type 0} (state : L → LinkState) (left : Device) (begun : List L)
         history = λ blocks bytes starts.
             (let one = laws.served blocks bytes run (untagged (tagged_of played)) starts did.is
             answered in (one.left, one.legal));
-        stops = λ blocks bytes starts settled. record {
-          covered = laws.covered blocks bytes starts settled;
+        covered = laws.covered;
+        stops = λ blocks bytes starts covered. record {
           allowed = laws.stops blocks bytes (untagged (tagged_of played)) starts did.is answered;
           tables = λ now told. laws.tables now did.is told;
         };
@@ -328,3 +330,42 @@ pub opened_under : {C : Type 0} (sector : C → ℕ) (sealed opened : C → ℕ 
     IsOpenedBy sector sealed opened device pass' lanes volume
 opened_under {C} sector sealed opened device pass pass' lanes volume same =
     subst (λ (p : List ℕ). IsOpenedBy sector sealed opened device p lanes volume) same
+
+-- ---- a volume whose conversion lies idle
+-- one that converts nothing is the same without what a conversion takes
+same_without_work : {K : Type 0} (start : State K) → IsFresh start → without_work start ≡ start
+same_without_work start fresh =
+    ap (λ (w : Option Work). record start { work = w }) (sym fresh.rests)
+
+pub fresh_as_it_is : {K : Type 0} (start : State K) → IsFresh start → IsFresh (without_work start)
+fresh_as_it_is {K} start fresh =
+    subst (λ (s : State K). IsFresh s) (sym (same_without_work start fresh)) fresh
+
+pub sound_as_it_is : {K : Type 0} (start : State K) → IsFresh start → IsSound start →
+    IsSound (without_work start)
+sound_as_it_is {K} start fresh sound =
+    subst (λ (s : State K). IsSound s) (sym (same_without_work start fresh)) sound
+
+-- sessions that were served on it so were served on it as it is
+pub served_as_it_is : {L : Type 0} (state : L → LinkState) (start : State VolumeKeys)
+    (seals : Seals) (left : Device) (begun : List L) (came : Coming L) → IsFresh start →
+    HasServed state (without_work start) seals left begun came →
+    HasServed state start seals left begun came
+served_as_it_is state start seals left begun came fresh served =
+    subst (λ (s : State VolumeKeys). HasServed state s seals left begun came)
+    (same_without_work start fresh) served
+
+pub linked_as_it_is : {B D L : Type 0} (device : D → Device) (state : L → LinkState)
+    (holdings : B → Holdings D) (asks_links : AsksLinks B L) (serve : Serving) (between new : B)
+    (start : State VolumeKeys) (seals : Seals) (outcome : Outcome D L) → IsFresh start →
+    IsLinked state holdings asks_links serve between new
+    (λ cause links. HandsBack device start.disk (none_came cause links) outcome)
+    (λ begun. RanOver device state (without_work start) seals begun outcome) →
+    IsLinked state holdings asks_links serve between new
+    (λ cause links. HandsBack device start.disk (none_came cause links) outcome)
+    (λ begun. RanOver device state start seals begun outcome)
+linked_as_it_is device state holdings asks_links serve between new start seals outcome fresh
+    linked =
+    subst (λ (s : State VolumeKeys). IsLinked state holdings asks_links serve between new
+    (λ cause links. HandsBack device start.disk (none_came cause links) outcome)
+    (λ begun. RanOver device state s seals begun outcome)) (same_without_work start fresh) linked

@@ -1,6 +1,5 @@
 -- What `serve` did on an encrypted volume.
-use Rattle.std.specs.Prelude.{ℕ, ◌≡◌, ◌⊎◌, false, List, [], take, Option, Some, None}
-use Rattle.std.specs.Prelude.{Result, Ok, Err}
+use Rattle.std.specs.Prelude.{ℕ, ◌≡◌, ◌≢◌, false, List, [], Option, Some, None, Result, Err}
 use Rattle.aes_core.specs.declared.cipher.Aes.{Aes}
 use Rattle.bays.specs.Bays.{FaultCounts, Holdings, LeavesAll}
 use Rattle.bays.specs.declared.bay.BayFault.{BayFault}
@@ -17,6 +16,7 @@ use Rattle.volume_opening.specs.Openings.{IsOpenedBy}
 use Rattle.volume_opening.specs.Refusals.{AreOf, IsUnopenedBy}
 use Rattle.volume_opening.specs.Stops.{StandsAlong}
 use Rattle.volume_opening.specs.declared.refusal.Refusal.{Refusal}
+use Rattle.volume_opening.specs.declared.refusal.Refusal.TheVariants.{InProgress}
 use Rattle.reenc_tool.specs.declared.ended.Failing.TheVariants.{Keying}
 use Rattle.reenc_tool.specs.declared.volume_refusal.VolumeRefusal.TheVariants.{Opening}
 use Rattle.reenc_tool.specs.Linking.{AsksLinks, IsLinked}
@@ -85,14 +85,15 @@ ended_unopened refusal header disk faults = record {
   ends = [];
 }
 
--- No volume was opened, which comes before the links are asked for. The disk is handed back, and so
--- many of its calls failed.
+-- No volume was opened, which comes before the links are asked for; and not for the reason that a
+-- conversion is under way. The disk is handed back, and so many of its calls failed.
 pub record HasNoVolume {B D L : Type 0} (device : D → DiskState) (pass : List ℕ) (disk : D)
     (between new : B) (outcome : Outcome D L) : Type 0 where
   pub stands : new ≡ between
   pub refusal : Refusal
   pub header : Option D
   pub back : D
+  pub other : refusal ≢ InProgress
   pub refused : IsUnopenedBy device disk pass refusal header back
   pub outcome_is : outcome ≡ ended_unopened refusal header back (device back).faults
 
@@ -108,26 +109,3 @@ pub record HasNoKeyFile {B D L : Type 0} (holdings : B → Holdings D) (asks_key
   pub outcome_is : outcome
       ≡ ended_by (none_came (cause_of_fault Keying fault (holdings new).faults) []) (Some disk)
       header
-
--- The bay was asked once for the key file and gave it: the passphrase is all of it, a line feed at
--- its end too, up to 513 bytes, of which no more than 512 are one.
-pub record HasKeyFile {B D L : Type 0} (device : D → DiskState) (state : L → LinkState)
-    (holdings : B → Holdings D) (asks_key : AsksKey B) (asks_links : AsksLinks B L)
-    (serve : Serving) (key_file : List ℕ) (disk : D) (between new : B) (outcome : Outcome D L) :
-    Type 0 where
-  pub pass : List ℕ
-  pub given : B
-  pub asked : asks_key between key_file (Ok pass) given
-  pub whole : (whole : List ℕ) → (holdings between).keyring key_file ≡ Some whole →
-      pass ≡ take 513 whole
-  pub leaves : LeavesAll (holdings between) (holdings given)
-  pub stood : (holdings given).faults ≡ (holdings between).faults
-  pub ended : HasNoVolume device pass disk given new outcome
-      ⊎ HasOpenedVolume device state holdings asks_links serve pass disk given new outcome
-
--- what came of the disk that a bay gave
-abbrev pub ServesVolume : {B D L : Type 0} → (D → DiskState) → (L → LinkState) → (B → Holdings D) →
-    AsksKey B → AsksLinks B L → Serving → List ℕ → D → B → B → Outcome D L → Type 0
-ServesVolume device state holdings asks_key asks_links serve key_file disk between new outcome =
-    HasNoKeyFile holdings asks_key key_file disk None between new outcome
-    ⊎ HasKeyFile device state holdings asks_key asks_links serve key_file disk between new outcome

@@ -1,6 +1,7 @@
 pub mod Asking
 pub mod Encrypted
 pub mod Ending
+pub mod KeyFiles
 pub mod Lanes
 pub mod Linking
 pub mod Making
@@ -8,10 +9,13 @@ pub mod Outcomes
 pub mod Plain
 pub mod Ports
 pub mod Promise
+pub mod Kept
 pub mod Resuming
 pub mod Runs
 pub mod Sessions
 pub mod Showing
 pub mod Starting
 pub mod Status
+pub mod TakenUp
 pub mod Texts
+pub mod Volumes

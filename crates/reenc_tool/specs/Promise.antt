@@ -6,7 +6,8 @@ use Rattle.bays.specs.Stories.{LinkState}
 use Rattle.sector_disk.specs.Devices.{Device as DiskState}
 use Rattle.reenc_tool.specs.declared.ended.Cause.{Cause}
 use Rattle.reenc_tool.specs.declared.ended.Cause.TheVariants.{Usage, Memory}
-use Rattle.reenc_tool.specs.Encrypted.{AsksKey, ServesVolume}
+use Rattle.reenc_tool.specs.Encrypted.{AsksKey}
+use Rattle.reenc_tool.specs.KeyFiles.{ServesVolume}
 use Rattle.reenc_tool.specs.Linking.{AsksLinks}
 use Rattle.reenc_tool.specs.Making.{HasMade}
 use Rattle.reenc_tool.specs.Plain.{ServesPlain}

@@ -5,15 +5,24 @@ use Rattle.std.specs.Fmt.{decimal}
 use Rattle.aes_core.specs.declared.cipher.Aes.{Aes}
 use Rattle.bays.specs.Bays.{Holdings, LeavesAll}
 use Rattle.command_line.specs.Resumes.{Resuming as Words}
+use Rattle.header_report.specs.Examinations.{sizes_alone}
+use Rattle.joined_disk.specs.Joined.{joined_disk}
 use Rattle.resume_disk.specs.Refusals.{IsRefusedBy}
 use Rattle.resume_disk.specs.Resuming.{IsFinishedBy, IsHaltedBy}
 use Rattle.resume_disk.specs.declared.refusal.Refusal.{Refusal}
 use Rattle.reenc_worker.specs.declared.ends.WorkerEnd.{WorkerEnd}
+use Rattle.reenc_worker.specs.declared.ends.WorkerEnd.TheVariants.{Finished}
+use Rattle.resumed_volumes.specs.Openings.{IsKnownBehind}
+use Rattle.resumed_volumes.specs.Runs.{HoldsNew}
+use Rattle.resumed_volumes.specs.Starts.{volume_seals}
 use Rattle.sector_cipher.specs.declared.disk.DiskCipher.{DiskCipher}
 use Rattle.sector_disk.specs.Devices.{Device as DiskState}
+use Rattle.served_conversions.specs.Clients.{StoodFor}
+use Rattle.zone_events.specs.Readings.{reading_of}
 use Rattle.reenc_tool.specs.declared.ended.Cause.TheVariants.{Fine, Memory}
 use Rattle.reenc_tool.specs.declared.volume_refusal.VolumeRefusal.TheVariants.{Resuming}
 use Rattle.reenc_tool.specs.Encrypted.{AsksKey, HasNoKeyFile}
+use Rattle.reenc_tool.specs.Kept.{KeepsRefused, KeepsRun, KnowsKeys}
 use Rattle.reenc_tool.specs.Making.{HasGiven}
 use Rattle.reenc_tool.specs.Outcomes.{AsksDisk, HasNoDisk, Outcome, ended_by, none_came, unserved}
 use Rattle.reenc_tool.specs.Status.{cause_of_end, cause_of_resume}
@@ -24,7 +33,9 @@ finished_line blocks = codes "finished " ++ (decimal blocks ++ (codes " blocks" 
 
 -- ---- the volume
 -- The conversion of the disk's volume was led to its end under the passphrase, and the disk is
--- handed back; so many blocks it has.
+-- handed back; so many blocks it has. Where the disk told its bytes, and they stood for a content, it is
+-- kept wherever this might have stopped; and each block is on the new side, and holds it, where no zone
+-- was open at first, or what is handed back tells its tables.
 pub record IsFinishedOn {D L : Type 0} (device : D → DiskState) (pass : List ℕ) (disk : D)
     (outcome : Outcome D L) (report : Option (List ℕ)) : Type 0 where
   pub sector : DiskCipher Aes → ℕ
@@ -34,11 +45,24 @@ pub record IsFinishedOn {D L : Type 0} (device : D → DiskState) (pass : List �
   pub back : D
   pub blocks : ℕ
   pub finished : IsFinishedBy sector sealed opened device disk pass header back blocks
+  pub known : KnowsKeys (device disk) pass finished.run.resumed.keys
+  pub keeps : (first old_key new_key : List ℕ) (content : List (List ℕ))
+      → StoodFor (sizes_alone (device disk)) finished.run.resumed.keys (device disk) first old_key
+      new_key content
+      → KeepsRun sector sealed opened device disk pass Finished finished.after header back
+      finished.run old_key new_key content
+  pub holds : (first old_key new_key : List ℕ) (content : List (List ℕ))
+      → StoodFor (sizes_alone (device disk)) finished.run.resumed.keys (device disk) first old_key
+      new_key content
+      → IsKnownBehind finished.run.resumed.calls.found.header (joined_disk finished.run.joint)
+      → HoldsNew (reading_of (sizes_alone (device disk)))
+      (volume_seals sealed opened finished.run.volume) finished.run.led.ran.leaves.header
+      finished.after content
   pub outcome_is : outcome ≡ ended_by (none_came Fine []) (Some back) header
   pub report_is : report ≡ Some (finished_line blocks)
 
 -- The volume was opened, and its conversion's worker ended otherwise, which is the cause. The disk is
--- handed back.
+-- handed back. A content for which it stood is kept as well.
 pub record IsHaltedOn {D L : Type 0} (device : D → DiskState) (pass : List ℕ) (disk : D)
     (outcome : Outcome D L) (report : Option (List ℕ)) : Type 0 where
   pub sector : DiskCipher Aes → ℕ
@@ -48,6 +72,12 @@ pub record IsHaltedOn {D L : Type 0} (device : D → DiskState) (pass : List ℕ
   pub back : D
   pub end : WorkerEnd
   pub halted : IsHaltedBy sector sealed opened device disk pass end header back
+  pub known : KnowsKeys (device disk) pass halted.run.resumed.keys
+  pub keeps : (first old_key new_key : List ℕ) (content : List (List ℕ))
+      → StoodFor (sizes_alone (device disk)) halted.run.resumed.keys (device disk) first old_key
+      new_key content
+      → KeepsRun sector sealed opened device disk pass end halted.after header back halted.run
+      old_key new_key content
   pub outcome_is : outcome
       ≡ ended_by (none_came (cause_of_end end (device back).faults) []) (Some back) header
   pub report_is : report ≡ None
@@ -67,7 +97,8 @@ ended_unresumed refusal header disk faults = record {
 }
 
 -- No such volume was opened, for this refusal, and the disk is handed back. Nothing was written on it
--- unless one of its calls failed, or memory was wanted behind an open zone that was written again.
+-- unless one of its calls failed, or memory was wanted once all was written by which it is opened; and a
+-- content for which it stood under the keys that were found is kept.
 pub record IsRefusedOn {D L : Type 0} (device : D → DiskState) (pass : List ℕ) (disk : D)
     (outcome : Outcome D L) (report : Option (List ℕ)) : Type 0 where
   pub sector : DiskCipher Aes → ℕ
@@ -77,6 +108,7 @@ pub record IsRefusedOn {D L : Type 0} (device : D → DiskState) (pass : List �
   pub header : Option D
   pub back : D
   pub refused : IsRefusedBy sector sealed opened device disk pass refusal header back
+  pub keeps : KeepsRefused sector sealed opened device disk pass refusal header back refused
   pub outcome_is : outcome ≡ ended_unresumed refusal header back (device back).faults
   pub report_is : report ≡ None
 

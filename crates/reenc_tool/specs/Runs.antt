@@ -41,7 +41,6 @@ cause_of broken disk_faults failed link_faults memory =
 -- some of the events.
 pub record MayStop (start : State VolumeKeys) (seals : Seals) (blocks : List Block)
     (run : List (Happening VolumeKeys)) (exchanges : List Exchange) : Type 0 where
-  pub covered : StartsCovered start seals blocks
   pub allowed : StopsAlong start seals blocks run exchanges
   pub tables : (now : Told) → (last_of start run).disk.told ≡ Some now → TellsRun start run now
 
@@ -67,7 +66,8 @@ StoodStill {L} state olds news = (k : ℕ) (link : L) → k < length olds →
 
 -- Sessions were served on a volume that began so, over these links, and left its disk so. What the
 -- clients were put are the answers of one plain disk that was asked their operations in one
--- history.
+-- history. Of a volume whose conversion lies idle the start and what follows it are told without what
+-- the conversion takes.
 pub record HasServed {L : Type 0} (state : L → LinkState) (start : State VolumeKeys)
     (seals : Seals) (left : DiskState) (begun : List L) (came : Coming L) : Type 0 where
   pub final : State VolumeKeys
@@ -96,10 +96,12 @@ pub record HasServed {L : Type 0} (state : L → LinkState) (start : State Volum
   -- one history: legal from the blocks of the plain disk that runs start from
   pub history : (blocks : List Block) (bytes : List ℕ) → Starts start seals blocks bytes →
       (now : List Block) × Legal start.map.atom blocks (untagged operations) now
-  -- stops: where each atom was certain, the disk holds what this history allows wherever the run
-  -- stops
+  -- stops: where each image stood for values of these blocks, as where each atom was certain, the disk
+  -- holds what this history allows wherever the run stops
+  pub covered : (blocks : List Block) (bytes : List ℕ) → Starts start seals blocks bytes →
+      TellsSettled start bytes → StartsCovered start seals blocks
   pub stops : (blocks : List Block) (bytes : List ℕ) → Starts start seals blocks bytes →
-      TellsSettled start bytes → MayStop start seals blocks run (untagged operations)
+      StartsCovered start seals blocks → MayStop start seals blocks run (untagged operations)
   -- the cause, with the counts of the disk and of the first link that failed as they are at the
   -- end, and when it may come
   pub cause_is : came.cause ≡ cause_of final.broken final.disk.faults failed faults came.memory

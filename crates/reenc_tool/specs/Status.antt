@@ -128,13 +128,13 @@ cause_of_start (starts.Unmade fault) count = cause_of_making fault
 cause_of_start starts.Writing count = Device Writing count
 
 -- the cause of a command that was given no volume by the header and the keys of a conversion. Where
--- a zone is open another header is to follow, which none does behind the last number; one whose
--- zones are guarded by something else than a journal isn't led on yet.
+-- a zone is open another header is to follow, which takes a number; one whose blocks are shifted isn't
+-- led on yet.
 abbrev pub cause_of_conversion : ConversionCause → ℕ → Cause
 cause_of_conversion (conversions.Opening cause) count = cause_of_volume cause count
 cause_of_conversion conversions.Idle count = WrongState
 cause_of_conversion conversions.NotBuilt count = WrongState
-cause_of_conversion conversions.SeqEnd count = NoFit Seqid (2 ^ 64 - 1) (2 ^ 64 - 2)
+cause_of_conversion (conversions.SeqEnd left wanted) count = NoFit Numbers wanted left
 cause_of_conversion (conversions.JsonFull length limit) count = NoFit Json length limit
 
 -- the cause of a command that opened no volume of which a conversion is under way
@@ -147,9 +147,9 @@ cause_of_resume (resumes.Slots side fault) count = cause_of_slots fault count
 cause_of_resume (resumes.Unopened cause) count = cause_of_conversion cause count
 
 -- what a zone needs, or the end of a conversion, and doesn't have: numbers for the headers that are
--- to follow, of which it isn't told how many there are, or room for their text
+-- to follow, or room for their text
 abbrev pub cause_of_unfit : Unfit → Cause
-cause_of_unfit unfits.SeqEnd = NoFit Numbers 1 0
+cause_of_unfit (unfits.SeqEnd left wanted) = NoFit Numbers wanted left
 cause_of_unfit (unfits.JsonFull length limit) = NoFit Json length limit
 
 -- the cause of a command whose conversion's worker ended so

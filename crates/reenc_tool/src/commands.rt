@@ -111,7 +111,12 @@ fn serve_plain<'w, B: Bay>(
 }
 
 /// Asks the bay for a disk, and serves sessions on it.
-fn serve<'w, B: Bay>(alloc: Global, bay: &mut B, words: &Serve<'_>) -> Ended<'w, B::Disk, B::Link>
+fn serve<'w, R: Threads + Sync, B: Bay>(
+    rt: &R,
+    alloc: Global,
+    bay: &mut B,
+    words: &Serve<'_>,
+) -> Ended<'w, B::Disk, B::Link>
     requires { IsServing (serving words.now) }
     ensures status { result.status ≡ status_of result.cause }
     ensures pass { HasNoPass result.pass result.demo }
@@ -121,7 +126,7 @@ fn serve<'w, B: Bay>(alloc: Global, bay: &mut B, words: &Serve<'_>) -> Ended<'w,
     match bay.disk(alloc, words.disk, words.atom) {
         Ok(disk) => match words.key_file {
             None => serve_plain(alloc, bay, disk, words),
-            Some(key_file) => serve_encrypted(alloc, bay, disk, key_file, words),
+            Some(key_file) => serve_encrypted(rt, alloc, bay, disk, key_file, words),
         },
         Err(fault) => {
             let cause = cause_by(Failing::Opening, fault, bay.faults());
@@ -161,7 +166,7 @@ fn execute<'w, W: Threads + Sync, B: Bay, R: Seeds, G: Gate>(
     match command {
         Command::Format(words) => make(alloc, bay, seeds, &words),
         Command::Init(words) => start(alloc, bay, seeds, &words),
-        Command::Serve(words) => (serve(alloc, bay, &words), None),
+        Command::Serve(words) => (serve(rt, alloc, bay, &words), None),
         Command::Resume(words) => resume(rt, alloc, bay, &words, gate),
         Command::Status(words) => show(alloc, bay, &words),
     }
@@ -172,10 +177,13 @@ fn execute<'w, W: Threads + Sync, B: Bay, R: Seeds, G: Gate>(
 /// blocks`, of `serve` `served S sessions`, of `status` what the header of a disk says, and of one
 /// that is refused `fault N NAME` with the status and the cause. `docs/CLI.md` has the words.
 ///
+/// Before each step of a conversion the gate is told how far it is.
+///
 /// What holds at the end is `Came` of `specs/`, before the text is printed. Where sessions were
 /// served they are sessions of the protocol over the bytes that the links' connections gave, and
 /// their operations are one legal history of a plain disk: the one that was handed in, or the
-/// content that it stands for under the passphrase of the key file. The disk's tables are those of
+/// content that it stands for under the passphrase of the key file, also where a conversion is under
+/// way, which then stays where it is. The disk's tables are those of
 /// the operations' device calls, and wherever the run stops the disk holds what that history
 /// allows. Of a header all lines are told, or why there is none; the disk is read alone. A new
 /// volume is what the words wish, made of 32 bytes that the seeds gave once, and its header and its
@@ -183,13 +191,16 @@ fn execute<'w, W: Threads + Sync, B: Bay, R: Seeds, G: Gate>(
 /// bytes that the seeds gave once: where it was begun, and in each image that a stop leaves from
 /// the first sync on, the disk stands for the content that it stood for under the passphrase. A
 /// conversion that is led to its end was opened under the keys that the passphrase has on both
-/// sides, and led on by steps of the volume's worker alone: at its end every block is new, by a
-/// header that converts nothing. Each cause has its reason. The bay is asked once for the disk, once
+/// sides, where the disk tells its bytes, else under keys of the digests of both; and it was led on
+/// by steps of the volume's worker alone: at its end every block is new, by a header that converts
+/// nothing. Where the disk told its bytes, and they stood for a content under the passphrase, each image
+/// that a stop leaves of the opening or of the worker stands for that content, whatever the conversion
+/// ended with, and at its end each block holds it. Each cause has its reason. The bay is asked once for the disk, once
 /// for the header's and once for a key file, each where the words name one, and for clients once for
 /// the links, and for nothing else. The text changes the cause only where all was fine: to `Output`
 /// where it can't be put and pushed out, to `Memory` where memory is wanted for it. Words that ask
 /// for nothing leave the bay as it was, and those of other commands than `format` and `init` the
-/// seeds. Before each step of a conversion the gate is told how far it is.
+/// seeds.
 pub fn run<'w, W: Threads + Wait + Sync, B: Bay, R: Seeds, O: Sink, G: Gate>(
     rt: &W,
     alloc: Global,

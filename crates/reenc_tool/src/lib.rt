@@ -3,7 +3,8 @@
 //! is the server's promise: what the clients were put are the answers of one plain disk that was
 //! asked their operations one after the other, and each status has its cause. That plain disk is
 //! the disk as it is, or the content that an encrypted volume on it stands for under a passphrase.
-//! A conversion of a volume is begun, and led to its end, while no client is served.
+//! A conversion of a volume is begun, and led to its end, while no client is served; in between clients
+//! may use the volume, while nothing is converted.
 #![tactic(auto)]
 
 mod commands;

@@ -1,9 +1,12 @@
 // `serve` on an encrypted volume.
 
-ghost use Rattle.std.specs.Prelude.{◌≡◌, ◌<◌, ◌≤◌, ◌⊎◌, ℕ, length, slice_index_or};
+ghost use Rattle.std.specs.Prelude.{◌≡◌, ◌<◌, ◌≤◌, ◌⊎◌, ℕ, length, slice_index_or, None, IfErr, IfOk};
 ghost use Rattle.bays.specs.Bays.{LeavesOtherClients};
 ghost use Rattle.command_line.specs.Commands.{IsServing, serving};
-ghost use Rattle.reenc_tool.specs.Encrypted.{HandsBack, RanOver, ServesVolume, ended_unopened};
+ghost use Rattle.reenc_tool.specs.Encrypted.{HandsBack, RanOver, ended_unopened};
+ghost use Rattle.reenc_tool.specs.KeyFiles.{ServesUnder, ServesVolume};
+ghost use Rattle.reenc_tool.specs.Volumes.{IsAnyVolume, IsNoVolume};
+ghost use Rattle.served_conversions.specs.Clients.{without_work};
 ghost use Rattle.luks_store.specs.Devices.{device_of};
 ghost use Rattle.reenc_tool.specs.Linking.{IsLinked};
 ghost use Rattle.reenc_tool.specs.Outcomes.{came_of, none_came, outcome_of};
@@ -16,20 +19,32 @@ ghost use Rattle.volume_machine.specs.Sound.{IsSound};
 
 use crate::commands::{cause_by, unserved};
 use crate::ended::{Cause, Ended, Failing, Sessions};
+use crate::resuming::ended_unresumed;
 use crate::sessions::{LANES, empty_lists, serve_volume};
 use crate::volume_refusal::VolumeRefusal;
 use bays::{Bay, Link};
 use cipher_laws::SectorCipher;
 use command_line::Serve;
 use joined_disk::JoinedDisk;
+use resume_disk::{Refused, take_up_conversion};
 use sector_cipher::Context;
 use sector_disk::Disk;
+use served_conversions::{passphrases_give_keys, taken_volumes_keep_content};
 use std::alloc::Global;
+use std::thread::Threads;
 use volume_core::Volume;
-use volume_opening::{Unopened, open_by_passphrase, opened_volumes_stand_along};
+use volume_opening::{Refusal, Unopened, open_by_passphrase, opened_volumes_stand_along};
 
-/// Asks the bay for the passphrase, opens the volume on a disk under it, and serves sessions there.
-pub fn serve_encrypted<'w, B: Bay>(
+/// Why no volume was opened, of which nothing is being converted, or of which something is.
+enum NoVolume<D: Disk> {
+    Idle(Unopened<D>),
+    Midway(Refused<D>),
+}
+
+/// Asks the bay for the passphrase, opens the volume on a disk under it, and serves sessions there. Where
+/// a conversion is under way it is taken up first, and nothing is converted while sessions are served.
+pub fn serve_encrypted<'w, R: Threads + Sync, B: Bay>(
+    rt: &R,
     alloc: Global,
     bay: &mut B,
     disk: B::Disk,
@@ -44,17 +59,86 @@ pub fn serve_encrypted<'w, B: Bay>(
     ensures ended { ServesVolume B.Disk.device B.Link.state B.holdings B.asks_key B.asks_links
         (serving words.now) key_file.now disk bay.old bay.new (outcome_of result) }
 {
-    opened_volumes_stand_along::<Context>();
-    let pass = match bay.key(alloc, key_file) {
-        Ok(pass) => pass,
+    match bay.key(alloc, key_file) {
+        Ok(pass) => serve_under(rt, alloc, bay, disk, pass.as_slice(), words),
         Err(fault) => {
             let cause = cause_by(Failing::Keying, fault, bay.faults());
-            return unserved(alloc, cause, Some(disk), Vec::new(alloc));
+            unserved(alloc, cause, Some(disk), Vec::new(alloc))
         }
-    };
-    match open_by_passphrase(alloc, disk, pass.as_slice(), LANES) {
+    }
+}
+
+/// The disk of a volume that wasn't opened, in front of which there was none.
+fn only_disk<D: Disk>(unopened: Unopened<D>) -> D
+    requires { unopened.header ≡ None }
+    ensures { result ≡ unopened.disk }
+{
+    let Unopened {
+        header,
+        disk,
+        refusal: _refusal,
+    } = unopened;
+    match header {
+        None => disk,
+        Some(_header) => unreachable!(),
+    }
+}
+
+/// Opens the volume on a disk under a passphrase. Where a conversion of it is under way that is taken
+/// up.
+fn open_volume<R: Threads + Sync, D: Disk>(
+    rt: &R,
+    alloc: Global,
+    disk: D,
+    pass: &[u8],
+) -> Result<Volume<JoinedDisk<D>, Context>, NoVolume<D>>
+    ensures opened { IfOk result (IsAnyVolume ⟦<Context as SectorCipher>⟧.sector
+        ⟦<Context as SectorCipher>⟧.sealed ⟦<Context as SectorCipher>⟧.opened (D.device disk)
+        pass.now) }
+    ensures none { IfErr result (IsNoVolume ⟦<Context as SectorCipher>⟧.sector
+        ⟦<Context as SectorCipher>⟧.sealed ⟦<Context as SectorCipher>⟧.opened D.device disk
+        pass.now) }
+{
+    match open_by_passphrase(alloc, disk, pass, LANES) {
+        Ok(volume) => Ok(volume),
+        Err(unopened) => match &unopened.refusal {
+            Refusal::InProgress => {
+                let disk = only_disk(unopened);
+                match take_up_conversion(rt, alloc, disk, pass, LANES) {
+                    Ok(volume) => Ok(volume),
+                    Err(refused) => Err(NoVolume::Midway(refused)),
+                }
+            }
+            Refusal::Header(_) | Refusal::Passphrase(_) | Refusal::Slots(_) | Refusal::Opening(_) =>
+                Err(NoVolume::Idle(unopened)),
+        },
+    }
+}
+
+/// Opens the volume on a disk under a passphrase, and serves sessions there.
+fn serve_under<'w, R: Threads + Sync, B: Bay>(
+    rt: &R,
+    alloc: Global,
+    bay: &mut B,
+    disk: B::Disk,
+    pass: &[u8],
+    words: &Serve<'_>,
+) -> Ended<'w, B::Disk, B::Link>
+    requires { IsServing (serving words.now) }
+    ensures status { result.status ≡ status_of result.cause }
+    ensures pass { HasNoPass result.pass result.demo }
+    ensures leaves { LeavesOtherClients words.now.address.now (B.holdings bay.old)
+        (B.holdings bay.new) }
+    ensures ended { ServesUnder B.Disk.device B.Link.state B.holdings B.asks_links
+        (serving words.now) pass.now disk bay.old bay.new (outcome_of result) }
+{
+    opened_volumes_stand_along::<Context>();
+    passphrases_give_keys::<Context>();
+    taken_volumes_keep_content::<Context>();
+    match open_volume(rt, alloc, disk, pass) {
         Ok(volume) => serve_opened(alloc, bay, volume, words),
-        Err(unopened) => ended_unopened(alloc, unopened),
+        Err(NoVolume::Idle(unopened)) => ended_unopened(alloc, unopened),
+        Err(NoVolume::Midway(refused)) => ended_unresumed(alloc, refused),
     }
 }
 
@@ -67,8 +151,8 @@ fn serve_opened<'w, B: Bay>(
 ) -> Ended<'w, B::Disk, B::Link>
     requires words { IsServing (serving words.now) }
     requires lanes { 1 < length volume.lanes }
-    requires fresh { IsFresh volume }
-    requires sound { IsSound volume }
+    requires fresh { IsFresh (without_work volume) }
+    requires sound { IsSound (without_work volume) }
     ensures status { result.status ≡ status_of result.cause }
     ensures pass { HasNoPass result.pass result.demo }
     ensures leaves { LeavesOtherClients words.now.address.now (B.holdings bay.old)
@@ -77,7 +161,7 @@ fn serve_opened<'w, B: Bay>(
         bay.new
         (λ cause links. HandsBack B.Disk.device volume.disk (none_came cause links)
         (outcome_of result))
-        (λ begun. RanOver B.Disk.device B.Link.state volume (seals_of
+        (λ begun. RanOver B.Disk.device B.Link.state (without_work volume) (seals_of
         ⟦<Context as SectorCipher>⟧.sealed ⟦<Context as SectorCipher>⟧.opened volume.map.atom
         volume.keys) begun (outcome_of result)) }
 {
@@ -100,15 +184,15 @@ fn serve_joined<'w, D: Disk, L: Link>(
     links: Vec<L>,
 ) -> Ended<'w, D, L>
     requires lanes { 1 < length volume.lanes }
-    requires fresh { IsFresh volume }
-    requires sound { IsSound volume }
+    requires fresh { IsFresh (without_work volume) }
+    requires sound { IsSound (without_work volume) }
     requires some { 0 < length links.items }
     requires few { length links.items ≤ 16 }
     requires bound { (k : ℕ) (link : L) → k < length links.items →
         (L.state (slice_index_or links.items k link)).bound ≤ 65535 }
     ensures status { result.status ≡ status_of result.cause }
     ensures pass { HasNoPass result.pass result.demo }
-    ensures ended { RanOver D.device L.state volume (seals_of ⟦<Context as SectorCipher>⟧.sealed
+    ensures ended { RanOver D.device L.state (without_work volume) (seals_of ⟦<Context as SectorCipher>⟧.sealed
         ⟦<Context as SectorCipher>⟧.opened volume.map.atom volume.keys) links.items
         (outcome_of result)
         ⊎ HandsBack D.device volume.disk (none_came Cause.Memory links.items)

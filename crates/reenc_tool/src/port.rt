@@ -26,6 +26,8 @@ pub trait SharedPort: Port {
         ensures number { number self.new ≡ session }
         ensures none { executed self.old self.new [] };
 
+    ghost always_usable: { (port : Self) → Self.usable port };
+
     ghost executed_none: { (port : Self) → executed port port [] };
 
     ghost executed_more: { (first second third : Self) (xs ys : List Tagged) →
@@ -55,6 +57,8 @@ impl<D: Disk, C: SectorCipher + Copy> Port for VolumePort<D, C> {
 
     ghost is_spent = { λ _. ⊥ };
 
+    ghost usable = { λ _. Unit {0} };
+
     ghost did_none = { λ port. did_none C.sealed C.opened port.session port.volume };
 
     ghost did_more = { λ first second third xs ys. did_joined C.sealed C.opened
@@ -83,6 +87,8 @@ impl<D: Disk, C: SectorCipher + Copy> SharedPort for VolumePort<D, C> {
         history };
 
     ghost number = { λ port. port.session };
+
+    ghost always_usable = { λ port. tt };
 
     ghost executed_none = { λ port. executed_none C.sealed C.opened port.volume };
 

@@ -99,10 +99,15 @@ impl fmt::Display for ConversionText<'_> {
             ConversionCause::NotBuilt => {
                 write!(
                     f,
-                    "a conversion whose zones no journal guards, which is not built yet"
+                    "a conversion whose blocks are shifted, which is not built yet"
                 )
             }
-            ConversionCause::SeqEnd => write!(f, "the header has the last number"),
+            ConversionCause::SeqEnd { left, wanted } => {
+                write!(
+                    f,
+                    "{wanted} headers are to follow, and the header has {left} numbers left"
+                )
+            }
             ConversionCause::JsonFull { length, limit } => {
                 write!(
                     f,

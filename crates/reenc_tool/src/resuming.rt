@@ -19,7 +19,6 @@ ghost use Rattle.reenc_tool.specs.declared.ended.Cause.TheVariants.{Fine};
 
 use crate::commands::{cause_by, unserved};
 use crate::ended::{Cause, Ended, Failing, Fit, Sessions};
-use crate::starting::LAST_FOLLOWED;
 use crate::volume_refusal::VolumeRefusal;
 use bays::Bay;
 use command_line::Resume;
@@ -28,7 +27,13 @@ use io_edge::Gate;
 use itoa::Buffer;
 use reenc_worker::{NoFit, WorkerEnd};
 use resume_disk::{Finished, Halted, Refusal, Refused, Unfinished, resume_conversion};
+use resumed_volumes::{
+    openings_of_conversions_keep_content, resumed_conversions_keep_content,
+    stopped_conversions_may_be_resumed,
+};
+use sector_cipher::Context;
 use sector_disk::Disk;
+use served_conversions::passphrases_give_keys;
 use std::alloc::Global;
 use std::thread::Threads;
 
@@ -45,10 +50,10 @@ impl<'w> Cause<'w> {
         match cause {
             ConversionCause::Opening(cause) => Cause::of_volume(cause, faults),
             ConversionCause::Idle | ConversionCause::NotBuilt => Cause::WrongState,
-            ConversionCause::SeqEnd => Cause::NoFit {
-                what: Fit::Seqid,
-                number: u64::MAX,
-                limit: LAST_FOLLOWED,
+            ConversionCause::SeqEnd { left, wanted } => Cause::NoFit {
+                what: Fit::Numbers,
+                number: *wanted,
+                limit: *left,
             },
             ConversionCause::JsonFull { length, limit } => Cause::NoFit {
                 what: Fit::Json,
@@ -76,10 +81,10 @@ impl<'w> Cause<'w> {
         ensures { result ≡ cause_of_unfit unfit }
     {
         match unfit {
-            NoFit::SeqEnd => Cause::NoFit {
+            NoFit::SeqEnd { left, wanted } => Cause::NoFit {
                 what: Fit::Numbers,
-                number: 1,
-                limit: 0,
+                number: wanted,
+                limit: left,
             },
             NoFit::JsonFull { length, limit } => Cause::NoFit {
                 what: Fit::Json,
@@ -142,7 +147,7 @@ fn finished_line(room: String, blocks: u64) -> String
 }
 
 /// Ends a command that opened no volume of which a conversion is under way, and says why.
-fn ended_unresumed<'w, D: Disk, L>(alloc: Global, refused: Refused<D>) -> Ended<'w, D, L>
+pub fn ended_unresumed<'w, D: Disk, L>(alloc: Global, refused: Refused<D>) -> Ended<'w, D, L>
     ensures status { result.status ≡ status_of result.cause }
     ensures pass { HasNoPass result.pass result.demo }
     ensures outcome { outcome_of result ≡ ended_unresumed refused.refusal refused.header
@@ -193,8 +198,7 @@ fn ended_finished<'w, D: Disk, L>(alloc: Global, header: Option<D>, disk: D) -> 
 
 /// Leads the conversion of a disk's volume to its end under a passphrase; and what is said of it, for
 /// which room is taken before the first device call, so that no memory is wanted behind a conversion
-/// that is done.
-#[tactic(auto, using(crate::proofs::ResumingLemmas::is_finished, crate::proofs::ResumingLemmas::is_halted, crate::proofs::ResumingLemmas::is_refused))]
+/// that is done. What the disk stood for is kept, at the end and wherever this stops.
 fn resume_on<'w, R: Threads + Sync, D: Disk, L, G: Gate>(
     rt: &R,
     alloc: Global,
@@ -207,6 +211,10 @@ fn resume_on<'w, R: Threads + Sync, D: Disk, L, G: Gate>(
     ensures resumed { ComesToResume D.device pass.now disk (outcome_of result.0)
         (option_map (λ text. string_bytes text) result.1) }
 {
+    passphrases_give_keys::<Context>();
+    openings_of_conversions_keep_content::<Context>();
+    resumed_conversions_keep_content::<Context>();
+    stopped_conversions_may_be_resumed::<Context>();
     let Ok(room) = String::with_capacity(alloc, LONGEST_LINE) else {
         return (
             unserved(alloc, Cause::Memory, Some(disk), Vec::new(alloc)),

@@ -3,6 +3,7 @@
 ghost use Rattle.std.specs.Prelude.{◌≡◌, ◌<◌, ◌≤◌, ℕ, [], length, slice_index_or, IfOk};
 ghost use Rattle.reenc_tool.specs.Outcomes.{came_of};
 ghost use Rattle.reenc_tool.specs.Runs.{HasServed, cause_of};
+ghost use Rattle.served_conversions.specs.Clients.{without_work};
 ghost use Rattle.volume_machine.specs.Beginnings.{IsFresh};
 ghost use Rattle.volume_machine.specs.Seals.{seals_of};
 ghost use Rattle.volume_machine.specs.Sound.{IsSound};
@@ -16,6 +17,7 @@ use cipher_laws::SectorCipher;
 use nbd_session::SessionEnd;
 use sector_cipher::Context;
 use sector_disk::Disk;
+use served_conversions::clients_leave_work_alone;
 use std::alloc::{AllocError, Global};
 use volume_core::{Progress, Volume};
 use volume_laws::{
@@ -29,7 +31,8 @@ use volume_laws::{
 pub const LANES: u32 = 2;
 
 /// Serves sessions over links on a volume that has just begun, and hands its disk and the links
-/// back. Each link's sessions' ends go to a list of its own, which is empty before.
+/// back. What its conversion takes, where it has that, lies idle meanwhile. Each link's sessions' ends
+/// go to a list of its own, which is empty before.
 pub fn serve_volume<'w, D: Disk, L: Link>(
     alloc: Global,
     volume: Volume<D, Context>,
@@ -37,8 +40,8 @@ pub fn serve_volume<'w, D: Disk, L: Link>(
     mut ends: Vec<Vec<SessionEnd>>,
 ) -> (D, Sessions<'w, L>)
     requires lanes { 1 < length volume.lanes }
-    requires fresh { IsFresh volume }
-    requires sound { IsSound volume }
+    requires fresh { IsFresh (without_work volume) }
+    requires sound { IsSound (without_work volume) }
     requires some { 0 < length links.items }
     requires few { length links.items ≤ 16 }
     requires bound { (k : ℕ) (link : L) → k < length links.items →
@@ -46,13 +49,14 @@ pub fn serve_volume<'w, D: Disk, L: Link>(
     requires lists { length ends.items ≡ length links.items }
     requires empty { (k : ℕ) (list : _) → k < length links.items →
         (slice_index_or ends.items k list).items ≡ [] }
-    ensures served { HasServed L.state volume (seals_of ⟦<Context as SectorCipher>⟧.sealed
+    ensures served { HasServed L.state (without_work volume) (seals_of ⟦<Context as SectorCipher>⟧.sealed
         ⟦<Context as SectorCipher>⟧.opened volume.map.atom volume.keys) (D.device result.0)
         links.items (came_of result.1) }
     ensures size { (D.device result.0).size ≡ volume.map.atom }
 {
     let _keys = volume.keys();
     keys_seal_lawfully::<Context>();
+    clients_leave_work_alone::<Context>();
     every_run_is_served::<Context>();
     executions_join::<Context>();
     failures_go_by_events::<Context>();

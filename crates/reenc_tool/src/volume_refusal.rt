@@ -8,6 +8,6 @@ use volume_opening::Refusal as OpeningRefusal;
 pub enum VolumeRefusal {
     /// One of which nothing is being converted, which is served, or begins to be converted.
     Opening(OpeningRefusal),
-    /// One of which a conversion is under way, which was to be led to its end.
+    /// One of which a conversion is under way, which was to be led to its end, or is served.
     Resuming(ResumeRefusal),
 }

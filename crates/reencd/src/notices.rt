@@ -67,7 +67,7 @@ fn explain_fit(errors: Stderr, what: Fit, number: u64, limit: u64) {
             "reencd: the header's number is {number}, which no other follows"
         ),
         Fit::Numbers => eprintln!(errors;
-            "reencd: the header has fewer numbers left than there are headers to follow"
+            "reencd: {number} headers are to follow, and the header has {limit} numbers left"
         ),
         Fit::Events => eprintln!(errors; "reencd: the conversion has more steps than {limit}"),
         Fit::Blocks => eprintln!(errors; "reencd: the disk has no room for a block"),

@@ -1,6 +1,15 @@
 use Rattle.std.proofs.Common.{◌∙◌, inl}
-use Rattle.reenc_tool.proofs.RunLemmas.{plain_certain, plain_volume, tells_start}
+use Rattle.reenc_tool.proofs.RunLemmas.{fresh_as_it_is, plain_certain, plain_volume}
+use Rattle.reenc_tool.proofs.RunLemmas.{served_as_it_is, sound_as_it_is, tells_start}
 use Rattle.reenc_tool.proofs.commands.serve_disk.Goals as goal
+
+pub serve_volume-disk-requires-clause-fresh : goal.serve_volume-disk-requires-clause-fresh
+serve_volume-disk-requires-clause-fresh g c =
+    fresh_as_it_is c.in-Ok-plain.volume c.in-Ok-plain.ensures.fresh
+
+pub serve_volume-disk-requires-clause-sound : goal.serve_volume-disk-requires-clause-sound
+serve_volume-disk-requires-clause-sound g c =
+    sound_as_it_is c.in-Ok-plain.volume c.in-Ok-plain.ensures.fresh c.in-Ok-plain.ensures.sound
 
 pub returns-in-Ok-plain-clause-ended : goal.returns-in-Ok-plain-clause-ended
 returns-in-Ok-plain-clause-ended g c =
@@ -16,7 +25,7 @@ returns-in-Ok-plain-clause-ended g c =
       agrees = λ told is. g.met.D.Disk.agrees c.args.disk told is;
       even = λ told is. g.met.D.Disk.even c.args.disk told is;
     }) in
-    let served = c.serve_volume-disk.ensures.served in
+    let served = served_as_it_is _ start _ _ _ _ made.fresh c.serve_volume-disk.ensures.served in
     inl (record {
       start = start;
       seals = _;

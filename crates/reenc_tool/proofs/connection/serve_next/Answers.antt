@@ -6,6 +6,10 @@ use Rattle.reenc_tool.proofs.AskingLemmas.{goes_none, goes_one, sessions_none, s
 use Rattle.reenc_tool.proofs.AskingLemmas.{tagged_of-none, tagged_of-one}
 use Rattle.reenc_tool.proofs.connection.serve_next.Goals as goal
 
+pub serve_session-end-requires : goal.serve_session-end-requires
+serve_session-end-requires g c =
+    record { usable = g.met.P.SharedPort.always_usable c.begin.new.self }
+
 pub returns-then-is_err : goal.returns-then-is_err
 returns-then-is_err g c = λ k. (
   [],

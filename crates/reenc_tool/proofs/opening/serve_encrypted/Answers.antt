@@ -1,33 +1,24 @@
-use Rattle.std.proofs.Common.{ap, ◌∙◌, inl, inr, Some, []}
+use Rattle.std.proofs.Common.{ap, ◌∙◌, inl, inr, subst, Some, []}
+use Rattle.command_line.specs.Commands.{serving}
 use Rattle.reenc_tool.specs.declared.ended.Failing.TheVariants.{Keying}
-use Rattle.reenc_tool.specs.Outcomes.{cause_of_fault, unserved}
-use Rattle.reenc_tool.proofs.RunLemmas.{opened_under, unserved_of}
+use Rattle.reenc_tool.specs.KeyFiles.{ServesUnder}
+use Rattle.reenc_tool.specs.Outcomes.{cause_of_fault, outcome_of, unserved}
+use Rattle.reenc_tool.proofs.RunLemmas.{unserved_of}
 use Rattle.reenc_tool.proofs.opening.serve_encrypted.Goals as goal
 
-pub returns-in-Ok-open_by_passphrase-clause-ended :
-    goal.returns-in-Ok-open_by_passphrase-clause-ended
-returns-in-Ok-open_by_passphrase-clause-ended g c =
-    let disk = g.B.Disk.Disk.device c.args.disk in
-    let volume = opened_under _ _ _ disk _ _ 2 c.in-Ok-open_by_passphrase.volume
-    c.as_slice.ensures c.in-Ok-open_by_passphrase.ensures.opened in
-    inr (record {
-      pass = c.in-Ok.pass;
-      given = c.key.new.self;
-      asked = c.in-Ok.ensures.asked;
-      whole = c.in-Ok.ensures.told;
-      leaves = c.in-Ok.ensures.leaves;
-      stood = c.in-Ok.ensures.cause;
-      ended = inr (record {
-        sector = _;
-        sealed = _;
-        opened = _;
-        start = c.in-Ok-open_by_passphrase.volume;
-        volume = volume;
-        stands = λ first told run is_run. c.opened_volumes_stand_along.ensures disk c.in-Ok.pass
-            first 2 c.in-Ok-open_by_passphrase.volume run volume told is_run;
-        linked = c.serve_opened.ensures.linked;
-      });
-    })
+pub returns-in-Ok-clause-ended : goal.returns-in-Ok-clause-ended
+returns-in-Ok-clause-ended g c = inr (record {
+  pass = c.in-Ok.pass;
+  given = c.key.new.self;
+  asked = c.in-Ok.ensures.asked;
+  whole = c.in-Ok.ensures.told;
+  leaves = c.in-Ok.ensures.leaves;
+  stood = c.in-Ok.ensures.cause;
+  ended = subst (λ pass. ServesUnder g.B.Disk.Disk.device g.B.Link.Link.state g.B.Bay.holdings
+      g.B.Bay.asks_links (serving c.args.words.now) pass c.args.disk c.key.new.self
+      c.serve_under.new.bay (outcome_of c.serve_under.result)) c.as_slice.ensures
+      c.serve_under.ensures.ended;
+})
 
 pub returns-in-Err-clause-ended : goal.returns-in-Err-clause-ended
 returns-in-Err-clause-ended g c = inl (record {

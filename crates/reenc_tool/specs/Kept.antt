@@ -1,0 +1,89 @@
+-- What a conversion that is led on keeps of what its disk stood for.
+use Rattle.std.specs.Prelude.{ℕ, ◌≡◌, ◌++◌, List, Option, Some, Ok}
+use Rattle.base_terms.specs.Blocks.{joined}
+use Rattle.conversion_opening.specs.declared.fault.ConversionCause.{ConversionCause}
+use Rattle.disk_sizes.specs.declared.Sizes.{Sizes}
+use Rattle.header_report.specs.Examinations.{sizes_alone}
+use Rattle.joined_disk.specs.Joined.{Joint, joined_disk}
+use Rattle.luks_store.specs.Devices.{front_of}
+use Rattle.luks_store.specs.Loads.{stored_in}
+use Rattle.luks_store.specs.declared.loaded.Stored.{Stored}
+use Rattle.open_zones.specs.Images.{ImageStandsFor}
+use Rattle.reenc_recovery.specs.declared.keys.SideKeys.{SideKeys}
+use Rattle.reenc_worker.specs.declared.ends.WorkerEnd.{WorkerEnd}
+use Rattle.resume_disk.specs.Refusals.{IsRefusedBy, IsUnopenedUnder}
+use Rattle.resume_disk.specs.Resuming.{HasRun}
+use Rattle.resume_disk.specs.declared.refusal.Refusal.{Refusal}
+use Rattle.resume_disk.specs.declared.refusal.Refusal.TheVariants as refusals
+use Rattle.resumed_volumes.specs.Chaining.{StandsAgain}
+use Rattle.resumed_volumes.specs.Keeping.{KeepsContent}
+use Rattle.resumed_volumes.specs.Openings.{KeepsUnopened}
+use Rattle.resumed_volumes.specs.Resuming.{both_of}
+use Rattle.resumed_volumes.specs.Runs.{StandsAlone}
+use Rattle.resumed_volumes.specs.Starts.{volume_seals}
+use Rattle.sector_disk.specs.Devices.{Device as DiskState}
+use Rattle.sector_disk.specs.Steps.{Told}
+use Rattle.served_conversions.specs.Clients.{StoodFor}
+use Rattle.volume_laws.specs.Handing.{handed_over}
+use Rattle.volume_laws.specs.Imaging.{IsTaken}
+use Rattle.volume_machine.specs.Deeds.{Deed, state_after}
+use Rattle.volume_machine.specs.States.{State}
+use Rattle.volume_machine.specs.declared.keys.Keys.{Keys}
+use Rattle.volume_opening.specs.Openings.{alone}
+use Rattle.zone_events.specs.Heads.{header_on}
+use Rattle.zone_events.specs.Readings.{reading_of}
+
+-- ---- the keys
+-- The content for which the disk stood under the passphrase is one for which it stood under the keys that
+-- were found for the sides of its conversion.
+abbrev pub KnowsKeys : DiskState → List ℕ → SideKeys → Type 0
+KnowsKeys device pass keys = (first : List ℕ) (content : List (List ℕ)) → device.values ≡ Some first
+    → ImageStandsFor (sizes_alone device) pass first content
+    → (old_key new_key : List ℕ)
+    × StoodFor (sizes_alone device) keys device first old_key new_key content
+
+-- ---- a conversion that was led on
+-- Since the first sync of the opening each image of each table stands for the content. Wherever the worker
+-- stops, each image in which no copy of the header is torn or hidden stands for it too, by the metadata of
+-- its own header and under the same keys: so the next call goes on from there, or finds the conversion at
+-- its end.
+pub record KeepsRun {C D : Type 0} (sector : C → ℕ) (sealed opened : C → ℕ → List ℕ → List ℕ)
+    (device : D → DiskState) (disk : D) (pass : List ℕ) (end : WorkerEnd) (after : State (Keys C))
+    (header : Option D) (back : D)
+    (run : HasRun sector sealed opened device disk pass end after header back)
+    (old_key new_key : List ℕ) (content : List (List ℕ)) : Type 0 where
+  pub since : KeepsContent (sizes_alone (device disk)) run.resumed.calls.found.header
+      run.resumed.calls.led.last old_key new_key content (joined_disk (alone run.resumed.read))
+      run.resumed.calls.led.mended run.volume.disk
+  pub stops : (earlier later : List (Deed (Keys C))) → run.led.ran.worked.deeds ≡ earlier ++ later
+      → (told : Told) → (state_after run.volume earlier).disk.told ≡ Some told
+      → StandsAlone (reading_of (sizes_alone (device disk))) (state_after run.volume earlier)
+      (volume_seals sealed opened run.volume) content
+      (handed_over run.volume (both_of (header_on run.resumed.calls.led.last)) earlier) told.now
+  pub again : (earlier later : List (Deed (Keys C))) → run.led.ran.worked.deeds ≡ earlier ++ later
+      → (told : Told) → (state_after run.volume earlier).disk.told ≡ Some told
+      → (image : List (List ℕ))
+      → IsTaken (reading_of (sizes_alone (device disk))) (state_after run.volume earlier)
+      (handed_over run.volume (both_of (header_on run.resumed.calls.led.last)) earlier) told.now
+      image
+      → StandsAgain (sizes_alone (device disk)) old_key new_key (joined image) content
+
+-- ---- a conversion that wasn't
+-- Of an opening that made no volume each image of each table since its first sync stands for the content.
+abbrev pub KeepsVain : {C : Type 0} {sector : C → ℕ} {sealed opened : C → ℕ → List ℕ → List ℕ}
+    {device : DiskState} {pass : List ℕ} {cause : ConversionCause} {joint : Joint}
+    → IsUnopenedUnder sector sealed opened device pass cause joint → Type 0
+KeepsVain {C} {sector} {sealed} {opened} {device} {pass} {cause} {joint} under =
+    (first old_key new_key : List ℕ) (content : List (List ℕ)) (header : Stored)
+    → StoodFor (sizes_alone device) under.keys device first old_key new_key content
+    → stored_in (sizes_alone device) (front_of (sizes_alone device) first) ≡ Ok header
+    → KeepsUnopened header old_key new_key content under.unopened.1
+
+-- else the disk was only read
+abbrev pub KeepsRefused : {C D : Type 0} (sector : C → ℕ)
+    (sealed opened : C → ℕ → List ℕ → List ℕ) (device : D → DiskState) (disk : D) (pass : List ℕ)
+    (refusal : Refusal) (header : Option D) (back : D)
+    → IsRefusedBy sector sealed opened device disk pass refusal header back → Type 0
+KeepsRefused sector sealed opened device disk pass (refusals.Unopened cause) header back refused =
+    KeepsVain refused.2
+KeepsRefused sector sealed opened device disk pass refusal header back refused = Unit {0}
