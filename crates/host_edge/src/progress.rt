@@ -1,9 +1,9 @@
 // What people are told of a conversion on its way.
 
 use io_edge::{Converted, Gate, Place};
-use std::cell::Cell;
 use std::fmt::{self, Display, Formatter, Write};
 use std::io::{IsTerminal, Stderr};
+use std::sync::Mutex;
 use std::time::{Clock, Duration, Instant};
 
 /// The bytes of a mebibyte.
@@ -11,13 +11,14 @@ const MEBIBYTE: u128 = 1_048_576;
 
 /// A gate that holds nobody, and says on standard error how far a conversion is, how fast it goes
 /// and how long it takes at that speed: once a second where that is a terminal, else at every tenth
-/// part, and when the last block is new. Where the clock can't be read it says nothing.
+/// part, and when the last block is new. Where the clock can't be read, or another thread is telling
+/// just then, it says nothing.
 #[derive(Drop)]
 pub struct ProgressGate<R: Clock + Drop> {
     clock: R,
     errors: Stderr,
     is_terminal: bool,
-    told: Cell<Option<Told>>,
+    told: Mutex<Option<Told>>,
 }
 
 /// How far a conversion was when it was first told of, and when it was last spoken of, if it was.
@@ -37,7 +38,7 @@ impl<R: Clock + Drop> ProgressGate<R> {
             clock,
             errors,
             is_terminal: errors.is_terminal(),
-            told: Cell::new(None),
+            told: Mutex::new(None),
         }
     }
 
@@ -49,6 +50,34 @@ impl<R: Clock + Drop> ProgressGate<R> {
             eprintln!(self.errors; "reencd: {course}")
         };
     }
+
+    /// What was told, once it is so far. It is spoken of where that is due.
+    fn heard(&self, told: Option<Told>, now: Instant, converted: Converted) -> Told {
+        let Some(told) = told else {
+            return Told {
+                start: now,
+                at_start: converted.done,
+                last: now,
+                at_last: converted.done,
+                was_told: false,
+            };
+        };
+        if !told.is_due(now, converted, self.is_terminal) {
+            return told;
+        }
+        let course = Course {
+            converted,
+            moved: converted.done.saturating_sub(told.at_start),
+            elapsed: now.duration_since(told.start),
+        };
+        self.say(&course, told.was_told);
+        Told {
+            last: now,
+            at_last: converted.done,
+            was_told: true,
+            ..told
+        }
+    }
 }
 
 impl<R: Clock + Drop> Gate for ProgressGate<R> {
@@ -58,29 +87,8 @@ impl<R: Clock + Drop> Gate for ProgressGate<R> {
         let Ok(now) = Instant::now(&self.clock) else {
             return;
         };
-        let Some(told) = self.told.get() else {
-            self.told.set(Some(Told {
-                start: now,
-                at_start: converted.done,
-                last: now,
-                at_last: converted.done,
-                was_told: false,
-            }));
-            return;
-        };
-        if told.is_due(now, converted, self.is_terminal) {
-            let course = Course {
-                converted,
-                moved: converted.done.saturating_sub(told.at_start),
-                elapsed: now.duration_since(told.start),
-            };
-            self.say(&course, told.was_told);
-            self.told.set(Some(Told {
-                last: now,
-                at_last: converted.done,
-                was_told: true,
-                ..told
-            }));
+        if let Some(mut told) = self.told.try_lock() {
+            *told = Some(self.heard(*told, now, converted));
         }
     }
 }
