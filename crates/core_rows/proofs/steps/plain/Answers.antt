@@ -7,8 +7,7 @@ use Rattle.sector_cipher.proofs.disk.DiskCipher.TheSendSync as cipher
 use Rattle.sector_cipher.specs.contracts.disk.DiskCipherSectorCipher.TheImpl as cipher_laws
 use Rattle.sector_disk.proofs.mem_disk.MemDisk.TheSendSync as disk
 use Rattle.sector_disk.specs.contracts.mem_disk.MemDiskDisk.TheImpl as disk_laws
-use Rattle.core_rows.proofs.SendLemmas.{volume_send}
-use Rattle.core_rows.proofs.SyncLemmas.{volume_sync}
+use Rattle.sent_volumes.proofs.Volumes.{volume_send, volume_sync}
 use Rattle.core_rows.proofs.steps.plain.Goals as goal
 
 pub can_be_sent-requires-send-T : goal.can_be_sent-requires-send-T

@@ -1,2 +1,0 @@
-mod SendLemmas
-mod SyncLemmas
