@@ -1,5 +1,5 @@
 -- What a volume may answer a lane is what the lane's plan may be told.
-use Rattle.std.proofs.Common.{◌≡◌, ◌≢◌, inl, inr, ℕ, Bool, true, false, Option}
+use Rattle.std.proofs.Common.{◌≡◌, ◌≢◌, ◌*◌, inl, inr, ℕ, Bool, true, false, Option}
 use Rattle.std.proofs.Common.{Some, None, MatchOption, MatchBool, refl, sym, ◌∙◌, ap, subst, arith}
 use Rattle.std.proofs.lemmas.Bool.{MatchBool-at_false, MatchBool-at_true}
 use Rattle.std.proofs.lemmas.Grind.{common_steps}
@@ -118,14 +118,24 @@ module _ {K : Type 0} (start : State K) (plan : Plan) (session : ℕ) (ask : Ask
     (first : first_call plan ≡ Calls.Admit session ask) (number : ℕ) (alone : Alone)
     (atom : start.map.atom ≡ (shape_of plan).atom)
     (blocks : start.map.blocks ≡ (shape_of plan).blocks) where
-  -- a grant in a state of this map is one for the plan
-  granted : (old : State K) (grant : Grant) → old.map ≡ start.map
+  -- a grant in a state of so many blocks of this size is one for the plan
+  granted : (old : State K) (grant : Grant) → old.map.atom ≡ start.map.atom
+      → old.map.blocks ≡ start.map.blocks
       → IsGrant old (range_of old.map.atom ask) grant → IsGrantFor plan grant
-  granted old grant same told =
-      let at : old.map.atom ≡ (shape_of plan).atom = ap (λ (m : Map). m.atom) same ∙ atom in
+  granted old grant same_atom same_blocks told =
+      let at : old.map.atom ≡ (shape_of plan).atom = same_atom ∙ atom in
       grant-for plan grant session ask first (ap (λ (m : Map). m.atom) told.map ∙ at)
-      (ap (λ (m : Map). m.blocks) (told.map ∙ same) ∙ blocks)
+      (ap (λ (m : Map). m.blocks) told.map ∙ same_blocks ∙ blocks)
       (told.range_is ∙ ap (λ a. range_of a ask) at)
+
+  -- what isn't wrong there isn't wrong at the start
+  still-proper : (old : State K) → old.map.atom ≡ start.map.atom
+      → old.map.blocks ≡ start.map.blocks
+      → wrong_ask old.map.atom (size_of old.map) ask ≡ None
+      → wrong_ask start.map.atom (size_of start.map) ask ≡ None
+  still-proper old same_atom same_blocks proper =
+      subst (λ a. wrong_ask a (start.map.blocks * a) ask ≡ None) same_atom
+      (subst (λ b. wrong_ask old.map.atom (b * old.map.atom) ask ≡ None) same_blocks proper)
 
   -- the admit of a plan that will be refused only where its operation is wrong
   pub may-admit : (answer : Answer)
@@ -135,14 +145,14 @@ module _ {K : Type 0} (start : State K) (plan : Plan) (session : ℕ) (ask : Ask
   may-admit (Answers.Held grant) refuses may =
       let (proper, is) = admitted-held may.old may.new number session ask grant may.step in (
         λ will. refuses will
-            (subst (λ (m : Map). wrong_ask m.atom (size_of m) ask ≡ None) may.map_is proper),
-        granted may.old grant may.map_is
+            (still-proper may.old may.atom may.blocks proper),
+        granted may.old grant may.atom may.blocks
             (grant-told may.old may.new number session ask grant is),
       )
   may-admit (Answers.Waiting other) refuses may =
       let (proper, is) = admitted-waiting may.old may.new number session other ask may.step in (
         λ will. refuses will
-            (subst (λ (m : Map). wrong_ask m.atom (size_of m) ask ≡ None) may.map_is proper),
+            (still-proper may.old may.atom may.blocks proper),
         locks-waiting may.old may.new number session other ask is,
       )
   may-admit (Answers.Refused n) refuses may =
@@ -159,8 +169,8 @@ module _ {K : Type 0} (start : State K) (plan : Plan) (session : ℕ) (ask : Ask
       → MayBeAnswered start number alone Calls.Ask answer → MayAnswer plan Calls.Ask answer
   may-ask (Answers.Held grant) is may =
       let at : (shape_of plan).atom ≡ may.old.map.atom =
-      sym (ap (λ (m : Map). m.atom) may.map_is ∙ atom) in
-      granted may.old grant may.map_is (subst
+      sym (may.atom ∙ atom) in
+      granted may.old grant may.atom may.blocks (subst
       (λ a. IsGrant may.old (range_of a ask) grant) at
       (asked-held may.old may.new number _ grant (may.operation ∙ is) may.step))
   may-ask (Answers.Waiting other) is may = tt

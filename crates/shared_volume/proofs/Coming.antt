@@ -18,11 +18,10 @@ use Rattle.shared_volume.specs.Calling.{HasFront}
 use Rattle.shared_volume.specs.Executing.{IsAt}
 use Rattle.shared_volume.specs.Histories.{alone_by}
 use Rattle.shared_volume.specs.Lanes.{Answers, HasAnswered, Knowing, MayBeAnswered}
-use Rattle.shared_volume.specs.Lanes.{lane_call, seals_at}
+use Rattle.shared_volume.specs.Lanes.{answered_call, seals_at}
 use Rattle.shared_volume.proofs.Answering.{may-ask, may-make}
 use Rattle.shared_volume.proofs.OwnCalls.{alone-more, answered-joined, answered-one}
 use Rattle.shared_volume.proofs.Turning.{only-start}
-use Rattle.volume_cell.specs.Histories.{call}
 use Rattle.volume_machine.specs.Alone.{Alone, MeetsAlone, alone_after, answered_alone}
 use Rattle.volume_machine.specs.Answers.{Answered, AreTagged, IsExchange, Tagged}
 use Rattle.volume_machine.specs.Seals.{Seals}
@@ -88,7 +87,7 @@ module _ {C : Type 0} (sealed opened : C → ℕ → List ℕ → List ℕ) (lim
     (plan : Plan) (session : ℕ) (op : Op) (first v w : Knowing C) (called : Call) (answer : Answer)
     (start : State (Keys C)) (first_is : first.start ≡ Some start) (v_is : v.start ≡ Some start)
     (w_is : w.start ≡ Some start) (silent : Answers sealed opened first v [])
-    (calls : w.calls ≡ v.calls ++ call (lane_call number called) answer ∷ [])
+    (calls : w.calls ≡ v.calls ++ answered_call number called answer ∷ [])
     (session_is : session_of plan ≡ session) (shape_is : shape_of plan ≡ shape) where
   abbrev pub seals : Seals
   seals = seals_at sealed opened start
@@ -100,7 +99,7 @@ module _ {C : Type 0} (sealed opened : C → ℕ → List ℕ → List ℕ) (lim
   after : alone_by seals start w.calls
       ≡ alone_after start.map.atom seals before (event_of number called) (outcome_of answer)
   after = ap (alone_by seals start) calls
-      ∙ alone-more seals start v.calls (call (lane_call number called) answer)
+      ∙ alone-more seals start v.calls number called answer
 
   answered-by : (history : List Tagged)
       → AreTagged (answered_alone before (event_of number called) (outcome_of answer)) history
@@ -111,7 +110,7 @@ module _ {C : Type 0} (sealed opened : C → ℕ → List ℕ → List ℕ) (lim
       (answered-joined seals start first.calls v.calls w.calls [] history (silent start first_is)
       (subst (λ cs. HasAnswered seals start v.calls cs history)
       (sym calls)
-      (answered-one seals start v.calls (call (lane_call number called) answer) history are)))
+      (answered-one seals start v.calls number called answer history are)))
 
   -- what follows is a call or the reply
   pub comes : (next : Next)

@@ -14,13 +14,12 @@ use Rattle.shared_volume.specs.Calling.{HasFront}
 use Rattle.shared_volume.specs.Executing.{IsAt, IsOnTheWay, IsPlanFor}
 use Rattle.shared_volume.specs.Histories.{alone_by}
 use Rattle.shared_volume.specs.Lanes.{Answers, HasAnswered, IsAtRest, IsLaneOf, IsOn, Knowing}
-use Rattle.shared_volume.specs.Lanes.{IsCalled, MayBeAnswered, StandsSo, lane_call, seals_at}
+use Rattle.shared_volume.specs.Lanes.{IsCalled, MayBeAnswered, StandsSo, answered_call, seals_at}
 use Rattle.shared_volume.specs.declared.calling.Called.TheVariants.{Answered}
 use Rattle.shared_volume.proofs.Answering.{may-admit}
 use Rattle.shared_volume.proofs.Coming.{comes, has-front, may-answer}
 use Rattle.shared_volume.proofs.OwnCalls.{answered-none}
 use Rattle.shared_volume.proofs.Turning.{some-and}
-use Rattle.volume_cell.specs.Histories.{call}
 use Rattle.volume_cell.specs.Passes.{IsSamePass}
 use Rattle.volume_machine.specs.Alone.{MeetsAlone, alone_after, answered_alone}
 use Rattle.volume_machine.specs.Asks.{wrong_ask}
@@ -151,7 +150,7 @@ module _ {C : Type 0} (sector : C → ℕ) (sealed opened : C → ℕ → List �
   goes-on : (limit session : ℕ) (old new : Plan) (op : Op) (first w : Knowing C) (called : Call)
       (answer : Answer) (next : Next) → v.start ≡ first.start → w.start ≡ v.start
       → Answers sealed opened first v []
-      → w.calls ≡ v.calls ++ call (lane_call number called) answer ∷ []
+      → w.calls ≡ v.calls ++ answered_call number called answer ∷ []
       → shape_of old ≡ shape → session_of old ≡ session → shape_of new ≡ shape_of old
       → session_of new ≡ session_of old
       → StandsSo sealed opened v (λ s alone. Awaits (seals_at sealed opened s) old op alone called)

@@ -1,4 +1,5 @@
 pub mod Entries
+pub mod Beginning
 pub mod Standing
 pub mod Stood
 pub mod OwnCalls
@@ -8,3 +9,6 @@ pub mod Coming
 pub mod Going
 pub mod Left
 pub mod Serving
+pub mod WorkerTurns
+pub mod LastWorks
+pub mod Ending

@@ -1,12 +1,14 @@
 -- Own calls of a lane, one behind the other.
-use Rattle.std.proofs.Common.{◌≡◌, ℕ, List, [], ◌∷◌, ◌++◌, map, refl, sym, ap, ◌∙◌, subst}
+use Rattle.std.proofs.Common.{◌≡◌, ℕ, List, [], ◌∷◌, ◌++◌, refl, sym, ap, ◌∙◌, subst}
 use Rattle.std.proofs.Common.{append_assoc, append-nil}
-use Rattle.std.proofs.lemmas.List.{map-append}
-use Rattle.lane_plan.specs.Calls.{outcome_of}
+use Rattle.lane_plan.specs.Calls.{event_of, outcome_of}
+use Rattle.lane_plan.specs.declared.calls.Call as Plans
 use Rattle.lane_plan.specs.declared.calls.Answer.{Answer}
-use Rattle.shared_volume.specs.Histories.{alone_by, event_by, own_call}
-use Rattle.shared_volume.specs.Lanes.{HasAnswered}
-use Rattle.shared_volume.specs.declared.calling.LaneCall.{LaneCall}
+use Rattle.shared_volume.specs.Histories.{alone_by, own_calls}
+use Rattle.shared_volume.proofs.Entries.{own-append}
+use Rattle.shared_volume.specs.Lanes.{HasAnswered, answered_call}
+use Rattle.shared_volume.specs.declared.asking.SharedEvent.{SharedEvent}
+use Rattle.shared_volume.specs.declared.asking.SharedOutcome.{SharedOutcome}
 use Rattle.volume_cell.specs.declared.history.Call.{Call}
 use Rattle.volume_machine.specs.Alone as Own
 use Rattle.volume_machine.specs.Alone.{Alone, alone_after, alone_of, answered_alone, answers_of}
@@ -45,50 +47,52 @@ tagged-joined (x ∷ xs) ys (tagged ∷ first) rest (is, session, are_first) are
 
 module _ {K : Type 0} (seals : Seals) (start : State K) where
   -- the lane after one more call, and after many
-  pub alone-more : (calls : List (Call LaneCall Answer)) (one : Call LaneCall Answer)
-      → alone_by seals start (calls ++ one ∷ [])
-      ≡ alone_after start.map.atom seals (alone_by seals start calls) (event_by one.event)
-      (outcome_of one.outcome)
-  unfolding alone_of
-  alone-more calls one =
+  pub alone-more : (calls : List (Call SharedEvent SharedOutcome)) (number : ℕ)
+      (called : Plans.Call) (answer : Answer)
+      → alone_by seals start (calls ++ answered_call number called answer ∷ [])
+      ≡ alone_after start.map.atom seals (alone_by seals start calls) (event_of number called)
+      (outcome_of answer)
+  unfolding alone_of own_calls
+  alone-more calls number called answer =
       ap (λ (cs : List Own.Call). alone_of start.map.atom seals idle_lane cs)
-      (map-append own_call calls (one ∷ []))
-      ∙ alone-joined start.map.atom seals idle_lane (map own_call calls) (own_call one ∷ [])
+      (own-append calls (answered_call number called answer ∷ []))
+      ∙ alone-joined start.map.atom seals idle_lane (own_calls calls)
+      (own_calls (answered_call number called answer ∷ []))
 
-  alone-many : (calls more : List (Call LaneCall Answer))
+  alone-many : (calls more : List (Call SharedEvent SharedOutcome))
       → alone_by seals start (calls ++ more)
-      ≡ alone_of start.map.atom seals (alone_by seals start calls) (map own_call more)
+      ≡ alone_of start.map.atom seals (alone_by seals start calls) (own_calls more)
   alone-many calls more =
       ap (λ (cs : List Own.Call). alone_of start.map.atom seals idle_lane cs)
-      (map-append own_call calls more)
-      ∙ alone-joined start.map.atom seals idle_lane (map own_call calls) (map own_call more)
+      (own-append calls more)
+      ∙ alone-joined start.map.atom seals idle_lane (own_calls calls) (own_calls more)
 
   -- where no call was made nothing was answered
-  pub answered-none : (calls : List (Call LaneCall Answer))
+  pub answered-none : (calls : List (Call SharedEvent SharedOutcome))
       → HasAnswered seals start calls calls []
-  unfolding answers_of AreTagged
+  unfolding answers_of AreTagged own_calls
   answered-none calls = record { more = []; is = sym (append-nil calls); answered = tt }
 
   -- first some and then others
-  pub answered-joined : (old mid new : List (Call LaneCall Answer)) (first rest : List Tagged)
+  pub answered-joined : (old mid new : List (Call SharedEvent SharedOutcome)) (first rest : List Tagged)
       → HasAnswered seals start old mid first → HasAnswered seals start mid new rest
       → HasAnswered seals start old new (first ++ rest)
   answered-joined old mid new first rest one two =
-      let all : map own_call (one.more ++ two.more)
-      ≡ map own_call one.more ++ map own_call two.more =
-      map-append own_call one.more two.more in
+      let all : own_calls (one.more ++ two.more)
+      ≡ own_calls one.more ++ own_calls two.more =
+      own-append one.more two.more in
       let behind : alone_by seals start mid
-      ≡ alone_of start.map.atom seals (alone_by seals start old) (map own_call one.more) =
+      ≡ alone_of start.map.atom seals (alone_by seals start old) (own_calls one.more) =
       ap (alone_by seals start) one.is ∙ alone-many old one.more in
       let answers : answers_of start.map.atom seals (alone_by seals start old)
-      (map own_call (one.more ++ two.more))
-      ≡ answers_of start.map.atom seals (alone_by seals start old) (map own_call one.more)
-      ++ answers_of start.map.atom seals (alone_by seals start mid) (map own_call two.more) =
+      (own_calls (one.more ++ two.more))
+      ≡ answers_of start.map.atom seals (alone_by seals start old) (own_calls one.more)
+      ++ answers_of start.map.atom seals (alone_by seals start mid) (own_calls two.more) =
       ap (answers_of start.map.atom seals (alone_by seals start old)) all
-      ∙ (answers-joined start.map.atom seals (alone_by seals start old) (map own_call one.more)
-      (map own_call two.more)
+      ∙ (answers-joined start.map.atom seals (alone_by seals start old) (own_calls one.more)
+      (own_calls two.more)
       ∙ ap (λ (a : Alone). answers_of start.map.atom seals (alone_by seals start old)
-      (map own_call one.more) ++ answers_of start.map.atom seals a (map own_call two.more))
+      (own_calls one.more) ++ answers_of start.map.atom seals a (own_calls two.more))
       (sym behind)) in
       record {
         more = one.more ++ two.more;
@@ -98,16 +102,16 @@ module _ {K : Type 0} (seals : Seals) (start : State K) where
       }
 
   -- one call, by what it answered
-  pub answered-one : (calls : List (Call LaneCall Answer)) (one : Call LaneCall Answer)
-      (history : List Tagged)
-      → AreTagged (answered_alone (alone_by seals start calls) (event_by one.event)
-      (outcome_of one.outcome)) history
-      → HasAnswered seals start calls (calls ++ one ∷ []) history
-  unfolding answers_of
-  answered-one calls one history are = record {
-    more = one ∷ [];
+  pub answered-one : (calls : List (Call SharedEvent SharedOutcome)) (number : ℕ)
+      (called : Plans.Call) (answer : Answer) (history : List Tagged)
+      → AreTagged (answered_alone (alone_by seals start calls) (event_of number called)
+      (outcome_of answer)) history
+      → HasAnswered seals start calls (calls ++ answered_call number called answer ∷ []) history
+  unfolding answers_of own_calls
+  answered-one calls number called answer history are = record {
+    more = answered_call number called answer ∷ [];
     is = refl;
     answered = subst (λ (l : List Answered). AreTagged l history)
-        (sym (append-nil (answered_alone (alone_by seals start calls) (event_by one.event)
-        (outcome_of one.outcome)))) are;
+        (sym (append-nil (answered_alone (alone_by seals start calls) (event_of number called)
+        (outcome_of answer)))) are;
   }

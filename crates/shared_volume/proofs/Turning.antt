@@ -7,9 +7,11 @@ use Rattle.lane_plan.specs.declared.calls.Call as Plans
 use Rattle.lane_plan.specs.Plans.{IsShape}
 use Rattle.lane_plan.specs.declared.plan.Shape.{Shape}
 use Rattle.shared_volume.specs.Calling.{HasFront}
-use Rattle.shared_volume.specs.Histories.{Fits, StandsFor, alone_by}
+use Rattle.shared_volume.specs.Histories.{FitsLane, StandsFor, alone_by, own_calls}
 use Rattle.shared_volume.specs.Lanes.{IsAtRest, IsLaneOf, IsOn, Knowing, MayBeAnswered, StandsSo}
 use Rattle.shared_volume.specs.Lanes.{lane_call, seals_at}
+use Rattle.shared_volume.specs.declared.asking.SharedEvent.TheVariants as Events
+use Rattle.shared_volume.specs.declared.asking.SharedOutcome.TheVariants as Outcomes
 use Rattle.shared_volume.proofs.Stood.{same-front, stood-answers}
 use Rattle.volume_cell.proofs.Names.{calls_of-append, names-same}
 use Rattle.volume_cell.specs.declared.history.Call.{Call}
@@ -47,7 +49,7 @@ module _ {C : Type 0} (sector : C → ℕ) (sealed opened : C → ℕ → List �
   pub fits-of : (called : Plans.Call)
       → StandsSo sealed opened v (λ start alone. MeetsAlone alone (event_of number called))
       → HasFront called → (start : State (Keys C)) → v.start ≡ Some start
-      → Fits (seals_at sealed opened start) start v.name v.calls (lane_call number called)
+      → FitsLane (seals_at sealed opened start) start v.name v.calls (lane_call number called)
   fits-of called meets front start is =
       let (s, at, on) = some-and v.start (IsOn sector number keys shape) lane.start in record {
         lane = lane.name;
@@ -106,7 +108,7 @@ lane-of-split {C} sector v w number keys shape name next on is = record {
 -- a lane that has made no call has no operation
 pub rests-first : {C : Type 0} (sealed opened : C → ℕ → List ℕ → List ℕ) (v w : Knowing C)
     → w ≡ split_off v → IsAtRest sealed opened w
-unfolding alone_of
+unfolding alone_of own_calls
 rests-first {C} sealed opened v w is = λ start at.
     ap (λ (u : Knowing C). (alone_by (seals_at sealed opened start) start u.calls).operation) is
 
@@ -126,17 +128,19 @@ own-front {E} {O} n event outcome found calls is =
 -- the answer is one that the volume may give
 pub may-be-answered : {C : Type 0} (sealed opened : C → ℕ → List ℕ → List ℕ) (limit number : ℕ)
     (called : Plans.Call) (answer : Answer) (v w : Knowing C) (start now : State (Keys C))
-    → v.name ≡ number ∷ [] → IsSamePass v w → IsAnswered limit v w (lane_call number called) answer
+    → v.name ≡ number ∷ [] → IsSamePass v w
+    → IsAnswered limit v w (Events.Client (lane_call number called)) (Outcomes.Client answer)
     → calls_of w.name w.history ≡ w.calls → w.start ≡ Some start
     → StandsFor (seals_at sealed opened start) start now w.history
     → StandsSo sealed opened v (λ s alone. MayBeAnswered s number alone called answer)
 may-be-answered {C} sealed opened limit number called answer v w start now name same answered own
     start_is stands =
-    let event = lane_call number called in
-    let last : w.history ≡ answered.found ++ entry (number ∷ []) event answer ∷ [] =
-    answered.last ∙ ap (λ n. answered.found ++ entry n event answer ∷ []) name in
+    let event = Events.Client (lane_call number called) in
+    let outcome = Outcomes.Client answer in
+    let last : w.history ≡ answered.found ++ entry (number ∷ []) event outcome ∷ [] =
+    answered.last ∙ ap (λ n. answered.found ++ entry n event outcome ∷ []) name in
     let mine : calls_of (number ∷ []) answered.found ≡ v.calls =
-    own-front (number ∷ []) event answer answered.found v.calls
+    own-front (number ∷ []) event outcome answered.found v.calls
     (ap (λ h. calls_of (number ∷ []) h) (sym last)
     ∙ (ap (λ n. calls_of n w.history) (sym (same.name ∙ name)) ∙ (own ∙ answered.calls))) in
     only-start

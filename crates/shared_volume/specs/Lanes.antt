@@ -1,5 +1,5 @@
 -- Lanes of a volume that threads share, each by what its pass knows.
-use Rattle.std.specs.Prelude.{ℕ, suc, ◌≡◌, ◌<◌, List, [], ◌∷◌, ◌++◌, length, map, IsSomeAnd}
+use Rattle.std.specs.Prelude.{ℕ, suc, ◌≡◌, ◌<◌, List, [], ◌∷◌, ◌++◌, length, IsSomeAnd}
 use Rattle.std.specs.Prelude.{Some, None}
 use Rattle.lane_plan.specs.Calls.{event_of, outcome_of}
 use Rattle.lane_plan.specs.Plans.{IsShape}
@@ -7,7 +7,11 @@ use Rattle.lane_plan.specs.declared.calls.Answer.{Answer}
 use Rattle.lane_plan.specs.declared.calls.Call as Plans
 use Rattle.lane_plan.specs.declared.plan.Shape.{Shape}
 use Rattle.shared_volume.specs.Calling.{IsAnswerOf}
-use Rattle.shared_volume.specs.Histories.{alone_by, own_call}
+use Rattle.shared_volume.specs.Histories.{alone_by, own_calls}
+use Rattle.shared_volume.specs.declared.asking.SharedEvent.{SharedEvent}
+use Rattle.shared_volume.specs.declared.asking.SharedEvent.TheVariants as Events
+use Rattle.shared_volume.specs.declared.asking.SharedOutcome.{SharedOutcome}
+use Rattle.shared_volume.specs.declared.asking.SharedOutcome.TheVariants as Outcomes
 use Rattle.shared_volume.specs.declared.calling.Called.{Called}
 use Rattle.shared_volume.specs.declared.calling.Called.TheVariants.{Answered, Spent}
 use Rattle.shared_volume.specs.declared.calling.LaneCall.{LaneCall}
@@ -23,11 +27,16 @@ use Rattle.volume_machine.specs.declared.keys.Keys.{Keys}
 
 -- what the asker of a lane knows of a volume with such keys
 abbrev pub Knowing : Type 0 → Type 0
-Knowing C = Knowledge (State (Keys C)) LaneCall Answer
+Knowing C = Knowledge (State (Keys C)) SharedEvent SharedOutcome
 
 -- a call on the lane of this number
 abbrev pub lane_call : ℕ → Plans.Call → LaneCall
 lane_call number called = record { lane = number; call = called }
+
+-- and with its answer
+abbrev pub answered_call : ℕ → Plans.Call → Answer → Call SharedEvent SharedOutcome
+answered_call number called answer =
+    call (Events.Client (lane_call number called)) (Outcomes.Client answer)
 
 -- the lane of this number is one of clients of a volume that began with this shape and these keys
 pub record IsOn {C : Type 0} (sector : C → ℕ) (number : ℕ) (keys : Keys C) (shape : Shape)
@@ -53,18 +62,19 @@ pub record MayBeAnswered {K : Type 0} (start : State K) (number : ℕ) (alone : 
     (called : Plans.Call) (answer : Answer) : Type 0 where
   pub old : State K
   pub new : State K
-  pub map_is : old.map ≡ start.map
+  pub atom : old.map.atom ≡ start.map.atom
+  pub blocks : old.map.blocks ≡ start.map.blocks
   pub operation : open_at old.lanes number ≡ alone.operation
   pub step : Step old (event_of number called) (outcome_of answer) new
   pub answers : IsAnswerOf called answer
 
 -- by some own calls these operations were answered on a lane, each of its session
 pub record HasAnswered {K : Type 0} (seals : Seals) (start : State K)
-    (old new : List (Call LaneCall Answer)) (history : List Tagged) : Type 0 where
-  pub more : List (Call LaneCall Answer)
+    (old new : List (Call SharedEvent SharedOutcome)) (history : List Tagged) : Type 0 where
+  pub more : List (Call SharedEvent SharedOutcome)
   pub is : new ≡ old ++ more
   pub answered : AreTagged
-      (answers_of start.map.atom seals (alone_by seals start old) (map own_call more)) history
+      (answers_of start.map.atom seals (alone_by seals start old) (own_calls more)) history
 
 module _ {C : Type 0} (sealed opened : C → ℕ → List ℕ → List ℕ) where
   -- the seals of a volume that began so
@@ -89,6 +99,6 @@ module _ {C : Type 0} (sealed opened : C → ℕ → List ℕ → List ℕ) wher
   -- has as many entries as the cell can take.
   abbrev pub IsCalled : ℕ → ℕ → Plans.Call → Knowing C → Knowing C → Called → Type 0
   IsCalled limit number called v w (Answered answer) =
-      (w.calls ≡ v.calls ++ call (lane_call number called) answer ∷ [])
+      (w.calls ≡ v.calls ++ answered_call number called answer ∷ [])
       × StandsSo v (λ start alone. MayBeAnswered start number alone called answer)
   IsCalled limit number called v w Spent = (w.calls ≡ v.calls) × (length w.history ≡ limit)

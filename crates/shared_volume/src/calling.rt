@@ -9,7 +9,7 @@ use lane_plan::{Answer, Call};
 use sector_disk::Disk;
 use volume_core::{Admitted, Asked, PieceRead, PieceWritten, Settled, Volume};
 
-/// A call of a lane, by the lane's number: an event of a volume that threads share.
+/// A call of a lane of clients, by the lane's number.
 #[derive(Debug, Drop)]
 pub struct LaneCall {
     pub lane: u32,

@@ -1,6 +1,7 @@
 // Operations executed on a lane, from their plan to their reply.
 
 ghost use Rattle.std.specs.Prelude.{◌≡◌, [], IfOk, OnErr};
+ghost use Rattle.shared_volume.specs.Ciphers.{opened, sealed, sector_of};
 ghost use Rattle.shared_volume.specs.Lanes.{IsAtRest, IsLaneOf};
 ghost use Rattle.volume_cell.specs.Passes.{IsPassOf, IsSamePass, known};
 
@@ -9,7 +10,6 @@ use crate::lane::Lane;
 use crate::machine::SharedVolume;
 use crate::sharing::SharedCell;
 use base_terms::{Buffer, Bytes};
-use cipher_laws::SectorCipher;
 use io_edge::{Gate, Place};
 use lane_plan::{Call, Next, Plan};
 use plain_disk::{Op, Reply};
@@ -30,7 +30,7 @@ pub enum Executed {
     Spent,
 }
 
-impl<D: Disk, C: SectorCipher + Copy> Lane<D, C> {
+impl<D: Disk> Lane<D> {
     ghost use Rattle.std.specs.Prelude.{ℕ, ◌≡◌, ◌*◌, None, OnErr};
     ghost use Rattle.lane_plan.specs.Calls.{ask_of};
     ghost use Rattle.lane_plan.specs.Plans.{HasRoom, IsBegun};
@@ -63,7 +63,7 @@ impl<D: Disk, C: SectorCipher + Copy> Lane<D, C> {
         &mut self,
         rt: &R,
         alloc: Global,
-        shared: &SharedCell<D, C>,
+        shared: &SharedCell<D>,
         gate: &G,
         session: u64,
         op: Op,
@@ -71,14 +71,14 @@ impl<D: Disk, C: SectorCipher + Copy> Lane<D, C> {
         part: &mut Buffer,
     ) -> Result<Executed, AllocError>
         requires pass { IsPassOf shared.now.cell self.old.pass }
-        requires lane { IsLaneOf C.sector (known self.old.pass) self.old.number self.old.keys
+        requires lane { IsLaneOf sector_of (known self.old.pass) self.old.number self.old.keys
             self.old.shape }
-        requires rests { IsAtRest C.sealed C.opened (known self.old.pass) }
+        requires rests { IsAtRest sealed opened (known self.old.pass) }
         ensures pass { IsPassOf shared.now.cell self.new.pass }
-        ensures lane { IsLaneOf C.sector (known self.new.pass) self.new.number self.new.keys
+        ensures lane { IsLaneOf sector_of (known self.new.pass) self.new.number self.new.keys
             self.new.shape }
         ensures same { IsSamePass (known self.old.pass) (known self.new.pass) }
-        ensures executed { IfOk result (IsExecuted C.sealed C.opened shared.now.cell.limit session op
+        ensures executed { IfOk result (IsExecuted sealed opened shared.now.cell.limit session op
             (known self.old.pass) (known self.new.pass)) }
         ensures err { OnErr result (self.new ≡ self.old) }
         ensures gone { OnErr result (part.new ≡ []) }
@@ -98,18 +98,18 @@ impl<D: Disk, C: SectorCipher + Copy> Lane<D, C> {
     fn carry_out<R: Threads + Wait + Sync, G: Gate>(
         &mut self,
         rt: &R,
-        shared: &SharedCell<D, C>,
+        shared: &SharedCell<D>,
         gate: &G,
         plan: &mut Plan,
     ) -> Executed
         requires pass { IsPassOf shared.now.cell self.old.pass }
-        requires lane { IsLaneOf C.sector (known self.old.pass) self.old.number self.old.keys
+        requires lane { IsLaneOf sector_of (known self.old.pass) self.old.number self.old.keys
             self.old.shape }
-        requires rests { IsAtRest C.sealed C.opened (known self.old.pass) }
+        requires rests { IsAtRest sealed opened (known self.old.pass) }
         requires plan { (session : ℕ) × (op : Op)
             × IsPlanFor self.old.shape plan.old session op }
         ensures pass { IsPassOf shared.now.cell self.new.pass }
-        ensures lane { IsLaneOf C.sector (known self.new.pass) self.new.number self.new.keys
+        ensures lane { IsLaneOf sector_of (known self.new.pass) self.new.number self.new.keys
             self.new.shape }
         ensures same { IsSamePass (known self.old.pass) (known self.new.pass) }
         ensures number { self.new.number ≡ self.old.number }
@@ -117,7 +117,7 @@ impl<D: Disk, C: SectorCipher + Copy> Lane<D, C> {
         ensures shape { self.new.shape ≡ self.old.shape }
         ensures executed { (session : ℕ) (op : Op) →
             IsPlanFor self.old.shape plan.old session op →
-            IsExecuted C.sealed C.opened shared.now.cell.limit session op
+            IsExecuted sealed opened shared.now.cell.limit session op
             (known self.old.pass) (known self.new.pass) result }
     {
         let mut seen = shared.departures.count();
@@ -140,17 +140,17 @@ impl<D: Disk, C: SectorCipher + Copy> Lane<D, C> {
     fn begin<R: Threads + Wait + Sync>(
         &mut self,
         rt: &R,
-        cell: &Cell<SharedVolume<D, C>>,
+        cell: &Cell<SharedVolume<D>>,
         plan: &mut Plan,
     ) -> Option<Next>
         requires pass { IsPassOf cell.now self.old.pass }
-        requires lane { IsLaneOf C.sector (known self.old.pass) self.old.number self.old.keys
+        requires lane { IsLaneOf sector_of (known self.old.pass) self.old.number self.old.keys
             self.old.shape }
-        requires rests { IsAtRest C.sealed C.opened (known self.old.pass) }
+        requires rests { IsAtRest sealed opened (known self.old.pass) }
         requires plan { (session : ℕ) × (op : Op)
             × IsPlanFor self.old.shape plan.old session op }
         ensures pass { IsPassOf cell.now self.new.pass }
-        ensures lane { IsLaneOf C.sector (known self.new.pass) self.new.number self.new.keys
+        ensures lane { IsLaneOf sector_of (known self.new.pass) self.new.number self.new.keys
             self.new.shape }
         ensures same { IsSamePass (known self.old.pass) (known self.new.pass) }
         ensures number { self.new.number ≡ self.old.number }
@@ -158,7 +158,7 @@ impl<D: Disk, C: SectorCipher + Copy> Lane<D, C> {
         ensures shape { self.new.shape ≡ self.old.shape }
         ensures at { (session : ℕ) (op : Op) →
             IsPlanFor self.old.shape plan.old session op →
-            IsAt C.sealed C.opened cell.now.limit self.old.number self.old.shape plan.new session op
+            IsAt sealed opened cell.now.limit self.old.number self.old.shape plan.new session op
             (known self.old.pass) (known self.new.pass) result }
     {
         match self.turn(rt, cell, plan.first()) {
@@ -172,28 +172,28 @@ impl<D: Disk, C: SectorCipher + Copy> Lane<D, C> {
     fn step<R: Threads + Wait + Sync>(
         &mut self,
         rt: &R,
-        cell: &Cell<SharedVolume<D, C>>,
+        cell: &Cell<SharedVolume<D>>,
         plan: &mut Plan,
         call: Call,
     ) -> Option<Next>
         requires pass { IsPassOf cell.now self.old.pass }
-        requires lane { IsLaneOf C.sector (known self.old.pass) self.old.number self.old.keys
+        requires lane { IsLaneOf sector_of (known self.old.pass) self.old.number self.old.keys
             self.old.shape }
-        requires way { (first : Knowing C) × (session : ℕ) × (op : Op)
-            × IsOnTheWay C.sealed C.opened self.old.number self.old.shape plan.old session op first
+        requires way { (first : Knowing _) × (session : ℕ) × (op : Op)
+            × IsOnTheWay sealed opened self.old.number self.old.shape plan.old session op first
             (known self.old.pass) call }
         requires begun { IsBegun call }
         ensures pass { IsPassOf cell.now self.new.pass }
-        ensures lane { IsLaneOf C.sector (known self.new.pass) self.new.number self.new.keys
+        ensures lane { IsLaneOf sector_of (known self.new.pass) self.new.number self.new.keys
             self.new.shape }
         ensures same { IsSamePass (known self.old.pass) (known self.new.pass) }
         ensures number { self.new.number ≡ self.old.number }
         ensures keys { self.new.keys ≡ self.old.keys }
         ensures shape { self.new.shape ≡ self.old.shape }
-        ensures at { (first : Knowing C) (session : ℕ) (op : Op) →
-            IsOnTheWay C.sealed C.opened self.old.number self.old.shape plan.old session op first
+        ensures at { (first : Knowing _) (session : ℕ) (op : Op) →
+            IsOnTheWay sealed opened self.old.number self.old.shape plan.old session op first
             (known self.old.pass) call →
-            IsAt C.sealed C.opened cell.now.limit self.old.number self.old.shape plan.new session op
+            IsAt sealed opened cell.now.limit self.old.number self.old.shape plan.new session op
             first (known self.new.pass) result }
     {
         match self.turn(rt, cell, call) {
@@ -205,9 +205,9 @@ impl<D: Disk, C: SectorCipher + Copy> Lane<D, C> {
 
 /// Before an operation asks again for its blocks: waits until blocks were left oftener than was
 /// seen before its last ask. Tells how often they were left by then.
-fn wait<R: Wait, D: Disk, C: SectorCipher + Copy, G: Gate>(
+fn wait<R: Wait, D: Disk, G: Gate>(
     rt: &R,
-    shared: &SharedCell<D, C>,
+    shared: &SharedCell<D>,
     gate: &G,
     call: &Call,
     seen: u64,

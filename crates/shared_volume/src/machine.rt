@@ -1,72 +1,117 @@
 // A volume as the machine of a cell.
 
-ghost use Rattle.std.specs.Prelude.{◌≡◌, []};
-ghost use Rattle.shared_volume.specs.Histories.{StandsFor};
-ghost use Rattle.volume_machine.specs.Beginnings.{IsFresh};
+ghost use Rattle.std.specs.Prelude.{◌≡◌, [], IsSome};
+ghost use Rattle.disk_sizes.specs.declared.Sizes.{Sizes};
+ghost use Rattle.shared_volume.specs.Ciphers.{opened, sealed};
+ghost use Rattle.shared_volume.specs.Histories.{MayBeShared, StandsFor};
+ghost use Rattle.volume_core.specs.Zones.{IsReadBy, worked_of};
 ghost use Rattle.volume_machine.specs.Seals.{seals_of};
-ghost use Rattle.volume_machine.specs.Sound.{IsSound};
+ghost use Rattle.volume_machine.specs.WorkSteps.{WorkStep};
+ghost use Rattle.volume_worker.specs.Telling.{converted_in};
+ghost use Rattle.zone_events.specs.Readings.{reading_of};
 
+use crate::asking::{SharedEvent, SharedOutcome, WorkDone};
 use crate::calling::{LaneCall, make_call};
-use cipher_laws::SectorCipher;
-use lane_plan::Answer;
+use sector_cipher::Context;
 use sector_disk::Disk;
+use std::alloc::Global;
 use std::snapshot::Snapshot;
 use std::sync::Wait;
 use std::thread::Threads;
 use volume_cell::Machine;
 use volume_core::Volume;
+use volume_worker::converted_of;
 
-/// A volume, and for the proofs alone what it was when it was handed in.
+/// A volume, and for the proofs alone what it was when it was handed in. The steps of its worker
+/// take memory where this says.
 #[derive(Drop)]
-pub struct SharedVolume<D: Disk, C: SectorCipher + Copy> {
-    volume: Volume<D, C>,
-    opening: Snapshot<Volume<D, C>>,
+pub struct SharedVolume<D: Disk> {
+    volume: Volume<D, Context>,
+    opening: Snapshot<Volume<D, Context>>,
+    alloc: Global,
 }
 
-impl<D: Disk, C: SectorCipher + Copy> SharedVolume<D, C> {
-    /// The machine of a volume on which nothing was done yet.
-    pub fn of(volume: Volume<D, C>) -> SharedVolume<D, C>
-        requires fresh { IsFresh volume }
-        requires sound { IsSound volume }
+impl<D: Disk> SharedVolume<D> {
+    /// The machine of a volume on which no operation is under way.
+    pub fn of(alloc: Global, volume: Volume<D, Context>) -> SharedVolume<D>
+        requires { MayBeShared volume }
         ensures opening { result.opening.value ≡ volume }
         ensures volume { result.volume ≡ volume }
-        ensures stands { StandsFor (seals_of C.sealed C.opened result.opening.value.map.atom
+        ensures stands { StandsFor (seals_of sealed opened result.opening.value.map.atom
             result.opening.value.keys) result.opening.value result.volume [] }
     {
         let opening = Snapshot::of(&volume);
-        SharedVolume { volume, opening }
+        SharedVolume {
+            volume,
+            opening,
+            alloc,
+        }
     }
 
     /// The volume.
-    pub fn into_volume(self) -> Volume<D, C>
+    pub fn into_volume(self) -> Volume<D, Context>
         ensures { result ≡ self.volume }
     {
-        let SharedVolume { volume, opening } = self;
+        let SharedVolume {
+            volume,
+            opening,
+            alloc: _,
+        } = self;
         drop(opening);
         volume
     }
 }
 
-impl<D: Disk, C: SectorCipher + Copy> Machine for SharedVolume<D, C> {
+impl<D: Disk> Machine for SharedVolume<D> {
     ghost use Rattle.shared_volume.specs.Histories.{Fits};
 
-    type Event = LaneCall;
+    type Event = SharedEvent;
 
-    type Outcome = Answer;
+    type Outcome = SharedOutcome;
 
-    type Start = Volume<D, C>;
+    type Start = Volume<D, Context>;
 
     ghost start = { λ machine. machine.opening.value };
 
     ghost stands_for = { λ machine history.
-        StandsFor (seals_of C.sealed C.opened machine.opening.value.map.atom
+        StandsFor (seals_of sealed opened machine.opening.value.map.atom
         machine.opening.value.keys) machine.opening.value machine.volume history };
 
     ghost fits = { λ start name calls event.
-        Fits (seals_of C.sealed C.opened start.map.atom start.keys) start name calls event };
+        Fits (seals_of sealed opened start.map.atom start.keys) start name calls event };
 
-    fn act<R: Threads + Wait + Sync>(&mut self, _rt: &R, event: LaneCall) -> Answer {
-        let LaneCall { lane, call } = event;
-        make_call(&mut self.volume, lane, call)
+    fn act<R: Threads + Wait + Sync>(&mut self, rt: &R, event: SharedEvent) -> SharedOutcome {
+        match event {
+            SharedEvent::Client(LaneCall { lane, call }) => {
+                SharedOutcome::Client(make_call(&mut self.volume, lane, call))
+            }
+            SharedEvent::Worker(lane) => {
+                SharedOutcome::Worker(make_step(rt, self.alloc, &mut self.volume, lane))
+            }
+        }
+    }
+}
+
+/// Makes the next step of a volume's worker, whose lane has this number.
+fn make_step<R: Threads + Wait + Sync, D: Disk>(
+    rt: &R,
+    alloc: Global,
+    volume: &mut Volume<D, Context>,
+    lane: u32,
+) -> WorkDone
+    requires armed { IsSome volume.old.work }
+    ensures step { (sizes : Sizes) → IsReadBy sizes volume.old → WorkStep (reading_of sizes)
+        (seals_of sealed opened volume.old.map.atom volume.old.keys) volume.old volume.new
+        (worked_of result.worked) }
+    ensures read { (sizes : Sizes) → IsReadBy sizes volume.old → IsReadBy sizes volume.new }
+    ensures armed { IsSome volume.new.work }
+    ensures converted { result.converted ≡ converted_in volume.new.map }
+{
+    let had = volume.operation(lane).is_some();
+    let worked = volume.work(rt, alloc);
+    WorkDone {
+        worked,
+        converted: converted_of(volume),
+        has_left: had && volume.operation(lane).is_none(),
     }
 }

@@ -3,6 +3,7 @@ ghost use Rattle.std.specs.Prelude.{◌≡◌, ℕ, List, [], ◌∷◌, ◌++�
 ghost use Rattle.volume_cell.specs.Histories.{entry, calls_of};
 ghost use Rattle.volume_cell.specs.declared.history.Entry.{Entry};
 ghost use Rattle.volume_cell.specs.declared.history.Call.{Call};
+ghost use denote.Param.Send.{IsSync};
 
 use std::sync::Wait;
 use std::thread::Threads;
@@ -26,9 +27,10 @@ pub trait Machine {
     // From this start, a pass of this name that made these calls may ask for this event.
     ghost fits: { Self.Start → List ℕ → List (Call Self.Event Self.Outcome) → Self.Event → Type 0 };
 
-    /// Acts on an event.
+    /// Acts on an event. It may do so in many threads.
     fn act<R: Threads + Wait + Sync>(&mut self, rt: &R, event: Self::Event) -> Self::Outcome
-        requires { (history : List (Entry Self.Event Self.Outcome)) × (name : List ℕ)
+        requires sync { IsSync R.row }
+        requires stands { (history : List (Entry Self.Event Self.Outcome)) × (name : List ℕ)
             × stands_for self.old history
             × fits (start self.old) name (calls_of name history) event }
         ensures start { start self.new ≡ start self.old }

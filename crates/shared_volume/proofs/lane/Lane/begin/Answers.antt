@@ -2,11 +2,12 @@ use Rattle.std.proofs.Common.{inl}
 use Rattle.volume_cell.specs.Passes.{known}
 use Rattle.shared_volume.proofs.Going.{begin-tells, begins-so, front-first, keys-fit, may-begin}
 use Rattle.shared_volume.proofs.Going.{silent-still}
+use Rattle.shared_volume.specs.Ciphers.{sector_of, sealed, opened}
 use Rattle.shared_volume.proofs.lane.Lane.begin.Goals as goal
 
 pub turn-requires-clause-meets : goal.turn-requires-clause-meets
 turn-requires-clause-meets g c = λ κs bounds.
-    rw c.first.ensures (may-begin g.C.SectorCipher.sealed g.C.SectorCipher.opened
+    rw c.first.ensures (may-begin sealed opened
     (known c.args.self.now.pass) c.args.self.now.number c.args.plan.now c.requires.rests)
 
 pub turn-requires-clause-front : goal.turn-requires-clause-front
@@ -16,22 +17,22 @@ turn-requires-clause-front g c = λ κs bounds.
 pub told-requires-clause-fits : goal.told-requires-clause-fits
 told-requires-clause-fits g c =
     let (session, op, planned) = c.requires.plan in
-    rw c.turn.ensures.keys (keys-fit g.C.SectorCipher.sector g.C.SectorCipher.sealed
-    g.C.SectorCipher.opened (known c.args.self.now.pass) c.args.self.now.number
+    rw c.turn.ensures.keys (keys-fit sector_of sealed
+    opened (known c.args.self.now.pass) c.args.self.now.number
     c.args.self.now.keys c.args.self.now.shape c.requires.lane c.args.plan.now planned.shape_is)
 
 pub told-requires-clause-told : goal.told-requires-clause-told
 told-requires-clause-told g c =
     let (session, op, planned) = c.requires.plan in
-    rw c.turn.ensures.keys (begin-tells g.C.SectorCipher.sector g.C.SectorCipher.sealed
-    g.C.SectorCipher.opened (known c.args.self.now.pass) c.args.self.now.number
+    rw c.turn.ensures.keys (begin-tells sector_of sealed
+    opened (known c.args.self.now.pass) c.args.self.now.number
     c.args.self.now.keys c.args.self.now.shape c.requires.lane c.args.cell.now.limit session
     c.args.plan.now op (known c.turn.new.self.pass) c.in-Answered.answer c.requires.rests planned
     (rw c.first.ensures at c.in-Answered.ensures.called))
 
 pub returns-in-Answered-clause-at : goal.returns-in-Answered-clause-at
 returns-in-Answered-clause-at g c = λ session op planned.
-    begins-so g.C.SectorCipher.sector g.C.SectorCipher.sealed g.C.SectorCipher.opened
+    begins-so sector_of sealed opened
     (known c.args.self.now.pass) c.args.self.now.number c.args.self.now.keys c.args.self.now.shape
     c.requires.lane c.args.cell.now.limit session c.args.plan.now op (known c.turn.new.self.pass)
     c.in-Answered.answer c.requires.rests planned
@@ -41,7 +42,7 @@ returns-in-Answered-clause-at g c = λ session op planned.
 
 pub returns-in-Spent-clause-at : goal.returns-in-Spent-clause-at
 returns-in-Spent-clause-at g c = λ session op planned. record {
-  answers = silent-still g.C.SectorCipher.sealed g.C.SectorCipher.opened
+  answers = silent-still sealed opened
       (known c.args.self.now.pass) (known c.turn.new.self.pass) c.in-Spent.ensures.called.0;
   full = c.in-Spent.ensures.called.1;
   left = inl c.in-Spent.ensures.called.0;

@@ -1,0 +1,4 @@
+pub mod ClientsLeft
+pub mod Beside
+pub mod RunsOf
+pub mod Executions

@@ -1,0 +1,10 @@
+use Rattle.lanes_beside.proofs.Beside.{are_alone_beside, event_more, next_meets_beside, work_more}
+use Rattle.lanes_beside.proofs.laws.lanes_are_alone_beside.Goals as goal
+
+pub returns : goal.returns
+returns c _ = record {
+  deeds = are_alone_beside;
+  next = next_meets_beside;
+  more = event_more;
+  works = work_more;
+}

@@ -1,0 +1,4 @@
+pub mod Lanes
+pub mod Clients
+pub mod Runs
+pub mod Executing
