@@ -1,0 +1,4 @@
+pub mod Failing
+pub mod Replies
+pub mod Tables
+pub mod Stops
