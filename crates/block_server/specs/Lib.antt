@@ -1,0 +1,11 @@
+pub mod Sessions
+pub mod Asking
+pub mod Links
+pub mod Ports
+pub mod Slots
+pub mod Workers
+pub mod Passing
+pub mod Leaving
+pub mod Leading
+pub mod Merging
+pub mod Serving
