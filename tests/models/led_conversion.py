@@ -81,19 +81,22 @@ class Disk(begun_volume.Disk):
 
 
 class Volume:
-    """The volume of a row, whose conversion has begun."""
+    """The volume of a row, whose conversion has begun; one whose header is told may be guarded by
+    checksums."""
 
-    def __init__(self, columns):
+    def __init__(self, columns, checksums=False):
+        self.checksums = checksums
         made, atom, blocks, direction, hotzone, old, new, cipher, size, offset = columns
         self.atom, self.blocks, self.offset = int(atom), int(blocks), int(offset)
         length = self.blocks * self.atom
         self.plain = (bytes(range(251)) * (length // 251 + 1))[:length]
-        if made == "made":
-            self.make(direction, hotzone, old, new, cipher, int(size))
+        if made != "told":
+            guard = "journal" if made == "made" else made
+            self.make(guard, direction, hotzone, old, new, cipher, int(size))
         else:
             self.tell(direction, hotzone, old, new, cipher, int(size))
 
-    def make(self, direction, hotzone, old, new, cipher, size):
+    def make(self, guard, direction, hotzone, old, new, cipher, size):
         """Makes the volume and begins its conversion as the commands do."""
         atom, offset, length = self.atom, self.offset, len(self.plain)
         made = (
@@ -103,7 +106,7 @@ class Volume:
         begins = (
             f"init x --key-file k --atom {atom} --cipher {cipher} --key-size {size}"
             f" --sector-size {new} --direction {direction} --iterations 1"
-            f" --hotzone-size {hotzone}"
+            f" --hotzone-size {hotzone} --resilience {guard}"
         )
         first, second = bytes(range(32)), bytes(range(32, 64))
         self.old = Side("aes-xts-plain64", new_volume.drawn(first, size), int(old))
@@ -118,8 +121,12 @@ class Volume:
     def tell(self, direction, hotzone, old, new, cipher, size):
         """Gives it the header of a text, with both keyslots' areas empty."""
         with open(os.path.join(ROOT, "data/begun.json")) as file:
+            text = file.read()
+            if self.checksums:
+                by = f'"hash":"sha256","sector_size":{self.atom},"type":"checksum"'
+                text = text.replace('"type":"journal"', by)
             header = json.loads(
-                file.read()
+                text
                 .replace("DIRECTION", direction)
                 .replace("CIPHER", cipher)
                 .replace("KEYSLOTS", str(self.offset - 32768))
@@ -200,8 +207,9 @@ class Led:
     def make(self, *headers):
         """The texts of headers to come, of which each has a number."""
         texts = [conversion_steps.text_of(one).encode() for one in headers]
-        if LAST - self.number < len(texts):
-            raise Fault("SeqEnd")
+        left = LAST - self.number
+        if left < len(texts):
+            raise Fault(f"SeqEnd {{ left: {left}, wanted: {len(texts)} }}")
         limit = self.header.used.size - 4096 - 1
         for text in texts:
             if limit < len(text):
@@ -227,6 +235,15 @@ class Led:
         if conversion_steps.PROFILE in required:
             self.found = conversion_steps.Conversion(objects, self.disks)
 
+    def saved(self, done, old):
+        """What is saved of a part behind so many blocks, and how far behind the area's begin."""
+        atom = self.volume.atom
+        if self.found.area["type"] == "journal":
+            return done * atom, old
+        atoms = [old[at : at + atom] for at in range(0, len(old), atom)]
+        text = b"".join(hashlib.sha256(one).digest() for one in atoms)
+        return done * 32, text + bytes(-len(text) % atom)
+
     def zone(self, start, end):
         """The device calls of a zone. What it is to be halted by is told before each."""
         volume, disk, count = self.volume, self.disk, end - start
@@ -245,7 +262,8 @@ class Led:
                 moved = conversion_steps.moved(opened, middle, count)
                 texts = self.make(opened, moved)
             self.halt = "Failed"
-            disk.put(store + done * volume.atom, old)
+            place, text = self.saved(done, old)
+            disk.put(store + place, text)
         disk.settle()
         self.commit(texts[0], opened)
         for done, length in parts:
@@ -297,6 +315,22 @@ class Led:
 # ---- what an image has
 
 
+def content_of_zone(volume, image, area, place, first, count):
+    """What the blocks of an open zone open to: by journal what was saved of them; by checksum what is
+    in their places, under the old key where it has the digest that was saved."""
+    atom, saved = volume.atom, int(area["offset"])
+    units = atom // 512
+    if area["type"] == "journal":
+        return volume.old.opened(image[saved : saved + count * atom], first * units)
+    data = b""
+    for k in range(count):
+        found = image[place + k * atom :][:atom]
+        is_old = hashlib.sha256(found).digest() == image[saved + 32 * k :][:32]
+        side = volume.old if is_old else volume.new
+        data += side.opened(found, (first + k) * units)
+    return data
+
+
 def reading(volume, image):
     """The header's number, and of how many blocks in a row each side has the content."""
     header = begun_volume.Header(Disk(volume.atom, image))
@@ -312,12 +346,14 @@ def reading(volume, image):
         side = volume.new if digest == "1" else volume.old
         place, letter = int(segment["offset"]), "N" if digest == "1" else "o"
         assert (segment["encryption"], segment["sector_size"]) == (side.name, side.sector)
+        plain = volume.plain[first * volume.atom : (first + count) * volume.atom]
         if "in-reencryption" in flags:
             (slot,) = [s for s in objects["keyslots"].values() if s["type"] == "reencrypt"]
-            place, letter = int(slot["area"]["offset"]), "z"
-        found = image[place : place + count * volume.atom]
-        plain = volume.plain[first * volume.atom : (first + count) * volume.atom]
-        if side.opened(found, int(segment["iv_tweak"]) - side.tweak) != plain:
+            letter, data = "z", content_of_zone(volume, image, slot["area"], place, first, count)
+        else:
+            found = image[place : place + count * volume.atom]
+            data = side.opened(found, int(segment["iv_tweak"]) - side.tweak)
+        if data != plain:
             return f"{told}{count}{letter} of another content"
         told += f"{count}{letter}"
         first += count

@@ -3,7 +3,8 @@
 conversion is led (led_conversion.py) and stopped within each device call of its zones, and of each
 image that this leaves by which a zone is open the copy of the header that lacks or is older is
 written anew. From there the device calls are made by which the zone is written again: what is saved
-of it is opened under the old key, sealed under the new one and put where the zone is, part by part;
+of it is opened under the old key, sealed under the new one and put where the zone is, part by part
+(by checksum what is there of old atoms, as the digests tell, and new ones are put there again);
 and the header gets the next number and the metadata with the boundary moved (conversion_steps.py).
 
 Run alone, it compares crates/mending_rows/data/mendings.rows with the rows of these zones, and
@@ -32,7 +33,8 @@ NEW = Side("aes-xts-plain64", bytes(range(100, 132)), 512)
 def content(length):
     """Bytes that rise from 0 to 250, again and again; and what each side seals them to."""
     plain = (bytes(range(251)) * (length // 251 + 1))[:length]
-    return {"x": plain, "o": OLD.sealed(plain, 0), "n": NEW.sealed(plain, 0)}
+    new = NEW.sealed(plain, 0)
+    return {"x": plain, "o": OLD.sealed(plain, 0), "n": new, "c": new}
 
 
 class Open:
@@ -46,14 +48,29 @@ class Open:
         self.salts = salts
         self.disks = conversion_steps.Disks(atom, "attached", offset // atom + blocks)
         found = conversion_steps.Conversion(objects, self.disks)
+        self.journal = found.area["type"] == "journal"
         self.forward, self.zone = found.forward, found.counts["zone"]
         self.first = found.boundary - (0 if found.forward else self.zone)
 
     def letter(self, block):
-        """Whether a block is sealed under the new key, under the old one, or not at all."""
+        """Whether a block is sealed under the new key (also where its digest is told to be that of
+        the old atom, c), under the old one, or not at all."""
         if self.first <= block < self.first + self.zone:
             return self.letters[(block - self.first) % len(self.letters)]
         return "n" if (block < self.first) == self.forward else "o"
+
+    def saved(self):
+        """What is saved of the zone: its old atoms, or a digest of each, in whole atoms; of a block
+        of letter c that of the new one."""
+        sides, atom = content(self.blocks * self.atom), self.atom
+        at, end = self.first * atom, (self.first + self.zone) * atom
+        if self.journal:
+            return sides["o"][at:end]
+        text = b""
+        for place in range(at, end, atom):
+            side = "n" if self.letter(place // atom) == "c" else "o"
+            text += hashlib.sha256(sides[side][place : place + atom]).digest()
+        return text + bytes(-len(text) % atom)
 
     @functools.cached_property
     def image(self):
@@ -63,9 +80,7 @@ class Open:
         salts = [bytes([salt] * 64) for salt in self.salts]
         copies = [header.used.again(k, salts[k], self.number, text) for k in range(2)]
         sides = content(self.blocks * self.atom)
-        at, end = self.first * self.atom, (self.first + self.zone) * self.atom
-        data = b"".join(copies).ljust(SAVED, b"\0") + sides["o"][at:end]
-        data = data.ljust(self.offset, b"\0")
+        data = (b"".join(copies).ljust(SAVED, b"\0") + self.saved()).ljust(self.offset, b"\0")
         places = range(0, self.blocks * self.atom, self.atom)
         blocks = (sides[self.letter(at // self.atom)][at : at + self.atom] for at in places)
         return data + b"".join(blocks)
@@ -91,7 +106,8 @@ def again_and_again(letters):
 
 def described(volume, image):
     """The volume that an image is, once its header is mended; none where no zone is open by it, or
-    one that doesn't fill the area: behind what is saved of it there are older atoms."""
+    one that doesn't fill the area of a journal: behind what is saved of it there are older atoms; nor
+    one behind whose digests there are older ones."""
     disk = Disk(volume.atom, image)
     mend(disk)
     image = disk.bytes()
@@ -100,7 +116,8 @@ def described(volume, image):
         return None
     disks = conversion_steps.Disks(volume.atom, "attached", len(disk.held))
     conversion = conversion_steps.Conversion(header.objects, disks)
-    if conversion.counts["zone"] < conversion.capacity:
+    journal, zone = conversion.area["type"] == "journal", conversion.counts["zone"]
+    if not zone or journal and zone < conversion.capacity:
         return None
     number, salts = header.used.number, [salt[0] for salt in header.salts]
     found = Open(volume.atom, volume.offset, volume.blocks, header.objects, number, "o", salts)
@@ -109,14 +126,16 @@ def described(volume, image):
         here = image[volume.offset + at : volume.offset + at + found.atom]
         letters += "o" if here == old[at : at + found.atom] else "n"
     found.letters = again_and_again(letters)
+    if not journal and found.image != image:
+        return None
     assert found.image == image
     return found
 
 
-def left(columns, calls=None):
+def left(columns, calls=None, checksums=False):
     """What a conversion leaves open that is stopped within each of its device calls, or these; each
     image once."""
-    volume, seen = led_conversion.Volume(columns.split(" ")), set()
+    volume, seen = led_conversion.Volume(columns.split(" "), checksums), set()
     for call in calls or range(led_conversion.calls_of(volume) + 1):
         led = Led(volume, Disk(volume.atom, volume.image, stop=call))
         led.lead()
@@ -174,10 +193,33 @@ class Mended:
 
     def refused(self):
         if self.number == LAST:
-            return "SeqEnd"
+            return "SeqEnd { left: 0, wanted: 1 }"
         if LONGEST < len(self.text):
             return f"JsonFull {{ length: {len(self.text)}, limit: {LONGEST} }}"
         return None
+
+    def sealed_anew(self, old, at):
+        """Old atoms from a block of the volume on, under the new key."""
+        first = at * self.volume.atom // 512
+        return self.volume.new.sealed(self.volume.old.opened(old, first), first)
+
+    def part(self, done, count, at):
+        """The device calls by which a part is read, and what it is to be. By checksum an atom in the
+        zone is an old one where it has the digest that was saved of it; all others are new."""
+        volume, disk, atom = self.volume, self.disk, self.volume.atom
+        saved = int(self.found.area["offset"])
+        if self.found.area["type"] == "journal":
+            old = yield disk.read, saved + done * atom, count * atom
+            return self.sealed_anew(old, at)
+        length = -(-count * 32 // atom) * atom
+        digests = yield disk.read, saved + done * 32, length
+        here = yield disk.read, volume.offset + at * atom, count * atom
+        new = b""
+        for k in range(count):
+            one = here[k * atom :][:atom]
+            is_old = hashlib.sha256(one).digest() == digests[32 * k :][:32]
+            new += self.sealed_anew(one, at + k) if is_old else one
+        return new
 
     def calls(self):
         """Its device calls, one a step."""
@@ -186,9 +228,7 @@ class Mended:
         first = self.found.boundary - (0 if self.found.forward else self.zone)
         for done in range(0, self.zone, most):
             count, at = min(most, self.zone - done), first + done
-            saved = int(self.found.area["offset"]) + done * atom
-            old = yield disk.read, saved, count * atom
-            new = volume.new.sealed(volume.old.opened(old, at * atom // 512), at * atom // 512)
+            new = yield from self.part(done, count, at)
             yield disk.put, volume.offset + at * atom, new
         yield (disk.settle,)
         for which in range(2):
@@ -351,6 +391,42 @@ def rows():
     yield "fails", torn[1]
     yield "fails", torn[-2]
     yield "fails 3", large[0]
+    yield "by checksum: each image that a stop leaves with a zone open"
+    forward = list(left("told 4096 5 forward 4096 512 512 aes-xts-plain64 32 45056", None, True))
+    backward = list(left("told 4096 4 backward 4096 512 512 aes-xts-plain64 32 45056", None, True))
+    small = list(left("told 512 130 backward 4096 512 512 aes-xts-plain64 32 45056", [9, 10], True))
+    for found in forward + backward + small:
+        yield "whole", found
+    yield "a zone that holds neither atoms, which stay; and one of which only some are neither"
+    yield "whole", changed(forward[0], letters="x")
+    yield "whole", changed(backward[0], letters="nxo")
+    yield "digests that are the new atoms', of all blocks and of some"
+    yield "whole", changed(forward[0], letters="c")
+    yield "whole", changed(backward[0], letters="nco")
+    yield "a volume of one block"
+    for found in left("told 512 1 forward 4096 512 512 aes-xts-plain64 32 45056", None, True):
+        yield "whole", found
+    yield "zones of 1 MiB in one part, and of two blocks more in two"
+    one = "told 4096 256 forward 8192 512 512 aes-xts-plain64 32 49152"
+    more = "told 4096 258 backward 12288 512 512 aes-xts-plain64 32 53248"
+    yield "whole", next(left(one, [10], True))
+    large = list(left(more, [13, 15, 16], True))
+    for found in large:
+        yield "whole", found
+    yield "whole", changed(large[0], letters="onoxnnoc")
+    yield "the last number, and a header behind it whose text has one byte too many"
+    yield "whole", changed(forward[0], number=LAST)
+    yield "whole", changed(unencrypted(forward[0]), next_length=LONGEST + 1)
+    yield "stops within each device call, and what they leave is written again"
+    torn = [found for found in forward + backward if 1 < len(found.letters)]
+    yield "stops", torn[0]
+    yield "stops", torn[-1]
+    yield "stops 2 5 6", large[-1]
+    yield "two stops, one behind the other"
+    yield "twice", torn[0]
+    yield "each device call fails, and what this leaves is written again"
+    yield "fails", torn[1]
+    yield "fails 3 5", large[0]
 
 
 def shown(what, volume):

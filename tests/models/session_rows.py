@@ -1,7 +1,7 @@
 #!/usr/bin/env python3
 """Compares the rows on sessions with the model of the server: what a client sends, what its session
-puts, how it ends, and how many bytes it takes, in crates/command_rows/data/sessions.rows and
-crates/hand_rows/data/options.rows, and for a client over TCP in crates/edge_rows/data.
+puts, how it ends, and how many bytes it takes, in crates/command_rows/data/sessions.rows, midway.rows
+and crates/hand_rows/data/options.rows, and for a client over TCP in crates/edge_rows/data.
 
 Rows whose disk, bay or client fails are none of the model's, and are passed over.
 """
@@ -64,6 +64,44 @@ def served(words, columns):
     return True
 
 
+def shown(told):
+    """The number, the boundary and the open zone that `status` printed."""
+    number = int(re.search(r"seqid: (\d+)", told)[1])
+    boundary = int(re.search(r"boundary: (\d+) of 16", told)[1])
+    zone = re.search(r"zone: (\w+)(?: \+ (\d+))?", told)
+    return number, boundary, int(zone[2] or 0)
+
+
+def turned(words, columns):
+    """Whether the sessions of commands that follow one another on one volume of 16 blocks are those of
+    the model on one disk, whatever is converted meanwhile, and sessions leave the conversion where it
+    was: but for an open zone, over which the boundary moves by the next number."""
+    _, told, _, *commands = columns
+    disk, before, met = bytearray(8192), None, False
+    told = told.removesuffix("; ").split("; ")
+    for place, found in enumerate(told):
+        line, sent, answers = (commands[3 * place : 3 * place + 3] + ["", ""])[:3]
+        ends = END.findall(found)
+        if sent:
+            model = nbd.Session(disk, 512, spelt(words, sent))
+            wanted = ("0", model.ending, str(model.taken), str(len(model.put)))
+            if ends != [wanted] or model.put != spelt(words, answers):
+                return False
+            met = True
+        elif ends:
+            return False
+        if line.startswith("status"):
+            now = shown(found)
+            if met and before and now != (before[0] + (before[2] > 0), before[1] + before[2], 0):
+                return False
+            before, met = now, False
+        if line.startswith("resume") and found.startswith("0 Fine"):
+            if '"finished 16 blocks\\n"' not in found:
+                return False
+            before = None
+    return len(commands) == 3 * len(told)
+
+
 def cut(words, columns):
     """Whether a session whose input ends at each byte is that of the model."""
     put, sent, cuts = spelt(words, columns[3]), b"", 0
@@ -109,6 +147,8 @@ def main():
         columns = line.split("\t")
         judge = {"serves": served, "cuts": cut}.get(columns[0])
         found += [(line, judge(sessions, columns))] if judge else []
+    for line in lines("command_rows/data/midway.rows"):
+        found.append((line, turned(sessions, line.split("\t"))))
     for line in lines("hand_rows/data/options.rows"):
         found.append((line, agrees(options, line.split("\t"))))
     found += [(name, over_tcp(name)) for name in ("simple", "chunks")]

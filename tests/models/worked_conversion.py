@@ -19,6 +19,7 @@ from cryptography.hazmat.primitives.ciphers import Cipher, algorithms, modes
 
 import begun_volume
 import conversion_steps
+import turn_orders
 
 CRATE = os.path.join(os.path.dirname(os.path.abspath(__file__)), "../../crates/work_rows")
 ATOM, BLOCKS, COPY = 512, 4, 16384
@@ -63,11 +64,16 @@ def copy_of(which, number, text):
     return data[:448] + hashlib.sha256(data).digest() + data[480:]
 
 
-def first_text(zone, way):
-    """The text that the program gives its volumes."""
+def first_text(zone, way, guard):
+    """The text that the program gives its volumes. By checksum the area is one atom, which has the
+    digests of all blocks."""
     with open(os.path.join(CRATE, "src/disks.rt")) as file:
-        text = re.search(r'r#"(.*)"#', file.read()).group(1)
-    text = text.replace("HOTZONE", str(zone * ATOM)).replace("DIRECTION", way)
+        text = re.search(r'r#"(.*"config".*)"#', file.read()).group(1)
+    area = {"offset": "40960", "size": str(zone * ATOM), "type": "journal"}
+    if guard == "checksum":
+        area = {"hash": "sha256", "offset": "40960", "sector_size": ATOM, "size": str(ATOM)}
+        area["type"] = "checksum"
+    text = text.replace("AREA", conversion_steps.text_of(area)).replace("DIRECTION", way)
     assert conversion_steps.text_of(json.loads(text)) == text
     return text
 
@@ -101,11 +107,17 @@ class Operation:
         self.next, self.failed, self.settled = first, False, False
 
 
+def digests(atoms):
+    """What is saved of these atoms by checksum."""
+    found = (hashlib.sha256(atoms[at : at + ATOM]).digest() for at in range(0, len(atoms), ATOM))
+    return b"".join(found).ljust(ATOM, b"\0")
+
+
 class Volume:
     """A volume with its conversion begun, lanes for two clients, and the conversion's own."""
 
-    def __init__(self, zone, way, fails=None, stop=None):
-        text = first_text(zone, way)
+    def __init__(self, zone, way, guard="journal", fails=None, stop=None):
+        text = first_text(zone, way, guard)
         data = copy_of(0, 2, text.encode()) + copy_of(1, 2, text.encode())
         data = data.ljust(FRONT, b"\0")
         data += b"".join(sealed("old", block, bytes(ATOM)) for block in range(BLOCKS))
@@ -113,7 +125,7 @@ class Volume:
         self.disks = conversion_steps.Disks(ATOM, "attached", len(data) // ATOM)
         self.objects, self.number = json.loads(text), 2
         self.found = conversion_steps.Conversion(self.objects, self.disks)
-        self.forward = way == "forward"
+        self.forward, self.guard = way == "forward", guard
         self.boundary = 0 if self.forward else BLOCKS
         self.locks, self.lanes = [], {}
         self.broken = self.over = self.ended = False
@@ -182,7 +194,7 @@ class Volume:
         old = disk.read(place, count * ATOM)
         yield
         self.halt = "Failed"
-        yield disk.put(store, old)
+        yield disk.put(store, old if self.guard == "journal" else digests(old))
         yield disk.settle()
         middle = conversion_steps.opened(self.objects, self.found, count)
         yield from self.commit(middle)
@@ -388,13 +400,22 @@ def reading(image):
         count = BLOCKS - first if size == "dynamic" else int(size) // ATOM
         new = conversion_steps.digest_of(header.objects, number) == "1"
         place, letter = int(segment["offset"]), "N" if new else "o"
+        saved = None
         if "in-reencryption" in flags:
-            place, letter = int(header.objects["keyslots"]["2"]["area"]["offset"]), "z"
+            letter, area = "z", header.objects["keyslots"]["2"]["area"]
+            if area["type"] == "checksum":
+                saved = int(area["offset"])
+            else:
+                place = int(area["offset"])
         assert int(segment["iv_tweak"]) == first + (0 if new else 8)
         told += f"{count}{letter}"
         for at in range(count):
             data = image[place + at * ATOM :][:ATOM]
-            data = opened("new" if new else "old", first + at, data)
+            side = "new" if new else "old"
+            # by checksum a block of the zone is old where it has the digest that was saved of it
+            if saved and hashlib.sha256(data).digest() != image[saved + 32 * at :][:32]:
+                side = "new"
+            data = opened(side, first + at, data)
             found += f".{data[0]}" if data == data[:1] * ATOM else ".?"
         first += count
     assert first == BLOCKS
@@ -423,12 +444,12 @@ def is_served(three, before, turns):
     return three.is_done()
 
 
-def served(zone, way, plan, steps):
+def served(row, plan, steps):
     found, all_of, images = 0, 0, hashlib.sha256()
     for number in range(EACH - 1, steps * len(ORDERS), EACH):
         before, order = divmod(number, len(ORDERS))
         all_of += 1
-        three = Three(Volume(zone, way), PLANS[plan], False)
+        three = Three(Volume(*row), PLANS[plan], False)
         right = is_served(three, before, ORDERS[order])
         image = b"".join(three.volume.disk.held)
         images.update(image)
@@ -439,20 +460,27 @@ def served(zone, way, plan, steps):
     return f"plan {plan}: {found} of {all_of}, {images.hexdigest()}"
 
 
-def rows_of_orders():
-    for zone in (1, 2, 4):
+def rows_of_orders(guard, *zones):
+    for zone in zones:
         for way in ("forward", "backward"):
-            volume, steps = Volume(zone, way), 0
+            volume, steps = Volume(zone, way, guard), 0
             while volume.work() != "Finished":
                 steps += 1
             assert volume.disk.calls == 14 * (BLOCKS // zone) + 6
-            yield f"zones of {zone} {way}: {steps} steps, {volume.disk.calls} calls"
+            yield f"zones of {zone} {way}, {guard}: {steps} steps, {volume.disk.calls} calls"
             for plan in range(len(PLANS)):
-                yield served(zone, way, plan, steps)
+                yield served((zone, way, guard), plan, steps)
 
 
-def row_of_fault(zone, way, call):
-    three = Three(Volume(zone, way, fails=call), [write(1, 2, True), read(0, 4)], True)
+def rows_of_walks(zone, way, guard, *plans):
+    """All orders, as turn_orders.py counts them."""
+    yield f"every order, zones of {zone} {way}, {guard}"
+    for plan in plans:
+        yield f"plan {plan}: {turn_orders.told(zone, way == 'forward', PLANS[plan])}"
+
+
+def row_of_fault(row, call):
+    three = Three(Volume(*row, fails=call), [write(1, 2, True), read(0, 4)], True)
     line, told = f"call {call}:", 0
     for turn in range(LONGEST):
         came = three.turn(turn % 3)
@@ -471,18 +499,18 @@ def row_of_fault(zone, way, call):
     return line, told > 0
 
 
-def rows_of_faults(zone, way):
+def rows_of_faults(*row):
     for call in range(LONGEST):
-        line, failed = row_of_fault(zone, way, call)
+        line, failed = row_of_fault(row, call)
         yield line
         if not failed:
             return
 
 
-def rows_of_stops(zone, way):
+def rows_of_stops(*row):
     images = hashlib.sha256()
     for calls in range(LONGEST):
-        three = Three(Volume(zone, way, stop=calls), [write(1, 2, True), write(3, 1)], True)
+        three = Three(Volume(*row, stop=calls), [write(1, 2, True), write(3, 1)], True)
         for turn in range(LONGEST):
             if three.turn(turn % 3) in ("Work(Finished)", "Work(Broken)"):
                 break
@@ -500,10 +528,15 @@ def rows_of_stops(zone, way):
 
 
 def rows():
-    yield from rows_of_faults(2, "forward")
-    yield from rows_of_orders()
-    yield from rows_of_stops(2, "forward")
-    yield from rows_of_stops(4, "backward")
+    yield from rows_of_faults(2, "forward", "journal")
+    yield from rows_of_faults(4, "backward", "checksum")
+    yield from rows_of_orders("journal", 1, 2, 4)
+    yield from rows_of_orders("checksum", 4)
+    yield from rows_of_walks(2, "forward", "journal", 0)
+    yield from rows_of_walks(4, "backward", "checksum", 5)
+    yield from rows_of_stops(2, "forward", "journal")
+    yield from rows_of_stops(4, "backward", "journal")
+    yield from rows_of_stops(4, "forward", "checksum")
 
 
 def main():

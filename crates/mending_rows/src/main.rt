@@ -6,13 +6,15 @@
 //!   again and stopped once more, and begun again; `fails`, each of its device calls fails, and it is
 //!   begun again; of the last three only those calls where their numbers follow;
 //! - what the zone's blocks hold, by letters that go round: `n`, what the new key seals, `o`, what the
-//!   old one seals, `x`, neither;
+//!   old one seals, `x`, neither; `c`, what the new key seals, where the digest that is saved is this
+//!   atom's;
 //! - the bytes of an atom, the byte at which the data begins, the blocks of the volume, the first block
 //!   of the zone, how many it has, and the direction;
 //! - the byte of the first copy's salt, that of the second one's, the number of the header and its
 //!   text, which both copies have.
 //!
-//! From byte 40960 on there is what was saved of the zone. The content of the volume is bytes that
+//! From byte 40960 on there is what was saved of the zone: its old atoms, or where the text says so
+//! their digests. The content of the volume is bytes that
 //! rise from 0 to 250, again and again. The old key has the bytes from 0 on, the new one those from
 //! 100 on, each 32 of them.
 //!

@@ -69,7 +69,7 @@ fn fits(map: &Map, atoms: u64, keys: &Keys<Context>) -> bool
     map.new_place <= atoms && map.blocks <= atoms - map.new_place
 }
 
-/// Whether by a header a zone is open that is guarded by a journal, of a volume that fits the disk
+/// Whether by a header a zone is open that may be written again, of a volume that fits the disk
 /// and the keys.
 #[tactic(auto, using(crate::proofs::MapLemmas::may_mend))]
 fn may_mend(loaded: &Loaded, keys: &Keys<Context>) -> bool

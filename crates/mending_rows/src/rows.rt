@@ -60,8 +60,8 @@ impl Row {
         (block as usize).saturating_mul(self.atom as usize)
     }
 
-    /// Whether a block is sealed under the new key (`n`), under the old one (`o`), or not at all
-    /// (`x`): in the zone by letters that go round.
+    /// Whether a block is sealed under the new key (`n`), also where its digest is saved as the old
+    /// atom's (`c`), under the old one (`o`), or not at all (`x`): in the zone by letters that go round.
     pub(crate) fn letter(&self, letters: &[u8], block: u64) -> u8 {
         let (front, back) = if self.is_forward {
             (b'n', b'o')

@@ -20,6 +20,9 @@ const COPY_BYTES: u64 = 16384;
 /// The byte at which what is saved of the zone begins.
 const SAVED: usize = 40960;
 
+/// What the text of a header has where digests guard its zones.
+const BY_CHECKSUM: &str = "\"type\":\"checksum\"";
+
 /// A volume with an open zone.
 #[derive(Drop)]
 pub(crate) struct Left {
@@ -152,7 +155,7 @@ fn put_blocks(bytes: &mut [u8], row: &Row, letters: &[u8], sides: &Sides) -> Res
     let front = row.before(row.front);
     for block in 0..row.blocks {
         let side = match row.letter(letters, block) {
-            b'n' => &sides.new,
+            b'n' | b'c' => &sides.new,
             b'o' => &sides.old,
             _ => &sides.plain,
         };
@@ -163,19 +166,41 @@ fn put_blocks(bytes: &mut [u8], row: &Row, letters: &[u8], sides: &Sides) -> Res
     Ok(())
 }
 
+/// What is saved of the zone by a journal: its atoms as the old key seals them.
+fn old_atoms(alloc: Global, row: &Row, sides: &Sides) -> Result<Vec<u8>> {
+    let (from, len) = (row.before(row.first), row.before(row.zone));
+    Ok(Vec::from_slice(alloc, part(sides.old.as_slice(), from, len)?)?)
+}
+
+/// What is saved of it by checksum: the SHA-256 of each of them, but of a block of letter `c` that of
+/// the atom as the new key seals it.
+fn digests_of(alloc: Global, row: &Row, letters: &[u8], sides: &Sides) -> Result<Vec<u8>> {
+    let mut digests = Vec::new(alloc);
+    for place in 0..row.zone {
+        let block = row.first.saturating_add(place);
+        let side = match row.letter(letters, block) {
+            b'c' => &sides.new,
+            _ => &sides.old,
+        };
+        let atom = part(side.as_slice(), row.before(block), row.atom as usize)?;
+        digests.extend_from_slice(&Sha256::digest(atom))?;
+    }
+    Ok(digests)
+}
+
 /// The volume of a row, with a header of this text. What is saved of the zone is what the old key
-/// seals; in the zone there is what letters say.
+/// seals, or digests of it; in the zone there is what letters say.
 pub(crate) fn left_by(alloc: Global, row: &Row, letters: &str, text: &str) -> Result<Left> {
     let sides = sides_of(alloc, row.before(row.blocks))?;
     let mut image = zeros(alloc, row.atoms() as usize * row.atom as usize)?;
     let bytes = image.as_mut_slice();
     put_header(alloc, bytes, row, text)?;
-    let saved = part(
-        sides.old.as_slice(),
-        row.before(row.first),
-        row.before(row.zone),
-    )?;
-    put(bytes, SAVED, saved)?;
+    let saved = if text.contains(BY_CHECKSUM) {
+        digests_of(alloc, row, letters.as_bytes(), &sides)?
+    } else {
+        old_atoms(alloc, row, &sides)?
+    };
+    put(bytes, SAVED, saved.as_slice())?;
     put_blocks(bytes, row, letters.as_bytes(), &sides)?;
     Ok(Left { row: *row, image })
 }

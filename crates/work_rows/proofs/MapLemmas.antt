@@ -2,7 +2,7 @@
 use Rattle.std.proofs.Common.{◌≡◌, ◌∙◌, ℕ, ◌+◌, ◌*◌, ◌^◌, ◌<◌, ◌≤◌, Some}
 use Rattle.std.proofs.Common.{refl, sym, subst, arith, inl}
 use Rattle.std.specs.Option.{IsSomeAnd}
-use Rattle.hotzone.specs.Sites.{IsByJournal}
+use Rattle.hotzone.specs.Sites.{IsSaved}
 use Rattle.luks_rules.specs.Shapes.{progress_of}
 use Rattle.luks_rules.specs.declared.shape.Progress.{Progress}
 use Rattle.luks_rules.specs.declared.valid.Checked.{Checked}
@@ -43,7 +43,7 @@ arm_by : {C : Type 0} (sector : C → ℕ) (keys : Keys C) (before : Stored) (p 
     → FitsDisk sector keys map before.valid.sizes.main_atoms → MayArm sector keys before map
 arm_by sector keys before p map known is guarded fits = record {
   may = subst
-      (λ o. IsSomeAnd o (λ now. (now.plan.zone ≡ 0) × IsByJournal now.conversion.resilience))
+      (λ o. IsSomeAnd o (λ now. (now.plan.zone ≡ 0) × IsSaved now.conversion.resilience))
       (sym known) (guarded.closed, guarded.guarded);
   map_is = (p, known, is);
   closed = is.zone ∙ guarded.closed;

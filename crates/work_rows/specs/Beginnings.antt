@@ -1,6 +1,6 @@
 -- Volumes with which a conversion goes on.
 use Rattle.std.specs.Prelude.{ℕ, ◌≡◌, false, None}
-use Rattle.hotzone.specs.Sites.{IsByJournal}
+use Rattle.hotzone.specs.Sites.{IsSaved}
 use Rattle.hotzone.specs.Workers.{MayGoOn}
 use Rattle.joined_disk.specs.Counts.{HasSizes}
 use Rattle.luks_rules.specs.declared.shape.Progress.{Progress}
@@ -21,10 +21,10 @@ pub record IsOn (device : Device) (stored : Stored) : Type 0 where
   pub main : stored.valid.sizes.main_atoms ≡ device.atoms
   pub alone : stored.valid.sizes.detached ≡ false
 
--- no zone is open, and zones are guarded by a journal
+-- no zone is open, and something is saved of the blocks of zones
 pub record IsGuarded (now : Progress) : Type 0 where
   pub closed : now.plan.zone ≡ 0
-  pub guarded : IsByJournal now.conversion.resilience
+  pub guarded : IsSaved now.conversion.resilience
 
 -- the blocks of a map are atoms of a disk of so many, and the keys fit them
 pub record FitsDisk {C : Type 0} (sector : C → ℕ) (keys : Keys C) (map : Map) (atoms : ℕ)

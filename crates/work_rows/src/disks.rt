@@ -24,13 +24,19 @@ const MADE: u64 = 6;
 
 /// The header's text, with words in place of its numbers.
 const TEXT: &str =
-    r#"{"config":{"json_size":"12288","keyslots_size":"16384","requirements":{"mandatory":["reencd-online-reencrypt-v1"]}},"digests":{"0":{"digest":"b2xk","hash":"sha256","iterations":1000,"keyslots":["0"],"salt":"c2FsdA==","segments":["0","1"],"type":"pbkdf2"},"1":{"digest":"bmV3","hash":"sha256","iterations":1000,"keyslots":["1"],"salt":"c2FsdA==","segments":["2"],"type":"pbkdf2"}},"keyslots":{"0":{"area":{"offset":"32768","size":"4096"},"type":"other"},"1":{"area":{"offset":"36864","size":"4096"},"type":"other"},"2":{"area":{"offset":"40960","size":"HOTZONE","type":"journal"},"direction":"DIRECTION","key_size":1,"mode":"reencrypt","type":"reencrypt"}},"segments":{"0":{"encryption":"aes-xts-plain64","iv_tweak":"8","offset":"49152","sector_size":512,"size":"2048","type":"crypt"},"1":{"encryption":"aes-xts-plain64","flags":["backup-previous"],"iv_tweak":"8","offset":"49152","sector_size":512,"size":"dynamic","type":"crypt"},"2":{"encryption":"aes-xts-plain64","flags":["backup-final"],"iv_tweak":"0","offset":"49152","sector_size":512,"size":"dynamic","type":"crypt"}},"tokens":{}}"#;
+    r#"{"config":{"json_size":"12288","keyslots_size":"16384","requirements":{"mandatory":["reencd-online-reencrypt-v1"]}},"digests":{"0":{"digest":"b2xk","hash":"sha256","iterations":1000,"keyslots":["0"],"salt":"c2FsdA==","segments":["0","1"],"type":"pbkdf2"},"1":{"digest":"bmV3","hash":"sha256","iterations":1000,"keyslots":["1"],"salt":"c2FsdA==","segments":["2"],"type":"pbkdf2"}},"keyslots":{"0":{"area":{"offset":"32768","size":"4096"},"type":"other"},"1":{"area":{"offset":"36864","size":"4096"},"type":"other"},"2":{"area":AREA,"direction":"DIRECTION","key_size":1,"mode":"reencrypt","type":"reencrypt"}},"segments":{"0":{"encryption":"aes-xts-plain64","iv_tweak":"8","offset":"49152","sector_size":512,"size":"2048","type":"crypt"},"1":{"encryption":"aes-xts-plain64","flags":["backup-previous"],"iv_tweak":"8","offset":"49152","sector_size":512,"size":"dynamic","type":"crypt"},"2":{"encryption":"aes-xts-plain64","flags":["backup-final"],"iv_tweak":"0","offset":"49152","sector_size":512,"size":"dynamic","type":"crypt"}},"tokens":{}}"#;
 
-/// A conversion: how many blocks a zone has, and the direction.
+/// The area of a conversion that is guarded by checksum.
+const CHECKSUMS: &str =
+    r#"{"hash":"sha256","offset":"40960","sector_size":512,"size":"512","type":"checksum"}"#;
+
+/// A conversion: how many blocks a zone has, the direction, and whether zones are guarded by
+/// checksum; then all blocks are one zone.
 #[derive(Clone, Copy)]
 pub(crate) struct Row {
     pub(crate) zone: u64,
     pub(crate) is_forward: bool,
+    pub(crate) is_checked: bool,
 }
 
 impl Row {
@@ -41,6 +47,24 @@ impl Row {
         } else {
             "backward"
         }
+    }
+
+    /// What guards a zone in words.
+    pub(crate) fn guard(self) -> &'static str {
+        if self.is_checked {
+            "checksum"
+        } else {
+            "journal"
+        }
+    }
+
+    /// The area that guards a zone. By checksum it is one atom, which has the digests of all blocks.
+    fn area(self, alloc: Global) -> Result<String> {
+        if self.is_checked {
+            return Ok(String::from_str(alloc, CHECKSUMS)?);
+        }
+        let bytes = self.zone.saturating_mul(ATOM);
+        Ok(format!(in alloc; r#"{{"offset":"40960","size":"{bytes}","type":"journal"}}"#)?)
     }
 }
 
@@ -85,8 +109,8 @@ fn copy_of(alloc: Global, magic: &[u8], place: u64, text: &str) -> Result<Vec<u8
 
 /// The text of a row's header.
 fn text_for(alloc: Global, row: Row) -> Result<String> {
-    let hotzone = format!(in alloc; "{}", row.zone.saturating_mul(ATOM))?;
-    let text = TEXT.replace(alloc, "HOTZONE", hotzone.as_str())?;
+    let area = row.area(alloc)?;
+    let text = TEXT.replace(alloc, "AREA", area.as_str())?;
     Ok(text.as_str().replace(alloc, "DIRECTION", row.way())?)
 }
 

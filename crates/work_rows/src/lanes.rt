@@ -75,6 +75,20 @@ fn is_forced(ask: Ask) -> bool {
     }
 }
 
+/// The byte of which each block is full.
+pub(crate) fn contents(alloc: Global, blocks: &[u8]) -> Result<String> {
+    let mut line = String::new(alloc);
+    for block in blocks.chunks_exact(512) {
+        match block.first() {
+            Some(byte) if block.iter().all(|other| other == byte) => {
+                line = format!(in alloc; "{line}.{byte}")?;
+            }
+            _ => line = format!(in alloc; "{line}.?")?,
+        }
+    }
+    Ok(line)
+}
+
 // What an operation is to the plain disk.
 fn op_of(alloc: Global, ask: Ask, byte: u8) -> Result<Op> {
     Ok(match ask {
@@ -114,6 +128,12 @@ impl Lane {
             ended: false,
             read: Vec::new(alloc),
         }
+    }
+
+    /// Whether its operation has ended, and what it read so far.
+    pub(crate) fn told(&self, alloc: Global) -> Result<String> {
+        let read = contents(alloc, self.read.as_slice())?;
+        Ok(format!(in alloc; "{} {read}", self.ended)?)
     }
 
     /// Makes the next event, if one is left.

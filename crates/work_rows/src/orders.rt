@@ -23,7 +23,7 @@ const ORDERS: u32 = 19683;
 pub(crate) const PLANS: usize = 6;
 
 /// The operation of each lane in a plan.
-fn asks_of(plan: usize) -> [Ask; 2] {
+pub(crate) fn asks_of(plan: usize) -> [Ask; 2] {
     match plan {
         0 => [write_of(0, 2, false), read_of(1, 2)],
         1 => [write_of(1, 2, true), Ask::Flush],
@@ -100,7 +100,7 @@ fn are_served(
 }
 
 /// Whether the new key opens in an image what the plain disk holds.
-fn is_converted(image: &[u8], plain: &PlainDisk) -> Result<bool> {
+pub(crate) fn is_converted(image: &[u8], plain: &PlainDisk) -> Result<bool> {
     let sides = Sides::new()?;
     let Some(blocks) = image.get(FRONT as usize * 512..) else {
         return Ok(false);
@@ -151,7 +151,7 @@ pub(crate) fn alone(
 }
 
 /// The bytes that a volume's disk has at the end.
-fn last_bytes(alloc: Global, volume: Converted) -> Result<Vec<u8>> {
+pub(crate) fn last_bytes(alloc: Global, volume: Converted) -> Result<Vec<u8>> {
     let mut disk = volume.into_disk();
     bytes_on(alloc, &mut disk)
 }

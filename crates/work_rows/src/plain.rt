@@ -3,7 +3,7 @@
 // Specification 1.1, sections 2 and 3), by searches in the text.
 
 use crate::disks::{BLOCKS, COPY_BYTES};
-use crate::sides::Sides;
+use crate::sides::{OLD_TWEAK, Sides};
 use anyhow::Result;
 use sha2::{Digest, Sha256};
 use std::alloc::Global;
@@ -78,23 +78,42 @@ fn is_new(text: &str, listed: &str) -> Option<bool> {
     Some(between(digest, "\"segments\":[", "]")?.contains(listed))
 }
 
-/// Where the area of the journal begins.
-fn journal_at(text: &str) -> Option<u64> {
-    let (front, _) = text.split_once("\",\"type\":\"journal\"}")?;
+/// What stands behind the number of bytes of an area that guards zones.
+const JOURNAL: &str = "\",\"type\":\"journal\"}";
+
+const CHECKSUM: &str = "\",\"type\":\"checksum\"}";
+
+/// Where the area begins that guards zones and has this mark.
+fn area_at(text: &str, mark: &str) -> Option<u64> {
+    let (front, _) = text.split_once(mark)?;
     let (_, area) = front.rsplit_once("\"offset\":\"")?;
     let (offset, _) = area.split_once("\"")?;
     offset.parse().ok()
 }
 
 /// The blocks of a segment: their number, the letter of their side, `N` of the new key, `o` of the
-/// old one, `z` of the zone, the byte of the image at which they lie, and the number of the first
-/// sector.
+/// old one, `z` of the zone, the byte of the image at which they lie, and the one at which the
+/// digests of old ones lie where these tell the zone's apart, and the number of the first sector.
 #[derive(Clone, Copy)]
 struct Run {
     count: u64,
     side: char,
     place: u64,
+    saved: Option<u64>,
     number: u64,
+}
+
+/// The letter, the byte at which blocks lie, and the one at which their digests do, of a segment.
+fn place_of(text: &str, segment: &str, listed: &str) -> Option<(char, u64, Option<u64>)> {
+    let place = number_behind(segment, "\"offset\":\"")?;
+    if !segment.contains("\"in-reencryption\"") {
+        let side = if is_new(text, listed)? { 'N' } else { 'o' };
+        return Some((side, place, None));
+    }
+    match area_at(text, JOURNAL) {
+        Some(journal) => Some(('z', journal, None)),
+        None => Some(('z', place, Some(area_at(text, CHECKSUM)?))),
+    }
 }
 
 /// The blocks of the live segment at a place of its list; one that goes to the end has those that are
@@ -112,17 +131,12 @@ fn run_at(text: &str, place: usize, left: u64) -> Option<Run> {
         number_behind(segment, "\"size\":\"")? / 512
     };
     let number = number_behind(segment, "\"iv_tweak\":\"")?;
-    let is_open = segment.contains("\"in-reencryption\"");
-    let (side, place) = if is_open {
-        ('z', journal_at(text)?)
-    } else {
-        let side = if is_new(text, listed)? { 'N' } else { 'o' };
-        (side, number_behind(segment, "\"offset\":\"")?)
-    };
+    let (side, place, saved) = place_of(text, segment, listed)?;
     Some(Run {
         count,
         side,
         place,
+        saved,
         number,
     })
 }
@@ -145,14 +159,44 @@ fn byte_of(sides: &Sides, image: &[u8], is_new: bool, place: u64, number: u64) -
     }
 }
 
+/// Whether the block at a byte has the digest that lies at another one.
+fn has_digest(image: &[u8], place: u64, digest: u64) -> Option<bool> {
+    let (from, at) = (place as usize, digest as usize);
+    let found = image.get(from..from.checked_add(512)?)?;
+    let saved = image.get(at..at.checked_add(32)?)?;
+    Some(Sha256::digest(found).as_slice() == saved)
+}
+
+/// Whether a block of a run is one of the new key, by the side of all, or by the digests of old ones.
+fn is_new_in(image: &[u8], run: Run, block: u64, place: u64) -> Option<bool> {
+    match run.saved {
+        Some(first) => {
+            let digest = first.saturating_add(block.saturating_mul(32));
+            Some(!has_digest(image, place, digest)?)
+        }
+        None => Some(run.side == 'N'),
+    }
+}
+
+/// The byte of which all of a block of a run consists.
+fn byte_in(sides: &Sides, image: &[u8], run: Run, block: u64) -> Option<u8> {
+    let place = run.place.saturating_add(block.saturating_mul(512));
+    let is_new = is_new_in(image, run, block, place)?;
+    // a zone is told by the numbers of the old segment
+    let number = if is_new && run.side == 'z' {
+        run.number.saturating_sub(OLD_TWEAK)
+    } else {
+        run.number
+    };
+    byte_of(sides, image, is_new, place, number.saturating_add(block))
+}
+
 /// The bytes that blocks have, each behind a dot.
 fn bytes_of(alloc: Global, image: &[u8], run: Run) -> Result<String> {
     let sides = Sides::new()?;
     let mut bytes = String::new(alloc);
     for block in 0..run.count.min(BLOCKS) {
-        let place = run.place.saturating_add(block.saturating_mul(512));
-        let number = run.number.saturating_add(block);
-        bytes = match byte_of(&sides, image, run.side == 'N', place, number) {
+        bytes = match byte_in(&sides, image, run, block) {
             Some(byte) => format!(in alloc; "{bytes}.{byte}")?,
             None => format!(in alloc; "{bytes}.?")?,
         };

@@ -3,7 +3,7 @@
 ghost use Rattle.std.specs.Prelude.{IsSome, IsTrue};
 
 use crate::disks::BLOCKS;
-use crate::lanes::{Lane, Turn};
+use crate::lanes::{Lane, Turn, contents};
 use anyhow::{Result, anyhow};
 use cipher_laws::SectorCipher;
 use plain_disk::PlainDisk;
@@ -64,6 +64,22 @@ impl Three {
     /// Whether each lane has ended its operation, and the conversion is finished.
     pub(crate) fn is_done(&self) -> bool {
         self.first.ended && self.second.ended && self.finished
+    }
+
+    /// What each lane has read so far and whether it has ended, and whether the conversion is
+    /// finished.
+    pub(crate) fn told(&self, alloc: Global) -> Result<String> {
+        let (one, other) = (self.first.told(alloc)?, self.second.told(alloc)?);
+        Ok(format!(in alloc; "{one} {other} {}", self.finished)?)
+    }
+
+    /// What the plain disk holds.
+    pub(crate) fn content(&self, alloc: Global) -> Result<String> {
+        let mut bytes = Vec::new(alloc);
+        for block in 0..self.plain.blocks() {
+            bytes.extend_from_slice(self.plain.newest(block))?;
+        }
+        contents(alloc, bytes.as_slice())
     }
 
     /// The turn of one of them.

@@ -66,13 +66,13 @@ fn header_on(alloc: Global, disk: MemDisk) -> Result<(MemDisk, Loaded)>
     }
 }
 
-/// Whether no zone is open, and zones are guarded by a journal.
+/// Whether no zone is open, and zones are guarded by a journal or by checksum.
 fn is_guarded(progress: &Progress) -> bool
     ensures { IsTrue result → IsGuarded progress.now }
 {
     match progress.conversion.resilience {
-        Resilience::Journal => progress.plan.zone == 0,
-        Resilience::Checksum(_) | Resilience::Datashift(_) => false,
+        Resilience::Journal | Resilience::Checksum(_) => progress.plan.zone == 0,
+        Resilience::Datashift(_) => false,
     }
 }
 
@@ -97,7 +97,7 @@ fn fits(map: &Map, atoms: u64, sides: &Sides) -> bool
 }
 
 /// The map of a header's conversion, where a volume may be armed with it: none of its zones is open,
-/// it is guarded by a journal, and the volume fits the disk and the keys.
+/// something is saved of their blocks, and the volume fits the disk and the keys.
 #[tactic(auto, using(crate::proofs::MapLemmas::may_arm))]
 fn map_of(loaded: &Loaded, sides: &Sides) -> Option<Map>
     requires { IsDisk loaded.now.valid.sizes.atom (all_atoms loaded.now.valid.sizes) }

@@ -4,7 +4,7 @@ use Rattle.std.proofs.Common.{refl, sym, ap, subst, arith, inl, inr}
 use Rattle.std.proofs.Math.Nat.{mul-le-mul_left}
 use Rattle.std.specs.Option.{IsSomeAnd}
 use Rattle.disk_sizes.specs.declared.Sizes.{Sizes}
-use Rattle.hotzone.specs.Sites.{IsByJournal}
+use Rattle.hotzone.specs.Sites.{IsSaved}
 use Rattle.hotzone.specs.Workers.{HasKeys, MapsFit, MayGoOn}
 use Rattle.luks_rules.specs.Shapes.{progress_of}
 use Rattle.luks_rules.specs.declared.shape.Progress.{Progress}
@@ -85,7 +85,7 @@ module _ (before : Stored) (p : Progress) (a : Map)
 
   may_go : IsGuarded p → MayGoOn before
   may_go guarded =
-      subst (λ o. IsSomeAnd o (λ now. (now.plan.zone ≡ 0) × IsByJournal now.conversion.resilience))
+      subst (λ o. IsSomeAnd o (λ now. (now.plan.zone ≡ 0) × IsSaved now.conversion.resilience))
       (sym known) (guarded.closed, guarded.guarded)
 
 -- ---- all that is asked

@@ -40,13 +40,13 @@ pub(crate) const MOST_ZONES: u64 = 1000;
 /// How a zone ended, or the finish.
 pub(crate) type Answer = std::result::Result<Stepped, ZoneFault>;
 
-/// Whether no zone is open, and zones are guarded by a journal.
+/// Whether no zone is open, and zones are guarded by a journal or by checksum.
 fn is_guarded(progress: &Progress) -> bool
     ensures { IsTrue result → IsGuarded progress.now }
 {
     match progress.conversion.resilience {
-        Resilience::Journal => progress.plan.zone == 0,
-        Resilience::Checksum(_) | Resilience::Datashift(_) => false,
+        Resilience::Journal | Resilience::Checksum(_) => progress.plan.zone == 0,
+        Resilience::Datashift(_) => false,
     }
 }
 
@@ -79,7 +79,7 @@ fn fits(map: &Map, atoms: u64, sides: &Sides) -> bool
 }
 
 /// Whether the conversion of a header may go on under these keys: none of its zones is open, it is
-/// guarded by a journal, and its volume fits the disk and the keys.
+/// guarded by a journal or by checksum, and its volume fits the disk and the keys.
 #[tactic(auto, using(crate::proofs::MapLemmas::may_lead))]
 fn may_lead(loaded: &Loaded, sides: &Sides) -> bool
     requires disk { IsDisk loaded.now.valid.sizes.atom (all_atoms loaded.now.valid.sizes) }

@@ -8,8 +8,9 @@
 //! - what is changed of the header before: nothing (`-`), its number (`number N`), or its text, which
 //!   is filled to so many bytes (`text N`);
 //! - how the volume is made: it is made and its conversion begins by the same calls as by the
-//!   commands (`made`); or it has the header of the text `data/begun.json` (`told`), with both
-//!   keyslots' areas empty, and numbers and words of the row in place of the words there;
+//!   commands, guarded by a journal (`made`) or by checksum (`checksum`); or it has the header of the
+//!   text `data/begun.json` (`told`), with both keyslots' areas empty, and numbers and words of the
+//!   row in place of the words there;
 //! - the bytes of an atom, the blocks of the volume, the direction, the bytes of the largest zone,
 //!   those of the old segment's sectors and of the new one's, the new cipher, the bytes of a key, and
 //!   the byte at which the data begins.

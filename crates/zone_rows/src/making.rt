@@ -18,7 +18,6 @@ use disk_sizes::Sizes;
 use format_disk::{make_volume, new_volumes_fit_their_disk, write_volume};
 use init_disk::begin_conversion;
 use luks_bin::is_header_size;
-use luks_init::Guard;
 use luks_json::Cipher;
 use luks_slots::{Key, unlock};
 use luks_store::Loaded;
@@ -165,7 +164,7 @@ fn conversion_wish(row: &Row) -> Result<luks_init::Wish>
         sector_size: row.new_sector,
         iterations: 1,
         direction: row.direction,
-        resilience: Guard::Journal,
+        resilience: row.guard,
         hotzone_size: hotzone,
     })
 }

@@ -4,6 +4,7 @@ ghost use Rattle.std.specs.Prelude.{◌≡◌, ◌+◌, ◌≤◌, IsTrue};
 ghost use Rattle.sector_disk.specs.Geometry.{IsDisk, is_atom};
 
 use anyhow::{Result, anyhow};
+use luks_init::Guard;
 use luks_json::{Cipher, Direction};
 
 /// The most atoms of a disk.
@@ -26,6 +27,8 @@ pub(crate) struct Row {
     /// Whether the volume is made and its conversion begins as by the commands; else it has the
     /// header of a text.
     pub(crate) is_made: bool,
+    /// What guards its zones.
+    pub(crate) guard: Guard,
     /// The bytes of an atom.
     pub(crate) atom: u32,
     /// How many atoms are in front of the volume's blocks.
@@ -98,6 +101,16 @@ fn cipher_of(word: &str) -> Result<Cipher> {
     }
 }
 
+/// Whether a volume is made, and what guards its zones, by a word.
+fn making_of(word: &str) -> Result<(bool, Guard)> {
+    match word {
+        "made" => Ok((true, Guard::Journal)),
+        "checksum" => Ok((true, Guard::Checksum)),
+        "told" => Ok((false, Guard::Journal)),
+        _ => Err(anyhow!("{word} makes no volume")),
+    }
+}
+
 /// What is done, by a word.
 pub(crate) fn what_of(word: &str) -> Result<What> {
     match word {
@@ -125,6 +138,7 @@ pub(crate) fn row_of(columns: &[&str]) -> Result<Row> {
     else {
         return Err(anyhow!("a row of so many columns"));
     };
+    let (is_made, guard) = making_of(made)?;
     let (atom, blocks, offset) = (small(atom)?, number(blocks)?, number(offset)?);
     if atom != 512 && atom != 4096 {
         return Err(anyhow!("an atom of {atom} bytes"));
@@ -134,7 +148,8 @@ pub(crate) fn row_of(columns: &[&str]) -> Result<Row> {
         return Err(anyhow!("a disk of so many atoms"));
     }
     Ok(Row {
-        is_made: *made == "made",
+        is_made,
+        guard,
         atom,
         front,
         blocks,
