@@ -1,9 +1,10 @@
 #!/usr/bin/env bash
 # Times whole conversions of a file: `resume` of one that `init` began, beside cryptsetup's own
-# reencryption, offline and by its journal, with the same zones, in turn, in one run: MiB a second of
-# 256 MiB (MEBIBYTES), in sectors of 512 and of 4096 bytes, by zones of 1 MiB and of 8 MiB. Both sync the
-# file; TMPDIR=/dev/shm shows them where a sync costs nothing. cryptsetup takes the file as it is, without a
-# device mapper and without a loop device; the ciphers of the kernel do its work.
+# reencryption, offline, with the same zones and what guards them, in turn, in one run: MiB a second of
+# 256 MiB (MEBIBYTES), in sectors of 512 and of 4096 bytes, by zones of 1 MiB and of 8 MiB, guarded by a
+# journal and by checksum (GUARDS). Both sync the file; TMPDIR=/dev/shm shows them where a sync costs
+# nothing. cryptsetup takes the file as it is, without a device mapper and without a loop device; the
+# ciphers of the kernel do its work. Its checksums are of sectors, ours of atoms of 4096 bytes.
 #
 # Then it times what takes up a conversion that was killed in a zone of 1 MiB and of 64 MiB, all of whose
 # blocks were written but for the last sync: milliseconds from the start of the process until the keys are
@@ -36,44 +37,50 @@ fresh() {
     sync disk.img
 }
 
-# ---- whole conversions: SECTOR ZONE
+# ---- whole conversions: GUARD SECTOR ZONE
 
 time_reencd() {
     fresh $((16 + mebibytes))
-    "$reencd" format disk.img --key-file key --iterations 1000 --sector-size "$1" >/dev/null || fail format
-    "$reencd" init disk.img --key-file key --iterations 1000 --sector-size "$1" --hotzone-size "$2" >/dev/null ||
-        fail init
+    "$reencd" format disk.img --key-file key --iterations 1000 --sector-size "$2" >/dev/null || fail format
+    "$reencd" init disk.img --key-file key --iterations 1000 --sector-size "$2" --hotzone-size "$3" \
+        --resilience "$1" >/dev/null || fail init
     rate "$(milliseconds "$reencd" resume disk.img --key-file key)"
 }
 
 time_cryptsetup() {
     fresh $((16 + mebibytes))
-    cryptsetup luksFormat "${quick[@]}" --type luks2 --cipher aes-xts-plain64 --key-size 512 --sector-size "$1" \
+    cryptsetup luksFormat "${quick[@]}" --type luks2 --cipher aes-xts-plain64 --key-size 512 --sector-size "$2" \
         disk.img || fail luksFormat
-    asked=("${quick[@]}" --force-offline-reencrypt --resilience journal --hotzone-size "$(($2 >> 10))k")
-    cryptsetup reencrypt "${asked[@]}" --init-only --cipher aes-xts-plain64 --key-size 512 --sector-size "$1" \
+    asked=("${quick[@]}" --force-offline-reencrypt --resilience "$1" --hotzone-size "$(($3 >> 10))k")
+    cryptsetup reencrypt "${asked[@]}" --init-only --cipher aes-xts-plain64 --key-size 512 --sector-size "$2" \
         disk.img >/dev/null || fail "reencrypt --init-only"
     rate "$(milliseconds cryptsetup reencrypt "${asked[@]}" --resume-only disk.img)"
 }
 
+# What is timed, a line each.
+kinds() {
+    for guard in ${GUARDS:-journal checksum}; do
+        for sector in 512 4096; do
+            echo "$guard $sector 1048576"
+            echo "$guard $sector 8388608"
+        done
+    done
+}
+
 for _ in $(seq "${TURNS:-3}"); do
-    for sector in 512 4096; do
-        for zone in 1048576 8388608; do
-            time_reencd $sector $zone >>"reencd.$sector.$zone" || exit
-            time_cryptsetup $sector $zone >>"cryptsetup.$sector.$zone" || exit
-        done
-    done
+    while read -r guard sector zone <&3; do
+        time_reencd "$guard" "$sector" "$zone" >>"reencd.$guard.$sector.$zone" || exit
+        time_cryptsetup "$guard" "$sector" "$zone" >>"cryptsetup.$guard.$sector.$zone" || exit
+    done 3< <(kinds)
 done
-printf '%-24s %-20s %-20s\n' "MiB a second" reencd cryptsetup
-for sector in 512 4096; do
-    for zone in 1048576 8388608; do
-        printf '%-24s' "sectors $sector, zones $((zone >> 20)) MiB"
-        for peer in reencd cryptsetup; do
-            printf ' %-20s' "$(paste -sd ' ' "$peer.$sector.$zone")"
-        done
-        echo
+printf '%-36s %-20s %-20s\n' "MiB a second" reencd cryptsetup
+while read -r guard sector zone; do
+    printf '%-36s' "$guard, sectors $sector, zones $((zone >> 20)) MiB"
+    for peer in reencd cryptsetup; do
+        printf ' %-20s' "$(paste -sd ' ' "$peer.$guard.$sector.$zone")"
     done
-done
+    echo
+done < <(kinds)
 
 # ---- taken up again
 

@@ -80,8 +80,13 @@ serve_by() {
     fail "the server did not start: $(cat "$room/stdout" "$room/stderr")"
 }
 
-# Waits for the server's own end, and expects it to be fine after so many sessions.
+# Waits for the server's own end, ten minutes at most, and expects it to be fine after so many sessions.
 served() {
+    for _ in $(seq 12000); do
+        kill -0 "$server" 2>/dev/null || break
+        sleep 0.05
+    done
+    kill -KILL "$server" 2>/dev/null
     wait "$server"
     expect "status of the server" "$?" 0
     server=

@@ -63,60 +63,91 @@ reencd: nothing is being converted
     [ "$(volume_key "$1")" != "$(volume_key old.img)" ] || fail "the key is the old one"
 }
 
+# `resume` of a copy of a disk ends with this status and line, and leaves it as it was: STATUS LINE DISK WORDS..
+refuses() {
+    wanted=$1
+    kept=$2
+    shift 2
+    cp "$kept" refused.img
+    "$reencd" resume refused.img "$@" >out 2>err
+    expect "resume $*" "$? $(cat out) $(cat err)" "$wanted"
+    cmp refused.img "$kept" || fail "the disk was written"
+}
+
 # ---- killed again and again
 
-head -c 33554432 /dev/urandom >volume.img
-"$reencd" format volume.img --key-file key --iterations 1000 >/dev/null || fail "format"
-cp volume.img old.img
-copy_content volume.img 4096 before.bin
-"$reencd" init volume.img --key-file key --iterations 1000 --hotzone-size 65536 >/dev/null || fail "init"
-kills=0
-zones=0
-moved=0
-status=137
-while [ "$status" = 137 ]; do
-    before=$(says volume.img 4096 seqid)
-    "$reencd" resume volume.img --key-file key >out 2>err &
-    killed=$!
-    # every second one is killed right after its start; the others once they have moved the boundary, and a
-    # little later, up to the last kill
-    if [ $((kills % 2)) = 1 ] || [ "$kills" -ge 40 ]; then
-        for _ in $(seq 1200); do
-            kill -0 "$killed" 2>/dev/null || break
-            [ "$(says volume.img 4096 seqid)" = "$before" ] || break
-            sleep 0.02
-        done
-    fi
-    sleep "0.$(printf '%03d' $((RANDOM % 80)))"
-    [ "$kills" -ge 40 ] || kill -KILL "$killed" 2>/dev/null
-    wait "$killed" 2>/dev/null
-    status=$?
-    [ "$status" = 137 ] || break
-    kills=$((kills + 1))
-    case $(says volume.img 4096 state) in
-    "reencrypt forward journal")
-        [ "$(says volume.img 4096 zone)" = none ] || zones=$((zones + 1))
-        [ "$(says volume.img 4096 seqid)" = "$before" ] || moved=$((moved + 1))
-        ;;
-    idle) break ;;
-    *) fail "the header that a kill left" ;;
-    esac
-done 2>/dev/null
-[ "$status" = 137 ] || expect "the last resume" "$status $(cat out)" "0 finished 4096 blocks"
-[ "$kills" -ge 2 ] || fail "only $kills kills came before the end"
-echo "of $kills kills $moved came behind a zone, and $zones left one open"
-is_finished volume.img 4096 aes-xts-plain64 512
+# Thousandths of a second.
+now() {
+    echo $(($(date +%s%N) / 1000000))
+}
+
+# A volume of SIZE bytes whose conversion is killed until it ends: how many kills there were, how many of them came
+# behind a zone, and how many left one open, in kills, moved and zones: GUARD SIZE.
+kill_often() {
+    head -c $((16777216 + $2)) /dev/urandom >volume.img
+    "$reencd" format volume.img --key-file key --iterations 1000 >/dev/null || fail "format"
+    cp volume.img old.img
+    copy_content volume.img 4096 before.bin
+    "$reencd" init volume.img --key-file key --iterations 1000 --hotzone-size 65536 --resilience "$1" >/dev/null ||
+        fail "init"
+    # how long it takes to its end, by which moments are drawn; it is tried on a copy
+    cp volume.img timed.img
+    began=$(now)
+    "$reencd" resume timed.img --key-file key >/dev/null 2>&1 || fail "resume of a copy"
+    took=$(($(now) - began + 1))
+    kills=0
+    zones=0
+    moved=0
+    status=137
+    while [ "$status" = 137 ]; do
+        before=$(says volume.img 4096 seqid)
+        "$reencd" resume volume.img --key-file key >out 2>err &
+        killed=$!
+        # every second one is killed within a tenth of that time, the others within a third; behind the 40th none
+        # is
+        moment=$((RANDOM % (took / (kills % 2 == 1 ? 3 : 10) + 1)))
+        sleep "$((moment / 1000)).$(printf '%03d' $((moment % 1000)))"
+        [ "$kills" -ge 40 ] || kill -KILL "$killed" 2>/dev/null
+        wait "$killed" 2>/dev/null
+        status=$?
+        [ "$status" = 137 ] || break
+        kills=$((kills + 1))
+        case $(says volume.img 4096 state) in
+        "reencrypt forward $1")
+            [ "$(says volume.img 4096 zone)" = none ] || zones=$((zones + 1))
+            [ "$(says volume.img 4096 seqid)" = "$before" ] || moved=$((moved + 1))
+            ;;
+        idle) break ;;
+        *) fail "the header that a kill left" ;;
+        esac
+    done 2>/dev/null
+    [ "$status" = 137 ] || expect "the last resume" "$status $(cat out)" "0 finished $(($2 / 4096)) blocks"
+    echo "of $kills kills in $took thousandths of a second, by $1, $moved came behind a zone, and $zones left one open"
+    is_finished volume.img 4096 aes-xts-plain64 512
+}
+
+# where none comes behind a zone, or with one open, it is tried again, at last on larger volumes, whose conversions
+# take longer
+for guard in journal checksum; do
+    for size in 16777216 16777216 33554432 67108864 134217728; do
+        kill_often "$guard" "$size"
+        [ "$moved" -ge 1 ] && [ "$zones" -ge 1 ] && break
+    done
+    [ "$moved" -ge 1 ] || fail "no kill came behind a zone"
+    [ "$zones" -ge 1 ] || fail "no kill left a zone open"
+done
 
 # ---- a kill at calls that are known, and another one at the same call of what takes it up: the first sync; that
 # ---- of the second copy of the header that opens a zone; the write of the first copy; that of the zone's blocks
 
 if strace -o probe true 2>/dev/null; then
-    while IFS='|' read -r call number first second; do
-        head -c 17301504 /dev/urandom >volume.img
+    while IFS='|' read -r guard hotzone blocks call number first second; do
+        head -c $((16777216 + blocks * 4096)) /dev/urandom >volume.img
         "$reencd" format volume.img --key-file key --iterations 1000 >/dev/null || fail "format"
         cp volume.img old.img
         copy_content volume.img 4096 before.bin
-        "$reencd" init volume.img --key-file key --iterations 1000 --hotzone-size 65536 >/dev/null || fail "init"
+        "$reencd" init volume.img --key-file key --iterations 1000 --hotzone-size "$hotzone" --resilience "$guard" \
+            >/dev/null || fail "init"
         for zone in "$first" "$second"; do
             # in a shell of its own, which says nothing of the kill
             status=$(
@@ -128,15 +159,20 @@ if strace -o probe true 2>/dev/null; then
             )
             expect "status and zone behind a kill at $call $number" "$status $(says volume.img 4096 zone)" "137 $zone"
         done
-        expect "resume" "$("$reencd" resume volume.img --key-file key 2>err; echo $?)" "finished 128 blocks
+        expect "resume" "$("$reencd" resume volume.img --key-file key 2>err; echo $?)" "finished $blocks blocks
 0"
-        is_told 128
+        is_told "$blocks"
         is_finished volume.img 4096 aes-xts-plain64 512
     done <<'KILLS'
-fdatasync,fsync|1|none|none
-fdatasync,fsync|5|0 + 16|none
-pwrite64|2|none|none
-pwrite64|4|0 + 16|none
+journal|65536|128|fdatasync,fsync|1|none|none
+journal|65536|128|fdatasync,fsync|5|0 + 16|none
+journal|65536|128|pwrite64|2|none|none
+journal|65536|128|pwrite64|4|0 + 16|none
+checksum|4096|200|fdatasync,fsync|1|none|none
+checksum|4096|200|pwrite64|1|none|none
+checksum|4096|200|pwrite64|2|none|none
+checksum|4096|200|fdatasync,fsync|5|0 + 128|none
+checksum|4096|200|pwrite64|4|0 + 128|none
 KILLS
 else
     echo "no strace: no kill comes at a known call"
@@ -172,28 +208,17 @@ done <<'OPTIONS'
 512 3001 forward aes-xts-plain64 32 512 --hotzone-size 65536
 4096 513 forward aes-cbc-essiv:sha256 32 512 --hotzone-size 2097152
 512 1000 backward aes-cbc-essiv:sha256 16 512 --hotzone-size 4096
+4096 700 backward aes-xts-plain64 64 4096 --hotzone-size 8192 --resilience checksum
+512 3001 forward aes-cbc-essiv:sha256 32 512 --resilience checksum
 OPTIONS
 
 # ---- what stands in the way
-
-# `resume` of a copy of a disk ends with this status and line, and leaves it as it was: STATUS LINE DISK WORDS..
-refuses() {
-    wanted=$1
-    kept=$2
-    shift 2
-    cp "$kept" refused.img
-    "$reencd" resume refused.img "$@" >out 2>err
-    expect "resume $*" "$? $(cat out) $(cat err)" "$wanted"
-    cmp refused.img "$kept" || fail "the disk was written"
-}
 
 head -c 17825792 /dev/urandom >random.img
 cp random.img idle.img
 "$reencd" format idle.img --key-file key --iterations 1000 >/dev/null || fail "format"
 cp idle.img begun.img
 "$reencd" init begun.img --key-file key --iterations 1000 >/dev/null || fail "init"
-cp idle.img checked.img
-"$reencd" init checked.img --key-file key --iterations 1000 --resilience checksum >/dev/null || fail "init"
 refuses "3 fault 3 NoHeader reencd: header: primary: Magic; secondary: Magic" random.img --key-file key
 refuses "6 fault 6 WrongState reencd: nothing is being converted" idle.img --key-file /dev/null
 refuses "8 fault 8 NoFit reencd: a passphrase of 0 bytes, which are to be 1 to 512" begun.img --key-file /dev/null
@@ -203,11 +228,6 @@ expect "a wrong key file" "$("$reencd" resume refused.img --key-file other 2>err
 5"
 grep -q "^reencd: the old key: the passphrase opens no keyslot" err || fail "the reason is $(cat err)"
 cmp refused.img begun.img || fail "the disk was written"
-cp checked.img refused.img
-expect "zones that checksums guard" "$("$reencd" resume refused.img --key-file key 2>/dev/null; echo $?)" \
-    "fault 6 WrongState
-6"
-cmp refused.img checked.img || fail "the disk was written"
 # cryptsetup's own conversion isn't taken up
 cp idle.img foreign.img
 # shellcheck disable=SC2086

@@ -9,7 +9,8 @@ compared with that from before the first write. Some are stopped once more in th
     tests/stops/run.py [PROGRAM] [--images N] [--seed N]
 
 Standard library alone, and strace. The content is read by another reading of the format where there is
-the module `cryptography`, else by a client of `serve`; of some images by both.
+the module `cryptography`, before an image is taken up too; else by a client of `serve`; of some images by
+both.
 """
 
 import argparse
@@ -43,6 +44,8 @@ PLANS = [
     (512, 24, "--key-size 32", "--key-size 32 --hotzone-size 4096"),
     (4096, 7, "--key-size 32 --sector-size 4096", "--key-size 32 --hotzone-size 8192 --direction backward"),
     (4096, 5, "--key-size 32", "--key-size 16 --cipher aes-cbc-essiv:sha256 --hotzone-size 8192"),
+    # by checksum a block that is torn itself can't be told, so that a block is a unit here
+    (512, 132, "--key-size 32", "--key-size 32 --hotzone-size 4096 --resilience checksum"),
 ]
 FIRST = 303104
 LOST = [0.0, 0.1, 0.5, 0.9, 1.0]
@@ -243,6 +246,52 @@ def read_anew(image, passphrase):
     return decoded.sectors(segment["encryption"], key, segment["sector_size"], first, data)
 
 
+def opened(segment, key, first, data):
+    """What bytes open to by a segment, from a byte of it on."""
+    number = int(segment["iv_tweak"]) + first // UNIT
+    return decoded.sectors(segment["encryption"], key, segment["sector_size"], number, data)
+
+
+def zone_anew(image, segment, final, keys, area, begin):
+    """The content of an open zone, which begins at a byte of the volume: by journal what was saved; by
+    checksum each block where it is, an old one where it has the digest that was saved of it."""
+    at, size, saved = int(segment["offset"]), int(segment["size"]), int(area["offset"])
+    if area["type"] == "journal":
+        return opened(segment, keys[0], 0, image[saved : saved + size])
+    block, content = area["sector_size"], b""
+    for place in range(0, size, block):
+        data = image[at + place : at + place + block]
+        digest = image[saved + place // block * 32 :][:32]
+        if hashlib.sha256(data).digest() == digest:
+            content += opened(segment, keys[0], place, data)
+        else:
+            content += opened(final, keys[1], begin + place, data)
+    return content
+
+
+def read_begun(image, passphrase):
+    """The content of a volume of which a conversion is under way, by another reading."""
+    header = decoded.header_of(header_in(image))
+    (area,) = (slot["area"] for slot in header["keyslots"].values() if slot["type"] == "reencrypt")
+    keys = {}
+    for number, digest in header["digests"].items():
+        key = decoded.key_of(image, {**header, "digests": {number: digest}}, passphrase)
+        keys.update({segment: key for segment in digest["segments"]})
+    *live, previous, final = sorted(header["segments"], key=int)
+    sides, content = (keys[previous], keys[final]), b""
+    for number in live:
+        segment = header["segments"][number]
+        if "in-reencryption" in segment.get("flags", []):
+            whole = header["segments"][final]
+            content += zone_anew(image, segment, whole, sides, area, len(content))
+            continue
+        data = image[int(segment["offset"]) :]
+        if segment["size"] != "dynamic":
+            data = data[: int(segment["size"])]
+        content += opened(segment, keys[number], 0, data)
+    return content
+
+
 # ---- one plan: a volume, its conversion, and its images
 
 
@@ -309,27 +358,34 @@ class Plan:
             at = next((i for i in range(length) if content[i] != self.content[i]), length)
             raise Unlike(f"{where} the content differs from byte {at} on")
 
-    def state(self):
+    def is_begun(self):
+        """Whether a conversion is under way."""
         status, text = self.program.ends("status", self.disk, "--atom", str(self.atom))
         if status != 0:
             raise Unlike(f"status ends with {status}: {text}")
-        return re.search(r"^state: (\w+)", text, re.M)[1]
+        return re.search(r"^state: (\w+)", text, re.M)[1] != "idle"
 
     def take_up(self, image, again, both):
         """Takes an image up, which is stopped once more in that where it is asked for: how it ended."""
-        self.write(image)
-        state = self.state()
-        again = again and state != "idle"
+        is_begun = self.puts(image)
+        again = again and is_begun
         if again:
             *ended, calls = self.program.records(self.disk, *self.resumes)
             self.fine(ended)
-            self.write(stopped_in(image, calls, self.drawn))
-            state = self.state()
+            is_begun = self.puts(stopped_in(image, calls, self.drawn))
         status, text = self.program.ends(*self.resumes)
-        if status != (6 if state == "idle" else 0):
-            raise Unlike(f"resume ends with {status} in the state {state}: {text}")
+        if status != (0 if is_begun else 6):
+            raise Unlike(f"resume ends with {status}: {text}")
         self.same(self.content_of(self.read(), both), f"behind a resume that ended with {status}")
         return "again" if again else "idle" if status == 6 else "open"
+
+    def puts(self, image):
+        """Puts an image on the disk: whether a conversion is under way; then its content is compared."""
+        self.write(image)
+        is_begun = self.is_begun()
+        if is_begun and decoded:
+            self.same(read_begun(image, self.passphrase), "by the header that a stop left")
+        return is_begun
 
 
 def main():
