@@ -58,8 +58,9 @@ pub struct Unserved<D: Disk, L> {
 
 /// Serves the sessions of all links, each link in a thread of its own where one can be made, until
 /// each has none ahead or failed itself, or memory is wanted for the end of a session of its own.
-/// Beside them, in one more thread, a worker leads the volume's conversion until it ends, where
-/// `converts` says so and the volume has what its conversion takes.
+/// Beside them, in the calling thread, a worker leads the volume's conversion until it ends, where
+/// `converts` says so and the volume has what its conversion takes. Where no thread can be made, the
+/// links are served behind it.
 ///
 /// The link `k` of `n` serves the sessions of the numbers `k`, `k + n`, `k + 2 * n` and so on, on
 /// the lane `k` of the volume, which has one more for its conversion; no operation is under way on
