@@ -26,6 +26,8 @@ mod leavings;
 mod link;
 mod port;
 mod serving;
+#[cfg(test)]
+mod tests;
 mod worker;
 mod workers;
 

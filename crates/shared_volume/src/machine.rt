@@ -33,6 +33,9 @@ pub struct SharedVolume<D: Disk> {
 
 impl<D: Disk> SharedVolume<D> {
     /// The machine of a volume on which no operation is under way.
+    //
+    // Out of line: with each move of a volume, of 18 KiB, in one function LLVM doesn't end.
+    #[inline(never)]
     pub fn of(alloc: Global, volume: Volume<D, Context>) -> SharedVolume<D>
         requires { MayBeShared volume }
         ensures opening { result.opening.value ≡ volume }
