@@ -71,8 +71,13 @@ fn command_text(alloc: Global, command: &Command<'_>) -> Result<String> {
                 Some(file) => format!(in alloc; " by {file}")?,
                 None => String::new(alloc),
             };
+            let converts = if serve.converts {
+                ""
+            } else {
+                ", not converting"
+            };
             Ok(format!(in alloc;
-                "serve {}{key_file} in atoms of {} at {}, {} workers, {} sessions",
+                "serve {}{key_file} in atoms of {} at {}, {} workers, {} sessions{converts}",
                 serve.disk, serve.atom, serve.address, serve.workers, serve.sessions,
             )?)
         }

@@ -28,6 +28,12 @@
 //!   byte. It tells how many those are: the words, what is put first, and in turn a message and its
 //!   answer.
 //!
+//! Words of `serves` and of `turns` may begin with `meeting STEP: `: then the first operation that is
+//! admitted is held until the conversion's worker has come to its step of this number, where it is held
+//! until a second operation is admitted; where STEP is 0, the first one is held until a second one is
+//! admitted. Behind what such a command comes to it says `met`, or `missed` where one was held for 10000
+//! milliseconds.
+//!
 //! A bay has the key files `k`, `line`, `empty` and `long`. What is sent and put are messages of
 //! the file `messages`. A line of it is a name, the bytes in hexadecimal and how often they come,
 //! with a tab between.
@@ -37,6 +43,7 @@
 
 mod asking;
 mod cutting;
+mod meeting;
 mod messages;
 mod running;
 mod serving;

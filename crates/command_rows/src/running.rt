@@ -6,10 +6,11 @@ ghost use Rattle.luks_bin.specs.Writing.{IsWritable};
 ghost use Rattle.sector_disk.specs.Mem.{atom_of, atoms_of};
 
 use crate::asking::words_of_row;
+use crate::meeting::Meeting;
 use anyhow::{Context, Result, anyhow};
 use base_terms::{Bytes, zeros};
 use bays::{MemBay, MemLink};
-use io_edge::{FixedSeeds, ListSink, ListSource, OpenGate};
+use io_edge::{FixedSeeds, Gate, ListSink, ListSource, OpenGate};
 use luks_bin::{BinHeader, is_header_size, write_copy};
 use reenc_tool::{Ended, FaultText, RefusalText, run};
 use sector_disk::{Disk, MemDisk};
@@ -156,6 +157,19 @@ pub(crate) fn bay_of(
     Ok(MemBay::new(alloc, disks, keys_of(alloc)?, address, clients, fails))
 }
 
+/// Runs a command in a bay, at a gate.
+fn run_at<'w>(
+    rt: &(impl Threads + Wait + Sync),
+    alloc: Global,
+    words: &'w [String],
+    bay: &mut MemBay,
+    out: &mut ListSink,
+    gate: &(impl Gate + Sync),
+) -> Result<Ended<'w, MemDisk, MemLink>> {
+    let mut seeds = FixedSeeds::new(alloc, &[0], &[])?;
+    Ok(run(rt, alloc, words, bay, &mut seeds, out, gate))
+}
+
 /// Runs a command in a bay.
 pub(crate) fn run_in<'w>(
     rt: &(impl Threads + Wait + Sync),
@@ -164,8 +178,26 @@ pub(crate) fn run_in<'w>(
     bay: &mut MemBay,
     out: &mut ListSink,
 ) -> Result<Ended<'w, MemDisk, MemLink>> {
-    let mut seeds = FixedSeeds::new(alloc, &[0], &[])?;
-    Ok(run(rt, alloc, words, bay, &mut seeds, out, &OpenGate))
+    run_at(rt, alloc, words, bay, out, &OpenGate)
+}
+
+/// Runs a command in a bay whose clients and worker meet at this step, where there is one: how it
+/// ended, and whether they met.
+pub(crate) fn run_meeting<'w>(
+    rt: &HostRuntime,
+    threads: &(impl Threads + Wait + Sync),
+    words: &'w [String],
+    bay: &mut MemBay,
+    out: &mut ListSink,
+    step: Option<u64>,
+) -> Result<(Ended<'w, MemDisk, MemLink>, &'static str)> {
+    let alloc = rt.alloc();
+    let Some(step) = step else {
+        return Ok((run_in(threads, alloc, words, bay, out)?, ""));
+    };
+    let gate = Meeting::new(*rt, step);
+    let ended = run_at(threads, alloc, words, bay, out, &gate)?;
+    Ok((ended, if gate.is_kept() { " met" } else { " missed" }))
 }
 
 /// The status, the lines that were printed, and what is told of the header, or of a volume that

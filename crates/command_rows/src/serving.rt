@@ -1,8 +1,9 @@
 // Rows on commands that meet clients.
 
 use crate::asking::words_of_row;
+use crate::meeting::meeting_of;
 use crate::messages::{Message, bytes_of};
-use crate::running::{bay_of, numbers_of, run_in};
+use crate::running::{bay_of, numbers_of, run_meeting};
 use anyhow::{Context, Result, anyhow};
 use bays::MemLink;
 use io_edge::{ListSink, ListSource};
@@ -197,7 +198,9 @@ pub(crate) fn served(
     let lists = lists_of(alloc, fails)?;
     let mut bay = bay_of(alloc, disk_of(rt, disk, 600)?, connections, lists)?;
     let mut out = out_of(alloc, out)?;
+    let (step, line) = meeting_of(line);
     let words = words_of_row(alloc, line)?;
-    let ended = run_in(threads, alloc, words.as_slice(), &mut bay, &mut out)?;
-    told(alloc, &ended, &out, clients.as_slice())
+    let (ended, met) = run_meeting(rt, threads, words.as_slice(), &mut bay, &mut out, step)?;
+    let told = told(alloc, &ended, &out, clients.as_slice())?;
+    Ok(format!(in alloc; "{told}{met}")?)
 }

@@ -1,48 +1,59 @@
 -- A conversion that is led on keeps what its disk stood for.
-use Rattle.std.proofs.Common.{◌≡◌, ◌∙◌, ◌+◌, ◌*◌, inr, ℕ, List, Option, Some, Ok, ap, arith, refl, subst, sym}
-use Rattle.conversion_opening.specs.declared.fault.ConversionCause.{ConversionCause}
+use Rattle.std.proofs.Common.{◌≡◌, ◌∙◌, ◌++◌, inl, inr, ℕ, true, List, Option, Some, Ok, ap, arith}
+use Rattle.std.proofs.Common.{refl, subst, sym}
+use Rattle.base_terms.specs.Blocks.{joined}
 use Rattle.disk_areas.specs.Headers.{Layout}
 use Rattle.disk_sizes.specs.declared.Sizes.{Sizes}
 use Rattle.header_report.specs.Examinations.{sizes_alone}
-use Rattle.joined_disk.specs.Joined.{Joint, joined_disk}
+use Rattle.joined_disk.specs.Joined.{joined_disk}
+use Rattle.luks_rules.specs.Segments.{in_progress}
 use Rattle.luks_store.specs.declared.loaded.Stored.{Stored}
+use Rattle.open_zones.specs.Images.{ImageStandsFor}
+use Rattle.reenc_recovery.specs.Images.{StandsFor}
+use Rattle.reenc_recovery.specs.Placings.{RestsIn}
 use Rattle.reenc_worker.specs.declared.ends.WorkerEnd.{WorkerEnd}
 use Rattle.reenc_worker.specs.declared.ends.WorkerEnd.TheVariants.{Finished}
-use Rattle.resume_disk.specs.Refusals.{IsRefusedBy, IsUnopenedUnder}
 use Rattle.resume_disk.specs.Resuming.{HasRun}
-use Rattle.resume_disk.specs.declared.refusal.Refusal.{Refusal}
-use Rattle.resume_disk.specs.declared.refusal.Refusal.TheVariants as refusals
 use Rattle.resumed_volumes.proofs.ResumeLemmas.{told-first}
-use Rattle.resumed_volumes.specs.Chaining.{IsOneDisk, StopsStandAgain}
+use Rattle.resumed_volumes.specs.Chaining.{GoesOnIn, IsOneDisk, StopsStandAgain}
 use Rattle.resumed_volumes.specs.Openings.{IsKnownBehind, OpeningsKeepContent, OpensOn}
-use Rattle.resumed_volumes.specs.Openings.{UnopenedKeepContent}
-use Rattle.resumed_volumes.specs.Resuming.{IsTakenUp, ResumedConversionsKeepContent}
+use Rattle.resumed_volumes.specs.Passphrases.{AreGiven, FinishedConversionsStandFor, IsTakenUpFor}
+use Rattle.resumed_volumes.specs.Passphrases.{StandsAgainFor, StopsStandForPassphrases}
+use Rattle.resumed_volumes.specs.Repeating.{Tells, at_work}
+use Rattle.resumed_volumes.specs.Resuming.{IsTakenUp, ResumedConversionsKeepContent, both_of}
 use Rattle.resumed_volumes.specs.Resuming.{ResumedConversionsStand, TakenUpConversionsBegin}
 use Rattle.resumed_volumes.specs.Runs.{HoldsNew}
 use Rattle.resumed_volumes.specs.Starts.{layout_on, volume_seals}
 use Rattle.sector_disk.specs.Devices.{Device as DiskState}
 use Rattle.sector_disk.specs.Geometry.{IsDisk}
+use Rattle.sector_disk.specs.Steps.{Told}
 use Rattle.served_conversions.specs.Clients.{StoodFor}
-use Rattle.served_conversions.specs.Serving.{PassphrasesGiveKeys}
+use Rattle.served_conversions.specs.Serving.{FoundKeysStand, PassphrasesGiveKeys}
+use Rattle.volume_laws.specs.Handing.{handed_over}
+use Rattle.volume_laws.specs.Imaging.{IsTaken}
+use Rattle.volume_machine.specs.Deeds.{Deed, state_after}
 use Rattle.volume_machine.specs.States.{State}
 use Rattle.volume_machine.specs.declared.keys.Keys.{Keys}
 use Rattle.volume_opening.specs.Openings.{alone}
 use Rattle.worker_laws.specs.Conversions.{HasConverted}
+use Rattle.zone_events.proofs.GroundLemmas.{busy-of}
 use Rattle.zone_events.specs.Heads.{header_on}
 use Rattle.zone_events.specs.Readings.{reading_of}
 use Rattle.zone_events.specs.Works.{layout_for}
-use Rattle.reenc_tool.specs.Kept.{KeepsRefused, KeepsRun, KeepsVain, KnowsKeys}
+use Rattle.reenc_tool.specs.Kept.{KeepsRun, KnowsKeys, StandsAtEnd, StandsAtStops}
 
 -- the laws that this stands on
 pub record KeptLaws {C : Type 0} (sector : C → ℕ) (sealed opened : C → ℕ → List ℕ → List ℕ)
     : Type 0 where
   pub keys : PassphrasesGiveKeys sector sealed opened
   pub openings : OpeningsKeepContent sector sealed opened
-  pub in_vain : UnopenedKeepContent sector sealed opened
   pub begins : TakenUpConversionsBegin sector sealed opened
   pub finished : ResumedConversionsKeepContent sector sealed opened
   pub stops : ResumedConversionsStand sector sealed opened
   pub again : StopsStandAgain sector sealed opened
+  pub given : FoundKeysStand
+  pub ended : FinishedConversionsStandFor sector sealed opened
+  pub left : StopsStandForPassphrases sector sealed opened
 
 module _ {C D : Type 0} {sector : C → ℕ} {sealed opened : C → ℕ → List ℕ → List ℕ}
     (laws : KeptLaws sector sealed opened) (device : D → DiskState) (pass : List ℕ) (disk : D)
@@ -55,6 +66,71 @@ module _ {C D : Type 0} {sector : C → ℕ} {sealed opened : C → ℕ → List
     pub knows-run : KnowsKeys (device disk) pass run.resumed.keys
     knows-run first content told stands =
         laws.keys (device disk) pass first 1 run.volume content run.resumed told stands
+
+    one-disk : IsDisk (device disk).size (device disk).atoms → IsOneDisk sizes run.volume.disk
+    one-disk geometry =
+        let has = run.resumed.is_read.sizes_are in
+        let all = has.all in
+        let atoms : (device disk).atoms ≡ run.volume.disk.atoms = omega (arith, all) in
+        record {
+          has = has;
+          alone = refl;
+          disk = subst (λ (n : ℕ). IsDisk run.volume.disk.size n) atoms
+              (subst (λ (n : ℕ). IsDisk n (device disk).atoms) has.atom geometry);
+        }
+
+    -- ---- under the passphrase
+    module _ (geometry : IsDisk (device disk).size (device disk).atoms) (first : List ℕ)
+        (content : List (List ℕ)) (told : (device disk).values ≡ Some first)
+        (stands : ImageStandsFor sizes pass first content) where
+      given : AreGiven sizes pass run.resumed.keys first
+      given =
+          (laws.given (device disk) pass first run.resumed.keys run.resumed.read run.resumed.under
+          run.resumed.begins told).0
+
+      tells : Tells sizes (alone run.resumed.read) first
+      tells = record {
+        has = run.resumed.begins.has;
+        shows = run.resumed.begins.shows;
+        values = run.resumed.begins.shown first told;
+        long = run.resumed.begins.long first told;
+      }
+
+      abbrev taken-for : IsTakenUpFor sector sealed opened sizes run.resumed.keys 1
+          (alone run.resumed.read) run.volume pass content
+      taken-for = record {
+        first = first;
+        tells = tells;
+        given = given;
+        stands = stands;
+        is = run.resumed.calls;
+        order = run.resumed.order;
+      }
+
+      goes : GoesOnIn sizes first
+      goes stored is =
+          let found = run.resumed.calls.found in
+          let same : stored ≡ found.header =
+          (let e : Ok stored ≡ Ok found.header = sym is ∙ found.held first tells.values in cc) in
+          subst (λ (s : Stored). in_progress s.valid.meta.config ≡ true) (sym same)
+          (busy-of found.header.valid.meta sizes found.passed.conversion.now
+          found.passed.conversion.known)
+
+      pub stops-at : (earlier later : List (Deed (Keys C)))
+          → run.led.ran.worked.deeds ≡ earlier ++ later → (now : Told)
+          → (state_after run.volume earlier).disk.told ≡ Some now → (image : List (List ℕ))
+          → IsTaken (reading_of sizes) (state_after run.volume earlier)
+          (handed_over run.volume (both_of (header_on run.resumed.calls.led.last)) earlier) now.now
+          image → StandsAgainFor sizes pass (joined image) content
+      stops-at earlier later parts now now_is image image_taken =
+          laws.left sizes run.resumed.keys pass first (joined image) content (inl (stands, goes)) given
+          (at_work 1 (alone run.resumed.read) run.volume after run.led.ran.answers image tells
+          run.resumed.calls run.resumed.order (one-disk geometry) run.led.ran.worked earlier later parts
+          now now_is image_taken refl)
+
+    pub stands-at-stops : IsDisk (device disk).size (device disk).atoms → StandsAtStops run
+    stands-at-stops geometry first content told stands earlier later parts now now_is image image_taken =
+        stops-at geometry first content told stands earlier later parts now now_is image image_taken
 
     module _ (first old_key new_key : List ℕ) (content : List (List ℕ))
         (stood : StoodFor sizes run.resumed.keys (device disk) first old_key new_key content) where
@@ -80,18 +156,6 @@ module _ {C D : Type 0} {sector : C → ℕ} {sealed opened : C → ℕ → List
       }
 
       module _ (geometry : IsDisk (device disk).size (device disk).atoms) where
-        one-disk : IsOneDisk sizes run.volume.disk
-        one-disk =
-            let has = run.resumed.is_read.sizes_are in
-            let all = has.all in
-            let atoms : (device disk).atoms ≡ run.volume.disk.atoms = omega (arith, all) in
-            record {
-              has = has;
-              alone = refl;
-              disk = subst (λ (n : ℕ). IsDisk run.volume.disk.size n) atoms
-                  (subst (λ (n : ℕ). IsDisk n (device disk).atoms) has.atom geometry);
-            }
-
         pub keeps-run : KeepsRun sector sealed opened device disk pass end after header back run
             old_key new_key content
         keeps-run = record {
@@ -105,7 +169,7 @@ module _ {C D : Type 0} {sector : C → ℕ} {sealed opened : C → ℕ → List
               run.volume content taken
               (inr (told-first earlier later run.led.ran.worked parts told told_is)) in
               laws.again sizes run.resumed.calls.led.last 1 old_key new_key now run.volume after content
-              run.led.ran.answers b stands one-disk saved run.led.ran.worked earlier
+              run.led.ran.answers b stands (one-disk geometry) saved run.led.ran.worked earlier
               later parts told told_is image image_taken;
         }
 
@@ -135,25 +199,16 @@ module _ {C D : Type 0} {sector : C → ℕ} {sealed opened : C → ℕ → List
         (subst (λ (d : DiskState). IsKnownBehind run.resumed.calls.found.header d) run.shows known))
         run.led.ran
 
-  -- ---- where it wasn't led on
-  keeps-vain : (cause : ConversionCause) (joint : Joint)
-      (under : IsUnopenedUnder sector sealed opened (device disk) pass cause joint) → KeepsVain under
-  keeps-vain cause joint under first old_key new_key content stored stood held =
-      laws.in_vain sizes under.unopened.0 under.keys (alone under.read) joint cause first old_key
-      new_key content stored (record {
-        has = under.begins.has;
-        shows = under.begins.shows;
-        values = under.begins.shown first stood.told;
-        long = under.begins.long first stood.told;
-        handed_in = stood.handed_in;
-        stands = stood.stands;
-      }) under.tells held under.unopened.1
-
-  pub keeps-refused : (refusal : Refusal)
-      (refused : IsRefusedBy sector sealed opened device disk pass refusal header back)
-      → KeepsRefused sector sealed opened device disk pass refusal header back refused
-  keeps-refused (refusals.Header fault) refused = tt
-  keeps-refused refusals.Idle refused = tt
-  keeps-refused (refusals.Passphrase count) refused = tt
-  keeps-refused (refusals.Slots side fault) refused = tt
-  keeps-refused (refusals.Unopened cause) refused = keeps-vain cause refused.0 refused.2
+    pub stands-at-end : IsDisk (device disk).size (device disk).atoms → StandsAtEnd run
+    stands-at-end geometry first content told stands known =
+        subst (λ (d : DiskState). (now : List ℕ) × (d.values ≡ Some now) × StandsFor sizes pass now content
+        × RestsIn sizes now) (sym run.shows)
+        (subst (λ (l : Layout). HasConverted (reading_of sizes)
+        (volume_seals sealed opened run.volume) l (header_on run.resumed.calls.led.last) run.volume
+        after Finished → (now : List ℕ) × (after.disk.values ≡ Some now)
+        × StandsFor sizes pass now content × RestsIn sizes now) (sym same-layout)
+        (λ done. laws.ended sizes run.resumed.keys 1 (alone run.resumed.read) run.volume after pass content
+        (taken-for Finished after run geometry first content told stands)
+        (one-disk Finished after run geometry) done
+        (subst (λ (d : DiskState). IsKnownBehind run.resumed.calls.found.header d) run.shows known))
+        run.led.ran)

@@ -1,84 +1,38 @@
 -- A command of its parts.
-use Rattle.std.proofs.Common.{◌≡◌, ℕ, ◌+◌, ◌*◌, ◌<◌, ◌≤◌, ◌⊎◌, ⊎_elim, le_trans, Bool}
-use Rattle.std.proofs.Common.{true}
-use Rattle.std.proofs.Common.{false, inl, inr, zero, suc, List, [], ◌∷◌, ◌++◌, length}
-use Rattle.std.proofs.Common.{slice_index_or, replicate, Option, Some, ap, ◌∙◌, refl, sym}
-use Rattle.std.proofs.Common.{subst, arith, suc-mul}
+use Rattle.std.proofs.Common.{◌≡◌, ℕ, ◌+◌, ◌*◌, ◌<◌, ◌≤◌, ⊎_elim, le_trans, Bool}
+use Rattle.std.proofs.Common.{inl, inr, zero, suc, List, length, slice_index_or, replicate}
+use Rattle.std.proofs.Common.{Option, None, Some, ap, ◌∙◌, sym, subst, arith, suc-mul}
+use Rattle.std.specs.Prelude.{IsSome}
 use Rattle.base_terms.specs.Blocks.{lengths}
-use Rattle.base_terms.specs.Causes.{Rose}
 use Rattle.bays.specs.Bays.{AreBounded, Holdings, IsShare, LeavesAll, LeavesOtherDisks}
 use Rattle.bays.specs.Bays.{LeavesOtherClients}
 use Rattle.bays.specs.Stories.{LinkState}
 use Rattle.nbd_session.specs.declared.ending.SessionEnd.{SessionEnd}
 use Rattle.cipher_laws.specs.Bytes.{AreBytes}
-use Rattle.plain_disk.specs.Plain.{Block, Exchange}
 use Rattle.sector_disk.specs.Cells.{AreSettled, content, currents}
 use Rattle.sector_disk.specs.Steps.{Told}
-use Rattle.volume_machine.specs.Beginnings.{IsFresh}
-use Rattle.volume_laws.specs.Executing.{Executes, StopsAlong, TellsRun, ServesWithoutFaults}
-use Rattle.volume_laws.specs.Executing.{BreaksByFaults}
-use Rattle.volume_machine.specs.States.{IsIdle}
-use Rattle.volume_laws.specs.Promises.{DeviceErrorsAreExact, PlacesAreExact, Starts, StartsCovered}
-use Rattle.volume_laws.specs.Promises.{ServesEachRun, GoesByEvents, TellsSettled}
-use Rattle.volume_machine.specs.Answers.{AreExchanges, Tagged, untagged}
-use Rattle.volume_machine.specs.Runs.{Happening, IsRun, last_of, answered_in, no_plain}
-use Rattle.volume_machine.specs.Beginnings.{ChangeNothing}
-use Rattle.volume_machine.specs.Seals.{Seals, AreLawful}
+use Rattle.shared_volume.specs.Histories.{MayBeShared}
+use Rattle.volume_machine.specs.Beginnings.{ChangeNothing, IsFresh, IsWholeDisk}
+use Rattle.volume_laws.specs.Promises.{TellsSettled}
+use Rattle.volume_machine.specs.Seals.{Seals}
 use Rattle.volume_machine.specs.Sound.{IsSound, AreApart}
 use Rattle.sector_disk.specs.Devices.{Device}
-use Rattle.volume_machine.specs.States.{State, size_of}
+use Rattle.volume_machine.specs.States.{State}
 use Rattle.volume_machine.specs.Works.{Work}
 use Rattle.served_conversions.specs.Clients.{without_work}
-use Rattle.volume_machine.specs.Beginnings.{IsWholeDisk}
 use Rattle.reenc_tool.specs.declared.ended.Cause.{Cause}
-use Rattle.reenc_tool.specs.declared.serving.Standing.{Standing}
-use Rattle.reenc_tool.specs.declared.serving.Standing.TheVariants.{Live, Ended, Failed}
-use Rattle.reenc_tool.specs.Lanes.{Served, StandsBy, failed_in}
-use Rattle.reenc_tool.specs.Sessions.{Played, AreSessions, NumbersRise, tagged_of}
-use Rattle.reenc_tool.specs.Outcomes.{Coming, Outcome, none_came, unserved}
+use Rattle.reenc_tool.specs.Outcomes.{Coming, Outcome, unserved}
 use Rattle.reenc_tool.specs.Plain.{IsPlainVolume}
 use Rattle.reenc_tool.specs.Encrypted.{AsksKey, HandsBack, RanOver}
 use Rattle.reenc_tool.specs.Linking.{AsksLinks, IsLinked}
 use Rattle.reenc_tool.specs.Promise.{LeavesRest, ServesBy}
-use Rattle.reenc_tool.specs.Runs.{HasServed, VolumeKeys, StoodStill, cause_of}
+use Rattle.reenc_tool.specs.Runs.{HasServed, VolumeKeys}
+use Rattle.reenc_tool.specs.Volumes.{IsServedAs, RanAs}
 use Rattle.luks_store.specs.declared.fault.StoreFault.{StoreFault}
 use Rattle.volume_machine.specs.declared.keys.Keys.{Keys}
 use Rattle.volume_opening.specs.Openings.{IsOpenedBy}
 use Rattle.reenc_tool.specs.declared.volume_refusal.VolumeRefusal.{VolumeRefusal}
 use Rattle.command_line.specs.Commands.{Serving}
-use Rattle.reenc_tool.proofs.HistoryLemmas.{each_of, known_of, untagged-tagged_of}
-use Rattle.reenc_tool.proofs.AskingLemmas.{sessions_unspent}
-use Rattle.reenc_tool.proofs.TextLemmas.{not_rose}
-
--- none of several failed, or one of them did
-none_or_one : (standings : List Standing) → (failed_in standings ≡ 0)
-    ⊎ ((k : ℕ) × (k < length standings) × (slice_index_or standings k Live ≡ Failed))
-none_or_one [] = inl refl
-none_or_one (Live ∷ rest) =
-    ⊎_elim (λ none. inl none) (λ one. inr (suc one.0, omega (arith, one.1), one.2))
-    (none_or_one rest)
-none_or_one (Ended ∷ rest) =
-    ⊎_elim (λ none. inl none) (λ one. inr (suc one.0, omega (arith, one.1), one.2))
-    (none_or_one rest)
-none_or_one (Failed ∷ rest) = inr (0, omega arith, refl)
-
--- where no link's count of faults moved, none failed
-no_link_failed : {L : Type 0} (state : L → LinkState) (olds news : List L)
-    (ends : List (List SessionEnd)) (failed faults : ℕ) (memory : Bool)
-    (all : List Played) → Served state olds news ends failed faults memory all → (link : L) →
-    StoodStill state olds news → failed ≡ 0
-no_link_failed state olds news ends failed faults memory all served link stood =
-    served.failed_is
-    ∙ ⊎_elim (λ none. none)
-    (λ one.
-    let inside : one.0 < length olds = omega (arith, one.1, served.count) in
-    let its = served.each one.0 link inside in
-    let still = stood one.0 link inside in
-    absurd (not_rose _ _ still.0 still.1
-    (subst (λ (s : Standing).
-    StandsBy s (state (slice_index_or olds one.0 link))
-    (state (slice_index_or news one.0 link))) one.2 its.stands)))
-    (none_or_one served.standings)
 
 -- what the disk tells of itself, as every disk does
 pub record DiskTells (device : Device) : Type 0 where
@@ -126,98 +80,6 @@ plain_volume device seals start fresh sound size disk whole apart nothing = reco
   apart = apart;
   nothing = nothing;
 }
-
--- the laws of volumes that sessions cite
-pub record VolumeLaws (start : State VolumeKeys) (seals : Seals)
-    (run : List (Happening VolumeKeys)) : Type 0 where
-  pub served : ServesEachRun start seals
-  pub answers : (final : State VolumeKeys) (operations : List Tagged) →
-      Executes seals start final run operations →
-      AreExchanges (answered_in seals start no_plain run) (untagged operations)
-  pub events : (earlier later : List (Happening VolumeKeys)) → IsFresh start →
-      IsRun start (earlier ++ later) → GoesByEvents start earlier
-  pub errors : (earlier later : List (Happening VolumeKeys)) (one : Happening VolumeKeys) →
-      IsSound start → IsFresh start → AreLawful start.map.atom seals →
-      IsRun start (earlier ++ one ∷ later) →
-      DeviceErrorsAreExact seals start earlier one × PlacesAreExact seals start earlier one
-  pub stops : (blocks : List Block) (bytes : List ℕ) (exchanges : List Exchange) →
-      Starts start seals blocks bytes → IsRun start run →
-      AreExchanges (answered_in seals start no_plain run) exchanges →
-      StopsAlong start seals blocks run exchanges
-  pub tables : (now : Told) → IsRun start run → (last_of start run).disk.told ≡ Some now →
-      TellsRun start run now
-  pub faultless : IsSound start → IsFresh start → AreLawful start.map.atom seals → IsRun start run →
-      ServesWithoutFaults start seals run
-  pub breaks : IsFresh start → IsRun start run → BreaksByFaults start run
-  pub covered : (blocks : List Block) (bytes : List ℕ) → Starts start seals blocks bytes →
-      TellsSettled start bytes → StartsCovered start seals blocks
-
--- what came of sessions, of the parts that their run left
-module _ {L : Type 0} (state : L → LinkState) (left : Device) (begun : List L) (link : L)
-    (came : Coming L) (start : State VolumeKeys) (seals : Seals) (final : State VolumeKeys)
-    (run : List (Happening VolumeKeys)) where
-  pub served_of : (failed faults : ℕ) (played : List Played) (size atom : ℕ) {may_spend : Type 0} →
-      VolumeLaws start seals run → IsSound start → IsFresh start → AreLawful start.map.atom seals →
-      Executes seals start final run (tagged_of played) → IsIdle final →
-      size ≡ size_of start.map → atom ≡ start.map.atom →
-      (may_spend → ⊥) → AreSessions (record { number = 0; size = size; atom = atom }) may_spend
-      played → NumbersRise 0 played →
-      Served state begun came.links came.ends failed faults came.memory played →
-      left ≡ final.disk →
-      came.cause ≡ cause_of final.broken final.disk.faults failed faults came.memory →
-      HasServed state start seals left begun came
-  served_of failed faults played size atom laws sound fresh lawful did idle size_same atom_same
-      never sessions rise served left_is cause_is =
-      let answered = laws.answers final (tagged_of played) did in
-      record {
-        final = final;
-        run = run;
-        failed = failed;
-        faults = faults;
-        played = played;
-        sessions = subst (λ (a : ℕ).
-            AreSessions (record { number = 0; size = size_of start.map; atom = a }) ⊥ played)
-            atom_same
-            (subst (λ (s : ℕ). AreSessions (record { number = 0; size = s; atom = atom }) ⊥ played)
-            size_same (sessions_unspent _ never played sessions));
-        rise = rise;
-        served = served;
-        operations = tagged_of played;
-        did = did;
-        left_is = left_is;
-        lawful = lawful;
-        each = each_of played rise;
-        known = known_of played;
-        in_turn = untagged-tagged_of played;
-        idle = idle;
-        history = λ blocks bytes starts.
-            (let one = laws.served blocks bytes run (untagged (tagged_of played)) starts did.is
-            answered in (one.left, one.legal));
-        covered = laws.covered;
-        stops = λ blocks bytes starts covered. record {
-          allowed = laws.stops blocks bytes (untagged (tagged_of played)) starts did.is answered;
-          tables = λ now told. laws.tables now did.is told;
-        };
-        cause_is = cause_is;
-        broke = subst (λ s. s.broken ≡ true → Rose start.disk.faults s.disk.faults) did.last
-            (laws.breaks fresh did.is);
-        errors = λ earlier later one is.
-            laws.errors earlier later one sound fresh lawful
-            (subst (λ r. IsRun start r) is did.is);
-        fails = λ earlier later is.
-            laws.events earlier later fresh (subst (λ r. IsRun start r) is did.is);
-        complete = λ stood low links_stood.
-            let fine = laws.faultless sound fresh lawful did.is (untagged (tagged_of played))
-            answered (ap (λ s. s.disk.faults) did.last ∙ stood) (omega (arith, stood, low)) in
-            let unbroken = ap (λ s. s.broken) (sym did.last) ∙ fine.1 in
-            let calm = no_link_failed state begun came.links came.ends failed faults
-            came.memory played served link links_stood in (
-              fine.0,
-              cause_is
-                  ∙ ap (λ b. cause_of b final.disk.faults failed faults came.memory) unbroken
-                  ∙ ap (λ f. cause_of false final.disk.faults f faults came.memory) calm,
-            );
-      }
 
 -- where a plain disk told each atom for certain, it starts so
 pub plain_certain : (start : State VolumeKeys) → VolumeTells start.map.atom start.disk →
@@ -346,6 +208,18 @@ pub sound_as_it_is : {K : Type 0} (start : State K) → IsFresh start → IsSoun
 sound_as_it_is {K} start fresh sound =
     subst (λ (s : State K). IsSound s) (sym (same_without_work start fresh)) sound
 
+no-work : {K : Type 0} (start : State K) → IsFresh start → IsSome start.work → ⊥
+no-work start fresh some =
+    let e : IsSome {T = Work} None = subst IsSome fresh.rests some in cc
+
+pub shared_as_it_is : {K : Type 0} (start : State K) → IsFresh start → IsSound start →
+    MayBeShared start
+shared_as_it_is start fresh sound = record {
+  idle = fresh.lanes;
+  sound = sound;
+  order = λ some. absurd (no-work start fresh some);
+}
+
 -- sessions that were served on it so were served on it as it is
 pub served_as_it_is : {L : Type 0} (state : L → LinkState) (start : State VolumeKeys)
     (seals : Seals) (left : Device) (begun : List L) (came : Coming L) → IsFresh start →
@@ -355,17 +229,39 @@ served_as_it_is state start seals left begun came fresh served =
     subst (λ (s : State VolumeKeys). HasServed state s seals left begun came)
     (same_without_work start fresh) served
 
-pub linked_as_it_is : {B D L : Type 0} (device : D → Device) (state : L → LinkState)
-    (holdings : B → Holdings D) (asks_links : AsksLinks B L) (serve : Serving) (between new : B)
-    (start : State VolumeKeys) (seals : Seals) (outcome : Outcome D L) → IsFresh start →
-    IsLinked state holdings asks_links serve between new
-    (λ cause links. HandsBack device start.disk (none_came cause links) outcome)
-    (λ begun. RanOver device state (without_work start) seals begun outcome) →
-    IsLinked state holdings asks_links serve between new
-    (λ cause links. HandsBack device start.disk (none_came cause links) outcome)
-    (λ begun. RanOver device state start seals begun outcome)
-linked_as_it_is device state holdings asks_links serve between new start seals outcome fresh
-    linked =
-    subst (λ (s : State VolumeKeys). IsLinked state holdings asks_links serve between new
-    (λ cause links. HandsBack device start.disk (none_came cause links) outcome)
-    (λ begun. RanOver device state s seals begun outcome)) (same_without_work start fresh) linked
+-- nothing was converted on a volume that converts nothing
+pub served_alone : {L : Type 0} (state : L → LinkState) (converts : Bool) (start : State VolumeKeys)
+    (seals : Seals) (left : Device) (begun : List L) (came : Coming L) → IsFresh start →
+    IsServedAs state converts start seals left begun came →
+    HasServed state start seals left begun came
+served_alone state converts start seals left begun came fresh served =
+    ⊎_elim (λ alone. served_as_it_is state start seals left begun came fresh alone.1)
+    (λ led. absurd (no-work start fresh led.1)) served
+
+pub ran_as_it_is : {D L : Type 0} (device : D → Device) (state : L → LinkState) (converts : Bool)
+    (start : State VolumeKeys) (seals : Seals) (begun : List L) (outcome : Outcome D L) →
+    IsFresh start → RanAs device state converts start seals begun outcome →
+    RanOver device state start seals begun outcome
+ran_as_it_is device state converts start seals begun outcome fresh ran = record {
+  left = ran.left;
+  came = ran.came;
+  served = served_alone state converts start seals ran.left begun ran.came fresh ran.served;
+  back = ran.back;
+}
+
+-- what came over links is this where it is that
+pub linked_so : {B D L : Type 0} (state : L → LinkState) (holdings : B → Holdings D)
+    (asks_links : AsksLinks B L) (serve : Serving) (between new : B)
+    (Ends : Cause → List L → Type 0) (Was Is : List L → Type 0) →
+    ((begun : List L) → Was begun → Is begun) →
+    IsLinked state holdings asks_links serve between new Ends Was →
+    IsLinked state holdings asks_links serve between new Ends Is
+linked_so state holdings asks_links serve between new Ends Was Is so linked =
+    ⊎_elim (λ none. inl none)
+    (λ has. inr (record {
+      begun = has.begun;
+      asked = has.asked;
+      stood = has.stood;
+      given = has.given;
+      came = ⊎_elim (λ served. inl (so has.begun served)) (λ ended. inr ended) has.came;
+    })) linked

@@ -1,6 +1,7 @@
 -- What is opened, or isn't, on a disk that was only read since it was handed in.
-use Rattle.std.proofs.Common.{◌≡◌, ◌≢◌, ◌∙◌, ◌*◌, ◌<◌, inl, inr, ℕ, true, false, List, length, arith}
+use Rattle.std.proofs.Common.{◌≡◌, ◌≢◌, ◌∙◌, ◌*◌, inl, inr, ℕ, true, false, List, length}
 use Rattle.std.proofs.Common.{Option, Some, None, Ok, ap, subst, sym}
+use Rattle.std.proofs.lemmas.List.{length-replicate}
 use Rattle.conversion_opening.specs.Causes.{IsCauseIn}
 use Rattle.conversion_opening.specs.Openings.{IsOpenedOf, IsUnopened}
 use Rattle.conversion_opening.specs.declared.fault.ConversionCause.{ConversionCause}
@@ -16,7 +17,7 @@ use Rattle.luks_store.specs.declared.fault.StoreFault.{StoreFault}
 use Rattle.luks_store.specs.declared.loaded.Stored.{Stored}
 use Rattle.reenc_recovery.specs.Tables.{ShowsSizes}
 use Rattle.reenc_recovery.specs.declared.keys.SideKeys.{SideKeys}
-use Rattle.reenc_tool.proofs.RunLemmas.{fresh_as_it_is, sound_as_it_is}
+use Rattle.reenc_tool.proofs.RunLemmas.{fresh_as_it_is, shared_as_it_is, sound_as_it_is}
 use Rattle.reenc_tool.specs.Volumes.{IsAnyVolume}
 use Rattle.resume_disk.specs.Keys.{AreKeysFound}
 use Rattle.resume_disk.specs.Refusals.{IsRefusedBy, IsRefusedKeys, IsUnopenedUnder}
@@ -26,6 +27,7 @@ use Rattle.resume_disk.specs.declared.refusal.Refusal.TheVariants as refusals
 use Rattle.sector_disk.specs.Devices.{Device}
 use Rattle.served_conversions.specs.Clients.{without_work}
 use Rattle.served_conversions.specs.Serving.{TakenVolumesLieIdle}
+use Rattle.shared_volume.specs.Histories.{MayBeShared}
 use Rattle.volume_core.specs.Zones.{IsReadBy}
 use Rattle.volume_laws.specs.Converting.{IsInOrder}
 use Rattle.volume_machine.specs.Beginnings.{IsFresh}
@@ -212,16 +214,30 @@ only-read {device} {back} {pass} {refusal} is =
 
 -- ---- either volume
 module _ {C : Type 0} (sector : C → ℕ) (sealed opened : C → ℕ → List ℕ → List ℕ) (device : Device)
-    (pass : List ℕ) (volume : State (Keys C)) where
-  -- it has a lane for clients, and nothing is under way
-  pub any-lanes : IsAnyVolume sector sealed opened device pass volume → 1 < length volume.lanes
+    (pass : List ℕ) (lanes : ℕ) (volume : State (Keys C)) where
+  -- it has so many lanes
+  pub any-lanes : IsAnyVolume sector sealed opened device pass lanes volume
+      → length volume.lanes ≡ lanes
   any-lanes (inl by) =
-      subst (λ (v : State (Keys C)). 1 < length v.lanes) (sym by.is) (omega arith)
+      subst (λ (v : State (Keys C)). length v.lanes ≡ lanes) (sym by.is)
+      (length-replicate lanes None)
   any-lanes (inr taken) =
-      subst (λ (v : State (Keys C)). 1 < length v.lanes) (sym taken.calls.led.armed) (omega arith)
+      subst (λ (v : State (Keys C)). length v.lanes ≡ lanes) (sym taken.calls.led.armed)
+      (length-replicate lanes None)
 
+  -- nothing is under way
   pub any-idle : TakenVolumesLieIdle sector sealed opened
-      → IsAnyVolume sector sealed opened device pass volume
+      → IsAnyVolume sector sealed opened device pass lanes volume
       → IsFresh (without_work volume) × IsSound (without_work volume)
   any-idle lie (inl by) = (fresh_as_it_is volume by.fresh, sound_as_it_is volume by.fresh by.sound)
-  any-idle lie (inr taken) = lie device pass 2 volume taken
+  any-idle lie (inr taken) = lie device pass lanes volume taken
+
+  -- threads may share it
+  pub any-shared : TakenVolumesLieIdle sector sealed opened
+      → IsAnyVolume sector sealed opened device pass lanes volume → MayBeShared volume
+  any-shared lie (inl by) = shared_as_it_is volume by.fresh by.sound
+  any-shared lie (inr taken) = record {
+    idle = (lie device pass lanes volume taken).0.lanes;
+    sound = taken.sound;
+    order = λ some. (sizes_alone device, taken.is_read, taken.order);
+  }

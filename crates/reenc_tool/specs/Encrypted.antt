@@ -1,5 +1,5 @@
 -- What `serve` did on an encrypted volume.
-use Rattle.std.specs.Prelude.{ℕ, ◌≡◌, ◌≢◌, false, List, [], Option, Some, None, Result, Err}
+use Rattle.std.specs.Prelude.{ℕ, ◌≡◌, ◌≢◌, ◌+◌, false, List, [], Option, Some, None, Result, Err}
 use Rattle.aes_core.specs.declared.cipher.Aes.{Aes}
 use Rattle.bays.specs.Bays.{FaultCounts, Holdings, LeavesAll}
 use Rattle.bays.specs.declared.bay.BayFault.{BayFault}
@@ -61,7 +61,7 @@ pub record HasOpenedVolume {B D L : Type 0} (device : D → DiskState) (state : 
   pub sealed : DiskCipher Aes → ℕ → List ℕ → List ℕ
   pub opened : DiskCipher Aes → ℕ → List ℕ → List ℕ
   pub start : State VolumeKeys
-  pub volume : IsOpenedBy sector sealed opened (device disk) pass 2 start
+  pub volume : IsOpenedBy sector sealed opened (device disk) pass (serve.workers + 1) start
   pub stands : (first : List ℕ) → (device disk).values ≡ Some first
       → (run : List (Happening VolumeKeys)) → IsRun start run
       → StandsAlong (sizes_alone (device disk)) pass start

@@ -12,7 +12,7 @@ use Rattle.volume_machine.specs.Beginnings.{ChangeNothing, IsFresh, IsWholeDisk}
 use Rattle.volume_machine.specs.Seals.{Seals}
 use Rattle.volume_machine.specs.Sound.{IsSound, AreApart}
 use Rattle.volume_machine.specs.States.{State}
-use Rattle.reenc_tool.specs.declared.ended.Cause.TheVariants.{NoFit}
+use Rattle.reenc_tool.specs.declared.ended.Cause.TheVariants.{Memory, NoFit}
 use Rattle.reenc_tool.specs.declared.ended.Fit.TheVariants.{Blocks}
 use Rattle.reenc_tool.specs.Linking.{AsksLinks, IsLinked}
 use Rattle.reenc_tool.specs.Outcomes.{Coming, Outcome, ended_by, unserved}
@@ -48,6 +48,14 @@ pub record Ran {D L : Type 0} (device : D → DiskState) (state : L → LinkStat
   pub certain : (bytes : List ℕ) (before : Told) → start.disk.values ≡ Some bytes →
       start.disk.told ≡ Some before → AreSettled before.now → TellsSettled start bytes
 
+-- Memory was wanted before the first session, once the volume was made: a disk is handed back that shows
+-- what it showed.
+pub record IsUnserved {D L : Type 0} (device : D → DiskState) (disk : D) (begun : List L)
+    (outcome : Outcome D L) : Type 0 where
+  pub back : D
+  pub shows : device back ≡ device disk
+  pub outcome_is : outcome ≡ unserved Memory (Some back) begun
+
 -- The disk has no block, which comes before the links are asked for: nothing more was asked.
 pub record HasNoBlock {B D L : Type 0} (device : D → DiskState) (disk : D) (between new : B)
     (outcome : Outcome D L) : Type 0 where
@@ -62,7 +70,7 @@ pub record HasBlock {B D L : Type 0} (device : D → DiskState) (state : L → L
   pub blocks : 0 < (device disk).atoms
   pub linked : IsLinked state holdings asks_links serve between new
       (λ cause links. outcome ≡ unserved cause (Some disk) links)
-      (λ begun. Ran device state disk begun outcome)
+      (λ begun. Ran device state disk begun outcome ⊎ IsUnserved device disk begun outcome)
 
 -- what came of the disk that a bay gave
 abbrev pub ServesPlain : {B D L : Type 0} → (D → DiskState) → (L → LinkState) → (B → Holdings D) →

@@ -7,6 +7,7 @@ use Rattle.bays.specs.Bays.{Holdings, LeavesAll}
 use Rattle.command_line.specs.Resumes.{Resuming as Words}
 use Rattle.header_report.specs.Examinations.{sizes_alone}
 use Rattle.joined_disk.specs.Joined.{joined_disk}
+use Rattle.resume_disk.specs.Complete.{WantsAtWork, WantsBefore}
 use Rattle.resume_disk.specs.Refusals.{IsRefusedBy}
 use Rattle.resume_disk.specs.Resuming.{IsFinishedBy, IsHaltedBy}
 use Rattle.resume_disk.specs.declared.refusal.Refusal.{Refusal}
@@ -22,7 +23,8 @@ use Rattle.zone_events.specs.Readings.{reading_of}
 use Rattle.reenc_tool.specs.declared.ended.Cause.TheVariants.{Fine, Memory}
 use Rattle.reenc_tool.specs.declared.volume_refusal.VolumeRefusal.TheVariants.{Resuming}
 use Rattle.reenc_tool.specs.Encrypted.{AsksKey, HasNoKeyFile}
-use Rattle.reenc_tool.specs.Kept.{KeepsRefused, KeepsRun, KnowsKeys}
+use Rattle.reenc_tool.specs.Kept.{KeepsRefused, KeepsRun, KnowsKeys, KnowsRefused, StandsAtEnd}
+use Rattle.reenc_tool.specs.Kept.{StandsAtStops, WhereNoneFailed}
 use Rattle.reenc_tool.specs.Making.{HasGiven}
 use Rattle.reenc_tool.specs.Outcomes.{AsksDisk, HasNoDisk, Outcome, ended_by, none_came, unserved}
 use Rattle.reenc_tool.specs.Status.{cause_of_end, cause_of_resume}
@@ -58,11 +60,14 @@ pub record IsFinishedOn {D L : Type 0} (device : D → DiskState) (pass : List �
       → HoldsNew (reading_of (sizes_alone (device disk)))
       (volume_seals sealed opened finished.run.volume) finished.run.led.ran.leaves.header
       finished.after content
+  pub stands : StandsAtEnd finished.run
+  pub stops : StandsAtStops finished.run
   pub outcome_is : outcome ≡ ended_by (none_came Fine []) (Some back) header
   pub report_is : report ≡ Some (finished_line blocks)
 
 -- The volume was opened, and its conversion's worker ended otherwise, which is the cause. The disk is
--- handed back. A content for which it stood is kept as well.
+-- handed back. A content for which it stood is kept as well; and where no device call failed only memory was
+-- wanted, a number or room for a header that was to follow, or digests that tell atoms from each other.
 pub record IsHaltedOn {D L : Type 0} (device : D → DiskState) (pass : List ℕ) (disk : D)
     (outcome : Outcome D L) (report : Option (List ℕ)) : Type 0 where
   pub sector : DiskCipher Aes → ℕ
@@ -78,6 +83,8 @@ pub record IsHaltedOn {D L : Type 0} (device : D → DiskState) (pass : List ℕ
       new_key content
       → KeepsRun sector sealed opened device disk pass end halted.after header back halted.run
       old_key new_key content
+  pub stops : StandsAtStops halted.run
+  pub complete : WhereNoneFailed device disk pass header back (WantsAtWork end)
   pub outcome_is : outcome
       ≡ ended_by (none_came (cause_of_end end (device back).faults) []) (Some back) header
   pub report_is : report ≡ None
@@ -108,7 +115,9 @@ pub record IsRefusedOn {D L : Type 0} (device : D → DiskState) (pass : List �
   pub header : Option D
   pub back : D
   pub refused : IsRefusedBy sector sealed opened device disk pass refusal header back
+  pub known : KnowsRefused sector sealed opened device disk pass refusal header back refused
   pub keeps : KeepsRefused sector sealed opened device disk pass refusal header back refused
+  pub complete : WhereNoneFailed device disk pass header back (WantsBefore refusal)
   pub outcome_is : outcome ≡ ended_unresumed refusal header back (device back).faults
   pub report_is : report ≡ None
 

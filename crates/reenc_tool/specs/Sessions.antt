@@ -1,135 +1,104 @@
--- Sessions that were served, and how links tell of them.
-use Rattle.std.specs.Prelude.{ℕ, ◌≡◌, ◌+◌, ◌<◌, ◌≤◌, ◌⊎◌, suc, ◌==◌, if◌then◌else◌, List, [], ◌∷◌}
-use Rattle.std.specs.Prelude.{map}
-use Rattle.std.specs.Prelude.{◌++◌, Some}
-use Rattle.bays.specs.Stories.{Script, Handed, LinkState, Story}
-use Rattle.nbd_stream.specs.declared.ending.Ending.TheVariants.{PortSpent, WriteFault}
+-- Sessions that were served over links: what they tell of the operations, and why they ended.
+use Rattle.std.specs.Prelude.{ℕ, ◌≡◌, ◌≢◌, ◌-◌, ◌^◌, ◌<◌, ◌≤◌, ◌==◌, ◌||◌, Bool, true, false}
+use Rattle.std.specs.Prelude.{if◌then◌else◌, List, length, fold, Option, Some, None, slice_index_or}
+use Rattle.bays.specs.Stories.{LinkState}
+use Rattle.block_server.specs.Links.{AreServed}
+use Rattle.block_server.specs.Serving.{IsLeft}
+use Rattle.block_server.specs.Sessions.{AreSessions, HasEach, IsOfSessions, Played, operations_of}
+use Rattle.block_server.specs.declared.link.Standing.{Standing}
+use Rattle.block_server.specs.declared.link.Standing.TheVariants.{Live}
 use Rattle.nbd_session.specs.declared.ending.SessionEnd.{SessionEnd}
-use Rattle.nbd_hand.specs.declared.export.Export.{Export}
-use Rattle.nbd_stream.specs.Moments.{Moment, moment}
-use Rattle.nbd_stream.specs.Putting.{IsOut}
-use Rattle.nbd_session.specs.Session.{Log, IsSession}
-use Rattle.nbd_session.specs.Turns.{exchanges_of}
-use Rattle.plain_disk.specs.Plain.{Exchange}
-use Rattle.volume_machine.specs.Answers.{Tagged, of_session}
+use Rattle.nbd_stream.specs.declared.ending.Ending.{Ending}
+use Rattle.nbd_stream.specs.declared.ending.Ending.TheVariants.{PortSpent}
+use Rattle.reenc_worker.specs.declared.ends.WorkerEnd.{WorkerEnd}
+use Rattle.reenc_worker.specs.declared.ends.WorkerEnd.TheVariants as ends
+use Rattle.volume_machine.specs.Answers.{Tagged, untagged}
+use Rattle.volume_machine.specs.States.{State, open_at, size_of}
+use Rattle.volume_machine.specs.declared.open.Open.{Open}
+use Rattle.reenc_tool.specs.Outcomes.{Coming}
+use Rattle.reenc_tool.specs.Standings.{AreFaultsOfFirst, HasLive, failed_in}
+use Rattle.reenc_tool.specs.Status.{cause_of_unfit}
+use Rattle.reenc_tool.specs.declared.ended.Cause.{Cause}
+use Rattle.reenc_tool.specs.declared.ended.Cause.TheVariants as causes
+use Rattle.reenc_tool.specs.declared.ended.Failing.TheVariants.{Converting, Writing}
+use Rattle.reenc_tool.specs.declared.ended.Fit.TheVariants.{Events}
 
--- a session that was served: the link that its connection came from, how it ended, its log, and the
--- moments of its source and sink before and after
-pub record Played : Type 0 where
-  pub link : ℕ
-  pub end : SessionEnd
-  pub log : Log
-  pub before : Moment
-  pub after : Moment
+-- the most entries that the history of a served volume gets: each event of a client is one, and each
+-- step of the conversion's worker
+abbrev pub most_events : ℕ
+most_events = 2 ^ 63 - 2
 
--- the export that a session was served
-abbrev pub numbered : Export → ℕ → Export
-numbered export number = record { number = number; size = export.size; atom = export.atom }
+-- ---- the cause
+-- a session ended since its port was spent
+abbrev pub is_spent : Ending → Bool
+is_spent PortSpent = true
+is_spent _ = false
 
--- It is a session. All that it put has gone out, unless its sink failed; and it ended since the
--- port
--- is spent only where the port may be.
-pub record IsPlayed (export : Export) (may_spend : Type 0) (one : Played) : Type 0 where
-  pub session : IsSession (numbered export one.end.number) one.end one.before one.after one.log
-  pub out : (one.end.ending ≡ WriteFault) ⊎ IsOut one.after.sink
-  pub spent : one.end.ending ≡ PortSpent → may_spend
+abbrev pub any_spent : List SessionEnd → Bool
+any_spent list = fold (λ found end. found || is_spent end.ending) false list
 
--- each of them is a session
-unfoldable pub AreSessions : Export → Type 0 → List Played → Type 0
-AreSessions export may_spend [] = Unit {0}
-AreSessions export may_spend (played ∷ rest) = IsPlayed export may_spend played
-    × AreSessions export may_spend rest
+abbrev pub has_spent : List (List SessionEnd) → Bool
+has_spent lists = fold (λ found list. found || any_spent list) false lists
 
--- the operations that were submitted, session after session
-unfoldable pub operations_of : List Played → List Exchange
-operations_of [] = []
-operations_of (played ∷ rest) = exchanges_of played.log.turns ++ operations_of rest
+-- the cause by what was found of sessions and links: one found the history full; so many links failed,
+-- the first of them at so many calls; memory was wanted
+abbrev pub cause_of_links : Bool → ℕ → ℕ → Bool → Cause
+cause_of_links spent failed faults memory =
+    if spent then causes.NoFit Events (2 ^ 63 - 1) (2 ^ 63 - 2)
+    else (if failed == 0 then (if memory then causes.Memory else causes.Fine)
+    else causes.Link failed faults)
 
--- the same, each with the number of its session
-abbrev pub tagged : ℕ → List Exchange → List Tagged
-tagged number exchanges =
-    map (λ exchange. record { session = number; exchange = exchange }) exchanges
+-- behind the end of the conversion's worker, where there was one, on a disk of which so many calls
+-- failed
+abbrev pub cause_by : Option WorkerEnd → ℕ → Bool → ℕ → ℕ → Bool → Cause
+cause_by None disk_faults spent failed faults memory = cause_of_links spent failed faults memory
+cause_by (Some ends.Finished) disk_faults spent failed faults memory =
+    cause_of_links spent failed faults memory
+cause_by (Some ends.Device) disk_faults spent failed faults memory =
+    causes.Device Converting disk_faults
+cause_by (Some ends.Broken) disk_faults spent failed faults memory =
+    causes.Device Converting disk_faults
+cause_by (Some (ends.Clash block digest)) disk_faults spent failed faults memory =
+    causes.Clash block digest
+cause_by (Some (ends.NoFit what)) disk_faults spent failed faults memory = cause_of_unfit what
+cause_by (Some ends.Spent) disk_faults spent failed faults memory =
+    cause_of_links true failed faults memory
+cause_by (Some ends.Memory) disk_faults spent failed faults memory =
+    cause_of_links spent failed faults true
 
-unfoldable pub tagged_of : List Played → List Tagged
-tagged_of [] = []
-tagged_of (played ∷ rest) =
-    tagged played.end.number (exchanges_of played.log.turns) ++ tagged_of rest
+-- behind whether the volume is broken
+abbrev pub cause_of : Bool → ℕ → Option WorkerEnd → Bool → ℕ → ℕ → Bool → Cause
+cause_of broken disk_faults worker spent failed faults memory =
+    if broken then causes.Device Writing disk_faults
+    else cause_by worker disk_faults spent failed faults memory
 
--- a history has of each session just the operations that it submitted, each once and in order
-unfoldable pub HasEach : List Tagged → List Played → Type 0
-HasEach history [] = Unit {0}
-HasEach history (played ∷ rest) =
-    (of_session played.end.number history ≡ exchanges_of played.log.turns) × HasEach history rest
-
--- a session of this number was served
-unfoldable pub HasNumber : ℕ → List Played → Type 0
-HasNumber number [] = ⊥
-HasNumber number (played ∷ rest) = (played.end.number ≡ number) ⊎ HasNumber number rest
-
--- each of its operations is some session's
-unfoldable pub IsOfSessions : List Played → List Tagged → Type 0
-IsOfSessions played [] = Unit {0}
-IsOfSessions played (one ∷ history) = HasNumber one.session played × IsOfSessions played history
-
--- the sessions of one link
-unfoldable pub of_link : ℕ → List Played → List Played
-of_link k [] = []
-of_link k (played ∷ rest) = if played.link == k then played ∷ of_link k rest else of_link k rest
-
--- each session is one of these links'
-unfoldable pub AreOfLinks : ℕ → List Played → Type 0
-AreOfLinks links [] = Unit {0}
-AreOfLinks links (played ∷ rest) = (played.link < links) × AreOfLinks links rest
-
--- a connection as it begins, and as it was handed back
-abbrev pub beginning : Script → Moment
-beginning script =
-    moment (record { given = Some []; left = Some script.input; faults = script.in_faults })
-    (record { had = Some []; held_back = []; faults = script.out_faults }) 0 0
-
-abbrev pub handing_back : Handed → SessionEnd → Moment
-handing_back handed end =
-    moment (record {
-      given = Some handed.given;
-      left = Some handed.left;
-      faults =
-          handed.in_faults;
-    })
-    (record { had = Some handed.had; held_back = handed.held_back; faults = handed.out_faults })
-    end.taken end.put
-
--- A link that told a story tells the next one: each session took the first connection ahead, and it
--- was handed back as the session left it.
-unfoldable pub Plays : Story → Story → List Played → Type 0
-Plays old new [] = new ≡ old
-Plays old new (played ∷ rest) =
-    (script : Script) × (others : List Script) × (handed : Handed) × (old.ahead ≡ script ∷ others)
-    × (played.before ≡ beginning script) × (played.after ≡ handing_back handed played.end)
-    × Plays (record { ahead = others; handed = old.handed ++ handed ∷ [] }) new rest
-
--- where a link tells its story, it goes on by these sessions
-abbrev pub Goes : LinkState → LinkState → List Played → Type 0
-Goes old new played = (story : Story) → old.story ≡ Some story → (next : Story)
-    × (new.story ≡ Some next) × Plays story next played
-
--- the numbers of the sessions rise, from at least `least`
-unfoldable pub NumbersRise : ℕ → List Played → Type 0
-NumbersRise least [] = Unit {0}
-NumbersRise least (played ∷ rest) = (least ≤ played.end.number)
-    × NumbersRise (suc played.end.number) rest
-
--- all sessions have lower numbers than this
-unfoldable pub NumbersBelow : ℕ → List Played → Type 0
-NumbersBelow most [] = Unit {0}
-NumbersBelow most (played ∷ rest) = (played.end.number < most) × NumbersBelow most rest
-
--- the numbers of the sessions are `number`, `number + step` and so on
-unfoldable pub AreNumbered : ℕ → ℕ → List Played → Type 0
-AreNumbered step number [] = Unit {0}
-AreNumbered step number (played ∷ rest) = (played.end.number ≡ number)
-    × AreNumbered step (number + step) rest
-
--- at most one session, of this link and of this number
-abbrev pub IsOneOf : ℕ → ℕ → List Played → Type 0
-IsOneOf k number played = (played ≡ [])
-    ⊎ ((one : Played) × (played ≡ one ∷ []) × (one.link ≡ k) × (one.end.number ≡ number))
+-- ---- sessions
+-- Sessions were served over these links, which tell of the operations of a history of so many entries,
+-- from one state of a volume to another one: of each session just those that it submitted, each once
+-- and in order; each is some session's.
+pub record HavePlayed {K L : Type 0} (state : L → LinkState) (start final : State K) (events : ℕ)
+    (worker : Option WorkerEnd) (begun : List L) (came : Coming L) (operations : List Tagged) : Type 0
+  where
+    pub played : List Played
+    pub standings : List Standing
+    -- a session ends since the port is spent only where the history is full
+    pub sessions : AreSessions
+        (record { number = 0; size = size_of start.map; atom = start.map.atom })
+        (most_events ≤ events) played
+    pub served : AreServed state begun came.links came.ends standings played
+    pub each : HasEach operations played
+    pub known : IsOfSessions played operations
+    -- those of one link followed one another
+    pub in_turn : length begun ≡ 1 → untagged operations ≡ operations_of played
+    -- nothing is under way at the end, unless the history is full
+    pub left : (lane : ℕ) (o : Open) → open_at final.lanes lane ≡ Some o
+        → IsLeft start most_events events lane o played
+    -- each link was asked until it had no more or failed itself, unless memory was wanted
+    pub to_the_end : came.memory ≡ false → (k : ℕ) → k < length begun
+        → slice_index_or standings k Live ≢ Live
+    pub short : came.memory ≡ true → HasLive (length begun) standings
+    -- the cause, with the counts of the disk and of the first link that failed as they are at the end
+    pub faults : ℕ
+    pub faults_are : AreFaultsOfFirst state came.links standings faults
+    pub cause_is : came.cause ≡ cause_of final.broken final.disk.faults worker (has_spent came.ends)
+        (failed_in standings) faults came.memory

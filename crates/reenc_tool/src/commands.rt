@@ -1,8 +1,9 @@
-ghost use Rattle.std.specs.Prelude.{◌≡◌, ◌<◌, ◌≤◌, ◌⊎◌, ℕ, List, [], length, map, slice_index_or};
+ghost use Rattle.std.specs.Prelude.{◌≡◌, ◌+◌, ◌<◌, ◌≤◌, ◌⊎◌, ℕ, List, [], length, map};
+ghost use Rattle.std.specs.Prelude.{slice_index_or};
 ghost use Rattle.std.specs.Prelude.{string_bytes, vec_len, Option, Some, None, IfOk, option_map};
 ghost use Rattle.bays.specs.Bays.{LeavesOtherClients};
 ghost use Rattle.command_line.specs.Commands.{IsServing, asked, serving};
-ghost use Rattle.reenc_tool.specs.Plain.{Ran, ServesPlain};
+ghost use Rattle.reenc_tool.specs.Plain.{IsUnserved, Ran, ServesPlain};
 ghost use Rattle.reenc_tool.specs.Promise.{Came, HasNoPass, Serviced};
 ghost use Rattle.reenc_tool.specs.Outcomes.{Outcome, cause_of_fault, outcome_of, unserved};
 ghost use Rattle.reenc_tool.specs.Ending.{EndsAs};
@@ -15,7 +16,7 @@ use crate::ended::{Cause, Ended, Failing, Fit, Sessions};
 use crate::making::make;
 use crate::opening::serve_encrypted;
 use crate::resuming::resume;
-use crate::sessions::{LANES, empty_lists, serve_volume};
+use crate::sessions::{lanes_for, serve_volume};
 use crate::showing::show;
 use crate::starting::start;
 use crate::text::{count_sessions, print};
@@ -30,8 +31,20 @@ use std::thread::Threads;
 use volume_core::Volume;
 use volume_laws::plain_volumes_start;
 
-/// Serves sessions over links on a disk that has a block, as it is, and hands both back.
-fn serve_disk<'w, D: Disk, L: Link>(alloc: Global, disk: D, links: Vec<L>) -> Ended<'w, D, L>
+/// Serves sessions over links on a disk that has a block, as it is, and hands both back. The volume gets
+/// so many lanes: one for each link, and one that no conversion needs.
+fn serve_disk<'w, R: Threads + Wait + Sync, D: Disk + Send, L: Link + Send + Drop, G: Gate + Sync>(
+    rt: &R,
+    alloc: Global,
+    disk: D,
+    links: Vec<L>,
+    lanes: u32,
+    gate: &G,
+) -> Ended<'w, D, L>
+where
+    L::In: Send,
+    L::Out: Send,
+    requires lanes { lanes ≡ length links.items + 1 }
     requires some { 0 < length links.items }
     requires few { length links.items ≤ 16 }
     requires bound { (k : ℕ) (link : L) → k < length links.items →
@@ -39,15 +52,13 @@ fn serve_disk<'w, D: Disk, L: Link>(alloc: Global, disk: D, links: Vec<L>) -> En
     ensures status { result.status ≡ status_of result.cause }
     ensures pass { HasNoPass result.pass result.demo }
     ensures ended { Ran D.device L.state disk links.items (outcome_of result)
+        ⊎ IsUnserved D.device disk links.items (outcome_of result)
         ⊎ (outcome_of result ≡ unserved Cause.Memory (Some disk) links.items) }
 {
     plain_volumes_start::<Context>();
-    let Ok(ends) = empty_lists(alloc, links.len()) else {
-        return unserved(alloc, Cause::Memory, Some(disk), links);
-    };
-    match Volume::plain(alloc, disk, LANES) {
+    match Volume::plain(alloc, disk, lanes) {
         Ok(volume) => {
-            let (disk, sessions) = serve_volume(alloc, volume, links, ends);
+            let (disk, sessions) = serve_volume(rt, alloc, volume, links, gate, false);
             sessions.ended(Some(disk), None)
         }
         Err(disk) => unserved(alloc, Cause::Memory, Some(disk), links),
@@ -79,12 +90,19 @@ pub fn unserved<'w, D, L>(
 }
 
 /// Asks the bay for its links and serves sessions on a disk that it gave.
-fn serve_plain<'w, B: Bay>(
+fn serve_plain<'w, R: Threads + Wait + Sync, B: Bay, G: Gate + Sync>(
+    rt: &R,
     alloc: Global,
     bay: &mut B,
     disk: B::Disk,
     words: &Serve<'_>,
+    gate: &G,
 ) -> Ended<'w, B::Disk, B::Link>
+where
+    B::Disk: Send,
+    B::Link: Send + Drop,
+    <B::Link as Link>::In: Send,
+    <B::Link as Link>::Out: Send,
     requires { IsServing (serving words.now) }
     ensures status { result.status ≡ status_of result.cause }
     ensures pass { HasNoPass result.pass result.demo }
@@ -102,7 +120,7 @@ fn serve_plain<'w, B: Bay>(
         return unserved(alloc, cause, Some(disk), Vec::new(alloc));
     }
     match bay.links(alloc, words.address, words.workers, words.sessions) {
-        Ok(links) => serve_disk(alloc, disk, links),
+        Ok(links) => serve_disk(rt, alloc, disk, links, lanes_for(words.workers), gate),
         Err(fault) => {
             let cause = cause_by(Failing::Listening, fault, bay.faults());
             unserved(alloc, cause, Some(disk), Vec::new(alloc))
@@ -111,12 +129,18 @@ fn serve_plain<'w, B: Bay>(
 }
 
 /// Asks the bay for a disk, and serves sessions on it.
-fn serve<'w, R: Threads + Sync, B: Bay>(
+fn serve<'w, R: Threads + Wait + Sync, B: Bay, G: Gate + Sync>(
     rt: &R,
     alloc: Global,
     bay: &mut B,
     words: &Serve<'_>,
+    gate: &G,
 ) -> Ended<'w, B::Disk, B::Link>
+where
+    B::Disk: Send,
+    B::Link: Send + Drop,
+    <B::Link as Link>::In: Send,
+    <B::Link as Link>::Out: Send,
     requires { IsServing (serving words.now) }
     ensures status { result.status ≡ status_of result.cause }
     ensures pass { HasNoPass result.pass result.demo }
@@ -125,8 +149,8 @@ fn serve<'w, R: Threads + Sync, B: Bay>(
 {
     match bay.disk(alloc, words.disk, words.atom) {
         Ok(disk) => match words.key_file {
-            None => serve_plain(alloc, bay, disk, words),
-            Some(key_file) => serve_encrypted(rt, alloc, bay, disk, key_file, words),
+            None => serve_plain(rt, alloc, bay, disk, words, gate),
+            Some(key_file) => serve_encrypted(rt, alloc, bay, disk, key_file, words, gate),
         },
         Err(fault) => {
             let cause = cause_by(Failing::Opening, fault, bay.faults());
@@ -136,7 +160,7 @@ fn serve<'w, R: Threads + Sync, B: Bay>(
 }
 
 /// Executes the command that the words ask for, and gives its report, where it has one.
-fn execute<'w, W: Threads + Sync, B: Bay, R: Seeds, G: Gate>(
+fn execute<'w, W: Threads + Wait + Sync, B: Bay, R: Seeds, G: Gate + Sync>(
     rt: &W,
     alloc: Global,
     words: &'w [String],
@@ -144,6 +168,11 @@ fn execute<'w, W: Threads + Sync, B: Bay, R: Seeds, G: Gate>(
     seeds: &mut R,
     gate: &G,
 ) -> (Ended<'w, B::Disk, B::Link>, Option<String>)
+where
+    B::Disk: Send,
+    B::Link: Send + Drop,
+    <B::Link as Link>::In: Send,
+    <B::Link as Link>::Out: Send,
     ensures status { result.0.status ≡ status_of result.0.cause }
     ensures pass { HasNoPass result.0.pass result.0.demo }
     ensures came { Came B.Disk.device B.Link.state B.holdings B.asks_disk B.asks_reading
@@ -166,7 +195,7 @@ fn execute<'w, W: Threads + Sync, B: Bay, R: Seeds, G: Gate>(
     match command {
         Command::Format(words) => make(alloc, bay, seeds, &words),
         Command::Init(words) => start(alloc, bay, seeds, &words),
-        Command::Serve(words) => (serve(rt, alloc, bay, &words), None),
+        Command::Serve(words) => (serve(rt, alloc, bay, &words, gate), None),
         Command::Resume(words) => resume(rt, alloc, bay, &words, gate),
         Command::Status(words) => show(alloc, bay, &words),
     }
@@ -180,11 +209,13 @@ fn execute<'w, W: Threads + Sync, B: Bay, R: Seeds, G: Gate>(
 /// Before each step of a conversion the gate is told how far it is.
 ///
 /// What holds at the end is `Came` of `specs/`, before the text is printed. Where sessions were
-/// served they are sessions of the protocol over the bytes that the links' connections gave, and
-/// their operations are one legal history of a plain disk: the one that was handed in, or the
-/// content that it stands for under the passphrase of the key file, also where a conversion is under
-/// way, which then stays where it is. The disk's tables are those of
-/// the operations' device calls, and wherever the run stops the disk holds what that history
+/// served they are sessions of the protocol over the bytes that the links' connections gave, at once
+/// where there are several links, and their operations are one legal history of a plain disk: the one
+/// that was handed in, or the content that it stands for under the passphrase of the key file. So it is
+/// also where a conversion is under way, which stays where it is, or is led on by the volume's worker
+/// meanwhile: then the command is fine only where it came to its end, at which every block is new, by a
+/// header that converts nothing, and holds its newest value. The disk's tables are those of the
+/// operations' device calls and the worker's, and wherever the run stops the disk holds what that history
 /// allows. Of a header all lines are told, or why there is none; the disk is read alone. A new
 /// volume is what the words wish, made of 32 bytes that the seeds gave once, and its header and its
 /// keyslot's area are written and nothing else. A conversion is what the words wish too, by 32
@@ -201,7 +232,7 @@ fn execute<'w, W: Threads + Sync, B: Bay, R: Seeds, G: Gate>(
 /// where it can't be put and pushed out, to `Memory` where memory is wanted for it. Words that ask
 /// for nothing leave the bay as it was, and those of other commands than `format` and `init` the
 /// seeds.
-pub fn run<'w, W: Threads + Wait + Sync, B: Bay, R: Seeds, O: Sink, G: Gate>(
+pub fn run<'w, W: Threads + Wait + Sync, B: Bay, R: Seeds, O: Sink, G: Gate + Sync>(
     rt: &W,
     alloc: Global,
     words: &'w [String],
@@ -210,6 +241,11 @@ pub fn run<'w, W: Threads + Wait + Sync, B: Bay, R: Seeds, O: Sink, G: Gate>(
     out: &mut O,
     gate: &G,
 ) -> Ended<'w, B::Disk, B::Link>
+where
+    B::Disk: Send,
+    B::Link: Send + Drop,
+    <B::Link as Link>::In: Send,
+    <B::Link as Link>::Out: Send,
     ensures status { result.status ≡ status_of result.cause }
     ensures pass { HasNoPass result.pass result.demo }
     ensures run { (cause : Cause) × (report : Option (List ℕ))

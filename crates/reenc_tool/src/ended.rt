@@ -71,9 +71,11 @@ pub enum Failing {
     /// A call of the disk failed by which its volume was opened: the first sync, a read of the
     /// header, the repair of a copy of it, or one by which an open zone is written again.
     Starting,
-    /// A write or a sync of the disk failed.
+    /// The volume is broken: a write or a sync of the disk failed, or a read of a zone that is open by
+    /// the header.
     Writing,
-    /// A call of a conversion that was led on failed: a read, a write or a sync of the disk.
+    /// A call of a conversion that was led on failed: a read, a write or a sync of the disk; of `serve`
+    /// one that gave its zone up and left the volume in use.
     Converting,
 }
 
@@ -95,7 +97,7 @@ pub enum Fit {
     /// The header has fewer numbers left than a zone of a conversion, or its end, has headers to be
     /// written.
     Numbers,
-    /// A conversion has more steps than are counted.
+    /// A conversion has more steps than are counted, or the history of `serve` is full.
     Events,
 }
 
@@ -257,7 +259,7 @@ impl<'w> Cause<'w> {
     }
 }
 
-/// What a thread may do to a volume that several share. No command makes one yet.
+/// What a thread may do to a volume that several share. No command hands one back yet.
 #[derive(Clone, Copy)]
 pub enum Pass {}
 

@@ -3,23 +3,21 @@
 //! is the server's promise: what the clients were put are the answers of one plain disk that was
 //! asked their operations one after the other, and each status has its cause. That plain disk is
 //! the disk as it is, or the content that an encrypted volume on it stands for under a passphrase.
-//! A conversion of a volume is begun, and led to its end, while no client is served; in between clients
-//! may use the volume, while nothing is converted.
+//! A conversion of a volume is begun while no client is served; it is led to its end beside the clients
+//! that use the volume, or without them.
 #![tactic(auto)]
 
 mod commands;
-mod connection;
 mod ended;
 mod making;
 mod opening;
-mod port;
 mod refusal_text;
 mod resuming;
-mod serving;
 mod sessions;
 mod showing;
 mod starting;
 mod text;
+mod trouble;
 mod volume_refusal;
 
 pub use bays::{Bay, BayFault, Link};

@@ -1,11 +1,11 @@
 // `serve` on an encrypted volume.
 
-ghost use Rattle.std.specs.Prelude.{◌≡◌, ◌<◌, ◌≤◌, ◌⊎◌, ℕ, length, slice_index_or, None, IfErr, IfOk};
+ghost use Rattle.std.specs.Prelude.{◌≡◌, ◌+◌, ◌<◌, ◌≤◌, ◌⊎◌, ℕ, length, slice_index_or, None, IfErr, IfOk};
 ghost use Rattle.bays.specs.Bays.{LeavesOtherClients};
 ghost use Rattle.command_line.specs.Commands.{IsServing, serving};
-ghost use Rattle.reenc_tool.specs.Encrypted.{HandsBack, RanOver, ended_unopened};
+ghost use Rattle.reenc_tool.specs.Encrypted.{HandsBack, ended_unopened};
 ghost use Rattle.reenc_tool.specs.KeyFiles.{ServesUnder, ServesVolume};
-ghost use Rattle.reenc_tool.specs.Volumes.{IsAnyVolume, IsNoVolume};
+ghost use Rattle.reenc_tool.specs.Volumes.{IsAnyVolume, IsNoVolume, RanAs};
 ghost use Rattle.served_conversions.specs.Clients.{without_work};
 ghost use Rattle.luks_store.specs.Devices.{device_of};
 ghost use Rattle.reenc_tool.specs.Linking.{IsLinked};
@@ -13,6 +13,7 @@ ghost use Rattle.reenc_tool.specs.Outcomes.{came_of, none_came, outcome_of};
 ghost use Rattle.reenc_tool.specs.Promise.{HasNoPass};
 ghost use Rattle.reenc_tool.specs.Status.{status_of};
 ghost use Rattle.reenc_tool.specs.declared.ended.Cause.{Cause};
+ghost use Rattle.shared_volume.specs.Histories.{MayBeShared};
 ghost use Rattle.volume_machine.specs.Beginnings.{IsFresh};
 ghost use Rattle.volume_machine.specs.Seals.{seals_of};
 ghost use Rattle.volume_machine.specs.Sound.{IsSound};
@@ -20,18 +21,31 @@ ghost use Rattle.volume_machine.specs.Sound.{IsSound};
 use crate::commands::{cause_by, unserved};
 use crate::ended::{Cause, Ended, Failing, Sessions};
 use crate::resuming::ended_unresumed;
-use crate::sessions::{LANES, empty_lists, serve_volume};
+use crate::sessions::{lanes_for, serve_volume};
 use crate::volume_refusal::VolumeRefusal;
 use bays::{Bay, Link};
 use cipher_laws::SectorCipher;
 use command_line::Serve;
+use converted_beside::conversions_end_beside_clients;
+use io_edge::Gate;
 use joined_disk::JoinedDisk;
-use resume_disk::{Refused, take_up_conversion};
+use lanes_beside::executions_join_beside;
+use luks_copies::copies_are_read;
+use resume_disk::{Refused, standing_conversions_end, take_up_conversion};
+use resumed_volumes::{
+    begun_conversions_start, conversions_go_on_under_their_passphrase,
+    openings_of_conversions_keep_content, resumed_conversions_keep_content,
+};
 use sector_cipher::Context;
 use sector_disk::Disk;
-use served_conversions::{passphrases_give_keys, taken_volumes_keep_content};
+use served_beside::tables_are_of_deeds;
+use served_conversions::{found_keys_are_given, passphrases_give_keys, taken_volumes_keep_content};
 use std::alloc::Global;
+use std::sync::Wait;
 use std::thread::Threads;
+use stops_beside::{
+    stops_beside_clients_stand_again, stops_beside_clients_stand_under_passphrases,
+};
 use volume_core::Volume;
 use volume_opening::{Refusal, Unopened, open_by_passphrase, opened_volumes_stand_along};
 
@@ -42,15 +56,22 @@ enum NoVolume<D: Disk> {
 }
 
 /// Asks the bay for the passphrase, opens the volume on a disk under it, and serves sessions there. Where
-/// a conversion is under way it is taken up first, and nothing is converted while sessions are served.
-pub fn serve_encrypted<'w, R: Threads + Sync, B: Bay>(
+/// a conversion is under way it is taken up first, and led on beside the sessions, unless the words ask
+/// for none of that.
+pub fn serve_encrypted<'w, R: Threads + Wait + Sync, B: Bay, G: Gate + Sync>(
     rt: &R,
     alloc: Global,
     bay: &mut B,
     disk: B::Disk,
     key_file: &str,
     words: &Serve<'_>,
+    gate: &G,
 ) -> Ended<'w, B::Disk, B::Link>
+where
+    B::Disk: Send,
+    B::Link: Send + Drop,
+    <B::Link as Link>::In: Send,
+    <B::Link as Link>::Out: Send,
     requires { IsServing (serving words.now) }
     ensures status { result.status ≡ status_of result.cause }
     ensures pass { HasNoPass result.pass result.demo }
@@ -60,7 +81,7 @@ pub fn serve_encrypted<'w, R: Threads + Sync, B: Bay>(
         (serving words.now) key_file.now disk bay.old bay.new (outcome_of result) }
 {
     match bay.key(alloc, key_file) {
-        Ok(pass) => serve_under(rt, alloc, bay, disk, pass.as_slice(), words),
+        Ok(pass) => serve_under(rt, alloc, bay, disk, pass.as_slice(), words, gate),
         Err(fault) => {
             let cause = cause_by(Failing::Keying, fault, bay.faults());
             unserved(alloc, cause, Some(disk), Vec::new(alloc))
@@ -84,27 +105,29 @@ fn only_disk<D: Disk>(unopened: Unopened<D>) -> D
     }
 }
 
-/// Opens the volume on a disk under a passphrase. Where a conversion of it is under way that is taken
-/// up.
+/// Opens the volume on a disk under a passphrase, with so many lanes. Where a conversion of it is under
+/// way that is taken up.
 fn open_volume<R: Threads + Sync, D: Disk>(
     rt: &R,
     alloc: Global,
     disk: D,
     pass: &[u8],
+    lanes: u32,
 ) -> Result<Volume<JoinedDisk<D>, Context>, NoVolume<D>>
+    requires { 0 < lanes }
     ensures opened { IfOk result (IsAnyVolume ⟦<Context as SectorCipher>⟧.sector
         ⟦<Context as SectorCipher>⟧.sealed ⟦<Context as SectorCipher>⟧.opened (D.device disk)
-        pass.now) }
+        pass.now lanes) }
     ensures none { IfErr result (IsNoVolume ⟦<Context as SectorCipher>⟧.sector
         ⟦<Context as SectorCipher>⟧.sealed ⟦<Context as SectorCipher>⟧.opened D.device disk
         pass.now) }
 {
-    match open_by_passphrase(alloc, disk, pass, LANES) {
+    match open_by_passphrase(alloc, disk, pass, lanes) {
         Ok(volume) => Ok(volume),
         Err(unopened) => match &unopened.refusal {
             Refusal::InProgress => {
                 let disk = only_disk(unopened);
-                match take_up_conversion(rt, alloc, disk, pass, LANES) {
+                match take_up_conversion(rt, alloc, disk, pass, lanes) {
                     Ok(volume) => Ok(volume),
                     Err(refused) => Err(NoVolume::Midway(refused)),
                 }
@@ -116,14 +139,20 @@ fn open_volume<R: Threads + Sync, D: Disk>(
 }
 
 /// Opens the volume on a disk under a passphrase, and serves sessions there.
-fn serve_under<'w, R: Threads + Sync, B: Bay>(
+fn serve_under<'w, R: Threads + Wait + Sync, B: Bay, G: Gate + Sync>(
     rt: &R,
     alloc: Global,
     bay: &mut B,
     disk: B::Disk,
     pass: &[u8],
     words: &Serve<'_>,
+    gate: &G,
 ) -> Ended<'w, B::Disk, B::Link>
+where
+    B::Disk: Send,
+    B::Link: Send + Drop,
+    <B::Link as Link>::In: Send,
+    <B::Link as Link>::Out: Send,
     requires { IsServing (serving words.now) }
     ensures status { result.status ≡ status_of result.cause }
     ensures pass { HasNoPass result.pass result.demo }
@@ -134,23 +163,43 @@ fn serve_under<'w, R: Threads + Sync, B: Bay>(
 {
     opened_volumes_stand_along::<Context>();
     passphrases_give_keys::<Context>();
+    found_keys_are_given();
+    standing_conversions_end::<B::Disk>();
     taken_volumes_keep_content::<Context>();
-    match open_volume(rt, alloc, disk, pass) {
-        Ok(volume) => serve_opened(alloc, bay, volume, words),
+    openings_of_conversions_keep_content::<Context>();
+    resumed_conversions_keep_content::<Context>();
+    begun_conversions_start::<Context>();
+    copies_are_read();
+    executions_join_beside::<Context>();
+    tables_are_of_deeds::<Context>();
+    stops_beside_clients_stand_again::<Context>();
+    conversions_go_on_under_their_passphrase::<Context>();
+    stops_beside_clients_stand_under_passphrases::<Context>();
+    conversions_end_beside_clients::<Context>();
+    match open_volume(rt, alloc, disk, pass, lanes_for(words.workers)) {
+        Ok(volume) => serve_opened(rt, alloc, bay, volume, words, gate),
         Err(NoVolume::Idle(unopened)) => ended_unopened(alloc, unopened),
         Err(NoVolume::Midway(refused)) => ended_unresumed(alloc, refused),
     }
 }
 
 /// Asks the bay for its links and serves sessions on a volume that was opened.
-fn serve_opened<'w, B: Bay>(
+fn serve_opened<'w, R: Threads + Wait + Sync, B: Bay, G: Gate + Sync>(
+    rt: &R,
     alloc: Global,
     bay: &mut B,
     volume: Volume<JoinedDisk<B::Disk>, Context>,
     words: &Serve<'_>,
+    gate: &G,
 ) -> Ended<'w, B::Disk, B::Link>
+where
+    B::Disk: Send,
+    B::Link: Send + Drop,
+    <B::Link as Link>::In: Send,
+    <B::Link as Link>::Out: Send,
     requires words { IsServing (serving words.now) }
-    requires lanes { 1 < length volume.lanes }
+    requires lanes { length volume.lanes ≡ words.now.workers + 1 }
+    requires shared { MayBeShared volume }
     requires fresh { IsFresh (without_work volume) }
     requires sound { IsSound (without_work volume) }
     ensures status { result.status ≡ status_of result.cause }
@@ -161,12 +210,12 @@ fn serve_opened<'w, B: Bay>(
         bay.new
         (λ cause links. HandsBack B.Disk.device volume.disk (none_came cause links)
         (outcome_of result))
-        (λ begun. RanOver B.Disk.device B.Link.state (without_work volume) (seals_of
+        (λ begun. RanAs B.Disk.device B.Link.state words.now.converts volume (seals_of
         ⟦<Context as SectorCipher>⟧.sealed ⟦<Context as SectorCipher>⟧.opened volume.map.atom
         volume.keys) begun (outcome_of result)) }
 {
     match bay.links(alloc, words.address, words.workers, words.sessions) {
-        Ok(links) => serve_joined(alloc, volume, links),
+        Ok(links) => serve_joined(rt, alloc, volume, links, gate, words.converts),
         Err(fault) => {
             let cause = cause_by(Failing::Listening, fault, bay.faults());
             hand_back(
@@ -178,12 +227,25 @@ fn serve_opened<'w, B: Bay>(
 }
 
 /// Serves sessions over links on a volume that was opened.
-fn serve_joined<'w, D: Disk, L: Link>(
+fn serve_joined<
+    'w,
+    R: Threads + Wait + Sync,
+    D: Disk + Send,
+    L: Link + Send + Drop,
+    G: Gate + Sync,
+>(
+    rt: &R,
     alloc: Global,
     volume: Volume<JoinedDisk<D>, Context>,
     links: Vec<L>,
+    gate: &G,
+    converts: bool,
 ) -> Ended<'w, D, L>
-    requires lanes { 1 < length volume.lanes }
+where
+    L::In: Send,
+    L::Out: Send,
+    requires lanes { length volume.lanes ≡ length links.items + 1 }
+    requires shared { MayBeShared volume }
     requires fresh { IsFresh (without_work volume) }
     requires sound { IsSound (without_work volume) }
     requires some { 0 < length links.items }
@@ -192,22 +254,14 @@ fn serve_joined<'w, D: Disk, L: Link>(
         (L.state (slice_index_or links.items k link)).bound ≤ 65535 }
     ensures status { result.status ≡ status_of result.cause }
     ensures pass { HasNoPass result.pass result.demo }
-    ensures ended { RanOver D.device L.state (without_work volume) (seals_of ⟦<Context as SectorCipher>⟧.sealed
-        ⟦<Context as SectorCipher>⟧.opened volume.map.atom volume.keys) links.items
-        (outcome_of result)
+    ensures ended { RanAs D.device L.state converts volume (seals_of
+        ⟦<Context as SectorCipher>⟧.sealed ⟦<Context as SectorCipher>⟧.opened volume.map.atom
+        volume.keys) links.items (outcome_of result)
         ⊎ HandsBack D.device volume.disk (none_came Cause.Memory links.items)
         (outcome_of result) }
 {
-    match empty_lists(alloc, links.len()) {
-        Ok(ends) => {
-            let (joined, sessions) = serve_volume(alloc, volume, links, ends);
-            hand_back(joined, sessions)
-        }
-        Err(_) => hand_back(
-            volume.into_disk(),
-            Sessions::none(alloc, Cause::Memory, links),
-        ),
-    }
+    let (joined, sessions) = serve_volume(rt, alloc, volume, links, gate, converts);
+    hand_back(joined, sessions)
 }
 
 /// Ends with the disks of a volume, one by one, and what came of its sessions.

@@ -26,14 +26,16 @@ use conversion_opening::ConversionCause;
 use io_edge::Gate;
 use itoa::Buffer;
 use reenc_worker::{NoFit, WorkerEnd};
-use resume_disk::{Finished, Halted, Refusal, Refused, Unfinished, resume_conversion};
+use resume_disk::{
+    Finished, Halted, Refusal, Refused, Unfinished, resume_conversion, standing_conversions_end,
+};
 use resumed_volumes::{
-    openings_of_conversions_keep_content, resumed_conversions_keep_content,
-    stopped_conversions_may_be_resumed,
+    conversions_go_on_under_their_passphrase, openings_of_conversions_keep_content,
+    resumed_conversions_keep_content, stopped_conversions_may_be_resumed,
 };
 use sector_cipher::Context;
 use sector_disk::Disk;
-use served_conversions::passphrases_give_keys;
+use served_conversions::{found_keys_are_given, passphrases_give_keys};
 use std::alloc::Global;
 use std::thread::Threads;
 
@@ -77,7 +79,7 @@ impl<'w> Cause<'w> {
     }
 
     /// The cause of a command whose conversion lacks what a zone needs, or its end.
-    fn of_unfit(unfit: NoFit) -> Cause<'w>
+    pub(crate) fn of_unfit(unfit: NoFit) -> Cause<'w>
         ensures { result ≡ cause_of_unfit unfit }
     {
         match unfit {
@@ -215,6 +217,9 @@ fn resume_on<'w, R: Threads + Sync, D: Disk, L, G: Gate>(
     openings_of_conversions_keep_content::<Context>();
     resumed_conversions_keep_content::<Context>();
     stopped_conversions_may_be_resumed::<Context>();
+    conversions_go_on_under_their_passphrase::<Context>();
+    found_keys_are_given();
+    standing_conversions_end::<D>();
     let Ok(room) = String::with_capacity(alloc, LONGEST_LINE) else {
         return (
             unserved(alloc, Cause::Memory, Some(disk), Vec::new(alloc)),

@@ -1,121 +1,155 @@
 // Sessions over a volume.
 
-ghost use Rattle.std.specs.Prelude.{◌≡◌, ◌<◌, ◌≤◌, ℕ, [], length, slice_index_or, IfOk};
-ghost use Rattle.reenc_tool.specs.Outcomes.{came_of};
-ghost use Rattle.reenc_tool.specs.Runs.{HasServed, cause_of};
+ghost use Rattle.std.specs.Prelude.{◌≡◌, ◌+◌, ◌≢◌, ◌<◌, ◌≤◌, ◌⊎◌, ℕ, true, false, length, map};
+ghost use Rattle.std.specs.Prelude.{slice_index_or};
+ghost use Rattle.block_server.specs.declared.link.Standing.TheVariants.{Live};
+ghost use Rattle.reenc_tool.specs.Outcomes.{came_of, none_came};
+ghost use Rattle.reenc_tool.specs.Sessions.{cause_of, has_spent};
+ghost use Rattle.reenc_tool.specs.Standings.{AreFaultsOfFirst, HasLive, failed_in};
+ghost use Rattle.reenc_tool.specs.Volumes.{IsServedAs};
+ghost use Rattle.reenc_tool.specs.declared.ended.Cause.TheVariants.{Memory};
 ghost use Rattle.served_conversions.specs.Clients.{without_work};
+ghost use Rattle.shared_volume.specs.Histories.{MayBeShared};
 ghost use Rattle.volume_machine.specs.Beginnings.{IsFresh};
 ghost use Rattle.volume_machine.specs.Seals.{seals_of};
 ghost use Rattle.volume_machine.specs.Sound.{IsSound};
 
-use crate::ended::{Cause, Failing, Sessions};
-use crate::port::VolumePort;
-use crate::serving::{Trouble, serve_links};
-use base_terms::Buffer;
+use crate::ended::{Cause, Sessions};
+use crate::trouble::{MOST_EVENTS, cause, trouble_of};
 use bays::Link;
+use block_server::{Served, Unserved, serve};
 use cipher_laws::SectorCipher;
-use nbd_session::SessionEnd;
+use conversions_beside::conversions_end_beside;
+use io_edge::Gate;
+use lanes_beside::{executions_join_beside, runs_are_deeds};
+use luks_copies::copies_are_read;
 use sector_cipher::Context;
 use sector_disk::Disk;
+use served_beside::{
+    deeds_fail_by_faults, deeds_stop_anywhere, device_errors_are_exact as deeds_errors_are_exact,
+    failures_go_by_deeds, tables_are_of_deeds,
+};
 use served_conversions::clients_leave_work_alone;
-use std::alloc::{AllocError, Global};
-use volume_core::{Progress, Volume};
+use std::alloc::Global;
+use std::sync::Wait;
+use std::thread::Threads;
+use volume_core::Volume;
 use volume_laws::{
-    device_errors_are_exact, every_run_is_served, executions_join, failures_go_by_events,
-    keys_seal_lawfully, runs_fail_by_faults, runs_stop_anywhere, settled_volumes_are_covered,
-    tables_are_of_events,
+    device_errors_are_exact, every_conversion_is_served, every_run_is_served, executions_join,
+    failures_go_by_events, keys_seal_lawfully, runs_fail_by_faults, runs_stop_anywhere,
+    settled_volumes_are_covered, tables_are_of_events,
 };
 
-/// How many lanes a volume has: the one that executes the sessions' operations, and the
-/// conversion's own.
-pub const LANES: u32 = 2;
+/// How many lanes a volume has that so many workers serve: one each, and the conversion's own.
+pub fn lanes_for(workers: u32) -> u32
+    requires { workers ≤ 16 }
+    ensures { result ≡ workers + 1 }
+{
+    workers + 1
+}
 
-/// Serves sessions over links on a volume that has just begun, and hands its disk and the links
-/// back. What its conversion takes, where it has that, lies idle meanwhile. Each link's sessions' ends
-/// go to a list of its own, which is empty before.
-pub fn serve_volume<'w, D: Disk, L: Link>(
+/// Serves sessions over links on a volume that has just begun, each link in a thread of its own, and
+/// leads the volume's conversion on beside them, where that is wanted and it has one. Else what that
+/// takes lies idle meanwhile. Hands the disk and the links back; where memory was wanted before the first
+/// session, as they were.
+pub fn serve_volume<
+    'w,
+    R: Threads + Wait + Sync,
+    D: Disk + Send,
+    L: Link + Send + Drop,
+    G: Gate + Sync,
+>(
+    rt: &R,
     alloc: Global,
     volume: Volume<D, Context>,
-    mut links: Vec<L>,
-    mut ends: Vec<Vec<SessionEnd>>,
+    links: Vec<L>,
+    gate: &G,
+    converts: bool,
 ) -> (D, Sessions<'w, L>)
-    requires lanes { 1 < length volume.lanes }
+where
+    L::In: Send,
+    L::Out: Send,
+    requires shared { MayBeShared volume }
     requires fresh { IsFresh (without_work volume) }
     requires sound { IsSound (without_work volume) }
+    requires lanes { length volume.lanes ≡ length links.items + 1 }
     requires some { 0 < length links.items }
     requires few { length links.items ≤ 16 }
     requires bound { (k : ℕ) (link : L) → k < length links.items →
         (L.state (slice_index_or links.items k link)).bound ≤ 65535 }
-    requires lists { length ends.items ≡ length links.items }
-    requires empty { (k : ℕ) (list : _) → k < length links.items →
-        (slice_index_or ends.items k list).items ≡ [] }
-    ensures served { HasServed L.state (without_work volume) (seals_of ⟦<Context as SectorCipher>⟧.sealed
+    ensures served { IsServedAs L.state converts volume (seals_of ⟦<Context as SectorCipher>⟧.sealed
         ⟦<Context as SectorCipher>⟧.opened volume.map.atom volume.keys) (D.device result.0)
-        links.items (came_of result.1) }
+        links.items (came_of result.1)
+        ⊎ ((D.device result.0 ≡ volume.disk)
+        × (came_of result.1 ≡ none_came Memory links.items)) }
     ensures size { (D.device result.0).size ≡ volume.map.atom }
 {
     let _keys = volume.keys();
     keys_seal_lawfully::<Context>();
     clients_leave_work_alone::<Context>();
     every_run_is_served::<Context>();
+    every_conversion_is_served::<Context>();
     executions_join::<Context>();
+    executions_join_beside::<Context>();
+    runs_are_deeds::<Context>();
     failures_go_by_events::<Context>();
+    failures_go_by_deeds::<Context>();
     device_errors_are_exact::<Context>();
+    deeds_errors_are_exact::<Context>();
     runs_stop_anywhere::<Context>();
+    deeds_stop_anywhere::<Context>();
     tables_are_of_events::<Context>();
+    tables_are_of_deeds::<Context>();
     runs_fail_by_faults::<Context>();
+    deeds_fail_by_faults::<Context>();
+    conversions_end_beside::<Context>();
+    copies_are_read();
     settled_volumes_are_covered::<Context>();
-    let Progress { blocks, atom, .. } = volume.progress();
-    let size = blocks * u64::from(atom);
-    let mut port = VolumePort {
+    match serve(rt, alloc, volume, links, gate, MOST_EVENTS, converts) {
+        Ok(served) => conclude(served),
+        Err(Unserved { volume, links }) => (
+            volume.into_disk(),
+            Sessions::none(alloc, Cause::Memory, links),
+        ),
+    }
+}
+
+/// The disk of a volume that was served, and what came of its sessions.
+fn conclude<'w, D: Disk, L: Link>(served: Served<D, L>) -> (D, Sessions<'w, L>)
+    requires { length served.standings.items ≤ length served.links.items }
+    ensures disk { D.device result.0 ≡ served.volume.disk }
+    ensures size { (D.device result.0).size ≡ served.volume.map.atom }
+    ensures came { (faults : ℕ)
+        × AreFaultsOfFirst L.state served.links.items served.standings.items faults
+        × (came_of result.1 ≡ record {
+          cause = cause_of served.volume.broken (D.device result.0).faults served.worker
+              (has_spent (map (λ list. list.items) served.sessions.items))
+              (failed_in served.standings.items) faults result.1.memory;
+          memory = result.1.memory;
+          links = served.links.items;
+          ends = map (λ list. list.items) served.sessions.items;
+        }) }
+    ensures short { result.1.memory ≡ true →
+        HasLive (length served.standings.items) served.standings.items }
+    ensures to_the_end { result.1.memory ≡ false → (k : ℕ) → k < length served.standings.items →
+        slice_index_or served.standings.items k Live ≢ Live }
+{
+    let Served {
         volume,
-        session: 0,
-        part: Buffer::empty(alloc),
-    };
-    let trouble = serve_links(alloc, &mut links, &mut ends, &mut port, size, atom);
-    let VolumePort { volume, .. } = port;
+        links,
+        sessions,
+        standings,
+        worker,
+    } = served;
+    let trouble = trouble_of(links.as_slice(), standings.as_slice(), sessions.as_slice());
     let broken = volume.progress().broken;
     let disk = volume.into_disk();
-    let cause = cause(broken, disk.faults(), trouble);
+    let cause = cause(broken, disk.faults(), worker, trouble);
     let sessions = Sessions {
         cause,
         memory: trouble.memory,
-        ends,
+        ends: sessions,
         links,
     };
     (disk, sessions)
-}
-
-/// The cause of the end of sessions over a disk of which so many calls failed.
-fn cause<'w>(broken: bool, faults: u64, trouble: Trouble) -> Cause<'w>
-    ensures { result ≡ cause_of broken faults trouble.failed trouble.faults trouble.memory }
-{
-    if broken {
-        Cause::Device {
-            failing: Failing::Writing,
-            faults,
-        }
-    } else if trouble.failed != 0 {
-        Cause::Link {
-            failed: trouble.failed,
-            faults: trouble.faults,
-        }
-    } else if trouble.memory {
-        Cause::Memory
-    } else {
-        Cause::Fine
-    }
-}
-
-/// An empty list for each link.
-pub fn empty_lists(alloc: Global, count: usize) -> Result<Vec<Vec<SessionEnd>>, AllocError>
-    ensures length { IfOk result (λ lists. length lists.items ≡ count) }
-    ensures empty { IfOk result
-        (λ lists. (k : ℕ) (list : _) → k < count → (slice_index_or lists.items k list).items ≡ []) }
-{
-    let mut lists = Vec::with_capacity(alloc, count)?;
-    for made in 0..count {
-        lists.push(Vec::new(alloc))?;
-    }
-    Ok(lists)
 }

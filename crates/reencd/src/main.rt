@@ -45,10 +45,10 @@ fn main(rt: HostRuntime) -> ExitCode {
 fn command<
     'w,
     W: Threads + Wait + Sync,
-    R: FileSystem + Network + Drop,
+    R: FileSystem + Network + Drop + Send + Sync,
     S: Seeds,
     O: Sink,
-    G: Gate,
+    G: Gate + Sync,
 >(
     rt: &W,
     alloc: Global,
@@ -57,7 +57,11 @@ fn command<
     seeds: &mut S,
     out: &mut O,
     gate: &G,
-) -> Reason<'w> {
+) -> Reason<'w>
+where
+    R::Opened: Send,
+    R::Listener: Send,
+{
     let Ended {
         cause,
         fault,

@@ -69,7 +69,9 @@ fn explain_fit(errors: Stderr, what: Fit, number: u64, limit: u64) {
         Fit::Numbers => eprintln!(errors;
             "reencd: {number} headers are to follow, and the header has {limit} numbers left"
         ),
-        Fit::Events => eprintln!(errors; "reencd: the conversion has more steps than {limit}"),
+        Fit::Events => eprintln!(errors;
+            "reencd: more events of clients and steps of the conversion than {limit}"
+        ),
         Fit::Blocks => eprintln!(errors; "reencd: the disk has no room for a block"),
         Fit::Passphrase => eprintln!(errors;
             "reencd: a passphrase of {number} bytes, which are to be 1 to 512"

@@ -63,7 +63,7 @@ fn client(alloc: Global, kind: u8, length: usize, body: &[u8]) -> Result<(ListSo
     Ok((source, ListSink::new(alloc, room, &[])?))
 }
 
-/// What `serve` comes to on a disk of these bytes with one client.
+/// What `serve` comes to on a disk of these bytes with one client. Nothing is converted meanwhile.
 fn served(
     rt: &(impl Threads + Wait + Sync),
     alloc: Global,
@@ -73,7 +73,7 @@ fn served(
 ) -> Result<Outcome> {
     let atom = place.atom;
     let words = format!(in alloc;
-        "serve x --key-file k --atom {atom} --listen A --workers 1 --sessions 1"
+        "serve x --key-file k --atom {atom} --listen A --workers 1 --sessions 1 --no-worker"
     )?;
     let mut clients = Vec::new(alloc);
     clients.push(client)?;

@@ -8,7 +8,8 @@
 //! - the disk `x`, all of whose bytes are 170 at first: the bytes of an atom, how many atoms there
 //!   are, and how many blocks its volume has;
 //! - the steps, with ` ; ` between two: the words of a command; `write` and `read`, a client of
-//!   `serve` writes the volume's content, bytes that rise from 0 to 250 again and again, or reads it;
+//!   `serve --no-worker` writes the volume's content, bytes that rise from 0 to 250 again and again,
+//!   or reads it; a `serve` among the commands meets no client;
 //!   `again`, one writes another content, whose first byte is 100;
 //!   `stop N LEFT`, which stops the next command behind N device calls; or what another program does
 //!   to the disk: `zero AT LENGTH` puts zeros there, `number N` gives both copies of its header that

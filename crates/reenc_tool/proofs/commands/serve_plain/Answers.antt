@@ -1,11 +1,11 @@
-use Rattle.std.proofs.Common.{ap, ◌∙◌, arith, inl, inr, Some, []}
+use Rattle.std.proofs.Common.{ap, ◌∙◌, arith, inl, inr, ⊎_elim, Some, []}
 use Rattle.reenc_tool.specs.declared.ended.Failing.TheVariants.{Listening}
 use Rattle.reenc_tool.specs.Outcomes.{cause_of_fault, unserved}
 use Rattle.reenc_tool.proofs.RunLemmas.{links_few, unserved_of}
 use Rattle.reenc_tool.proofs.commands.serve_plain.Goals as goal
 
 pub serve_disk-requires-clause-bound : goal.serve_disk-requires-clause-bound
-serve_disk-requires-clause-bound g c =
+serve_disk-requires-clause-bound g c κs within =
     links_few g.B.Link.Link.state c.args.words.now.workers c.args.words.now.sessions
     c.in-Ok.links.items c.in-Ok.ensures.bound c.requires.some_worker c.in-Ok.ensures.count
     c.requires.sessions
@@ -22,7 +22,9 @@ returns-in-Ok-clause-ended g c = inr (record {
       fresh = c.in-Ok.ensures.fresh;
       few = c.in-Ok.ensures.bound;
     };
-    came = c.serve_disk.ensures.ended;
+    came = ⊎_elim (λ ran. inl (inl ran))
+        (λ none. ⊎_elim (λ same. inl (inr same)) (λ exact. inr exact) none)
+        c.serve_disk.ensures.ended;
   });
 })
 

@@ -22,7 +22,7 @@ returns-in-Ok-take_up_conversion-clause-opened g c =
     let kept = subst (λ (d : Device). KeepsBytes (device c.args.disk) d)
     (ap device (sym c.only_disk-disk.ensures)) (only-read first.1) in
     inr (midway-then (device c.args.disk) (device c.only_disk-disk.result) kept _ _ _
-    c.args.pass.now 2 c.in-Ok-take_up_conversion.volume
+    c.args.pass.now c.args.lanes c.in-Ok-take_up_conversion.volume
     c.in-Ok-take_up_conversion.ensures.taken)
 
 pub returns-in-Err-take_up_conversion-clause-none :

@@ -5,7 +5,7 @@ use Rattle.reenc_tool.proofs.RunLemmas.{handed, links_few}
 use Rattle.reenc_tool.proofs.opening.serve_opened.Goals as goal
 
 pub serve_joined-requires-clause-bound : goal.serve_joined-requires-clause-bound
-serve_joined-requires-clause-bound g c =
+serve_joined-requires-clause-bound g c κs within =
     links_few g.B.Link.Link.state c.args.words.now.workers c.args.words.now.sessions
     c.in-Ok.links.items c.in-Ok.ensures.bound c.requires.words.some_worker c.in-Ok.ensures.count
     c.requires.words.sessions

@@ -10,12 +10,14 @@ returns-in-Ok-resume_conversion-clause-resumed g c =
     (outcome_of c.ended_finished.result) (record {
       keys = c.passphrases_give_keys.ensures;
       openings = c.openings_of_conversions_keep_content.ensures.opened;
-      in_vain = c.openings_of_conversions_keep_content.ensures.unopened;
       begins = c.resumed_conversions_keep_content.ensures.begins;
       finished = c.resumed_conversions_keep_content.ensures.finished;
       stops = c.resumed_conversions_keep_content.ensures.stops;
       again = c.stopped_conversions_may_be_resumed.ensures;
-    }) (g.met.D.Disk.geometry c.args.disk) finished.blocks _
+      given = c.found_keys_are_given.ensures;
+      ended = c.conversions_go_on_under_their_passphrase.ensures.finished;
+      left = c.conversions_go_on_under_their_passphrase.ensures.stops;
+    }) c.standing_conversions_end.ensures (g.met.D.Disk.geometry c.args.disk) finished.blocks _
     c.in-Ok-resume_conversion.ensures.finished c.ended_finished.ensures.outcome
     c.finished_line-line.ensures
 
@@ -24,14 +26,9 @@ returns-in-Err-Refused-clause-resumed g c =
     let refused = c.in-Err-Refused.refused in
     is_refused _ _ _ g.D.Disk.device c.args.pass.now c.args.disk refused.header refused.disk
     (outcome_of c.ended_unresumed.result) (record {
-      keys = c.passphrases_give_keys.ensures;
-      openings = c.openings_of_conversions_keep_content.ensures.opened;
+      given = c.found_keys_are_given.ensures;
       in_vain = c.openings_of_conversions_keep_content.ensures.unopened;
-      begins = c.resumed_conversions_keep_content.ensures.begins;
-      finished = c.resumed_conversions_keep_content.ensures.finished;
-      stops = c.resumed_conversions_keep_content.ensures.stops;
-      again = c.stopped_conversions_may_be_resumed.ensures;
-    }) (g.met.D.Disk.geometry c.args.disk) refused.refusal
+    }) c.standing_conversions_end.ensures refused.refusal
     (rw c.in-Err-Refused.field-0-is at c.in-Err-Refused.ensures.unfinished)
     c.ended_unresumed.ensures.outcome
 
@@ -42,11 +39,13 @@ returns-clause-resumed g c =
     (outcome_of c.ended_halted.result) (record {
       keys = c.passphrases_give_keys.ensures;
       openings = c.openings_of_conversions_keep_content.ensures.opened;
-      in_vain = c.openings_of_conversions_keep_content.ensures.unopened;
       begins = c.resumed_conversions_keep_content.ensures.begins;
       finished = c.resumed_conversions_keep_content.ensures.finished;
       stops = c.resumed_conversions_keep_content.ensures.stops;
       again = c.stopped_conversions_may_be_resumed.ensures;
-    }) (g.met.D.Disk.geometry c.args.disk) halted.end
+      given = c.found_keys_are_given.ensures;
+      ended = c.conversions_go_on_under_their_passphrase.ensures.finished;
+      left = c.conversions_go_on_under_their_passphrase.ensures.stops;
+    }) c.standing_conversions_end.ensures (g.met.D.Disk.geometry c.args.disk) halted.end
     (rw c.in-Err-Halted.field-0-is at c.in-Err-Halted.ensures.unfinished)
     c.ended_halted.ensures.outcome

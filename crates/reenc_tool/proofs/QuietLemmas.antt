@@ -1,0 +1,50 @@
+-- Deeds among which is no step of the worker, as the run of events that they are.
+use Rattle.std.proofs.Common.{◌≡◌, ◌∙◌, ℕ, suc, List, [], ◌∷◌, ◌++◌, length, ap, refl, subst, sym}
+use Rattle.lanes_beside.specs.Executing.{ExecutesBeside}
+use Rattle.lanes_beside.specs.Lanes.{deeds_of}
+use Rattle.lanes_beside.specs.Runs.{IsRunOf}
+use Rattle.volume_laws.specs.Executing.{Executes}
+use Rattle.volume_machine.specs.Answers.{Answered, AreTagged, Tagged}
+use Rattle.volume_machine.specs.Deeds.{Deed, answered_over}
+use Rattle.volume_machine.specs.Readings.{Reading}
+use Rattle.volume_machine.specs.Runs.{Happening, answered_by, answered_in, plain_after}
+use Rattle.volume_machine.specs.Seals.{Seals}
+use Rattle.volume_machine.specs.States.{State}
+
+-- ---- the same answers and as many entries
+answers-same : {K : Type 0} (seals : Seals) (old : State K) (plain : ℕ → List ℕ)
+    (run : List (Happening K))
+    → answered_over seals old plain (deeds_of run) ≡ answered_in seals old plain run
+unfolding answered_over answered_in deeds_of
+answers-same seals old plain [] = refl
+answers-same seals old plain (one ∷ rest) =
+    ap (λ (more : List Answered). answered_by old one.event one.outcome plain ++ more)
+    (answers-same seals one.after (plain_after seals old one.event one.outcome plain) rest)
+
+length-same : {K : Type 0} (run : List (Happening K)) → length (deeds_of run) ≡ length run
+unfolding deeds_of
+length-same [] = refl
+length-same (one ∷ rest) = ap suc (length-same rest)
+
+-- the run that executed what the deeds executed
+pub record IsQuiet {K : Type 0} (seals : Seals) (start final : State K) (deeds : List (Deed K))
+    (operations : List Tagged) : Type 0 where
+  pub run : List (Happening K)
+  pub did : Executes seals start final run operations
+  pub count : length run ≡ length deeds
+
+pub quiet : {K : Type 0} (reading : Reading) (seals : Seals) (start final : State K)
+    (deeds : List (Deed K)) (operations : List Tagged) (run : List (Happening K))
+    → IsRunOf start seals deeds run → ExecutesBeside reading seals start final deeds operations
+    → IsQuiet seals start final deeds operations
+quiet {K} reading seals start final deeds operations run is did = record {
+  run = run;
+  did = record {
+    is = is.is reading did.are;
+    last = is.last ∙ did.last;
+    answers = λ plain. subst (λ (answered : List Answered). AreTagged answered operations)
+        (ap (λ (d : List (Deed K)). answered_over seals start plain d) is.deeds_are
+        ∙ answers-same seals start plain run) (did.answers plain);
+  };
+  count = sym (length-same run) ∙ ap length (sym is.deeds_are);
+}
