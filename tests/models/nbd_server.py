@@ -1,6 +1,7 @@
 """A model of the server: what a session puts for the bytes that its client sends, how it ends, and
 what is then on the disk. It says what the NBD protocol document and docs/FORMATS.md say, by its own
-words, for a disk whose calls don't fail and with memory for everything.
+words, for a disk whose calls don't fail, or whose volume is broken from some request on, and with memory for
+everything.
 """
 
 import struct
@@ -15,7 +16,7 @@ UNSUP, INVALID, UNKNOWN, TOO_BIG = (1 << 31 | number for number in (1, 3, 6, 9))
 
 READ, WRITE, DISC, FLUSH, TRIM, WRITE_ZEROES = 0, 1, 2, 3, 4, 6
 FUA, NO_HOLE, DF = 1, 2, 4
-EINVAL, ENOSPC = 22, 28
+EIO, EINVAL, ENOSPC = 5, 22, 28
 
 NONE, OFFSET_DATA, ERROR = 0, 1, 1 << 15 | 1
 DONE = 1
@@ -69,10 +70,12 @@ class Ended(Exception):
 
 
 class Session:
-    """One session, from the bytes that the client sends, whose input then ends."""
+    """One session, from the bytes that the client sends, whose input then ends. Where `healthy` is a number, the
+    volume is broken behind so many requests: each one from then on that isn't wrong is refused."""
 
-    def __init__(self, disk, atom, sent):
-        self.disk, self.atom, self.sent = disk, atom, sent
+    def __init__(self, disk, atom, sent, healthy=None):
+        self.disk, self.atom, self.sent, self.healthy = disk, atom, sent, healthy
+        self.asked = 0
         self.put = bytearray(GREETING)
         self.taken = 0
         self.no_zeroes = self.structured = False
@@ -167,6 +170,9 @@ class Session:
             raise Ended(f"TooLong({length})")
         data = self.take(length) if kind == WRITE else b""
         error = self.refusal(flags, kind, offset, length)
+        if not error and self.healthy is not None and self.asked >= self.healthy:
+            error = EIO
+        self.asked += 1
         if kind == READ:
             self.answer_read(flags, cookie, offset, length, error)
             return

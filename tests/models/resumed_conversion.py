@@ -1,5 +1,6 @@
 #!/usr/bin/env python3
-"""Conversions that `resume` leads to their end, as another implementation does: a new volume is made
+"""Conversions that `resume` leads to their end, and `serve` where no client comes, as another implementation
+does: a new volume is made
 and its conversion begins (begun_volume.py); then the header is read and the keys of both sides are
 found, a zone that a stop left open is written again (mended_zone.py), and the zones that are left and
 the finish are led (led_conversion.py), all by the same device calls (docs/CLI.md,
@@ -22,7 +23,7 @@ import conversion_steps
 import led_conversion
 from begun_volume import CHANGES, COMMANDS, KEYS, STOOD, Ended, Failed, NoFit
 from begun_volume import device, fault, no_fit, read_header, unlock
-from led_conversion import PICKS, Disk, Led, Side, sum_of
+from led_conversion import PICKS, Led, Side, sum_of
 from mended_zone import Mended
 
 ROOT = os.path.join(os.path.dirname(os.path.abspath(__file__)), "../../crates/resume_rows")
@@ -32,6 +33,22 @@ ROOT = os.path.join(os.path.dirname(os.path.abspath(__file__)), "../../crates/re
 def content(length, first=0):
     """What clients write: bytes that rise from the first one to 250, and from 0 again and again."""
     return (bytes(range(251)) * (length // 251 + 2))[first : first + length]
+
+
+class Disk(led_conversion.Disk):
+    """A disk that tells whether a write or a sync of it failed."""
+
+    is_broken = False
+
+    def write(self, place, data):
+        right = super().write(place, data)
+        self.is_broken |= not right
+        return right
+
+    def sync(self):
+        right = super().sync()
+        self.is_broken |= not right
+        return right
 
 
 # ---- resume
@@ -153,6 +170,60 @@ def resume(disk, words, _seed, fails):
     raise refused(answer.rsplit(" ", 1)[0])
 
 
+# ---- serve, where no client comes
+
+
+def serve(disk, words, _seed, fails):
+    """`serve`, on a disk, for clients of whom none comes. It reads the header first; a conversion that
+    is under way by it is led to its end by the calls that `resume` makes, unless it is told not to."""
+    parser = argparse.ArgumentParser()
+    parser.add_argument("command")
+    parser.add_argument("disk")
+    parser.add_argument("--key-file")
+    parser.add_argument("--listen")
+    parser.add_argument("--atom", type=int, default=4096)
+    parser.add_argument("--no-worker", action="store_true")
+    asked = parser.parse_args(words)
+    if asked.disk != "x" or asked.atom != disk.atom:
+        raise device("Opening")
+    if asked.key_file not in KEYS:
+        raise device("Keying")
+    header = read_header(disk, "Reading")
+    if header.in_progress():
+        led = Told(begin(disk, KEYS[asked.key_file]), disk)
+        if not asked.no_worker:
+            answer = led.lead()
+            disk.course = led.course()
+            if answer.startswith("Device"):
+                raise device("Writing" if disk.is_broken else "Converting")
+            if answer != "AllDone":
+                raise refused(answer.rsplit(" ", 1)[0])
+    else:
+        idle(disk, header, KEYS[asked.key_file])
+    raise Ended(0, "Fine", "served 0 sessions\n")
+
+
+def idle(disk, header, passphrase):
+    """Opens a volume of which nothing is being converted by the header that was read."""
+    if not 1 <= len(passphrase) <= 512:
+        raise no_fit(NoFit("Passphrase", len(passphrase), 1 if not passphrase else 512))
+    try:
+        key = unlock(disk, header.objects, header.objects["digests"].values(), passphrase)
+    except Failed:
+        raise device("Reading") from None
+    if key is None:
+        raise fault(5, "NoKey")
+    try:
+        disk.settle()
+        header = read_header(disk, "Starting")
+        if header.repairs is not None:
+            copy = header.used.again(header.repairs, header.salts[header.repairs])
+            disk.put(header.repairs * header.used.size, copy)
+            disk.settle()
+    except Failed:
+        raise device("Starting") from None
+
+
 # ---- what clients do
 
 
@@ -229,7 +300,8 @@ def ended_by(disk, words, seed=bytes(32)):
     """How a command ends on a disk: the status, its cause, and what it prints."""
     none = {"disk": set(), "bay": set(), "seeds": set()}
     try:
-        dict(COMMANDS, resume=resume)[words.split(" ")[0]](disk, words.split(" "), seed, none)
+        commands = dict(COMMANDS, resume=resume, serve=serve)
+        commands[words.split(" ")[0]](disk, words.split(" "), seed, none)
     except Ended as ended:
         return ended.args
     raise ValueError("a command without an end")
@@ -309,7 +381,7 @@ def state_in(disk):
 
 @functools.lru_cache(None)
 def goes_on(row_of, words, image, stop, pick):
-    """What follows on an image: `resume` is stopped once more, and `status`, `resume` and a client
+    """What follows on an image: the command is stopped once more, and `status`, the command and a client
     come behind. What they tell, and what the disk has behind the stop and at the end."""
     atom, blocks = row_of
     disk = Disk(atom, checked(image, atom), stop=stop)
@@ -319,12 +391,12 @@ def goes_on(row_of, words, image, stop, pick):
     disk = Disk(atom, again)
     last = ended_by(disk, words)[0]
     count, _ = read(atom, blocks, disk.bytes())
-    assert count == blocks and last == (6 if state == "idle" else 0)
+    assert count == blocks and last == (6 if state == "idle" and words.startswith("resume") else 0)
     return f"{status}, {state}, {last} {count}", again, disk.bytes()
 
 
 def stops(row):
-    """`resume` is stopped within each of its calls, and what is left goes on."""
+    """The last command is stopped within each of its calls, and what is left goes on."""
     data, _ = row.after(row.steps[:-1])
     words, (*numbers, seconds), images = row.steps[-1], row.numbers, hashlib.sha256()
     disk = Disk(row.atom, data)
@@ -344,7 +416,7 @@ def stops(row):
 
 
 def fails(row):
-    """Each device call of `resume` fails once, and another `resume` follows on the same disk."""
+    """Each device call of the last command fails once, and the command follows again on the same disk."""
     data, _ = row.after(row.steps[:-1])
     words = row.steps[-1]
     disk = Disk(row.atom, data)

@@ -14,6 +14,7 @@ import nbd_server as nbd
 
 CRATES = os.path.join(os.path.dirname(os.path.abspath(__file__)), "../../crates")
 END = re.compile(r"SessionEnd { number: (\d+), ending: (.*?), taken: (\d+), put: (\d+) }")
+MEETING = re.compile(r"^meeting \d+: ")
 AGREED = re.compile(r"Ok\(Agreed { no_zeroes: (\w+), structured: (\w+) }\)")
 
 
@@ -65,24 +66,48 @@ def served(words, columns):
 
 
 def shown(told):
-    """The number, the boundary and the open zone that `status` printed."""
+    """The number, the boundary and the open zone that `status` printed; of an idle volume the number."""
     number = int(re.search(r"seqid: (\d+)", told)[1])
+    if "state: idle" in told:
+        return number, None, None
     boundary = int(re.search(r"boundary: (\d+) of 16", told)[1])
     zone = re.search(r"zone: (\w+)(?: \+ (\d+))?", told)
     return number, boundary, int(zone[2] or 0)
 
 
+def broken(disk, words, sent, answers, ends):
+    """The disk behind a session in which the volume is broken at some request, which was answered so; None where
+    there is no such request."""
+    for healthy in range(len(sent.split())):
+        after = bytearray(disk)
+        model = nbd.Session(after, 512, spelt(words, sent), healthy)
+        wanted = ("0", model.ending, str(model.taken), str(len(model.put)))
+        if ends == [wanted] and model.put == spelt(words, answers):
+            return after
+    return None
+
+
 def turned(words, columns):
     """Whether the sessions of commands that follow one another on one volume of 16 blocks are those of
-    the model on one disk, whatever is converted meanwhile, and sessions leave the conversion where it
-    was: but for an open zone, over which the boundary moves by the next number."""
+    the model on one disk, whatever is converted meanwhile. Without a worker sessions leave the conversion
+    where it was: but for an open zone, over which the boundary moves by the next number. With one it
+    is led to its end."""
     _, told, _, *commands = columns
-    disk, before, met = bytearray(8192), None, False
+    disk, before, met, begun, led = bytearray(8192), None, False, False, False
     told = told.removesuffix("; ").split("; ")
     for place, found in enumerate(told):
         line, sent, answers = (commands[3 * place : 3 * place + 3] + ["", ""])[:3]
+        line = MEETING.sub("", line)
         ends = END.findall(found)
-        if sent:
+        if sent and found.startswith("2 Device { failing: Writing"):
+            disk = broken(disk, words, sent, answers, ends)
+            if disk is None:
+                return False
+            met, before = False, None
+        elif sent and not found.startswith("0"):
+            # what else a device that fails answers is none of the model's
+            continue
+        elif sent:
             model = nbd.Session(disk, 512, spelt(words, sent))
             wanted = ("0", model.ending, str(model.taken), str(len(model.put)))
             if ends != [wanted] or model.put != spelt(words, answers):
@@ -90,15 +115,24 @@ def turned(words, columns):
             met = True
         elif ends:
             return False
+        if line.startswith("serve") and "--no-worker" not in line and found.startswith("0 Fine"):
+            led = begun
+        if line.startswith("init"):
+            begun = True
         if line.startswith("status"):
             now = shown(found)
-            if met and before and now != (before[0] + (before[2] > 0), before[1] + before[2], 0):
+            if (now[1] is None) != (led or not begun):
                 return False
-            before, met = now, False
-        if line.startswith("resume") and found.startswith("0 Fine"):
-            if '"finished 16 blocks\\n"' not in found:
+            if met and before and not led and now != (before[0] + (before[2] > 0), before[1] + before[2], 0):
                 return False
-            before = None
+            before, met = now if now[1] is not None else None, False
+        if line.startswith("resume"):
+            if found.startswith("0 Fine") and (led or '"finished 16 blocks\\n"' not in found):
+                return False
+            if found.startswith("6 WrongState") and not led:
+                return False
+            if found.startswith("0 Fine"):
+                before, led = None, True
     return len(commands) == 3 * len(told)
 
 
