@@ -9,7 +9,7 @@
 # Then it times what takes up a conversion that was killed in a zone of 1 MiB and of 64 MiB, all of whose
 # blocks were written but for the last sync: milliseconds from the start of the process until the keys are
 # found and the first sync is made, and until the zone is written again and the header says so. `serve`
-# answers the first client then, where it takes such a volume; where it does that is timed too.
+# answers the first client then, which is timed too.
 # Keyslots have 1000 rounds. TURNS (3) may be set.
 . "$(dirname "${BASH_SOURCE[0]}")/../clients/common.sh"
 needs cryptsetup python3
@@ -107,7 +107,7 @@ PYTHON
 # Milliseconds until a client of `serve` is answered, or nothing where it doesn't take the volume.
 until_answered() {
     begun=$(date +%s%N)
-    "$reencd" serve disk.img --key-file key --listen 127.0.0.1:0 --sessions 1 >seen.out 2>seen.err </dev/null &
+    "$reencd" serve disk.img --key-file key --listen 127.0.0.1:0 >seen.out 2>seen.err </dev/null &
     server=$!
     port=
     for _ in $(seq 12000); do
@@ -116,8 +116,8 @@ until_answered() {
         kill -0 "$server" 2>/dev/null || break
         sleep 0.005
     done
-    if [ -n "$port" ]; then
-        python3 - "$port" "$here" "$begun" <<'PYTHON'
+    [ -n "$port" ] || fail "the server did not start: $(cat seen.out seen.err)" >&2
+    python3 - "$port" "$here" "$begun" <<'PYTHON'
 import sys
 import time
 
@@ -129,9 +129,7 @@ assert len(client.read(0, 4096)) == 4096
 print("%.0f" % (time.time() * 1000 - int(sys.argv[3]) / 1e6))
 client.disconnect()
 PYTHON
-    fi
-    wait "$server"
-    server=
+    stop TERM
 }
 
 # The volume with an open zone of so many bytes, all written but for the sync behind.
@@ -166,7 +164,6 @@ for zone in 1048576 67108864; do
         sync disk.img
         until_answered >>answered 2>seen.python
     done
-    said=$(paste -sd ' ' answered)
     printf '%-24s %-20s %-20s %s\n' "a zone of $((zone >> 20)) MiB" "$(paste -sd ' ' first)" "$(paste -sd ' ' again)" \
-        "${said:-not served yet}"
+        "$(paste -sd ' ' answered)"
 done

@@ -1,8 +1,8 @@
 # A volume in the middle of its conversion is served: `resume` is killed at moments that are drawn, clients read
 # and write on both sides of the boundary, the server is killed behind a flush, and `resume` goes on, at last to
 # the end. Behind each kill, under each server and at the end the content is what the clients wrote, also as
-# another reading of the format has it, and while clients are served the boundary stays where it is. What stands
-# in the way has its status and its reason, and leaves the disk as it was.
+# another reading of the format has it, and while clients are served without a worker the boundary stays where it
+# is. What stands in the way has its status and its reason, and leaves the disk as it was.
 . "$(dirname "$0")/common.sh"
 needs python3 nbdcopy qemu-io cmp
 cd "$room" || exit 1
@@ -96,7 +96,7 @@ while read -r atom blocks direction zone options; do
             [ "$(says zone)" = none ] || opened=$((opened + 1))
         fi
         rounds=$((rounds + 1))
-        serve_under volume.img key "$atom" 100
+        serve_by volume.img --key-file key --atom "$atom" --sessions 100 --no-worker
         # the open zone is written again before clients are met
         expect "zone under clients" "$(says zone)" none
         boundary=$(says boundary)

@@ -1,4 +1,4 @@
-# nbdcopy in and out again over one connection: the content is the same, also that of a file with
+# nbdcopy in and out again over one connection, as many.sh has it over four: the content is the same, also that of a file with
 # holes, which it asks to be zeroes.
 . "$(dirname "$0")/common.sh"
 needs nbdcopy cmp

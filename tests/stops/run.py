@@ -134,7 +134,7 @@ def whole_lines(lines):
     for line in lines:
         thread, rest = line.rstrip("\n").split(maxsplit=1)
         if rest.endswith("<unfinished ...>"):
-            begun[thread] = rest[: -len("<unfinished ...>")]
+            begun[thread] = rest[: -len("<unfinished ...>")].rstrip()
         elif rest.startswith("<... "):
             yield begun.pop(thread) + rest.split(" resumed>", 1)[1]
         else:
@@ -169,23 +169,26 @@ def unescaped(name):
 @dataclass
 class Stopped:
     """A disk that is written: what it has for certain, and of units written since the last sync all
-    that they may have."""
+    that they may have. Behind `whole` a unit is an atom of so many bytes, which isn't torn itself."""
 
     data: bytearray
+    whole: int = 1 << 63
+    atom: int = UNIT
     unsure: dict = field(default_factory=dict)
 
     def make(self, call):
         if isinstance(call, Sync):
             for at, values in self.unsure.items():
-                self.data[at : at + UNIT] = values[-1]
+                self.data[at : at + len(values[-1])] = values[-1]
             self.unsure.clear()
             return
-        if call.at % UNIT or len(call.data) % UNIT or call.at + len(call.data) > len(self.data):
+        unit = self.atom if call.at >= self.whole else UNIT
+        if call.at % unit or len(call.data) % unit or call.at + len(call.data) > len(self.data):
             raise Unlike(f"a write of {len(call.data)} bytes at {call.at}")
-        for place in range(0, len(call.data), UNIT):
+        for place in range(0, len(call.data), unit):
             at = call.at + place
-            before = self.unsure.setdefault(at, [bytes(self.data[at : at + UNIT])])
-            before.append(call.data[place : place + UNIT])
+            before = self.unsure.setdefault(at, [bytes(self.data[at : at + unit])])
+            before.append(call.data[place : place + unit])
 
     def image(self, drawn):
         """One image: how many of the units are lost is drawn first, then of each whether it is, and
@@ -194,7 +197,7 @@ class Stopped:
         data = bytearray(self.data)
         for at, values in self.unsure.items():
             if drawn.random() >= lost:
-                data[at : at + UNIT] = values[-1] if drawn.random() < 0.9 else drawn.choice(values)
+                data[at : at + len(values[-1])] = values[-1] if drawn.random() < 0.9 else drawn.choice(values)
         return bytes(data)
 
 
