@@ -51,6 +51,10 @@ impl Machine for Adder {
 
     ghost fits = { λ start name calls event. Unit {0} };
 
+    fn is_long(_event: &u64) -> bool {
+        false
+    }
+
     fn act<R: Threads + Wait + Sync>(&mut self, _rt: &R, event: u64) -> u64 {
         self.add(event)
     }
@@ -74,6 +78,10 @@ impl<C: Clock + Drop> Machine for Sleeper<C> {
     ghost stands_for = { λ machine history. Unit {0} };
 
     ghost fits = { λ start name calls event. Unit {0} };
+
+    fn is_long(_event: &()) -> bool {
+        true
+    }
 
     fn act<R: Threads + Wait + Sync>(&mut self, _rt: &R, _event: ()) {
         thread::sleep(&self.clock, Duration::from_millis(1));

@@ -83,6 +83,11 @@ impl<D: Disk> Machine for SharedVolume<D> {
     ghost fits = { λ start name calls event.
         Fits (seals_of sealed opened start.map.atom start.keys) start name calls event };
 
+    // A step of the worker may seal a MiB, or sync the disk.
+    fn is_long(event: &SharedEvent) -> bool {
+        matches!(event, SharedEvent::Worker(_))
+    }
+
     fn act<R: Threads + Wait + Sync>(&mut self, rt: &R, event: SharedEvent) -> SharedOutcome {
         match event {
             SharedEvent::Client(LaneCall { lane, call }) => {

@@ -21,6 +21,7 @@ use std::hint;
 use std::snapshot::Snapshot;
 use std::sync::Wait;
 use std::thread::Threads;
+use std::time::Duration;
 
 /// The word that tells how many entries the history has, doubled, and one more while the machine
 /// is out.
@@ -46,6 +47,9 @@ const LOOKS: u32 = 100;
 
 /// How often a thread is woken in vain before it asks that the machine be left to those that slept.
 const VAIN_WAKES: u32 = 2;
+
+/// How many microseconds a thread gives way behind a long turn; the system adds some more.
+const GRACE: u64 = 100;
 
 /// A machine under many threads.
 pub type Cell<M> = Shared<
@@ -135,9 +139,13 @@ impl<M: Machine> Cell<M> {
         if !self.take(rt, pass) {
             return Err(Spent { event });
         }
+        let is_long = M::is_long(&event);
         let outcome = self.act(rt, pass, event);
         self.table.shared.fetch_add::<Give>(pass, ENTRIES, 1);
-        self.wake(pass);
+        let woke = self.wake(pass);
+        if is_long && woke {
+            self.give_way(rt);
+        }
         Ok(outcome)
     }
 
@@ -220,19 +228,31 @@ impl<M: Machine> Cell<M> {
 
     /// Wakes a thread, where one may sleep, and takes the mark away, so that no other is woken
     /// until that thread has had the machine or one more sleeps. Where the mark has changed,
-    /// another sees to it.
-    fn wake(&self, pass: &mut Pass<M>)
+    /// another sees to it. Tells whether one may sleep.
+    fn wake(&self, pass: &mut Pass<M>) -> bool
         requires { pass.old.table_id ≡ self.now.table.shared.table_id }
         ensures { IsSameSeat pass.old pass.new }
     {
         let shared = &self.table.shared;
         let mark = shared.peek(MARK);
         if mark == NOBODY {
-            return;
+            return false;
         }
         let next = if mark == URGES { LEFT } else { NOBODY };
         if shared.compare_exchange::<Stay>(pass, MARK, mark, next) == mark {
             shared.wake_one(MARK);
+        }
+        true
+    }
+
+    /// Leaves the machine for a moment to a thread that was woken, unless another has it already. Who
+    /// asks for one long turn after the other would take it each time before that thread runs.
+    fn give_way<R: Wait>(&self, rt: &R) {
+        let shared = &self.table.shared;
+        let word = shared.peek(ENTRIES);
+        if word % 2 == 0 {
+            let grace = Duration::from_micros(GRACE);
+            shared.park_timeout(rt, ENTRIES, (word % (1 << 32)) as u32, grace);
         }
     }
 

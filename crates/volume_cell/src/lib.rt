@@ -26,7 +26,8 @@
 //! most a hundred times and not while another sleeps, and then sleeps. Whoever gives the machine
 //! back wakes one thread, and the next is woken once that one has had the machine or one more went
 //! to sleep. A thread that was woken twice in vain asks that the machine be left to those that
-//! slept. That a turn comes, in which order and when is not promised.
+//! slept; and whoever gives it back behind an event that takes long (`Machine::is_long`), and woke
+//! one, gives way to that for a moment. That a turn comes, in which order and when is not promised.
 //!
 //! The rule of the cell has two parts, each a module of `specs/`: `Exclusion` says that one pass at
 //! a time has the machine and that no two passes share a name, `History` that there is one history

@@ -27,6 +27,10 @@ pub trait Machine {
     // From this start, a pass of this name that made these calls may ask for this event.
     ghost fits: { Self.Start → List ℕ → List (Call Self.Event Self.Outcome) → Self.Event → Type 0 };
 
+    /// Whether acting on this event takes long. A thread that asked for that gives way to those that
+    /// wait, before it asks again.
+    fn is_long(event: &Self::Event) -> bool;
+
     /// Acts on an event. It may do so in many threads.
     fn act<R: Threads + Wait + Sync>(&mut self, rt: &R, event: Self::Event) -> Self::Outcome
         requires sync { IsSync R.row }

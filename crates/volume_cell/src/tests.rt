@@ -28,6 +28,10 @@ impl Machine for Counter {
 
     ghost fits = { λ start name calls event. Unit {0} };
 
+    fn is_long(_event: &()) -> bool {
+        false
+    }
+
     fn act<R: Threads + Wait + Sync>(&mut self, _rt: &R, _event: ()) -> u64 {
         let before = self.count;
         self.count = before.wrapping_add(1);
@@ -131,6 +135,10 @@ impl Machine for Tickets {
         × AreNumbered 0 history };
 
     ghost fits = { λ start name calls event. length calls < 3 };
+
+    fn is_long(_event: &()) -> bool {
+        false
+    }
 
     fn act<R: Threads + Wait + Sync>(&mut self, _rt: &R, _event: ()) -> u64 {
         let ticket = self.next;

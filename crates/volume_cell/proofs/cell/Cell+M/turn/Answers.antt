@@ -19,46 +19,46 @@ pub returns-clause-pass : goal.returns-clause-pass
 returns-clause-pass g c =
     asked-pass g.M.Machine.start g.M.Machine.stands_for _
     c.args.self.now.table.shared.table_id.slots c.fetch_add.result c.args.pass.now c.take.new.pass
-    c.act-outcome.new.pass c.wake.new.pass c.args.event c.act-outcome.result c.if-not-take.ensures
-    c.act-outcome.ensures (λ h n i k. c.wake.ensures.is ∙ c.fetch_add.ensures.2 h n i k)
-    (c.wake.ensures.table ∙ c.fetch_add.ensures.0) _ c.requires.pass
+    c.act-outcome.new.pass c.wake-woke.new.pass c.args.event c.act-outcome.result c.if-not-take.ensures
+    c.act-outcome.ensures (λ h n i k. c.wake-woke.ensures.is ∙ c.fetch_add.ensures.2 h n i k)
+    (c.wake-woke.ensures.table ∙ c.fetch_add.ensures.0) _ c.requires.pass
 
 pub returns-clause-same : goal.returns-clause-same
 returns-clause-same g c =
     asked-same g.M.Machine.start g.M.Machine.stands_for _
     c.args.self.now.table.shared.table_id.slots c.fetch_add.result c.args.pass.now c.take.new.pass
-    c.act-outcome.new.pass c.wake.new.pass c.args.event c.act-outcome.result c.if-not-take.ensures
-    c.act-outcome.ensures (λ h n i k. c.wake.ensures.is ∙ c.fetch_add.ensures.2 h n i k)
-    (c.wake.ensures.table ∙ c.fetch_add.ensures.0)
+    c.act-outcome.new.pass c.wake-woke.new.pass c.args.event c.act-outcome.result c.if-not-take.ensures
+    c.act-outcome.ensures (λ h n i k. c.wake-woke.ensures.is ∙ c.fetch_add.ensures.2 h n i k)
+    (c.wake-woke.ensures.table ∙ c.fetch_add.ensures.0)
 
 pub returns-clause-answer : goal.returns-clause-answer
 returns-clause-answer g c =
     asked-answer g.M.Machine.start g.M.Machine.stands_for _
     c.args.self.now.table.shared.table_id.slots c.fetch_add.result c.args.pass.now c.take.new.pass
-    c.act-outcome.new.pass c.wake.new.pass c.args.event c.act-outcome.result c.if-not-take.ensures
-    c.act-outcome.ensures (λ h n i k. c.wake.ensures.is ∙ c.fetch_add.ensures.2 h n i k)
-    (c.wake.ensures.table ∙ c.fetch_add.ensures.0)
+    c.act-outcome.new.pass c.wake-woke.new.pass c.args.event c.act-outcome.result c.if-not-take.ensures
+    c.act-outcome.ensures (λ h n i k. c.wake-woke.ensures.is ∙ c.fetch_add.ensures.2 h n i k)
+    (c.wake-woke.ensures.table ∙ c.fetch_add.ensures.0)
 
 pub returns-clause-own : goal.returns-clause-own
 returns-clause-own g c =
     asked-own g.M.Machine.start g.M.Machine.stands_for _ c.args.self.now.table.shared.table_id.slots
-    c.fetch_add.result c.args.pass.now c.take.new.pass c.act-outcome.new.pass c.wake.new.pass
+    c.fetch_add.result c.args.pass.now c.take.new.pass c.act-outcome.new.pass c.wake-woke.new.pass
     c.args.event c.act-outcome.result c.if-not-take.ensures c.act-outcome.ensures
-    (λ h n i k. c.wake.ensures.is ∙ c.fetch_add.ensures.2 h n i k)
-    (c.wake.ensures.table ∙ c.fetch_add.ensures.0)
+    (λ h n i k. c.wake-woke.ensures.is ∙ c.fetch_add.ensures.2 h n i k)
+    (c.wake-woke.ensures.table ∙ c.fetch_add.ensures.0)
 
 pub returns-clause-calls : goal.returns-clause-calls
 returns-clause-calls g c =
     asked-calls g.M.Machine.start g.M.Machine.stands_for _
     c.args.self.now.table.shared.table_id.slots c.fetch_add.result c.args.pass.now c.take.new.pass
-    c.act-outcome.new.pass c.wake.new.pass c.args.event c.act-outcome.result c.if-not-take.ensures
-    c.act-outcome.ensures (λ h n i k. c.wake.ensures.is ∙ c.fetch_add.ensures.2 h n i k)
-    (c.wake.ensures.table ∙ c.fetch_add.ensures.0)
+    c.act-outcome.new.pass c.wake-woke.new.pass c.args.event c.act-outcome.result c.if-not-take.ensures
+    c.act-outcome.ensures (λ h n i k. c.wake-woke.ensures.is ∙ c.fetch_add.ensures.2 h n i k)
+    (c.wake-woke.ensures.table ∙ c.fetch_add.ensures.0)
 
 pub returns-clause-stood : goal.returns-clause-stood
 returns-clause-stood g c =
     asked-stood g.M.Machine.start g.M.Machine.stands_for _
     c.args.self.now.table.shared.table_id.slots c.fetch_add.result c.args.pass.now c.take.new.pass
-    c.act-outcome.new.pass c.wake.new.pass c.args.event c.act-outcome.result c.if-not-take.ensures
-    c.act-outcome.ensures (λ h n i k. c.wake.ensures.is ∙ c.fetch_add.ensures.2 h n i k)
-    (c.wake.ensures.table ∙ c.fetch_add.ensures.0)
+    c.act-outcome.new.pass c.wake-woke.new.pass c.args.event c.act-outcome.result c.if-not-take.ensures
+    c.act-outcome.ensures (λ h n i k. c.wake-woke.ensures.is ∙ c.fetch_add.ensures.2 h n i k)
+    (c.wake-woke.ensures.table ∙ c.fetch_add.ensures.0)
