@@ -76,6 +76,7 @@ module _ {D P L : Type 0} (state : L → LinkState) (cell : VolumeCell D Context
       pub told_is : told ≡ end_of led
       pub closed : v ≡ retired all
       pub limit : cell.limit < 2 ^ 63 - 1
+      pub begun : v.start ≡ Some start
       pub serves : HasServedBeside (seals_at sealed opened start) start final v
       pub same : StaysSame start final
       pub ended : (answers : List WorkAnswer) (end : WorkerEnd)
@@ -86,7 +87,7 @@ module _ {D P L : Type 0} (state : L → LinkState) (cell : VolumeCell D Context
           → AreAnswers Spent answers → WentOn (works_over serves.deeds)
 
     pub closed-served : IsClosed
-        → Serving.HasServedBeside state (seals_at sealed opened start) start final cell.limit olds
+        → Serving.HasServedBeside state (seals_at sealed opened start) start final v cell.limit olds
         leavings.links.items (map (λ list. list.items) leavings.sessions.items)
         leavings.standings.items told
     closed-served is =
@@ -111,6 +112,7 @@ module _ {D P L : Type 0} (state : L → LinkState) (cell : VolumeCell D Context
           };
           knows = subst (λ (k : Knowing Context). KnowsAll k after) (sym is.closed)
               (rejoined-knows first all led after is.rejoined is.knows);
+          begun = is.begun;
           serves = is.serves;
           same = is.same;
           limit = is.limit;
@@ -122,19 +124,19 @@ module _ {D P L : Type 0} (state : L → LinkState) (cell : VolumeCell D Context
           spent = is.spent;
         } in
         subst (λ (end : Option WorkerEnd). Serving.HasServedBeside state
-        (seals_at sealed opened start) start final cell.limit olds leavings.links.items
+        (seals_at sealed opened start) start final v cell.limit olds leavings.links.items
         (map (λ list. list.items) leavings.sessions.items) leavings.standings.items end)
         (sym is.told_is)
         (subst (λ (links : List L). Serving.HasServedBeside state (seals_at sealed opened start) start
-        final cell.limit olds links (map (λ list. list.items) leavings.sessions.items)
+        final v cell.limit olds links (map (λ list. list.items) leavings.sessions.items)
         leavings.standings.items (end_of led)) (sym is.left.links)
         (subst (λ (ends : List (List SessionEnd)). Serving.HasServedBeside state
-        (seals_at sealed opened start) start final cell.limit olds
+        (seals_at sealed opened start) start final v cell.limit olds
         (each_of (λ (w : Worker D L). w.link) after) ends leavings.standings.items (end_of led))
         (sym is.left.sessions)
         (subst (λ (standings : List Standing). Serving.HasServedBeside state
         (seals_at sealed opened start)
-        start final cell.limit olds (each_of (λ (w : Worker D L). w.link) after)
+        start final v cell.limit olds (each_of (λ (w : Worker D L). w.link) after)
         (each_of (λ (w : Worker D L). w.ends.items) after) standings (end_of led))
         (sym is.left.standings)
         (all-served state cell (length olds) shape start final olds before

@@ -90,6 +90,7 @@ module _ {D P L : Type 0} (state : L → LinkState) (cell : VolumeCell D Context
       pub worked : HaveWorked state cell links shape before after
       pub joined : IsJoined v after led
       pub knows : KnowsAll v after
+      pub begun : v.start ≡ Some start
       pub serves : HasServedBeside (seals_at sealed opened start) start final v
       pub same : StaysSame start final
       pub limit : cell.limit < 2 ^ 63 - 1
@@ -404,12 +405,13 @@ module _ {D P L : Type 0} (state : L → LinkState) (cell : VolumeCell D Context
           ∙ (untagged-tagged_of (each 0)
           ∙ ap (λ (n : ℕ). operations_of (all_of each n)) (sym alone))
 
-      pub all-served : Serving.HasServedBeside state (seals_at sealed opened start) start final
+      pub all-served : Serving.HasServedBeside state (seals_at sealed opened start) start final v
           cell.limit olds (each_of (λ (w : Worker D L). w.link) after)
           (each_of (λ (w : Worker D L). w.ends.items) after)
           (each_of (λ (w : Worker D L). w.standing) after) (end_of led)
       all-served = record {
         deeds = deeds;
+        told = record { start_is = done.begun; tells = done.serves.tells };
         operations = merged.history;
         did = did;
         same = done.same;

@@ -7,12 +7,15 @@ use Rattle.lanes_beside.specs.Lanes.{IsKept, StaysSame, works_over}
 use Rattle.nbd_session.specs.declared.ending.SessionEnd.{SessionEnd}
 use Rattle.reenc_worker.specs.declared.ends.WorkerEnd.{WorkerEnd}
 use Rattle.reenc_worker.specs.declared.ends.WorkerEnd.TheVariants.{Spent}
-use Rattle.shared_volume.specs.Histories.{IsReadSo}
+use Rattle.shared_volume.specs.Histories.{IsReadSo, Tells}
 use Rattle.shared_volume.specs.Serving.{EndsBy, WentOn}
+use Rattle.shared_volume.specs.declared.asking.SharedEvent.{SharedEvent}
+use Rattle.shared_volume.specs.declared.asking.SharedOutcome.{SharedOutcome}
 use Rattle.block_server.specs.Links.{AreServed}
 use Rattle.block_server.specs.Sessions.{Played, AreSessions, HasEach, HasNumber, IsOfSessions}
 use Rattle.block_server.specs.Sessions.{of_link, operations_of}
 use Rattle.block_server.specs.declared.link.Standing.{Standing}
+use Rattle.volume_cell.specs.declared.knowledge.Knowledge.{Knowledge}
 use Rattle.volume_core.specs.Zones.{IsReadBy}
 use Rattle.volume_machine.specs.Answers.{Tagged, untagged}
 use Rattle.volume_machine.specs.Deeds.{Deed}
@@ -20,6 +23,16 @@ use Rattle.volume_machine.specs.Seals.{Seals}
 use Rattle.volume_machine.specs.States.{IsClient, State, open_at, size_of}
 use Rattle.volume_machine.specs.declared.open.Open.{Open}
 use Rattle.zone_events.specs.Readings.{reading_of}
+
+-- what is known by a pass of a volume with such keys
+abbrev pub VolumeKnowledge : Type 0 → Type 0
+VolumeKnowledge K = Knowledge (State K) SharedEvent SharedOutcome
+
+-- By the pass the whole history of the volume that began so is known: these deeds, entry by entry.
+pub record KnowsDeeds {K : Type 0} (start : State K) (pass : VolumeKnowledge K)
+    (deeds : List (Deed K)) : Type 0 where
+  pub start_is : pass.start ≡ Some start
+  pub tells : Tells (length start.lanes) pass.history deeds
 
 -- An operation may be under way at the end only since the history has as many entries as it can get,
 -- and on a lane of clients it is of a session of the lane's own link then.
@@ -37,14 +50,17 @@ WorkerHasEnded limit deeds (Some end) = (end ≢ Spent → EndsBy end deeds)
     × (end ≡ Spent → (limit ≤ length deeds) × WentOn (works_over deeds))
 
 -- Sessions were served over these links on a volume that began so and was left so, beside the worker
--- of its conversion, where there was one. All calls on it are deeds, events of clients and steps of
--- the worker, by each sizes by which the volume's header is read, and they executed the sessions'
--- operations: of each session just those that it submitted, each once and in order.
+-- of its conversion, where there was one. All calls on it are the history that is known by this pass:
+-- deeds, events of clients and steps of the worker, by each sizes by which the volume's header is read,
+-- and they executed the sessions' operations: of each session just those that it submitted, each once
+-- and in order.
 pub record HasServedBeside {K L : Type 0} (state : L → LinkState) (seals : Seals)
-    (start final : State K) (limit : ℕ) (olds news : List L) (ends : List (List SessionEnd))
-    (standings : List Standing) (worker : Option WorkerEnd) : Type 0 where
-  -- the deeds, and the operations that they executed
+    (start final : State K) (pass : VolumeKnowledge K) (limit : ℕ) (olds news : List L)
+    (ends : List (List SessionEnd)) (standings : List Standing) (worker : Option WorkerEnd)
+    : Type 0 where
+  -- the deeds, which the pass tells, and the operations that they executed
   pub deeds : List (Deed K)
+  pub told : KnowsDeeds start pass deeds
   pub operations : List Tagged
   pub did : (sizes : Sizes) → IsReadSo sizes start
       → ExecutesBeside (reading_of sizes) seals start final deeds operations

@@ -7,7 +7,8 @@
 //! The layer above may rely on this.
 //! - All calls are one list of deeds from the volume that was handed in to the one that is handed
 //!   back: events of clients, and steps of the conversion where it was led. They executed of each
-//!   session just the operations that it submitted, each once and in order.
+//!   session just the operations that it submitted, each once and in order. They are the history that
+//!   is known by the pass that is handed back, entry by entry.
 //! - Each link tells the sessions that its worker served, and stands so: it had none ahead, or it
 //!   failed, or memory was wanted for the end of a session.
 //! - A session ends since the port is spent only where the deeds are as many as the history can get,
@@ -32,4 +33,4 @@ mod worker;
 mod workers;
 
 pub use link::{MAX_SESSIONS, Standing};
-pub use serving::{MAX_LINKS, Served, Unserved, serve};
+pub use serving::{MAX_LINKS, Served, Unserved, VolumePass, serve};

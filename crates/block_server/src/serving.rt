@@ -26,22 +26,28 @@ use reenc_worker::WorkerEnd;
 use sector_cipher::Context;
 use sector_disk::Disk;
 use shared_volume::{
-    SharedCell, Sharing, answers_join, share, shared_volumes_serve_their_lanes,
+    SharedCell, SharedVolume, Sharing, answers_join, share, shared_volumes_serve_their_lanes,
     worker_ends_are_deeds,
 };
 use std::alloc::Global;
 use std::sync::Wait;
 use std::thread::Threads;
+use volume_cell::Pass;
 use volume_core::Volume;
 
 /// The most links that are served.
 pub const MAX_LINKS: usize = 16;
+
+/// The pass by which the whole history of a volume that was served is known: that of its cell, into
+/// which the pass of each worker was joined. It has no bytes.
+pub type VolumePass<D> = Pass<SharedVolume<D>>;
 
 /// What came of serving links: for each link the ends of its sessions, and how it stands. A link
 /// that is live was not asked to its end, since memory was wanted for the end of a session.
 #[derive(Drop)]
 pub struct Served<D: Disk, L> {
     pub volume: Volume<D, Context>,
+    pub pass: VolumePass<D>,
     pub links: Vec<L>,
     pub sessions: Vec<Vec<SessionEnd>>,
     pub standings: Vec<Standing>,
@@ -88,9 +94,9 @@ where
     requires limit { (1 ≤ limit) × (limit < 2 ^ 63 - 1) }
     ensures served { MatchResult result
         (λ served. HasServedBeside L.state
-        (seals_of sealed opened volume.map.atom volume.keys) volume served.volume limit
-        links.items served.links.items (map (λ list. list.items) served.sessions.items)
-        served.standings.items served.worker)
+        (seals_of sealed opened volume.map.atom volume.keys) volume served.volume
+        (known served.pass) limit links.items served.links.items
+        (map (λ list. list.items) served.sessions.items) served.standings.items served.worker)
         (λ same. HasServedNone volume same.volume links.items same.links.items) }
     ensures led { IfOk result (λ served. IsSome served.worker
         ↔ (IsTrue converts × IsSome volume.work)) }
@@ -140,7 +146,7 @@ where
     ensures served { (volume : State (Keys Context)) →
         IsBegun (length links.items) sharing volume →
         HasServedBeside L.state (seals_of sealed opened volume.map.atom volume.keys) volume
-        result.volume sharing.shared.cell.limit links.items result.links.items
+        result.volume (known result.pass) sharing.shared.cell.limit links.items result.links.items
         (map (λ list. list.items) result.sessions.items) result.standings.items result.worker }
     ensures led { IsSome result.worker ↔ IsTrue leads }
 {
@@ -178,7 +184,7 @@ where
     dismiss(&shared.cell, &mut first, workers, &mut leavings);
     let worker = relieve(&shared.cell, &mut first, led);
     let SharedCell { cell, .. } = shared;
-    let (machine, _) = cell.close(first);
+    let (machine, pass) = cell.close(first);
     let Leavings {
         links,
         sessions,
@@ -186,6 +192,7 @@ where
     } = leavings;
     Served {
         volume: machine.into_volume(),
+        pass,
         links,
         sessions,
         standings,

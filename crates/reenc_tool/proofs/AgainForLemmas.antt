@@ -2,6 +2,7 @@
 use Rattle.std.proofs.Common.{◌≡◌, inr, ℕ, List, [], Some, sym}
 use Rattle.std.proofs.lemmas.List.{append-nil}
 use Rattle.base_terms.specs.Blocks.{joined}
+use Rattle.served_conversions.specs.Ends.{EndsStandForNewest}
 use Rattle.header_report.specs.Examinations.{sizes_alone}
 use Rattle.open_zones.specs.Images.{ImageStandsFor}
 use Rattle.plain_disk.specs.Plain.{Exchange}
@@ -15,8 +16,8 @@ use Rattle.sector_disk.specs.Geometry.{IsDisk}
 use Rattle.sector_disk.specs.Steps.{Told}
 use Rattle.served_conversions.specs.Clients.{StoodFor}
 use Rattle.served_conversions.specs.Serving.{FoundKeysStand}
-use Rattle.stops_beside.specs.Again.{StandsBeside}
-use Rattle.stops_beside.specs.Passphrases.{DeedsStandAgainFor}
+use Rattle.served_conversions.specs.Again.{StandsBeside}
+use Rattle.served_conversions.specs.Passphrases.{DeedsStandAgainFor}
 use Rattle.volume_laws.specs.Handing.{handed_over}
 use Rattle.volume_laws.specs.Imaging.{IsTaken}
 use Rattle.volume_machine.specs.Answers.{AreExchanges}
@@ -36,6 +37,7 @@ pub record ForLaws {C : Type 0} (sector : C → ℕ) (sealed opened : C → ℕ 
   pub given : FoundKeysStand
   pub begins : TakenUpConversionsBeginFor sector sealed opened
   pub stops : DeedsStandAgainFor sector sealed opened
+  pub ended : EndsStandForNewest sector sealed opened
 
 module _ {C : Type 0} {sector : C → ℕ} {sealed opened : C → ℕ → List ℕ → List ℕ}
     (laws : MidwayLaws sector sealed opened) (passes : ForLaws sector sealed opened)
@@ -45,7 +47,7 @@ module _ {C : Type 0} {sector : C → ℕ} {sealed opened : C → ℕ → List �
     (geometry : IsDisk device.size device.atoms) (first : List ℕ) (content : List (List ℕ))
     (told : device.values ≡ Some first)
     (stands : ImageStandsFor (sizes_alone device) pass first content) where
-  abbrev up-for : IsTakenUpFor sector sealed opened (sizes_alone device) taken.keys lanes
+  abbrev pub up-for : IsTakenUpFor sector sealed opened (sizes_alone device) taken.keys lanes
       (alone taken.read) volume pass content
   up-for = record {
     first = first;

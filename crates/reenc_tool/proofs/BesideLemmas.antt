@@ -1,10 +1,10 @@
 -- What came of sessions on a volume whose conversion is led on beside them.
 use Rattle.std.proofs.Common.{◌≡◌, ◌≢◌, ◌∙◌, ◌-◌, ◌^◌, ◌≤◌, ◌⊎◌, ⊎_elim, Bool, true, false, ℕ}
-use Rattle.std.proofs.Common.{List, [], ◌∷◌, ◌++◌, length, Some, ap, append_assoc, arith}
-use Rattle.std.proofs.Common.{append-nil, if◌then◌else◌, ◌==◌, inl, inr, refl, subst, sym}
+use Rattle.std.proofs.Common.{List, [], ◌∷◌, ◌++◌, length, Option, Some, IsSomeAnd, ap, append_assoc}
+use Rattle.std.proofs.Common.{append-nil, arith, if◌then◌else◌, ◌==◌, inl, inr, refl, subst, sym}
 use Rattle.base_terms.specs.Causes.{Rose}
 use Rattle.bays.specs.Stories.{LinkState}
-use Rattle.block_server.specs.Serving.{HasServedBeside as IsServedBeside}
+use Rattle.block_server.specs.Serving.{HasServedBeside as IsServedBeside, KnowsDeeds}
 use Rattle.block_server.specs.declared.link.Standing.{Standing}
 use Rattle.conversions_beside.specs.Ends.{IsConvertedBeside, MayConvertBeside}
 use Rattle.disk_areas.specs.Headers.{Header, IsReader, Layout}
@@ -35,6 +35,8 @@ use Rattle.served_beside.specs.Failing.{AreBreaking, BreaksByFaults, FaultsRaise
 use Rattle.served_beside.specs.Replies.{DeviceErrorsAreExact, PlacesAreExact, ServesWithoutFaults}
 use Rattle.served_beside.specs.Stops.{DeedsStopAnywhere}
 use Rattle.served_beside.specs.Tables.{TellsDeeds}
+use Rattle.shared_volume.specs.Ciphers.{Context}
+use Rattle.shared_volume.specs.Lanes.{Knowing}
 use Rattle.shared_volume.specs.Serving.{EndsBy, WentOn}
 use Rattle.volume_laws.specs.Converting.{ServesBeside}
 use Rattle.volume_machine.specs.Answers.{AreExchanges, untagged}
@@ -240,9 +242,9 @@ module _ (reading : Reading) (start final : State VolumeKeys) (seals : Seals)
 
 module _ {L : Type 0} (state : L → LinkState) (left : Device) (begun : List L) (link : L)
     (came : Coming L) (volume : State VolumeKeys) (seals : Seals) (final : State VolumeKeys)
-    (standings : List Standing) (end : WorkerEnd)
-    (s : IsServedBeside state seals volume final most_events begun came.links came.ends standings
-    (Some end)) (found : AreFound state final (Some end) begun came standings) (sizes : Sizes)
+    (standings : List Standing) (end : WorkerEnd) (pass : Knowing Context)
+    (s : IsServedBeside state seals volume final pass most_events begun came.links came.ends standings
+    (Some end)) (passed : came.pass ≡ Some pass) (found : AreFound state final (Some end) begun came standings) (sizes : Sizes)
     (did : ExecutesBeside (reading_of sizes) seals volume final s.deeds s.operations)
     (answered : AreExchanges (answered_over seals volume no_plain s.deeds) (untagged s.operations))
     (laws : DeedLaws (reading_of sizes) volume seals s.deeds) (whole : volume.broken ≡ false)
@@ -273,6 +275,8 @@ module _ {L : Type 0} (state : L → LinkState) (left : Device) (begun : List L)
   served_converting left_is = record {
     final = final;
     deeds = s.deeds;
+    told = subst (λ (p : Option (Knowing Context)). IsSomeAnd p
+        (λ pass. KnowsDeeds volume pass s.deeds)) (sym passed) s.told;
     operations = s.operations;
     did = did;
     left_is = left_is;
@@ -302,7 +306,7 @@ module _ {L : Type 0} (state : L → LinkState) (left : Device) (begun : List L)
           fine.0,
           faultless-end end (λ failed. not_rose _ _ stood low (ended.rose failed)),
           λ few. (let unspent : has_spent came.ends ≡ false =
-              none-spent state left begun link came volume seals final standings (Some end) s few in
+              none-spent state left begun link came volume seals final standings (Some end) pass s few in
               found.cause_is
               ∙ ap (λ b. cause_of b final.disk.faults (Some end) (has_spent came.ends)
               (failed_in standings) found.faults came.memory) unbroken

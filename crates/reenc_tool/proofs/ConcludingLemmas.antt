@@ -34,7 +34,9 @@ use Rattle.served_beside.specs.Stops.{DeedsStopAnywhere}
 use Rattle.served_beside.specs.Tables.{TellsDeeds}
 use Rattle.served_conversions.specs.Clients.{without_work}
 use Rattle.served_conversions.specs.Serving.{ClientsLeaveWork}
+use Rattle.shared_volume.specs.Ciphers.{Context}
 use Rattle.shared_volume.specs.Histories.{IsReadSo, MayBeShared}
+use Rattle.shared_volume.specs.Lanes.{Knowing}
 use Rattle.volume_core.specs.Zones.{IsReadBy}
 use Rattle.volume_laws.specs.Converting.{IsInOrder, ServesBeside}
 use Rattle.volume_machine.specs.Answers.{AreExchanges, Tagged, untagged}
@@ -115,10 +117,11 @@ module _ (laws : ServingLaws) {L : Type 0} (state : L → LinkState) (left : Dev
     (link : L) (came : Coming L) (volume final : State VolumeKeys) (seals : Seals)
     (standings : List Standing) (converts : Bool) (fresh : IsFresh (without_work volume))
     (sound : IsSound (without_work volume)) (shared : MayBeShared volume)
-    (lawful : AreLawful volume.map.atom seals) (left_is : left ≡ final.disk) where
+    (lawful : AreLawful volume.map.atom seals) (left_is : left ≡ final.disk) (pass : Knowing Context)
+    (passed : came.pass ≡ Some pass) where
   abbrev Served : Option WorkerEnd → Type 0
-  Served worker = IsServedBeside state seals volume final most_events begun came.links came.ends
-      standings worker
+  Served worker = IsServedBeside state seals volume final pass most_events begun came.links
+      came.ends standings worker
 
   -- some sizes by which the header is read, where there is one
   some-sizes : (work : Option Work) → volume.work ≡ work → (sizes : Sizes) × IsReadSo sizes volume
@@ -139,8 +142,8 @@ module _ (laws : ServingLaws) {L : Type 0} (state : L → LinkState) (left : Dev
       quiet (reading_of sizes) seals volume final s.deeds s.operations run is (s.did sizes read) in
       inl (
         off,
-        served_of state left begun link came volume seals final standings None s laws.leaves q found
-            (laws.runs (without_work volume) seals _) sound fresh lawful left_is,
+        served_of state left begun link came volume seals final standings None pass s laws.leaves q
+            found passed (laws.runs (without_work volume) seals _) sound fresh lawful left_is,
       )
 
   -- the conversion is led on
@@ -184,8 +187,8 @@ module _ (laws : ServingLaws) {L : Type 0} (state : L → LinkState) (left : Dev
 
     led-on : HasServedConverting state sizes volume seals left begun came
     led-on =
-        served_converting state left begun link came volume seals final standings end s found sizes did
-        (laws.answers (reading_of sizes) seals volume final s.deeds s.operations did) deed-laws
+        served_converting state left begun link came volume seals final standings end pass s passed
+        found sizes did (laws.answers (reading_of sizes) seals volume final s.deeds s.operations did) deed-laws
         fresh.unbroken lawful left_is
 
   pub served-as : (worker : Option WorkerEnd)
@@ -200,20 +203,21 @@ module _ (laws : ServingLaws) {L : Type 0} (state : L → LinkState) (left : Dev
 -- what was found, of what was made of what the server handed back
 pub found-of : {L : Type 0} (state : L → LinkState) (final : State VolumeKeys)
     (worker : Option WorkerEnd) (begun links : List L) (came : Coming L) (standings : List Standing)
-    (lists : List (List SessionEnd)) (left : Device) (faults : ℕ)
+    (lists : List (List SessionEnd)) (left : Device) (faults : ℕ) (pass : Option (Knowing Context))
     → AreFaultsOfFirst state links standings faults
     → came ≡ record {
       cause = cause_of final.broken left.faults worker (has_spent lists) (failed_in standings) faults
           came.memory;
       memory = came.memory;
+      pass = pass;
       links = links;
       ends = lists;
     } → left ≡ final.disk → length standings ≡ length begun
     → (came.memory ≡ true → HasLive (length standings) standings)
     → (came.memory ≡ false → (k : ℕ) → k < length standings → slice_index_or standings k Live ≢ Live)
     → AreFound state final worker begun came standings
-found-of {L} state final worker begun links came standings lists left faults faults_are is left_is count
-    short to_the_end =
+found-of {L} state final worker begun links came standings lists left faults pass faults_are is
+    left_is count short to_the_end =
     let same-links : came.links ≡ links = ap (λ (k : Coming L). k.links) is in
     let same-ends : came.ends ≡ lists = ap (λ (k : Coming L). k.ends) is in
     record {
@@ -230,13 +234,15 @@ found-of {L} state final worker begun links came standings lists left faults fau
           faults came.memory) (sym same-ends);
     }
 
--- what is told is the same where each part is
-pub came-same : {L : Type 0} (one other : Cause) (memory : Bool) (links : List L)
-    (lists : List (List SessionEnd)) → one ≡ other
-    → ◌≡◌ {A = Coming L} (record { cause = one; memory = memory; links = links; ends = lists })
-    (record { cause = other; memory = memory; links = links; ends = lists })
-came-same {L} one other memory links lists same =
-    ap (λ (cause : Cause). record { cause = cause; memory = memory; links = links; ends = lists }) same
+-- what is told is the same where its cause is
+pub came-same : {L : Type 0} (one other : Cause) (memory : Bool) (pass : Option (Knowing Context))
+    (links : List L) (lists : List (List SessionEnd)) → one ≡ other
+    → ◌≡◌ {A = Coming L}
+    (record { cause = one; memory = memory; pass = pass; links = links; ends = lists })
+    (record { cause = other; memory = memory; pass = pass; links = links; ends = lists })
+came-same {L} one other memory pass links lists =
+    ap (λ (cause : Cause).
+    record { cause = cause; memory = memory; pass = pass; links = links; ends = lists })
 
 pub cause-same : (broken broken' : Bool) (count count' : ℕ) (worker : Option WorkerEnd)
     (spent spent' : Bool) (failed failed' faults : ℕ) (memory : Bool) → broken ≡ broken'

@@ -1,6 +1,7 @@
 mod AgainForLemmas
 mod BesideLemmas
 mod ConcludingLemmas
+mod EndForLemmas
 mod MakingLemmas
 mod KeptLemmas
 mod MidwayLemmas

@@ -1,5 +1,5 @@
 -- A conversion that is led on beside clients keeps what its disk stood for, and comes to its end.
-use Rattle.std.proofs.Common.{◌≡◌, ◌∙◌, ◌<◌, ⊎_elim, Bool, true, false, ℕ, List, [], ◌∷◌}
+use Rattle.std.proofs.Common.{◌≡◌, ◌∙◌, ◌<◌, ⊎_elim, false, ℕ, List, [], ◌∷◌}
 use Rattle.std.proofs.Common.{◌++◌, length, Option, None, Some, ap, arith, inl, inr, refl, subst, sym}
 use Rattle.bays.specs.Stories.{LinkState}
 use Rattle.converted_beside.specs.Ends.{ConvertedVolumesHoldNewest, HoldsNewest}
@@ -15,8 +15,7 @@ use Rattle.reenc_tool.specs.KeptBeside.{KeepsBeside, StartsBesideFor}
 use Rattle.reenc_tool.specs.Runs.{VolumeKeys}
 use Rattle.reenc_tool.specs.Sessions.{most_events}
 use Rattle.reenc_tool.specs.Outcomes.{Outcome}
-use Rattle.reenc_tool.specs.TakenUp.{IsLedToEnd, RanMidway}
-use Rattle.reenc_tool.specs.Volumes.{RanAs}
+use Rattle.reenc_tool.specs.TakenUp.{IsLedToEnd}
 use Rattle.reenc_tool.specs.declared.ended.Cause.TheVariants.{Fine}
 use Rattle.resume_disk.specs.Resuming.{IsOpenedMidway}
 use Rattle.resumed_volumes.proofs.ResumeLemmas.{both-dated}
@@ -31,7 +30,7 @@ use Rattle.sector_disk.specs.Geometry.{IsDisk}
 use Rattle.sector_disk.specs.Steps.{Told}
 use Rattle.served_beside.specs.Tables.{TellsDeeds}
 use Rattle.served_conversions.specs.Clients.{StoodFor}
-use Rattle.stops_beside.specs.Again.{DeedsStandAgain}
+use Rattle.served_conversions.specs.Again.{DeedsStandAgain}
 use Rattle.volume_machine.specs.Answers.{AreExchanges, Tagged, untagged}
 use Rattle.volume_machine.specs.Deeds.{AreDeeds, Deed, answered_over, state_after}
 use Rattle.volume_machine.specs.Readings.{Reading}
@@ -176,12 +175,6 @@ module _ {C : Type 0} {sector : C → ℕ} {sealed opened : C → ℕ → List �
       }
 
 -- ---- at the end
-never-both : {T : Type 0} {x : T} → None ≡ Some x → ⊥
-never-both e = cc
-
-false-true : false ≡ true → ⊥
-false-true e = cc
-
 none-open : (o : Option Open) → ((x : Open) → o ≡ Some x → ⊥) → o ≡ None
 none-open None never = refl
 none-open (Some x) never = absurd (never x refl)
@@ -204,6 +197,19 @@ module _ {sector : DiskCipher Aes → ℕ} {sealed opened : DiskCipher Aes → �
         served.ended.converted (served.fine is).0 (layout_on here taken.calls.led.last)
         (header_on taken.calls.led.last)
         (may-convert laws (device disk) pass lanes volume taken)
+
+    pub behind : IsKnownBehind taken.calls.found.header left
+        → IsKnownBehind taken.calls.found.header (state_after volume served.deeds).disk
+    behind known =
+        subst (λ (d : Device). IsKnownBehind taken.calls.found.header d)
+        (served.left_is ∙ ap (λ (v : State VolumeKeys). v.disk) (sym served.did.last)) known
+
+    -- an operation is left under way only where the history is full
+    pub none-under-way : length served.deeds < most_events
+        → (lane : ℕ) → IsClient volume lane → open_at served.final.lanes lane ≡ None
+    none-under-way few lane own =
+        none-open (open_at served.final.lanes lane) (λ o at.
+        (let full = (served.played.left lane o at).full in omega (arith, few, full)))
 
     -- what the law says of the state behind the deeds, of the state that is left
     newest-in : (first old_key new_key : List ℕ) (content : List (List ℕ))
@@ -238,39 +244,7 @@ module _ {sector : DiskCipher Aes → ℕ} {sealed opened : DiskCipher Aes → �
         × HoldsNewest (reading_of here) (volume_seals sealed opened volume) (led-to-end is).header
         served.final now
     holds-newest first old_key new_key content stood known is few =
-        let last = served.did.last in
-        let behind : IsKnownBehind taken.calls.found.header
-        (state_after volume served.deeds).disk =
-        subst (λ (d : Device). IsKnownBehind taken.calls.found.header d)
-        (served.left_is ∙ ap (λ (v : State VolumeKeys). v.disk) (sym last)) known in
         newest-in first old_key new_key content
         (starts-for laws (device disk) pass lanes volume taken geometry first old_key new_key content
-        stood served.deeds served.did.are behind)
-        served.final last (led-to-end is) (served.fine is).1
-        (λ lane own. none-open (open_at served.final.lanes lane) (λ o at.
-        (let full = (served.played.left lane o at).full in omega (arith, few, full))))
-
-  pub ran-midway : (converts : Bool)
-      → RanAs device state converts volume (volume_seals sealed opened volume) begun outcome
-      → RanMidway device state disk taken converts begun outcome
-  ran-midway false ran = record {
-    left = ran.left;
-    came = ran.came;
-    served = ⊎_elim (λ alone. alone.1) (λ led. absurd (false-true led.0)) ran.served;
-    back = ran.back;
-  }
-  ran-midway true ran =
-      let sizes = sizes_alone (device disk) in
-      let served : HasServedConverting state sizes volume (volume_seals sealed opened volume)
-      ran.left begun ran.came =
-      ⊎_elim (λ alone. absurd (⊎_elim (λ off. false-true (sym off))
-      (λ none. never-both (sym none ∙ has-work laws (device disk) pass lanes volume taken)) alone.0))
-      (λ led. led.2 sizes taken.is_read taken.order) ran.served in
-      record {
-        left = ran.left;
-        came = ran.came;
-        served = served;
-        back = ran.back;
-        fine = led-to-end ran.left ran.came served;
-        holds = holds-newest ran.left ran.came served;
-      }
+        stood served.deeds served.did.are (behind known))
+        served.final served.did.last (led-to-end is) (served.fine is).1 (none-under-way few)

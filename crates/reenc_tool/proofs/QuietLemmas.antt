@@ -1,8 +1,16 @@
--- Deeds among which is no step of the worker, as the run of events that they are.
-use Rattle.std.proofs.Common.{◌≡◌, ◌∙◌, ℕ, suc, List, [], ◌∷◌, ◌++◌, length, ap, refl, subst, sym}
+-- Deeds among which is no step of the worker, as the run of events that they are, and the history that
+-- tells them.
+use Rattle.std.proofs.Common.{◌≡◌, ◌∙◌, ℕ, suc, List, [], ◌∷◌, ◌++◌, length, map, ap, refl, subst, sym}
 use Rattle.lanes_beside.specs.Executing.{ExecutesBeside}
-use Rattle.lanes_beside.specs.Lanes.{deeds_of}
+use Rattle.lanes_beside.specs.Lanes.{deed_of, deeds_of}
 use Rattle.lanes_beside.specs.Runs.{IsRunOf}
+use Rattle.served_conversions.specs.Clients.{happening_without_work}
+use Rattle.shared_volume.specs.Histories.{IsDeedOf, Tells}
+use Rattle.shared_volume.specs.declared.asking.SharedEvent.{SharedEvent}
+use Rattle.shared_volume.specs.declared.asking.SharedEvent.TheVariants as Events
+use Rattle.shared_volume.specs.declared.asking.SharedOutcome.{SharedOutcome}
+use Rattle.shared_volume.specs.declared.asking.SharedOutcome.TheVariants as Outcomes
+use Rattle.volume_cell.specs.declared.history.Entry.{Entry}
 use Rattle.volume_laws.specs.Executing.{Executes}
 use Rattle.volume_machine.specs.Answers.{Answered, AreTagged, Tagged}
 use Rattle.volume_machine.specs.Deeds.{Deed, answered_over}
@@ -26,12 +34,36 @@ unfolding deeds_of
 length-same [] = refl
 length-same (one ∷ rest) = ap suc (length-same rest)
 
+-- ---- the same history
+same-deed : {K : Type 0} (lanes : ℕ) (event : SharedEvent) (outcome : SharedOutcome)
+    (one : Happening K) → IsDeedOf lanes event outcome (deed_of one)
+    → IsDeedOf lanes event outcome (deed_of (happening_without_work one))
+same-deed lanes (Events.Client asked) (Outcomes.Client answer) one is =
+    record { client_is = is.client_is; act = is.act; answers = is.answers }
+same-deed lanes (Events.Client asked) (Outcomes.Worker made) one is = absurd is
+same-deed lanes (Events.Worker lane) (Outcomes.Client answer) one is = absurd is
+same-deed lanes (Events.Worker lane) (Outcomes.Worker made) one is = absurd (let act = is.act in cc)
+
+-- it tells the run whether its states have what a conversion takes or not
+pub tells-without : {K : Type 0} (lanes : ℕ) (history : List (Entry SharedEvent SharedOutcome))
+    (run : List (Happening K)) → Tells lanes history (deeds_of run)
+    → Tells lanes history (deeds_of (map happening_without_work run))
+unfolding Tells deeds_of
+tells-without lanes [] [] tells = tells
+tells-without lanes [] (one ∷ run) tells = absurd tells
+tells-without lanes (entry ∷ history) [] tells = absurd tells
+tells-without lanes (entry ∷ history) (one ∷ run) (is, tells) = (
+  record { lane = is.lane; deed = same-deed lanes entry.event entry.outcome one is.deed },
+  tells-without lanes history run tells,
+)
+
 -- the run that executed what the deeds executed
 pub record IsQuiet {K : Type 0} (seals : Seals) (start final : State K) (deeds : List (Deed K))
     (operations : List Tagged) : Type 0 where
   pub run : List (Happening K)
   pub did : Executes seals start final run operations
   pub count : length run ≡ length deeds
+  pub deeds_are : deeds ≡ deeds_of run
 
 pub quiet : {K : Type 0} (reading : Reading) (seals : Seals) (start final : State K)
     (deeds : List (Deed K)) (operations : List Tagged) (run : List (Happening K))
@@ -47,4 +79,5 @@ quiet {K} reading seals start final deeds operations run is did = record {
         ∙ answers-same seals start plain run) (did.answers plain);
   };
   count = sym (length-same run) ∙ ap length (sym is.deeds_are);
+  deeds_are = is.deeds_are;
 }

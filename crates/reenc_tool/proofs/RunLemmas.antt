@@ -11,7 +11,9 @@ use Rattle.nbd_session.specs.declared.ending.SessionEnd.{SessionEnd}
 use Rattle.cipher_laws.specs.Bytes.{AreBytes}
 use Rattle.sector_disk.specs.Cells.{AreSettled, content, currents}
 use Rattle.sector_disk.specs.Steps.{Told}
+use Rattle.shared_volume.specs.Ciphers.{Context}
 use Rattle.shared_volume.specs.Histories.{MayBeShared}
+use Rattle.shared_volume.specs.Lanes.{Knowing}
 use Rattle.volume_machine.specs.Beginnings.{ChangeNothing, IsFresh, IsWholeDisk}
 use Rattle.volume_laws.specs.Promises.{TellsSettled}
 use Rattle.volume_machine.specs.Seals.{Seals}
@@ -135,14 +137,15 @@ abbrev pub unserved_of : {D L : Type 0} → Cause → Option D → List L → Ou
 unserved_of cause disk links = unserved cause disk links
 
 abbrev pub handed_back : {D L : Type 0} → Cause → Option StoreFault → Option VolumeRefusal → Bool →
-    Option D → Option D → List L → List (List SessionEnd) → Outcome D L
-handed_back cause fault refusal memory disk header links ends = record {
+    Option D → Option D → Option (Knowing Context) → List L → List (List SessionEnd) → Outcome D L
+handed_back cause fault refusal memory disk header pass links ends = record {
   cause = cause;
   fault = fault;
   refusal = refusal;
   memory = memory;
   disk = disk;
   header = header;
+  pass = pass;
   links = links;
   ends = ends;
 }
@@ -150,21 +153,32 @@ handed_back cause fault refusal memory disk header links ends = record {
 -- what is handed back is the same where each part is
 pub same_outcome : {D L : Type 0} (cause : Cause) (fault fault' : Option StoreFault)
     (refusal refusal' : Option VolumeRefusal) (memory memory' : Bool)
-    (disk disk' header header' : Option D) (links links' : List L)
-    (ends ends' : List (List SessionEnd)) → fault ≡ fault' →
-    refusal ≡ refusal' → memory ≡ memory' → disk ≡ disk' → header ≡ header' → links ≡ links' →
-    ends ≡ ends' → handed_back cause fault refusal memory disk header links ends
-    ≡ handed_back cause fault' refusal' memory' disk' header' links' ends'
+    (disk disk' header header' : Option D) (pass pass' : Option (Knowing Context))
+    (links links' : List L) (ends ends' : List (List SessionEnd)) → fault ≡ fault' →
+    refusal ≡ refusal' → memory ≡ memory' → disk ≡ disk' → header ≡ header' → pass ≡ pass' →
+    links ≡ links' → ends ≡ ends' →
+    handed_back cause fault refusal memory disk header pass links ends
+    ≡ handed_back cause fault' refusal' memory' disk' header' pass' links' ends'
 same_outcome {D} {L} cause fault fault' refusal refusal' memory memory' disk disk' header header'
-    links links' ends ends' f r m a h b c =
-    ap (λ (w : Option StoreFault). handed_back cause w refusal memory disk header links ends) f
-    ∙ ap (λ (w : Option VolumeRefusal). handed_back cause fault' w memory disk header links ends) r
-    ∙ ap (λ (w : Bool). handed_back cause fault' refusal' w disk header links ends) m
-    ∙ ap (λ (d : Option D). handed_back cause fault' refusal' memory' d header links ends) a
-    ∙ ap (λ (d : Option D). handed_back cause fault' refusal' memory' disk' d links ends) h
-    ∙ ap (λ (l : List L). handed_back cause fault' refusal' memory' disk' header' l ends) b
+    pass pass' links links' ends ends' f r m a h p b c =
+    ap (λ (w : Option StoreFault). handed_back cause w refusal memory disk header pass links ends) f
+    ∙ ap (λ (w : Option VolumeRefusal).
+    handed_back cause fault' w memory disk header pass links ends) r
+    ∙ ap (λ (w : Bool). handed_back cause fault' refusal' w disk header pass links ends) m
+    ∙ ap (λ (d : Option D). handed_back cause fault' refusal' memory' d header pass links ends) a
+    ∙ ap (λ (d : Option D). handed_back cause fault' refusal' memory' disk' d pass links ends) h
+    ∙ ap (λ (w : Option (Knowing Context)).
+    handed_back cause fault' refusal' memory' disk' header' w links ends) p
+    ∙ ap (λ (l : List L). handed_back cause fault' refusal' memory' disk' header' pass' l ends) b
     ∙ ap (λ (e : List (List SessionEnd)).
-    handed_back cause fault' refusal' memory' disk' header' links' e) c
+    handed_back cause fault' refusal' memory' disk' header' pass' links' e) c
+
+-- so it is where the pass alone is another
+pub passed : {D L : Type 0} (outcome : Outcome D L) (pass pass' : Option (Knowing Context)) →
+    pass ≡ pass' →
+    ◌≡◌ {A = Outcome D L} (record outcome { pass = pass }) (record outcome { pass = pass' })
+passed {D} {L} outcome pass pass' =
+    ap (λ (p : Option (Knowing Context)). record outcome { pass = p })
 
 -- disks are handed back that show this, with this that came of sessions
 pub handed : {D L : Type 0} (device : D → Device) (shown shown' : Device) (came came' : Coming L)

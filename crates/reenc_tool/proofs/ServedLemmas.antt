@@ -1,6 +1,6 @@
 -- What came of sessions on a volume of which nothing is converted meanwhile.
 use Rattle.std.proofs.Common.{◌≡◌, ◌≢◌, ◌∙◌, ◌<◌, ◌≤◌, Bool, true, false, ℕ, List, ◌∷◌, ◌++◌}
-use Rattle.std.proofs.Common.{length, map, Option, None, Some, slice_index_or}
+use Rattle.std.proofs.Common.{length, map, Option, None, Some, IsSomeAnd, option_map, slice_index_or}
 use Rattle.std.proofs.Common.{ap, arith, refl, subst, sym}
 use Rattle.std.proofs.lemmas.List.{length-map}
 use Rattle.aes_core.specs.declared.cipher.Aes.{Aes}
@@ -11,9 +11,9 @@ use Rattle.block_server.specs.declared.link.Standing.{Standing}
 use Rattle.block_server.specs.declared.link.Standing.TheVariants.{Live}
 use Rattle.plain_disk.specs.Plain.{Block, Exchange}
 use Rattle.reenc_tool.proofs.PlayedLemmas.{no_link_failed, spent-full}
-use Rattle.reenc_tool.proofs.QuietLemmas.{IsQuiet}
+use Rattle.reenc_tool.proofs.QuietLemmas.{IsQuiet, tells-without}
 use Rattle.reenc_tool.specs.Outcomes.{Coming}
-use Rattle.reenc_tool.specs.Runs.{HasServed, VolumeKeys}
+use Rattle.reenc_tool.specs.Runs.{HasServed, KnowsRun, VolumeKeys}
 use Rattle.reenc_tool.specs.Sessions.{HavePlayed, cause_of, has_spent, most_events}
 use Rattle.reenc_tool.specs.Standings.{AreFaultsOfFirst, HasLive, failed_in}
 use Rattle.reenc_worker.specs.declared.ends.WorkerEnd.{WorkerEnd}
@@ -22,12 +22,16 @@ use Rattle.sector_disk.specs.Devices.{Device}
 use Rattle.sector_disk.specs.Steps.{Told}
 use Rattle.served_conversions.specs.Clients.{happening_without_work, without_work}
 use Rattle.served_conversions.specs.Serving.{ClientsLeaveWork}
+use Rattle.shared_volume.specs.Ciphers.{Context}
+use Rattle.shared_volume.specs.Histories.{Tells}
+use Rattle.shared_volume.specs.Lanes.{Knowing}
 use Rattle.volume_laws.specs.Executing.{BreaksByFaults, Executes, ServesWithoutFaults, StopsAlong}
 use Rattle.volume_laws.specs.Executing.{TellsRun}
 use Rattle.volume_laws.specs.Promises.{DeviceErrorsAreExact, GoesByEvents, PlacesAreExact}
 use Rattle.volume_laws.specs.Promises.{ServesEachRun, Starts, StartsCovered, TellsSettled}
 use Rattle.volume_machine.specs.Answers.{AreExchanges, Tagged, untagged}
 use Rattle.volume_machine.specs.Beginnings.{IsFresh}
+use Rattle.volume_machine.specs.Deeds.{Deed}
 use Rattle.volume_machine.specs.Runs.{Happening, IsRun, answered_in, last_of, no_plain}
 use Rattle.volume_machine.specs.Seals.{AreLawful, Seals}
 use Rattle.volume_machine.specs.Sound.{IsSound}
@@ -78,8 +82,8 @@ not-true false never = refl
 -- what came of sessions, of the parts that their deeds left
 module _ {L : Type 0} (state : L → LinkState) (left : Device) (begun : List L) (link : L)
     (came : Coming L) (volume : State VolumeKeys) (seals : Seals) (final : State VolumeKeys)
-    (standings : List Standing) (worker : Option WorkerEnd)
-    (s : IsServedBeside state seals volume final most_events begun came.links came.ends standings
+    (standings : List Standing) (worker : Option WorkerEnd) (pass : Knowing Context)
+    (s : IsServedBeside state seals volume final pass most_events begun came.links came.ends standings
     worker) where
   -- where the history isn't full no session found it so
   pub none-spent : length s.deeds < most_events → has_spent came.ends ≡ false
@@ -90,7 +94,7 @@ module _ {L : Type 0} (state : L → LinkState) (left : Device) (begun : List L)
 
   module _ (leaves : ClientsLeaveWork (DiskCipher Aes))
       (q : IsQuiet seals volume final s.deeds s.operations)
-      (found : AreFound state final None begun came standings) where
+      (found : AreFound state final None begun came standings) (passed : came.pass ≡ Some pass) where
     abbrev run : List (Happening VolumeKeys)
     run = map happening_without_work q.run
 
@@ -99,6 +103,15 @@ module _ {L : Type 0} (state : L → LinkState) (left : Device) (begun : List L)
 
     as-many : length run ≡ length s.deeds
     as-many = length-map q.run happening_without_work ∙ q.count
+
+    told : IsSomeAnd came.pass (KnowsRun (without_work volume) run)
+    told = subst (λ (p : Option (Knowing Context)). IsSomeAnd p (KnowsRun (without_work volume) run))
+        (sym passed) (record {
+          start_is = ap (option_map (λ (v : State VolumeKeys). without_work v)) s.told.start_is;
+          tells = tells-without (length volume.lanes) pass.history q.run
+              (subst (λ (d : List (Deed VolumeKeys)). Tells (length volume.lanes) pass.history d)
+              q.deeds_are s.told.tells);
+        })
 
     played : HavePlayed state (without_work volume) (without_work final) (length run) None begun came
         s.operations
@@ -131,6 +144,7 @@ module _ {L : Type 0} (state : L → LinkState) (left : Device) (begun : List L)
         record {
           final = end;
           run = run;
+          told = told;
           operations = s.operations;
           did = did;
           left_is = left_is;

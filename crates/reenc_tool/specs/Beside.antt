@@ -1,9 +1,10 @@
 -- Sessions over a volume whose conversion is led on beside them: what its clients were put, what a stop
 -- leaves of its disk, and how the conversion's worker ended.
 use Rattle.std.specs.Prelude.{ℕ, ◌≡◌, ◌≢◌, ◌⊎◌, ◌-◌, ◌^◌, ◌<◌, ◌≤◌, false, true, List, ◌∷◌}
-use Rattle.std.specs.Prelude.{◌++◌, length, Some}
+use Rattle.std.specs.Prelude.{◌++◌, length, Some, IsSomeAnd}
 use Rattle.base_terms.specs.Causes.{Rose}
 use Rattle.bays.specs.Stories.{LinkState}
+use Rattle.block_server.specs.Serving.{KnowsDeeds}
 use Rattle.conversions_beside.specs.Ends.{IsConvertedBeside, MayConvertBeside}
 use Rattle.disk_areas.specs.Headers.{Handed, Header, Layout}
 use Rattle.disk_sizes.specs.declared.Sizes.{Sizes}
@@ -93,8 +94,10 @@ pub record HasServedConverting {L : Type 0} (state : L → LinkState) (sizes : S
     : Type 0 where
   pub final : State VolumeKeys
   -- the deeds, events of clients and steps of the worker, that executed the operations, each of which
-  -- makes at most one call of the disk, and the disk, which is handed back as they left it
+  -- makes at most one call of the disk and is an entry of the history that the pass tells; and the
+  -- disk, which is handed back as they left it
   pub deeds : List (Deed VolumeKeys)
+  pub told : IsSomeAnd came.pass (λ pass. KnowsDeeds start pass deeds)
   pub operations : List Tagged
   pub did : ExecutesBeside (reading_of sizes) seals start final deeds operations
   pub left_is : left ≡ final.disk

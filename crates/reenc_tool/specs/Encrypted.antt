@@ -81,6 +81,7 @@ ended_unopened refusal header disk faults = record {
   memory = false;
   disk = Some disk;
   header = header;
+  pass = None;
   links = [];
   ends = [];
 }

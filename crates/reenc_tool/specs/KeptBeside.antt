@@ -2,20 +2,23 @@
 use Rattle.std.specs.Prelude.{ℕ, ◌≡◌, ◌++◌, List, Some}
 use Rattle.base_terms.specs.Blocks.{joined}
 use Rattle.disk_sizes.specs.declared.Sizes.{Sizes}
+use Rattle.served_conversions.specs.Ends.{StandsForNewest}
 use Rattle.joined_disk.specs.Joined.{joined_disk}
 use Rattle.luks_store.specs.declared.loaded.Stored.{Stored}
 use Rattle.header_report.specs.Examinations.{sizes_alone}
+use Rattle.open_zones.specs.Images.{ImageStandsFor}
 use Rattle.plain_disk.specs.Plain.{Block, Exchange, Legal, settled_blocks}
 use Rattle.reenc_recovery.specs.Images.{StandsUnder}
 use Rattle.resume_disk.specs.Resuming.{IsOpenedMidway}
 use Rattle.resumed_volumes.specs.Keeping.{KeepsContent}
+use Rattle.resumed_volumes.specs.Openings.{IsKnownBehind}
 use Rattle.resumed_volumes.specs.Passphrases.{StandsAgainFor}
 use Rattle.resumed_volumes.specs.Resuming.{both_of}
 use Rattle.resumed_volumes.specs.Starts.{layout_on, volume_seals}
 use Rattle.sector_disk.specs.Devices.{Device}
 use Rattle.sector_disk.specs.Steps.{Told}
-use Rattle.stops_beside.specs.Again.{StandsBeside}
-use Rattle.stops_beside.specs.Passphrases.{IsAllowed}
+use Rattle.served_conversions.specs.Again.{StandsBeside}
+use Rattle.served_conversions.specs.Passphrases.{IsAllowed}
 use Rattle.volume_laws.specs.Converting.{StartsCertain, StartsUnder}
 use Rattle.volume_laws.specs.Handing.{handed_over}
 use Rattle.volume_laws.specs.Imaging.{AreDated, IsTaken}
@@ -87,3 +90,14 @@ StandsAgainBeside {C} sealed opened device pass header volume content =
     (handed_over volume (both_of (header_on header)) deeds) told.now image
     → StandsAllowedFor (sizes_alone device) pass volume (volume_seals sealed opened volume) content deeds
     exchanges (joined image)
+
+-- ---- under the passphrase, at the end
+-- Where the disk told its bytes, and they stood for a content, those that are left stand for the newest
+-- values that clients gave, by a header that converts nothing; and the operations are legal on the plain
+-- disk that held that content for certain. Where a zone was open by the header that was found, the disk that
+-- is left tells its tables.
+abbrev pub StandsAtEndBeside : Device → List ℕ → Stored → ℕ → List Exchange → Device → Type 0
+StandsAtEndBeside device pass found atom exchanges left =
+    (first : List ℕ) (content : List (List ℕ)) → device.values ≡ Some first
+    → ImageStandsFor (sizes_alone device) pass first content → IsKnownBehind found left
+    → StandsForNewest (sizes_alone device) pass atom content exchanges left

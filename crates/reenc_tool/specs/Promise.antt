@@ -88,7 +88,3 @@ Came device state holdings asks_disk asks_reading asks_key asks_links words supp
     × HasStarted device holdings asks_disk asks_key start supply now old new outcome report)
     ⊎ ((resume : Resuming) × (asked words ≡ Some (resumes resume)) × (now ≡ supply)
     × HasResumed device holdings asks_disk asks_key resume old new outcome report)
-
--- no command has a pass yet
-abbrev pub HasNoPass : {P : Type 0} → Option P → Option P → Type 0
-HasNoPass pass demo = (pass ≡ None) × (demo ≡ None)

@@ -99,6 +99,7 @@ ended_unresumed refusal header disk faults = record {
   memory = false;
   disk = Some disk;
   header = header;
+  pass = None;
   links = [];
   ends = [];
 }

@@ -1,15 +1,20 @@
 -- Sessions over a volume of which nothing is converted meanwhile: what its clients were put, and what
 -- a stop leaves of its disk.
 use Rattle.std.specs.Prelude.{ℕ, ◌≡◌, ◌-◌, ◌^◌, ◌<◌, true, if◌then◌else◌, List, ◌∷◌}
-use Rattle.std.specs.Prelude.{◌++◌, length, None, Some, slice_index_or}
+use Rattle.std.specs.Prelude.{◌++◌, length, None, Some, IsSomeAnd, option_map, slice_index_or}
 use Rattle.base_terms.specs.Causes.{Rose}
 use Rattle.bays.specs.Stories.{LinkState}
+use Rattle.lanes_beside.specs.Lanes.{deeds_of}
 use Rattle.plain_disk.specs.Outcomes.{AreServed}
 use Rattle.plain_disk.specs.Plain.{Block, Exchange, Legal}
 use Rattle.aes_core.specs.declared.cipher.Aes.{Aes}
 use Rattle.sector_cipher.specs.declared.disk.DiskCipher.{DiskCipher}
 use Rattle.sector_disk.specs.Devices.{Device as DiskState}
 use Rattle.sector_disk.specs.Steps.{Told}
+use Rattle.served_conversions.specs.Clients.{without_work}
+use Rattle.shared_volume.specs.Ciphers.{Context}
+use Rattle.shared_volume.specs.Histories.{Tells}
+use Rattle.shared_volume.specs.Lanes.{Knowing}
 use Rattle.volume_machine.specs.Answers.{Tagged, untagged}
 use Rattle.volume_machine.specs.Runs.{Happening, last_of}
 use Rattle.volume_machine.specs.Seals.{Seals, AreLawful}
@@ -54,6 +59,13 @@ StoodStill {L} state olds news = (k : ℕ) (link : L) → k < length olds →
     ((state (slice_index_or news k link)).faults ≡ (state (slice_index_or olds k link)).faults)
     × ((state (slice_index_or news k link)).faults < 2 ^ 64 - 1)
 
+-- By the pass the whole history of a volume is known, which began as this one, whatever its conversion
+-- takes: these events, entry by entry.
+pub record KnowsRun (start : State VolumeKeys) (run : List (Happening VolumeKeys))
+    (pass : Knowing Context) : Type 0 where
+  pub start_is : option_map (λ volume. without_work volume) pass.start ≡ Some start
+  pub tells : Tells (length start.lanes) pass.history (deeds_of run)
+
 -- Sessions were served on a volume that began so, over these links, and left its disk so, and nothing was
 -- converted. What the clients were put are the answers of one plain disk that was asked their operations
 -- in one history. Of a volume whose conversion lies idle the start and what follows it are told without
@@ -62,8 +74,10 @@ pub record HasServed {L : Type 0} (state : L → LinkState) (start : State Volum
     (seals : Seals) (left : DiskState) (begun : List L) (came : Coming L) : Type 0 where
   pub final : State VolumeKeys
   -- the run of events that executed the operations, each of which makes at most one call of the
-  -- disk, and the disk, which is handed back as they left it
+  -- disk and is an entry of the history that the pass tells; and the disk, which is handed back as
+  -- they left it
   pub run : List (Happening VolumeKeys)
+  pub told : IsSomeAnd came.pass (KnowsRun start run)
   pub operations : List Tagged
   pub did : Executes seals start final run operations
   pub left_is : left ≡ final.disk

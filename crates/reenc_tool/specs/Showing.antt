@@ -20,6 +20,7 @@ shown disk faults (Ok text) = record {
   memory = false;
   disk = Some disk;
   header = None;
+  pass = None;
   links = [];
   ends = [];
 }
@@ -30,6 +31,7 @@ shown disk faults (Err fault) = record {
   memory = false;
   disk = Some disk;
   header = None;
+  pass = None;
   links = [];
   ends = [];
 }

@@ -71,6 +71,7 @@ ended_unstarted refusal disk faults = record {
   memory = false;
   disk = Some disk;
   header = None;
+  pass = None;
   links = [];
   ends = [];
 }

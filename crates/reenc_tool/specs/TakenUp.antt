@@ -31,7 +31,7 @@ use Rattle.zone_events.specs.Readings.{reading_of}
 use Rattle.reenc_tool.specs.Beside.{HasServedConverting}
 use Rattle.reenc_tool.specs.Encrypted.{HandsBack, RanOver}
 use Rattle.reenc_tool.specs.Kept.{KeepsRefused, KnowsRefused, WhereNoneFailed}
-use Rattle.reenc_tool.specs.KeptBeside.{KeepsBeside, StandsAgainBeside}
+use Rattle.reenc_tool.specs.KeptBeside.{KeepsBeside, StandsAgainBeside, StandsAtEndBeside}
 use Rattle.reenc_tool.specs.Linking.{AsksLinks, IsLinked}
 use Rattle.reenc_tool.specs.Outcomes.{Coming, Outcome, none_came}
 use Rattle.reenc_tool.specs.Resuming.{ended_unresumed}
@@ -49,7 +49,8 @@ IsLedToEnd sizes header volume final =
 -- on; and the disks are handed back. Where all was fine the conversion is at its end. Where the disk told
 -- its bytes, and they stood for a content under the keys of the sides, the bytes that it holds then have
 -- the last header, and by it each block is on the new side and holds the newest value that clients gave
--- it, unless the history is full.
+-- it, unless the history is full; and where they stood for it under the passphrase, those that it holds
+-- then stand under it for these newest values, by a header that converts nothing.
 pub record RanBeside {D L : Type 0} (sector : DiskCipher Aes → ℕ)
     (sealed opened : DiskCipher Aes → ℕ → List ℕ → List ℕ) (device : D → DiskState)
     (state : L → LinkState) (disk : D) (pass : List ℕ) (lanes : ℕ) (volume : State VolumeKeys)
@@ -70,6 +71,9 @@ pub record RanBeside {D L : Type 0} (sector : DiskCipher Aes → ℕ)
       × Legal volume.map.atom (settled_blocks content) (untagged served.operations) now
       × HoldsNewest (reading_of (sizes_alone (device disk))) (volume_seals sealed opened volume)
       (fine is).header served.final now
+  pub stands : came.cause ≡ Fine → length served.deeds < most_events
+      → StandsAtEndBeside (device disk) pass taken.calls.found.header volume.map.atom
+      (untagged served.operations) left
 
 -- Sessions were served while nothing was converted: they are those of the volume without what its
 -- conversion takes. Or the conversion was led on meanwhile.

@@ -4,7 +4,7 @@ ghost use Rattle.std.specs.Prelude.{string_bytes, vec_len, Option, Some, None, I
 ghost use Rattle.bays.specs.Bays.{LeavesOtherClients};
 ghost use Rattle.command_line.specs.Commands.{IsServing, asked, serving};
 ghost use Rattle.reenc_tool.specs.Plain.{IsUnserved, Ran, ServesPlain};
-ghost use Rattle.reenc_tool.specs.Promise.{Came, HasNoPass, Serviced};
+ghost use Rattle.reenc_tool.specs.Promise.{Came, Serviced};
 ghost use Rattle.reenc_tool.specs.Outcomes.{Outcome, cause_of_fault, outcome_of, unserved};
 ghost use Rattle.reenc_tool.specs.Ending.{EndsAs};
 ghost use Rattle.reenc_tool.specs.Making.{DrawsNone};
@@ -50,7 +50,6 @@ where
     requires bound { (k : ℕ) (link : L) → k < length links.items →
         (L.state (slice_index_or links.items k link)).bound ≤ 65535 }
     ensures status { result.status ≡ status_of result.cause }
-    ensures pass { HasNoPass result.pass result.demo }
     ensures ended { Ran D.device L.state disk links.items (outcome_of result)
         ⊎ IsUnserved D.device disk links.items (outcome_of result)
         ⊎ (outcome_of result ≡ unserved Cause.Memory (Some disk) links.items) }
@@ -76,14 +75,13 @@ pub fn cause_by<'w>(failing: Failing, fault: BayFault, faults: u64) -> Cause<'w>
 }
 
 /// Ends without a session, and hands back the disk and the links that the bay gave.
-pub fn unserved<'w, D, L>(
+pub fn unserved<'w, D: Disk, L>(
     alloc: Global,
     cause: Cause<'w>,
     disk: Option<D>,
     links: Vec<L>,
 ) -> Ended<'w, D, L>
     ensures status { result.status ≡ status_of cause.entry }
-    ensures pass { HasNoPass result.pass result.demo }
     ensures outcome { outcome_of result ≡ unserved cause.entry disk links.items }
 {
     Sessions::none(alloc, cause, links).ended(disk, None)
@@ -105,7 +103,6 @@ where
     <B::Link as Link>::Out: Send,
     requires { IsServing (serving words.now) }
     ensures status { result.status ≡ status_of result.cause }
-    ensures pass { HasNoPass result.pass result.demo }
     ensures leaves { LeavesOtherClients words.now.address.now (B.holdings bay.old)
         (B.holdings bay.new) }
     ensures ended { ServesPlain B.Disk.device B.Link.state B.holdings B.asks_links
@@ -143,7 +140,6 @@ where
     <B::Link as Link>::Out: Send,
     requires { IsServing (serving words.now) }
     ensures status { result.status ≡ status_of result.cause }
-    ensures pass { HasNoPass result.pass result.demo }
     ensures serviced { Serviced B.Disk.device B.Link.state B.holdings B.asks_disk B.asks_key
         B.asks_links (serving words.now) bay.old bay.new (outcome_of result) None }
 {
@@ -174,7 +170,6 @@ where
     <B::Link as Link>::In: Send,
     <B::Link as Link>::Out: Send,
     ensures status { result.0.status ≡ status_of result.0.cause }
-    ensures pass { HasNoPass result.0.pass result.0.demo }
     ensures came { Came B.Disk.device B.Link.state B.holdings B.asks_disk B.asks_reading
         B.asks_key B.asks_links (map string_bytes words.now) (R.supply seeds.old)
         (R.supply seeds.new) bay.old bay.new (outcome_of result.0)
@@ -208,30 +203,30 @@ where
 ///
 /// Before each step of a conversion the gate is told how far it is.
 ///
-/// What holds at the end is `Came` of `specs/`, before the text is printed. Where sessions were
-/// served they are sessions of the protocol over the bytes that the links' connections gave, at once
-/// where there are several links, and their operations are one legal history of a plain disk: the one
-/// that was handed in, or the content that it stands for under the passphrase of the key file. So it is
+/// What holds at the end is `Came` of `specs/`, before the text is printed. Where sessions were served
+/// they are sessions of the protocol over the bytes that the links' connections gave, at once where
+/// there are several links, and their operations are one legal history of a plain disk: the one that
+/// was handed in, or the content that it stands for under the passphrase of the key file. So it is
 /// also where a conversion is under way, which stays where it is, or is led on by the volume's worker
-/// meanwhile: then the command is fine only where it came to its end, at which every block is new, by a
-/// header that converts nothing, and holds its newest value. The disk's tables are those of the
-/// operations' device calls and the worker's, and wherever the run stops the disk holds what that history
-/// allows. Of a header all lines are told, or why there is none; the disk is read alone. A new
-/// volume is what the words wish, made of 32 bytes that the seeds gave once, and its header and its
-/// keyslot's area are written and nothing else. A conversion is what the words wish too, by 32
-/// bytes that the seeds gave once: where it was begun, and in each image that a stop leaves from
-/// the first sync on, the disk stands for the content that it stood for under the passphrase. A
-/// conversion that is led to its end was opened under the keys that the passphrase has on both
-/// sides, where the disk tells its bytes, else under keys of the digests of both; and it was led on
-/// by steps of the volume's worker alone: at its end every block is new, by a header that converts
-/// nothing. Where the disk told its bytes, and they stood for a content under the passphrase, each image
-/// that a stop leaves of the opening or of the worker stands for that content, whatever the conversion
-/// ended with, and at its end each block holds it. Each cause has its reason. The bay is asked once for the disk, once
-/// for the header's and once for a key file, each where the words name one, and for clients once for
-/// the links, and for nothing else. The text changes the cause only where all was fine: to `Output`
-/// where it can't be put and pushed out, to `Memory` where memory is wanted for it. Words that ask
-/// for nothing leave the bay as it was, and those of other commands than `format` and `init` the
-/// seeds.
+/// meanwhile: then the command is fine only where it came to its end, at which every block is new, by
+/// a header that converts nothing, and holds its newest value. The pass that is handed back knows that
+/// history, and the worker's steps in it, entry by entry. The disk's tables are those of its device
+/// calls, and wherever the run stops the disk holds what it allows. Of a header all lines are told, or
+/// why there is none; the disk is read alone. A new volume is what the words wish, made of 32 bytes
+/// that the seeds gave once, and its header and its keyslot's area are written and nothing else. A
+/// conversion is what the words wish too, by 32 bytes that the seeds gave once: where it was begun,
+/// and in each image that a stop leaves from the first sync on, the disk stands for the content that
+/// it stood for under the passphrase. A conversion that is led to its end was opened under the keys
+/// that the passphrase has on both sides, where the disk tells its bytes, else under keys of the
+/// digests of both; and it was led on by steps of the volume's worker alone: at its end every block is
+/// new, by a header that converts nothing. Where the disk told its bytes, and they stood for a content
+/// under the passphrase, each image that a stop leaves of the opening or of the worker stands for that
+/// content, whatever the conversion ended with, and at its end each block holds it. Each cause has its
+/// reason. The bay is asked once for the disk, once for the header's and once for a key file, each
+/// where the words name one, and for clients once for the links, and for nothing else. The text
+/// changes the cause only where all was fine: to `Output` where it can't be put and pushed out, to
+/// `Memory` where memory is wanted for it. Words that ask for nothing leave the bay as it was, and
+/// those of other commands than `format` and `init` the seeds.
 pub fn run<'w, W: Threads + Wait + Sync, B: Bay, R: Seeds, O: Sink, G: Gate + Sync>(
     rt: &W,
     alloc: Global,
@@ -247,7 +242,6 @@ where
     <B::Link as Link>::In: Send,
     <B::Link as Link>::Out: Send,
     ensures status { result.status ≡ status_of result.cause }
-    ensures pass { HasNoPass result.pass result.demo }
     ensures run { (cause : Cause) × (report : Option (List ℕ))
         × EndsAs cause (O.outlet out.old).faults (O.outlet out.new).faults result.cause
         × Came B.Disk.device B.Link.state B.holdings B.asks_disk B.asks_reading B.asks_key

@@ -4,13 +4,16 @@ ghost use Rattle.reenc_tool.specs.Status.{cause_of_store, cause_of_volume, passp
 ghost use Rattle.reenc_tool.specs.Status.{status_of};
 ghost use Rattle.reenc_tool.specs.Texts.{fault_line};
 
+use crate::history::Pass;
 use crate::volume_refusal::VolumeRefusal;
+use block_server::VolumePass;
 use format_disk::FormatFault;
 use luks_rules::RuleFault;
 use luks_slots::SlotFault;
 use luks_store::StoreFault;
 use nbd_session::SessionEnd;
 use reenc_recovery::OpenCause;
+use sector_disk::Disk;
 use std::alloc::Global;
 use volume_opening::Refusal;
 
@@ -259,13 +262,9 @@ impl<'w> Cause<'w> {
     }
 }
 
-/// What a thread may do to a volume that several share. No command hands one back yet.
-#[derive(Clone, Copy)]
-pub enum Pass {}
-
 /// A command that ended. What the bay gave is handed back.
 #[derive(Drop)]
-pub struct Ended<'w, D, L> {
+pub struct Ended<'w, D: Disk, L> {
     /// The exit status, which the cause determines.
     pub status: u8,
     pub cause: Cause<'w>,
@@ -280,50 +279,51 @@ pub struct Ended<'w, D, L> {
     pub disk: Option<D>,
     /// The disk of a detached header, where the bay gave one. `format` alone asks for it yet.
     pub header: Option<D>,
-    pub pass: Option<Pass>,
-    pub demo: Option<Pass>,
+    /// The pass of the volume whose sessions were served, where some volume's were.
+    pub pass: Option<Pass<D>>,
     /// The ends of the sessions of each link, in their order; no list where none was served.
     pub sessions: Vec<Vec<SessionEnd>>,
     /// The links that the bay gave.
     pub links: Vec<L>,
 }
 
-/// What came of sessions: why they ended, whether memory was wanted for a session's end, the ends
-/// of each link's sessions, and the links.
+/// What came of sessions: why they ended, whether memory was wanted for a session's end, the pass of
+/// the volume where they were served, the ends of each link's sessions, and the links.
 #[derive(Drop)]
-pub struct Sessions<'w, L> {
+pub struct Sessions<'w, D: Disk, L> {
     pub cause: Cause<'w>,
     pub memory: bool,
+    pub pass: Option<VolumePass<D>>,
     pub ends: Vec<Vec<SessionEnd>>,
     pub links: Vec<L>,
 }
 
-impl<'w, L> Sessions<'w, L> {
+impl<'w, D: Disk, L> Sessions<'w, D, L> {
     ghost use Rattle.reenc_tool.specs.Outcomes.{came_of, ended_by, none_came, outcome_of};
-    ghost use Rattle.reenc_tool.specs.Promise.{HasNoPass};
 
     /// None was served, for this cause.
-    pub fn none(alloc: Global, cause: Cause<'w>, links: Vec<L>) -> Sessions<'w, L>
+    pub fn none(alloc: Global, cause: Cause<'w>, links: Vec<L>) -> Sessions<'w, D, L>
         ensures { came_of result ≡ none_came cause.entry links.items }
     {
         Sessions {
             cause,
             memory: false,
+            pass: None,
             ends: Vec::new(alloc),
             links,
         }
     }
 
-    /// The end of a command whose sessions these are, and that hands back a disk and the one of a
-    /// detached header, where it has them.
-    pub fn ended<D>(self, disk: Option<D>, header: Option<D>) -> Ended<'w, D, L>
+    /// The end of a command whose sessions these are, on a disk as it is where they were served, and
+    /// that hands back a disk and the one of a detached header, where it has them.
+    pub fn ended(self, disk: Option<D>, header: Option<D>) -> Ended<'w, D, L>
         ensures status { result.status ≡ status_of result.cause }
-        ensures pass { HasNoPass result.pass result.demo }
         ensures outcome { outcome_of result ≡ ended_by (came_of self.entry) disk header }
     {
         let Sessions {
             cause,
             memory,
+            pass,
             ends,
             links,
         } = self;
@@ -335,15 +335,14 @@ impl<'w, L> Sessions<'w, L> {
             memory,
             disk,
             header,
-            pass: None,
-            demo: None,
+            pass: Pass::of_plain(pass),
             sessions: ends,
             links,
         }
     }
 }
 
-impl<'w, D, L> Ended<'w, D, L> {
+impl<'w, D: Disk, L> Ended<'w, D, L> {
     /// The same with another cause, and its status.
     pub fn ending_by(self, cause: Cause<'w>) -> Ended<'w, D, L>
         ensures status { result.status ≡ status_of cause.entry }
@@ -356,7 +355,6 @@ impl<'w, D, L> Ended<'w, D, L> {
         ensures links { result.links ≡ self.entry.links }
         ensures header { result.header ≡ self.entry.header }
         ensures pass { result.pass ≡ self.entry.pass }
-        ensures demo { result.demo ≡ self.entry.demo }
     {
         let Ended {
             fault,
@@ -365,7 +363,6 @@ impl<'w, D, L> Ended<'w, D, L> {
             disk,
             header,
             pass,
-            demo,
             sessions,
             links,
             ..
@@ -379,7 +376,6 @@ impl<'w, D, L> Ended<'w, D, L> {
             disk,
             header,
             pass,
-            demo,
             sessions,
             links,
         }

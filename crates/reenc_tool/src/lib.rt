@@ -9,6 +9,7 @@
 
 mod commands;
 mod ended;
+mod history;
 mod making;
 mod opening;
 mod refusal_text;
@@ -23,8 +24,9 @@ mod volume_refusal;
 pub use bays::{Bay, BayFault, Link};
 pub use command_line::explain_words;
 pub use commands::run;
-pub use ended::{Cause, Ended, Failing, Fit, Pass};
+pub use ended::{Cause, Ended, Failing, Fit};
 pub use header_report::FaultText;
+pub use history::Pass;
 pub use luks_store::StoreFault;
 pub use nbd_session::{Ending, SessionEnd};
 pub use refusal_text::RefusalText;

@@ -10,7 +10,6 @@ ghost use Rattle.luks_format.specs.Wishes.{FitsDisk, IsWish};
 ghost use Rattle.reenc_tool.specs.Making.{AsksForHeader, AsksForKey, ComesTo, HasMade, IsOn};
 ghost use Rattle.reenc_tool.specs.Making.{IsOnOne, IsOnTwo, formatted_line, wish_of};
 ghost use Rattle.reenc_tool.specs.Outcomes.{outcome_of};
-ghost use Rattle.reenc_tool.specs.Promise.{HasNoPass};
 ghost use Rattle.reenc_tool.specs.Status.{status_of};
 
 use crate::commands::{cause_by, unserved};
@@ -120,7 +119,6 @@ fn make_on_one<'w, D: Disk, L>(
     requires atom { (D.device disk).size ≡ (formatting words.now).atom }
     requires one { is_some (formatting words.now).header ≡ false }
     ensures status { result.0.status ≡ status_of result.0.cause }
-    ensures pass { HasNoPass result.0.pass result.0.demo }
     ensures made { IsOnOne D.device (wish_of (formatting words.now)) pass.now seed.now disk
         (outcome_of result.0) (option_map (λ text. string_bytes text) result.1) }
 {
@@ -144,7 +142,6 @@ fn make_on_two<'w, D: Disk, L>(
     requires atom { (D.device disk).size ≡ (formatting words.now).atom }
     requires two { is_some (formatting words.now).header ≡ true }
     ensures status { result.0.status ≡ status_of result.0.cause }
-    ensures pass { HasNoPass result.0.pass result.0.demo }
     ensures made { IsOnTwo D.device (wish_of (formatting words.now)) pass.now seed.now head disk
         (outcome_of result.0) (option_map (λ text. string_bytes text) result.1) }
 {
@@ -171,7 +168,6 @@ fn make_in<'w, B: Bay>(
     requires atom { (B.Disk.device disk).size ≡ (formatting words.now).atom }
     requires named { is_some header ≡ is_some (formatting words.now).header }
     ensures status { result.0.status ≡ status_of result.0.cause }
-    ensures pass { HasNoPass result.0.pass result.0.demo }
     ensures made { AsksForKey B.Disk.device B.holdings B.asks_key (formatting words.now) seed.now
         header disk bay.old bay.new (outcome_of result.0)
         (option_map (λ text. string_bytes text) result.1) }
@@ -200,7 +196,6 @@ fn make_behind<'w, B: Bay>(
     requires words { IsFormatting (formatting words.now) }
     requires atom { (B.Disk.device disk).size ≡ (formatting words.now).atom }
     ensures status { result.0.status ≡ status_of result.0.cause }
-    ensures pass { HasNoPass result.0.pass result.0.demo }
     ensures made { AsksForHeader B.Disk.device B.holdings B.asks_disk B.asks_key
         (formatting words.now) seed.now (formatting words.now).header disk bay.old bay.new
         (outcome_of result.0) (option_map (λ text. string_bytes text) result.1) }
@@ -228,7 +223,6 @@ pub fn make<'w, B: Bay, R: Seeds>(
 ) -> (Ended<'w, B::Disk, B::Link>, Option<String>)
     requires { IsFormatting (formatting words.now) }
     ensures status { result.0.status ≡ status_of result.0.cause }
-    ensures pass { HasNoPass result.0.pass result.0.demo }
     ensures made { HasMade B.Disk.device B.holdings B.asks_disk B.asks_key (formatting words.now)
         (R.supply seeds.old) (R.supply seeds.new) bay.old bay.new (outcome_of result.0)
         (option_map (λ text. string_bytes text) result.1) }

@@ -10,7 +10,6 @@ ghost use Rattle.served_conversions.specs.Clients.{without_work};
 ghost use Rattle.luks_store.specs.Devices.{device_of};
 ghost use Rattle.reenc_tool.specs.Linking.{IsLinked};
 ghost use Rattle.reenc_tool.specs.Outcomes.{came_of, none_came, outcome_of};
-ghost use Rattle.reenc_tool.specs.Promise.{HasNoPass};
 ghost use Rattle.reenc_tool.specs.Status.{status_of};
 ghost use Rattle.reenc_tool.specs.declared.ended.Cause.{Cause};
 ghost use Rattle.shared_volume.specs.Histories.{MayBeShared};
@@ -20,6 +19,7 @@ ghost use Rattle.volume_machine.specs.Sound.{IsSound};
 
 use crate::commands::{cause_by, unserved};
 use crate::ended::{Cause, Ended, Failing, Sessions};
+use crate::history::Pass;
 use crate::resuming::ended_unresumed;
 use crate::sessions::{lanes_for, serve_volume};
 use crate::volume_refusal::VolumeRefusal;
@@ -39,13 +39,14 @@ use resumed_volumes::{
 use sector_cipher::Context;
 use sector_disk::Disk;
 use served_beside::tables_are_of_deeds;
-use served_conversions::{found_keys_are_given, passphrases_give_keys, taken_volumes_keep_content};
+use served_conversions::{
+    ends_beside_clients_stand_under_passphrases, found_keys_are_given, passphrases_give_keys,
+    stops_beside_clients_stand_again, stops_beside_clients_stand_under_passphrases,
+    taken_volumes_keep_content,
+};
 use std::alloc::Global;
 use std::sync::Wait;
 use std::thread::Threads;
-use stops_beside::{
-    stops_beside_clients_stand_again, stops_beside_clients_stand_under_passphrases,
-};
 use volume_core::Volume;
 use volume_opening::{Refusal, Unopened, open_by_passphrase, opened_volumes_stand_along};
 
@@ -74,7 +75,6 @@ where
     <B::Link as Link>::Out: Send,
     requires { IsServing (serving words.now) }
     ensures status { result.status ≡ status_of result.cause }
-    ensures pass { HasNoPass result.pass result.demo }
     ensures leaves { LeavesOtherClients words.now.address.now (B.holdings bay.old)
         (B.holdings bay.new) }
     ensures ended { ServesVolume B.Disk.device B.Link.state B.holdings B.asks_key B.asks_links
@@ -155,7 +155,6 @@ where
     <B::Link as Link>::Out: Send,
     requires { IsServing (serving words.now) }
     ensures status { result.status ≡ status_of result.cause }
-    ensures pass { HasNoPass result.pass result.demo }
     ensures leaves { LeavesOtherClients words.now.address.now (B.holdings bay.old)
         (B.holdings bay.new) }
     ensures ended { ServesUnder B.Disk.device B.Link.state B.holdings B.asks_links
@@ -176,6 +175,7 @@ where
     conversions_go_on_under_their_passphrase::<Context>();
     stops_beside_clients_stand_under_passphrases::<Context>();
     conversions_end_beside_clients::<Context>();
+    ends_beside_clients_stand_under_passphrases::<Context>();
     match open_volume(rt, alloc, disk, pass, lanes_for(words.workers)) {
         Ok(volume) => serve_opened(rt, alloc, bay, volume, words, gate),
         Err(NoVolume::Idle(unopened)) => ended_unopened(alloc, unopened),
@@ -203,7 +203,6 @@ where
     requires fresh { IsFresh (without_work volume) }
     requires sound { IsSound (without_work volume) }
     ensures status { result.status ≡ status_of result.cause }
-    ensures pass { HasNoPass result.pass result.demo }
     ensures leaves { LeavesOtherClients words.now.address.now (B.holdings bay.old)
         (B.holdings bay.new) }
     ensures linked { IsLinked B.Link.state B.holdings B.asks_links (serving words.now) bay.old
@@ -253,7 +252,6 @@ where
     requires bound { (k : ℕ) (link : L) → k < length links.items →
         (L.state (slice_index_or links.items k link)).bound ≤ 65535 }
     ensures status { result.status ≡ status_of result.cause }
-    ensures pass { HasNoPass result.pass result.demo }
     ensures ended { RanAs D.device L.state converts volume (seals_of
         ⟦<Context as SectorCipher>⟧.sealed ⟦<Context as SectorCipher>⟧.opened volume.map.atom
         volume.keys) links.items (outcome_of result)
@@ -265,20 +263,39 @@ where
 }
 
 /// Ends with the disks of a volume, one by one, and what came of its sessions.
-fn hand_back<'w, D: Disk, L>(joined: JoinedDisk<D>, sessions: Sessions<'w, L>) -> Ended<'w, D, L>
+fn hand_back<'w, D: Disk, L>(
+    joined: JoinedDisk<D>,
+    sessions: Sessions<'w, JoinedDisk<D>, L>,
+) -> Ended<'w, D, L>
     ensures status { result.status ≡ status_of result.cause }
-    ensures pass { HasNoPass result.pass result.demo }
     ensures back { HandsBack D.device (device_of joined) (came_of sessions.entry)
         (outcome_of result) }
 {
     let (header, disk) = joined.parts();
-    sessions.ended(Some(disk), header)
+    let Sessions {
+        cause,
+        memory,
+        pass,
+        ends,
+        links,
+    } = sessions;
+    Ended {
+        status: cause.status(),
+        cause,
+        fault: None,
+        refusal: None,
+        memory,
+        disk: Some(disk),
+        header,
+        pass: Pass::of_encrypted(pass),
+        sessions: ends,
+        links,
+    }
 }
 
 /// Ends without a volume, and says why.
 fn ended_unopened<'w, D: Disk, L>(alloc: Global, unopened: Unopened<D>) -> Ended<'w, D, L>
     ensures status { result.status ≡ status_of result.cause }
-    ensures pass { HasNoPass result.pass result.demo }
     ensures outcome { outcome_of result ≡ ended_unopened unopened.refusal unopened.header
         unopened.disk (D.device unopened.disk).faults }
 {
@@ -297,7 +314,6 @@ fn ended_unopened<'w, D: Disk, L>(alloc: Global, unopened: Unopened<D>) -> Ended
         disk: Some(disk),
         header,
         pass: None,
-        demo: None,
         sessions: Vec::new(alloc),
         links: Vec::new(alloc),
     }

@@ -5,7 +5,6 @@ ghost use Rattle.std.specs.Prelude.{string_bytes, string_capacity, string_len};
 ghost use Rattle.command_line.specs.Resumes.{resuming};
 ghost use Rattle.command_line.specs.Values.{IsAtomSize};
 ghost use Rattle.reenc_tool.specs.Outcomes.{ended_by, none_came, outcome_of};
-ghost use Rattle.reenc_tool.specs.Promise.{HasNoPass};
 ghost use Rattle.reenc_tool.specs.Resuming.{
   AsksForKey,
   ComesToResume,
@@ -151,7 +150,6 @@ fn finished_line(room: String, blocks: u64) -> String
 /// Ends a command that opened no volume of which a conversion is under way, and says why.
 pub fn ended_unresumed<'w, D: Disk, L>(alloc: Global, refused: Refused<D>) -> Ended<'w, D, L>
     ensures status { result.status ≡ status_of result.cause }
-    ensures pass { HasNoPass result.pass result.demo }
     ensures outcome { outcome_of result ≡ ended_unresumed refused.refusal refused.header
         refused.disk (D.device refused.disk).faults }
 {
@@ -170,7 +168,6 @@ pub fn ended_unresumed<'w, D: Disk, L>(alloc: Global, refused: Refused<D>) -> En
         disk: Some(disk),
         header,
         pass: None,
-        demo: None,
         sessions: Vec::new(alloc),
         links: Vec::new(alloc),
     }
@@ -179,7 +176,6 @@ pub fn ended_unresumed<'w, D: Disk, L>(alloc: Global, refused: Refused<D>) -> En
 /// Ends a command whose conversion was led on, and isn't at its end.
 fn ended_halted<'w, D: Disk, L>(alloc: Global, halted: Halted<D>) -> Ended<'w, D, L>
     ensures status { result.status ≡ status_of result.cause }
-    ensures pass { HasNoPass result.pass result.demo }
     ensures outcome { outcome_of result
         ≡ ended_by (none_came (cause_of_end halted.end (D.device halted.disk).faults) [])
         (Some halted.disk) halted.header }
@@ -192,7 +188,6 @@ fn ended_halted<'w, D: Disk, L>(alloc: Global, halted: Halted<D>) -> Ended<'w, D
 /// Ends a command that led a conversion to its end.
 fn ended_finished<'w, D: Disk, L>(alloc: Global, header: Option<D>, disk: D) -> Ended<'w, D, L>
     ensures status { result.status ≡ status_of result.cause }
-    ensures pass { HasNoPass result.pass result.demo }
     ensures outcome { outcome_of result ≡ ended_by (none_came Fine []) (Some disk) header }
 {
     Sessions::none(alloc, Cause::Fine, Vec::new(alloc)).ended(Some(disk), header)
@@ -209,7 +204,6 @@ fn resume_on<'w, R: Threads + Sync, D: Disk, L, G: Gate>(
     gate: &G,
 ) -> (Ended<'w, D, L>, Option<String>)
     ensures status { result.0.status ≡ status_of result.0.cause }
-    ensures pass { HasNoPass result.0.pass result.0.demo }
     ensures resumed { ComesToResume D.device pass.now disk (outcome_of result.0)
         (option_map (λ text. string_bytes text) result.1) }
 {
@@ -252,7 +246,6 @@ fn resume_in<'w, R: Threads + Sync, B: Bay, G: Gate>(
     gate: &G,
 ) -> (Ended<'w, B::Disk, B::Link>, Option<String>)
     ensures status { result.0.status ≡ status_of result.0.cause }
-    ensures pass { HasNoPass result.0.pass result.0.demo }
     ensures resumed { AsksForKey B.Disk.device B.holdings B.asks_key (resuming words.now) disk
         bay.old bay.new (outcome_of result.0) (option_map (λ text. string_bytes text) result.1) }
 {
@@ -276,7 +269,6 @@ pub fn resume<'w, R: Threads + Sync, B: Bay, G: Gate>(
 ) -> (Ended<'w, B::Disk, B::Link>, Option<String>)
     requires { IsAtomSize words.now.atom }
     ensures status { result.0.status ≡ status_of result.0.cause }
-    ensures pass { HasNoPass result.0.pass result.0.demo }
     ensures resumed { HasResumed B.Disk.device B.holdings B.asks_disk B.asks_key
         (resuming words.now) bay.old bay.new (outcome_of result.0)
         (option_map (λ text. string_bytes text) result.1) }

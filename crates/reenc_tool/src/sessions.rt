@@ -1,7 +1,7 @@
 // Sessions over a volume.
 
 ghost use Rattle.std.specs.Prelude.{◌≡◌, ◌+◌, ◌≢◌, ◌<◌, ◌≤◌, ◌⊎◌, ℕ, true, false, length, map};
-ghost use Rattle.std.specs.Prelude.{slice_index_or};
+ghost use Rattle.std.specs.Prelude.{slice_index_or, Some};
 ghost use Rattle.block_server.specs.declared.link.Standing.TheVariants.{Live};
 ghost use Rattle.reenc_tool.specs.Outcomes.{came_of, none_came};
 ghost use Rattle.reenc_tool.specs.Sessions.{cause_of, has_spent};
@@ -10,6 +10,7 @@ ghost use Rattle.reenc_tool.specs.Volumes.{IsServedAs};
 ghost use Rattle.reenc_tool.specs.declared.ended.Cause.TheVariants.{Memory};
 ghost use Rattle.served_conversions.specs.Clients.{without_work};
 ghost use Rattle.shared_volume.specs.Histories.{MayBeShared};
+ghost use Rattle.volume_cell.specs.Passes.{known};
 ghost use Rattle.volume_machine.specs.Beginnings.{IsFresh};
 ghost use Rattle.volume_machine.specs.Seals.{seals_of};
 ghost use Rattle.volume_machine.specs.Sound.{IsSound};
@@ -65,7 +66,7 @@ pub fn serve_volume<
     links: Vec<L>,
     gate: &G,
     converts: bool,
-) -> (D, Sessions<'w, L>)
+) -> (D, Sessions<'w, D, L>)
 where
     L::In: Send,
     L::Out: Send,
@@ -115,7 +116,7 @@ where
 }
 
 /// The disk of a volume that was served, and what came of its sessions.
-fn conclude<'w, D: Disk, L: Link>(served: Served<D, L>) -> (D, Sessions<'w, L>)
+fn conclude<'w, D: Disk, L: Link>(served: Served<D, L>) -> (D, Sessions<'w, D, L>)
     requires { length served.standings.items ≤ length served.links.items }
     ensures disk { D.device result.0 ≡ served.volume.disk }
     ensures size { (D.device result.0).size ≡ served.volume.map.atom }
@@ -126,6 +127,7 @@ fn conclude<'w, D: Disk, L: Link>(served: Served<D, L>) -> (D, Sessions<'w, L>)
               (has_spent (map (λ list. list.items) served.sessions.items))
               (failed_in served.standings.items) faults result.1.memory;
           memory = result.1.memory;
+          pass = Some (known served.pass);
           links = served.links.items;
           ends = map (λ list. list.items) served.sessions.items;
         }) }
@@ -136,6 +138,7 @@ fn conclude<'w, D: Disk, L: Link>(served: Served<D, L>) -> (D, Sessions<'w, L>)
 {
     let Served {
         volume,
+        pass,
         links,
         sessions,
         standings,
@@ -148,6 +151,7 @@ fn conclude<'w, D: Disk, L: Link>(served: Served<D, L>) -> (D, Sessions<'w, L>)
     let sessions = Sessions {
         cause,
         memory: trouble.memory,
+        pass: Some(pass),
         ends: sessions,
         links,
     };

@@ -3,7 +3,6 @@ ghost use Rattle.command_line.specs.Commands.{showing};
 ghost use Rattle.command_line.specs.Values.{IsAtomSize};
 ghost use Rattle.header_report.specs.Examinations.{seen};
 ghost use Rattle.reenc_tool.specs.Outcomes.{Outcome, outcome_of};
-ghost use Rattle.reenc_tool.specs.Promise.{HasNoPass};
 ghost use Rattle.reenc_tool.specs.Showing.{HasShown, report_in, shown};
 ghost use Rattle.reenc_tool.specs.Status.{status_of};
 
@@ -23,7 +22,6 @@ fn shown<'w, D: Disk, L>(
     told: Result<String, StoreFault>,
 ) -> (Ended<'w, D, L>, Option<String>)
     ensures status { result.0.status ≡ status_of result.0.cause }
-    ensures pass { HasNoPass result.0.pass result.0.demo }
     ensures outcome { outcome_of result.0 ≡ shown disk (D.device disk).faults (seen told) }
     ensures report { option_map (λ text. string_bytes text) result.1 ≡ report_in (seen told) }
 {
@@ -40,7 +38,6 @@ fn shown<'w, D: Disk, L>(
         disk: Some(disk),
         header: None,
         pass: None,
-        demo: None,
         sessions: Vec::new(alloc),
         links: Vec::new(alloc),
     };
@@ -55,7 +52,6 @@ pub fn show<'w, B: Bay>(
 ) -> (Ended<'w, B::Disk, B::Link>, Option<String>)
     requires { IsAtomSize words.now.atom }
     ensures status { result.0.status ≡ status_of result.0.cause }
-    ensures pass { HasNoPass result.0.pass result.0.demo }
     ensures shown { HasShown B.Disk.device B.holdings B.asks_reading (showing words.now) bay.old
         bay.new (outcome_of result.0) (option_map (λ text. string_bytes text) result.1) }
 {

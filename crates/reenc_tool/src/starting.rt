@@ -4,7 +4,6 @@ ghost use Rattle.std.specs.Prelude.{◌≡◌, IfOk, option_map, string_bytes};
 ghost use Rattle.command_line.specs.Starts.{IsStarting, starting};
 ghost use Rattle.luks_init.specs.Wishes.{IsWish};
 ghost use Rattle.reenc_tool.specs.Outcomes.{outcome_of};
-ghost use Rattle.reenc_tool.specs.Promise.{HasNoPass};
 ghost use Rattle.reenc_tool.specs.Starting.{
   AsksForKey,
   ComesToStart,
@@ -133,7 +132,6 @@ fn opening_refusal(refusal: Refusal) -> Option<VolumeRefusal>
 /// Ends a command that began no conversion.
 fn ended_unstarted<'w, D: Disk, L>(alloc: Global, unstarted: Unstarted<D>) -> Ended<'w, D, L>
     ensures status { result.status ≡ status_of result.cause }
-    ensures pass { HasNoPass result.pass result.demo }
     ensures outcome { outcome_of result ≡ ended_unstarted unstarted.refusal unstarted.disk
         (D.device unstarted.disk).faults }
 {
@@ -148,7 +146,6 @@ fn ended_unstarted<'w, D: Disk, L>(alloc: Global, unstarted: Unstarted<D>) -> En
         disk: Some(disk),
         header: None,
         pass: None,
-        demo: None,
         sessions: Vec::new(alloc),
         links: Vec::new(alloc),
     }
@@ -167,7 +164,6 @@ fn start_on<'w, D: Disk, L>(
     requires words { IsStarting (starting words.now) }
     requires atom { (D.device disk).size ≡ (starting words.now).atom }
     ensures status { result.0.status ≡ status_of result.0.cause }
-    ensures pass { HasNoPass result.0.pass result.0.demo }
     ensures started { ComesToStart D.device (starting words.now) pass.now seed.now disk
         (outcome_of result.0) (option_map (λ text. string_bytes text) result.1) }
 {
@@ -199,7 +195,6 @@ fn start_in<'w, B: Bay>(
     requires words { IsStarting (starting words.now) }
     requires atom { (B.Disk.device disk).size ≡ (starting words.now).atom }
     ensures status { result.0.status ≡ status_of result.0.cause }
-    ensures pass { HasNoPass result.0.pass result.0.demo }
     ensures started { AsksForKey B.Disk.device B.holdings B.asks_key (starting words.now) seed.now
         disk bay.old bay.new (outcome_of result.0)
         (option_map (λ text. string_bytes text) result.1) }
@@ -224,7 +219,6 @@ pub fn start<'w, B: Bay, R: Seeds>(
 ) -> (Ended<'w, B::Disk, B::Link>, Option<String>)
     requires { IsStarting (starting words.now) }
     ensures status { result.0.status ≡ status_of result.0.cause }
-    ensures pass { HasNoPass result.0.pass result.0.demo }
     ensures started { HasStarted B.Disk.device B.holdings B.asks_disk B.asks_key
         (starting words.now) (R.supply seeds.old) (R.supply seeds.new) bay.old bay.new
         (outcome_of result.0) (option_map (λ text. string_bytes text) result.1) }

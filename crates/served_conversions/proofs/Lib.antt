@@ -3,3 +3,8 @@ mod KeyLemmas
 mod StartLemmas
 mod StopLemmas
 mod ServeLemmas
+pub mod ValueLemmas
+pub mod AgainLemmas
+pub mod ForLemmas
+mod CountLemmas
+mod EndLemmas

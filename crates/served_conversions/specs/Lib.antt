@@ -1,3 +1,6 @@
 pub mod Clients
 pub mod Stops
 pub mod Serving
+pub mod Again
+pub mod Passphrases
+pub mod Ends

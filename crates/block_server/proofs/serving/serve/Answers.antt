@@ -1,6 +1,7 @@
 use Rattle.std.proofs.Common.{◌≡◌, ◌∙◌, ℕ, Bool, ap, arith, false, map, subst, sym, true}
 use Rattle.volume_machine.specs.Seals.{seals_of}
 use Rattle.shared_volume.specs.Ciphers.{opened, sealed}
+use Rattle.volume_cell.specs.Passes.{known}
 use Rattle.block_server.specs.Serving.{HasServedBeside}
 use Rattle.block_server.proofs.serving.serve.Goals as goal
 use Rattle.block_server.proofs.serving.serve.Goals.{else-converts, then-converts}
@@ -24,7 +25,8 @@ returns-in-Ok-share-clause-served g c =
     let lanes = c.requires.lanes in
     subst (λ (n : ℕ). HasServedBeside g.L.Link.state
     (seals_of sealed opened c.args.volume.map.atom
-    c.args.volume.keys) c.args.volume c.serve_all.result.volume n c.args.links.items
+    c.args.volume.keys) c.args.volume c.serve_all.result.volume
+    (known c.serve_all.result.pass) n c.args.links.items
     c.serve_all.result.links.items
     (map (λ list. list.items) c.serve_all.result.sessions.items)
     c.serve_all.result.standings.items c.serve_all.result.worker) e.limit

@@ -155,14 +155,15 @@ returns-clause-served g c = λ volume begun.
     let e = c.close-machine.ensures in
     let v = known c.close-machine.result.1 in
     let machine = c.close-machine.result.0 in
-    let same : machine.opening.value ≡ volume =
-    same-some machine.opening.value volume v.start e.start
-    (ap (λ k. k.start) e.pass
+    let from : v.start ≡ Some volume =
+    ap (λ k. k.start) e.pass
     ∙ (rejoined-start (known c.dismiss.new.first) (known c.relieve-worker.new.first) c.work-led.result
     c.relieve-worker.ensures.rejoined
     ∙ (c.dismiss.ensures.start
     ∙ (split-start cell links (known c.engage.new.first) (known c.work-led.new.first) c.work-led.result split
-    ∙ (c.engage.ensures.start ∙ started))))) in
+    ∙ (c.engage.ensures.start ∙ started)))) in
+    let same : machine.opening.value ≡ volume =
+    same-some machine.opening.value volume v.start e.start from in
     let stands : StandsFor (seals_at sealed opened volume)
     volume c.into_volume.result v.history =
     subst (λ now. StandsFor (seals_at sealed opened volume)
@@ -205,6 +206,7 @@ returns-clause-served g c = λ volume begun.
       told_is = c.relieve-worker.ensures.told;
       closed = e.pass;
       limit = c.requires.limit;
+      begun = from;
       serves = serves;
       same = stays-so (seals_at sealed opened volume) volume c.into_volume.result v.history
           c.lanes_are_alone_beside.ensures.deeds stands;

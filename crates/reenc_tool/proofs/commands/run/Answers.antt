@@ -2,7 +2,7 @@ use Rattle.std.proofs.Common.{ℕ, ◌∙◌, map, ap, sym, subst, option_map}
 use Rattle.std.specs.Prelude.{string_bytes, vec_len}
 use Rattle.reenc_tool.specs.declared.ended.Cause.{Cause}
 use Rattle.reenc_tool.specs.Ending.{EndsAs}
-use Rattle.reenc_tool.specs.Outcomes.{Outcome}
+use Rattle.reenc_tool.specs.Outcomes.{Outcome, known_by}
 use Rattle.reenc_tool.specs.Promise.{Came}
 use Rattle.reenc_tool.specs.Texts.{Prints, said, sessions_in, text_of}
 use Rattle.reenc_tool.proofs.RunLemmas.{same_outcome}
@@ -25,8 +25,9 @@ returns-clause-run g c =
           (map string_bytes c.args.words.now) (g.R.Seeds.supply c.args.seeds.now)
           (g.R.Seeds.supply c.execute-ended.new.seeds) c.args.bay.now c.execute-ended.new.bay o
           report)
-          (same_outcome ended.cause _ _ _ _ _ _ _ _ _ _ _ _ _ _ (sym is.fault)
+          (same_outcome ended.cause _ _ _ _ _ _ _ _ _ _ _ _ _ _ _ _ (sym is.fault)
           (sym is.refusal) (sym is.memory) (sym is.disk) (sym is.header)
+          (ap (option_map (λ pass. known_by pass)) (sym is.pass))
           (ap (λ links. links.items) (sym is.links))
           (ap (λ ends. map (λ list. list.items) ends.items) (sym is.sessions)))
           c.execute-ended.ensures.came,

@@ -1,13 +1,16 @@
-use Rattle.std.proofs.Common.{ap, refl}
+use Rattle.std.proofs.Common.{Some, ap, refl}
 use Rattle.joined_disk.specs.Counts.{joint_in}
 use Rattle.joined_disk.specs.Joined.{in_front}
+use Rattle.reenc_tool.specs.Outcomes.{came_of, ended_by}
+use Rattle.reenc_tool.proofs.RunLemmas.{passed}
 use Rattle.reenc_tool.proofs.opening.hand_back.Goals as goal
 
 pub returns-clause-back : goal.returns-clause-back
 returns-clause-back g c = record {
   disk = c.parts-header.result.1;
   header = c.parts-header.result.0;
-  is = c.ended.ensures.outcome;
+  is = passed (ended_by (came_of c.args.sessions) (Some c.parts-header.result.1)
+      c.parts-header.result.0) _ _ c.of_encrypted.ensures;
   joint = joint_in c.args.joined;
   shows = refl;
   are = record {

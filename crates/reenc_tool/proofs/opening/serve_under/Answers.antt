@@ -1,6 +1,7 @@
 use Rattle.std.proofs.Common.{◌+◌, ◌∙◌, inl, inr, ⊎_elim}
-use Rattle.reenc_tool.proofs.AgainForLemmas.{again-for}
-use Rattle.reenc_tool.proofs.MidwayLemmas.{MidwayLaws, keeps-beside, ran-midway}
+use Rattle.reenc_tool.proofs.AgainForLemmas.{ForLaws, again-for}
+use Rattle.reenc_tool.proofs.EndForLemmas.{ran-midway}
+use Rattle.reenc_tool.proofs.MidwayLemmas.{MidwayLaws, keeps-beside}
 use Rattle.reenc_tool.proofs.RefusedLemmas.{not-taken-up}
 use Rattle.reenc_tool.proofs.RunLemmas.{linked_so, ran_as_it_is}
 use Rattle.reenc_tool.proofs.TakenLemmas.{any-idle, any-lanes, any-shared}
@@ -44,6 +45,12 @@ returns-in-Ok-clause-ended g c =
       untagged_are = c.executions_join_beside.ensures.untagged;
       reader = λ sizes. c.copies_are_read.ensures;
     } in
+    let passes : ForLaws _ _ _ = record {
+      given = c.found_keys_are_given.ensures;
+      begins = c.conversions_go_on_under_their_passphrase.ensures.begins;
+      stops = c.stops_beside_clients_stand_under_passphrases.ensures.once;
+      ended = c.ends_beside_clients_stand_under_passphrases.ensures;
+    } in
     ⊎_elim
     (λ by. inr (inl (record {
       sector = _;
@@ -70,12 +77,8 @@ returns-in-Ok-clause-ended g c =
       keeps_beside = λ first old_key new_key content deeds stood are known.
           keeps-beside laws device pass lanes volume taken geometry first old_key new_key content stood
           deeds are known;
-      again_for = again-for laws (record {
-        given = c.found_keys_are_given.ensures;
-        begins = c.conversions_go_on_under_their_passphrase.ensures.begins;
-        stops = c.stops_beside_clients_stand_under_passphrases.ensures.once;
-      }) device pass lanes volume taken geometry;
-      linked = linked_so _ _ _ _ _ _ _ _ _ (λ begun ran. ran-midway laws g.B.Disk.Disk.device _
+      again_for = again-for laws passes device pass lanes volume taken geometry;
+      linked = linked_so _ _ _ _ _ _ _ _ _ (λ begun ran. ran-midway laws passes g.B.Disk.Disk.device _
           c.args.disk pass lanes volume taken geometry begun _
           c.args.words.now.converts ran) c.serve_opened.ensures.linked;
     }))))

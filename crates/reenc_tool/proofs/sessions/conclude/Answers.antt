@@ -26,7 +26,7 @@ returns-clause-came g c =
           (subst (λ (s : List Standing).
           AreFaultsOfFirst g.L.Link.state c.as_slice.result.now s trouble.faults)
           c.as_slice-2.ensures.value found.faults),
-      came-same c.cause-cause.result _ trouble.memory served.links.items lists
+      came-same c.cause-cause.result _ trouble.memory _ served.links.items lists
           (c.cause-cause.ensures
           ∙ cause-same _ _ _ _ served.worker _ _ _ _ trouble.faults trouble.memory
           (ap (λ p. p.broken) c.progress-broken.ensures) c.faults.ensures spent failed),

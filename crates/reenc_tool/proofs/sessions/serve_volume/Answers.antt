@@ -1,9 +1,10 @@
-use Rattle.std.proofs.Common.{◌∙◌, inl, map, subst, sym}
+use Rattle.std.proofs.Common.{◌∙◌, ap, inl, map, subst, sym}
 use Rattle.reenc_tool.proofs.ConcludingLemmas.{ServingLaws, found-of, served-as}
 use Rattle.reenc_tool.proofs.PlayedLemmas.{some_element}
 use Rattle.reenc_tool.specs.Outcomes.{Coming, came_of}
 use Rattle.reenc_tool.specs.Sessions.{most_events}
 use Rattle.shared_volume.specs.Ciphers.{opened, sealed}
+use Rattle.volume_cell.specs.Passes.{known}
 use Rattle.volume_machine.specs.Seals.{seals_of}
 use Rattle.block_server.specs.Serving.{HasServedBeside as IsServedBeside}
 use Rattle.reenc_tool.proofs.sessions.serve_volume.Goals as goal
@@ -55,12 +56,13 @@ returns-in-Ok-clause-served g c =
     c.args.converts c.requires.fresh c.requires.sound c.requires.shared
     (c.keys_seal_lawfully.ensures volume.keys volume.map.atom c.requires.sound.fits.known
     (rw c.keys-keys.ensures.is at fits.old_sector) (rw c.keys-keys.ensures.is at fits.new_sector))
-    made.disk served.worker c.in-Ok.ensures.led
+    made.disk (known served.pass) (ap (λ (k : Coming g.row.L.Denot). k.pass) made.came.2)
+    served.worker c.in-Ok.ensures.led
     (subst (λ (k : Coming g.row.L.Denot). IsServedBeside g.L.Link.state
-    (seals_of sealed opened volume.map.atom volume.keys) volume served.volume most_events
+    (seals_of sealed opened volume.map.atom volume.keys) volume served.volume (known served.pass) most_events
     c.args.links.items k.links k.ends standings served.worker) (sym made.came.2) s)
     (found-of g.L.Link.state served.volume served.worker c.args.links.items served.links.items came
-    standings (map (λ list. list.items) served.sessions.items) _ made.came.0 made.came.1 made.came.2
+    standings (map (λ list. list.items) served.sessions.items) _ made.came.0 _ made.came.1 made.came.2
     made.disk s.served.count made.short made.to_the_end))
 
 pub returns-in-Ok-clause-size : goal.returns-in-Ok-clause-size

@@ -1,8 +1,6 @@
 use Rattle.resumed_volumes.proofs.SideLemmas.{sides-tell-keys}
-use Rattle.resumed_volumes.proofs.TakenForLemmas.{SlotLaws}
-use Rattle.stops_beside.proofs.AgainLemmas.{StopLaws}
-use Rattle.stops_beside.proofs.ForLemmas.{any-times, deeds-for}
-use Rattle.stops_beside.proofs.laws.stops_beside_clients_stand_under_passphrases.Goals as goal
+use Rattle.served_conversions.proofs.AgainLemmas.{StopLaws, deeds-stand}
+use Rattle.served_conversions.proofs.beside.stops_beside_clients_stand_again.Goals as goal
 use Rattle.volume_laws.proofs.HeadersTell.{tells_beside}
 use Rattle.volume_laws.proofs.VolumesKept.{deeds_in_order}
 
@@ -23,14 +21,4 @@ returns g c =
       given = c.used_copies_are_headers.ensures.given;
       sides = sides-tell-keys c.sides_are_told.ensures;
     } in
-    let slots : SlotLaws _ = record {
-      leaves = c.deeds_leave_the_rest.ensures;
-      areas = c.headers_stand_in_front.ensures.areas;
-      told = c.sides_are_told.ensures;
-      given = c.sides_give_their_keys.ensures.given;
-    } in
-    let passes = c.conversions_go_on_under_their_passphrase.ensures in
-    record {
-      once = deeds-for laws slots;
-      repeated = any-times laws slots passes.begins passes.stops c.tables_are_of_deeds.ensures;
-    }
+    deeds-stand laws

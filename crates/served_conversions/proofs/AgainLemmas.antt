@@ -66,8 +66,8 @@ use Rattle.zone_events.specs.Readings.{guard_in, map_of, parts_in, reading_of}
 use Rattle.lanes_beside.specs.Lanes.{StaysSame}
 use Rattle.served_beside.proofs.{Failures.deeds_same, Legals.legal_one}
 use Rattle.served_beside.proofs.Stops.{HasWork, work_over}
-use Rattle.stops_beside.proofs.ValueLemmas.{length-from, value-from, values-from}
-use Rattle.stops_beside.specs.Again.{DeedsStandAgain, StandsBeside}
+use Rattle.served_conversions.proofs.ValueLemmas.{length-from, value-from, values-from}
+use Rattle.served_conversions.specs.Again.{DeedsStandAgain, StandsBeside}
 use Rattle.volume_laws.proofs.HoldersKept.{atoms_kept}
 use Rattle.volume_laws.specs.Contents.{IsAllowedAt}
 use Rattle.volume_laws.specs.Converting.{IsServedBeside}
@@ -131,7 +131,7 @@ module _ {C : Type 0} {sector : C → ℕ} {sealed opened : C → ℕ → List �
   pub known-atom : IsAtom sizes.atom
   known-atom = subst (λ (n : ℕ). IsAtom n) b.map.atom b.order.sound.fits.known
 
-  some-atom : 0 < sizes.atom
+  pub some-atom : 0 < sizes.atom
   some-atom = some known-atom
     where
       some : {atom : ℕ} → IsAtom atom → 0 < atom
@@ -152,6 +152,12 @@ module _ {C : Type 0} {sector : C → ℕ} {sealed opened : C → ℕ → List �
       (held-parts laws.spelt sizes (front_of sizes bytes) b.holds.holds.stored
       b.holds.holds.held).rules
 
+  pub guard-first : guard_in sizes (header_on header).means ≡ datashift → ⊥
+  guard-first shifts =
+      not-shifted b.now.conversion.resilience guarded
+      (sym (guard-told sizes (header_on header).means header.valid.meta (Some b.now) first-parts b.known)
+      ∙ shifts)
+
   pub here-placed : IsPlaced laws.lawfully sizes header lanes old_key new_key bytes volume content b stands
   here-placed = placed laws.lawfully sizes header lanes old_key new_key bytes volume content b stands
 
@@ -161,26 +167,29 @@ module _ {C : Type 0} {sector : C → ℕ} {sealed opened : C → ℕ → List �
       (one-header sizes bytes stands.stored b.holds.holds.stored stands.header b.holds.holds.held)
       ∙ ap (λ (v : Checked). v.meta) b.holds.holds.same
 
-  old-is : IsKeyOf header.valid.meta b.now.old old_key
+  pub old-is : IsKeyOf header.valid.meta b.now.old old_key
   old-is =
       subst (λ (m : Parts). IsKeyOf m b.now.old old_key) same-meta
       (subst (λ e. IsKeyOf stands.stored.valid.meta e old_key) here-placed.old stands.old_key)
 
-  new-is : IsKeyOf header.valid.meta b.now.new new_key
+  pub new-is : IsKeyOf header.valid.meta b.now.new new_key
   new-is =
       subst (λ (m : Parts). IsKeyOf m b.now.new new_key) same-meta
       (subst (λ e. IsKeyOf stands.stored.valid.meta e new_key) here-placed.new stands.new_key)
 
-  lawful : AreLawful sizes.atom (seals_of sealed opened sizes.atom volume.keys)
+  pub lawful : AreLawful sizes.atom (seals_of sealed opened sizes.atom volume.keys)
   lawful =
       subst (λ (a : ℕ). AreLawful a (seals_of sealed opened a volume.keys)) b.map.atom
       starts.0.lawful
+
+  pub seals-here : seals ≡ seals_of sealed opened sizes.atom volume.keys
+  seals-here = ap (λ a. seals_of sealed opened a volume.keys) b.map.atom
 
   count-first : length content ≡ volume.map.blocks
   count-first =
       stands.holds.count ∙ here-placed.map.blocks ∙ sym b.map.blocks
 
-  some-block : 0 < volume.map.blocks
+  pub some-block : 0 < volume.map.blocks
   some-block =
       let fits = one.disk.fits in
       let has = one.has.main in
@@ -214,6 +223,19 @@ module _ {C : Type 0} {sector : C → ℕ} {sealed opened : C → ℕ → List �
     same-size =
         deeds_same reading seals volume deeds
         (record { sound = b.order.sound; order = λ some. b.order }) are
+
+    pub atom-here : here.map.atom ≡ sizes.atom
+    atom-here = same-size.atom ∙ b.map.atom
+
+    -- all of the disk is in front
+    pub header-atoms : sizes.header_atoms ≡ here.disk.atoms
+    header-atoms =
+        let all = subst (λ (d : Bool).
+        (if d then sizes.header_atoms else 0) + sizes.main_atoms ≡ volume.disk.atoms) one.alone
+        one.has.all in
+        let main = one.has.alone one.alone in
+        let kept = atoms_over reading seals volume deeds are in
+        omega (arith, all, main, kept)
 
     pub served : IsServedBeside (StartsCertain (layout_on sizes header) (header_on header) volume seals
         (settled_blocks content)) volume seals (settled_blocks content) deeds exchanges
@@ -265,12 +287,6 @@ module _ {C : Type 0} {sector : C → ℕ} {sealed opened : C → ℕ → List �
           (to_of has.0.zone has.0.phase).means by.header
       may = of-image.3 has.0 has.1 by.header by.gives
 
-      pub guard-first : guard_in sizes (header_on header).means ≡ datashift → ⊥
-      guard-first shifts =
-          not-shifted b.now.conversion.resilience guarded
-          (sym (guard-told sizes (header_on header).means header.valid.meta (Some b.now) first-parts
-          b.known) ∙ shifts)
-
       pub says : SaysAs reading (header_on header).means by.header
           ⊎ SaysItEnds reading (header_on header).means by.header
       says =
@@ -286,9 +302,6 @@ module _ {C : Type 0} {sector : C → ℕ} {sealed opened : C → ℕ → List �
       cells : length told.now ≡ here.disk.atoms
       cells = served.cells starts.1 told told_is
 
-      atoms : here.disk.atoms ≡ volume.disk.atoms
-      atoms = atoms_over reading seals volume deeds are
-
       whole-text : content_of here.disk.atoms (value_in image) ≡ joined image
       whole-text =
           let course = order.courses has.0 has.1 in
@@ -299,22 +312,10 @@ module _ {C : Type 0} {sector : C → ℕ} {sealed opened : C → ℕ → List �
           (header_reader.size (from_of has.0.zone has.0.phase).means) has.0.layout) (sym cells)
           course.laid)).1
 
-      atom-here : here.map.atom ≡ sizes.atom
-      atom-here = same-size.atom ∙ b.map.atom
-
       pub even : lengths image ≡ replicate here.disk.atoms sizes.atom
       even =
           subst (λ (n : ℕ). lengths image ≡ replicate n sizes.atom) cells
           (subst (λ (a : ℕ). lengths image ≡ replicate (length told.now) a) atom-here taken.whole)
-
-      header-atoms : sizes.header_atoms ≡ here.disk.atoms
-      header-atoms =
-          let all = subst (λ (d : Bool).
-          (if d then sizes.header_atoms else 0) + sizes.main_atoms ≡ volume.disk.atoms) one.alone
-          one.has.all in
-          let main = one.has.alone one.alone in
-          let kept = atoms in
-          omega (arith, all, main, kept)
 
       front : front_of sizes (joined image) ≡ joined image
       front =
@@ -337,9 +338,6 @@ module _ {C : Type 0} {sector : C → ℕ} {sealed opened : C → ℕ → List �
       values-are k below =
           ap held (let e : k ≡ 0 + k = omega arith in e)
           ∙ sym (value-from held 0 here.map.blocks k below)
-
-      seals-here : seals ≡ seals_of sealed opened sizes.atom volume.keys
-      seals-here = ap (λ a. seals_of sealed opened a volume.keys) b.map.atom
 
       told-new : TellsKeys sizes header.valid.meta b.now.new by.header New
       told-new =

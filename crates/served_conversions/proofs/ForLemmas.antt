@@ -1,6 +1,6 @@
 -- Wherever deeds of a conversion stop that clients use meanwhile each image stands, under the passphrase,
 -- for a content that is allowed; and so it is any number of times.
-use Rattle.std.proofs.Common.{◌≡◌, ◌∙◌, ◌<◌, inl, inr, ℕ, true, false, List, Some, refl, subst, sym}
+use Rattle.std.proofs.Common.{◌≡◌, ◌∙◌, inl, inr, ℕ, true, false, List, Some, refl, subst, sym}
 use Rattle.base_terms.specs.Blocks.{joined}
 use Rattle.disk_sizes.specs.declared.Sizes.{Sizes}
 use Rattle.disk_views.specs.Parts.{value_in}
@@ -18,10 +18,10 @@ use Rattle.resumed_volumes.specs.Passphrases.{TakenUpConversionsBeginFor}
 use Rattle.resumed_volumes.specs.Resuming.{both_of}
 use Rattle.resumed_volumes.specs.Starts.{BeginsBehind, layout_on, volume_seals}
 use Rattle.sector_disk.specs.Steps.{Told}
-use Rattle.stops_beside.proofs.AgainLemmas.{StopLaws, again, allowed-values, by, even, gives, of-image}
-use Rattle.stops_beside.proofs.AgainLemmas.{guard-first, says, served, starts, values}
-use Rattle.stops_beside.specs.Passphrases.{ComesFrom, DeedsStandAgainFor, IsAllowed, IsUsed, LeadsTo}
-use Rattle.stops_beside.specs.Passphrases.{Lives, UsedAnyNumberOfTimes, begun, resumed, used}
+use Rattle.served_conversions.proofs.AgainLemmas.{StopLaws, again, allowed-values, by, even, gives, of-image}
+use Rattle.served_conversions.proofs.AgainLemmas.{guard-first, says, served, starts, values}
+use Rattle.served_conversions.specs.Passphrases.{ComesFrom, DeedsStandAgainFor, IsAllowed, IsUsed, LeadsTo}
+use Rattle.served_conversions.specs.Passphrases.{Lives, UsedAnyNumberOfTimes, begun, resumed, used}
 use Rattle.served_beside.proofs.Legals.{legal_one}
 use Rattle.served_beside.specs.Tables.{TellsDeeds}
 use Rattle.volume_laws.specs.Contents.{IsAllowedAt}
@@ -69,8 +69,7 @@ module _ {C : Type 0} {sector : C → ℕ} {sealed opened : C → ℕ → List �
       (state_after volume deeds)
       (slots.leaves (reading_of sizes) (volume_seals sealed opened volume) (layout_on sizes header)
       (header_on header) volume deeds b.order start.0.at_rest
-      (guard-first laws sizes header lanes s.old s.new bytes volume content b s.stands one saved deeds
-      exchanges are answered told told_is image taken) are)
+      (guard-first laws sizes header lanes s.old s.new bytes volume content b s.stands one saved) are)
       slots.told slots.given laws.given pass given.0 given.1 by_here.header
       (λ work at. of.3 work at by_here.header by_here.gives)
       (says laws sizes header lanes s.old s.new bytes volume content b s.stands one saved deeds exchanges

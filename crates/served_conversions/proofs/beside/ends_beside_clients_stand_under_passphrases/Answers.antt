@@ -1,6 +1,8 @@
+use Rattle.served_conversions.proofs.EndLemmas.{ends-for-newest}
+use Rattle.served_conversions.proofs.beside.ends_beside_clients_stand_under_passphrases.Goals as goal
 use Rattle.resumed_volumes.proofs.SideLemmas.{sides-tell-keys}
-use Rattle.stops_beside.proofs.AgainLemmas.{StopLaws, deeds-stand}
-use Rattle.stops_beside.proofs.laws.stops_beside_clients_stand_again.Goals as goal
+use Rattle.resumed_volumes.proofs.TakenForLemmas.{SlotLaws}
+use Rattle.served_conversions.proofs.AgainLemmas.{StopLaws}
 use Rattle.volume_laws.proofs.HeadersTell.{tells_beside}
 use Rattle.volume_laws.proofs.VolumesKept.{deeds_in_order}
 
@@ -21,4 +23,10 @@ returns g c =
       given = c.used_copies_are_headers.ensures.given;
       sides = sides-tell-keys c.sides_are_told.ensures;
     } in
-    deeds-stand laws
+    let slots : SlotLaws _ = record {
+      leaves = c.deeds_leave_the_rest.ensures;
+      areas = c.headers_stand_in_front.ensures.areas;
+      told = c.sides_are_told.ensures;
+      given = c.sides_give_their_keys.ensures.given;
+    } in
+    ends-for-newest laws slots c.conversions_end_beside_clients.ensures

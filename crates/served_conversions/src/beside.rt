@@ -1,9 +1,11 @@
-// Laws of volumes whose conversion goes on beside their clients.
+// Laws of volumes whose conversion goes on beside their clients, with nothing to run.
 
-ghost use Rattle.stops_beside.specs.Again.{DeedsStandAgain};
-ghost use Rattle.stops_beside.specs.Passphrases.{DeedsStandAgainFor, UsedAnyNumberOfTimes};
+ghost use Rattle.served_conversions.specs.Again.{DeedsStandAgain};
+ghost use Rattle.served_conversions.specs.Ends.{EndsStandForNewest};
+ghost use Rattle.served_conversions.specs.Passphrases.{DeedsStandAgainFor, UsedAnyNumberOfTimes};
 
 use cipher_laws::SectorCipher;
+use converted_beside::conversions_end_beside_clients;
 use disk_areas::images_are_taken;
 use luks_bin::copies_are_spelt;
 use luks_copies::copies_are_read;
@@ -63,4 +65,27 @@ pub fn stops_beside_clients_stand_under_passphrases<C: SectorCipher>()
     sides_give_their_keys();
     conversions_go_on_under_their_passphrase::<C>();
     tables_are_of_deeds::<C>();
+}
+
+/// A volume began under the keys that the keyslots give to a passphrase, on one disk whose bytes stood for a
+/// content under it, and deeds of clients and of the worker led its conversion to the end. As long as no
+/// write or sync failed, and no operation is under way, the operations are those of the plain disk that
+/// held that content for certain, and the bytes that the disk tells stand, under the same passphrase, for
+/// the newest values that these operations leave: the header that they have converts nothing.
+pub fn ends_beside_clients_stand_under_passphrases<C: SectorCipher>()
+    ensures { EndsStandForNewest C.sector C.sealed C.opened }
+{
+    begun_conversions_start::<C>();
+    keys_seal_lawfully::<C>();
+    every_conversion_is_served::<C>();
+    conversions_stand_where_they_stop::<C>();
+    deeds_leave_the_rest::<C>();
+    copies_are_read();
+    images_are_taken();
+    copies_are_spelt();
+    used_copies_are_headers();
+    headers_stand_in_front();
+    sides_are_told();
+    sides_give_their_keys();
+    conversions_end_beside_clients::<C>();
 }

@@ -1,3 +1,0 @@
-pub mod ValueLemmas
-pub mod AgainLemmas
-pub mod ForLemmas
