@@ -1,0 +1,4 @@
+pub mod HeaderLemmas
+pub mod LinkLemmas
+pub mod MapLemmas
+pub mod VolumeLemmas
