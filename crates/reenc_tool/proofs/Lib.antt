@@ -2,12 +2,15 @@ mod AgainForLemmas
 mod BesideLemmas
 mod ConcludingLemmas
 mod EndForLemmas
+mod IdleLemmas
 mod MakingLemmas
 mod KeptLemmas
 mod MidwayLemmas
 mod PlayedLemmas
 mod QuietLemmas
 mod RefusedLemmas
+mod RestAtoms
+mod RestLemmas
 mod ResumingLemmas
 mod RunLemmas
 mod ServedLemmas

@@ -175,7 +175,7 @@ module _ {C : Type 0} {sector : C → ℕ} {sealed opened : C → ℕ → List �
       }
 
 -- ---- at the end
-none-open : (o : Option Open) → ((x : Open) → o ≡ Some x → ⊥) → o ≡ None
+pub none-open : (o : Option Open) → ((x : Open) → o ≡ Some x → ⊥) → o ≡ None
 none-open None never = refl
 none-open (Some x) never = absurd (never x refl)
 

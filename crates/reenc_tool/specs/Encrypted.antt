@@ -1,5 +1,6 @@
 -- What `serve` did on an encrypted volume.
-use Rattle.std.specs.Prelude.{ℕ, ◌≡◌, ◌≢◌, ◌+◌, false, List, [], Option, Some, None, Result, Err}
+use Rattle.std.specs.Prelude.{ℕ, ◌≡◌, ◌≢◌, ◌+◌, ◌<◌, false, List, [], length, Option, Some, None}
+use Rattle.std.specs.Prelude.{Result, Err}
 use Rattle.aes_core.specs.declared.cipher.Aes.{Aes}
 use Rattle.bays.specs.Bays.{FaultCounts, Holdings, LeavesAll}
 use Rattle.bays.specs.declared.bay.BayFault.{BayFault}
@@ -9,6 +10,8 @@ use Rattle.header_report.specs.Examinations.{sizes_alone}
 use Rattle.joined_disk.specs.Joined.{Joint, joined_disk}
 use Rattle.sector_cipher.specs.declared.disk.DiskCipher.{DiskCipher}
 use Rattle.sector_disk.specs.Devices.{Device as DiskState}
+use Rattle.served_conversions.specs.Ends.{StandsForNewest}
+use Rattle.volume_machine.specs.Answers.{untagged}
 use Rattle.volume_machine.specs.Runs.{Happening, IsRun}
 use Rattle.volume_machine.specs.Seals.{Seals, seals_of}
 use Rattle.volume_machine.specs.States.{State}
@@ -17,11 +20,13 @@ use Rattle.volume_opening.specs.Refusals.{AreOf, IsUnopenedBy}
 use Rattle.volume_opening.specs.Stops.{StandsAlong}
 use Rattle.volume_opening.specs.declared.refusal.Refusal.{Refusal}
 use Rattle.volume_opening.specs.declared.refusal.Refusal.TheVariants.{InProgress}
+use Rattle.reenc_tool.specs.declared.ended.Cause.TheVariants.{Fine}
 use Rattle.reenc_tool.specs.declared.ended.Failing.TheVariants.{Keying}
 use Rattle.reenc_tool.specs.declared.volume_refusal.VolumeRefusal.TheVariants.{Opening}
 use Rattle.reenc_tool.specs.Linking.{AsksLinks, IsLinked}
 use Rattle.reenc_tool.specs.Outcomes.{Coming, Outcome, cause_of_fault, ended_by, none_came}
 use Rattle.reenc_tool.specs.Runs.{HasServed, VolumeKeys}
+use Rattle.reenc_tool.specs.Sessions.{most_events}
 use Rattle.reenc_tool.specs.Status.{cause_of_refusal}
 
 -- what asking a bay for a key file does, by its name and the answer
@@ -54,6 +59,10 @@ pub record RanOver {D L : Type 0} (device : D → DiskState) (state : L → Link
 -- sealed by ciphers under the key that the passphrase has there. Where the disk told its bytes,
 -- then wherever a run of events stops, as the one of the sessions, each image stands by itself,
 -- under the passphrase, for a content that is allowed, and nothing is being converted by its header.
+-- And where all was fine behind sessions, and the history isn't full, the bytes that are left stand,
+-- under the passphrase and by a header that converts nothing, for the newest values that clients
+-- gave: those that the operations of its sessions leave on the plain disk that held for certain what
+-- the disk stood for.
 pub record HasOpenedVolume {B D L : Type 0} (device : D → DiskState) (state : L → LinkState)
     (holdings : B → Holdings D) (asks_links : AsksLinks B L) (serve : Serving) (pass : List ℕ)
     (disk : D) (between new : B) (outcome : Outcome D L) : Type 0 where
@@ -66,6 +75,11 @@ pub record HasOpenedVolume {B D L : Type 0} (device : D → DiskState) (state : 
       → (run : List (Happening VolumeKeys)) → IsRun start run
       → StandsAlong (sizes_alone (device disk)) pass start
       (seals_of sealed opened start.map.atom start.keys) run
+  pub at_rest : (first : List ℕ) → (told : (device disk).values ≡ Some first) → (begun : List L)
+      → (ran : RanOver device state start (seals_of sealed opened start.map.atom start.keys) begun
+      outcome) → ran.came.cause ≡ Fine → length ran.served.run < most_events
+      → StandsForNewest (sizes_alone (device disk)) pass start.map.atom
+      (volume.starts first told).content (untagged ran.served.operations) ran.left
   pub linked : IsLinked state holdings asks_links serve between new
       (λ cause links. HandsBack device start.disk (none_came cause links) outcome)
       (λ begun. RanOver device state start

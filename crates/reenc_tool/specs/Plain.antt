@@ -1,22 +1,25 @@
 -- What `serve` did on a plain disk.
-use Rattle.std.specs.Prelude.{ℕ, ◌≡◌, ◌⊎◌, ◌<◌, List, [], Some, None}
+use Rattle.std.specs.Prelude.{ℕ, ◌≡◌, ◌⊎◌, ◌<◌, List, [], length, Some, None}
 use Rattle.bays.specs.Bays.{Holdings}
 use Rattle.bays.specs.Stories.{LinkState}
 use Rattle.command_line.specs.Commands.{Serving}
+use Rattle.plain_disk.specs.Plain.{Block, Exchange, Legal, newest_bytes}
 use Rattle.sector_disk.specs.Cells.{AreSettled}
 use Rattle.sector_disk.specs.Devices.{Device as DiskState}
 use Rattle.sector_disk.specs.Steps.{Told}
 use Rattle.volume_laws.specs.Contents.{plain_blocks}
 use Rattle.volume_laws.specs.Promises.{Starts, TellsSettled}
+use Rattle.volume_machine.specs.Answers.{untagged}
 use Rattle.volume_machine.specs.Beginnings.{ChangeNothing, IsFresh, IsWholeDisk}
 use Rattle.volume_machine.specs.Seals.{Seals}
 use Rattle.volume_machine.specs.Sound.{IsSound, AreApart}
 use Rattle.volume_machine.specs.States.{State}
-use Rattle.reenc_tool.specs.declared.ended.Cause.TheVariants.{Memory, NoFit}
+use Rattle.reenc_tool.specs.declared.ended.Cause.TheVariants.{Fine, Memory, NoFit}
 use Rattle.reenc_tool.specs.declared.ended.Fit.TheVariants.{Blocks}
 use Rattle.reenc_tool.specs.Linking.{AsksLinks, IsLinked}
 use Rattle.reenc_tool.specs.Outcomes.{Coming, Outcome, ended_by, unserved}
 use Rattle.reenc_tool.specs.Runs.{HasServed, VolumeKeys}
+use Rattle.reenc_tool.specs.Sessions.{most_events}
 
 -- the volume of a disk, as it is, before any operation
 pub record IsPlainVolume (device : DiskState) (seals : Seals) (start : State VolumeKeys) : Type
@@ -30,9 +33,18 @@ pub record IsPlainVolume (device : DiskState) (seals : Seals) (start : State Vol
   pub apart : AreApart start.map
   pub nothing : ChangeNothing seals
 
+-- The operations are legal on the plain disk of these blocks, and what a disk tells are the newest
+-- values that they leave, one after the other.
+pub record TellsNewest (atom : ℕ) (blocks : List Block) (exchanges : List Exchange)
+    (disk : DiskState) : Type 0 where
+  pub left : List Block
+  pub legal : Legal atom blocks exchanges left
+  pub told : disk.values ≡ Some (newest_bytes left)
+
 -- Sessions were served on a disk that was handed in, over these links, and it is handed back. Runs
 -- start from the plain disk that the disk told then; where it told each atom for certain, they
--- start so.
+-- start so. Where all was fine, and the history isn't full, the disk tells the newest values that
+-- clients gave: those that the operations of its sessions leave.
 pub record Ran {D L : Type 0} (device : D → DiskState) (state : L → LinkState) (disk : D)
     (begun : List L) (outcome : Outcome D L) : Type 0 where
   pub start : State VolumeKeys
@@ -47,6 +59,10 @@ pub record Ran {D L : Type 0} (device : D → DiskState) (state : L → LinkStat
       Starts start seals (plain_blocks start bytes) bytes
   pub certain : (bytes : List ℕ) (before : Told) → start.disk.values ≡ Some bytes →
       start.disk.told ≡ Some before → AreSettled before.now → TellsSettled start bytes
+  pub at_rest : (bytes : List ℕ) → start.disk.values ≡ Some bytes → came.cause ≡ Fine
+      → length served.run < most_events
+      → TellsNewest start.map.atom (plain_blocks start bytes) (untagged served.operations)
+      (device back)
 
 -- Memory was wanted before the first session, once the volume was made: a disk is handed back that shows
 -- what it showed.

@@ -29,7 +29,7 @@ use std::alloc::Global;
 use std::sync::Wait;
 use std::thread::Threads;
 use volume_core::Volume;
-use volume_laws::plain_volumes_start;
+use volume_laws::{every_run_is_served, executions_join, plain_volumes_start};
 
 /// Serves sessions over links on a disk that has a block, as it is, and hands both back. The volume gets
 /// so many lanes: one for each link, and one that no conversion needs.
@@ -55,6 +55,8 @@ where
         ⊎ (outcome_of result ≡ unserved Cause.Memory (Some disk) links.items) }
 {
     plain_volumes_start::<Context>();
+    every_run_is_served::<Context>();
+    executions_join::<Context>();
     match Volume::plain(alloc, disk, lanes) {
         Ok(volume) => {
             let (disk, sessions) = serve_volume(rt, alloc, volume, links, gate, false);
@@ -206,27 +208,29 @@ where
 /// What holds at the end is `Came` of `specs/`, before the text is printed. Where sessions were served
 /// they are sessions of the protocol over the bytes that the links' connections gave, at once where
 /// there are several links, and their operations are one legal history of a plain disk: the one that
-/// was handed in, or the content that it stands for under the passphrase of the key file. So it is
-/// also where a conversion is under way, which stays where it is, or is led on by the volume's worker
-/// meanwhile: then the command is fine only where it came to its end, at which every block is new, by
-/// a header that converts nothing, and holds its newest value. The pass that is handed back knows that
-/// history, and the worker's steps in it, entry by entry. The disk's tables are those of its device
-/// calls, and wherever the run stops the disk holds what it allows. Of a header all lines are told, or
-/// why there is none; the disk is read alone. A new volume is what the words wish, made of 32 bytes
-/// that the seeds gave once, and its header and its keyslot's area are written and nothing else. A
-/// conversion is what the words wish too, by 32 bytes that the seeds gave once: where it was begun,
-/// and in each image that a stop leaves from the first sync on, the disk stands for the content that
-/// it stood for under the passphrase. A conversion that is led to its end was opened under the keys
-/// that the passphrase has on both sides, where the disk tells its bytes, else under keys of the
-/// digests of both; and it was led on by steps of the volume's worker alone: at its end every block is
-/// new, by a header that converts nothing. Where the disk told its bytes, and they stood for a content
-/// under the passphrase, each image that a stop leaves of the opening or of the worker stands for that
-/// content, whatever the conversion ended with, and at its end each block holds it. Each cause has its
-/// reason. The bay is asked once for the disk, once for the header's and once for a key file, each
-/// where the words name one, and for clients once for the links, and for nothing else. The text
-/// changes the cause only where all was fine: to `Output` where it can't be put and pushed out, to
-/// `Memory` where memory is wanted for it. Words that ask for nothing leave the bay as it was, and
-/// those of other commands than `format` and `init` the seeds.
+/// was handed in, or the content that it stands for under the passphrase of the key file. So it is also
+/// where a conversion is under way, which stays where it is, or is led on by the volume's worker
+/// meanwhile: then the command is fine only where it came to its end, at which every block is new, by a
+/// header that converts nothing, and holds its newest value. By the pass that is handed back all events
+/// of clients, and the worker's steps, are known, entry by entry. The disk's tables are those of their
+/// device calls, and wherever the run stops the disk holds what that history allows. Where all was
+/// fine, the bytes that a plain disk tells then are the newest values, and those of an encrypted volume
+/// of which nothing is being converted stand for them under the passphrase. Of a header all lines are
+/// told, or why there is none; the disk is read alone. A new volume is what the words wish, made of 32
+/// bytes that the seeds gave once, and its header and its keyslot's area are written and nothing else.
+/// A conversion is what the words wish too, by 32 bytes that the seeds gave once: where it was begun,
+/// and in each image that a stop leaves from the first sync on, the disk stands for the content that it
+/// stood for under the passphrase. A conversion that is led to its end was opened under the keys that
+/// the passphrase has on both sides, where the disk tells its bytes, else under keys of the digests of
+/// both; and it was led on by steps of the volume's worker alone: at its end every block is new, by a
+/// header that converts nothing. Where the disk told its bytes, and they stood for a content under the
+/// passphrase, each image that a stop leaves of the opening or of the worker stands for that content,
+/// whatever the conversion ended with, and at its end each block holds it. Each cause has its reason.
+/// The bay is asked once for the disk, once for the header's and once for a key file, each where the
+/// words name one, and for clients once for the links, and for nothing else. The text changes the cause
+/// only where all was fine: to `Output` where it can't be put and pushed out, to `Memory` where memory
+/// is wanted for it. Words that ask for nothing leave the bay as it was, and those of other commands
+/// than `format` and `init` the seeds.
 pub fn run<'w, W: Threads + Wait + Sync, B: Bay, R: Seeds, O: Sink, G: Gate + Sync>(
     rt: &W,
     alloc: Global,

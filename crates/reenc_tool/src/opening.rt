@@ -31,6 +31,8 @@ use io_edge::Gate;
 use joined_disk::JoinedDisk;
 use lanes_beside::executions_join_beside;
 use luks_copies::copies_are_read;
+use luks_slots::keys_are_in_areas;
+use luks_store::headers_stand_in_front;
 use resume_disk::{Refused, standing_conversions_end, take_up_conversion};
 use resumed_volumes::{
     begun_conversions_start, conversions_go_on_under_their_passphrase,
@@ -48,6 +50,7 @@ use std::alloc::Global;
 use std::sync::Wait;
 use std::thread::Threads;
 use volume_core::Volume;
+use volume_laws::{every_run_is_served, executions_join};
 use volume_opening::{Refusal, Unopened, open_by_passphrase, opened_volumes_stand_along};
 
 /// Why no volume was opened, of which nothing is being converted, or of which something is.
@@ -161,6 +164,10 @@ where
         (serving words.now) pass.now disk bay.old bay.new (outcome_of result) }
 {
     opened_volumes_stand_along::<Context>();
+    every_run_is_served::<Context>();
+    executions_join::<Context>();
+    keys_are_in_areas();
+    headers_stand_in_front();
     passphrases_give_keys::<Context>();
     found_keys_are_given();
     standing_conversions_end::<B::Disk>();

@@ -6,5 +6,5 @@ mod ServeLemmas
 pub mod ValueLemmas
 pub mod AgainLemmas
 pub mod ForLemmas
-mod CountLemmas
+pub mod CountLemmas
 mod EndLemmas

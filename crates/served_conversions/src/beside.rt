@@ -67,11 +67,12 @@ pub fn stops_beside_clients_stand_under_passphrases<C: SectorCipher>()
     tables_are_of_deeds::<C>();
 }
 
-/// A volume began under the keys that the keyslots give to a passphrase, on one disk whose bytes stood for a
-/// content under it, and deeds of clients and of the worker led its conversion to the end. As long as no
-/// write or sync failed, and no operation is under way, the operations are those of the plain disk that
-/// held that content for certain, and the bytes that the disk tells stand, under the same passphrase, for
-/// the newest values that these operations leave: the header that they have converts nothing.
+/// A volume whose conversion is guarded by a journal or by checksum began under the keys that the keyslots
+/// give to a passphrase, on one disk whose bytes stood for a content under it, and deeds of clients and of
+/// the worker led its conversion to the end. As long as no write or sync failed, and no operation is under
+/// way, the operations are those of the plain disk that held that content for certain, and the bytes that
+/// the disk tells stand, under the same passphrase, for the newest values that these operations leave: the
+/// header that they have converts nothing.
 pub fn ends_beside_clients_stand_under_passphrases<C: SectorCipher>()
     ensures { EndsStandForNewest C.sector C.sealed C.opened }
 {

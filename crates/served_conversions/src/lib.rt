@@ -15,9 +15,9 @@
 //! stands, by the header that it has itself, for a content that the operations allow: so the next opening
 //! begins with it, and what clients were told to be kept is kept: under the keys of its sides
 //! ([`stops_beside_clients_stand_again`]), and under the passphrase, any number of times
-//! ([`stops_beside_clients_stand_under_passphrases`]). Once the worker came to the end, the bytes that the
-//! disk tells stand, under the same passphrase, for the newest values that clients gave, by a header that
-//! converts nothing ([`ends_beside_clients_stand_under_passphrases`]): so the volume is opened as any other
+//! ([`stops_beside_clients_stand_under_passphrases`]). Once the worker came to the end, nothing failed and no
+//! operation is under way, the bytes that the disk tells stand, under the same passphrase, for the newest
+//! values that clients gave, by a header that converts nothing ([`ends_beside_clients_stand_under_passphrases`]): so the volume is opened as any other
 //! one. `resumed_volumes` says this of a worker alone, and `converted_beside` what each block holds at the
 //! end under the keys of the volume.
 #![tactic(auto)]

@@ -1,5 +1,6 @@
 use Rattle.std.proofs.Common.{◌∙◌, None, Some, inl, inr, ap, length, ⊎_elim}
 use Rattle.std.proofs.lemmas.List.{length-replicate}
+use Rattle.reenc_tool.proofs.IdleLemmas.{RunLaws, plain-at-rest}
 use Rattle.reenc_tool.proofs.RunLemmas.{fresh_as_it_is, plain_certain, plain_volume}
 use Rattle.reenc_tool.proofs.RunLemmas.{served_alone, shared_as_it_is, sound_as_it_is, tells_start}
 use Rattle.reenc_tool.specs.Outcomes.{ended_by}
@@ -42,6 +43,10 @@ returns-in-Ok-clause-ended g c =
     ⊎_elim
     (λ ran.
     let served = served_alone _ _ start _ _ _ _ made.fresh ran in
+    let runs : RunLaws = record {
+      serves = c.every_run_is_served.ensures;
+      untagged_are = c.executions_join.ensures.untagged;
+    } in
     inl (record {
       start = start;
       seals = _;
@@ -55,6 +60,11 @@ returns-in-Ok-clause-ended g c =
           c.plain_volumes_start.ensures.starts start _ bytes made.sound made.fresh made.apart
           volume.whole served.lawful made.keys is (tells.whole bytes is) (tells.are_bytes bytes is);
       certain = plain_certain start tells;
+      at_rest = λ bytes is fine few.
+          plain-at-rest runs _ start _ _ _ _ served made.sound tells volume.whole made.keys bytes is
+          (c.plain_volumes_start.ensures.starts start _ bytes made.sound made.fresh made.apart
+          volume.whole served.lawful made.keys is (tells.whole bytes is) (tells.are_bytes bytes is))
+          fine few;
     }))
     (λ none. inr (inl (record {
       back = back;

@@ -1,8 +1,10 @@
 use Rattle.std.proofs.Common.{◌+◌, ◌∙◌, inl, inr, ⊎_elim}
 use Rattle.reenc_tool.proofs.AgainForLemmas.{ForLaws, again-for}
 use Rattle.reenc_tool.proofs.EndForLemmas.{ran-midway}
+use Rattle.reenc_tool.proofs.IdleLemmas.{RunLaws, idle-at-rest}
 use Rattle.reenc_tool.proofs.MidwayLemmas.{MidwayLaws, keeps-beside}
 use Rattle.reenc_tool.proofs.RefusedLemmas.{not-taken-up}
+use Rattle.reenc_tool.proofs.RestLemmas.{RestLaws}
 use Rattle.reenc_tool.proofs.RunLemmas.{linked_so, ran_as_it_is}
 use Rattle.reenc_tool.proofs.TakenLemmas.{any-idle, any-lanes, any-shared}
 use Rattle.reenc_tool.proofs.opening.serve_under.Goals as goal
@@ -33,8 +35,18 @@ returns-in-Ok-clause-ended g c =
     let volume = c.in-Ok.volume in
     let pass = c.args.pass.now in
     let lanes = c.args.words.now.workers + 1 in
-    let geometry = (g.met.B.Disk.Disk g.world.𝓛 g.world.𝓜 g.world.𝓡
-    ((λ s x. x), (λ x. x), (λ x. x), λ x. x)).geometry c.args.disk in
+    let own = g.met.B.Disk.Disk g.world.𝓛 g.world.𝓜 g.world.𝓡
+    ((λ s x. x), (λ x. x), (λ x. x), λ x. x) in
+    let geometry = own.geometry c.args.disk in
+    let runs : RunLaws = record {
+      serves = c.every_run_is_served.ensures;
+      untagged_are = c.executions_join.ensures.untagged;
+    } in
+    let rest : RestLaws = record {
+      areas = c.keys_are_in_areas.ensures;
+      fronts = c.headers_stand_in_front.ensures.loads;
+      begins = c.headers_stand_in_front.ensures.areas;
+    } in
     let laws : MidwayLaws _ _ _ = record {
       openings = c.openings_of_conversions_keep_content.ensures.opened;
       begins = c.resumed_conversions_keep_content.ensures.begins;
@@ -60,6 +72,9 @@ returns-in-Ok-clause-ended g c =
       volume = by;
       stands = λ first told run is_run. c.opened_volumes_stand_along.ensures device pass first lanes
           volume run by told is_run;
+      at_rest = λ first told begun ran fine few. idle-at-rest runs rest g.B.Disk.Disk.device
+          g.B.Link.Link.state c.args.disk pass lanes volume by geometry
+          (λ bytes is. own.whole c.args.disk bytes is) _ first told begun ran fine few;
       linked = linked_so _ _ _ _ _ _ _ _ _ (λ begun ran. ran_as_it_is _ _ _ volume _ begun _ by.fresh
           ran) c.serve_opened.ensures.linked;
     })))
