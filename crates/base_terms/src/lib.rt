@@ -8,8 +8,6 @@ mod buffer;
 mod bytes;
 mod error_numbers;
 mod failed;
-#[cfg(test)]
-mod tests;
 mod vectors;
 
 pub use buffer::Buffer;

@@ -38,6 +38,3 @@ impl BlockRange {
         self.start.max(other.start) < self.end.min(other.end)
     }
 }
-
-#[cfg(test)]
-mod tests;

@@ -27,8 +27,6 @@ mod leavings;
 mod link;
 mod port;
 mod serving;
-#[cfg(test)]
-mod tests;
 mod worker;
 mod workers;
 

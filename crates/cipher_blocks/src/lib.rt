@@ -17,5 +17,3 @@ mod block;
 mod eight;
 mod numbers;
 mod rows;
-#[cfg(test)]
-mod tests;

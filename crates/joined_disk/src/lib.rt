@@ -12,6 +12,3 @@ mod calls;
 mod joined;
 
 pub use joined::JoinedDisk;
-
-#[cfg(test)]
-mod tests;

@@ -19,8 +19,6 @@ mod header;
 mod hidden;
 mod laws;
 mod reading;
-#[cfg(test)]
-mod tests;
 mod writing;
 
 pub use areas::json_text;

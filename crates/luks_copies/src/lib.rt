@@ -19,6 +19,3 @@ pub use laws::{
     copies_mean_what_they_share,
 };
 pub use repair::{Repair, RepairStage};
-
-#[cfg(test)]
-mod tests;

@@ -14,8 +14,6 @@ mod drawn;
 mod identifier;
 mod laws;
 mod metadata;
-#[cfg(test)]
-mod tests;
 mod wish;
 
 pub use drawn::{Drawn, drawn_len, split_drawn};

@@ -16,8 +16,6 @@ mod beginning;
 mod fault;
 mod laws;
 mod places;
-#[cfg(test)]
-mod tests;
 mod wish;
 
 pub use beginning::{Begun, begin};

@@ -23,8 +23,6 @@ mod replies;
 mod requests;
 mod session;
 mod spelling;
-#[cfg(test)]
-mod tests;
 
 pub use ending::SessionEnd;
 pub use nbd_hand::Export;

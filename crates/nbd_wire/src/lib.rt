@@ -23,8 +23,6 @@ mod parts;
 mod replies;
 mod requests;
 mod spelling;
-#[cfg(test)]
-mod tests;
 
 pub use chunks::{
     ChunkFlags, ChunkHead, ChunkType, ErrorAt, error_data, error_number, offset_and_content,

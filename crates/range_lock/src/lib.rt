@@ -11,8 +11,6 @@
 use block_range::BlockRange;
 
 mod table;
-#[cfg(test)]
-mod tests;
 
 pub use table::Table;
 

@@ -27,8 +27,6 @@ mod placement;
 mod reenc;
 mod runs;
 mod starting;
-#[cfg(test)]
-mod tests;
 mod token;
 mod wish;
 

@@ -8,8 +8,6 @@
 mod ends;
 mod port;
 mod running;
-#[cfg(test)]
-mod tests;
 
 pub use ends::{NoFit, WorkAnswer, WorkerEnd};
 pub use port::WorkerPort;

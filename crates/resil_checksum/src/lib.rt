@@ -14,6 +14,3 @@ mod judging;
 
 pub use digests::{capacity, fills_capacity, save, saved_len};
 pub use judging::{atoms_are_told, clash, judge};
-
-#[cfg(test)]
-mod tests;

@@ -11,9 +11,6 @@
 ghost use Rattle.std.specs.Prelude.{◌≡◌, IfOk};
 ghost use Rattle.seed_stream.specs.Streams.{GoOn, bytes_of_seed};
 
-#[cfg(test)]
-mod tests;
-
 use base_terms::zeros;
 use rand_chacha::ChaCha20Rng;
 use rand_core::SeedableRng;

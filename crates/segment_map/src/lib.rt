@@ -8,8 +8,6 @@
 #![tactic(auto)]
 
 mod map;
-#[cfg(test)]
-mod tests;
 
 pub use map::{Map, Piece};
 

@@ -42,8 +42,6 @@ mod machine;
 mod rule;
 mod shared;
 mod spent;
-#[cfg(test)]
-mod tests;
 
 pub use cell::{Cell, Pass};
 pub use history::{Call, Entry};

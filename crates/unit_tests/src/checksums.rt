@@ -1,0 +1,50 @@
+use resil_checksum::{capacity, clash, judge, save, saved_len};
+use resil_terms::Judged;
+use sha2::{Digest, Sha256};
+use std::alloc::AllocError;
+
+// What is saved of "abc" and "abd", by the digests that another implementation prints, in two lines
+// of 32 bytes, and with the two that fill the last atom.
+const SAVED: &str = "\
+    ba7816bf8f01cfea414140de5dae2223b00361a396177a9cb410ff61f20015ad\
+    a52d159f262b2c6ddb724a61840befc36eb30c88877a4030b65cbe86298449c9\
+    0000";
+
+#[test]
+fn a_zone_has_a_block_for_each_whole_digest(rt: HostRuntime) {
+    assert_eq!(rt; capacity(4096, 4096), 128);
+    assert_eq!(rt; capacity(4096, 512), 128);
+    assert_eq!(rt; capacity(63, 4096), 1);
+    assert_eq!(rt; capacity(31, 512), 0);
+    assert_eq!(rt; capacity(0, 512), 0);
+}
+
+#[test]
+fn digests_take_whole_atoms(rt: HostRuntime) {
+    assert_eq!(rt; saved_len(0, 512), 0);
+    assert_eq!(rt; saved_len(1, 512), 512);
+    assert_eq!(rt; saved_len(16, 512), 512);
+    assert_eq!(rt; saved_len(17, 512), 1024);
+    assert_eq!(rt; saved_len(128, 4096), 4096);
+}
+
+#[test]
+fn saved_digests_are_those_of_another_implementation(rt: HostRuntime) -> Result<(), AllocError> {
+    let mut out = [7; 66];
+    save(b"abcabd", 3, &mut out);
+    assert_eq!(rt; hex::encode(rt.alloc(), &out)?.as_str(), SAVED);
+    Ok(())
+}
+
+#[test]
+fn atoms_are_judged_by_their_digests(rt: HostRuntime) {
+    assert_eq!(rt; judge(b"abd", &Sha256::digest(b"abd")), Judged::Old);
+    assert_eq!(rt; judge(b"abd", &Sha256::digest(b"abc")), Judged::New);
+}
+
+#[test]
+fn lowest_clash_is_found(rt: HostRuntime) {
+    assert_eq!(rt; clash(b"abcabdabe", b"abxabdabe", 3), Some(1));
+    assert_eq!(rt; clash(b"abcabd", b"abdabc", 3), None);
+    assert_eq!(rt; clash(b"", b"", 3), None);
+}

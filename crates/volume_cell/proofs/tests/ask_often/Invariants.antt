@@ -1,9 +1,0 @@
-use Rattle.std.proofs.Common.{◌≡◌}
-use Rattle.volume_cell.specs.Knowing.{IsWhole}
-use Rattle.volume_cell.specs.Passes.{known, IsPassOf}
-use Rattle.volume_cell.proofs.tests.ask_often.Given as goal
-
-abbrev pub invariant-loop : goal.invariant-loop
-invariant-loop g l =
-    IsPassOf l.fn.cell l.pass × IsWhole (known l.pass)
-    × ((known l.pass).name ≡ (known l.initial.pass).name)
