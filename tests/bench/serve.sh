@@ -133,15 +133,11 @@ begin() {
     "$reencd" init disk.img --key-file key --iterations 1000 >/dev/null || fail init
 }
 
-is_idle() {
-    [ "$("$reencd" status disk.img | sed -n 's/^state: //p')" = idle ]
-}
-
-# Waits until the conversion is at its end, and tells its speed as the server does.
+# Waits until the server says that the conversion is at its end, and tells its speed as it does.
 speed_of_server() {
-    until is_idle; do
+    until grep -q ' 100.0 %' "$room/stderr"; do
         kill -0 "$server" 2>/dev/null || fail "the server ended: $(cat "$room/stderr")"
-        sleep 0.02
+        sleep 0.1
     done
     sed -n 's/^reencd: .* 100.0 %, \([0-9.]*\) MiB.*/\1/p' "$room/stderr"
 }

@@ -4,7 +4,8 @@
 The steps are those of `take`, `try_take`, `sleep`, `mark_again` and `wake` in
 crates/volume_cell/src/cell.rt, repeated here by hand. Each run has so many threads, of which each
 asks for so many turns, and a limit of the history. A run fails where a state is found from which no
-thread can go on although some have not returned: a sleeper that nobody wakes.
+thread can go on although some have not returned: a sleeper that nobody wakes. `give_way` is no step:
+a thread that gives way goes on by itself and wakes nobody, so it is one that comes later.
 """
 import sys
 from collections import deque
