@@ -1,6 +1,6 @@
 // The worker of a volume that threads share.
 
-ghost use Rattle.std.specs.Prelude.{◌≡◌, ◌+◌, [], IsSomeAnd};
+ghost use Rattle.std.specs.Prelude.{◌≡◌, ◌+◌, [], IsSomeAnd, None};
 ghost use Rattle.shared_volume.specs.Working.{HasWorker, IsWorkerOf};
 ghost use Rattle.volume_cell.specs.Knowing.{having_split};
 ghost use Rattle.volume_cell.specs.Passes.{IsPassOf, known};
@@ -60,6 +60,7 @@ impl<'c, R: Threads + Wait + Sync, D: Disk> SharedWorker<'c, R, D> {
         ensures shared { result.shared.now ≡ shared.now }
         ensures number { result.number ≡ number }
         ensures converted { result.converted ≡ converted }
+        ensures waits { result.waits ≡ None }
     {
         let pass = shared.cell.split(first);
         SharedWorker {
