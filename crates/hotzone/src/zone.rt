@@ -78,7 +78,10 @@ fn new_worker<C: SectorCipher + Copy>(
             next: begin_with(&site),
             halted: None,
         }),
-        Err(AllocError) => Err(AllocError),
+        Err(AllocError) => {
+            drop(loaded);
+            Err(AllocError)
+        }
     }
 }
 
@@ -100,7 +103,10 @@ impl<C: SectorCipher + Copy> Zone<C> {
         match new_worker(alloc, loaded, keys) {
             Ok(worker) => match new_scratch(alloc, &worker.site) {
                 Ok(scratch) => Ok(Zone { worker, scratch }),
-                Err(AllocError) => Err(AllocError),
+                Err(AllocError) => {
+                    drop(worker);
+                    Err(AllocError)
+                }
             },
             Err(AllocError) => Err(AllocError),
         }
