@@ -11,7 +11,7 @@ ghost use Rattle.sha2.specs.Sha256.{sha256};
 ghost use Rattle.disk_views.specs.Parts.{block_at};
 ghost use Rattle.volume_machine.specs.Seals.{KeysFit, seals_of};
 
-use crate::parts::reseal;
+use crate::parts::{count_parts, reseal};
 use crate::scratch::Scratch;
 use crate::site::{Guard, Site};
 use crate::worker::{Worker, ZoneFault};
@@ -143,7 +143,7 @@ impl<C: SectorCipher + Copy + Sync> Worker<C> {
         };
         reseal_into(rt, &self.keys, site.atom, piece, old, &mut scratch.sealed);
         let new = scratch.sealed.front(size);
-        match clash(old, new, site.atom) {
+        match clash(rt, old, new, site.atom, count_parts(size)) {
             Some(k) => Some(ZoneFault::DigestClash {
                 block: site.blocks.start + done + k,
                 digest: digest_of(old, site.atom, k),
@@ -155,8 +155,9 @@ impl<C: SectorCipher + Copy + Sync> Worker<C> {
 
 impl<C: SectorCipher + Copy> Worker<C> {
     /// Saves the digests of the part at hand.
-    pub(crate) fn save_digests<D: Disk>(
+    pub(crate) fn save_digests<R: Threads + Sync, D: Disk>(
         &self,
+        rt: &R,
         digests: &mut Buffer,
         done: u64,
         disk: &mut D,
@@ -174,7 +175,7 @@ impl<C: SectorCipher + Copy> Worker<C> {
         let size = site.bytes(done);
         let part = self.buffer.front(size);
         let len = site.digest_bytes(done);
-        lay_digests(part, site.atom, digests, len);
+        lay_digests(rt, part, site.atom, digests, len);
         let at = site.store + site.saved_at(done);
         let text = digests.front(len);
         disk.write(at, text)
@@ -182,7 +183,7 @@ impl<C: SectorCipher + Copy> Worker<C> {
 }
 
 /// Lays the digests of old atoms at the front of bytes, in so many of them.
-fn lay_front(old: &[u8], atom: u32, bytes: &mut [u8], len: usize)
+fn lay_front<R: Threads + Sync>(rt: &R, old: &[u8], atom: u32, bytes: &mut [u8], len: usize)
     requires some { 0 < atom }
     requires whole { length old.now % atom ≡ 0 }
     requires size { len ≡ saved_len (length old.now / atom) atom }
@@ -190,11 +191,11 @@ fn lay_front(old: &[u8], atom: u32, bytes: &mut [u8], len: usize)
     ensures saved { AreSaved atom (length old.now / atom) old.now (take len bytes.new) }
     ensures length { length bytes.new ≡ length bytes.old }
 {
-    save(old, atom, &mut bytes[..len]);
+    save(rt, old, atom, &mut bytes[..len], count_parts(old.len()));
 }
 
 /// So at the front of a buffer.
-fn lay_digests(old: &[u8], atom: u32, buffer: &mut Buffer, len: usize)
+fn lay_digests<R: Threads + Sync>(rt: &R, old: &[u8], atom: u32, buffer: &mut Buffer, len: usize)
     requires some { 0 < atom }
     requires whole { length old.now % atom ≡ 0 }
     requires size { len ≡ saved_len (length old.now / atom) atom }
@@ -202,5 +203,5 @@ fn lay_digests(old: &[u8], atom: u32, buffer: &mut Buffer, len: usize)
     ensures saved { AreSaved atom (length old.now / atom) old.now (take len buffer.new) }
     ensures length { length buffer.new ≡ length buffer.old }
 {
-    lay_front(old, atom, buffer.as_mut_slice(), len);
+    lay_front(rt, old, atom, buffer.as_mut_slice(), len);
 }

@@ -33,8 +33,8 @@ impl Site {
     }
 }
 
-/// In how many parts so many bytes are sealed: in four from 1 MiB on, in two from 256 KiB on.
-fn count_parts(len: usize) -> usize
+/// In how many parts threads work on so many bytes: in four from 1 MiB on, in two from 256 KiB on.
+pub(crate) fn count_parts(len: usize) -> usize
     ensures some { 0 < result }
     ensures few { result ≤ 16 }
 {
@@ -119,8 +119,9 @@ impl<C: SectorCipher + Copy> Worker<C> {
     }
 
     /// Saves the part at hand, by what guards the zone.
-    pub(crate) fn save_part<D: Disk>(
+    pub(crate) fn save_part<R: Threads + Sync, D: Disk>(
         &self,
+        rt: &R,
         scratch: &mut Scratch,
         done: u64,
         disk: &mut D,
@@ -134,7 +135,7 @@ impl<C: SectorCipher + Copy> Worker<C> {
     {
         match self.site.guard {
             Guard::Journal => self.save_atoms(done, disk),
-            Guard::Checksum => self.save_digests(&mut scratch.digests, done, disk),
+            Guard::Checksum => self.save_digests(rt, &mut scratch.digests, done, disk),
         }
     }
 

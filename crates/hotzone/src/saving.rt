@@ -72,12 +72,18 @@ impl<C: SectorCipher + Copy + Sync> Worker<C> {
     {
         match self.find_clash(rt, scratch, 0) {
             Some(fault) => give_up(fault, NextCall::SaveFirst),
-            None => self.save_made(alloc, scratch, disk),
+            None => self.save_made(rt, alloc, scratch, disk),
         }
     }
 
     /// The headers are made, and the first part is saved.
-    fn save_made<D: Disk>(&self, alloc: Global, scratch: &mut Scratch, disk: &mut D) -> Made
+    fn save_made<R: Threads + Sync, D: Disk>(
+        &self,
+        rt: &R,
+        alloc: Global,
+        scratch: &mut Scratch,
+        disk: &mut D,
+    ) -> Made
         requires fits { FitsDisk C.sector self.now (D.device disk.old) }
         requires room { HasRoom self.now.site scratch.old }
         requires tells { TellsPart (seals_of C.sealed C.opened self.now.site.atom self.now.keys)
@@ -90,13 +96,19 @@ impl<C: SectorCipher + Copy + Sync> Worker<C> {
         ensures scratch { IsAsLong scratch.old scratch.new }
     {
         match make_headers(alloc, &self.loaded, self.site.blocks.len()) {
-            Ok(headers) => self.save_with(scratch, headers, disk),
+            Ok(headers) => self.save_with(rt, scratch, headers, disk),
             Err(fault) => give_up(fault, NextCall::SaveFirst),
         }
     }
 
     /// The first part is saved.
-    fn save_with<D: Disk>(&self, scratch: &mut Scratch, headers: Headers, disk: &mut D) -> Made
+    fn save_with<R: Threads + Sync, D: Disk>(
+        &self,
+        rt: &R,
+        scratch: &mut Scratch,
+        headers: Headers,
+        disk: &mut D,
+    ) -> Made
         requires fits { FitsDisk C.sector self.now (D.device disk.old) }
         requires room { HasRoom self.now.site scratch.old }
         requires tells { TellsPart (seals_of C.sealed C.opened self.now.site.atom self.now.keys)
@@ -106,7 +118,7 @@ impl<C: SectorCipher + Copy + Sync> Worker<C> {
             (D.device disk.old) (D.device disk.new) self.now SaveFirst self.now result }
         ensures scratch { IsAsLong scratch.old scratch.new }
     {
-        match self.save_part(scratch, 0, disk) {
+        match self.save_part(rt, scratch, 0, disk) {
             Ok(()) => Made {
                 next: behind_save(&self.site, 0, headers),
                 answer: Ok(Stepped::Went),
@@ -137,13 +149,14 @@ impl<C: SectorCipher + Copy + Sync> Worker<C> {
     {
         match self.find_clash(rt, scratch, done) {
             Some(fault) => give_up(fault, NextCall::Save { done, headers }),
-            None => self.save_told(scratch, done, headers, disk),
+            None => self.save_told(rt, scratch, done, headers, disk),
         }
     }
 
     /// It is saved.
-    fn save_told<D: Disk>(
+    fn save_told<R: Threads + Sync, D: Disk>(
         &self,
+        rt: &R,
         scratch: &mut Scratch,
         done: u64,
         headers: Headers,
@@ -159,7 +172,7 @@ impl<C: SectorCipher + Copy + Sync> Worker<C> {
             (D.device disk.old) (D.device disk.new) self.now (Save done headers) self.now result }
         ensures scratch { IsAsLong scratch.old scratch.new }
     {
-        match self.save_part(scratch, done, disk) {
+        match self.save_part(rt, scratch, done, disk) {
             Ok(()) => Made {
                 next: behind_save(&self.site, done, headers),
                 answer: Ok(Stepped::Went),

@@ -1,12 +1,17 @@
 // What digests tell of atoms.
 
-ghost use Rattle.std.specs.Prelude.{◌≡◌, ◌≢◌, ◌/◌, ◌%◌, ◌<◌, ◌↔◌, length, MatchOption};
+ghost use Rattle.std.specs.Prelude.{◌≡◌, ◌≢◌, ◌+◌, ◌*◌, ◌/◌, ◌%◌, ◌<◌, ◌≤◌, ◌↔◌, length};
+ghost use Rattle.std.specs.Prelude.{MatchOption};
 ghost use Rattle.sha2.specs.Sha256.{sha256};
-ghost use Rattle.resil_checksum.specs.Clashes.{AllDiffer, IsLowestClash};
+ghost use Rattle.resil_checksum.specs.Clashes.{AllDiffer, AllDifferIn, IsFirstClash};
+ghost use Rattle.resil_checksum.specs.Clashes.{IsLowestClash, part_start};
 ghost use Rattle.resil_checksum.specs.Promises.{AtomsTold};
 
+use crate::parts::part_of;
 use resil_terms::Judged;
 use sha2::{Digest, Sha256};
+use std::thread;
+use std::thread::Threads;
 
 /// For what a block of an open zone stands, by the atom in its place and the 32 bytes that were
 /// saved of it: for that atom as an old one where these are its digest, else as a new one.
@@ -21,21 +26,72 @@ pub fn judge(own: &[u8], saved: &[u8]) -> Judged
     }
 }
 
-/// The lowest of a zone's blocks, counted from 0, whose old atom and new one have the same digest,
-/// so that it would not tell them apart; None exactly where there is none. Both are whole atoms of
-/// `atom` bytes, as many of the one as of the other.
-pub fn clash(old: &[u8], new: &[u8], atom: u32) -> Option<u64>
-    requires some { 0 < atom }
-    requires whole { length old.now % atom ≡ 0 }
+/// The lowest of the blocks from one to another whose old atom and new one have the same digest.
+fn first_clash(old: &[u8], new: &[u8], atom: u32, from: usize, to: usize) -> Option<u64>
+    requires within { to * atom ≤ length old.now }
     requires equal { length new.now ≡ length old.now }
-    ensures { MatchOption result (AllDiffer atom (length old.now / atom) old.now new.now)
-        (IsLowestClash atom (length old.now / atom) old.now new.now) }
+    ensures { MatchOption result (AllDifferIn atom from to old.now new.now)
+        (IsFirstClash atom from to old.now new.now) }
 {
     let size = atom as usize;
-    for i in 0..old.len() / size {
+    for i in from..to {
         let at = i * size;
         if Sha256::digest(&old[at..at + size]) == Sha256::digest(&new[at..at + size]) {
             return Some(i as u64);
+        }
+    }
+    None
+}
+
+/// So among the blocks of one of the parts, which have so many blocks each.
+fn clash_in(old: &[u8], new: &[u8], atom: u32, run: usize, part: usize) -> Option<u64>
+    requires some { 0 < atom }
+    requires equal { length new.now ≡ length old.now }
+    ensures { MatchOption result
+        (AllDifferIn atom (part_start (length old.now / atom) run part)
+        (part_start (length old.now / atom) run (part + 1)) old.now new.now)
+        (IsFirstClash atom (part_start (length old.now / atom) run part)
+        (part_start (length old.now / atom) run (part + 1)) old.now new.now) }
+{
+    let blocks = old.len() / atom as usize;
+    let start = part.saturating_mul(run);
+    let end = start.saturating_add(run);
+    first_clash(old, new, atom, start.min(blocks), end.min(blocks))
+}
+
+/// The lowest of a zone's blocks, counted from 0, whose old atom and new one have the same digest,
+/// so that it would not tell them apart; None exactly where there is none. Both are whole atoms of
+/// `atom` bytes, as many of the one as of the other. They are cut into at most `parts` runs, each
+/// with a thread of its own where one can be started; the answer is the same for every number of
+/// parts.
+pub fn clash<R: Threads + Sync>(
+    rt: &R,
+    old: &[u8],
+    new: &[u8],
+    atom: u32,
+    parts: usize,
+) -> Option<u64>
+    requires some { 0 < atom }
+    requires whole { length old.now % atom ≡ 0 }
+    requires equal { length new.now ≡ length old.now }
+    requires parts { (0 < parts) × (parts ≤ 16) }
+    ensures { MatchOption result (AllDiffer atom (length old.now / atom) old.now new.now)
+        (IsLowestClash atom (length old.now / atom) old.now new.now) }
+{
+    let run = part_of(old.len() / atom as usize, parts);
+    let look = move |part: usize, found: &mut Option<u64>|
+        requires { (0 < atom) × (length new.now ≡ length old.now) }
+        ensures { MatchOption found.exit.now
+            (AllDifferIn atom (part_start (length old.entry.now / atom) run part)
+            (part_start (length old.entry.now / atom) run (part + 1)) old.entry.now new.entry.now)
+            (IsFirstClash atom (part_start (length old.entry.now / atom) run part)
+            (part_start (length old.entry.now / atom) run (part + 1)) old.entry.now new.entry.now) }
+    { *found = clash_in(old, new, atom, run, part) };
+    let mut found = [None; 16];
+    thread::for_each_mut(rt, &mut found[..parts], parts, &look);
+    for part in 0..parts {
+        if found[part].is_some() {
+            return found[part];
         }
     }
     None

@@ -6,11 +6,13 @@
 //!
 //! The layer above may rely on [`save`], whose bytes are the digests in the order of the blocks, on
 //! [`clash`], on [`judge`], whose answers [`atoms_are_told`] says to be right, and on [`capacity`]
-//! and [`saved_len`], which [`fills_capacity`] ties to each other. No call takes memory.
+//! and [`saved_len`], which [`fills_capacity`] ties to each other. [`save`] and [`clash`] have
+//! threads take parts of the work. No call takes memory.
 #![tactic(auto)]
 
 mod digests;
 mod judging;
+mod parts;
 
 pub use digests::{capacity, fills_capacity, save, saved_len};
 pub use judging::{atoms_are_told, clash, judge};

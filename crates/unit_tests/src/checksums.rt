@@ -30,9 +30,11 @@ fn digests_take_whole_atoms(rt: HostRuntime) {
 
 #[test]
 fn saved_digests_are_those_of_another_implementation(rt: HostRuntime) -> Result<(), AllocError> {
-    let mut out = [7; 66];
-    save(b"abcabd", 3, &mut out);
-    assert_eq!(rt; hex::encode(rt.alloc(), &out)?.as_str(), SAVED);
+    for parts in 1..4 {
+        let mut out = [7; 66];
+        save(&rt, b"abcabd", 3, &mut out, parts);
+        assert_eq!(rt; hex::encode(rt.alloc(), &out)?.as_str(), SAVED);
+    }
     Ok(())
 }
 
@@ -44,7 +46,9 @@ fn atoms_are_judged_by_their_digests(rt: HostRuntime) {
 
 #[test]
 fn lowest_clash_is_found(rt: HostRuntime) {
-    assert_eq!(rt; clash(b"abcabdabe", b"abxabdabe", 3), Some(1));
-    assert_eq!(rt; clash(b"abcabd", b"abdabc", 3), None);
-    assert_eq!(rt; clash(b"", b"", 3), None);
+    for parts in 1..5 {
+        assert_eq!(rt; clash(&rt, b"abcabdabe", b"abxabdabe", 3, parts), Some(1));
+        assert_eq!(rt; clash(&rt, b"abcabd", b"abdabc", 3, parts), None);
+        assert_eq!(rt; clash(&rt, b"", b"", 3, parts), None);
+    }
 }

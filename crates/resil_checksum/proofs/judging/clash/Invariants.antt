@@ -1,6 +1,8 @@
-use Rattle.resil_checksum.specs.Clashes.{AllDiffer}
+use Rattle.std.specs.Prelude.{◌/◌, length}
+use Rattle.resil_checksum.specs.Clashes.{AllDiffer, part_start}
 use Rattle.resil_checksum.proofs.judging.clash.Given as goal
 
--- none of the first i blocks clashes
-abbrev pub invariant-loop-i : goal.invariant-loop-i
-invariant-loop-i l = AllDiffer l.atom l.i l.old l.new
+-- none of the blocks of the first parts clashes
+abbrev pub invariant-loop-part : goal.invariant-loop-part
+invariant-loop-part g l =
+    AllDiffer l.atom (part_start (length l.old / l.atom) l.run l.part) l.old l.new

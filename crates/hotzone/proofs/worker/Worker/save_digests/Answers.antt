@@ -11,13 +11,13 @@ front-part-requires g c =
     (part-front c.args.self.now.site c.args.done _ c.requires.fits.room)
 
 pub lay_digests-requires-clause-whole : goal.lay_digests-requires-clause-whole
-lay_digests-requires-clause-whole g c =
+lay_digests-requires-clause-whole g c κs within =
     long-whole c.args.self.now.site c.args.done c.front-part.result.now
     (front-long c.args.self.now c.args.done c.bytes-size.result c.front-part.result.now
     c.requires.fits.room c.bytes-size.ensures c.front-part.ensures)
 
 pub lay_digests-requires-clause-size : goal.lay_digests-requires-clause-size
-lay_digests-requires-clause-size g c =
+lay_digests-requires-clause-size g c κs within =
     c.digest_bytes-len.ensures
     ∙ ap (λ n. saved_len n c.args.self.now.site.atom)
     (sym (long-count c.args.self.now.site c.args.done c.front-part.result.now
@@ -26,7 +26,7 @@ lay_digests-requires-clause-size g c =
     c.requires.fits.room c.bytes-size.ensures c.front-part.ensures)))
 
 pub lay_digests-requires-clause-room : goal.lay_digests-requires-clause-room
-lay_digests-requires-clause-room g c =
+lay_digests-requires-clause-room g c κs within =
     let less = digests-front c.args.self.now.site c.args.done c.requires.fits.known in
     let room = c.requires.room in
     let size = c.digest_bytes-len.ensures in

@@ -4,7 +4,7 @@ use Rattle.hotzone.specs.Steps.{saves_first, save_first_fails}
 use Rattle.hotzone.proofs.worker.Worker.save_with.Goals as goal
 
 pub save_part-requires-clause-start : goal.save_part-requires-clause-start
-save_part-requires-clause-start g c =
+save_part-requires-clause-start g c κs within =
     first-start c.args.self.now.site c.requires.fits.known
 
 pub returns-in-Ok-clause-makes : goal.returns-in-Ok-clause-makes
