@@ -20,51 +20,63 @@ mod checks;
 mod headers;
 mod members;
 
-use anyhow::{Result, anyhow};
-use std::alloc::Global;
+use anyhow::Result;
+use std::fs;
 use std::process::ExitCode;
-use std::{env, fs};
 
 /// What a row comes to.
 fn outcome(rt: &HostRuntime, columns: &[&str]) -> Result<String> {
-    let alloc = rt.alloc();
-    let Some(first) = columns.first() else {
-        return Err(anyhow!("a row without a column"));
-    };
-    let words: Vec<&str> = first.split(' ').collect(alloc)?;
-    match words.as_slice() {
-        ["meta", size] => headers::read(rt, size, columns),
-        ["rewrites", size] => headers::rewrite(rt, size, columns),
-        ["check", size, sizes @ ..] => checks::judge(rt, size, sizes, columns),
-        words => members::read(alloc, words, columns),
+    let what = columns.first().copied().unwrap_or("");
+    match what.split_once(' ') {
+        Some(("meta", size)) => headers::read(rt, size, columns),
+        Some(("rewrites", size)) => headers::rewrite(rt, size, columns),
+        Some(("check", sizes)) => checks::judge(rt, sizes, columns),
+        _ => members::read(rt.alloc(), what, columns),
     }
+}
+
+/// Whether a row has the outcome that was found; prints it where it hasn't.
+fn is_wanted(rt: &HostRuntime, line: &str, wanted: &str, found: &str) -> Result<bool> {
+    if found != wanted {
+        println!(rt; "{line}\n    has the outcome {found}")?;
+    }
+    Ok(found == wanted)
 }
 
 /// Whether a row has its outcome.
 fn holds(rt: &HostRuntime, line: &str) -> Result<bool> {
     let columns: Vec<&str> = line.split('\t').collect(rt.alloc())?;
-    let found = outcome(rt, columns.as_slice())?;
+    let found = outcome(rt, columns.as_slice());
     let wanted = columns.get(1).copied().unwrap_or("");
-    if found.as_str() != wanted {
-        println!(rt; "{line}\n    has the outcome {found}")?;
+    drop(columns);
+    is_wanted(rt, line, wanted, found?.as_str())
+}
+
+/// How many rows a text has, and how many of them have another outcome.
+fn count(rt: &HostRuntime, text: &str) -> Result<(u64, u64)> {
+    let mut rows: u64 = 0;
+    let mut failed: u64 = 0;
+    for line in text.lines() {
+        if !line.is_empty() && !line.starts_with('#') {
+            rows = rows.saturating_add(1);
+            failed = failed.saturating_add(!holds(rt, line)? as u64);
+        }
     }
-    Ok(found.as_str() == wanted)
+    Ok((rows, failed))
+}
+
+/// How many rows a file has, and how many of them have another outcome.
+fn count_in(rt: &HostRuntime, file: &str) -> Result<(u64, u64)> {
+    let text = fs::read_to_string(rt, file)?;
+    count(rt, text.as_str())
 }
 
 fn main(rt: HostRuntime) -> Result<ExitCode> {
-    let mut rows: u64 = 0;
-    let mut failed: u64 = 0;
-    for name in ["members.rows", "texts.rows", "rules.rows"] {
-        let text = fs::read_to_string(&rt, name)?;
-        for line in text.as_str().lines() {
-            if !line.is_empty() && !line.starts_with('#') {
-                rows = rows.saturating_add(1);
-                if !holds(&rt, line)? {
-                    failed = failed.saturating_add(1);
-                }
-            }
-        }
-    }
+    let members = count_in(&rt, "members.rows")?;
+    let texts = count_in(&rt, "texts.rows")?;
+    let rules = count_in(&rt, "rules.rows")?;
+    let rows = members.0.saturating_add(texts.0).saturating_add(rules.0);
+    let failed = members.1.saturating_add(texts.1).saturating_add(rules.1);
     println!(rt; "{rows} rows, {failed} with another outcome")?;
     Ok(if failed == 0 {
         ExitCode::SUCCESS
