@@ -1,6 +1,6 @@
 // The disks of rows, with copies of a header.
 
-ghost use Rattle.std.specs.Prelude.{◌≡◌, ◌≤◌, IsTrue};
+ghost use Rattle.std.specs.Prelude.{◌≡◌, ◌≤◌, IfOk, IsTrue};
 ghost use Rattle.luks_bin.specs.Copies.{holds_nul};
 ghost use Rattle.luks_bin.specs.Writing.{IsWritable};
 ghost use Rattle.sector_disk.specs.Mem.{atom_of, atoms_of};
@@ -79,24 +79,33 @@ fn put_within(copy: &mut [u8], at: u64, bytes: &[u8]) {
     }
 }
 
+/// Makes the sum of a copy right, where it stands.
+fn put_sum(copy: &mut [u8], place: u64) -> Result<()> {
+    if copy.len() < 4096 {
+        return Err(anyhow!("no whole copy"));
+    }
+    move_copy(copy, place, &SALT);
+    Ok(())
+}
+
+/// Puts the bytes of hexadecimal digits within a copy.
+fn put_digits(alloc: Global, copy: &mut [u8], at: u64, digits: &str) -> Result<()> {
+    match hex::decode(alloc, digits) {
+        Ok(bytes) => {
+            put_within(copy, at, bytes.as_slice());
+            Ok(())
+        }
+        Err(_) => Err(anyhow!("{digits} are no bytes")),
+    }
+}
+
 /// Changes a copy of a row: bytes that are put within it, or the sum that it has then.
 fn change(alloc: Global, copy: &mut [u8], place: u64, word: &str) -> Result<()> {
-    if word == "sum" {
-        if copy.len() < 4096 {
-            return Err(anyhow!("no whole copy"));
-        }
-        move_copy(copy, place, &SALT);
-        return Ok(());
+    match word.split_once('=') {
+        Some((at, digits)) => put_digits(alloc, copy, number(at)?, digits),
+        None if word == "sum" => put_sum(copy, place),
+        None => Err(anyhow!("{word} is no change")),
     }
-    let Some((at, digits)) = word.split_once('=') else {
-        return Err(anyhow!("{word} is no change"));
-    };
-    let bytes = match hex::decode(alloc, digits) {
-        Ok(bytes) => bytes,
-        Err(_) => return Err(anyhow!("{digits} are no bytes")),
-    };
-    put_within(copy, number(at)?, bytes.as_slice());
-    Ok(())
 }
 
 /// Writes, of bytes for an atom of a disk and those behind it, what lies on the disk.
@@ -125,6 +134,16 @@ fn write(disk: &mut MemDisk, at: u64, bytes: &[u8]) -> Result<()>
     }
 }
 
+/// The copy of a header with this text.
+fn copy_of(alloc: Global, header: &BinHeader, text: &[u8]) -> Result<Vec<u8>> {
+    if !is_writable(header) || 8192 < text.len() || has_nul(text) {
+        return Err(anyhow!("a copy that can't be made"));
+    }
+    let mut bytes = zeros(alloc, header.hdr_size as usize)?;
+    write_copy(header, text, &mut bytes);
+    Ok(bytes)
+}
+
 /// Puts the copy of a header with this text on a disk, with these changes.
 fn put_copy(
     alloc: Global,
@@ -138,11 +157,7 @@ fn put_copy(
     ensures atom { atom_of disk.new ≡ 512 }
     ensures atoms { atoms_of disk.new ≡ atoms_of disk.old }
 {
-    if !is_writable(header) || 8192 < text.len() || has_nul(text) {
-        return Err(anyhow!("a copy that can't be made"));
-    }
-    let mut bytes = zeros(alloc, header.hdr_size as usize)?;
-    write_copy(header, text, &mut bytes);
+    let mut bytes = copy_of(alloc, header, text)?;
     for word in changes {
         change(alloc, &mut bytes, header.hdr_offset, word)?;
     }
@@ -167,6 +182,29 @@ fn put(alloc: Global, disk: &mut MemDisk, column: &str, size: u64, text: &[u8]) 
     }
 }
 
+/// A disk of so many atoms, of which calls of these numbers fail.
+fn mem_disk(alloc: Global, atoms: u64, fails: &[u64]) -> Result<MemDisk>
+    requires { atoms ≤ 256 }
+    ensures atom { IfOk result (λ disk. atom_of disk ≡ 512) }
+    ensures atoms { IfOk result (λ disk. atoms_of disk ≤ 256) }
+{
+    Ok(MemDisk::new(alloc, 512, atoms, 1000, fails)?)
+}
+
+/// A header's disk of at most 256 atoms, of which calls of these numbers fail.
+fn head_of(alloc: Global, atoms: &str, fails: &str) -> Result<Box<MemDisk>>
+    ensures atom { IfOk result (λ disk. atom_of disk.value ≡ 512) }
+    ensures atoms { IfOk result (λ disk. atoms_of disk.value ≤ 256) }
+{
+    let atoms = number(atoms)?;
+    if 256 < atoms {
+        return Err(anyhow!("a disk of more than 256 atoms"));
+    }
+    let fails = numbers(alloc, fails)?;
+    let disk = mem_disk(alloc, atoms, fails.as_slice())?;
+    Ok(Box::new(alloc, disk)?)
+}
+
 /// A detached header's disk of so many atoms, on which these copies of so many bytes stand with
 /// this text, before a disk of eight blocks. Calls of these numbers on the header's disk fail.
 pub(crate) fn disk_with(
@@ -177,16 +215,11 @@ pub(crate) fn disk_with(
     text: &[u8],
     fails: &str,
 ) -> Result<JoinedDisk<MemDisk>> {
-    let fails = numbers(alloc, fails)?;
     let size = number(size)?;
-    let atoms = number(atoms)?;
-    if 256 < atoms {
-        return Err(anyhow!("a disk of more than 256 atoms"));
-    }
-    let mut head = MemDisk::new(alloc, 512, atoms, 1000, fails.as_slice())?;
-    let main = MemDisk::new(alloc, 512, 8, 1000, &[])?;
     let [first, second] = copies;
+    let mut head = head_of(alloc, atoms, fails)?;
     put(alloc, &mut head, first, size, text)?;
     put(alloc, &mut head, second, size, text)?;
-    Ok(JoinedDisk::with(head, main))
+    let main = mem_disk(alloc, 8, &[])?;
+    Ok(JoinedDisk::with(Box::into_inner(head), main))
 }

@@ -26,31 +26,40 @@ use anyhow::{Context, Result};
 use std::fs;
 use std::process::ExitCode;
 
-/// Whether a row has its outcome.
-fn holds(rt: &HostRuntime, text: &str, line: &str) -> Result<bool> {
-    let columns: Vec<&str> = line.split('\t').collect(rt.alloc())?;
-    let columns = columns.as_slice();
-    let found = outcomes::outcome(rt.alloc(), text, columns)?;
-    let wanted = columns.get(0).copied().unwrap_or("");
-    if found.as_str() != wanted {
+/// Whether a row has the outcome that was found; prints it where it hasn't.
+fn is_wanted(rt: &HostRuntime, line: &str, wanted: &str, found: &str) -> Result<bool> {
+    if found != wanted {
         println!(rt; "{line}\n    has the outcome {found}")?;
     }
-    Ok(found.as_str() == wanted)
+    Ok(found == wanted)
+}
+
+/// Whether a row has its outcome.
+fn holds(rt: &HostRuntime, header: &str, line: &str) -> Result<bool> {
+    let columns: Vec<&str> = line.split('\t').collect(rt.alloc())?;
+    let found = outcomes::outcome(rt.alloc(), header, columns.as_slice());
+    let wanted = columns.get(0).copied().unwrap_or("");
+    drop(columns);
+    is_wanted(rt, line, wanted, found?.as_str())
+}
+
+/// How many rows a text has, and how many of them have another outcome.
+fn count(rt: &HostRuntime, header: &str, text: &str) -> Result<(u64, u64)> {
+    let mut rows: u64 = 0;
+    let mut failed: u64 = 0;
+    for line in text.lines() {
+        if !line.is_empty() && !line.starts_with('#') {
+            rows = rows.saturating_add(1);
+            failed = failed.saturating_add(!holds(rt, header, line)? as u64);
+        }
+    }
+    Ok((rows, failed))
 }
 
 fn main(rt: HostRuntime) -> Result<ExitCode> {
     let header = fs::read_to_string(&rt, "header.json").context("the header")?;
     let text = fs::read_to_string(&rt, "copies.rows").context("the rows")?;
-    let mut rows: u64 = 0;
-    let mut failed: u64 = 0;
-    for line in text.as_str().lines() {
-        if !line.is_empty() && !line.starts_with('#') {
-            rows = rows.saturating_add(1);
-            if !holds(&rt, header.as_str(), line)? {
-                failed = failed.saturating_add(1);
-            }
-        }
-    }
+    let (rows, failed) = count(&rt, header.as_str(), text.as_str())?;
     println!(rt; "{rows} rows, {failed} with another outcome")?;
     Ok(if failed == 0 {
         ExitCode::SUCCESS

@@ -23,16 +23,26 @@ fn line_of(alloc: Global, loaded: &Loaded) -> Result<String> {
     )?)
 }
 
+/// A sum that is stored and another that was computed.
+fn sums_of(alloc: Global, stored: &[u8], computed: &[u8]) -> Result<String> {
+    let stored = hex::encode(alloc, stored)?;
+    let computed = hex::encode(alloc, computed)?;
+    Ok(format!(in alloc; "Checksum {stored} {computed}")?)
+}
+
 /// What is wrong with a place.
 fn fault_at(alloc: Global, fault: &BinFault) -> Result<String> {
     match fault {
-        BinFault::Checksum { stored, computed } => Ok(format!(in alloc;
-            "Checksum {} {}",
-            hex::encode(alloc, &stored[..32])?,
-            hex::encode(alloc, computed)?,
-        )?),
+        BinFault::Checksum { stored, computed } => sums_of(alloc, &stored[..32], computed),
         fault => Ok(format!(in alloc; "{fault:?}")?),
     }
+}
+
+/// What is wrong with both places.
+fn faults_at(alloc: Global, primary: &BinFault, secondary: &BinFault) -> Result<String> {
+    let first = fault_at(alloc, primary)?;
+    let second = fault_at(alloc, secondary)?;
+    Ok(format!(in alloc; "NoHeader: {first}; {second}")?)
 }
 
 /// Why no header is loaded.
@@ -40,20 +50,27 @@ fn reason(alloc: Global, fault: &StoreFault) -> Result<String> {
     match fault {
         StoreFault::Json(fault) => Ok(format!(in alloc; "{fault}")?),
         StoreFault::Rule(fault) => Ok(format!(in alloc; "{fault}")?),
-        StoreFault::NoHeader { primary, secondary } => {
-            let first = fault_at(alloc, primary)?;
-            let second = fault_at(alloc, secondary)?;
-            Ok(format!(in alloc; "NoHeader: {first}; {second}")?)
-        }
+        StoreFault::NoHeader { primary, secondary } => faults_at(alloc, primary, secondary),
         fault => Ok(format!(in alloc; "{fault:?}")?),
     }
+}
+
+/// Why no header is loaded, which is told once.
+fn reason_of(alloc: Global, fault: StoreFault) -> Result<String> {
+    let text = reason(alloc, &fault);
+    drop(fault);
+    text
 }
 
 /// What is loaded from a disk, or why nothing is.
 fn told(alloc: Global, disk: &mut JoinedDisk<MemDisk>) -> Result<String> {
     match load(alloc, disk) {
-        Ok(loaded) => line_of(alloc, &loaded),
-        Err(fault) => reason(alloc, &fault),
+        Ok(loaded) => {
+            let line = line_of(alloc, &loaded);
+            drop(loaded);
+            line
+        }
+        Err(fault) => reason_of(alloc, fault),
     }
 }
 
@@ -77,57 +94,80 @@ fn step(commit: &mut Commit, disk: &mut JoinedDisk<MemDisk>) -> &'static str
     word_of(commit.step(disk))
 }
 
+/// What a commit says that is loaded after it.
+fn next_line(alloc: Global, commit: &Commit) -> Result<String> {
+    let next = commit.next(alloc)?;
+    let line = line_of(alloc, &next);
+    drop(next);
+    line
+}
+
+/// What the steps of a commit answer.
+fn steps_of_commit(
+    alloc: Global,
+    commit: &mut Commit,
+    disk: &mut JoinedDisk<MemDisk>,
+) -> Result<String>
+    requires { HasSizes commit.old.sizes (device_of disk.old) }
+{
+    let first = step(commit, disk);
+    let second = step(commit, disk);
+    let third = step(commit, disk);
+    let fourth = step(commit, disk);
+    Ok(format!(in alloc; "{first} {second} {third} {fourth}")?)
+}
+
 /// What a commit says that is loaded after it, what its steps answer, and what is loaded then.
 fn outcome_of_commit(
     alloc: Global,
-    commit: Commit,
+    commit: &mut Commit,
     disk: &mut JoinedDisk<MemDisk>,
 ) -> Result<String>
-    requires { HasSizes commit.sizes (device_of disk.old) }
+    requires { HasSizes commit.old.sizes (device_of disk.old) }
 {
-    let mut commit = commit;
-    let next = commit.next(alloc)?;
-    let next = line_of(alloc, &next)?;
-    let first = step(&mut commit, disk);
-    let second = step(&mut commit, disk);
-    let third = step(&mut commit, disk);
-    let fourth = step(&mut commit, disk);
+    let next = next_line(alloc, commit)?;
+    let steps = steps_of_commit(alloc, commit, disk)?;
     let now = told(alloc, disk)?;
-    Ok(format!(in alloc; "next {next}: {first} {second} {third} {fourth}, then {now}")?)
+    Ok(format!(in alloc; "next {next}: {steps}, then {now}")?)
 }
 
-/// What a commit comes to, or why there is none.
-fn outcome_of(
-    alloc: Global,
-    commit: std::result::Result<Commit, CommitError>,
-    disk: &mut JoinedDisk<MemDisk>,
-) -> Result<String>
-    requires { IfOk commit (λ c. HasSizes c.sizes (device_of disk.old)) }
+/// The metadata of a header, committed again.
+fn commit_again(alloc: Global, loaded: &Loaded) -> Result<Commit, CommitError>
+    ensures { IfOk result (λ c. c.sizes ≡ loaded.now.valid.sizes) }
 {
-    match commit {
-        Ok(commit) => outcome_of_commit(alloc, commit, disk),
-        Err(error) => Ok(format!(in alloc; "{error:?}")?),
-    }
+    loaded.is_stored();
+    Commit::new(alloc, loaded, loaded.valid().meta())
 }
 
-/// Commits the metadata of a header again, or, as `first`, those of a volume's first header.
+/// The metadata of a header, as those of a volume's first one.
+fn commit_first(alloc: Global, loaded: &Loaded) -> Result<Commit, CommitError>
+    ensures { IfOk result (λ c. c.sizes ≡ loaded.now.valid.sizes) }
+{
+    loaded.is_stored();
+    let valid = loaded.valid();
+    Commit::first(alloc, [0; 40], &SALT, &SALT, valid.meta(), valid.sizes())
+}
+
+/// What a commit of a header that a disk holds comes to, or why there is none.
 fn committed(
     alloc: Global,
     loaded: &Loaded,
+    commit: Result<Commit, CommitError>,
     disk: &mut JoinedDisk<MemDisk>,
-    first: bool,
 ) -> Result<String>
-    requires { sizes_of disk.old ≡ loaded.now.valid.sizes }
+    requires sizes { sizes_of disk.old ≡ loaded.now.valid.sizes }
+    requires same { IfOk commit (λ c. c.sizes ≡ loaded.now.valid.sizes) }
 {
     let _sizes = disk.sizes();
-    loaded.is_stored();
-    let meta = loaded.valid().meta();
-    if first {
-        let sizes = loaded.valid().sizes();
-        let commit = Commit::first(alloc, [0; 40], &SALT, &SALT, meta, sizes);
-        return outcome_of(alloc, commit, disk);
+    match commit {
+        Ok(commit) => {
+            let mut commit = commit;
+            let outcome = outcome_of_commit(alloc, &mut commit, disk);
+            drop(commit);
+            outcome
+        }
+        Err(error) => Ok(format!(in alloc; "{error:?}")?),
     }
-    outcome_of(alloc, Commit::new(alloc, loaded, meta), disk)
 }
 
 /// What the steps of the repair that a header asks for answer.
@@ -140,9 +180,11 @@ fn steps_of_repair(alloc: Global, loaded: &Loaded, disk: &mut JoinedDisk<MemDisk
     let _sizes = disk.sizes();
     let first = word_of(repair.step(disk));
     if repair.is_over() {
+        drop(repair);
         return Ok(format!(in alloc; "{first} over")?);
     }
     let second = word_of(repair.step(disk));
+    drop(repair);
     Ok(format!(in alloc; "{first} {second}")?)
 }
 
@@ -167,33 +209,52 @@ fn hidden(alloc: Global, loaded: &Loaded, disk: &mut JoinedDisk<MemDisk>) -> Res
 }
 
 /// What is done with the header that a disk holds comes to.
-fn done(alloc: Global, what: &str, disk: JoinedDisk<MemDisk>) -> Result<String> {
-    let mut disk = disk;
-    let loaded = match load(alloc, &mut disk) {
-        Ok(loaded) => loaded,
-        Err(fault) => return reason(alloc, &fault),
-    };
+fn done_with(
+    alloc: Global,
+    what: &str,
+    loaded: &Loaded,
+    disk: &mut JoinedDisk<MemDisk>,
+) -> Result<String>
+    requires { sizes_of disk.old ≡ loaded.now.valid.sizes }
+{
     match what {
-        "loads" => line_of(alloc, &loaded),
-        "commits" => committed(alloc, &loaded, &mut disk, false),
-        "begins" => committed(alloc, &loaded, &mut disk, true),
-        "repairs" => repaired(alloc, &loaded, &mut disk),
-        "hides" => hidden(alloc, &loaded, &mut disk),
+        "loads" => line_of(alloc, loaded),
+        "commits" => committed(alloc, loaded, commit_again(alloc, loaded), disk),
+        "begins" => committed(alloc, loaded, commit_first(alloc, loaded), disk),
+        "repairs" => repaired(alloc, loaded, disk),
+        "hides" => hidden(alloc, loaded, disk),
         _ => Err(anyhow!("no such row")),
     }
+}
+
+/// What is done with the header that a disk holds comes to, if it holds one.
+fn done(alloc: Global, what: &str, disk: &mut JoinedDisk<MemDisk>) -> Result<String> {
+    match load(alloc, disk) {
+        Ok(loaded) => {
+            let outcome = done_with(alloc, what, &loaded, disk);
+            drop(loaded);
+            outcome
+        }
+        Err(fault) => reason_of(alloc, fault),
+    }
+}
+
+/// A text with what stands first in a pair replaced by what stands second.
+fn replaced(alloc: Global, text: &str, change: &[&str]) -> Result<String> {
+    let [old, new] = change else {
+        return Err(anyhow!("a change that is no pair"));
+    };
+    if !text.contains(*old) {
+        return Err(anyhow!("nothing to replace"));
+    }
+    Ok(text.replace(alloc, old, new)?)
 }
 
 /// A header's text with each of these replaced: pairs of what, and by what.
 fn changed(alloc: Global, text: &str, changes: &[&str]) -> Result<String> {
     let mut text = String::from_str(alloc, text)?;
     for change in changes.chunks_exact(2) {
-        let [old, new] = change else {
-            return Err(anyhow!("a change that is no pair"));
-        };
-        if !text.as_str().contains(*old) {
-            return Err(anyhow!("nothing to replace"));
-        }
-        text = text.as_str().replace(alloc, old, new)?;
+        text = replaced(alloc, text.as_str(), change)?;
     }
     Ok(text)
 }
@@ -204,7 +265,7 @@ pub(crate) fn outcome(alloc: Global, text: &str, columns: &[&str]) -> Result<Str
         return Err(anyhow!("a row of so many columns"));
     };
     let text = changed(alloc, text, changes)?;
-    let disk = disk_with(
+    let mut disk = disk_with(
         alloc,
         atoms,
         [*first, *second],
@@ -212,5 +273,7 @@ pub(crate) fn outcome(alloc: Global, text: &str, columns: &[&str]) -> Result<Str
         text.as_bytes(),
         fails,
     )?;
-    done(alloc, what, disk)
+    let outcome = done(alloc, what, &mut disk);
+    drop(disk);
+    outcome
 }
