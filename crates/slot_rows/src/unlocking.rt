@@ -4,10 +4,11 @@ ghost use Rattle.std.specs.Prelude.{◌≡◌, IfOk};
 ghost use Rattle.joined_disk.specs.Counts.{HasSizes};
 ghost use Rattle.sector_disk.specs.Geometry.{IsDisk};
 
-use crate::volume::{Volume, changed, header_of};
+use crate::volume::{Volume, changed, fault_text, header_of};
 use anyhow::{Result, anyhow};
+use disk_sizes::Sizes;
 use luks_rules::Valid;
-use luks_slots::{SlotFault, unlock};
+use luks_slots::{Key, SlotFault, unlock};
 use sector_disk::{Disk, RamDisk};
 use std::alloc::Global;
 
@@ -40,34 +41,50 @@ fn disk_with(alloc: Global, areas: &[u8], atom: u32, atoms: u64) -> Result<RamDi
     Ok(disk)
 }
 
+/// The key that a passphrase unseals by the digest 0, if there is that digest.
+fn unlocked(
+    alloc: Global,
+    valid: &Valid,
+    disk: &mut RamDisk,
+    pass: &str,
+) -> Option<Result<Key, SlotFault>>
+    requires { HasSizes valid.now.sizes (⟦<RamDisk as Disk>⟧.device disk.old) }
+{
+    valid.digest(0)?;
+    Some(unlock(alloc, valid, disk, pass.as_bytes(), 0))
+}
+
+/// The digits of a key.
+fn told_key(alloc: Global, key: Key) -> Result<String> {
+    let digits = hex::encode(alloc, key.as_slice());
+    drop(key);
+    Ok(format!(in alloc; "key {}", digits?)?)
+}
+
 /// What a passphrase finds on a disk: the key, or why no keyslot gave one.
 fn found(alloc: Global, valid: &Valid, disk: &mut RamDisk, pass: &str) -> Result<String>
     requires { HasSizes valid.now.sizes (⟦<RamDisk as Disk>⟧.device disk.old) }
 {
-    let Some(_) = valid.digest(0) else {
-        return Err(anyhow!("no digest"));
-    };
-    match unlock(alloc, valid, disk, pass.as_bytes(), 0) {
-        Ok(key) => Ok(format!(in alloc; "key {}", hex::encode(alloc, key.as_slice())?)?),
-        Err(SlotFault::NoKey(list)) => Ok(format!(in alloc; "no key {:?}", list.as_slice())?),
-        Err(fault) => Ok(format!(in alloc; "{fault:?}")?),
+    match unlocked(alloc, valid, disk, pass) {
+        Some(Ok(key)) => told_key(alloc, key),
+        Some(Err(fault)) => fault_text(alloc, fault),
+        None => Err(anyhow!("no digest")),
     }
 }
 
-/// What a passphrase finds under a header, on a disk of so many atoms.
-fn opened(
-    alloc: Global,
-    volume: &Volume,
-    header: &str,
-    pass: &str,
-    atom: u32,
-    atoms: u64,
-) -> Result<String>
-    requires { IsDisk atom atoms }
-{
-    let valid = header_of(alloc, header, volume.copy_size, atom, atoms)?;
-    let mut disk = disk_with(alloc, volume.areas.as_slice(), atom, atoms)?;
-    found(alloc, &valid, &mut disk, pass)
+/// What a passphrase finds under a header, on a disk of 2048 atoms.
+fn opened(alloc: Global, volume: &Volume, header: &str, pass: &str) -> Result<String> {
+    let sizes = Sizes {
+        atom: 512,
+        header_atoms: 2048,
+        main_atoms: 2048,
+        detached: false,
+    };
+    let valid = header_of(alloc, header, volume.copy_size, sizes)?;
+    let mut disk = disk_with(alloc, volume.areas.as_slice(), 512, 2048)?;
+    let found = found(alloc, &valid, &mut disk, pass);
+    drop(disk);
+    found
 }
 
 /// What a row comes to: the outcome, the passphrase, and what is replaced in the header's text.
@@ -76,5 +93,5 @@ pub(crate) fn outcome(alloc: Global, volume: &Volume, columns: &[&str]) -> Resul
         return Err(anyhow!("a row of so many columns"));
     };
     let header = changed(alloc, volume.header.as_str(), changes)?;
-    opened(alloc, volume, header.as_str(), pass, 512, 2048)
+    opened(alloc, volume, header.as_str(), pass)
 }
