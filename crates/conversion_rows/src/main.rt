@@ -33,41 +33,55 @@ mod wishes;
 use crate::stands::{Stand, told};
 use anyhow::{Context, Result};
 use disk_sizes::Sizes;
+use std::alloc::Global;
 use std::fs;
 
-/// Where a row leads to; prints what it comes to.
-fn go_on(rt: &HostRuntime, stand: Stand, line: &str) -> Result<Stand> {
-    let words: Vec<&str> = line.split('\t').collect(rt.alloc())?;
-    let next = match rows::come_to(rt.alloc(), &stand, words.as_slice())? {
-        Ok(next) => next,
-        Err(why) => {
-            println!(rt; "{why}")?;
-            return Ok(stand);
-        }
-    };
-    let (told, is_valid) = told(rt.alloc(), &next)?;
+/// Prints what the header of a row is, and its text where the row has made it; whether it breaks no
+/// rule.
+fn show(rt: &HostRuntime, stand: &Stand, is_made: bool) -> Result<bool> {
+    let (told, is_valid) = told(rt.alloc(), stand)?;
     println!(rt; "{told}")?;
-    if !line.starts_with("header") {
-        println!(rt; "{}", next.text)?;
+    if is_made {
+        println!(rt; "{}", stand.text)?;
     }
-    Ok(if is_valid { next } else { stand })
+    Ok(is_valid)
+}
+
+/// Goes on by a row; prints what it comes to.
+fn go_on(rt: &HostRuntime, stand: &mut Stand, line: &str) -> Result<()> {
+    let words: Vec<&str> = line.split('\t').collect(rt.alloc())?;
+    match rows::come_to(rt.alloc(), stand, words.as_slice())? {
+        Ok(next) => {
+            if show(rt, &next, !line.starts_with("header"))? {
+                *stand = next;
+            }
+        }
+        Err(why) => println!(rt; "{why}")?,
+    }
+    Ok(())
+}
+
+/// Disks of nothing, before the first header.
+fn nothing(alloc: Global) -> Stand {
+    let sizes = Sizes {
+        atom: 512,
+        header_atoms: 0,
+        main_atoms: 0,
+        detached: false,
+    };
+    Stand {
+        sizes,
+        size: 0,
+        text: String::new(alloc),
+    }
 }
 
 fn main(rt: HostRuntime) -> Result<()> {
     let text = fs::read_to_string(&rt, "conversions.rows").context("the rows")?;
-    let mut stand = Stand {
-        sizes: Sizes {
-            atom: 512,
-            header_atoms: 0,
-            main_atoms: 0,
-            detached: false,
-        },
-        size: 0,
-        text: String::new(rt.alloc()),
-    };
+    let mut stand = nothing(rt.alloc());
     for line in text.as_str().lines() {
         if !line.is_empty() && !line.starts_with('#') {
-            stand = go_on(&rt, stand, line)?;
+            go_on(&rt, &mut stand, line)?;
         }
     }
     Ok(())

@@ -1,77 +1,108 @@
 // What rows come to.
 
 ghost use Rattle.std.specs.Prelude.{◌≡◌, IfOk};
-ghost use Rattle.conversion_rows.specs.Wishes.{HasText};
 ghost use Rattle.reenc_meta.specs.Placements.{all_atoms};
 ghost use Rattle.sector_disk.specs.Geometry.{IsDisk};
 
 use crate::beginnings::begun;
-use crate::stands::{Stand, number, read, sizes_of, valid_of};
+use crate::stands::{Stand, number, sizes_of, valid_of};
 use crate::steps::{go_on, start_with, start_without};
-use crate::wishes::wish_of;
+use crate::wishes::wish_in;
 use anyhow::{Result, anyhow};
-use disk_sizes::Sizes;
 use luks_json::Meta;
-use reenc_meta::{Reenc, Wish};
+use luks_rules::Valid;
+use reenc_meta::Reenc;
 use std::alloc::Global;
 
-/// The bytes of a copy of the metadata that have a key.
-const KEY_SIZE: u64 = 16384;
-
 /// A header, or what stands in the way of it.
-type Found = std::result::Result<Stand, String>;
+pub(crate) type Found = Result<Stand, String>;
 
-/// The header of metadata.
-fn written(alloc: Global, sizes: Sizes, size: u64, meta: &Meta) -> Result<Found> {
+/// The text of metadata.
+fn text_of(alloc: Global, meta: &Meta) -> Result<String> {
     match String::from_utf8(meta.write(alloc)?.into_vec()) {
-        Ok(text) => Ok(Ok(Stand { sizes, size, text })),
+        Ok(text) => Ok(text),
         Err(_) => Err(anyhow!("a text that isn't in UTF-8")),
     }
 }
 
-/// What rows wish for: a text of metadata, and one of the new key's or `-`.
-fn wish_in(alloc: Global, size: u64, text: &str, key: &str) -> Result<Wish>
-    ensures { IfOk result HasText }
-{
-    let meta = read(alloc, text, size)?;
-    if key == "-" {
-        return wish_of(alloc, &meta, None);
-    }
-    wish_of(alloc, &meta, Some(&read(alloc, key, KEY_SIZE)?))
+/// A row that takes a header.
+fn header(alloc: Global, words: &[&str]) -> Result<Stand> {
+    let [size, atom, header, main, text] = words else {
+        return Err(anyhow!("a header of so many columns"));
+    };
+    let sizes = sizes_of(atom, header, main)?;
+    let size = number(size)?;
+    let text = String::from_str(alloc, text)?;
+    Ok(Stand { sizes, size, text })
 }
 
 /// A row with a disk that has no header.
-fn bare(alloc: Global, sizes: Sizes, size: u64, text: &str, key: &str) -> Result<Found>
-    requires { IsDisk sizes.atom (all_atoms sizes) }
-{
-    let wish = wish_in(alloc, size, text, key)?;
-    written(alloc, sizes, size, &start_without(alloc, sizes, &wish)?)
+fn bare(alloc: Global, words: &[&str]) -> Result<Stand> {
+    let [size, atom, header, main, wish, key] = words else {
+        return Err(anyhow!("a disk of so many columns"));
+    };
+    let sizes = sizes_of(atom, header, main)?;
+    let size = number(size)?;
+    let wish = wish_in(alloc, size, wish, key)?;
+    let next = start_without(alloc, sizes, &wish)?;
+    let text = text_of(alloc, &next)?;
+    Ok(Stand { sizes, size, text })
 }
 
 /// A row that begins a conversion as it is wished.
-fn start(alloc: Global, stand: &Stand, size: u64, text: &str, key: &str) -> Result<Found> {
-    let wish = wish_in(alloc, size, text, key)?;
+fn start(alloc: Global, stand: &Stand, words: &[&str]) -> Result<Stand> {
+    let [size, wish, key] = words else {
+        return Err(anyhow!("a wish of so many columns"));
+    };
+    let size = number(size)?;
+    let wish = wish_in(alloc, size, wish, key)?;
     let valid = valid_of(alloc, stand)?;
-    written(alloc, stand.sizes, size, &start_with(alloc, &valid, &wish)?)
+    let next = start_with(alloc, &valid, &wish)?;
+    let text = text_of(alloc, &next)?;
+    Ok(Stand {
+        sizes: stand.sizes,
+        size,
+        text,
+    })
 }
 
-/// A row that begins one with a new key.
-fn begin(alloc: Global, stand: &Stand, pass: &str, words: &[&str]) -> Result<Found> {
+/// The header of the same disks with a text that was made.
+fn next(stand: &Stand, text: String) -> Stand {
+    Stand {
+        sizes: stand.sizes,
+        size: stand.size,
+        text,
+    }
+}
+
+/// A row that begins a conversion with a new key.
+fn begin(alloc: Global, stand: &Stand, words: &[&str]) -> Result<Found> {
     let valid = valid_of(alloc, stand)?;
-    match begun(alloc, &valid, pass, words)? {
-        Ok(begun) => written(alloc, stand.sizes, stand.size, &begun.meta),
+    match begun(alloc, &valid, words)? {
+        Ok(begun) => Ok(Ok(next(stand, text_of(alloc, &begun.meta)?))),
         Err(fault) => Ok(Err(format!(in alloc; "{fault:?}")?)),
     }
 }
 
-/// A row that goes on with a conversion.
-fn step(alloc: Global, stand: &Stand, what: &str, blocks: u64) -> Result<Found> {
-    let valid = valid_of(alloc, stand)?;
-    let Some(reenc) = Reenc::of(&valid) else {
-        return Err(anyhow!("no conversion is under way"));
+/// The next metadata of a conversion, where there may be these.
+fn gone_on(alloc: Global, valid: &Valid, words: &[&str]) -> Result<Option<Box<Meta>>>
+    requires { IsDisk valid.now.sizes.atom (all_atoms valid.now.sizes) }
+{
+    let [what, blocks] = words else {
+        return Err(anyhow!("a row of so many columns"));
     };
-    match go_on(alloc, &reenc, what, blocks)? {
-        Some(meta) => written(alloc, stand.sizes, stand.size, &meta),
+    let blocks = number(blocks)?;
+    match Reenc::of(valid) {
+        Some(reenc) => Ok(go_on(alloc, &reenc, what, blocks)?),
+        None => Err(anyhow!("no conversion is under way")),
+    }
+}
+
+/// A row that goes on with a conversion.
+fn step(alloc: Global, stand: &Stand, words: &[&str]) -> Result<Found> {
+    let valid = valid_of(alloc, stand)?;
+    match gone_on(alloc, &valid, words)? {
+        Some(meta) => Ok(Ok(next(stand, text_of(alloc, &meta)?))),
         None => Ok(Err(String::from_str(alloc, "may not")?)),
     }
 }
@@ -79,23 +110,10 @@ fn step(alloc: Global, stand: &Stand, what: &str, blocks: u64) -> Result<Found> 
 /// What a row comes to, from the header that the rows before it have come to.
 pub(crate) fn come_to(alloc: Global, stand: &Stand, words: &[&str]) -> Result<Found> {
     match words {
-        ["header", size, atom, header, main, text] => Ok(Ok(Stand {
-            sizes: sizes_of(atom, header, main)?,
-            size: number(size)?,
-            text: String::from_str(alloc, text)?,
-        })),
-        ["bare", size, atom, header, main, text, key] => {
-            bare(
-                alloc,
-                sizes_of(atom, header, main)?,
-                number(size)?,
-                text,
-                key,
-            )
-        }
-        ["start", size, text, key] => start(alloc, stand, number(size)?, text, key),
-        ["begin", pass, words @ ..] => begin(alloc, stand, pass, words),
-        [what, blocks] => step(alloc, stand, what, number(blocks)?),
-        _ => Err(anyhow!("a row of so many columns")),
+        ["header", words @ ..] => Ok(Ok(header(alloc, words)?)),
+        ["bare", words @ ..] => Ok(Ok(bare(alloc, words)?)),
+        ["start", words @ ..] => Ok(Ok(start(alloc, stand, words)?)),
+        ["begin", words @ ..] => begin(alloc, stand, words),
+        words => step(alloc, stand, words),
     }
 }

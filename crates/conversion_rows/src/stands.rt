@@ -7,10 +7,10 @@ ghost use Rattle.sector_disk.specs.Geometry.{IsDisk};
 use anyhow::{Result, anyhow};
 use disk_sizes::Sizes;
 use luks_json::Meta;
-use luks_rules::{CheckError, RuleFault, Valid, check};
+use luks_rules::{CheckError, Valid, check};
 use reenc_meta::{Reenc, place_idle};
 use segment_map::Map;
-use std::alloc::Global;
+use std::alloc::{AllocError, Global};
 
 /// Disks, and on them a header of copies of so many bytes.
 #[derive(Drop)]
@@ -42,20 +42,22 @@ fn known(sizes: Sizes) -> Result<Sizes>
     Ok(sizes)
 }
 
+/// A number of 32 bits of a row.
+pub(crate) fn small_number(word: &str) -> Result<u32> {
+    match word.parse() {
+        Ok(number) => Ok(number),
+        Err(_) => Err(anyhow!("no number of 32 bits")),
+    }
+}
+
 /// The sizes of a row's disks.
 pub(crate) fn sizes_of(atom: &str, header: &str, main: &str) -> Result<Sizes>
     ensures { IfOk result (λ sizes. IsDisk sizes.atom (all_atoms sizes)) }
 {
-    let Ok(atom) = u32::try_from(number(atom)?) else {
-        return Err(anyhow!("no atom"));
-    };
+    let atom = small_number(atom)?;
     let main_atoms = number(main)?;
     let detached = header != "attached";
-    let header_atoms = if detached {
-        number(header)?
-    } else {
-        main_atoms
-    };
+    let header_atoms = number(if detached { header } else { main })?;
     known(Sizes {
         atom,
         header_atoms,
@@ -65,29 +67,39 @@ pub(crate) fn sizes_of(atom: &str, header: &str, main: &str) -> Result<Sizes>
 }
 
 /// The metadata that a text is, in a copy of so many bytes.
-pub(crate) fn read(alloc: Global, text: &str, size: u64) -> Result<Meta> {
+pub(crate) fn read(alloc: Global, text: &str, size: u64) -> Result<Box<Meta>> {
     match Meta::read(alloc, text.as_bytes(), size) {
-        Ok(meta) => Ok(meta),
+        Ok(meta) => Ok(Box::new(alloc, meta)?),
         Err(e) => Err(anyhow!("{e}")),
     }
 }
 
-/// The metadata of a header, or the rule that they break.
-pub(crate) fn judge(alloc: Global, stand: &Stand) -> Result<std::result::Result<Valid, RuleFault>>
-    ensures { IfOk result
-        (λ judged. IfOk judged (λ valid. IsDisk valid.sizes.atom (all_atoms valid.sizes))) }
+/// The metadata, or the rule that they break.
+fn checked(alloc: Global, meta: Box<Meta>, sizes: Sizes) -> Result<Box<Valid>, CheckError>
+    requires { IsDisk sizes.atom (all_atoms sizes) }
+    ensures { IfOk result (λ valid. IsDisk valid.value.sizes.atom (all_atoms valid.value.sizes)) }
 {
-    let meta = read(alloc, stand.text.as_str(), stand.size)?;
-    match check(alloc, meta, known(stand.sizes)?) {
-        Ok(valid) => Ok(Ok(valid)),
-        Err(CheckError::Fault(fault)) => Ok(Err(fault)),
-        Err(CheckError::Memory) => Err(anyhow!("out of memory")),
+    match check(alloc, Box::into_inner(meta), sizes) {
+        Ok(valid) => match Box::new(alloc, valid) {
+            Ok(valid) => Ok(valid),
+            Err(e) => Err(AllocError::from(e).into()),
+        },
+        Err(e) => Err(e),
     }
 }
 
+/// The metadata of a header, or the rule that they break.
+fn judge(alloc: Global, stand: &Stand) -> Result<Result<Box<Valid>, CheckError>>
+    ensures { IfOk result (λ judged. IfOk judged
+        (λ valid. IsDisk valid.value.sizes.atom (all_atoms valid.value.sizes))) }
+{
+    let meta = read(alloc, stand.text.as_str(), stand.size)?;
+    Ok(checked(alloc, meta, known(stand.sizes)?))
+}
+
 /// The metadata of a header that breaks no rule.
-pub(crate) fn valid_of(alloc: Global, stand: &Stand) -> Result<Valid>
-    ensures { IfOk result (λ valid. IsDisk valid.sizes.atom (all_atoms valid.sizes)) }
+pub(crate) fn valid_of(alloc: Global, stand: &Stand) -> Result<Box<Valid>>
+    ensures { IfOk result (λ valid. IsDisk valid.value.sizes.atom (all_atoms valid.value.sizes)) }
 {
     match judge(alloc, stand)? {
         Ok(valid) => Ok(valid),
@@ -108,14 +120,27 @@ fn map_of(valid: &Valid) -> Result<Map>
     }
 }
 
+/// Where the blocks of a volume lie, in words.
+fn map_text(alloc: Global, valid: &Valid) -> Result<String>
+    requires { IsDisk valid.now.sizes.atom (all_atoms valid.now.sizes) }
+{
+    let map = map_of(valid)?;
+    Ok(format!(in alloc; "{map:?}")?)
+}
+
+/// Which rule metadata break, in words.
+fn fault_text(alloc: Global, fault: &CheckError) -> Result<String> {
+    match fault {
+        CheckError::Fault(fault) => Ok(format!(in alloc; "{fault:?}")?),
+        CheckError::Memory => Err(anyhow!("out of memory")),
+    }
+}
+
 /// Where the blocks of a header's volume lie, or the rule that it breaks; and whether it breaks
 /// none.
 pub(crate) fn told(alloc: Global, stand: &Stand) -> Result<(String, bool)> {
     match judge(alloc, stand)? {
-        Ok(valid) => {
-            let map = map_of(&valid)?;
-            Ok((format!(in alloc; "{map:?}")?, true))
-        }
-        Err(fault) => Ok((format!(in alloc; "{fault:?}")?, false)),
+        Ok(valid) => Ok((map_text(alloc, &valid)?, true)),
+        Err(fault) => Ok((fault_text(alloc, &fault)?, false)),
     }
 }

@@ -1,6 +1,6 @@
 // What rows wish for.
 
-ghost use Rattle.std.specs.Prelude.{◌≡◌, IfOk, IsTrue, true};
+ghost use Rattle.std.specs.Prelude.{◌≡◌, IfOk, IfSome, IsTrue, true};
 ghost use Rattle.conversion_rows.specs.Wishes.{HasText};
 ghost use Rattle.luks_json.specs.Digests.{IsDigest};
 ghost use Rattle.luks_json.specs.Keyslots.{IsLuks2};
@@ -9,32 +9,36 @@ ghost use Rattle.luks_json.specs.Reencrypts.{IsReencrypt};
 ghost use Rattle.luks_json.specs.Segments.{is_sector_size};
 ghost use Rattle.reenc_meta.specs.Wishes.{HasOffset};
 
+use crate::stands::read;
 use anyhow::{Result, anyhow};
 use json_members::Entry;
 use luks_json::{
-    Digest, Direction, Encryption, Keyslot, Luks2, Meta, Parts, Reencrypt, Resilience,
+    Config, Digest, Direction, Encryption, Keyslot, Luks2, Parts, Reencrypt, Resilience,
 };
 use reenc_meta::Wish;
 use std::alloc::Global;
 
+/// The bytes of a copy of the metadata that have a key.
+const KEY_SIZE: u64 = 16384;
+
 /// The conversion, which the first keyslot says.
-fn conversion_of(alloc: Global, parts: &Parts) -> Result<Reencrypt>
+fn conversion_of(alloc: Global, parts: &Parts) -> Result<Box<Reencrypt>>
     requires { IsMeta parts.now }
-    ensures { IfOk result IsReencrypt }
+    ensures { IfOk result (λ conversion. IsReencrypt conversion.value) }
 {
     match parts.keyslots.as_slice() {
-        [(_, Keyslot::Reencrypt(slot)), ..] => Ok(slot.copy(alloc)?),
+        [(_, Keyslot::Reencrypt(slot)), ..] => Ok(Box::new(alloc, slot.copy(alloc)?)?),
         _ => Err(anyhow!("a wish for no conversion")),
     }
 }
 
 /// The keyslot of the new key, which is the first.
-fn slot_of(alloc: Global, parts: &Parts) -> Result<Luks2>
+fn slot_of(alloc: Global, parts: &Parts) -> Result<Box<Luks2>>
     requires { IsMeta parts.now }
-    ensures { IfOk result IsLuks2 }
+    ensures { IfOk result (λ slot. IsLuks2 slot.value) }
 {
     match parts.keyslots.as_slice() {
-        [(_, Keyslot::Luks2(slot)), ..] => Ok(slot.copy(alloc)?),
+        [(_, Keyslot::Luks2(slot)), ..] => Ok(Box::new(alloc, slot.copy(alloc)?)?),
         _ => Err(anyhow!("no keyslot of a key")),
     }
 }
@@ -64,30 +68,60 @@ fn encryption_of(parts: &Parts) -> Result<Encryption>
     }
 }
 
-/// What metadata wish for, with the key that others have, if there are any.
-pub(crate) fn wish_of(alloc: Global, meta: &Meta, key: Option<&Meta>) -> Result<Wish>
-    ensures { IfOk result HasText }
+/// The keyslot and the digest of the new key, by the text of metadata that have it; none for `-`.
+fn key_in(alloc: Global, text: &str) -> Result<Option<(Luks2, Digest)>>
+    ensures { IfOk result (λ key. IfSome key (λ key. IsLuks2 key.0 × IsDigest key.1)) }
 {
-    let parts = meta.parts();
-    let conversion = conversion_of(alloc, parts)?;
-    let encryption = encryption_of(parts)?;
-    let key = match key {
-        Some(meta) => Some((
-            slot_of(alloc, meta.parts())?,
-            digest_of(alloc, meta.parts())?,
-        )),
-        None => None,
-    };
-    Ok(Wish {
-        mode: conversion.mode,
-        direction: conversion.direction,
-        area: conversion.area,
+    if text == "-" {
+        return Ok(None);
+    }
+    let meta = read(alloc, text, KEY_SIZE)?;
+    let slot = slot_of(alloc, meta.parts())?;
+    let digest = digest_of(alloc, meta.parts())?;
+    Ok(Some((Box::into_inner(slot), digest)))
+}
+
+/// The wish for a conversion under an encryption, with the sizes of a config.
+fn wish_with(
+    conversion: Reencrypt,
+    encryption: Encryption,
+    config: &Config,
+    key: Option<(Luks2, Digest)>,
+) -> Wish
+    requires conversion { IsReencrypt conversion }
+    requires sectors { is_sector_size encryption.sector_size ≡ true }
+    requires key { IfSome key (λ key. IsLuks2 key.0 × IsDigest key.1) }
+    ensures { HasText result }
+{
+    let Reencrypt {
+        mode,
+        direction,
+        area,
+        rest: _,
+    } = conversion;
+    Wish {
+        mode,
+        direction,
+        area,
         encryption: encryption.cipher,
         sector_size: encryption.sector_size as u32,
         key,
-        header_size: parts.config.json_size.saturating_add(4096),
-        keyslots_size: parts.config.keyslots_size,
-    })
+        header_size: config.json_size.saturating_add(4096),
+        keyslots_size: config.keyslots_size,
+    }
+}
+
+/// What a text of metadata wishes for, in a copy of so many bytes, with the key of another.
+pub(crate) fn wish_in(alloc: Global, size: u64, text: &str, key: &str) -> Result<Box<Wish>>
+    ensures { IfOk result (λ wish. HasText wish.value) }
+{
+    let meta = read(alloc, text, size)?;
+    let parts = meta.parts();
+    let encryption = encryption_of(parts)?;
+    let conversion = conversion_of(alloc, parts)?;
+    let key = key_in(alloc, key)?;
+    let wish = wish_with(Box::into_inner(conversion), encryption, &parts.config, key);
+    Ok(Box::new(alloc, wish)?)
 }
 
 /// Whether the new segment of a volume that begins there has a place of 64 bits.
