@@ -2,6 +2,7 @@
 
 ghost use Rattle.std.specs.Prelude.{None};
 
+use crate::words::{byte_of, no_step};
 use anyhow::{Result, anyhow};
 use base_terms::Failed;
 use bays::Link;
@@ -76,18 +77,36 @@ impl Network for Silent {
 
 /// What a link of two sessions to such a listener is answered, twice: how often it failed, and how
 /// many of those who went away weren't met.
-pub(crate) fn unheard(alloc: Global, errors: Stderr, gone: u32) -> Result<String> {
-    let left = Rc::new(alloc, Cell::new(gone))?;
-    let door = Door::Listening(Deaf {
-        gone: left.clone()?,
-    });
+pub(crate) fn unheard(alloc: Global, errors: Stderr, words: &[&str]) -> Result<String> {
+    let [gone] = words else {
+        return no_step();
+    };
+    let left = Rc::new(alloc, Cell::new(u32::from(byte_of(gone)?)))?;
+    let link = deaf_link(alloc, errors, left.clone()?)?;
+    let Some(faults) = failed_twice(link) else {
+        return Err(anyhow!("a link to nobody gives a client, or none"));
+    };
+    Ok(format!(in alloc; "{faults} failed, {} left", left.get())?)
+}
+
+/// How often a link failed that is asked for a client twice, if both times it does.
+fn failed_twice(mut link: HostLink<Silent>) -> Option<u64> {
+    let both = fails(&mut link) && fails(&mut link);
+    let faults = link.faults();
+    drop(link);
+    if both { Some(faults) } else { None }
+}
+
+fn deaf_link(alloc: Global, errors: Stderr, gone: Rc<Cell<u32>>) -> Result<HostLink<Silent>> {
     let address = String::from_str(alloc, "somewhere")?;
-    let mut link: HostLink<Silent> = HostLink::new(alloc, errors, address, door, 2);
-    for _ in 0..2 {
-        match link.next() {
-            Err(Failed) => {}
-            Ok(_) => return Err(anyhow!("a link to nobody gives a client, or none")),
-        }
+    let door = Door::Listening(Deaf { gone });
+    Ok(HostLink::new(alloc, errors, address, door, 2))
+}
+
+/// Whether the link fails where it is asked for a client.
+fn fails(link: &mut HostLink<Silent>) -> bool {
+    match link.next() {
+        Err(Failed) => true,
+        Ok(_) => false,
     }
-    Ok(format!(in alloc; "{} failed, {} left", link.faults(), left.get())?)
 }

@@ -50,9 +50,10 @@ mod streams;
 mod words;
 
 use anyhow::{Result, anyhow};
-use bays::Bay;
+use bays::{Bay, MemBay};
 use file_disk::FileSystem;
 use host_edge::{HostBay, Network};
+use memory::bay_of;
 use std::fs;
 use std::process::ExitCode;
 use std::thread::Threads;
@@ -72,54 +73,84 @@ where
     let Some((step, wanted)) = line.split_once('\t') else {
         return Err(anyhow!("a step without an outcome: {line}"));
     };
-    let words: Vec<&str> = step.split(' ').collect(rt.alloc())?;
-    let found = edges.perform(threads, rt, words.as_slice())?;
-    if found.as_str() != wanted {
-        println!(rt; "{line}\n    has the outcome {found}")?;
-    }
-    Ok(found.as_str() == wanted)
+    let found = outcome(threads, rt, edges, step)?;
+    told(rt, line, found.as_str(), wanted)
 }
 
-/// Does the steps of all lines over a bay of the machine.
-fn try_steps<W: Threads, B: Bay + Drop>(
+/// The outcome of a step.
+fn outcome<W: Threads, B: Bay + Drop>(
     threads: &W,
     rt: &HostRuntime,
-    machine: B,
-) -> Result<ExitCode>
+    edges: &mut Edges<B>,
+    step: &str,
+) -> Result<String>
 where
     B::Disk: Drop,
     B::Link: Drop,
 {
-    let text = fs::read_to_string(rt, "edge.rows")?;
-    let mut edges = Edges::new(rt.alloc(), machine)?;
-    let mut steps: u64 = 0;
-    let mut failed: u64 = 0;
-    for line in text.as_str().lines() {
-        if !line.is_empty() && !line.starts_with('#') {
+    let words: Vec<&str> = step.split(' ').collect(rt.alloc())?;
+    edges.perform(threads, rt, words.as_slice())
+}
+
+/// Whether a step has its outcome. Another one is printed.
+fn told(rt: &HostRuntime, line: &str, found: &str, wanted: &str) -> Result<bool> {
+    if found != wanted {
+        println!(rt; "{line}\n    has the outcome {found}")?;
+    }
+    Ok(found == wanted)
+}
+
+/// Whether a line is a step.
+fn is_step(line: &str) -> bool {
+    !line.is_empty() && !line.starts_with('#')
+}
+
+/// How many steps there are, and how many have another outcome.
+fn counts<W: Threads, B: Bay + Drop>(
+    threads: &W,
+    rt: &HostRuntime,
+    edges: &mut Edges<B>,
+    text: &str,
+) -> Result<(u64, u64)>
+where
+    B::Disk: Drop,
+    B::Link: Drop,
+{
+    let (mut steps, mut failed): (u64, u64) = (0, 0);
+    for line in text.lines() {
+        if is_step(line) {
             steps = steps.saturating_add(1);
-            if !holds(threads, rt, &mut edges, line)? {
+            if !holds(threads, rt, edges, line)? {
                 failed = failed.saturating_add(1);
             }
         }
     }
+    Ok((steps, failed))
+}
+
+/// How many there are and have, over a bay of any machine and one in memory.
+fn counts_on<W: Threads, R: FileSystem + Network + Drop>(
+    threads: &W,
+    rt: &HostRuntime,
+    machine: HostBay<R>,
+    memory: MemBay,
+    text: &str,
+) -> Result<(u64, u64)> {
+    let mut edges = Edges::new(rt.alloc(), machine, memory);
+    let counts = counts(threads, rt, &mut edges, text);
+    drop(edges);
+    counts
+}
+
+fn main(rt: HostRuntime) -> Result<ExitCode> {
+    let text = fs::read_to_string(&rt, "edge.rows")?;
+    let memory = bay_of(rt.alloc(), &[])?;
+    let machine = HostBay::new(rt, rt.stdin(), rt.stdout(), rt.stderr());
+    let (steps, failed) = counts_on(&rt, &rt, machine, memory, text.as_str())?;
     println!(rt; "{steps} steps, {failed} with another outcome")?;
     Ok(if failed == 0 {
         ExitCode::SUCCESS
     } else {
         ExitCode::FAILURE
     })
-}
-
-/// Does them over any machine's bay.
-fn on_machine<W: Threads, R: FileSystem + Network + Drop>(
-    threads: &W,
-    rt: &HostRuntime,
-    bay: HostBay<R>,
-) -> Result<ExitCode> {
-    try_steps(threads, rt, bay)
-}
-
-fn main(rt: HostRuntime) -> Result<ExitCode> {
-    let bay = HostBay::new(rt, rt.stdin(), rt.stdout(), rt.stderr());
-    on_machine(&rt, &rt, bay)
 }

@@ -1,7 +1,7 @@
 // A bay in memory, whose clients are echoed.
 
 use crate::station::Station;
-use crate::words::number;
+use crate::words::{no_step, number, owned, size, text_of};
 use anyhow::{Result, anyhow};
 use base_terms::{Bytes, Failed};
 use bays::{Link, MemBay, MemLink};
@@ -15,21 +15,36 @@ fn connection(alloc: Global, text: &str) -> Result<(ListSource, ListSink)> {
     Ok((source, ListSink::new(alloc, 100, &[])?))
 }
 
-/// A bay with a disk `x`, a key file `k` of 600 bytes, the address `here` and three clients. The
-/// words are the calls that fail, one of the bay, and then one of each link; `-` is none.
-pub(crate) fn bay_of(alloc: Global, words: &[&str]) -> Result<MemBay> {
+/// The disk `x`.
+fn disks(alloc: Global) -> Result<Vec<(String, MemDisk)>> {
     let mut disks = Vec::new(alloc);
     let disk = MemDisk::new(alloc, 512, 4, 0, &[])?;
     disks.push((String::from_str(alloc, "x")?, disk))?;
+    Ok(disks)
+}
+
+/// The key file `k` of 600 bytes.
+fn keys(alloc: Global) -> Result<Vec<(String, Bytes)>> {
     let mut keys = Vec::new(alloc);
     let key = Bytes::new(vec![in alloc; b'k'; 600]?);
     keys.push((String::from_str(alloc, "k")?, key))?;
+    Ok(keys)
+}
+
+/// Three clients.
+fn clients(alloc: Global) -> Result<Vec<(ListSource, ListSink)>> {
     let mut clients = Vec::new(alloc);
     for text in ["first", "other", "third"] {
         clients.push(connection(alloc, text)?)?;
     }
-    let address = String::from_str(alloc, "here")?;
-    let fails = fails_of(alloc, words)?;
+    Ok(clients)
+}
+
+/// A bay with a disk `x`, a key file `k` of 600 bytes, the address `here` and three clients. The
+/// words are the calls that fail, one of the bay, and then one of each link; `-` is none.
+pub(crate) fn bay_of(alloc: Global, words: &[&str]) -> Result<MemBay> {
+    let (disks, keys, clients) = (disks(alloc)?, keys(alloc)?, clients(alloc)?);
+    let (address, fails) = (owned(alloc, "here")?, fails_of(alloc, words)?);
     Ok(MemBay::new(alloc, disks, keys, address, clients, fails))
 }
 
@@ -69,43 +84,58 @@ fn put_back(alloc: Global, link: &MemLink) -> std::result::Result<Vec<u8>, Alloc
 /// The text that a link's next client sends and gets.
 fn echoed(alloc: Global, link: &mut MemLink) -> Result<String> {
     match echo(link) {
-        Ok(Some(text)) => match str::from_utf8(&text) {
-            Ok(text) => Ok(String::from_str(alloc, text)?),
-            Err(_) => Err(anyhow!("a client sends no text")),
-        },
-        Ok(None) => Ok(String::from_str(alloc, "none")?),
+        Ok(Some(text)) => text_of(alloc, &text),
+        Ok(None) => owned(alloc, "none"),
         Err(Failed) => Ok(format!(in alloc; "Failed {}", link.faults())?),
     }
 }
 
 /// What was put to all clients of a link.
 fn put_to(alloc: Global, link: &MemLink) -> Result<String> {
-    let put = put_back(alloc, link)?;
-    match str::from_utf8(put.as_slice()) {
-        Ok(text) => Ok(String::from_str(alloc, text)?),
-        Err(_) => Err(anyhow!("a client is put no text")),
-    }
+    text_of(alloc, put_back(alloc, link)?.as_slice())
 }
 
-/// A step on a bay in memory.
+/// A step on a bay in memory, which the first word names.
 pub(crate) fn in_memory(
     alloc: Global,
     station: &mut Station<MemBay>,
     words: &[&str],
 ) -> Result<String> {
+    let [step, words @ ..] = words else {
+        return no_step();
+    };
+    match *step {
+        "bay" => made(alloc, station, words),
+        "echo" => on_echo(alloc, station, words),
+        "put" => on_put(alloc, station, words),
+        _ => station.perform(alloc, step, words),
+    }
+}
+
+/// A new bay in place of the one before.
+fn made(alloc: Global, station: &mut Station<MemBay>, words: &[&str]) -> Result<String> {
+    *station = Station::new(alloc, bay_of(alloc, words)?);
+    owned(alloc, "made")
+}
+
+fn on_echo(alloc: Global, station: &mut Station<MemBay>, words: &[&str]) -> Result<String> {
+    match station.links.get_mut(place_of(words)?) {
+        Some(link) => echoed(alloc, link),
+        None => Err(anyhow!("no such link")),
+    }
+}
+
+fn on_put(alloc: Global, station: &Station<MemBay>, words: &[&str]) -> Result<String> {
+    match station.links.get(place_of(words)?) {
+        Some(link) => put_to(alloc, link),
+        None => Err(anyhow!("no such link")),
+    }
+}
+
+/// The place of a link.
+fn place_of(words: &[&str]) -> Result<usize> {
     match words {
-        ["bay", words @ ..] => {
-            *station = Station::new(alloc, bay_of(alloc, words)?);
-            Ok(String::from_str(alloc, "made")?)
-        }
-        ["echo", place] => match station.links.get_mut(number(place)? as usize) {
-            Some(link) => echoed(alloc, link),
-            None => Err(anyhow!("no such link")),
-        },
-        ["put", place] => match station.links.get(number(place)? as usize) {
-            Some(link) => put_to(alloc, link),
-            None => Err(anyhow!("no such link")),
-        },
-        words => station.perform(alloc, words),
+        [place] => size(place),
+        _ => no_step(),
     }
 }

@@ -1,14 +1,14 @@
 // The steps of a row's words.
 
-use crate::client::serve_client;
+use crate::client::{links_at, serve_client};
 use crate::deaf::unheard;
 use crate::edges::{Edge, on_edge};
-use crate::files::on_file;
-use crate::memory::{bay_of, in_memory};
+use crate::files::{cut, made, opened, shown};
+use crate::memory::in_memory;
 use crate::refusing::answers;
 use crate::station::Station;
 use crate::streams::on_stream;
-use crate::words::byte_of;
+use crate::words::no_step;
 use anyhow::Result;
 use bays::{Bay, MemBay};
 use std::alloc::Global;
@@ -28,43 +28,59 @@ where
     B::Disk: Drop,
     B::Link: Drop,
 {
-    /// Nothing yet, and a bay of the machine.
-    pub(crate) fn new(alloc: Global, machine: B) -> Result<Edges<B>> {
-        let memory = bay_of(alloc, &[])?;
-        Ok(Edges {
+    /// Nothing yet, and a bay of the machine and one in memory.
+    pub(crate) fn new(alloc: Global, machine: B, memory: MemBay) -> Edges<B> {
+        Edges {
             edge: Edge::Nothing,
             machine: Station::new(alloc, machine),
             memory: Station::new(alloc, memory),
-        })
+        }
     }
 
-    /// Does a step, and tells its outcome.
+    /// Does a step, which the first word names, and tells its outcome.
     pub(crate) fn perform<W: Threads>(
         &mut self,
         threads: &W,
         rt: &HostRuntime,
         words: &[&str],
     ) -> Result<String> {
-        let alloc = rt.alloc();
-        match words {
-            ["file" | "cut" | "shows" | "opens", ..] => on_file(rt, words),
-            ["memory", words @ ..] => in_memory(alloc, &mut self.memory, words),
-            ["edge", words @ ..] => on_edge(alloc, &mut self.edge, words),
-            ["stream", words @ ..] => on_stream(rt, words),
-            ["refusing"] => answers(alloc, true),
-            ["willing"] => answers(alloc, false),
-            ["deaf", gone] => unheard(alloc, rt.stderr(), u32::from(byte_of(gone)?)),
-            ["taken"] => self.taken(rt),
-            ["client", name] => serve_client(threads, *rt, &mut self.machine, name),
-            words => self.machine.perform(alloc, words),
+        let [step, words @ ..] = words else {
+            return no_step();
+        };
+        match *step {
+            "file" => made(rt, words),
+            "cut" => cut(rt, words),
+            "shows" => shown(rt, words),
+            "opens" => opened(rt, words),
+            "edge" => on_edge(rt.alloc(), &mut self.edge, words),
+            "stream" => on_stream(rt, words),
+            "memory" => in_memory(rt.alloc(), &mut self.memory, words),
+            _ => self.on_machine(threads, rt, step, words),
+        }
+    }
+
+    /// Does a step on the machine's bay, or on its streams and listeners alone.
+    fn on_machine<W: Threads>(
+        &mut self,
+        threads: &W,
+        rt: &HostRuntime,
+        step: &str,
+        words: &[&str],
+    ) -> Result<String> {
+        match step {
+            "refusing" => answers(rt.alloc(), true),
+            "willing" => answers(rt.alloc(), false),
+            "deaf" => unheard(rt.alloc(), rt.stderr(), words),
+            "taken" => self.taken(rt),
+            "client" => serve_client(threads, *rt, &mut self.machine, words),
+            _ => self.machine.perform(rt.alloc(), step, words),
         }
     }
 
     /// What comes of asking for links where somebody listens.
     fn taken(&mut self, rt: &HostRuntime) -> Result<String> {
         let taken = TcpListener::bind(rt, "127.0.0.1:0")?;
-        let address = taken.local_addr()?.to_string(rt.alloc())?;
-        let words = ["links", address.as_str(), "4", "1"];
-        self.machine.perform(rt.alloc(), &words)
+        let address = taken.local_addr()?;
+        links_at(rt.alloc(), &mut self.machine, address, "4")
     }
 }

@@ -1,11 +1,11 @@
 // Streams that fail, are slow or are counted, and a pipe of the system.
 
-use crate::edges::{on_sink, on_source};
-use crate::words::number;
-use anyhow::{Result, anyhow};
+use crate::edges::{push, put, taken};
+use crate::words::{add, counted, no_step, size, text_of};
+use anyhow::Result;
 use io_edge::{
     Converted, FaultPlan, Gate, GatheringWriter, OpenGate, OsSeeds, OutputStream, Place, Seeds,
-    Sink, StdSink, StdSource, VoidSink, WritePair,
+    Sink, Source, StdSink, StdSource, VoidSink, WritePair,
 };
 use std::alloc::Global;
 use std::cell::Cell;
@@ -127,13 +127,22 @@ impl WritePair for Pipe {
 /// What a source takes that a sink puts through a pipe of the system, and at its end.
 fn piped(rt: &HostRuntime) -> Result<String> {
     let (reader, writer) = io::pipe(rt)?;
-    let mut source = StdSource::new(reader);
-    let mut sink = StdSink::new(GatheringWriter::new(rt.alloc(), 2, Pipe { writer })?);
-    let put = put_all(rt.alloc(), &mut sink, &["abc", "push"])?;
-    drop(sink);
-    let first = on_source(rt.alloc(), &mut source, &["take"])?;
-    let last = on_source(rt.alloc(), &mut source, &["take"])?;
-    Ok(format!(in rt.alloc(); "{put}; {first}, {last}")?)
+    let put = put_through(rt.alloc(), writer);
+    let taken = taken_twice(rt.alloc(), &mut StdSource::new(reader));
+    Ok(format!(in rt.alloc(); "{}; {}", put?, taken?)?)
+}
+
+/// What a source takes, and what it takes then.
+fn taken_twice<S: Source>(alloc: Global, source: &mut S) -> Result<String> {
+    let first = taken(alloc, source)?;
+    let last = taken(alloc, source)?;
+    Ok(format!(in alloc; "{first}, {last}")?)
+}
+
+/// Puts a text through a pipe, and closes it.
+fn put_through(alloc: Global, writer: PipeWriter) -> Result<String> {
+    let writer = GatheringWriter::new(alloc, 2, Pipe { writer })?;
+    put_all(alloc, &mut StdSink::new(writer), &["abc", "push"])
 }
 
 fn slow_stream(alloc: Global, room: usize, most: usize) -> Slow {
@@ -155,47 +164,62 @@ fn done(answer: Result<(), ErrorKind>) -> io::Result<()> {
 
 /// What is written to a slow stream by a writer that gathers pieces, and how many calls the first
 /// one of them makes.
-fn gathered(alloc: Global, most: usize) -> Result<String> {
-    let pieces: [&[u8]; 5] = [b"abc", b"defghijklmno", b"p", b"qr", b"stuvw"];
-    let mut writer = GatheringWriter::new(alloc, 4, slow_stream(alloc, 100, most))?;
+fn gathered(alloc: Global, words: &[&str]) -> Result<String> {
+    let [most] = words else {
+        return no_step();
+    };
+    let slow = slow_stream(alloc, 100, size(most)?);
+    let mut writer = GatheringWriter::new(alloc, 4, slow)?;
+    let calls = calls_of_pieces(&mut writer)?;
+    let text = text_of(alloc, writer.writer().text.as_slice())?;
+    Ok(format!(in alloc; "{calls} {text}")?)
+}
+
+/// Writes a short piece, and tells how many calls that makes; then other short ones and long ones.
+fn calls_of_pieces(writer: &mut GatheringWriter<Slow>) -> io::Result<u32> {
     done(writer.write_all(b"ABC"))?;
     let calls = writer.writer().calls;
+    write_pieces(writer)?;
+    Ok(calls)
+}
+
+fn write_pieces(writer: &mut GatheringWriter<Slow>) -> io::Result<()> {
+    let pieces: [&[u8]; 5] = [b"abc", b"defghijklmno", b"p", b"qr", b"stuvw"];
     for piece in pieces {
         done(writer.write_all(piece))?;
     }
-    done(writer.flush())?;
-    match str::from_utf8(writer.writer().text.as_slice()) {
-        Ok(text) => Ok(format!(in alloc; "{calls} {text}")?),
-        Err(_) => Err(anyhow!("no text is written")),
-    }
+    done(writer.flush())
 }
 
 /// How many bytes were written of those that are held back, before the writer is dropped and after.
 fn dropped(alloc: Global) -> Result<String> {
     let taken = Rc::new(alloc, Cell::new(0))?;
-    let counting = Counting {
-        taken: taken.clone()?,
-    };
-    let mut writer = GatheringWriter::new(alloc, 8, counting)?;
-    done(writer.write_all(b"abcde"))?;
-    let before = taken.get();
-    drop(writer);
+    let before = held_back(alloc, taken.clone()?, &taken)?;
     Ok(format!(in alloc; "{before} {}", taken.get())?)
+}
+
+/// Writes a short piece, and tells how much of it was written before the writer is dropped.
+fn held_back(alloc: Global, taken: Rc<Cell<usize>>, count: &Cell<usize>) -> Result<usize> {
+    let mut writer = GatheringWriter::new(alloc, 8, Counting { taken })?;
+    done(writer.write_all(b"abcde"))?;
+    Ok(count.get())
 }
 
 /// The answers of these steps on a sink, one after the other.
 fn put_all<K: Sink>(alloc: Global, sink: &mut K, words: &[&str]) -> Result<String> {
     let mut told = String::new(alloc);
     for word in words {
-        let answer = if *word == "push" {
-            on_sink(alloc, sink, &["push"])?
-        } else {
-            on_sink(alloc, sink, &["put", *word])?
-        };
-        told = format!(in alloc; "{told}{answer}, ")?;
+        add(&mut told, put_or_push(alloc, sink, word))?;
     }
     told.push_str("end")?;
     Ok(told)
+}
+
+fn put_or_push<K: Sink>(alloc: Global, sink: &mut K, word: &str) -> Result<String> {
+    match word {
+        "push" => push(alloc, sink),
+        _ => put(alloc, sink, word),
+    }
 }
 
 /// A sink over a slow stream that takes six bytes, two by two.
@@ -204,13 +228,23 @@ fn put_slowly(alloc: Global, words: &[&str]) -> Result<String> {
     put_all(alloc, &mut StdSink::new(writer), words)
 }
 
+/// A sink that drops all, behind an open gate.
+fn put_nowhere(alloc: Global, words: &[&str]) -> Result<String> {
+    OpenGate.tell(Converted {
+        done: 0,
+        blocks: 1,
+        atom: 512,
+    });
+    OpenGate.pause(Place::Work);
+    put_all(alloc, &mut VoidSink, words)
+}
+
 /// Takes from a reader that has troubles, as often as there are words.
 fn taken_in_trouble(alloc: Global, words: &[&str]) -> Result<String> {
     let mut source = StdSource::new(Troubled { calls: 0 });
     let mut told = String::new(alloc);
-    for word in words {
-        let answer = on_source(alloc, &mut source, &[*word])?;
-        told = format!(in alloc; "{told}{answer}, ")?;
+    for _ in words {
+        add(&mut told, taken(alloc, &mut source))?;
     }
     told.push_str("end")?;
     Ok(told)
@@ -222,7 +256,7 @@ fn planned(alloc: Global, words: &[&str]) -> Result<String> {
     let mut told = String::new(alloc);
     for word in words {
         let failing = plan.is_failing(*word != "-");
-        told = format!(in alloc; "{told}{failing} {}, ", plan.faults())?;
+        add(&mut told, counted(alloc, &failing, plan.faults()))?;
     }
     told.push_str("end")?;
     Ok(told)
@@ -231,39 +265,35 @@ fn planned(alloc: Global, words: &[&str]) -> Result<String> {
 /// Whether two draws of the system differ, and go past 256 bytes; and that a system without
 /// randomness fails.
 fn random(rt: &HostRuntime) -> Result<String> {
+    let drawn = drawn(rt)?;
+    let mut none = OsSeeds::new(NoEntropy);
+    let refused = none.fill(&mut [0; 300]);
+    Ok(format!(in rt.alloc(); "{drawn}, {refused:?} {}", none.faults())?)
+}
+
+/// Two draws of the system.
+fn drawn(rt: &HostRuntime) -> Result<String> {
     let mut seeds = OsSeeds::new(rt);
     let (mut first, mut second) = ([0; 300], [0; 300]);
     let answers = (seeds.fill(&mut first), seeds.fill(&mut second));
     let differ = first != second && first[268..] != [0; 32];
-    let mut none = OsSeeds::new(NoEntropy);
-    let refused = none.fill(&mut first);
-    Ok(format!(in rt.alloc();
-        "{answers:?} {differ} {}, {refused:?} {}",
-        seeds.faults(),
-        none.faults()
-    )?)
+    Ok(format!(in rt.alloc(); "{answers:?} {differ} {}", seeds.faults())?)
 }
 
-/// A step on a stream.
+/// A step on a stream, which the first word names.
 pub(crate) fn on_stream(rt: &HostRuntime, words: &[&str]) -> Result<String> {
-    let alloc = rt.alloc();
-    match words {
-        ["gather", most] => gathered(alloc, number(most)? as usize),
-        ["dropped"] => dropped(alloc),
-        ["slowly", words @ ..] => put_slowly(alloc, words),
-        ["void", words @ ..] => {
-            OpenGate.tell(Converted {
-                done: 0,
-                blocks: 1,
-                atom: 512,
-            });
-            OpenGate.pause(Place::Work);
-            put_all(alloc, &mut VoidSink, words)
-        }
-        ["troubled", words @ ..] => taken_in_trouble(alloc, words),
-        ["plan", words @ ..] => planned(alloc, words),
-        ["random"] => random(rt),
-        ["pipe"] => piped(rt),
-        _ => Err(anyhow!("no such step on a stream")),
+    let [step, words @ ..] = words else {
+        return no_step();
+    };
+    match *step {
+        "gather" => gathered(rt.alloc(), words),
+        "dropped" => dropped(rt.alloc()),
+        "slowly" => put_slowly(rt.alloc(), words),
+        "void" => put_nowhere(rt.alloc(), words),
+        "troubled" => taken_in_trouble(rt.alloc(), words),
+        "plan" => planned(rt.alloc(), words),
+        "random" => random(rt),
+        "pipe" => piped(rt),
+        _ => no_step(),
     }
 }
