@@ -3,14 +3,14 @@
 ghost use Rattle.std.specs.Prelude.{◌≡◌};
 ghost use Rattle.luks_init.specs.Wishes.{IsWish};
 
+use crate::same::same;
 use base_terms::zeros;
 use disk_sizes::Sizes;
-use luks_init::{Guard, InitFault, Places, Wish, begin};
+use luks_init::{Begun, Guard, InitFault, Places, Wish, begin};
 use luks_json::{Cipher, Direction, Meta};
 use luks_keys::{drawn_len, split_drawn};
 use luks_rules::check;
 use std::alloc::{AllocError, Global};
-use std::test::Fail;
 
 /// A volume whose segment begins at 16 MiB and goes to the disk's end, with a keyslot of another
 /// program from byte 98304 on.
@@ -57,55 +57,59 @@ fn begun(
     text: &str,
     resilience: Guard,
     pass: &[u8],
-) -> Result<Result<Places, InitFault>, Fail> {
+) -> Result<Result<Places, InitFault>, AllocError> {
     let Ok(meta) = Meta::read(alloc, text.as_bytes(), 16384) else {
-        return Err(Fail::from(AllocError));
+        return Err(AllocError);
     };
     let Ok(valid) = check(alloc, meta, SIZES) else {
-        return Err(Fail::from(AllocError));
+        return Err(AllocError);
     };
     let bytes = zeros(alloc, drawn_len(32))?;
     let (drawn, _) = split_drawn(32, bytes.as_slice());
-    match begin(alloc, &valid, &wish(resilience), pass, drawn) {
-        Ok(begun) => Ok(Ok(begun.places)),
+    let begun = begin(alloc, &valid, &wish(resilience), pass, drawn);
+    drop(valid);
+    match begun {
+        Ok(begun) => Ok(Ok(places_of(begun))),
         Err(fault) => Ok(Err(fault)),
     }
 }
 
+fn places_of(begun: Begun) -> Places {
+    let places = begun.places;
+    drop(begun);
+    places
+}
+
 #[test]
-fn areas_take_the_lowest_places(rt: HostRuntime) -> Result<(), Fail> {
+fn areas_take_the_lowest_places(rt: HostRuntime) {
+    let alloc = rt.alloc();
     let places = Places {
         key: 163_840,
         guard: 32_768,
     };
-    assert_eq!(rt;
-        begun(rt.alloc(), IDLE, Guard::Journal, b"word")?,
-        Ok(places)
-    );
+    let found = begun(alloc, IDLE, Guard::Journal, b"word");
+    same(&rt, found, Ok(Ok(places)));
     let places = Places {
         key: 98_304,
         guard: 229_376,
     };
-    assert_eq!(rt;
-        begun(rt.alloc(), SMALL, Guard::Checksum, b"word")?,
-        Ok(places)
-    );
-    Ok(())
+    let found = begun(alloc, SMALL, Guard::Checksum, b"word");
+    same(&rt, found, Ok(Ok(places)));
 }
 
 #[test]
-fn faults_come_in_their_order(rt: HostRuntime) -> Result<(), Fail> {
+fn faults_come_in_their_order(rt: HostRuntime) {
     let alloc = rt.alloc();
-    let under_way = begun(alloc, BEGUN, Guard::Journal, b"")?;
-    assert_eq!(rt; under_way, Err(InitFault::InProgress));
-    let linear = begun(alloc, LINEAR, Guard::Journal, b"")?;
-    assert_eq!(rt; linear, Err(InitFault::Linear));
-    let empty = InitFault::Passphrase { len: 0 };
-    assert_eq!(rt; begun(alloc, SMALL, Guard::Journal, b"")?, Err(empty));
+    let found = begun(alloc, BEGUN, Guard::Journal, b"");
+    same(&rt, found, Ok(Err(InitFault::InProgress)));
+    let found = begun(alloc, LINEAR, Guard::Journal, b"");
+    same(&rt, found, Ok(Err(InitFault::Linear)));
+    let found = begun(alloc, SMALL, Guard::Journal, b"");
+    same(&rt, found, Ok(Err(InitFault::Passphrase { len: 0 })));
+    let found = begun(alloc, SMALL, Guard::Journal, b"word");
     let area = InitFault::Area {
         wanted: 65_536,
         gap: 4096,
     };
-    assert_eq!(rt; begun(alloc, SMALL, Guard::Journal, b"word")?, Err(area));
-    Ok(())
+    same(&rt, found, Ok(Err(area)));
 }

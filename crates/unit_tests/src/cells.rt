@@ -4,6 +4,7 @@ ghost use Rattle.volume_cell.specs.Knowing.{IsWhole};
 ghost use Rattle.volume_cell.specs.Passes.{known, IsPassOf};
 ghost use denote.Param.Send.{IsSync};
 
+use crate::same::same;
 use std::sync::Wait;
 use std::test::Fail;
 use std::thread::{Threads, join};
@@ -99,21 +100,20 @@ fn ask_in_tree<R: Threads + Wait + Sync>(
     (pass, rising)
 }
 
-/// Whether the answers of each thread of such a tree rose, and the counter that is left.
+/// Whether the answers of each thread of such a tree rose, and how often the counter that is left
+/// acted.
 fn rise_in_tree<R: AllocGlobal + Threads + Wait + Sync>(
     rt: &R,
     limit: u64,
     levels: u32,
     turns: u32,
-) -> Result<(bool, Counter), Fail>
+) -> Option<(bool, u64)>
     requires { (1 ≤ limit) × (limit < 2 ^ 63 - 1) }
 {
-    let Ok((cell, pass)) = Cell::new(rt.alloc(), Counter { count: 0 }, limit) else {
-        return Err(Fail::new("no memory"));
-    };
+    let (cell, pass) = Cell::new(rt.alloc(), Counter { count: 0 }, limit).ok()?;
     let (pass, rising) = ask_in_tree(rt, &cell, pass, levels, turns);
     let (machine, _) = cell.close(pass);
-    Ok((rising, machine))
+    Some((rising, machine.count))
 }
 
 /// Answers 0, 1, 2 and so on. Each pass may ask three times.
@@ -174,12 +174,23 @@ fn ask_by_two<R: AllocGlobal + Threads + Wait + Sync>(
     Some((one, two, three, closed))
 }
 
+/// The tickets that they draw.
+fn drawn_by_two<R: AllocGlobal + Threads + Wait + Sync>(rt: &R) -> Option<(u64, u64, u64)> {
+    let (one, two, three, _) = ask_by_two(rt)?;
+    Some((one, two, three))
+}
+
 #[test]
 fn two_passes_draw_tickets(rt: HostRuntime) {
-    assert_eq!(rt;
-        ask_by_two(&rt).map(|drawn| (drawn.0, drawn.1, drawn.2)),
-        Some((0, 1, 2))
-    );
+    same(&rt, drawn_by_two(&rt), Some((0, 1, 2)));
+}
+
+/// What a turn was answered, or the event that came back.
+fn told(answer: Result<u64, Spent<()>>) -> Result<u64, ()> {
+    match answer {
+        Ok(count) => Ok(count),
+        Err(Spent { event }) => Err(event),
+    }
 }
 
 #[test]
@@ -187,42 +198,33 @@ fn the_third_turn_of_two_is_spent_and_hands_its_event_back(rt: HostRuntime) -> R
     let Ok((cell, mut pass)) = Cell::new(rt.alloc(), Counter { count: 0 }, 2) else {
         return Err(Fail::new("no memory"));
     };
-    assert_eq!(rt; cell.turn(&rt, &mut pass, ()), Ok(0));
-    assert_eq!(rt; cell.turn(&rt, &mut pass, ()), Ok(1));
-    assert_eq!(rt; cell.turn(&rt, &mut pass, ()), Err(Spent { event: () }));
+    same(&rt, told(cell.turn(&rt, &mut pass, ())), Ok(0));
+    same(&rt, told(cell.turn(&rt, &mut pass, ())), Ok(1));
+    same(&rt, told(cell.turn(&rt, &mut pass, ())), Err(()));
     let (machine, _) = cell.close(pass);
-    assert_eq!(rt; machine, Counter { count: 2 });
+    same(&rt, machine.count, 2);
     Ok(())
 }
 
 #[test]
-fn one_two_four_and_sixteen_threads_rise_and_leave_the_sum(rt: HostRuntime) -> Result<(), Fail> {
+fn one_two_four_and_sixteen_threads_rise_and_leave_the_sum(rt: HostRuntime) {
     for (levels, sum) in [(0, 100_000), (1, 200_000), (2, 400_000), (4, 1_600_000)] {
-        assert_eq!(rt;
-            rise_in_tree(&rt, 1 << 40, levels, 100_000)?,
-            (true, Counter { count: sum })
-        );
+        let risen = rise_in_tree(&rt, 1 << 40, levels, 100_000);
+        same(&rt, risen, Some((true, sum)));
     }
-    Ok(())
 }
 
 /// Each thread finds the history full at its end, so none may be left asleep.
 #[test]
-fn sixteen_threads_that_ask_until_it_is_full_all_return(rt: HostRuntime) -> Result<(), Fail> {
+fn sixteen_threads_that_ask_until_it_is_full_all_return(rt: HostRuntime) {
     for _ in 0..20 {
-        assert_eq!(rt;
-            rise_in_tree(&rt, 1000, 4, u32::MAX)?,
-            (true, Counter { count: 1000 })
-        );
+        let risen = rise_in_tree(&rt, 1000, 4, u32::MAX);
+        same(&rt, risen, Some((true, 1000)));
     }
-    Ok(())
 }
 
 #[test]
-fn a_tree_of_three_levels_is_joined_and_closed(rt: HostRuntime) -> Result<(), Fail> {
-    assert_eq!(rt;
-        rise_in_tree(&rt, 1 << 40, 3, 1000)?,
-        (true, Counter { count: 8000 })
-    );
-    Ok(())
+fn a_tree_of_three_levels_is_joined_and_closed(rt: HostRuntime) {
+    let risen = rise_in_tree(&rt, 1 << 40, 3, 1000);
+    same(&rt, risen, Some((true, 8000)));
 }

@@ -1,3 +1,4 @@
+use crate::same::same;
 use resil_checksum::{capacity, clash, judge, save, saved_len};
 use resil_terms::Judged;
 use sha2::{Digest, Sha256};
@@ -12,20 +13,26 @@ const SAVED: &str = "\
 
 #[test]
 fn a_zone_has_a_block_for_each_whole_digest(rt: HostRuntime) {
-    assert_eq!(rt; capacity(4096, 4096), 128);
-    assert_eq!(rt; capacity(4096, 512), 128);
-    assert_eq!(rt; capacity(63, 4096), 1);
-    assert_eq!(rt; capacity(31, 512), 0);
-    assert_eq!(rt; capacity(0, 512), 0);
+    let blocks = [
+        capacity(4096, 4096),
+        capacity(4096, 512),
+        capacity(63, 4096),
+        capacity(31, 512),
+        capacity(0, 512),
+    ];
+    same(&rt, blocks, [128, 128, 1, 0, 0]);
 }
 
 #[test]
 fn digests_take_whole_atoms(rt: HostRuntime) {
-    assert_eq!(rt; saved_len(0, 512), 0);
-    assert_eq!(rt; saved_len(1, 512), 512);
-    assert_eq!(rt; saved_len(16, 512), 512);
-    assert_eq!(rt; saved_len(17, 512), 1024);
-    assert_eq!(rt; saved_len(128, 4096), 4096);
+    let lengths = [
+        saved_len(0, 512),
+        saved_len(1, 512),
+        saved_len(16, 512),
+        saved_len(17, 512),
+        saved_len(128, 4096),
+    ];
+    same(&rt, lengths, [0, 512, 512, 1024, 4096]);
 }
 
 #[test]
@@ -33,22 +40,26 @@ fn saved_digests_are_those_of_another_implementation(rt: HostRuntime) -> Result<
     for parts in 1..4 {
         let mut out = [7; 66];
         save(&rt, b"abcabd", 3, &mut out, parts);
-        assert_eq!(rt; hex::encode(rt.alloc(), &out)?.as_str(), SAVED);
+        same(&rt, hex::encode(rt.alloc(), &out)?.as_str(), SAVED);
     }
     Ok(())
 }
 
 #[test]
 fn atoms_are_judged_by_their_digests(rt: HostRuntime) {
-    assert_eq!(rt; judge(b"abd", &Sha256::digest(b"abd")), Judged::Old);
-    assert_eq!(rt; judge(b"abd", &Sha256::digest(b"abc")), Judged::New);
+    same(&rt, judge(b"abd", &Sha256::digest(b"abd")), Judged::Old);
+    same(&rt, judge(b"abd", &Sha256::digest(b"abc")), Judged::New);
 }
 
 #[test]
 fn lowest_clash_is_found(rt: HostRuntime) {
     for parts in 1..5 {
-        assert_eq!(rt; clash(&rt, b"abcabdabe", b"abxabdabe", 3, parts), Some(1));
-        assert_eq!(rt; clash(&rt, b"abcabd", b"abdabc", 3, parts), None);
-        assert_eq!(rt; clash(&rt, b"", b"", 3, parts), None);
+        same(
+            &rt,
+            clash(&rt, b"abcabdabe", b"abxabdabe", 3, parts),
+            Some(1),
+        );
+        same(&rt, clash(&rt, b"abcabd", b"abdabc", 3, parts), None);
+        same(&rt, clash(&rt, b"", b"", 3, parts), None);
     }
 }

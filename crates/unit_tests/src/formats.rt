@@ -4,11 +4,13 @@ ghost use Rattle.std.specs.Prelude.{◌≡◌, length, IfOk};
 ghost use Rattle.luks_format.specs.Drawings.{drawn_len};
 ghost use Rattle.luks_format.specs.Wishes.{IsWish};
 
-use base_terms::zeros;
+use crate::same::same;
+use base_terms::{Bytes, zeros};
 use luks_format::{Wish, drawn_len, identifier_field, identifier_for, make_meta, split_drawn};
 use luks_json::Cipher;
 use sha2::{Digest, Sha256};
 use std::alloc::{AllocError, Global};
+use std::process::Abort;
 use std::test::Fail;
 use uuid::Uuid;
 
@@ -22,9 +24,9 @@ const CBC_DIGEST: &str = "e7265abdb3b4e86c9a794b309cf9b7d8b331f8f8f4e8fc08cc0b82
 // the drawn bytes.
 const GIVEN: &str = "12345678-1234-4234-8234-123456789ABC";
 
-const GIVEN_FIELD: &[u8] = b"12345678-1234-4234-8234-123456789abc\0\0\0\0";
+const GIVEN_FIELD: [u8; 40] = *b"12345678-1234-4234-8234-123456789abc\0\0\0\0";
 
-const RANDOM_FIELD: &[u8] = b"83048e2b-d18a-4126-89f5-f406214a81c6\0\0\0\0";
+const RANDOM_FIELD: [u8; 40] = *b"83048e2b-d18a-4126-89f5-f406214a81c6\0\0\0\0";
 
 #[tactic(auto, unfolding(luks_bin::specs::Fields::is_size))]
 fn xts_wish() -> Wish
@@ -96,14 +98,26 @@ fn draw_for(alloc: Global, wish: &Wish) -> Result<Vec<u8>, AllocError>
     Ok(bytes)
 }
 
-// The digest of the text of a new volume's metadata, in hexadecimal digits.
-fn text_digest(alloc: Global, wish: &Wish) -> Result<String, AllocError>
+// The text of a new volume's metadata.
+fn text_of(alloc: Global, wish: &Wish) -> Result<Bytes, AllocError>
     requires { IsWish wish.now }
 {
     let bytes = draw_for(alloc, wish)?;
     let drawn = split_drawn(wish, bytes.as_slice());
-    let text = make_meta(alloc, wish, &drawn)?.write(alloc)?;
-    hex::encode(alloc, &Sha256::digest(text.as_slice()))
+    let meta = make_meta(alloc, wish, &drawn)?;
+    let text = meta.write(alloc);
+    drop(meta);
+    text
+}
+
+// Asserts that the digest of that text has these hexadecimal digits.
+fn has_digest<R: Abort>(rt: &R, alloc: Global, wish: &Wish, digits: &str) -> Result<(), AllocError>
+    requires { IsWish wish.now }
+{
+    let text = text_of(alloc, wish)?;
+    let found = hex::encode(alloc, &Sha256::digest(text.as_slice()))?;
+    same(rt, found.as_str(), digits);
+    Ok(())
 }
 
 // The field of a new volume's identifier.
@@ -116,31 +130,27 @@ fn field(alloc: Global, wish: &Wish) -> Result<[u8; 40], AllocError>
 }
 
 #[test]
-fn random_volume_is_that_of_another_implementation(rt: HostRuntime) -> Result<(), Fail> {
+fn random_volume_is_that_of_another_implementation(rt: HostRuntime) -> Result<(), AllocError> {
     let wish = xts_wish();
-    assert_eq!(rt; drawn_len(&wish), 256_208);
-    let field = field(rt.alloc(), &wish)?;
-    assert_eq!(rt; field.as_slice(), RANDOM_FIELD);
-    assert_eq!(rt; text_digest(rt.alloc(), &wish)?.as_str(), XTS_DIGEST);
-    Ok(())
+    same(&rt, drawn_len(&wish), 256_208);
+    same(&rt, field(rt.alloc(), &wish), Ok(RANDOM_FIELD));
+    has_digest(&rt, rt.alloc(), &wish, XTS_DIGEST)
 }
 
 #[test]
 fn named_volume_is_that_of_another_implementation(rt: HostRuntime) -> Result<(), Fail> {
-    let given = Uuid::parse_str(GIVEN);
-    assert!(rt; given.is_ok());
-    let Ok(given) = given else { return Ok(()) };
+    let Ok(given) = Uuid::parse_str(GIVEN) else {
+        return Err(Fail::new("no identifier"));
+    };
     let wish = cbc_wish(given);
-    assert_eq!(rt; drawn_len(&wish), 64_192);
-    let field = field(rt.alloc(), &wish)?;
-    assert_eq!(rt; field.as_slice(), GIVEN_FIELD);
-    assert_eq!(rt; text_digest(rt.alloc(), &wish)?.as_str(), CBC_DIGEST);
+    same(&rt, drawn_len(&wish), 64_192);
+    same(&rt, field(rt.alloc(), &wish), Ok(GIVEN_FIELD));
+    has_digest(&rt, rt.alloc(), &wish, CBC_DIGEST)?;
     Ok(())
 }
 
 #[test]
-fn detached_keyslots_end_at_sixteen_mebibytes(rt: HostRuntime) -> Result<(), Fail> {
-    assert_eq!(rt; detached_wish(false).keyslots_size(), 16_744_448);
-    assert_eq!(rt; detached_wish(true).keyslots_size(), 8_388_608);
-    Ok(())
+fn detached_keyslots_end_at_sixteen_mebibytes(rt: HostRuntime) {
+    same(&rt, detached_wish(false).keyslots_size(), 16_744_448);
+    same(&rt, detached_wish(true).keyslots_size(), 8_388_608);
 }

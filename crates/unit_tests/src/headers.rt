@@ -1,5 +1,7 @@
 ghost use Rattle.std.specs.Prelude.{◌≡◌, ◌≤◌, length, IfOk};
+ghost use Rattle.luks_bin.specs.Writing.{IsWritable};
 
+use crate::same::same;
 use base_terms::zeros;
 use luks_bin::{
     BinFault, BinHeader, first_difference, hides_copy, json_text, move_copy, read_copy, read_size,
@@ -27,17 +29,28 @@ const SUM_OF_A_LIST: [u8; 32] =
 const SUM_OF_SECONDARY: [u8; 32] =
     *b"\x7c\xc4\xa0\x56\x1a\xa8\x4f\x85\x64\xaf\x3a\xcd\x97\xec\x47\xcb\x56\xf8\x53\x7b\x76\x1c\xf0\x8b\x33\x8b\xeb\x9c\x19\xa2\x10\x17";
 
-/// A header of 16384 bytes.
-fn sample(hdr_offset: u64) -> BinHeader {
+/// A primary's header of 16384 bytes, with this number.
+#[tactic(auto, unfolding(luks_bin::specs::Fields::is_size))]
+pub(crate) fn header(seqid: u64) -> BinHeader
+    ensures right { IsWritable result }
+    ensures size { result.hdr_size ≡ 16384 }
+{
     BinHeader {
         hdr_size: 16384,
-        seqid: 3,
+        seqid,
         label: LABEL,
         salt: [7; 64],
         uuid: UUID,
         subsystem: SUBSYSTEM,
-        hdr_offset,
+        hdr_offset: 0,
     }
+}
+
+/// A header of 16384 bytes.
+fn sample(hdr_offset: u64) -> BinHeader {
+    let mut header = header(3);
+    header.hdr_offset = hdr_offset;
+    header
 }
 
 /// Its primary with the text `{}`.
@@ -45,16 +58,8 @@ fn sample(hdr_offset: u64) -> BinHeader {
 fn primary(alloc: Global) -> Result<Vec<u8>, AllocError>
     ensures { IfOk result (λ copy. length copy.items ≡ 16384) }
 {
-    let header = BinHeader {
-        hdr_size: 16384,
-        seqid: 3,
-        label: LABEL,
-        salt: [7; 64],
-        uuid: UUID,
-        subsystem: SUBSYSTEM,
-        hdr_offset: 0,
-    };
-    let mut copy = zeros(alloc, 16384)?;
+    let header = header(3);
+    let mut copy = zeros(alloc, header.hdr_size as usize)?;
     write_copy(&header, b"{}", &mut copy);
     Ok(copy)
 }
@@ -92,10 +97,10 @@ fn front(bytes: &[u8], len: usize) -> &[u8]
 #[test]
 fn a_written_copy_is_read_and_has_its_sum(rt: HostRuntime) -> Result<(), Fail> {
     let copy = primary(rt.alloc())?;
-    assert!(rt; read_copy(&copy, 0) == Ok(sample(0)));
-    assert_eq!(rt; read_size(front(&copy, 4096), 0, 16384), Ok(16384));
-    assert_eq!(rt; json_text(&copy), b"{}".as_slice());
-    assert_eq!(rt; &copy[448..480], SUM.as_slice());
+    same(&rt, read_copy(&copy, 0), Ok(sample(0)));
+    same(&rt, read_size(front(&copy, 4096), 0, 16384), Ok(16384));
+    same(&rt, json_text(&copy), b"{}".as_slice());
+    same(&rt, &copy[448..480], SUM.as_slice());
     Ok(())
 }
 
@@ -104,40 +109,49 @@ fn a_moved_copy_is_that_of_its_place(rt: HostRuntime) -> Result<(), Fail> {
     let copy = primary(rt.alloc())?;
     let mut secondary = primary(rt.alloc())?;
     move_copy(&mut secondary, 16384, &[7; 64]);
-    assert!(rt; read_copy(&secondary, 16384) == Ok(sample(16384)));
-    assert_eq!(rt; &secondary[448..480], SUM_OF_SECONDARY.as_slice());
-    assert_eq!(rt; read_copy(&secondary, 0), Err(BinFault::Magic));
-    assert_eq!(rt; read_copy(&secondary, 32768), Err(BinFault::Place(16384)));
-    assert_eq!(rt; copy.len(), secondary.len());
-    assert_eq!(rt; first_difference(&copy, &secondary), None);
+    same(&rt, read_copy(&secondary, 16384), Ok(sample(16384)));
+    same(&rt, &secondary[448..480], SUM_OF_SECONDARY.as_slice());
+    same(&rt, read_copy(&secondary, 0), Err(BinFault::Magic));
+    same(
+        &rt,
+        read_copy(&secondary, 32768),
+        Err(BinFault::Place(16384)),
+    );
+    same(&rt, copy.len(), secondary.len());
+    same(&rt, first_difference(&copy, &secondary), None);
     Ok(())
 }
 
-#[test]
-fn a_changed_field_is_the_fault_with_what_stood_there(rt: HostRuntime) -> Result<(), Fail> {
-    let changes = [
-        (0, b"SKUL\xba\xbe".as_slice(), BinFault::Magic),
-        (6, b"\0\x01".as_slice(), BinFault::Version(1)),
-        (8, b"\0\0\0\0\0\0\x20\0".as_slice(), BinFault::Size(8192)),
-        (8, b"\0\0\0\0\0\0\x60\0".as_slice(), BinFault::Size(24576)),
-        (8, b"\0\0\0\0\0\0\x80\0".as_slice(), BinFault::Size(16384)),
-        (
-            256,
-            b"\0\0\0\0\0\0\x40\0".as_slice(),
-            BinFault::Place(16384),
-        ),
-        (72, b"sha512".as_slice(), BinFault::Algorithm),
-        (24, [b'A'; 48].as_slice(), BinFault::Text(24)),
-        (168, [b'A'; 40].as_slice(), BinFault::Text(168)),
-        (208, [b'A'; 48].as_slice(), BinFault::Text(208)),
-    ];
-    for (at, bytes, fault) in changes {
-        let mut copy = primary(rt.alloc())?;
-        put_if_within(&mut copy, at, bytes);
-        put_sum(&mut copy);
-        assert_eq!(rt; read_copy(&copy, 0), Err(fault), "at {at}");
+/// A field's place, other bytes of it, and what is wrong then.
+const CHANGES: &[(usize, &[u8], BinFault)] = &[
+    (0, b"SKUL\xba\xbe", BinFault::Magic),
+    (6, b"\0\x01", BinFault::Version(1)),
+    (8, b"\0\0\0\0\0\0\x20\0", BinFault::Size(8192)),
+    (8, b"\0\0\0\0\0\0\x60\0", BinFault::Size(24576)),
+    (8, b"\0\0\0\0\0\0\x80\0", BinFault::Size(16384)),
+    (256, b"\0\0\0\0\0\0\x40\0", BinFault::Place(16384)),
+    (72, b"sha512", BinFault::Algorithm),
+    (24, &[b'A'; 48], BinFault::Text(24)),
+    (168, &[b'A'; 40], BinFault::Text(168)),
+    (208, &[b'A'; 48], BinFault::Text(208)),
+];
+
+/// What is wrong with a primary that has other bytes in one place, and their sum.
+fn fault_of(alloc: Global, at: usize, bytes: &[u8]) -> Result<Option<BinFault>, AllocError> {
+    let mut copy = primary(alloc)?;
+    put_if_within(&mut copy, at, bytes);
+    put_sum(&mut copy);
+    match read_copy(&copy, 0) {
+        Ok(_) => Ok(None),
+        Err(fault) => Ok(Some(fault)),
     }
-    Ok(())
+}
+
+#[test]
+fn a_changed_field_is_the_fault_with_what_stood_there(rt: HostRuntime) {
+    for (at, bytes, fault) in CHANGES {
+        same(&rt, fault_of(rt.alloc(), *at, bytes), Ok(Some(*fault)));
+    }
 }
 
 #[test]
@@ -150,7 +164,7 @@ fn a_changed_text_is_told_by_both_sums(rt: HostRuntime) -> Result<(), Fail> {
         stored,
         computed: SUM_OF_A_LIST,
     };
-    assert_eq!(rt; read_copy(&copy, 0), Err(fault));
+    same(&rt, read_copy(&copy, 0), Err(fault));
     Ok(())
 }
 
@@ -159,49 +173,61 @@ fn too_few_bytes_are_told_before_the_magic_where_the_binary_header_is_cut(
     rt: HostRuntime,
 ) -> Result<(), Fail> {
     let copy = primary(rt.alloc())?;
-    assert_eq!(rt; read_copy(front(&copy, 8192), 0), Err(BinFault::Size(8192)));
-    assert_eq!(rt;
-        read_copy(front(&copy, 4095), 16384),
-        Err(BinFault::Size(4095))
+    same(
+        &rt,
+        read_copy(front(&copy, 8192), 0),
+        Err(BinFault::Size(8192)),
     );
-    assert_eq!(rt; read_copy(&[], 16384), Err(BinFault::Size(0)));
-    assert_eq!(rt;
+    same(
+        &rt,
+        read_copy(front(&copy, 4095), 16384),
+        Err(BinFault::Size(4095)),
+    );
+    same(&rt, read_copy(&[], 16384), Err(BinFault::Size(0)));
+    same(
+        &rt,
         read_copy(&zeros(rt.alloc(), 16384)?, 0),
-        Err(BinFault::Magic)
+        Err(BinFault::Magic),
     );
     Ok(())
 }
 
-#[test]
-fn copies_differ_first_outside_what_is_their_own(rt: HostRuntime) -> Result<(), Fail> {
-    let places = [
-        (0, None),
-        (5, None),
-        (6, Some(6)),
-        (103, Some(103)),
-        (104, None),
-        (167, None),
-        (168, Some(168)),
-        (255, Some(255)),
-        (256, None),
-        (263, None),
-        (264, Some(264)),
-        (447, Some(447)),
-        (448, None),
-        (511, None),
-        (512, Some(512)),
-        (4096, Some(4096)),
-        (16383, Some(16383)),
-    ];
-    for (at, want) in places {
-        let copy = primary(rt.alloc())?;
-        let mut other = primary(rt.alloc())?;
-        if at < other.len() {
-            other[at] ^= 1;
-        }
-        assert_eq!(rt; first_difference(&copy, &other), want);
+/// The place of a changed bit, and where copies are found to differ.
+const PLACES: &[(usize, Option<usize>)] = &[
+    (0, None),
+    (5, None),
+    (6, Some(6)),
+    (103, Some(103)),
+    (104, None),
+    (167, None),
+    (168, Some(168)),
+    (255, Some(255)),
+    (256, None),
+    (263, None),
+    (264, Some(264)),
+    (447, Some(447)),
+    (448, None),
+    (511, None),
+    (512, Some(512)),
+    (4096, Some(4096)),
+    (16383, Some(16383)),
+];
+
+/// Where a primary and one with another bit in this place are found to differ.
+fn difference(alloc: Global, at: usize) -> Result<Option<usize>, AllocError> {
+    let copy = primary(alloc)?;
+    let mut other = primary(alloc)?;
+    if at < other.len() {
+        other[at] ^= 1;
     }
-    Ok(())
+    Ok(first_difference(&copy, &other))
+}
+
+#[test]
+fn copies_differ_first_outside_what_is_their_own(rt: HostRuntime) {
+    for (at, found) in PLACES {
+        same(&rt, difference(rt.alloc(), *at), Ok(*found));
+    }
 }
 
 // Written by `cryptsetup luksFormat` 2.6.1 (tests/data/headers/xts_pbkdf2_16k.header).
@@ -226,48 +252,62 @@ fn text_if_whole(copy: &[u8]) -> &[u8] {
     json_text(copy)
 }
 
-#[test]
-fn a_header_by_cryptsetup_is_read(rt: HostRuntime) -> Result<(), Fail> {
-    let mut copy = zeros(rt.alloc(), 16384)?;
-    let fields = [
-        (
-            0,
-            b"LUKS\xba\xbe\0\x02\0\0\0\0\0\0\x40\0\0\0\0\0\0\0\0\x03".as_slice(),
-        ),
-        (24, REAL_LABEL),
-        (72, b"sha256"),
-        (104, REAL_SALT.as_slice()),
-        (168, REAL_UUID),
-        (208, b"backup"),
-        (448, REAL_SUM),
-        (4096, REAL_TEXT),
-    ];
-    for (at, bytes) in fields {
-        put_if_within(&mut copy, at, bytes);
+/// The places of its fields.
+const REAL_FIELDS: &[(usize, &[u8])] = &[
+    (0, b"LUKS\xba\xbe\0\x02\0\0\0\0\0\0\x40\0\0\0\0\0\0\0\0\x03"),
+    (24, REAL_LABEL),
+    (72, b"sha256"),
+    (104, &REAL_SALT),
+    (168, REAL_UUID),
+    (208, b"backup"),
+    (448, REAL_SUM),
+    (4096, REAL_TEXT),
+];
+
+/// A copy with these fields.
+fn real_copy(alloc: Global) -> Result<Vec<u8>, AllocError> {
+    let mut copy = zeros(alloc, 16384)?;
+    for (at, bytes) in REAL_FIELDS {
+        put_if_within(&mut copy, *at, bytes);
     }
-    assert!(rt;
-        read_copy(&copy, 0).is_ok_and(|header| header.seqid == 3 && header.salt == REAL_SALT)
-    );
-    assert_eq!(rt; text_if_whole(&copy), REAL_TEXT);
-    Ok(())
+    Ok(copy)
+}
+
+/// The number and the salt of a primary that can be read.
+fn number_and_salt(copy: &[u8]) -> Option<(u64, [u8; 64])> {
+    match read_copy(copy, 0) {
+        Ok(header) => {
+            let salt = header.salt;
+            Some((header.seqid, salt))
+        }
+        Err(_) => None,
+    }
 }
 
 #[test]
-fn a_magic_is_found_at_the_places_of_a_secondary_alone(rt: HostRuntime) -> Result<(), Fail> {
-    let alloc = rt.alloc();
-    for (at, magic, hides) in [
-        (16384, b"SKUL\xba\xbe", true),
-        (32768, b"SKUL\xba\xbe", true),
-        (20480, b"SKUL\xba\xbe", false),
-        (0, b"SKUL\xba\xbe", false),
-        (16384, b"LUKS\xba\xbe", false),
-        (16384, b"SKUL\xba\xbf", false),
-    ] {
-        let mut copy = zeros(alloc, 32774)?;
-        put_if_within(&mut copy, at, magic.as_slice());
-        assert_eq!(rt; hides_copy(&copy), hides);
-    }
-    let short = zeros(alloc, 16389)?;
-    assert!(rt; !hides_copy(&short));
+fn a_header_by_cryptsetup_is_read(rt: HostRuntime) -> Result<(), Fail> {
+    let copy = real_copy(rt.alloc())?;
+    same(&rt, number_and_salt(&copy), Some((3, REAL_SALT)));
+    same(&rt, text_if_whole(&copy), REAL_TEXT);
     Ok(())
+}
+
+/// Whether a magic hides at this place in so many zeros.
+fn hides(alloc: Global, length: usize, at: usize, magic: &[u8]) -> Result<bool, AllocError> {
+    let mut copy = zeros(alloc, length)?;
+    put_if_within(&mut copy, at, magic);
+    Ok(hides_copy(&copy))
+}
+
+#[test]
+fn a_magic_is_found_at_the_places_of_a_secondary_alone(rt: HostRuntime) {
+    let alloc = rt.alloc();
+    let magic = b"SKUL\xba\xbe";
+    same(&rt, hides(alloc, 32774, 16384, magic), Ok(true));
+    same(&rt, hides(alloc, 32774, 32768, magic), Ok(true));
+    same(&rt, hides(alloc, 32774, 20480, magic), Ok(false));
+    same(&rt, hides(alloc, 32774, 0, magic), Ok(false));
+    same(&rt, hides(alloc, 32774, 16384, b"LUKS\xba\xbe"), Ok(false));
+    same(&rt, hides(alloc, 32774, 16384, b"SKUL\xba\xbf"), Ok(false));
+    same(&rt, hides(alloc, 16389, 0, b""), Ok(false));
 }

@@ -23,7 +23,7 @@
 //! - `sessions`: nbd_session, whole sessions by a table, in `sessions/`, and one cut at each byte.
 //! - `workers`: reenc_worker, each end of a conversion behind calls that went on.
 //!
-//! What a file keeps to itself is tested in its own crate.
+//! What a file keeps to itself is tested in its own crate. `same` has what all of them assert.
 #![tactic(auto)]
 
 #[cfg(test)]
@@ -54,6 +54,8 @@ mod messages;
 mod placements;
 #[cfg(test)]
 mod ranges;
+#[cfg(test)]
+mod same;
 #[cfg(test)]
 mod sectors;
 #[cfg(test)]

@@ -1,6 +1,13 @@
+use crate::same::same;
 use block_range::BlockRange;
 use range_lock::{Kind, Standing, Table};
 use std::test::Fail;
+
+const HELD: Option<Standing> = Some(Standing::Held);
+
+fn waiting(lane: u32) -> Option<Standing> {
+    Some(Standing::Waiting(lane))
+}
 
 fn blocks(start: u64, end: u64) -> BlockRange {
     BlockRange { start, end }
@@ -32,17 +39,11 @@ fn leave(table: &mut Table, lane: u32) {
 fn a_second_write_of_a_block_waits_for_the_first(rt: HostRuntime) -> Result<(), Fail> {
     let mut table = Table::with_room(rt.alloc(), 2)?;
     let block = blocks(3, 4);
-    assert_eq!(rt;
-        enter(&mut table, 0, block, Kind::Alone),
-        Some(Standing::Held)
-    );
-    assert_eq!(rt;
-        enter(&mut table, 1, block, Kind::Alone),
-        Some(Standing::Waiting(0))
-    );
-    assert_eq!(rt; ask(&table, 1), Some(Standing::Waiting(0)));
+    same(&rt, enter(&mut table, 0, block, Kind::Alone), HELD);
+    same(&rt, enter(&mut table, 1, block, Kind::Alone), waiting(0));
+    same(&rt, ask(&table, 1), waiting(0));
     leave(&mut table, 0);
-    assert_eq!(rt; ask(&table, 1), Some(Standing::Held));
+    same(&rt, ask(&table, 1), HELD);
     Ok(())
 }
 
@@ -50,43 +51,33 @@ fn a_second_write_of_a_block_waits_for_the_first(rt: HostRuntime) -> Result<(), 
 fn two_reads_of_a_block_are_held(rt: HostRuntime) -> Result<(), Fail> {
     let mut table = Table::with_room(rt.alloc(), 2)?;
     let block = blocks(3, 4);
-    assert_eq!(rt;
-        enter(&mut table, 0, block, Kind::Shared),
-        Some(Standing::Held)
-    );
-    assert_eq!(rt;
-        enter(&mut table, 1, block, Kind::Shared),
-        Some(Standing::Held)
-    );
+    same(&rt, enter(&mut table, 0, block, Kind::Shared), HELD);
+    same(&rt, enter(&mut table, 1, block, Kind::Shared), HELD);
     Ok(())
 }
 
 #[test]
 fn a_read_does_not_overtake_a_write_that_waits(rt: HostRuntime) -> Result<(), Fail> {
     let mut table = Table::with_room(rt.alloc(), 4)?;
-    assert_eq!(rt;
-        enter(&mut table, 5, blocks(0, 4), Kind::Shared),
-        Some(Standing::Held)
-    );
-    assert_eq!(rt;
+    same(&rt, enter(&mut table, 5, blocks(0, 4), Kind::Shared), HELD);
+    same(
+        &rt,
         enter(&mut table, 6, blocks(3, 8), Kind::Alone),
-        Some(Standing::Waiting(5))
+        waiting(5),
     );
-    assert_eq!(rt;
+    same(
+        &rt,
         enter(&mut table, 7, blocks(7, 9), Kind::Shared),
-        Some(Standing::Waiting(6))
+        waiting(6),
     );
-    assert_eq!(rt;
-        enter(&mut table, 8, blocks(5, 5), Kind::Alone),
-        Some(Standing::Held)
-    );
+    same(&rt, enter(&mut table, 8, blocks(5, 5), Kind::Alone), HELD);
     assert!(rt; table.is_full());
     leave(&mut table, 5);
-    assert_eq!(rt; ask(&table, 6), Some(Standing::Held));
-    assert_eq!(rt; ask(&table, 7), Some(Standing::Waiting(6)));
+    same(&rt, ask(&table, 6), HELD);
+    same(&rt, ask(&table, 7), waiting(6));
     leave(&mut table, 6);
-    assert_eq!(rt; ask(&table, 7), Some(Standing::Held));
-    assert_eq!(rt; ask(&table, 6), None);
+    same(&rt, ask(&table, 7), HELD);
+    same(&rt, ask(&table, 6), None);
     Ok(())
 }
 

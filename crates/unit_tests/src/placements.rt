@@ -1,12 +1,12 @@
 ghost use Rattle.reenc_meta.specs.Placements.{all_atoms};
 ghost use Rattle.sector_disk.specs.Geometry.{IsDisk};
 
+use crate::same::same;
 use disk_sizes::Sizes;
 use luks_json::Meta;
 use luks_rules::check;
 use reenc_meta::place_idle;
 use std::alloc::{AllocError, Global};
-use std::test::Fail;
 
 /// A volume whose segment begins at 16 MiB and goes to the disk's end.
 const IDLE: &str =
@@ -24,16 +24,18 @@ const ATTACHED: Sizes = Sizes {
 };
 
 /// Blocks, the boundary, and the place of block 0 on either side.
-fn place(alloc: Global, text: &str, sizes: Sizes) -> Result<Option<[u64; 4]>, Fail>
+fn place(alloc: Global, text: &str, sizes: Sizes) -> Result<Option<[u64; 4]>, AllocError>
     requires { IsDisk sizes.atom (all_atoms sizes) }
 {
     let Ok(meta) = Meta::read(alloc, text.as_bytes(), 16384) else {
-        return Err(Fail::from(AllocError));
+        return Err(AllocError);
     };
     let Ok(valid) = check(alloc, meta, sizes) else {
-        return Err(Fail::from(AllocError));
+        return Err(AllocError);
     };
-    match place_idle(&valid) {
+    let placed = place_idle(&valid);
+    drop(valid);
+    match placed {
         Some(placement) => {
             let map = placement.map;
             Ok(Some([map.blocks, map.boundary, map.old_place, map.new_place]))
@@ -43,11 +45,12 @@ fn place(alloc: Global, text: &str, sizes: Sizes) -> Result<Option<[u64; 4]>, Fa
 }
 
 #[test]
-fn blocks_lie_behind_the_header_or_behind_its_disk(rt: HostRuntime) -> Result<(), Fail> {
+fn blocks_lie_behind_the_header_or_behind_its_disk(rt: HostRuntime) {
     let alloc = rt.alloc();
-    assert_eq!(rt;
-        place(alloc, IDLE, ATTACHED)?,
-        Some([4096, 4096, 4096, 4096])
+    same(
+        &rt,
+        place(alloc, IDLE, ATTACHED),
+        Ok(Some([4096, 4096, 4096, 4096])),
     );
     let small = Sizes {
         atom: 512,
@@ -55,9 +58,10 @@ fn blocks_lie_behind_the_header_or_behind_its_disk(rt: HostRuntime) -> Result<()
         main_atoms: 65536,
         detached: false,
     };
-    assert_eq!(rt;
-        place(alloc, IDLE, small)?,
-        Some([32768, 32768, 32768, 32768])
+    same(
+        &rt,
+        place(alloc, IDLE, small),
+        Ok(Some([32768, 32768, 32768, 32768])),
     );
     let detached = Sizes {
         atom: 4096,
@@ -65,15 +69,14 @@ fn blocks_lie_behind_the_header_or_behind_its_disk(rt: HostRuntime) -> Result<()
         main_atoms: 8192,
         detached: true,
     };
-    assert_eq!(rt;
-        place(alloc, IDLE, detached)?,
-        Some([4096, 4096, 9096, 9096])
+    same(
+        &rt,
+        place(alloc, IDLE, detached),
+        Ok(Some([4096, 4096, 9096, 9096])),
     );
-    Ok(())
 }
 
 #[test]
-fn a_conversion_is_no_idle_volume(rt: HostRuntime) -> Result<(), Fail> {
-    assert_eq!(rt; place(rt.alloc(), BEGUN, ATTACHED)?, None);
-    Ok(())
+fn a_conversion_is_no_idle_volume(rt: HostRuntime) {
+    same(&rt, place(rt.alloc(), BEGUN, ATTACHED), Ok(None));
 }

@@ -1,3 +1,4 @@
+use crate::same::same;
 use cipher_blocks::{block_at, number_block, put_block, xor};
 
 #[test]
@@ -5,16 +6,17 @@ fn a_block_goes_out_and_back(rt: HostRuntime) {
     let mut sector = [7u8; 48];
     let block = number_block(0x0102_0304_0506_0708);
     put_block(&mut sector, 16, &block);
-    assert_eq!(rt; block_at(&sector, 0), [7; 16]);
-    assert_eq!(rt;
+    same(&rt, block_at(&sector, 0), [7; 16]);
+    same(
+        &rt,
         block_at(&sector, 16),
-        [8, 7, 6, 5, 4, 3, 2, 1, 0, 0, 0, 0, 0, 0, 0, 0]
+        [8, 7, 6, 5, 4, 3, 2, 1, 0, 0, 0, 0, 0, 0, 0, 0],
     );
-    assert_eq!(rt; block_at(&sector, 32), [7; 16]);
+    same(&rt, block_at(&sector, 32), [7; 16]);
 }
 
 #[test]
 fn xor_adds_bits(rt: HostRuntime) {
     let sum = xor(&[0b1100; 16], &[0b1010; 16]);
-    assert_eq!(rt; sum, [0b0110; 16]);
+    same(&rt, sum, [0b0110; 16]);
 }

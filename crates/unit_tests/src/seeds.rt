@@ -1,6 +1,9 @@
 // The stream of known seeds, from the cipher's own standard.
 
+use crate::same::{same, same_bytes};
 use seed_stream::stretch;
+use std::alloc::{AllocError, Global};
+use std::process::Abort;
 use std::test::Fail;
 
 struct Case {
@@ -39,22 +42,34 @@ const CASES: [Case; 4] = [
     },
 ];
 
+fn seed_of(case: &Case) -> [u8; 32] {
+    let mut seed = [0; 32];
+    seed[1] = case.second;
+    seed[31] = case.last;
+    seed
+}
+
+/// The hexadecimal digits of the bytes behind so many.
+fn digits(alloc: Global, bytes: &[u8], before: usize) -> Result<String, AllocError> {
+    hex::encode(alloc, &bytes[before.min(bytes.len())..])
+}
+
+/// Asserts that a stream under the case's seed has its block, and that of a block's last word what is
+/// over is dropped.
+fn has_block<R: Abort>(rt: &R, alloc: Global, case: &Case) -> Result<(), AllocError> {
+    let (seed, before) = (seed_of(case), case.block % 3 * 64);
+    let bytes = stretch(alloc, &seed, before + 64)?;
+    same(rt, bytes.len(), before + 64);
+    same(rt, digits(alloc, &bytes, before)?.as_str(), case.bytes);
+    let front = bytes.as_slice().get(..before + 61).unwrap_or(b"");
+    same_bytes(rt, stretch(alloc, &seed, before + 61), front);
+    Ok(())
+}
+
 #[test]
 fn stretch_gives_the_blocks_of_the_standard(rt: HostRuntime) -> Result<(), Fail> {
     for case in &CASES {
-        let mut seed = [0; 32];
-        seed[1] = case.second;
-        seed[31] = case.last;
-        let before = case.block % 3 * 64;
-        let bytes = stretch(rt.alloc(), &seed, before + 64)?;
-        assert_eq!(rt; bytes.len(), before + 64);
-        assert_eq!(rt;
-            hex::encode(rt.alloc(), &bytes[before..])?.as_str(),
-            case.bytes
-        );
-        // what a last word has over is dropped
-        let fewer = stretch(rt.alloc(), &seed, before + 61)?;
-        assert_eq!(rt; fewer.as_slice(), &bytes[..before + 61]);
+        has_block(&rt, rt.alloc(), case)?;
     }
     Ok(())
 }

@@ -1,9 +1,10 @@
+use crate::same::same;
 use bays::{Bay, MemBay, MemLink};
 use block_server::{Served, Standing, serve};
 use io_edge::{ListSink, ListSource, OpenGate};
-use nbd_session::Ending;
+use nbd_session::{Ending, SessionEnd};
 use sector_disk::RamDisk;
-use std::alloc::Global;
+use std::alloc::{AllocError, Global};
 use std::sync::Wait;
 use std::test::Fail;
 use std::thread::Threads;
@@ -69,22 +70,36 @@ fn serve_one<R: AllocGlobal + Threads + Wait + Sync>(
     }
 }
 
-#[test]
-fn a_session_over_one_link_is_served(rt: HostRuntime) -> Result<(), Fail> {
-    let served = serve_one(&rt)?;
-    let mut wanted = Vec::new(rt.alloc());
-    wanted.extend_from_slice(REPLIES)?;
-    wanted.extend_from_slice(&[7; 512])?;
-    assert!(rt; served.standings.as_slice() == [Standing::Ended].as_slice());
-    assert!(rt; served.worker.is_none());
-    let mut count = 0_u32;
+/// How many clients were served, and whether each of them disconnected and was put bytes that end so.
+fn told(served: &Served<RamDisk, MemLink>, wanted: &[u8]) -> (u32, bool) {
+    let (mut count, mut as_wanted) = (0_u32, true);
     for (link, ends) in served.links.iter().zip(&served.sessions) {
         for (client, end) in link.handed().iter().zip(ends) {
-            assert!(rt; end.number == 0 && end.ending == Ending::Disconnected);
-            assert!(rt; client.1.as_slice().ends_with(wanted.as_slice()));
+            as_wanted = as_wanted && is_usual(end) && client.1.as_slice().ends_with(wanted);
             count = count.wrapping_add(1);
         }
     }
-    assert_eq!(rt; count, 1);
+    (count, as_wanted)
+}
+
+fn is_usual(end: &SessionEnd) -> bool {
+    end.number == 0 && end.ending == Ending::Disconnected
+}
+
+/// The replies, with the block that is read.
+fn replies(alloc: Global) -> Result<Vec<u8>, AllocError> {
+    let mut replies = Vec::new(alloc);
+    replies.extend_from_slice(REPLIES)?;
+    replies.extend_from_slice(&[7; 512])?;
+    Ok(replies)
+}
+
+#[test]
+fn a_session_over_one_link_is_served(rt: HostRuntime) -> Result<(), Fail> {
+    let served = serve_one(&rt)?;
+    let replies = replies(rt.alloc())?;
+    assert!(rt; served.standings.as_slice() == [Standing::Ended].as_slice());
+    same(&rt, served.worker.is_none(), true);
+    same(&rt, told(&served, &replies), (1, true));
     Ok(())
 }

@@ -6,15 +6,17 @@ mod messages;
 mod requests;
 
 use self::blocks::Blocks;
-use self::cases::{CLIENT, Case, PIECES, PORTS, SERVER, SINKS, SOURCES};
+use self::cases::{CLIENT, Case, PIECES, PORTS, SERVER, SINKS, SOURCES, USUAL};
 use self::messages::bytes_of;
 use self::requests::{
     BUFFERS, CHUNKED, FORCED, NO_REQUESTS, REFUSED_RANGES, REFUSED_TYPES, ZEROED,
 };
+use crate::same::same;
 use base_terms::Failed;
 use io_edge::{ListSink, ListSource, Sink};
 use nbd_session::{Ending, Export, SessionEnd, serve_session};
 use std::alloc::{AllocError, Global};
+use std::process::Abort;
 use std::test::Fail;
 
 const EXPORT: Export = Export {
@@ -82,28 +84,62 @@ fn end(ending: Ending, taken: usize, put: usize) -> SessionEnd {
     }
 }
 
-/// Whether the session with a case's client ended as the case says, and put what it says.
-fn is_met(alloc: Global, case: &Case) -> Result<bool, Fail> {
-    let mut sent = bytes_of(alloc, case.taken)?;
-    let wanted = bytes_of(alloc, case.put)?;
-    let ending = end(case.ending, sent.len(), wanted.len());
-    sent.extend_from_slice(&bytes_of(alloc, case.left)?)?;
+/// A session that has ended, with what was served.
+#[derive(Drop)]
+struct Session {
+    end: SessionEnd,
+    sink: Door,
+    port: Blocks,
+}
+
+/// The session with a client that sends these bytes.
+fn served(alloc: Global, case: &Case, sent: &[u8]) -> Result<Session, AllocError> {
+    let mut source = source_of(alloc, sent, case)?;
     let mut sink = Door::new(alloc, case.room, &[case.sink_call])?;
     let mut port = Blocks::new(case.has_memory, case.operations);
-    let mut source = source_of(alloc, &sent, case)?;
-    let ended = serve_session(alloc, &mut source, &mut sink, &mut port, &EXPORT);
-    let holds = bytes_of(alloc, case.holds)?;
-    Ok(
-        ended == ending
-            && sink.inner.as_slice() == wanted.as_slice()
-            && sink.is_called(case.calls)
-            && port.has(&holds, case.forced, case.capacity),
-    )
+    let end = serve_session(alloc, &mut source, &mut sink, &mut port, &EXPORT);
+    Ok(Session { end, sink, port })
 }
 
 fn source_of(alloc: Global, sent: &[u8], case: &Case) -> Result<ListSource, AllocError> {
     let piece = case.piece.max(1);
     ListSource::new(alloc, sent, piece, &[case.source_call])
+}
+
+impl Session {
+    /// Whether it ended as the case says, took so many bytes and put these, and left the disk so.
+    fn meets(&self, case: &Case, taken: usize, put: &[u8], holds: &[u8]) -> bool {
+        self.end == end(case.ending, taken, put.len())
+            && self.sink.inner.as_slice() == put
+            && self.sink.is_called(case.calls)
+            && self.port.has(holds, case.forced, case.capacity)
+    }
+
+    /// Whether it ended as one whose client sends so many bytes of the usual ones.
+    fn is_cut(&self, length: usize, usual: &[u8]) -> bool {
+        let (ending, put) = cut_short(length);
+        self.end == end(ending, length, put) && Some(self.sink.inner.as_slice()) == usual.get(..put)
+    }
+}
+
+/// All that a case's client sends, and how many bytes of it the session takes.
+fn sent_by(alloc: Global, case: &Case) -> Result<(Vec<u8>, usize), Fail> {
+    let mut sent = bytes_of(alloc, case.taken)?;
+    let taken = sent.len();
+    let left = bytes_of(alloc, case.left)?;
+    sent.extend_from_slice(&left)?;
+    Ok((sent, taken))
+}
+
+/// Whether the session with a case's client ended as the case says, and put what it says.
+fn is_met(alloc: Global, case: &Case) -> Result<bool, Fail> {
+    let put = bytes_of(alloc, case.put)?;
+    let holds = bytes_of(alloc, case.holds)?;
+    let (sent, taken) = sent_by(alloc, case)?;
+    let session = served(alloc, case, &sent)?;
+    let is_met = session.meets(case, taken, &put, &holds);
+    drop(session);
+    Ok(is_met)
 }
 
 /// What the first case shows that isn't met.
@@ -116,100 +152,108 @@ fn first_unmet(alloc: Global, cases: &[Case]) -> Result<Option<&'static str>, Fa
     Ok(None)
 }
 
+/// Asserts that all cases are met.
+fn are_met<R: Abort>(rt: &R, alloc: Global, cases: &[Case]) -> Result<(), Fail> {
+    same(rt, first_unmet(alloc, cases)?, None);
+    Ok(())
+}
+
 #[test]
 fn each_request_is_answered_however_the_bytes_come(rt: HostRuntime) -> Result<(), Fail> {
-    assert_eq!(rt; first_unmet(rt.alloc(), PIECES)?, None);
-    Ok(())
+    are_met(&rt, rt.alloc(), PIECES)
 }
 
 #[test]
 fn a_port_without_memory_or_operations_is_told(rt: HostRuntime) -> Result<(), Fail> {
-    assert_eq!(rt; first_unmet(rt.alloc(), PORTS)?, None);
-    Ok(())
+    are_met(&rt, rt.alloc(), PORTS)
 }
 
 #[test]
 fn a_session_ends_by_a_sink_that_fails(rt: HostRuntime) -> Result<(), Fail> {
-    assert_eq!(rt; first_unmet(rt.alloc(), SINKS)?, None);
-    Ok(())
+    are_met(&rt, rt.alloc(), SINKS)
 }
 
 #[test]
 fn a_session_ends_by_a_source_that_fails(rt: HostRuntime) -> Result<(), Fail> {
-    assert_eq!(rt; first_unmet(rt.alloc(), SOURCES)?, None);
-    Ok(())
+    are_met(&rt, rt.alloc(), SOURCES)
 }
 
 #[test]
 fn a_range_is_refused_and_the_next_request_served(rt: HostRuntime) -> Result<(), Fail> {
-    assert_eq!(rt; first_unmet(rt.alloc(), REFUSED_RANGES)?, None);
-    Ok(())
+    are_met(&rt, rt.alloc(), REFUSED_RANGES)
 }
 
 #[test]
 fn a_type_is_refused_and_the_next_request_served(rt: HostRuntime) -> Result<(), Fail> {
-    assert_eq!(rt; first_unmet(rt.alloc(), REFUSED_TYPES)?, None);
-    Ok(())
+    are_met(&rt, rt.alloc(), REFUSED_TYPES)
 }
 
 #[test]
 fn a_request_that_is_none_ends_the_session(rt: HostRuntime) -> Result<(), Fail> {
-    assert_eq!(rt; first_unmet(rt.alloc(), NO_REQUESTS)?, None);
-    Ok(())
+    are_met(&rt, rt.alloc(), NO_REQUESTS)
 }
 
 #[test]
 fn a_forced_write_is_submitted_so(rt: HostRuntime) -> Result<(), Fail> {
-    assert_eq!(rt; first_unmet(rt.alloc(), FORCED)?, None);
-    Ok(())
+    are_met(&rt, rt.alloc(), FORCED)
 }
 
 #[test]
 fn zeroes_are_submitted_so(rt: HostRuntime) -> Result<(), Fail> {
-    assert_eq!(rt; first_unmet(rt.alloc(), ZEROED)?, None);
-    Ok(())
+    are_met(&rt, rt.alloc(), ZEROED)
 }
 
 #[test]
 fn reads_are_answered_by_chunks_where_that_was_agreed(rt: HostRuntime) -> Result<(), Fail> {
-    assert_eq!(rt; first_unmet(rt.alloc(), CHUNKED)?, None);
-    Ok(())
+    are_met(&rt, rt.alloc(), CHUNKED)
 }
 
 #[test]
 fn a_used_buffer_takes_each_body_as_it_is(rt: HostRuntime) -> Result<(), Fail> {
-    assert_eq!(rt; first_unmet(rt.alloc(), BUFFERS)?, None);
-    Ok(())
+    are_met(&rt, rt.alloc(), BUFFERS)
 }
 
-/// What a client is put that sends so many bytes of the usual ones, and how the session ends.
+/// Where each message of the usual client begins, and how much it was put by then.
+const MESSAGES: &[(usize, usize)] = &[
+    (0, 18),
+    (4, 18),
+    (26, 104),
+    (566, 120),
+    (594, 648),
+    (622, 664),
+];
+
+/// How the session ends with a client that sends so many bytes of the usual ones, and how much it is
+/// put.
 fn cut_short(length: usize) -> (Ending, usize) {
-    // the messages begin here, and so much was put by then
-    let (whole, put) = match length {
-        0..=3 => (0, 18),
-        4..=25 => (4, 18),
-        26..=565 => (26, 104),
-        566..=593 => (566, 120),
-        594..=621 => (594, 648),
-        _ => (622, 664),
-    };
+    let (mut whole, mut put) = (0, 18);
+    for (begins, by_then) in MESSAGES {
+        if *begins <= length {
+            (whole, put) = (*begins, *by_then);
+        }
+    }
     match length.saturating_sub(whole) {
         0 => (Ending::Closed, put),
         n => (Ending::Truncated(n as u64), put),
     }
 }
 
+/// The usual client, whose bytes come by fifties.
+const CUT: Case = Case {
+    piece: 50,
+    room: 664,
+    ..USUAL
+};
+
 /// Whether a client that sends so many bytes of the usual ones is answered so.
 fn is_cut(alloc: Global, length: usize) -> Result<bool, Fail> {
+    let usual = bytes_of(alloc, SERVER)?;
     let mut sent = bytes_of(alloc, CLIENT)?;
     sent.truncate(length);
-    let mut source = ListSource::new(alloc, &sent, 50, &[])?;
-    let mut sink = ListSink::new(alloc, 664, &[])?;
-    let mut port = Blocks::new(true, 99);
-    let ended = serve_session(alloc, &mut source, &mut sink, &mut port, &EXPORT);
-    let (ending, put) = cut_short(length);
-    let wanted = bytes_of(alloc, SERVER)?;
-    Ok(ended == end(ending, length, put) && Some(sink.as_slice()) == wanted.get(..put))
+    let session = served(alloc, &CUT, &sent)?;
+    let is_cut = session.is_cut(length, &usual);
+    drop(session);
+    Ok(is_cut)
 }
 
 #[test]

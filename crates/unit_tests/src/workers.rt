@@ -1,3 +1,4 @@
+use crate::same::same;
 use io_edge::{Converted, OpenGate};
 use reenc_worker::{NoFit, WorkAnswer, WorkerEnd, WorkerPort, work_loop};
 use std::sync::Wait;
@@ -69,8 +70,8 @@ fn each_end_comes_behind_all_that_went_on(rt: HostRuntime) -> Result<(), Fail> {
                 goes_on,
                 end,
             };
-            assert_eq!(rt; work_loop(&rt, &mut port, &OpenGate), end);
-            assert_eq!(rt; port.calls, goes_on + 1);
+            same(&rt, work_loop(&rt, &mut port, &OpenGate), end);
+            same(&rt, port.calls, goes_on + 1);
         }
     }
     Ok(())

@@ -1,3 +1,5 @@
+ghost use Rattle.std.specs.Prelude.{◌≡◌, length, IfOk};
+
 use base_terms::Bytes;
 use nbd_session::{Port, Submitted};
 use plain_disk::{Op, Reply, wrong};
@@ -32,18 +34,44 @@ impl Blocks {
     pub fn has(&self, front: &[u8], forced: bool, capacity: Option<usize>) -> bool {
         self.bytes.get(..front.len()) == Some(front)
             && self.forced == forced
-            && capacity.is_none_or(|wanted| wanted == self.capacity)
+            && capacity.unwrap_or(self.capacity) == self.capacity
     }
 
     /// The buffer of a write's body, overwritten; an empty one of another operation.
     fn used_buffer(&mut self, alloc: Global, op: Op) -> Bytes {
-        let Op::Write { body, .. } = op else {
-            return Bytes::new(Vec::new(alloc));
-        };
+        match op {
+            Op::Write { body, .. } => self.overwritten(body),
+            _ => Bytes::new(Vec::new(alloc)),
+        }
+    }
+
+    fn overwritten(&mut self, body: Bytes) -> Bytes {
         let mut buffer = body.into_vec();
         self.capacity = buffer.capacity();
         buffer.fill(0xee);
         Bytes::new(buffer)
+    }
+
+    /// The first bytes, and zeros behind them.
+    fn front(&self, alloc: Global, count: usize) -> Result<Vec<u8>, AllocError>
+        ensures { IfOk result (λ front. length front.items ≡ count) }
+    {
+        let mut front = vec![in alloc; 0u8; count]?;
+        let n = front.len().min(2048);
+        front[..n].copy_from_slice(&self.bytes[..n]);
+        Ok(front)
+    }
+
+    fn write(&mut self, body: &[u8], fua: bool) {
+        let n = body.len().min(2048);
+        self.bytes[..n].copy_from_slice(&body[..n]);
+        self.forced = fua;
+    }
+
+    fn zero(&mut self, count: usize, fua: bool) {
+        let n = count.min(2048);
+        self.bytes[..n].fill(0);
+        self.forced = fua;
     }
 }
 
@@ -81,21 +109,14 @@ impl Port for Blocks {
                 length: 512,
             } => Reply::ErrnoAt(5, 7680),
             Op::Read { length, .. } => {
-                let mut content = vec![in alloc; 0u8; *length as usize]?;
-                let n = content.len().min(2048);
-                content[..n].copy_from_slice(&self.bytes[..n]);
-                Reply::Content(Bytes::new(content))
+                Reply::Content(Bytes::new(self.front(alloc, *length as usize)?))
             }
             Op::Write { body, fua, .. } => {
-                let n = body.len().min(2048);
-                self.bytes[..n].copy_from_slice(&body.as_slice()[..n]);
-                self.forced = *fua;
+                self.write(body.as_slice(), *fua);
                 Reply::Done
             }
             Op::Zeroes { length, fua, .. } => {
-                let n = (*length as usize).min(2048);
-                self.bytes[..n].fill(0);
-                self.forced = *fua;
+                self.zero(*length as usize, *fua);
                 Reply::Done
             }
             Op::Flush => Reply::Done,

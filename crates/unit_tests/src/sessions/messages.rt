@@ -1,6 +1,6 @@
 // The messages of clients and of the server, by the NBD protocol document.
 
-use std::alloc::Global;
+use std::alloc::{AllocError, Global};
 use std::test::Fail;
 
 /// Bytes in hexadecimal, and how often they come.
@@ -315,10 +315,20 @@ pub const ZEROES_NO_SPACE: Part = ("674466980000001c0000000000000002", 1);
 pub fn bytes_of(alloc: Global, parts: &[Part]) -> Result<Vec<u8>, Fail> {
     let mut bytes = Vec::new(alloc);
     for (part, times) in parts {
-        let part = hex::decode(alloc, *part)?;
-        for _ in 0..*times {
-            bytes.extend_from_slice(&part)?;
-        }
+        let part = decoded(alloc, part)?;
+        push_often(&mut bytes, &part, *times)?;
     }
     Ok(bytes)
+}
+
+fn decoded(alloc: Global, digits: &str) -> Result<Vec<u8>, Fail> {
+    Ok(hex::decode(alloc, digits)?)
+}
+
+/// Puts a part behind the others, so many times.
+fn push_often(bytes: &mut Vec<u8>, part: &[u8], times: usize) -> Result<(), AllocError> {
+    for _ in 0..times {
+        bytes.extend_from_slice(part)?;
+    }
+    Ok(())
 }
