@@ -167,13 +167,13 @@ fn member(
             alloc,
             is_there(optional_object_at(alloc, path, object, name)),
         ),
-        _ => {
-            let word = what.strip_prefix("word ").unwrap_or(what);
-            told(
+        _ => match what.strip_prefix("word ") {
+            Some(word) => told(
                 alloc,
                 word_for(word_at(alloc, path, object, name, word), "it is"),
-            )
-        }
+            ),
+            None => String::from_str(alloc, "no such row"),
+        },
     }
 }
 
