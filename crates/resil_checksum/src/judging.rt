@@ -61,8 +61,8 @@ fn clash_in(old: &[u8], new: &[u8], atom: u32, run: usize, part: usize) -> Optio
 
 /// The lowest of a zone's blocks, counted from 0, whose old atom and new one have the same digest,
 /// so that it would not tell them apart; None exactly where there is none. Both are whole atoms of
-/// `atom` bytes, as many of the one as of the other. They are cut into at most `parts` runs, each
-/// with a thread of its own where one can be started; the answer is the same for every number of
+/// `atom` bytes, as many of the one as of the other. They are cut into at most `parts` runs, 1 to 16,
+/// each with a thread of its own where one can be started; the answer is the same for every number of
 /// parts.
 pub fn clash<R: Threads + Sync>(
     rt: &R,

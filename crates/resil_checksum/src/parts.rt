@@ -2,7 +2,7 @@
 
 ghost use Rattle.std.specs.Prelude.{◌+◌, ◌*◌, ◌<◌, ◌≤◌};
 
-/// How many blocks a part has, one at least, where so many blocks are cut into at most so many.
+/// How many blocks a part has, one at least, where so many blocks are cut into at most so many parts.
 pub(crate) fn part_of(blocks: usize, parts: usize) -> usize
     requires { 0 < parts }
     ensures some { 0 < result }
