@@ -33,7 +33,8 @@
 //!   bay; `memory echo LINK` puts the text of a link's next client back to it, and
 //!   `memory put LINK` tells what all clients were put that were handed back.
 //!
-//! Prints each step with another outcome, and how many steps there are.
+//! What else stands in a step of one word is let alone. Prints each step with another outcome, and
+//! how many steps there are.
 #![tactic(auto)]
 
 mod calls;
