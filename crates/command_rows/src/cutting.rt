@@ -1,12 +1,10 @@
 // Sessions whose input ends, at each byte of what a client sends: one client for each.
 
-use crate::asking::words_of_row;
 use crate::messages::{Message, bytes_of};
-use crate::running::{bay_of, run_in};
+use crate::running::{Ran, Scene, Telling};
 use crate::serving::{Client, clients_of, connections_of, told_session};
 use anyhow::{Result, anyhow};
 use bays::MemLink;
-use io_edge::ListSink;
 use reenc_tool::{Ending, SessionEnd};
 use sector_disk::MemDisk;
 use std::alloc::Global;
@@ -83,6 +81,26 @@ fn cuts_of(alloc: Global, first: Vec<u8>, messages: &[Client]) -> Result<Cuts> {
     Ok(cuts)
 }
 
+/// What is first put, and a client for each byte of the messages of these columns.
+fn cuts_by(alloc: Global, messages: &[Message], first: &str, columns: &[&str]) -> Result<Cuts> {
+    let sent = clients_of(alloc, messages, columns)?;
+    cuts_of(alloc, bytes_of(alloc, messages, first)?, sent.as_slice())
+}
+
+/// What came of all clients.
+fn run_all(
+    rt: &HostRuntime,
+    threads: &(impl Threads + Wait + Sync),
+    line: &str,
+    clients: &[Client],
+) -> Result<Ran> {
+    let alloc = rt.alloc();
+    let connections = connections_of(alloc, clients, 50, 2000)?;
+    let disk = MemDisk::new(alloc, 512, 16, ROOM, &[])?;
+    let mut scene = Scene::with(alloc, disk, connections, 100)?;
+    scene.run(rt, threads, line, Telling::Cause)
+}
+
 /// The first session of a link that ended otherwise than it is to.
 fn differs(
     alloc: Global,
@@ -104,11 +122,22 @@ fn differs(
     Ok(None)
 }
 
+/// How many cuts there are, or what came of the first one that ended otherwise than it is to.
+fn told(alloc: Global, ran: &Ran, cuts: &Cuts) -> Result<String> {
+    let (Some(link), Some(ends)) = (ran.links.first(), ran.sessions.first()) else {
+        return Err(anyhow!("no link"));
+    };
+    match differs(alloc, link, ends.as_slice(), cuts)? {
+        Some(found) => Ok(found),
+        None => Ok(format!(in alloc; "{} cuts", cuts.ends.len())?),
+    }
+}
+
 /// How many cuts a client's input has, where each ends its session as it is to; the columns are
 /// what is put first, and then each message and its answer.
 pub(crate) fn cut(
-    rt: &(impl Threads + Wait + Sync),
-    alloc: Global,
+    rt: &HostRuntime,
+    threads: &(impl Threads + Wait + Sync),
     messages: &[Message],
     line: &str,
     columns: &[&str],
@@ -116,23 +145,7 @@ pub(crate) fn cut(
     let [first, columns @ ..] = columns else {
         return Err(anyhow!("a session of no column"));
     };
-    let first = bytes_of(alloc, messages, first)?;
-    let cuts = cuts_of(
-        alloc,
-        first,
-        clients_of(alloc, messages, columns)?.as_slice(),
-    )?;
-    let connections = connections_of(alloc, cuts.clients.as_slice(), 50, 2000)?;
-    let disk = MemDisk::new(alloc, 512, 16, ROOM, &[])?;
-    let mut bay = bay_of(alloc, disk, connections, Vec::new(alloc))?;
-    let mut out = ListSink::new(alloc, 100, &[])?;
-    let words = words_of_row(alloc, line)?;
-    let ended = run_in(rt, alloc, words.as_slice(), &mut bay, &mut out)?;
-    let (Some(link), Some(ends)) = (ended.links.first(), ended.sessions.first()) else {
-        return Err(anyhow!("no link"));
-    };
-    match differs(alloc, link, ends.as_slice(), &cuts)? {
-        Some(found) => Ok(found),
-        None => Ok(format!(in alloc; "{} cuts", cuts.ends.len())?),
-    }
+    let cuts = cuts_by(rt.alloc(), messages, first, columns)?;
+    let ran = run_all(rt, threads, line, cuts.clients.as_slice())?;
+    told(rt.alloc(), &ran, &cuts)
 }

@@ -72,13 +72,13 @@ fn outcome<W: Threads + Wait + Sync>(
         "asks" => asking::asked(rt.alloc(), line),
         "serves" => serving::served(rt, threads, messages, line, rest),
         "turns" => turning::turned(rt, threads, messages, line, rest),
-        "cuts" => cutting::cut(threads, rt.alloc(), messages, line, rest),
-        "walks" => walking::walked(threads, rt.alloc(), messages, line, rest, false),
-        "walks in chunks" => walking::walked(threads, rt.alloc(), messages, line, rest, true),
+        "cuts" => cutting::cut(rt, threads, messages, line, rest),
+        "walks" => walking::walked(rt, threads, messages, line, rest, false),
+        "walks in chunks" => walking::walked(rt, threads, messages, line, rest, true),
         run => {
             let fails = run.strip_prefix("run").unwrap_or("no row");
             let disk = running::disk_of_row(rt, fails, rest)?;
-            running::ran(threads, rt.alloc(), line, disk)
+            running::told_on(rt, threads, line, disk)
         }
     }
 }

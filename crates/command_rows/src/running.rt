@@ -6,13 +6,13 @@ ghost use Rattle.luks_bin.specs.Writing.{IsWritable};
 ghost use Rattle.sector_disk.specs.Mem.{atom_of, atoms_of};
 
 use crate::asking::words_of_row;
-use crate::meeting::Meeting;
+use crate::meeting::{Meeting, meeting_of};
 use anyhow::{Context, Result, anyhow};
 use base_terms::{Bytes, zeros};
 use bays::{MemBay, MemLink};
 use io_edge::{FixedSeeds, Gate, ListSink, ListSource, OpenGate};
 use luks_bin::{BinHeader, is_header_size, write_copy};
-use reenc_tool::{Ended, FaultText, RefusalText, run};
+use reenc_tool::{Ended, FaultText, RefusalText, SessionEnd, run};
 use sector_disk::{Disk, MemDisk};
 use std::alloc::Global;
 use std::fs;
@@ -143,90 +143,247 @@ fn keys_of(alloc: Global) -> Result<Vec<(String, Bytes)>> {
     Ok(keys)
 }
 
-/// The bay of this disk, by the name of `x`, of the key files, and of these clients at the address
-/// `A`. Its own calls of the first of these numbers fail, and those of each link of the others.
-pub(crate) fn bay_of(
-    alloc: Global,
-    disk: MemDisk,
-    clients: Vec<(ListSource, ListSink)>,
-    fails: Vec<Vec<u64>>,
-) -> Result<MemBay> {
-    let mut disks = Vec::new(alloc);
-    disks.push((String::from_str(alloc, "x")?, disk))?;
-    let address = String::from_str(alloc, "A")?;
-    Ok(MemBay::new(alloc, disks, keys_of(alloc)?, address, clients, fails))
+/// Where a command is run: a bay, and an output for what it prints.
+pub(crate) struct Scene {
+    bay: MemBay,
+    out: ListSink,
 }
 
-/// Runs a command in a bay, at a gate.
-fn run_at<'w>(
-    rt: &(impl Threads + Wait + Sync),
-    alloc: Global,
-    words: &'w [String],
-    bay: &mut MemBay,
-    out: &mut ListSink,
-    gate: &(impl Gate + Sync),
-) -> Result<Ended<'w, MemDisk, MemLink>> {
-    let mut seeds = FixedSeeds::new(alloc, &[0], &[])?;
-    Ok(run(rt, alloc, words, bay, &mut seeds, out, gate))
-}
-
-/// Runs a command in a bay.
-pub(crate) fn run_in<'w>(
-    rt: &(impl Threads + Wait + Sync),
-    alloc: Global,
-    words: &'w [String],
-    bay: &mut MemBay,
-    out: &mut ListSink,
-) -> Result<Ended<'w, MemDisk, MemLink>> {
-    run_at(rt, alloc, words, bay, out, &OpenGate)
-}
-
-/// Runs a command in a bay whose clients and worker meet at this step, where there is one: how it
-/// ended, and whether they met.
-pub(crate) fn run_meeting<'w>(
-    rt: &HostRuntime,
-    threads: &(impl Threads + Wait + Sync),
-    words: &'w [String],
-    bay: &mut MemBay,
-    out: &mut ListSink,
-    step: Option<u64>,
-) -> Result<(Ended<'w, MemDisk, MemLink>, &'static str)> {
-    let alloc = rt.alloc();
-    let Some(step) = step else {
-        return Ok((run_in(threads, alloc, words, bay, out)?, ""));
-    };
-    let gate = Meeting::new(*rt, step);
-    let ended = run_at(threads, alloc, words, bay, out, &gate)?;
-    Ok((ended, if gate.is_kept() { " met" } else { " missed" }))
-}
-
-/// The status, the lines that were printed, and what is told of the header, or of a volume that
-/// wasn't opened.
-fn shown(alloc: Global, ended: &Ended<'_, MemDisk, MemLink>, out: &ListSink) -> Result<String> {
-    let Ok(text) = str::from_utf8(out.as_slice()) else {
-        return Err(anyhow!("no text is printed"));
-    };
-    let lines = text.trim_end().replace(alloc, "\n", " / ")?;
-    let status = ended.status;
-    match (&ended.fault, &ended.refusal) {
-        (Some(fault), _) => Ok(format!(in alloc; "{status} {lines}; {}", FaultText(fault))?),
-        (None, Some(refusal)) => {
-            Ok(format!(in alloc; "{status} {lines}; {}", RefusalText(refusal))?)
-        }
-        (None, None) => Ok(format!(in alloc; "{status} {lines}")?),
+// By hand, so that one that is dropped in place is one call to the prover.
+impl Drop for Scene {
+    fn drop(self) {
+        let Scene { bay, out } = self;
+        drop(bay);
+        drop(out);
     }
 }
 
-/// What a command comes to on this disk.
-pub(crate) fn ran(
-    rt: &(impl Threads + Wait + Sync),
+impl Scene {
+    /// A bay of this disk, by the name of `x`, of the key files, and of these clients at the address
+    /// `A`. Its own calls of the first of these numbers fail, and those of each link of the others.
+    pub(crate) fn new(
+        alloc: Global,
+        disk: MemDisk,
+        clients: Vec<(ListSource, ListSink)>,
+        fails: Vec<Vec<u64>>,
+        out: ListSink,
+    ) -> Result<Scene> {
+        let keys = keys_of(alloc)?;
+        let address = String::from_str(alloc, "A")?;
+        let disks = Vec::from_array(alloc, [(String::from_str(alloc, "x")?, disk)])?;
+        let bay = MemBay::new(alloc, disks, keys, address, clients, fails);
+        Ok(Scene { bay, out })
+    }
+
+    /// The same with an output of so many bytes, in which no call but the disk's fails.
+    pub(crate) fn with(
+        alloc: Global,
+        disk: MemDisk,
+        clients: Vec<(ListSource, ListSink)>,
+        room: usize,
+    ) -> Result<Scene> {
+        let out = ListSink::new(alloc, room, &[])?;
+        Scene::new(alloc, disk, clients, Vec::new(alloc), out)
+    }
+
+    /// Runs the command of these words, at a gate.
+    fn run_at<'w>(
+        &mut self,
+        rt: &(impl Threads + Wait + Sync),
+        alloc: Global,
+        words: &'w [String],
+        gate: &(impl Gate + Sync),
+    ) -> Result<Ended<'w, MemDisk, MemLink>> {
+        let mut seeds = FixedSeeds::new(alloc, &[0], &[])?;
+        let Scene { bay, out } = self;
+        Ok(run(rt, alloc, words, bay, &mut seeds, out, gate))
+    }
+
+    /// Runs the command of a line, whose words may say at which step its clients and its worker meet.
+    pub(crate) fn run(
+        &mut self,
+        rt: &HostRuntime,
+        threads: &(impl Threads + Wait + Sync),
+        line: &str,
+        telling: Telling,
+    ) -> Result<Ran> {
+        let (step, line) = meeting_of(line);
+        let words = words_of_row(rt.alloc(), line)?;
+        match step {
+            None => self.run_open(threads, rt.alloc(), words.as_slice(), telling),
+            Some(step) => self.run_meeting(rt, threads, words.as_slice(), step, telling),
+        }
+    }
+
+    /// Runs a command whose clients and worker meet nowhere.
+    fn run_open(
+        &mut self,
+        threads: &(impl Threads + Wait + Sync),
+        alloc: Global,
+        words: &[String],
+        telling: Telling,
+    ) -> Result<Ran> {
+        let ended = self.run_at(threads, alloc, words, &OpenGate)?;
+        ended_as(alloc, ended, &self.out, telling, "")
+    }
+
+    /// Runs a command whose clients and worker meet at this step.
+    fn run_meeting(
+        &mut self,
+        rt: &HostRuntime,
+        threads: &(impl Threads + Wait + Sync),
+        words: &[String],
+        step: u64,
+        telling: Telling,
+    ) -> Result<Ran> {
+        let gate = Meeting::new(*rt, step);
+        let ended = self.run_at(threads, rt.alloc(), words, &gate)?;
+        let met = if gate.is_kept() { " met" } else { " missed" };
+        ended_as(rt.alloc(), ended, &self.out, telling, met)
+    }
+}
+
+/// What is told of how a command ended.
+#[derive(Clone, Copy)]
+pub(crate) enum Telling {
+    /// The status, the lines that were printed, and what is told of the header, or of a volume that
+    /// wasn't opened.
+    Header,
+    /// The status and its cause, the text that was printed, and the atoms of the disk that was handed
+    /// back.
+    Cause,
+}
+
+/// A command that ended: how, in words; what it handed back; and whether its clients and its worker
+/// met, where they were to, in words.
+pub(crate) struct Ran {
+    pub(crate) told: String,
+    pub(crate) disk: Option<MemDisk>,
+    pub(crate) sessions: Vec<Vec<SessionEnd>>,
+    pub(crate) links: Vec<MemLink>,
+    pub(crate) met: &'static str,
+}
+
+// By hand, so that one that is dropped in place is one call to the prover.
+impl Drop for Ran {
+    fn drop(self) {
+        let Ran {
+            told,
+            disk,
+            sessions,
+            links,
+            met: _,
+        } = self;
+        drop(told);
+        drop(disk);
+        drop(sessions);
+        drop(links);
+    }
+}
+
+impl Ran {
+    /// The disk that was handed back.
+    pub(crate) fn into_disk(self) -> Result<MemDisk> {
+        let Ran {
+            told,
+            disk,
+            sessions,
+            links,
+            met: _,
+        } = self;
+        drop(told);
+        drop(sessions);
+        drop(links);
+        disk.ok_or(anyhow!("no disk is handed back"))
+    }
+}
+
+/// What is kept of a command that ended, with what is told of it.
+fn kept(ended: Ended<'_, MemDisk, MemLink>, told: String, met: &'static str) -> Ran {
+    let Ended {
+        fault,
+        refusal,
+        disk,
+        header,
+        pass,
+        sessions,
+        links,
+        ..
+    } = ended;
+    drop(fault);
+    drop(refusal);
+    drop(header);
+    drop(pass);
+    Ran {
+        told,
+        disk,
+        sessions,
+        links,
+        met,
+    }
+}
+
+/// A command that ended, and printed this.
+fn ended_as(
     alloc: Global,
+    ended: Ended<'_, MemDisk, MemLink>,
+    out: &ListSink,
+    telling: Telling,
+    met: &'static str,
+) -> Result<Ran> {
+    match told(alloc, &ended, out, telling) {
+        Ok(told) => Ok(kept(ended, told, met)),
+        Err(error) => {
+            drop(ended);
+            Err(error)
+        }
+    }
+}
+
+/// What is told of a command that ended, and printed this.
+fn told(
+    alloc: Global,
+    ended: &Ended<'_, MemDisk, MemLink>,
+    out: &ListSink,
+    telling: Telling,
+) -> Result<String> {
+    let Ok(text) = str::from_utf8(out.as_slice()) else {
+        return Err(anyhow!("no text is printed"));
+    };
+    match telling {
+        Telling::Header => shown(alloc, ended, text),
+        Telling::Cause => caused(alloc, ended, text),
+    }
+}
+
+fn shown(alloc: Global, ended: &Ended<'_, MemDisk, MemLink>, text: &str) -> Result<String> {
+    let lines = text.trim_end().replace(alloc, "\n", " / ")?;
+    let status = ended.status;
+    Ok(match (&ended.fault, &ended.refusal) {
+        (Some(fault), _) => format!(in alloc; "{status} {lines}; {}", FaultText(fault))?,
+        (None, Some(refusal)) => format!(in alloc; "{status} {lines}; {}", RefusalText(refusal))?,
+        (None, None) => format!(in alloc; "{status} {lines}")?,
+    })
+}
+
+fn caused(alloc: Global, ended: &Ended<'_, MemDisk, MemLink>, text: &str) -> Result<String> {
+    let (status, cause) = (ended.status, ended.cause);
+    let wanted = if ended.memory { " wanting memory" } else { "" };
+    let atoms = match &ended.disk {
+        Some(disk) => Some(disk.atoms()),
+        None => None,
+    };
+    Ok(format!(in alloc; "{status} {cause:?}{wanted} {text:?} {atoms:?}")?)
+}
+
+/// What a command comes to on this disk.
+pub(crate) fn told_on(
+    rt: &HostRuntime,
+    threads: &(impl Threads + Wait + Sync),
     line: &str,
     disk: MemDisk,
 ) -> Result<String> {
-    let words = words_of_row(alloc, line)?;
-    let mut bay = bay_of(alloc, disk, Vec::new(alloc), Vec::new(alloc))?;
-    let mut out = ListSink::new(alloc, 4096, &[])?;
-    let ended = run_in(rt, alloc, words.as_slice(), &mut bay, &mut out)?;
-    shown(alloc, &ended, &out)
+    let mut scene = Scene::with(rt.alloc(), disk, Vec::new(rt.alloc()), 4096)?;
+    let ran = scene.run(rt, threads, line, Telling::Header)?;
+    Ok(ran.told.clone()?)
 }

@@ -1,15 +1,14 @@
 // Rows on commands that meet clients.
 
-use crate::asking::words_of_row;
-use crate::meeting::meeting_of;
 use crate::messages::{Message, bytes_of};
-use crate::running::{bay_of, numbers_of, run_meeting};
+use crate::running::{Ran, Scene, Telling, numbers_of};
 use anyhow::{Context, Result, anyhow};
 use bays::MemLink;
 use io_edge::{ListSink, ListSource};
-use reenc_tool::{Ended, SessionEnd};
+use reenc_tool::SessionEnd;
 use sector_disk::{Disk, MemDisk};
 use std::alloc::Global;
+use std::fmt::Write;
 use std::fs;
 use std::sync::Wait;
 use std::thread::Threads;
@@ -79,26 +78,21 @@ fn front_of<'c>(rt: &HostRuntime, column: &'c str) -> Result<(Vec<u8>, &'c str)>
 /// atoms, and for each of its atoms once more.
 pub(crate) fn disk_of(rt: &HostRuntime, column: &str, room: u32) -> Result<MemDisk> {
     let (front, rest) = front_of(rt, column)?;
-    let calls = u64::from(!front.is_empty());
-    let numbers = numbers_of(rt.alloc(), rest, 0)?;
-    let [atoms, fails @ ..] = numbers.as_slice() else {
+    disk_with(rt.alloc(), front.as_slice(), rest, room)
+}
+
+/// The same, which begins with these bytes.
+fn disk_with(alloc: Global, front: &[u8], column: &str, room: u32) -> Result<MemDisk> {
+    let (atoms, fails) = column.split_once(' ').unwrap_or((column, ""));
+    let Ok(atoms) = atoms.parse::<u64>() else {
         return Err(anyhow!("a disk without a length"));
     };
-    if *atoms > 4096 || front.len() % 512 != 0 || *atoms < (front.len() / 512) as u64 {
-        return Err(anyhow!("a disk of {atoms} atoms"));
+    if atoms > 4096 || front.len() % 512 != 0 || atoms < (front.len() / 512) as u64 {
+        return Err(anyhow!("a disk of {column} atoms"));
     }
-    let mut later = Vec::new(rt.alloc());
-    for fail in fails {
-        later.push(fail.saturating_add(calls))?;
-    }
-    let mut disk = MemDisk::new(
-        rt.alloc(),
-        512,
-        *atoms,
-        u64::from(room) + *atoms,
-        later.as_slice(),
-    )?;
-    if !front.is_empty() && disk.write(0, front.as_slice()).is_err() {
+    let fails = numbers_of(alloc, fails, u64::from(!front.is_empty()))?;
+    let mut disk = MemDisk::new(alloc, 512, atoms, u64::from(room) + atoms, fails.as_slice())?;
+    if !front.is_empty() && disk.write(0, front).is_err() {
         return Err(anyhow!("a file can't be put"));
     }
     Ok(disk)
@@ -134,46 +128,63 @@ pub(crate) fn told_session(
     Ok(format!(in alloc; "{end:?} with {put}")?)
 }
 
-/// What was told before, and the sessions of a link, in their order.
-fn told_link(
+/// Tells the sessions of a link, in their order.
+fn tell_link(
+    told: &mut String,
     alloc: Global,
-    before: &String,
     link: &MemLink,
     ends: &[SessionEnd],
     clients: &[Client],
-) -> Result<String> {
-    let mut told = format!(in alloc; "{before}, link")?;
+) -> Result<()> {
+    told.push_str(", link")?;
     for (place, end) in ends.iter().enumerate() {
         let session = told_session(alloc, end, link.handed().get(place), clients)?;
-        told = format!(in alloc; "{told} {session}")?;
+        write!(told, " {session}")?;
     }
-    Ok(told)
+    Ok(())
+}
+
+/// Tells the sessions of each link.
+fn tell_links(told: &mut String, alloc: Global, ran: &Ran, clients: &[Client]) -> Result<()> {
+    for (number, ends) in ran.sessions.as_slice().iter().enumerate() {
+        match ran.links.get(number) {
+            Some(link) => tell_link(told, alloc, link, ends.as_slice(), clients)?,
+            None => return Err(anyhow!("sessions of no link")),
+        }
+    }
+    Ok(())
 }
 
 /// How a command ended, what it printed, the disk that it handed back, and each session.
-pub(crate) fn told(
-    alloc: Global,
-    ended: &Ended<'_, MemDisk, MemLink>,
-    out: &ListSink,
-    clients: &[Client],
-) -> Result<String> {
-    let Ok(text) = str::from_utf8(out.as_slice()) else {
-        return Err(anyhow!("no text is printed"));
-    };
-    let (status, cause) = (ended.status, ended.cause);
-    let wanted = if ended.memory { " wanting memory" } else { "" };
-    let atoms = match &ended.disk {
-        Some(disk) => Some(disk.atoms()),
-        None => None,
-    };
-    let mut told = format!(in alloc; "{status} {cause:?}{wanted} {text:?} {atoms:?}")?;
-    for (number, ends) in ended.sessions.as_slice().iter().enumerate() {
-        let Some(link) = ended.links.get(number) else {
-            return Err(anyhow!("sessions of no link"));
-        };
-        told = told_link(alloc, &told, link, ends.as_slice(), clients)?;
-    }
+pub(crate) fn told(alloc: Global, ran: &Ran, clients: &[Client]) -> Result<String> {
+    let mut told = ran.told.clone()?;
+    tell_links(&mut told, alloc, ran, clients)?;
+    told.push_str(ran.met)?;
     Ok(told)
+}
+
+/// The connections of clients that send so many bytes at once and take so many, as a column tells.
+fn connections_by(
+    alloc: Global,
+    clients: &[Client],
+    limits: &str,
+) -> Result<Vec<(ListSource, ListSink)>> {
+    let limits = numbers_of(alloc, limits, 0)?;
+    match limits.as_slice() {
+        [piece, room] => connections_of(alloc, clients, *piece, *room),
+        _ => Err(anyhow!("clients have a piece and a room")),
+    }
+}
+
+/// What these columns say: the disk, the calls that fail, the output, and the bytes that a client
+/// sends at once and that it takes.
+fn scene_of(rt: &HostRuntime, columns: [&str; 4], clients: &[Client]) -> Result<Scene> {
+    let [disk, fails, out, limits] = columns;
+    let alloc = rt.alloc();
+    let connections = connections_by(alloc, clients, limits)?;
+    let lists = lists_of(alloc, fails)?;
+    let out = out_of(alloc, out)?;
+    Scene::new(alloc, disk_of(rt, disk, 600)?, connections, lists, out)
 }
 
 /// What a command comes to whose bay is as these columns say: the disk, the calls that fail, the
@@ -188,19 +199,8 @@ pub(crate) fn served(
     let [disk, fails, out, limits, clients @ ..] = columns else {
         return Err(anyhow!("a bay of so many columns"));
     };
-    let alloc = rt.alloc();
-    let limits = numbers_of(alloc, limits, 0)?;
-    let [piece, room] = limits.as_slice() else {
-        return Err(anyhow!("clients have a piece and a room"));
-    };
-    let clients = clients_of(alloc, messages, clients)?;
-    let connections = connections_of(alloc, clients.as_slice(), *piece, *room)?;
-    let lists = lists_of(alloc, fails)?;
-    let mut bay = bay_of(alloc, disk_of(rt, disk, 600)?, connections, lists)?;
-    let mut out = out_of(alloc, out)?;
-    let (step, line) = meeting_of(line);
-    let words = words_of_row(alloc, line)?;
-    let (ended, met) = run_meeting(rt, threads, words.as_slice(), &mut bay, &mut out, step)?;
-    let told = told(alloc, &ended, &out, clients.as_slice())?;
-    Ok(format!(in alloc; "{told}{met}")?)
+    let clients = clients_of(rt.alloc(), messages, clients)?;
+    let mut scene = scene_of(rt, [disk, fails, out, limits], clients.as_slice())?;
+    let ran = scene.run(rt, threads, line, Telling::Cause)?;
+    told(rt.alloc(), &ran, clients.as_slice())
 }

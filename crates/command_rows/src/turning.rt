@@ -1,13 +1,9 @@
 // Rows on commands that are run one after the other on one disk.
 
-use crate::asking::words_of_row;
-use crate::meeting::meeting_of;
 use crate::messages::Message;
-use crate::running::{bay_of, run_meeting};
-use crate::serving::{clients_of, connections_of, disk_of, told};
-use crate::walking::handed_back;
+use crate::running::{Scene, Telling};
+use crate::serving::{Client, clients_of, connections_of, disk_of, told};
 use anyhow::{Result, anyhow};
-use io_edge::ListSink;
 use sector_disk::MemDisk;
 use std::alloc::Global;
 use std::sync::Wait;
@@ -15,6 +11,21 @@ use std::thread::Threads;
 
 /// The most device calls and written atoms of all commands.
 const ROOM: u32 = 2000;
+
+/// The client that a command meets, by what it sends and what it is to be put; none where it sends
+/// nothing.
+fn met_by(alloc: Global, messages: &[Message], columns: &[&str]) -> Result<Vec<Client>> {
+    match columns.first().copied() {
+        None | Some("") => Ok(Vec::new(alloc)),
+        Some(_) => clients_of(alloc, messages, columns),
+    }
+}
+
+/// Where a command is run on this disk, that meets these clients.
+fn scene_of(alloc: Global, disk: MemDisk, clients: &[Client]) -> Result<Scene> {
+    let connections = connections_of(alloc, clients, 4096, 4000)?;
+    Scene::with(alloc, disk, connections, 4096)
+}
 
 /// What a command comes to on a disk, and the disk that it hands back; the columns are its words, and
 /// what a client sends and is to be put, where it meets one.
@@ -28,22 +39,11 @@ fn run_next(
     let [line, clients @ ..] = columns else {
         return Err(anyhow!("a command of no words"));
     };
-    let alloc = rt.alloc();
-    let sent = clients.first().copied().unwrap_or("");
-    let clients = if sent.is_empty() {
-        Vec::new(alloc)
-    } else {
-        clients_of(alloc, messages, clients)?
-    };
-    let connections = connections_of(alloc, clients.as_slice(), 4096, 4000)?;
-    let mut bay = bay_of(alloc, disk, connections, Vec::new(alloc))?;
-    let mut out = ListSink::new(alloc, 4096, &[])?;
-    let (step, line) = meeting_of(line);
-    let words = words_of_row(alloc, line)?;
-    let (ended, met) = run_meeting(rt, threads, words.as_slice(), &mut bay, &mut out, step)?;
-    let found = told(alloc, &ended, &out, clients.as_slice())?;
-    let disk = handed_back(ended)?;
-    Ok((format!(in alloc; "{found}{met}")?, disk))
+    let clients = met_by(rt.alloc(), messages, clients)?;
+    let mut scene = scene_of(rt.alloc(), disk, clients.as_slice())?;
+    let ran = scene.run(rt, threads, line, Telling::Cause)?;
+    let told = told(rt.alloc(), &ran, clients.as_slice())?;
+    Ok((told, ran.into_disk()?))
 }
 
 /// What commands come to in turn: the line is the disk and its calls that fail, and three columns are
@@ -55,13 +55,13 @@ pub(crate) fn turned(
     line: &str,
     columns: &[&str],
 ) -> Result<String> {
-    let alloc = rt.alloc();
     let mut disk = disk_of(rt, line, ROOM)?;
-    let mut all = String::new(alloc);
+    let mut all = String::new(rt.alloc());
     for command in columns.chunks(3) {
         let (found, after) = run_next(rt, threads, messages, disk, command)?;
         disk = after;
-        all = format!(in alloc; "{all}{found}; ")?;
+        all.push_str(found.as_str())?;
+        all.push_str("; ")?;
     }
     Ok(all)
 }

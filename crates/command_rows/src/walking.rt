@@ -2,9 +2,8 @@
 
 ghost use Rattle.std.specs.Prelude.{◌≡◌, ◌<◌, ◌⊎◌, IfOk};
 
-use crate::asking::words_of_row;
 use crate::messages::{Message, bytes_of};
-use crate::running::{bay_of, numbers_of, run_in};
+use crate::running::{Scene, Telling, numbers_of};
 use crate::serving::{Client, connections_of, told};
 use crate::spelling::{
     DF, FLUSH, FUA, NO_HOLE, READ, Request, WRITE, ZEROES, may_have, spell_in_chunk, spell_reply,
@@ -12,10 +11,8 @@ use crate::spelling::{
 };
 use anyhow::{Result, anyhow};
 use base_terms::{Bytes, INVALID, zeros};
-use bays::MemLink;
-use io_edge::ListSink;
 use plain_disk::{Op, PlainDisk, Reply};
-use reenc_tool::{Ended, Ending, SessionEnd};
+use reenc_tool::{Ending, SessionEnd};
 use sector_disk::{Disk, MemDisk};
 use std::alloc::Global;
 use std::sync::Wait;
@@ -183,17 +180,6 @@ impl Walk {
     }
 }
 
-/// The length of an atom.
-fn atom_of(number: u64) -> Result<u32>
-    ensures { IfOk result (λ atom. (atom ≡ 512) ⊎ (atom ≡ 4096)) }
-{
-    match number {
-        512 => Ok(512),
-        4096 => Ok(4096),
-        _ => Err(anyhow!("{number} bytes are no atom")),
-    }
-}
-
 /// A walk on blocks of `atom` bytes, behind what a client sends first and is put for it.
 fn walk_of(alloc: Global, atom: u32, state: u64, first: Client, in_chunks: bool) -> Result<Walk>
     requires { (atom ≡ 512) ⊎ (atom ≡ 4096) }
@@ -270,61 +256,70 @@ fn walk_of_row(
     Ok(walk)
 }
 
-/// The disk that a command handed back.
-pub(crate) fn handed_back(ended: Ended<'_, MemDisk, MemLink>) -> Result<MemDisk> {
-    let Ended { disk, .. } = ended;
-    let Some(disk) = disk else {
-        return Err(anyhow!("no disk is handed back"));
-    };
-    Ok(disk)
-}
-
 /// How the session of a client ended whose bytes come in pieces, and the disk that was served.
 fn served_in_pieces(
-    rt: &(impl Threads + Wait + Sync),
-    alloc: Global,
-    words: &[String],
-    disk: MemDisk,
+    rt: &HostRuntime,
+    threads: &(impl Threads + Wait + Sync),
+    line: &str,
+    atom: u32,
     piece: u64,
-    client: Client,
-) -> Result<(String, MemDisk)> {
-    let room = client.answers.len() as u64;
-    let clients = [client];
-    let connections = connections_of(alloc, &clients, piece, room)?;
-    let mut bay = bay_of(alloc, disk, connections, Vec::new(alloc))?;
-    let mut out = ListSink::new(alloc, 100, &[])?;
-    let ended = run_in(rt, alloc, words, &mut bay, &mut out)?;
-    let found = told(alloc, &ended, &out, &clients)?;
-    let disk = handed_back(ended)?;
-    Ok((found, disk))
+    clients: &[Client],
+) -> Result<(String, MemDisk)>
+    requires { (atom ≡ 512) ⊎ (atom ≡ 4096) }
+{
+    let alloc = rt.alloc();
+    let room = match clients.first() {
+        Some(client) => client.answers.len() as u64,
+        None => 0,
+    };
+    let connections = connections_of(alloc, clients, piece, room)?;
+    let disk = MemDisk::new(alloc, atom, ATOMS, ROOM, &[])?;
+    let mut scene = Scene::with(alloc, disk, connections, 100)?;
+    let ran = scene.run(rt, threads, line, Telling::Cause)?;
+    let found = told(alloc, &ran, clients)?;
+    Ok((found, ran.into_disk()?))
 }
 
 /// What comes of a walk whose bytes come in pieces, where it is something else than a plain disk's
 /// answers and its blocks.
 fn compared(
-    rt: &(impl Threads + Wait + Sync),
-    alloc: Global,
-    words: &[String],
-    disk: MemDisk,
+    rt: &HostRuntime,
+    threads: &(impl Threads + Wait + Sync),
+    line: &str,
+    atom: u32,
     piece: u64,
     walk: Walk,
-) -> Result<String> {
+) -> Result<String>
+    requires { (atom ≡ 512) ⊎ (atom ≡ 4096) }
+{
     let Walk { plain, client, .. } = walk;
-    let wanted = served_whole(alloc, &client)?;
-    let (found, disk) = served_in_pieces(rt, alloc, words, disk, piece, client)?;
+    let wanted = served_whole(rt.alloc(), &client)?;
+    let (found, disk) = served_in_pieces(rt, threads, line, atom, piece, &[client])?;
     if found.as_str() != wanted.as_str() {
         return Ok(found);
     }
-    match differs_at(alloc, disk, &plain)? {
-        None => Ok(String::from_str(alloc, "as a plain disk")?),
-        Some(block) => Ok(format!(in alloc; "another content of block {block}")?),
+    match differs_at(rt.alloc(), disk, &plain)? {
+        None => Ok(String::from_str(rt.alloc(), "as a plain disk")?),
+        Some(block) => Ok(format!(in rt.alloc(); "another content of block {block}")?),
+    }
+}
+
+/// The length of an atom, and the most bytes that come at once.
+fn limits_of(alloc: Global, column: &str) -> Result<(u32, u64)>
+    ensures { IfOk result (λ limits. (limits.0 ≡ 512) ⊎ (limits.0 ≡ 4096)) }
+{
+    let limits = numbers_of(alloc, column, 0)?;
+    match limits.as_slice() {
+        [512, piece] => Ok((512, *piece)),
+        [4096, piece] => Ok((4096, *piece)),
+        _ => Err(anyhow!("a walk has blocks and a piece")),
     }
 }
 
 /// What a walk comes to, whose reads are answered by chunks where the client asks for them first.
 pub(crate) fn walked(
-    rt: &(impl Threads + Wait + Sync),
-    alloc: Global,
+    rt: &HostRuntime,
+    threads: &(impl Threads + Wait + Sync),
     messages: &[Message],
     line: &str,
     columns: &[&str],
@@ -333,13 +328,7 @@ pub(crate) fn walked(
     let [limits, columns @ ..] = columns else {
         return Err(anyhow!("a walk of no column"));
     };
-    let limits = numbers_of(alloc, limits, 0)?;
-    let [atom, piece] = limits.as_slice() else {
-        return Err(anyhow!("a walk has blocks and a piece"));
-    };
-    let atom = atom_of(*atom)?;
-    let walk = walk_of_row(alloc, messages, atom, *piece, columns, in_chunks)?;
-    let disk = MemDisk::new(alloc, atom, ATOMS, ROOM, &[])?;
-    let words = words_of_row(alloc, line)?;
-    compared(rt, alloc, words.as_slice(), disk, *piece, walk)
+    let (atom, piece) = limits_of(rt.alloc(), limits)?;
+    let walk = walk_of_row(rt.alloc(), messages, atom, piece, columns, in_chunks)?;
+    compared(rt, threads, line, atom, piece, walk)
 }
