@@ -4,7 +4,7 @@ ghost use Rattle.std.specs.IoError.{error_kind};
 ghost use Rattle.std.specs.declared.io.Error.{Error};
 ghost use Rattle.bays.specs.Bays.{AreBounded, FaultCounts, HasBayCause};
 ghost use Rattle.file_disk.specs.Opening.{OpensLocked, OpensToRead};
-ghost use Rattle.file_disk.specs.Sizes.{whole_atoms};
+ghost use Rattle.file_disk.specs.Sizes.{tail_behind, whole_atoms};
 ghost use Rattle.sector_disk.specs.Geometry.{IsAtom};
 ghost use Rattle.host_edge.specs.Doors.{HaveDoors, Listens, SharesDoor};
 ghost use Rattle.host_edge.specs.Shares.{AreShared, share_of};
@@ -212,7 +212,8 @@ impl<R: FileSystem + Network + Clock + Copy + Drop> Bay for HostBay<R> {
         ensures opened { IfOk result (λ disk. (len : ℕ)
             × OpensLocked (R.opens self.old.machine name.now) R.Opened.locks
             (R.checks self.old.machine) R.Opened.measures (Ok (disk.file.file, len))
-            × (disk.atoms ≡ whole_atoms atom len)) }
+            × (disk.atoms ≡ whole_atoms atom len)
+            × (disk.tail ≡ tail_behind atom len)) }
         ensures refused { IfErr result (λ fault. fault ≡ BayFault.Failed → (error : Error)
             × OpensLocked (R.opens self.old.machine name.now) R.Opened.locks
             (R.checks self.old.machine) R.Opened.measures (Err error)) }
@@ -232,7 +233,8 @@ impl<R: FileSystem + Network + Clock + Copy + Drop> Bay for HostBay<R> {
         ensures opened { IfOk result (λ disk. (len : ℕ)
             × OpensToRead (R.opens_to_read self.old.machine name.now)
             R.Opened.measures (Ok (disk.file.file, len))
-            × (disk.atoms ≡ whole_atoms atom len)) }
+            × (disk.atoms ≡ whole_atoms atom len)
+            × (disk.tail ≡ tail_behind atom len)) }
         ensures refused { IfErr result (λ fault. fault ≡ BayFault.Failed → (error : Error)
             × OpensToRead (R.opens_to_read self.old.machine name.now)
             R.Opened.measures (Err error)) }
