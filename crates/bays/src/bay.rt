@@ -26,6 +26,14 @@ pub struct Manner {
     pub verbose: bool,
 }
 
+impl Manner {
+    /// A silent client is never dropped, and nothing is told.
+    pub const QUIET: Manner = Manner {
+        idle_timeout: None,
+        verbose: false,
+    };
+}
+
 /// Where a command's disks, keys and clients come from. A call that gives nothing leaves all as it
 /// was, but for the count of failures.
 pub trait Bay {
