@@ -75,6 +75,18 @@ pub fn accept<L: OpenListener>(listener: &L) -> io::Result<L::Stream> {
     Err(io::Error::from(ErrorKind::ConnectionAborted))
 }
 
+/// The numbers of the errors by which the system says that it wants memory, or descriptors, in all
+/// or for this program, or room for a socket (errno(3), Linux).
+const PASSING: [i32; 4] = [12, 23, 24, 105];
+
+/// Whether the system wants what it may have again later: memory, descriptors or room.
+pub(crate) fn passes(error: &io::Error) -> bool {
+    match error.raw_os_error() {
+        Some(number) => PASSING.contains(&number),
+        None => error.kind() == ErrorKind::OutOfMemory,
+    }
+}
+
 /// The network of the machine.
 impl Network for HostRuntime {
     type Listener = TcpListener;
