@@ -94,6 +94,12 @@ impl Network for HostRuntime {
     ghost listens = { λ _ _ _. Unit {0} };
 
     fn listen(&self, address: &str) -> io::Result<TcpListener> {
-        TcpListener::bind(self, address)
+        match TcpListener::bind(self, address) {
+            Err(error) if error.kind() == ErrorKind::InvalidInput => {
+                let message = "no address: HOST:PORT, as 127.0.0.1:10809, or stdio";
+                Err(io::Error::new(ErrorKind::InvalidInput, message))
+            }
+            bound => bound,
+        }
     }
 }
