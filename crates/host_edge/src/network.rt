@@ -44,8 +44,12 @@ impl Listener for TcpListener {
 
     ghost shares = { λ _ _. Unit {0} };
 
+    /// A descriptor is kept for the second end while the client is waited for, so that one that was
+    /// met isn't turned away for want of it.
     fn meet(&self) -> io::Result<(HostReader, HostWriter)> {
+        let kept = self.try_clone()?;
         let stream = accept(self)?;
+        drop(kept);
         let _ = stream.set_nodelay(true);
         let reader = HostReader::Socket(stream.try_clone()?);
         Ok((reader, HostWriter::Socket(stream)))
