@@ -80,6 +80,44 @@ for closed in 0 1 2; do
     rm -f made.img copy.img
 done
 
+echo "== the end of a volume"
+truncate -s $((size + 1536)) tailed.img
+"$reencd" format tailed.img --key-file key --iterations 1000 --atom 512 >/dev/null 2>&1 || fail "format by 512"
+keeps tailed.img 8 "fault 8 NoFit" "--atom 512" init tailed.img --key-file key --iterations 1000
+grep -q 1536 err || fail "init doesn't say how many bytes: $(cat err)"
+cp tailed.img begun_by_512.img
+"$reencd" init begun_by_512.img --key-file key --iterations 1000 --atom 512 >/dev/null 2>&1 || fail "init by 512"
+keeps begun_by_512.img 8 "fault 8 NoFit" "--atom 512" resume begun_by_512.img --key-file key
+keeps begun_by_512.img 8 "fault 8 NoFit" "--atom 512" serve begun_by_512.img --key-file key --listen stdio
+keeps tailed.img 0 "served 1 sessions" 1536 serve tailed.img --key-file key --listen stdio
+truncate -s 5000 short.img
+says 0 "served 1 sessions" 904 serve short.img --plain --listen stdio
+says 0 "served 1 sessions" 392 serve short.img --plain --atom 512 --listen stdio
+truncate -s $((size + 1000)) made.img
+"$reencd" format made.img --key-file key --iterations 1000 >/dev/null 2>err || fail "format"
+grep -q 1000 err || fail "format doesn't say how many bytes aren't served: $(cat err)"
+
+echo "== passphrases that would be lost"
+if command -v cryptsetup >/dev/null; then
+    cp volume.img shared.img
+    cryptsetup -q luksAddKey --pbkdf pbkdf2 --pbkdf-force-iterations 1000 --key-file key shared.img key2 ||
+        fail "cryptsetup adds no key"
+    keeps shared.img 15 "fault 15 Keyslots" "slot 1" init shared.img --key-file key --iterations 1000
+    "$reencd" serve shared.img --key-file key2 --listen stdio >/dev/null 2>&1 </dev/null || fail "the other passphrase is lost"
+    "$reencd" init shared.img --key-file key --iterations 1000 --drop-keyslots >out 2>err || fail "init --drop-keyslots: $(cat err)"
+    says 5 "fault 5 NoKey" "the passphrase opens no keyslot" serve shared.img --key-file key2 --listen stdio
+
+    echo "== what init changes"
+    cryptsetup -q luksFormat --type luks2 --pbkdf pbkdf2 --pbkdf-force-iterations 2000 --sector-size 4096 \
+        --cipher aes-cbc-essiv:sha256 --key-size 256 volume.img key || fail "cryptsetup makes no volume"
+    "$reencd" init volume.img --key-file key --iterations 1000 >out 2>err || fail "init: $(cat err)"
+    for part in aes-cbc-essiv:sha256 aes-xts-plain64 4096 512 2000 1000; do
+        grep -q -- "$part" err || fail "init doesn't say $part: $(cat err)"
+    done
+else
+    echo "skipped: there is no cryptsetup"
+fi
+
 echo "== devices in use"
 truncate -s $size whole.img
 if device=$(losetup -f --show whole.img 2>/dev/null); then
@@ -188,3 +226,72 @@ expect "version" "$("$reencd" --version)" "reencd 0.3.0"
 grep -q '^\.TH REENCD 8 .*0\.3\.0' "$here/../../docs/reencd.8" || fail "the man page has another version"
 "$reencd" --help >/dev/full 2>err </dev/null
 expect "help that can't be put" "$?" 11
+
+echo "== wrong words"
+truncate -s $size disk.img
+cp led.img good.img
+fault1="fault 1 Usage"
+no_hint() {
+    grep -qi 'similar\|tip:' err && fail "it gives a hint: $(cat err)"
+}
+says 1 "$fault1" "frmat" frmat disk.img
+no_hint
+says 1 "$fault1" "--resilience-hash" init disk.img --key-file key --resilience-hash sha256
+no_hint
+says 1 "$fault1" "--read-only" serve disk.img --plain --listen stdio --read-only
+no_hint
+says 1 "$fault1" "reencd format" format disk.img --key-file key --key-size 512
+says 1 "$fault1" "bytes" format disk.img --key-file key --data-offset 16M
+says 1 "$fault1" "bytes" init disk.img --key-file key --hotzone-size 1M
+says 1 "$fault1" "512 or 4096" serve disk.img --plain --listen stdio --atom 1024
+says 1 "$fault1" "1 to 16" serve disk.img --plain --listen stdio --workers 17
+says 1 "$fault1" "1 to 4294967295" serve disk.img --plain --listen stdio --sessions 0
+says 1 "$fault1" "--idle-timeout" serve disk.img --plain --listen stdio --idle-timeout 0
+says 1 "$fault1" "--key-file or --plain" serve disk.img --listen stdio
+says 1 "$fault1" "--key-file or --plain, not both" serve disk.img --plain --key-file key --listen stdio
+says 1 "$fault1" "--listen <ADDRESS>" serve disk.img --plain
+device="fault 2 Device"
+says 2 "$device" "reencd: missing.img: No such file or directory" status missing.img
+says 2 "$device" "reencd: missing: No such file or directory" serve good.img --key-file missing --listen stdio
+mkdir folder
+says 2 "$device" "reencd: folder: Is a directory" format folder --key-file key
+says 2 "$device" "HOST:PORT" serve disk.img --plain --listen nowhere
+says 2 "$device" "HOST:PORT" serve disk.img --plain --listen 10809
+says 2 "$device" "HOST:PORT" serve disk.img --plain --listen unix:/x
+serve_by good.img --key-file key --atom 4096
+keeps good.img 2 "$device" "reencd: good.img: locked by another process" init good.img --key-file key
+says 2 "$device" "reencd: 127.0.0.1:$port: Address already in use" serve disk.img --plain --listen "127.0.0.1:$port"
+stop TERM
+says 3 "fault 3 NoHeader" "reencd: header: primary: Magic; secondary: Magic" status disk.img
+keeps good.img 5 "fault 5 NoKey" "the passphrase opens no keyslot" init good.img --key-file key2
+keeps good.img 6 "fault 6 WrongState" "nothing is being converted" resume good.img --key-file key
+keeps begun.img 6 "fault 6 WrongState" "a conversion is under way" init begun.img --key-file key
+keeps good.img 8 "fault 8 NoFit" "512" serve good.img --key-file empty --listen stdio
+keeps good.img 8 "fault 8 NoFit" "512" serve good.img --key-file long --listen stdio
+truncate -s 1M small.img
+keeps small.img 8 "fault 8 NoFit" "reencd" format small.img --key-file key --iterations 1000
+if command -v cryptsetup >/dev/null; then
+    luks() {
+        truncate -s $size other.img
+        cryptsetup -q luksFormat --key-file key "$@" other.img || fail "cryptsetup luksFormat $*"
+    }
+    luks --type luks1 --iter-time 10
+    keeps other.img 3 "fault 3 NoHeader" "LUKS1" status other.img
+    luks --type luks2 --pbkdf argon2id --pbkdf-force-iterations 4 --pbkdf-memory 64 --pbkdf-parallel 1
+    keeps other.img 5 "fault 5 NoKey" "luksConvertKey --pbkdf pbkdf2" serve other.img --key-file key --listen stdio
+    luks --type luks2 --pbkdf pbkdf2 --pbkdf-force-iterations 1000 --cipher aes-xts-plain
+    keeps other.img 4 "fault 4 Header" "aes-xts-plain" status other.img
+    luks --type luks2 --pbkdf pbkdf2 --pbkdf-force-iterations 1000 --sector-size 4096
+    keeps other.img 4 "fault 4 Header" "--atom 4096" serve other.img --key-file key --atom 512 --listen stdio
+    rm -f backup.img
+    cryptsetup luksHeaderBackup other.img --header-backup-file backup.img
+    says 4 "fault 4 Header" "header backup" status backup.img
+fi
+dd if=/dev/zero of=good.img bs=4096 count=1 conv=notrunc status=none
+"$reencd" status good.img >out 2>err || fail "status with one copy"
+grep -q 'copy' err || fail "status doesn't say that a copy is damaged: $(cat err)"
+"$reencd" serve good.img --key-file key --listen stdio >out 2>err </dev/null || fail "serve with one copy"
+grep -q 'copy' err || fail "serve doesn't say that it rewrote a copy: $(cat err)"
+"$reencd" status good.img >out 2>err || fail "status of a copy that was rewritten"
+[ -s err ] && fail "status says of a sound header: $(cat err)"
+exit 0
