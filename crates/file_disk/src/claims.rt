@@ -14,6 +14,9 @@ fn check_type(kind: fs::FileType) -> io::Result<()> {
     if kind.is_file() || kind.is_block_device() {
         return Ok(());
     }
+    if kind.is_dir() {
+        return Err(io::Error::new(ErrorKind::IsADirectory, "Is a directory"));
+    }
     let message = "neither a regular file nor a block device";
     Err(io::Error::new(ErrorKind::InvalidInput, message))
 }

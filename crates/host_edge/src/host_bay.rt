@@ -6,7 +6,7 @@ ghost use Rattle.bays.specs.Bays.{AreBounded, FaultCounts, HasBayCause};
 ghost use Rattle.file_disk.specs.Opening.{OpensLocked, OpensToRead};
 ghost use Rattle.file_disk.specs.Sizes.{tail_behind, whole_atoms};
 ghost use Rattle.sector_disk.specs.Geometry.{IsAtom};
-ghost use Rattle.host_edge.specs.Doors.{HaveDoors, Listens, SharesDoor};
+ghost use Rattle.host_edge.specs.Doors.{HaveDoors, HaveManner, Listens, SharesDoor};
 ghost use Rattle.host_edge.specs.Shares.{AreShared, share_of};
 ghost use Rattle.host_edge.specs.Untold.{CountsOne, FaultIs, untold_bay, untold_link};
 ghost use Rattle.host_edge.specs.declared.door.Door.{Door};
@@ -115,6 +115,8 @@ impl<R: FileSystem + Network + Clock + Copy + Drop> HostBay<R> {
             × R.listens self.now.machine address.now (Ok listener)
             × HaveDoors R.Listener.shares (λ link. link.door) (Door.Listening listener)
             workers links.items) }
+        ensures manner { IfOk result
+            (λ links. HaveManner (λ link. link.manner) manner workers links.items) }
         ensures bound { IfOk result (λ links. AreBounded
             (λ link. untold_link link.left link.lent link.faults) workers sessions links.items) }
         ensures refused { IfErr result (λ error. (error_kind error ≡ ErrorKind.OutOfMemory)
@@ -127,11 +129,13 @@ impl<R: FileSystem + Network + Clock + Copy + Drop> HostBay<R> {
         match self.machine.listen(address) {
             Ok(listener) => {
                 let door = Door::Listening(listener);
-                let shared = self.share_door(alloc, address, &door, workers, sessions, manner);
-                if shared.is_ok() {
-                    announce(self.errors, &door);
+                match self.share_door(alloc, address, &door, workers, sessions, manner) {
+                    Ok(links) => {
+                        announce(self.errors, &door);
+                        Ok(links)
+                    }
+                    Err(error) => Err(error),
                 }
-                shared
             }
             Err(error) => Err(error),
         }
@@ -153,6 +157,8 @@ impl<R: FileSystem + Network + Clock + Copy + Drop> HostBay<R> {
             (λ links. AreShared (λ link. link.left) workers sessions links.items) }
         ensures doors { IfOk result (λ links. HaveDoors
             R.Listener.shares (λ link. link.door) door.now workers links.items) }
+        ensures manner { IfOk result
+            (λ links. HaveManner (λ link. link.manner) manner workers links.items) }
         ensures refused { IfErr result (λ error. (error_kind error ≡ ErrorKind.OutOfMemory)
             ⊎ SharesDoor R.Listener.shares door.now (Err error)) }
     {
@@ -285,6 +291,8 @@ impl<R: FileSystem + Network + Clock + Copy + Drop> Bay for HostBay<R> {
             workers links.items) }
         ensures refused { IfErr result (λ fault. fault ≡ BayFault.Failed → (error : Error)
             × Listens (R.listens self.old.machine address.now) R.Listener.shares error) }
+        ensures manner { IfOk result
+            (λ links. HaveManner (λ link. link.manner) manner workers links.items) }
         ensures bound { IfOk result (λ links. AreBounded
             (λ link. untold_link link.left link.lent link.faults) workers sessions links.items) }
         ensures one { IfErr result (λ fault. CountsOne fault self.old.faults self.new.faults) }

@@ -91,6 +91,7 @@ impl<R: Network + Clock + Copy + Drop> HostLink<R> {
         manner: Manner,
     ) -> HostLink<R>
         ensures door { result.door ≡ door }
+        ensures manner { result.manner ≡ manner }
         ensures bound { result.left ≡ sessions }
         ensures lent { result.lent ≡ 0 }
         ensures faults { result.faults ≡ 0 }

@@ -44,8 +44,12 @@ impl Listener for TcpListener {
 
     ghost shares = { λ _ _. Unit {0} };
 
+    /// A descriptor is kept for the second end while the client is waited for, so that one that was
+    /// met isn't turned away for want of it.
     fn meet(&self) -> io::Result<(HostReader, HostWriter)> {
+        let kept = self.try_clone()?;
         let stream = accept(self)?;
+        drop(kept);
         let _ = stream.set_nodelay(true);
         let reader = HostReader::Socket(stream.try_clone()?);
         Ok((reader, HostWriter::Socket(stream)))
@@ -94,6 +98,12 @@ impl Network for HostRuntime {
     ghost listens = { λ _ _ _. Unit {0} };
 
     fn listen(&self, address: &str) -> io::Result<TcpListener> {
-        TcpListener::bind(self, address)
+        match TcpListener::bind(self, address) {
+            Err(error) if error.kind() == ErrorKind::InvalidInput => {
+                let message = "no address: HOST:PORT, as 127.0.0.1:10809, or stdio";
+                Err(io::Error::new(ErrorKind::InvalidInput, message))
+            }
+            bound => bound,
+        }
     }
 }
