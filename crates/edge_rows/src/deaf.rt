@@ -5,7 +5,7 @@ ghost use Rattle.std.specs.Prelude.{None};
 use crate::words::{byte_of, no_step};
 use anyhow::{Result, anyhow};
 use base_terms::Failed;
-use bays::Link;
+use bays::{Link, Manner};
 use host_edge::{Door, HostLink, HostReader, HostWriter, Listener, Network, accept};
 use std::alloc::Global;
 use std::cell::Cell;
@@ -13,6 +13,7 @@ use std::io::{self, ErrorKind, Stderr};
 use std::net::{OpenListener, SocketAddr, TcpStream};
 use std::os::fd::{AsRawFd, RawFd};
 use std::rc::Rc;
+use std::time::{Clock, Duration};
 
 /// A listener whose next clients went away, and that fails once they were met.
 #[derive(Drop)]
@@ -61,9 +62,19 @@ impl Listener for Deaf {
     }
 }
 
-/// A network of such listeners.
-#[derive(Drop)]
+/// A network of such listeners, whose clock stands still.
+#[derive(Clone, Copy)]
 struct Silent;
+
+impl Clock for Silent {
+    fn monotonic(&self) -> io::Result<Duration> {
+        Ok(Duration::from_secs(0))
+    }
+
+    fn since_1970(&self) -> io::Result<Duration> {
+        Ok(Duration::from_secs(0))
+    }
+}
 
 impl Network for Silent {
     type Listener = Deaf;
@@ -100,7 +111,7 @@ fn failed_twice(mut link: HostLink<Silent>) -> Option<u64> {
 fn deaf_link(alloc: Global, errors: Stderr, gone: Rc<Cell<u32>>) -> Result<HostLink<Silent>> {
     let address = String::from_str(alloc, "somewhere")?;
     let door = Door::Listening(Deaf { gone });
-    Ok(HostLink::new(alloc, errors, address, door, 2))
+    Ok(HostLink::new(alloc, Silent, errors, address, door, 2, Manner::QUIET))
 }
 
 /// Whether the link fails where it is asked for a client.

@@ -58,6 +58,7 @@ use memory::bay_of;
 use std::fs;
 use std::process::ExitCode;
 use std::thread::Threads;
+use std::time::Clock;
 use steps::Edges;
 
 /// Whether the step of a line has its outcome.
@@ -130,7 +131,7 @@ where
 }
 
 /// How many there are and have, over a bay of any machine and one in memory.
-fn counts_on<W: Threads, R: FileSystem + Network + Drop>(
+fn counts_on<W: Threads, R: FileSystem + Network + Clock + Copy + Drop>(
     threads: &W,
     rt: &HostRuntime,
     machine: HostBay<R>,

@@ -8,7 +8,7 @@ use crate::serving::{DiskPort, serve_first};
 use crate::words::{counted, no_step, number, runs};
 use anyhow::{Result, anyhow};
 use base_terms::Bytes;
-use bays::{Bay, BayFault};
+use bays::{Bay, BayFault, Manner};
 use std::alloc::Global;
 use std::mem;
 
@@ -99,7 +99,10 @@ where
     ) -> Result<String>
         requires { 0 < workers }
     {
-        match self.bay.links(alloc, address, workers, sessions) {
+        match self
+            .bay
+            .links(alloc, address, workers, sessions, Manner::QUIET)
+        {
             Ok(links) => self.keep(alloc, links),
             Err(fault) => self.refused(alloc, fault),
         }

@@ -46,9 +46,12 @@ impl<F: LockableFile> FileDisk<F> {
         requires { IsAtom atom }
         ensures { MatchResult result
             (λ disk. (len : ℕ)
-            × OpensLocked (S.opens system.now path.now) F.locks F.measures (Ok (disk.file, len))
-            × (⟦<FileDisk<F> as Disk>⟧.device disk ≡ untold_disk atom (whole_atoms atom len) (tail_behind atom len) 0))
-            (λ error. OpensLocked (S.opens system.now path.now) F.locks F.measures (Err error)) }
+            × OpensLocked (S.opens system.now path.now) F.locks (S.checks system.now)
+            F.measures (Ok (disk.file, len))
+            × (⟦<FileDisk<F> as Disk>⟧.device disk
+            ≡ untold_disk atom (whole_atoms atom len) (tail_behind atom len) 0))
+            (λ error. OpensLocked (S.opens system.now path.now) F.locks (S.checks system.now)
+            F.measures (Err error)) }
     {
         match open_locked(system, path) {
             Ok((file, len)) => Ok(FileDisk::new(file, len, atom)),

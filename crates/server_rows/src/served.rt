@@ -8,7 +8,7 @@ use crate::gates::Meeting;
 use crate::links::{StallingLink, stalling};
 use crate::volumes::Converted;
 use anyhow::{Result, anyhow};
-use bays::{Bay, MemBay, MemLink};
+use bays::{Bay, Manner, MemBay, MemLink};
 use block_server::{Served, serve};
 use io_edge::{ListSink, ListSource};
 use nbd_session::SessionEnd;
@@ -60,7 +60,7 @@ fn links_to<'g>(
     ensures count { IfOk result (λ all. length all.items ≡ workers) }
 {
     let mut bay = bay_of(alloc, clients)?;
-    match bay.links(alloc, "clients", workers, MOST_SESSIONS) {
+    match bay.links(alloc, "clients", workers, MOST_SESSIONS, Manner::QUIET) {
         Ok(links) => stalling(alloc, links, awaited, gate),
         Err(_) => Err(anyhow!("no links")),
     }
