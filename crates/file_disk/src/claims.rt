@@ -1,8 +1,9 @@
 // Which files are disks, and whether a block device is in use already.
 
-use std::fs::{self, File};
+use std::fs::{self, File, TryLockError};
 use std::io::{self, ErrorKind};
-use std::os::unix::fs::{FileTypeExt, MetadataExt};
+use std::os::fd::IntoRawFd;
+use std::os::unix::fs::{DirBuilderExt, FileTypeExt, MetadataExt};
 
 /// Refuses the file of a name that is neither a regular file nor a block device. A pipe would only
 /// open once another program does.
@@ -35,9 +36,30 @@ pub(crate) fn check_claims(machine: &HostRuntime, file: &File) -> io::Result<()>
     check_folder(machine, folder.as_str())?;
     if is_part(machine, folder.as_str())? {
         let whole = format!(in machine.alloc(); "{folder}/..")?;
-        return check_folder(machine, whole.as_str());
+        check_folder(machine, whole.as_str())?;
+    } else {
+        check_parts(machine, folder.as_str())?;
     }
-    check_parts(machine, folder.as_str())
+    lock_headers(machine, number.as_str())
+}
+
+/// Takes the lock of a block device under which cryptsetup reads and writes its header, and keeps it
+/// until the program ends. Who may not make locks there goes without it.
+fn lock_headers(machine: &HostRuntime, number: &str) -> io::Result<()> {
+    let _ = fs::DirBuilder::new()
+        .mode(0o700)
+        .create(machine, "/run/cryptsetup");
+    let path = format!(in machine.alloc(); "/run/cryptsetup/L_{number}")?;
+    let mut how = File::options();
+    how.read(true).write(true).create(true);
+    let Ok(lock) = how.open(machine, path.as_str()) else {
+        return Ok(());
+    };
+    if let Err(TryLockError::WouldBlock) = lock.try_lock() {
+        return Err(in_use("device in use, locked by cryptsetup or another reencd"));
+    }
+    let _ = lock.into_raw_fd();
+    Ok(())
 }
 
 /// Refuses a device of which a part is in use.

@@ -6,7 +6,7 @@ use crate::PositionedFile;
 use crate::claims::{check_claims, check_kind};
 use base_terms::Bytes;
 use std::alloc::Global;
-use std::fs::{File, TryLockError};
+use std::fs::{self, File, TryLockError};
 use std::io::{self, ErrorKind, Read, Seek, SeekFrom};
 
 /// A file that can be locked and measured. What its calls do is a matter of the file.
@@ -55,6 +55,9 @@ pub trait FileSystem {
     /// `ResourceBusy` where it is in use.
     fn check_unused(&self, file: &Self::Opened) -> io::Result<()>
         ensures { checks self.now file.now result };
+
+    /// How many bytes the file of that name has, 0 where that isn't told, as of a pipe.
+    fn length(&self, path: &str) -> io::Result<u64>;
 
     /// What reading the front of the file of a name gives, of at most so many bytes.
     ghost reads_front: { Self → List ℕ → ℕ → Result (List ℕ) Error → Type 0 };
@@ -109,6 +112,10 @@ impl FileSystem for HostRuntime {
 
     fn check_unused(&self, file: &File) -> io::Result<()> {
         check_claims(self, file)
+    }
+
+    fn length(&self, path: &str) -> io::Result<u64> {
+        Ok(fs::metadata(self, path)?.len())
     }
 
     ghost reads_front = { λ _ _ _ _. Unit {0} };

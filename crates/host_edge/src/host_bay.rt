@@ -71,6 +71,24 @@ impl<R: FileSystem + Network + Clock + Copy + Drop> HostBay<R> {
         BayFault::Failed
     }
 
+    /// Says how long a key file is of which not all was read.
+    fn tell_length(&self, name: &str, read: &io::Result<Bytes>) {
+        let Ok(key) = read else {
+            return;
+        };
+        if key.as_slice().len() < MAX_KEY as usize {
+            return;
+        }
+        let _ = match self.machine.length(name) {
+            Ok(bytes) if bytes > 0 => {
+                eprintln!(self.errors;
+                    "reencd: {name}: {bytes} bytes, and a passphrase has 512 at most"
+                )
+            }
+            _ => eprintln!(self.errors; "reencd: {name}: a passphrase has 512 bytes at most"),
+        };
+    }
+
     /// What opening a file gave, which is told of by its name.
     fn named(
         &self,
@@ -262,7 +280,9 @@ impl<R: FileSystem + Network + Clock + Copy + Drop> Bay for HostBay<R> {
         ensures one { IfErr result (λ fault. CountsOne fault self.old.faults self.new.faults) }
         ensures cause { HasBayCause self.old.faults self.new.faults result }
     {
-        match self.machine.read_front(alloc, name, MAX_KEY) {
+        let read = self.machine.read_front(alloc, name, MAX_KEY);
+        self.tell_length(name, &read);
+        match read {
             Ok(key) => Ok(key),
             Err(error) => Err(self.refused(alloc, name, &error)),
         }

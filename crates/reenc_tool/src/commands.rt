@@ -14,6 +14,7 @@ ghost use Rattle.reenc_tool.specs.declared.ended.Cause.{Cause};
 
 use crate::ended::{Cause, Ended, Failing, Fit, Sessions};
 use crate::making::make;
+use crate::notices::note_tail;
 use crate::opening::serve_encrypted;
 use crate::resuming::resume;
 use crate::sessions::{lanes_for, serve_volume};
@@ -48,7 +49,7 @@ where
     requires some { 0 < length links.items }
     requires few { length links.items ≤ 16 }
     requires bound { (k : ℕ) (link : L) → k < length links.items →
-        (L.state (slice_index_or links.items k link)).bound ≤ 65535 }
+        (L.state (slice_index_or links.items k link)).bound ≤ 4294967295 }
     ensures status { result.status ≡ status_of result.cause }
     ensures ended { Ran D.device L.state disk links.items (outcome_of result)
         ⊎ IsUnserved D.device disk links.items (outcome_of result)
@@ -150,10 +151,13 @@ where
         B.asks_links (serving words.now) bay.old bay.new (outcome_of result) None }
 {
     match bay.disk(alloc, words.disk, words.atom) {
-        Ok(disk) => match words.key_file {
-            None => serve_plain(rt, alloc, bay, disk, words, gate),
-            Some(key_file) => serve_encrypted(rt, alloc, bay, disk, key_file, words, gate),
-        },
+        Ok(disk) => {
+            note_tail(alloc, gate, words.disk, &disk);
+            match words.key_file {
+                None => serve_plain(rt, alloc, bay, disk, words, gate),
+                Some(key_file) => serve_encrypted(rt, alloc, bay, disk, key_file, words, gate),
+            }
+        }
         Err(fault) => {
             let cause = cause_by(Failing::Opening, fault, bay.faults());
             unserved(alloc, cause, None, Vec::new(alloc))
@@ -194,11 +198,11 @@ where
         }
     };
     match command {
-        Command::Format(words) => make(alloc, bay, seeds, &words),
-        Command::Init(words) => start(alloc, bay, seeds, &words),
+        Command::Format(words) => make(alloc, bay, seeds, &words, gate),
+        Command::Init(words) => start(alloc, bay, seeds, &words, gate),
         Command::Serve(words) => (serve(rt, alloc, bay, &words, gate), None),
         Command::Resume(words) => resume(rt, alloc, bay, &words, gate),
-        Command::Status(words) => show(alloc, bay, &words),
+        Command::Status(words) => show(alloc, bay, &words, gate),
     }
 }
 
