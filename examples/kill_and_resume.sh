@@ -10,19 +10,13 @@ serve() {
     while kill -0 $! && ! grep -qs listening said; do sleep 0.1; done
 }
 
-# Ends the server.
-stop() {
-    kill $!
-    wait $! || true
-}
-
 printf 'a passphrase' >key
 truncate -s $VOLUME volume.img
 reencd format volume.img --key-file key
 serve
 head -c 1M /dev/urandom >plain.img
 nbdcopy --flush plain.img nbd://127.0.0.1:$PORT
-stop
+kill $!; wait $! || true
 
 reencd init volume.img --key-file key
 reencd resume volume.img --key-file key & sleep 0.5; kill -9 $!; wait $! || true
@@ -32,5 +26,5 @@ reencd status volume.img | grep state
 
 serve
 nbdcopy nbd://127.0.0.1:$PORT back.img
-stop
+kill $!; wait $! || true
 cmp -n 1048576 plain.img back.img && echo same

@@ -12,6 +12,5 @@ head -c 1M /dev/urandom >plain.img
 nbdcopy --flush plain.img nbd://127.0.0.1:$PORT
 nbdcopy nbd://127.0.0.1:$PORT back.img
 cmp -n 1048576 plain.img back.img && echo same
-kill $!
-wait $! || true
+kill $!; wait $! || true
 reencd status volume.img
