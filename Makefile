@@ -1,11 +1,12 @@
 # Short names. Each is a plain command of the kit or a script of this repository.
-.PHONY: help run test check oracle clients edits bench examples docs install
+.PHONY: help run build test check oracle clients edits bench examples docs install
 PREFIX = /usr/local
 NAME =
 SAMPLE = 5
 
 help:
 	@echo "make run             the program, unproved, in some three minutes"
+	@echo "make build           prove the program and leave it at crates/reencd/out/reencd (hours)"
 	@echo "make test            every proof, wrong body, test and program, and the scripts (hours)"
 	@echo "make check NAME=X    prove the crate X, and those below it, as the gate does"
 	@echo "make oracle          judge the rows by the second implementation"
@@ -19,6 +20,10 @@ help:
 run:
 	cd crates/reencd && \
 	rt try -- serve data/disk.img --plain --atom 512 --listen stdio --sessions 1 </dev/null
+
+build:
+	cd crates/reencd && \
+	rt run -- serve data/disk.img --plain --atom 512 --listen stdio --sessions 1 </dev/null
 
 test:
 	.ci/run
@@ -43,9 +48,9 @@ edits:
 	tests/edits/run $(if $(NAME),$(NAME),--sample $(SAMPLE) --seed 1)
 
 bench:
-	cd crates/cipher_bench && rt run -- 40 4
-	cd crates/kdf_bench && rt run -- 300000
-	cd crates/cell_bench && rt run -- 1000000
+	cd crates/bench && rt run -- ciphers 40 4
+	cd crates/bench && rt run -- keys 300000
+	cd crates/bench && rt run -- cell 1000000
 
 install:
 	install -D -m 755 crates/reencd/out/reencd $(DESTDIR)$(PREFIX)/sbin/reencd
