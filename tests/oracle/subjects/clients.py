@@ -1,16 +1,11 @@
 #!/usr/bin/env python3
 """What clients in memory are answered that are served at once, by the NBD protocol document, and how
-the conversion beside them ends.
+the conversion beside them ends."""
 
-Run alone, it compares crates/server_rows/stdout with what the rows come to; with --write it writes
-that file.
-"""
-
-import os
 import struct
-import sys
 
-STDOUT = os.path.join(os.path.dirname(os.path.abspath(__file__)), "../../crates/server_rows/stdout")
+from ..judging import text_of
+
 SIZE, FLAGS, BLOCK = 16 * 512, 0x014D, 512
 GREETING = b"NBDMAGIC" + b"IHAVEOPT" + struct.pack(">H", 3)
 # what is served to many sessions, how many these are, how many of their clients stand still, and how
@@ -88,17 +83,5 @@ def rows():
                    f"answered, 0 operations and 0 sessions without memory, Some({end}){held}")
 
 
-def main():
-    text = "".join(f"{line}\n" for line in rows())
-    if "--write" in sys.argv[1:]:
-        with open(STDOUT, "w") as file:
-            file.write(text)
-        return 0
-    with open(STDOUT) as file:
-        same = file.read() == text
-    print("the rows are the model's" if same else "other rows than the model's")
-    return 0 if same else 1
-
-
-if __name__ == "__main__":
-    sys.exit(main())
+def judged():
+    return {"crates/server_rows/stdout": text_of(rows())}

@@ -1,8 +1,7 @@
 """The rules that the metadata of a header keep, in the order of their tests (docs/FORMATS.md)."""
 
-from conversion_steps import FINAL, PREVIOUS, PROFILE, Conversion, digest_of, laid_out, numbered
-
-LARGEST = 2**64 - 1
+from ..luks.header import LARGEST, REQUIREMENT, numbered
+from .steps import FINAL, PREVIOUS, Conversion, digest_of, laid_out
 
 
 def areas_of(header):
@@ -16,7 +15,7 @@ def mandatory(header):
 
 
 def is_foreign(header, disks):
-    return any(text != PROFILE for text in mandatory(header))
+    return any(text != REQUIREMENT for text in mandatory(header))
 
 
 def breaks_bounds(header, disks):
@@ -50,14 +49,14 @@ def breaks_references(header, disks):
 def live_of(header):
     """The live segments."""
     segments = [segment for _, segment in numbered(header["segments"])]
-    if PROFILE not in mandatory(header):
+    if REQUIREMENT not in mandatory(header):
         return segments
     kept = PREVIOUS + FINAL
     return [s for s in segments if not any(flag in kept for flag in s.get("flags", []))]
 
 
 def breaks_segments(header, disks):
-    if PROFILE in mandatory(header):
+    if REQUIREMENT in mandatory(header):
         if any(segment["size"] == "dynamic" for segment in live_of(header)):
             return True
     elif len(header["segments"]) != 1:
@@ -122,7 +121,7 @@ def are_sizes(disks, found):
 
 def breaks_shape(header, disks):
     slots = [slot for slot in header["keyslots"].values() if slot["type"] == "reencrypt"]
-    if PROFILE not in mandatory(header):
+    if REQUIREMENT not in mandatory(header):
         return bool(slots)
     segments = [segment for _, segment in numbered(header["segments"])]
     names = [number for number, _ in numbered(header["segments"])]
@@ -150,14 +149,14 @@ def breaks_shape(header, disks):
 
 
 def has_no_room(header, disks):
-    if PROFILE not in mandatory(header):
+    if REQUIREMENT not in mandatory(header):
         return False
     found = Conversion(header, disks)
     return found.capacity < max(1, found.counts["zone"])
 
 
 def has_no_shift(header, disks):
-    if PROFILE not in mandatory(header):
+    if REQUIREMENT not in mandatory(header):
         return False
     found = Conversion(header, disks)
     if not found.shifts:

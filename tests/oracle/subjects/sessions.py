@@ -1,4 +1,3 @@
-#!/usr/bin/env python3
 """Compares the rows on sessions with the model of the server: what a client sends, what its session
 puts, how it ends, and how many bytes it takes, in crates/command_rows/data/sessions.rows, midway.rows
 and crates/hand_rows/data/options.rows, and for a client over TCP in crates/edge_rows/data.
@@ -6,21 +5,18 @@ and crates/hand_rows/data/options.rows, and for a client over TCP in crates/edge
 Rows whose disk, bay or client fails are none of the model's, and are passed over.
 """
 
-import os
 import re
-import sys
 
-import nbd_server as nbd
+from ..judging import rows_of
+from ..nbd import server as nbd
 
-CRATES = os.path.join(os.path.dirname(os.path.abspath(__file__)), "../../crates")
 END = re.compile(r"SessionEnd { number: (\d+), ending: (.*?), taken: (\d+), put: (\d+) }")
 MEETING = re.compile(r"^meeting \d+: ")
 AGREED = re.compile(r"Ok\(Agreed { no_zeroes: (\w+), structured: (\w+) }\)")
 
 
 def lines(name):
-    with open(os.path.join(CRATES, name)) as file:
-        return [line for line in file.read().splitlines() if line and not line.startswith("#")]
+    return rows_of(f"crates/{name}")
 
 
 def table(name):
@@ -174,7 +170,8 @@ def over_tcp(name):
     )
 
 
-def main():
+def complaints():
+    """The rows whose sessions aren't those of the model."""
     sessions, options = table("command_rows/data/messages"), table("hand_rows/data/words")
     found = []
     for line in lines("command_rows/data/sessions.rows"):
@@ -186,12 +183,13 @@ def main():
     for line in lines("hand_rows/data/options.rows"):
         found.append((line, agrees(options, line.split("\t"))))
     found += [(name, over_tcp(name)) for name in ("simple", "chunks")]
-    for line, is_so in found:
-        if is_so is False:
-            print(f"another session: {line[:300]}")
     told = [is_so for _, is_so in found]
     print(f"{len(told)} rows: {told.count(True)} as the model, {told.count(None)} passed over")
-    sys.exit(False in told)
+    return [line for line, is_so in found if is_so is False]
 
 
-main()
+def judged():
+    """No file is written of them: rows in which something fails are none of the model's."""
+    found = complaints()
+    assert not found, f"another session: {found[0][:300]}"
+    return {}

@@ -7,26 +7,9 @@ import copy
 import json
 from dataclasses import dataclass
 
-PROFILE = "reencd-online-reencrypt-v1"
+from ..luks.header import REQUIREMENT, lowest, numbered
+
 PREVIOUS, FINAL, ZONE = ["backup-previous"], ["backup-final"], ["in-reencryption"]
-
-
-def text_of(header):
-    """Compact, with the keys of each object in byte order."""
-    return json.dumps(header, sort_keys=True, separators=(",", ":"), ensure_ascii=False)
-
-
-def numbered(objects):
-    """The entries of an object whose keys are numbers, by rising number."""
-    return sorted(objects.items(), key=lambda entry: int(entry[0]))
-
-
-def lowest(objects):
-    """The lowest number that none has, as a text."""
-    number = 0
-    while str(number) in objects:
-        number += 1
-    return str(number)
 
 
 class Disks:
@@ -209,7 +192,7 @@ class Wish:
         config = copy.deepcopy(config)
         config["json_size"] = self.json_size
         config["keyslots_size"] = self.keyslots_size
-        config.setdefault("requirements", {"mandatory": []})["mandatory"].append(PROFILE)
+        config.setdefault("requirements", {"mandatory": []})["mandatory"].append(REQUIREMENT)
         return config
 
 
@@ -273,7 +256,7 @@ def finished(header, disks, found):
         if isinstance(token.get("keyslots"), list):
             token["keyslots"] = [slot for slot in token["keyslots"] if slot not in gone]
     requirements = header["config"]["requirements"]
-    requirements["mandatory"] = [t for t in requirements["mandatory"] if t != PROFILE]
+    requirements["mandatory"] = [t for t in requirements["mandatory"] if t != REQUIREMENT]
     if requirements == {"mandatory": []}:
         del header["config"]["requirements"]
     return header

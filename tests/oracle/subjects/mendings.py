@@ -1,28 +1,22 @@
-#!/usr/bin/env python3
-"""Zones that a stop left open, written again as another implementation does (docs/CONVERSION.md): a
-conversion is led (led_conversion.py) and stopped within each device call of its zones, and of each
-image that this leaves by which a zone is open the copy of the header that lacks or is older is
-written anew. From there the device calls are made by which the zone is written again: what is saved
-of it is opened under the old key, sealed under the new one and put where the zone is, part by part
-(by checksum what is there of old atoms, as the digests tell, and new ones are put there again);
-and the header gets the next number and the metadata with the boundary moved (conversion_steps.py).
-
-Run alone, it compares crates/mending_rows/data/mendings.rows with the rows of these zones, and
-crates/mending_rows/stdout with what they come to; with --write it writes both files.
-"""
+"""Zones that a stop left open, written again: a conversion is led (zones.py) and stopped within each
+device call of its zones, and of each image that this leaves by which a zone is open the copy of the
+header that lacks or is older is written anew. From there the zone is written again."""
 
 import functools
 import hashlib
 import json
-import os
-import sys
 
-import begun_volume
-import conversion_steps
-import led_conversion
-from led_conversion import LAST, PART, PICKS, Disk, Fault, Led, Side, head, mend, sum_of
+from ..conversion import steps
+from ..conversion.mending import begin, lead
+from ..conversion.zones import Led, mend
+from ..judging import text_of as text_of_lines
+from ..luks.ciphers import Side, sum_of
+from ..luks.header import LARGEST, Header, copy_of, text_of
+from ..machine.disk import Disk
+from . import zones
+from .zones import PICKS
 
-ROOT = os.path.join(os.path.dirname(os.path.abspath(__file__)), "../../crates/mending_rows")
+CRATE = "crates/mending_rows"
 SAVED = 40960
 LONGEST = 16384 - 4096 - 1
 OLD = Side("aes-xts-plain64", bytes(range(32)), 512, 8)
@@ -46,8 +40,8 @@ class Open:
         self.atom, self.offset, self.blocks = atom, offset, blocks
         self.objects, self.number, self.letters = objects, number, letters
         self.salts = salts
-        self.disks = conversion_steps.Disks(atom, "attached", offset // atom + blocks)
-        found = conversion_steps.Conversion(objects, self.disks)
+        self.disks = steps.Disks(atom, "attached", offset // atom + blocks)
+        found = steps.Conversion(objects, self.disks)
         self.journal = found.area["type"] == "journal"
         self.forward, self.zone = found.forward, found.counts["zone"]
         self.first = found.boundary - (0 if found.forward else self.zone)
@@ -74,11 +68,8 @@ class Open:
 
     @functools.cached_property
     def image(self):
-        text = conversion_steps.text_of(self.objects).encode()
-        copies = b"".join(head(which, text) for which in range(2))
-        header = begun_volume.Header(Disk(self.atom, copies.ljust(self.offset, b"\0")))
-        salts = [bytes([salt] * 64) for salt in self.salts]
-        copies = [header.used.again(k, salts[k], self.number, text) for k in range(2)]
+        text = text_of(self.objects).encode()
+        copies = [copy_of(k, 16384, self.number, text, bytes([self.salts[k]] * 64)) for k in range(2)]
         sides = content(self.blocks * self.atom)
         data = (b"".join(copies).ljust(SAVED, b"\0") + self.saved()).ljust(self.offset, b"\0")
         places = range(0, self.blocks * self.atom, self.atom)
@@ -91,7 +82,7 @@ class Open:
         return [self.letters, *map(str, numbers), way, *map(str, self.salts), str(self.number)]
 
     def text(self):
-        return conversion_steps.text_of(self.objects)
+        return text_of(self.objects)
 
 
 # ---- what stops leave
@@ -111,11 +102,11 @@ def described(volume, image):
     disk = Disk(volume.atom, image)
     mend(disk)
     image = disk.bytes()
-    header = begun_volume.Header(disk)
+    header = Header(disk)
     if not header.in_progress():
         return None
-    disks = conversion_steps.Disks(volume.atom, "attached", len(disk.held))
-    conversion = conversion_steps.Conversion(header.objects, disks)
+    disks = steps.Disks(volume.atom, "attached", len(disk.held))
+    conversion = steps.Conversion(header.objects, disks)
     journal, zone = conversion.area["type"] == "journal", conversion.counts["zone"]
     if not zone or journal and zone < conversion.capacity:
         return None
@@ -135,8 +126,8 @@ def described(volume, image):
 def left(columns, calls=None, checksums=False):
     """What a conversion leaves open that is stopped within each of its device calls, or these; each
     image once."""
-    volume, seen = led_conversion.Volume(columns.split(" "), checksums), set()
-    for call in calls or range(led_conversion.calls_of(volume) + 1):
+    volume, seen = zones.Volume(columns.split(" "), checksums), set()
+    for call in calls or range(zones.calls_of(volume) + 1):
         led = Led(volume, Disk(volume.atom, volume.image, stop=call))
         led.lead()
         for which in PICKS:
@@ -152,9 +143,9 @@ def changed(found, letters=None, number=None, length=None, next_length=None):
     objects = json.loads(json.dumps(found.objects))
     if length or next_length:
         objects["tokens"] = {"0": {"keyslots": [], "type": ""}}
-        there = conversion_steps.Conversion(objects, found.disks)
-        moved = conversion_steps.moved(objects, there, found.zone)
-        text = conversion_steps.text_of(objects if length else moved)
+        there = steps.Conversion(objects, found.disks)
+        moved = steps.moved(objects, there, found.zone)
+        text = text_of(objects if length else moved)
         objects["tokens"]["0"]["type"] = "f" * ((length or next_length) - len(text))
     letters, number = letters or found.letters, number or found.number
     return Open(found.atom, found.offset, found.blocks, objects, number, letters)
@@ -174,110 +165,11 @@ def unencrypted(found):
     return Open(found.atom, found.offset, found.blocks, objects, found.number, found.letters)
 
 
-# ---- how it is written again
-
-
-class Mended:
-    """A zone that is written again, on a disk whose header is read."""
-
-    def __init__(self, volume, disk):
-        self.volume, self.disk, self.steps = volume, disk, 0
-        self.header = begun_volume.Header(Disk(volume.atom, disk.bytes()))
-        self.number, objects = self.header.used.number, self.header.objects
-        self.found = conversion_steps.Conversion(objects, volume.disks)
-        self.zone = self.found.counts["zone"]
-        if self.zone:
-            self.text = conversion_steps.text_of(
-                conversion_steps.moved(objects, self.found, self.zone)
-            ).encode()
-
-    def refused(self):
-        if self.number == LAST:
-            return "SeqEnd { left: 0, wanted: 1 }"
-        if LONGEST < len(self.text):
-            return f"JsonFull {{ length: {len(self.text)}, limit: {LONGEST} }}"
-        return None
-
-    def sealed_anew(self, old, at):
-        """Old atoms from a block of the volume on, under the new key."""
-        first = at * self.volume.atom // 512
-        return self.volume.new.sealed(self.volume.old.opened(old, first), first)
-
-    def part(self, done, count, at):
-        """The device calls by which a part is read, and what it is to be. By checksum an atom in the
-        zone is an old one where it has the digest that was saved of it; all others are new."""
-        volume, disk, atom = self.volume, self.disk, self.volume.atom
-        saved = int(self.found.area["offset"])
-        if self.found.area["type"] == "journal":
-            old = yield disk.read, saved + done * atom, count * atom
-            return self.sealed_anew(old, at)
-        length = -(-count * 32 // atom) * atom
-        digests = yield disk.read, saved + done * 32, length
-        here = yield disk.read, volume.offset + at * atom, count * atom
-        new = b""
-        for k in range(count):
-            one = here[k * atom :][:atom]
-            is_old = hashlib.sha256(one).digest() == digests[32 * k :][:32]
-            new += self.sealed_anew(one, at + k) if is_old else one
-        return new
-
-    def calls(self):
-        """Its device calls, one a step."""
-        volume, disk = self.volume, self.disk
-        atom, most = volume.atom, PART // volume.atom
-        first = self.found.boundary - (0 if self.found.forward else self.zone)
-        for done in range(0, self.zone, most):
-            count, at = min(most, self.zone - done), first + done
-            new = yield from self.part(done, count, at)
-            yield disk.put, volume.offset + at * atom, new
-        yield (disk.settle,)
-        for which in range(2):
-            salt = self.header.salts[which]
-            copy = self.header.used.again(which, salt, self.number + 1, self.text)
-            yield disk.put, which * self.header.used.size, copy
-            yield (disk.settle,)
-
-    def walk(self):
-        """Makes its device calls, and tells of each that it is made."""
-        calls, given = self.calls(), None
-        while True:
-            try:
-                call, *words = calls.send(given)
-            except StopIteration:
-                return
-            self.steps += 1
-            given = call(*words)
-            yield self.steps
-
-
-def begin(volume, disk):
-    """Mends the header; what is written again then, or why nothing is."""
-    mend(disk)
-    mended = Mended(volume, disk)
-    if not mended.zone:
-        return mended, "closed"
-    return mended, mended.refused()
-
-
-def lead(volume, disk, stop=None):
-    """Writes the zone again, to its end or as far as it goes; how it ended."""
-    mended, why = begin(volume, disk)
-    if why:
-        return why
-    disk.stop = None if stop is None else disk.calls + stop
-    try:
-        for _ in mended.walk():
-            pass
-    except begun_volume.Failed:
-        return f"failed in step {mended.steps}"
-    return f"{mended.steps} steps"
+# ---- what rows come to
 
 
 def number_of(disk):
     return int.from_bytes(disk.held[0][16:24], "big")
-
-
-# ---- what rows come to
 
 
 def whole(volume, _):
@@ -288,9 +180,9 @@ def whole(volume, _):
     if why:
         yield why
         return
-    for step in mended.walk():
+    for _ in mended.walk():
         after = sum_of(disk.bytes())
-        yield f"step {step}, call {disk.calls}: {'as before' if after == before else after}"
+        yield f"step {mended.steps}, call {disk.calls}: {'as before' if after == before else after}"
         before = after
     yield f"{mended.steps} steps, number {number_of(disk)}, {before}"
 
@@ -374,8 +266,8 @@ def rows():
     for found in large:
         yield "whole", found
     yield "the last number but one, and the last one"
-    yield "whole", changed(forward[0], number=LAST - 1)
-    yield "whole", changed(forward[0], number=LAST)
+    yield "whole", changed(forward[0], number=LARGEST - 1)
+    yield "whole", changed(forward[0], number=LARGEST)
     yield "the longest text; and that of the header behind it has one byte too many"
     yield "whole", changed(forward[0], length=LONGEST)
     yield "whole", changed(unencrypted(forward[0]), next_length=LONGEST + 1)
@@ -415,7 +307,7 @@ def rows():
         yield "whole", found
     yield "whole", changed(large[0], letters="onoxnnoc")
     yield "the last number, and a header behind it whose text has one byte too many"
-    yield "whole", changed(forward[0], number=LAST)
+    yield "whole", changed(forward[0], number=LARGEST)
     yield "whole", changed(unencrypted(forward[0]), next_length=LONGEST + 1)
     yield "stops within each device call, and what they leave is written again"
     torn = [found for found in forward + backward if 1 < len(found.letters)]
@@ -435,7 +327,7 @@ def shown(what, volume):
         yield f"  {told}"
 
 
-def main():
+def judged():
     lines, told = [], []
     for row in rows():
         if isinstance(row, str):
@@ -445,20 +337,7 @@ def main():
         front = "\t".join([what, *volume.columns()])
         lines.append(f"{front}\t{volume.text()}")
         told += [front, *shown(what, volume)]
-    files = {"data/mendings.rows": lines, "stdout": told}
-    files = {os.path.join(ROOT, name): "\n".join(text) + "\n" for name, text in files.items()}
-    if sys.argv[1:] == ["--write"]:
-        for path, text in files.items():
-            with open(path, "w") as file:
-                file.write(text)
-        return
-    same = True
-    for path, text in files.items():
-        with open(path) as file:
-            same = file.read() == text and same
-    print(f"mended zones: {'as' if same else 'not as'} another implementation writes them")
-    sys.exit(not same)
-
-
-if __name__ == "__main__":
-    main()
+    return {
+        f"{CRATE}/data/mendings.rows": text_of_lines(lines),
+        f"{CRATE}/stdout": text_of_lines(told),
+    }

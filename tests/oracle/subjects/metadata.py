@@ -1,23 +1,23 @@
-#!/usr/bin/env python3
-"""The rows on conversions, and what each comes to by another implementation: what the metadata of
-each step are (conversion_steps.py, conversion_beginnings.py), where the blocks of their volume lie,
-and which rule they break (conversion_rules.py). The cases stand in conversion_cases.py.
-
-Run alone, it writes the rows into crates/conversion_rows/data/conversions.rows, and what they come
-to into crates/conversion_rows/stdout. With `--check` it writes nothing, and says whether both are
-the same.
-"""
+"""The rows on conversions, and what each comes to: what the metadata of each step are, where the blocks
+of their volume lie, and which rule they break. The cases stand in metadata_cases.py."""
 
 import json
-import os
-import sys
 
-from conversion_beginnings import begun
-from conversion_cases import CASES
-from conversion_rules import first_broken
-from conversion_steps import Conversion, Disks, Wish, finished, moved, opened, started, text_of
+from ..conversion import begun
+from ..conversion.rules import first_broken, mandatory
+from ..conversion.steps import Conversion, Disks, Wish, finished, moved, opened, started
+from ..judging import text_of as text_of_lines
+from ..luks.ciphers import STRIPES, KeyDraw
+from ..luks.header import REQUIREMENT, text_of
+from .metadata_cases import CASES
 
-CRATE = os.path.join(os.path.dirname(os.path.abspath(__file__)), "../../crates/conversion_rows")
+ROUNDS = 1000
+# what stands in the way of a beginning, of a number and a limit
+WANTS = {
+    "Area": "Area {{ wanted: {0}, gap: {1} }}",
+    "Json": "Json {{ len: {0}, limit: {1} }}",
+    "Passphrase": "Passphrase {{ len: {0} }}",
+}
 
 
 def told_map(atom, blocks, forward, boundary, zone, old, new):
@@ -42,6 +42,31 @@ def told(header, disks):
     (segment,) = header["segments"].values()
     blocks, place = disks.length(segment) // disks.atom, disks.place(segment)
     return told_map(disks.atom, blocks, True, blocks, 0, place, place), True
+
+
+def drawn_key(header, disks, passphrase, key_size, sector_size, direction, guard, zone):
+    """The header with which a conversion begins whose key is drawn, or else what stands in the way."""
+    if REQUIREMENT in mandatory(header):
+        return None, "InProgress"
+    if any(segment["type"] == "linear" for segment in header["segments"].values()):
+        return None, "Linear"
+    wish = begun.Wish(
+        atom=disks.atom,
+        cipher="aes-xts-plain64",
+        direction=direction,
+        hotzone_size=int(zone),
+        iterations=ROUNDS,
+        key_size=int(key_size),
+        resilience=guard,
+        sector_size=int(sector_size),
+    )
+    data = bytes(place % 251 for place in range(wish.key_size * STRIPES + 64))
+    try:
+        begun.passphrase_fits(len(passphrase.encode()))
+        return begun.Beginning(header, disks, wish, KeyDraw(wish.key_size, data)).objects, None
+    except begun.NoFit as found:
+        what, number, limit = found.args
+        return None, WANTS[what].format(number, limit)
 
 
 class Rows:
@@ -81,7 +106,7 @@ class Rows:
             self.size = words[0]
             return started(self.header, self.disks, Wish.of(*words[1:])), None
         if what == "begin":
-            return begun(self.header, self.disks, *words)
+            return drawn_key(self.header, self.disks, *words)
         return self.step(what, words)
 
     def lines(self, what, *words):
@@ -98,7 +123,7 @@ class Rows:
         return [line] if what == "header" else [line, text_of(made)]
 
 
-def texts():
+def judged():
     """The rows, and what they come to."""
     rows, table, found = Rows(), [], []
     for case in CASES:
@@ -108,24 +133,7 @@ def texts():
             columns = rows.row(case)
             table.append("\t".join(columns))
             found += rows.lines(*columns)
-    return "\n".join([*table, ""]), "\n".join([*found, ""])
-
-
-def main():
-    checks = sys.argv[1:] == ["--check"]
-    others = False
-    for name, text in zip(("data/conversions.rows", "stdout"), texts()):
-        path = os.path.join(CRATE, name)
-        if not checks:
-            with open(path, "w", encoding="utf-8") as file:
-                file.write(text)
-            continue
-        with open(path, encoding="utf-8") as file:
-            if file.read() != text:
-                others = True
-                print(f"crates/conversion_rows/{name} is another")
-    sys.exit(others)
-
-
-if __name__ == "__main__":
-    main()
+    return {
+        "crates/conversion_rows/data/conversions.rows": text_of_lines(table),
+        "crates/conversion_rows/stdout": text_of_lines(found),
+    }
