@@ -17,6 +17,6 @@ build:
 	cd crates/reencd && rt run -- serve data/disk.img --plain --atom 512 --listen stdio --sessions 1 </dev/null
 
 bench:
-	cd crates/cipher_bench && rt run -- 40 4
-	cd crates/kdf_bench && rt run -- 300000
-	cd crates/cell_bench && rt run -- 1000000
+	cd crates/bench && rt run -- ciphers 40 4
+	cd crates/bench && rt run -- keys 300000
+	cd crates/bench && rt run -- cell 1000000

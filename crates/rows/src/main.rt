@@ -92,7 +92,7 @@ use anyhow::Result;
 use std::env;
 
 /// The scripts, in the order in which they are shown.
-const SCRIPTS: [&str; 13] = [
+const SCRIPTS: [&str; 15] = [
     "vectors.rows",
     "headers.rows",
     "copies.rows",
@@ -106,6 +106,8 @@ const SCRIPTS: [&str; 13] = [
     "format.rows",
     "init.rows",
     "resume.rows",
+    "zones.rows",
+    "serving.rows",
 ];
 
 fn main(rt: HostRuntime) -> Result<()> {

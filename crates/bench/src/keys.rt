@@ -1,15 +1,11 @@
-//! A benchmark of key derivation. Without an argument it derives two short keys and prints them,
-//! the same each time. With a number of rounds it derives one block under each hash function in
-//! that many rounds, and prints how many rounds a second that was, to be set beside another
-//! implementation in the same run.
-#![tactic(auto)]
+// Key derivation.
 
 ghost use Rattle.std.specs.Prelude.{◌≤◌, ◌↔◌, IsTrue};
 
+use anyhow::{Result, anyhow};
 use pbkdf2_hmac::{Hash, MOST_ROUNDS, derive};
-use std::process::ExitCode;
 use std::time::Instant;
-use std::{env, io};
+use std::io;
 
 /// The rounds of the run without an argument.
 const FEW_ROUNDS: u32 = 10;
@@ -47,24 +43,18 @@ fn is_taken(rounds: u32) -> bool
     1 <= rounds && rounds <= MOST_ROUNDS
 }
 
-fn refuse(rt: &HostRuntime) -> io::Result<ExitCode> {
-    eprintln!(rt; "usage: kdf_bench [ROUNDS], with 1 to {MOST_ROUNDS} rounds")?;
-    Ok(ExitCode::FAILURE)
+/// Derives two short keys, and prints them.
+pub(crate) fn try_both(rt: &HostRuntime) -> io::Result<()> {
+    show(rt, "sha256", Hash::Sha256)?;
+    show(rt, "sha512", Hash::Sha512)
 }
 
-fn main(rt: HostRuntime) -> io::Result<ExitCode> {
-    let Some(word) = env::args(&rt)?.nth(1) else {
-        show(&rt, "sha256", Hash::Sha256)?;
-        show(&rt, "sha512", Hash::Sha512)?;
-        return Ok(ExitCode::SUCCESS);
-    };
-    let Ok(rounds) = word.parse() else {
-        return refuse(&rt);
-    };
+/// Derives one block under each hash function in so many rounds, and prints the rounds a second.
+pub(crate) fn measure_both(rt: &HostRuntime, rounds: u32) -> Result<()> {
     if !is_taken(rounds) {
-        return refuse(&rt);
+        return Err(anyhow!("1 to {MOST_ROUNDS} rounds"));
     }
-    measure(&rt, "sha256", Hash::Sha256, rounds)?;
-    measure(&rt, "sha512", Hash::Sha512, rounds)?;
-    Ok(ExitCode::SUCCESS)
+    measure(rt, "sha256", Hash::Sha256, rounds)?;
+    measure(rt, "sha512", Hash::Sha512, rounds)?;
+    Ok(())
 }

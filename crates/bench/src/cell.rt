@@ -1,22 +1,15 @@
-//! A benchmark of the cell. Without an argument it asks a cell in two threads, and prints the sum
-//! that they leave, the same each time. With a number of turns it has one, two and four threads ask
-//! a cell that often each, and then lock a mutex around the same machine that often each, and
-//! prints the turns a second of both. With the word `sleep` and a number of turns it has two
-//! threads ask a cell whose machine sleeps a millisecond at each turn, so that a script can measure
-//! the processor time of threads that wait.
-#![tactic(auto)]
+// The cell beside a mutex around the same machine.
 
 ghost use Rattle.std.specs.Prelude.{IfOk};
 ghost use Rattle.volume_cell.specs.Passes.{IsPassOf};
 ghost use denote.Param.Send.{IsSync};
 
 use std::alloc::AllocError;
-use std::process::ExitCode;
 use std::rt::Runtime;
 use std::sync::{Mutex, Wait};
 use std::thread::{Threads, join};
 use std::time::{Clock, Duration, Instant};
-use std::{env, io, thread};
+use std::{io, thread};
 use volume_cell::{Cell, Machine, Pass};
 
 /// How long the history of a run can get.
@@ -207,7 +200,9 @@ fn show<R: Print>(rt: &R, what: &str, threads: u32, turns: u32, took: Duration) 
     )
 }
 
-fn measure<R: Runtime + AllocGlobal + Threads + Wait + Sync>(rt: &R, turns: u32) -> io::Result<()> {
+/// Has one, two and four threads ask a cell so often each, and then lock a mutex around the same
+/// machine so often each, and prints the turns a second of both.
+pub(crate) fn measure<R: Runtime + AllocGlobal + Threads + Wait + Sync>(rt: &R, turns: u32) -> io::Result<()> {
     let (cell, pass) = make(rt)?;
     let start = Instant::now(rt)?;
     ask(rt, &cell, pass, turns);
@@ -233,7 +228,7 @@ fn measure<R: Runtime + AllocGlobal + Threads + Wait + Sync>(rt: &R, turns: u32)
 }
 
 /// Two threads, of which one always waits while the machine sleeps for the other.
-fn measure_sleep<R: Runtime + AllocGlobal + Threads + Wait + Sync + Send>(
+pub(crate) fn measure_sleep<R: Runtime + AllocGlobal + Threads + Wait + Sync + Send>(
     rt: &R,
     turns: u32,
 ) -> io::Result<()> {
@@ -256,29 +251,9 @@ fn measure_sleep<R: Runtime + AllocGlobal + Threads + Wait + Sync + Send>(
     println!(rt; "two threads slept {turns} times each in {seconds:.3} seconds")
 }
 
-fn refuse(rt: &HostRuntime) -> io::Result<ExitCode> {
-    eprintln!(rt; "usage: cell_bench [TURNS | sleep TURNS]")?;
-    Ok(ExitCode::FAILURE)
-}
-
-fn main(rt: HostRuntime) -> io::Result<ExitCode> {
-    let mut words = env::args(&rt)?.skip(1);
-    let Some(first) = words.next() else {
-        let (cell, pass) = make(&rt)?;
-        let sum = ask_in_two(&rt, &cell, pass, FEW_TURNS);
-        println!(&rt; "two threads of {FEW_TURNS} turns: {sum}")?;
-        return Ok(ExitCode::SUCCESS);
-    };
-    if first.as_str() == "sleep" {
-        let Some(Ok(turns)) = words.next().map(|word| word.parse()) else {
-            return refuse(&rt);
-        };
-        measure_sleep(&rt, turns)?;
-        return Ok(ExitCode::SUCCESS);
-    }
-    let Ok(turns) = first.parse() else {
-        return refuse(&rt);
-    };
-    measure(&rt, turns)?;
-    Ok(ExitCode::SUCCESS)
+/// Asks a cell in two threads, and prints the sum that they leave.
+pub(crate) fn try_turns(rt: &HostRuntime) -> io::Result<()> {
+    let (cell, pass) = make(rt)?;
+    let sum = ask_in_two(rt, &cell, pass, FEW_TURNS);
+    println!(rt; "two threads of {FEW_TURNS} turns: {sum}")
 }
