@@ -91,13 +91,13 @@ fn show_run(
     let (disk, header) = outcome.into_disks();
     let World { disks, next, .. } = world;
     let left = next.left.as_str();
-    let (first, second) = disks.as_mut_slice().split_at_mut(1);
+    let mut shelves = disks.as_mut_slice().iter_mut();
     if is_loose {
-        keep_disk(rt, disk, left, first.first_mut())?;
-        keep_disk(rt, header, left, second.first_mut())?;
+        keep_disk(rt, disk, left, shelves.next())?;
+        keep_disk(rt, header, left, shelves.next())?;
     } else {
-        show_disk(rt, "disk", disk, left, first.first_mut())?;
-        show_disk(rt, "header", header, left, second.first_mut())?;
+        show_disk(rt, "disk", disk, left, shelves.next())?;
+        show_disk(rt, "header", header, left, shelves.next())?;
     }
     if words.starts_with("format") || words.starts_with("init") {
         world.first = world.first.wrapping_add(32);
