@@ -60,8 +60,8 @@
 //!   last stripe of a key. Each of these words spells bytes or is a number;
 //! - `metadata WORDS`, with a tab between two: the header of a conversion, step by step, from the one
 //!   that the lines before have come to. `header`, the bytes of a copy, those of an atom, the atoms of
-//!   the header's disk and of the main disk (the first `attached` where the two are one) and the text:
-//!   this header is taken. `bare` and the same, but what is wished for and the new key in place of the
+//!   the header's disk and of the main disk (the first `attached` where the two are one) and the text or
+//!   the name of one: this header is taken. `bare` and the same, but what is wished for and the new key in place of the
 //!   text: the conversion of a disk without a header begins. `start`, the bytes of a copy of the next
 //!   header, what is wished for and the new key: a conversion begins. `begin`, a passphrase, the bytes
 //!   of the new key and of a sector, the direction, `journal` or `checksum`, and the bytes of the
@@ -92,7 +92,7 @@ use anyhow::Result;
 use std::env;
 
 /// The scripts, in the order in which they are shown.
-const SCRIPTS: [&str; 15] = [
+const SCRIPTS: [&str; 16] = [
     "vectors.rows",
     "headers.rows",
     "copies.rows",
@@ -108,6 +108,7 @@ const SCRIPTS: [&str; 15] = [
     "resume.rows",
     "zones.rows",
     "serving.rows",
+    "crowd.rows",
 ];
 
 fn main(rt: HostRuntime) -> Result<()> {

@@ -6,6 +6,7 @@ mod stands;
 mod steps;
 mod wishes;
 
+use crate::bytes::Lexicon;
 use anyhow::Result;
 use coming::come_to;
 use disk_sizes::Sizes;
@@ -41,9 +42,14 @@ fn show_stand(rt: &HostRuntime, stand: &Stand, is_made: bool) -> Result<bool> {
 }
 
 /// Goes on by the columns of a line; shows what it comes to.
-pub(crate) fn show_metadata(rt: &HostRuntime, stand: &mut Stand, columns: &str) -> Result<()> {
+pub(crate) fn show_metadata(
+    rt: &HostRuntime,
+    lexicon: &Lexicon,
+    stand: &mut Stand,
+    columns: &str,
+) -> Result<()> {
     let words: Vec<&str> = columns.split('\t').collect(rt.alloc())?;
-    match come_to(rt.alloc(), stand, words.as_slice())? {
+    match come_to(rt.alloc(), lexicon, stand, words.as_slice())? {
         Ok(next) => {
             if show_stand(rt, &next, !columns.starts_with("header"))? {
                 *stand = next;

@@ -129,7 +129,10 @@ fn do_line(
             println!(rt; "  {value}")?;
             return Ok(());
         }
-        Line::Metadata(columns) => return show_metadata(rt, &mut world.stand, columns),
+        Line::Metadata(columns) => {
+            let World { lexicon, stand, .. } = world;
+            return show_metadata(rt, lexicon, stand, columns);
+        }
         Line::Run(words) => show_run(rt, threads, world, words, false)?,
         Line::Loose(words) => show_run(rt, threads, world, words, true)?,
         Line::Stops(words) => show_stops(rt, threads, world, words)?,

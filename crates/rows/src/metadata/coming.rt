@@ -4,6 +4,7 @@ ghost use Rattle.std.specs.Prelude.{◌≡◌, IfOk};
 ghost use Rattle.reenc_meta.specs.Placements.{all_atoms};
 ghost use Rattle.sector_disk.specs.Geometry.{IsDisk};
 
+use crate::bytes::Lexicon;
 use crate::metadata::beginnings::begun;
 use crate::metadata::stands::{Stand, number, sizes_of, valid_of};
 use crate::metadata::steps::{go_on, start_with, start_without};
@@ -25,13 +26,14 @@ fn text_of(alloc: Global, meta: &Meta) -> Result<String> {
     }
 }
 
-/// A row that takes a header.
-fn header(alloc: Global, words: &[&str]) -> Result<Stand> {
+/// A row that takes a header, of a text or of the name of one.
+fn header(alloc: Global, lexicon: &Lexicon, words: &[&str]) -> Result<Stand> {
     let [size, atom, header, main, text] = words else {
         return Err(anyhow!("a header of so many columns"));
     };
     let sizes = sizes_of(atom, header, main)?;
     let size = number(size)?;
+    let text = if text.starts_with('{') { *text } else { lexicon.text(text)? };
     let text = String::from_str(alloc, text)?;
     Ok(Stand { sizes, size, text })
 }
@@ -108,9 +110,14 @@ fn step(alloc: Global, stand: &Stand, words: &[&str]) -> Result<Found> {
 }
 
 /// What a row comes to, from the header that the rows before it have come to.
-pub(crate) fn come_to(alloc: Global, stand: &Stand, words: &[&str]) -> Result<Found> {
+pub(crate) fn come_to(
+    alloc: Global,
+    lexicon: &Lexicon,
+    stand: &Stand,
+    words: &[&str],
+) -> Result<Found> {
     match words {
-        ["header", words @ ..] => Ok(Ok(header(alloc, words)?)),
+        ["header", words @ ..] => Ok(Ok(header(alloc, lexicon, words)?)),
         ["bare", words @ ..] => Ok(Ok(bare(alloc, words)?)),
         ["start", words @ ..] => Ok(Ok(start(alloc, stand, words)?)),
         ["begin", words @ ..] => begin(alloc, stand, words),

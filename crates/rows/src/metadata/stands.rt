@@ -12,6 +12,9 @@ use reenc_meta::{Reenc, place_idle};
 use segment_map::Map;
 use std::alloc::{AllocError, Global};
 
+/// The most atoms of a disk.
+const MOST_ATOMS: u64 = 1_099_511_627_776;
+
 /// Disks, and on them a header of copies of so many bytes.
 #[derive(Drop)]
 pub(crate) struct Stand {
@@ -36,7 +39,7 @@ fn known(sizes: Sizes) -> Result<Sizes>
     if sizes.atom != 512 && sizes.atom != 4096 {
         return Err(anyhow!("no atom"));
     }
-    if 1_048_576 < sizes.main_atoms || 1_048_576 < sizes.header_atoms {
+    if MOST_ATOMS < sizes.main_atoms || MOST_ATOMS < sizes.header_atoms {
         return Err(anyhow!("disks of so many atoms"));
     }
     Ok(sizes)
