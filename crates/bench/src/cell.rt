@@ -202,7 +202,10 @@ fn show<R: Print>(rt: &R, what: &str, threads: u32, turns: u32, took: Duration) 
 
 /// Has one, two and four threads ask a cell so often each, and then lock a mutex around the same
 /// machine so often each, and prints the turns a second of both.
-pub(crate) fn measure<R: Runtime + AllocGlobal + Threads + Wait + Sync>(rt: &R, turns: u32) -> io::Result<()> {
+pub(crate) fn measure<R: Runtime + AllocGlobal + Threads + Wait + Sync>(
+    rt: &R,
+    turns: u32,
+) -> io::Result<()> {
     let (cell, pass) = make(rt)?;
     let start = Instant::now(rt)?;
     ask(rt, &cell, pass, turns);

@@ -4,8 +4,8 @@ ghost use Rattle.std.specs.Prelude.{◌≤◌, ◌↔◌, IsTrue};
 
 use anyhow::{Result, anyhow};
 use pbkdf2_hmac::{Hash, MOST_ROUNDS, derive};
-use std::time::Instant;
 use std::io;
+use std::time::Instant;
 
 /// The rounds of the run without an argument.
 const FEW_ROUNDS: u32 = 10;

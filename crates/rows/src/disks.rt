@@ -59,7 +59,12 @@ fn fails_of(alloc: Global, limit: Limit<'_>) -> Result<Vec<u64>> {
 }
 
 /// A disk of these bytes, of which each atom has the one value that it has here.
-pub(crate) fn disk_with(alloc: Global, atom: u64, bytes: &[u8], limit: Limit<'_>) -> Result<MemDisk> {
+pub(crate) fn disk_with(
+    alloc: Global,
+    atom: u64,
+    bytes: &[u8],
+    limit: Limit<'_>,
+) -> Result<MemDisk> {
     if atom != 512 && atom != 4096 {
         return Err(anyhow!("atoms of {atom} bytes"));
     }

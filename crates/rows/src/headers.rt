@@ -44,7 +44,11 @@ fn make_copy(copy: &mut [u8], at: u64, seqid: u64, letter: u8, text: &[u8]) -> R
         return Err(anyhow!("a copy of {size} bytes"));
     }
     copy.fill(0);
-    let magic = if at == 0 { b"LUKS\xba\xbe" } else { b"SKUL\xba\xbe" };
+    let magic = if at == 0 {
+        b"LUKS\xba\xbe"
+    } else {
+        b"SKUL\xba\xbe"
+    };
     copy[0..6].copy_from_slice(magic);
     copy[6..8].copy_from_slice(&2u16.to_be_bytes());
     copy[8..16].copy_from_slice(&(size as u64).to_be_bytes());
@@ -114,7 +118,13 @@ pub(crate) fn change(
             text,
         } => {
             let text = lexicon.text(text)?.trim_end();
-            make_copy(part_of(bytes, at, size)?, at, seqid, letter, text.as_bytes())?;
+            make_copy(
+                part_of(bytes, at, size)?,
+                at,
+                seqid,
+                letter,
+                text.as_bytes(),
+            )?;
         }
         Change::Sum { at, size } => sum_anew(part_of(bytes, at, size)?)?,
         Change::Token { letters } => {

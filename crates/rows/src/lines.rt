@@ -14,9 +14,16 @@ pub(crate) enum Origin<'a> {
     /// They are a file of the scripts' folder.
     File(&'a str),
     /// So many that rise from the first one on, below the modulus.
-    Rising { length: u64, first: u64, modulus: u64 },
+    Rising {
+        length: u64,
+        first: u64,
+        modulus: u64,
+    },
     /// Requests that are drawn.
-    Drawn { seed: u64, atom: u64 },
+    Drawn {
+        seed: u64,
+        atom: u64,
+    },
     /// Those of a name, in which texts are replaced by others; tabs stand between them.
     Edited(&'a str),
 }
@@ -25,9 +32,16 @@ pub(crate) enum Origin<'a> {
 #[derive(Clone, Copy)]
 pub(crate) enum Change<'a> {
     /// These are put at a byte.
-    Put { at: u64, spelling: &'a str },
+    Put {
+        at: u64,
+        spelling: &'a str,
+    },
     /// So many have one value.
-    Fill { at: u64, length: u64, byte: u8 },
+    Fill {
+        at: u64,
+        length: u64,
+        byte: u8,
+    },
     /// A copy of a header is put at a byte: its size, number, the first letter of its label, and the
     /// name of its text.
     Copy {
@@ -38,9 +52,14 @@ pub(crate) enum Change<'a> {
         text: &'a str,
     },
     /// The copy of a header at a byte, of so many, has the sum of its bytes.
-    Sum { at: u64, size: u64 },
+    Sum {
+        at: u64,
+        size: u64,
+    },
     /// Both copies of a header have a token with so many letters.
-    Token { letters: u64 },
+    Token {
+        letters: u64,
+    },
 }
 
 /// What is settled of the commands that come.
@@ -79,7 +98,10 @@ pub(crate) enum Line<'a> {
     /// Nothing, or a remark.
     Remark,
     /// Bytes have a name.
-    Name { name: &'a str, origin: Origin<'a> },
+    Name {
+        name: &'a str,
+        origin: Origin<'a>,
+    },
     /// There is a disk of so many atoms, all of whose bytes are this one.
     Disk {
         name: &'a str,
@@ -87,7 +109,10 @@ pub(crate) enum Line<'a> {
         atoms: u64,
         byte: u8,
     },
-    Change { name: &'a str, change: Change<'a> },
+    Change {
+        name: &'a str,
+        change: Change<'a>,
+    },
     Set(Setting<'a>),
     /// A command is run.
     Run(&'a str),

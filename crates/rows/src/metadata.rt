@@ -10,10 +10,9 @@ use crate::bytes::Lexicon;
 use anyhow::Result;
 use coming::come_to;
 use disk_sizes::Sizes;
+pub(crate) use stands::Stand;
 use stands::told;
 use std::alloc::Global;
-
-pub(crate) use stands::Stand;
 
 /// Disks of nothing, before the first header.
 pub(crate) fn nothing(alloc: Global) -> Stand {

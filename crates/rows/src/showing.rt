@@ -86,7 +86,14 @@ fn show_run(
 ) -> Result<()> {
     let alloc = rt.alloc();
     let disks = world.take_disks(alloc)?;
-    let outcome = run_on(rt, threads, world, words, disks, world.next.clients.as_slice())?;
+    let outcome = run_on(
+        rt,
+        threads,
+        world,
+        words,
+        disks,
+        world.next.clients.as_slice(),
+    )?;
     show_outcome(rt, &outcome, is_loose)?;
     let (disk, header) = outcome.into_disks();
     let World { disks, next, .. } = world;

@@ -35,7 +35,12 @@ fn ran(
 }
 
 /// What the script's client is put at the end, of a disk of these bytes.
-fn read_by(rt: &HostRuntime, threads: &(impl Threads + Wait + Sync), world: &World, bytes: &[u8]) -> Result<String> {
+fn read_by(
+    rt: &HostRuntime,
+    threads: &(impl Threads + Wait + Sync),
+    world: &World,
+    bytes: &[u8],
+) -> Result<String> {
     let alloc = rt.alloc();
     let Some(shelf) = world.disks.first() else {
         return Err(anyhow!("no disk"));
@@ -72,7 +77,12 @@ fn stopped(
 }
 
 /// What `status` tells of the conversion of a disk of these bytes: the boundary and the zone.
-fn state_on(rt: &HostRuntime, threads: &(impl Threads + Wait + Sync), world: &World, bytes: &[u8]) -> Result<String> {
+fn state_on(
+    rt: &HostRuntime,
+    threads: &(impl Threads + Wait + Sync),
+    world: &World,
+    bytes: &[u8],
+) -> Result<String> {
     let alloc = rt.alloc();
     let atom = match world.disks.first() {
         Some(shelf) => shelf.atom,
@@ -146,7 +156,16 @@ fn stop_within(
         let left = IMAGES[which];
         let (ended, image) = stopped(rt, threads, world, words, bytes, stop, left)?;
         let second = second_of(world.next.again.as_slice(), stop, which)?;
-        let found = goes_on(rt, threads, world, words, image.as_slice(), second, left, hasher)?;
+        let found = goes_on(
+            rt,
+            threads,
+            world,
+            words,
+            image.as_slice(),
+            second,
+            left,
+            hasher,
+        )?;
         line = if which == 0 {
             format!(in alloc; "{line} {ended}; {found}")?
         } else {
@@ -188,7 +207,12 @@ fn bytes_of(alloc: Global, world: &World) -> Result<Vec<u8>> {
 
 /// Stops a command within its device calls and behind the last one, and shows what each stop comes
 /// to, and the SHA-256 of all images and of what stands behind each.
-pub(crate) fn show_stops(rt: &HostRuntime, threads: &(impl Threads + Wait + Sync), world: &World, words: &str) -> Result<()> {
+pub(crate) fn show_stops(
+    rt: &HostRuntime,
+    threads: &(impl Threads + Wait + Sync),
+    world: &World,
+    words: &str,
+) -> Result<()> {
     let bytes = bytes_of(rt.alloc(), world)?;
     let bytes = bytes.as_slice();
     let mut hasher = Sha256::new();
@@ -220,7 +244,12 @@ fn failed(
 
 /// Lets device calls of a command fail in turn, and shows what each comes to, and how the command
 /// ends that is given again, behind which the client is served.
-pub(crate) fn show_faults(rt: &HostRuntime, threads: &(impl Threads + Wait + Sync), world: &World, words: &str) -> Result<()> {
+pub(crate) fn show_faults(
+    rt: &HostRuntime,
+    threads: &(impl Threads + Wait + Sync),
+    world: &World,
+    words: &str,
+) -> Result<()> {
     let bytes = bytes_of(rt.alloc(), world)?;
     let bytes = bytes.as_slice();
     for number in tried(rt, threads, world, words, bytes, 0)? {

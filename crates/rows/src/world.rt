@@ -67,7 +67,8 @@ impl Next {
     /// Adds for each byte of these a client whose input ends before it.
     fn cut(&mut self, alloc: Global, bytes: &[u8]) -> Result<()> {
         for length in 0..bytes.len() {
-            self.clients.push(Vec::from_slice(alloc, &bytes[..length])?)?;
+            self.clients
+                .push(Vec::from_slice(alloc, &bytes[..length])?)?;
         }
         Ok(())
     }
@@ -129,7 +130,11 @@ impl World {
         byte: u8,
     ) -> Result<()> {
         let made = shelf(alloc, name, atom, atoms, byte)?;
-        if self.disks.first().is_some_and(|first| first.name.as_str() == name) {
+        if self
+            .disks
+            .first()
+            .is_some_and(|first| first.name.as_str() == name)
+        {
             self.disks.clear();
         }
         self.disks.push(made)?;

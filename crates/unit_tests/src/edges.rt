@@ -153,7 +153,9 @@ fn fails(link: &mut HostLink<Silent>) -> bool {
 fn is_unheard(rt: &HostRuntime, gone: u32) -> Result<(), Fail> {
     let alloc = rt.alloc();
     let left = Rc::new(alloc, Cell::new(gone))?;
-    let door = Door::Listening(Deaf { gone: left.clone()? });
+    let door = Door::Listening(Deaf {
+        gone: left.clone()?,
+    });
     let address = String::from_str(alloc, "somewhere")?;
     let errors = rt.stderr();
     let mut link = HostLink::new(alloc, Silent, errors, address, door, 2, Manner::QUIET);

@@ -1,7 +1,9 @@
 // Streams of the system that fail in mid-stream, are slow or are counted.
 
 use crate::same::same;
-use io_edge::{GatheringWriter, OsSeeds, OutputStream, Seeds, Sink, Source, StdSink, StdSource, WritePair};
+use io_edge::{
+    GatheringWriter, OsSeeds, OutputStream, Seeds, Sink, Source, StdSink, StdSource, WritePair,
+};
 use std::alloc::{AllocError, Global};
 use std::cell::Cell;
 use std::io::{self, ErrorKind, Read};
@@ -142,7 +144,11 @@ fn gathers<R: Abort>(rt: &R, alloc: Global, most: usize) -> Result<(), Fail> {
     same(rt, writer.writer().calls, 0);
     same(rt, write_pieces(&mut writer, &pieces), true);
     same(rt, writer.flush().is_ok(), true);
-    same(rt, writer.writer().text.as_slice(), b"ABCabcdefghijklmnopqrstuvw");
+    same(
+        rt,
+        writer.writer().text.as_slice(),
+        b"ABCabcdefghijklmnopqrstuvw",
+    );
     Ok(())
 }
 
@@ -173,13 +179,27 @@ fn a_gathering_writer_that_is_dropped_writes_what_it_holds(rt: HostRuntime) -> R
 }
 
 #[test]
-fn a_sink_fails_where_its_stream_takes_nothing_or_cannot_flush(rt: HostRuntime) -> Result<(), Fail> {
+fn a_sink_fails_where_its_stream_takes_nothing_or_cannot_flush(
+    rt: HostRuntime,
+) -> Result<(), Fail> {
     let writer = GatheringWriter::new(rt.alloc(), 2, slow_stream(rt.alloc(), 6, 2))?;
     let mut sink = StdSink::new(writer);
-    same(&rt, (sink.put(b"abcde").is_ok(), sink.push().is_ok()), (true, true));
-    same(&rt, (sink.put(b"f").is_ok(), sink.push().is_ok()), (true, false));
+    same(
+        &rt,
+        (sink.put(b"abcde").is_ok(), sink.push().is_ok()),
+        (true, true),
+    );
+    same(
+        &rt,
+        (sink.put(b"f").is_ok(), sink.push().is_ok()),
+        (true, false),
+    );
     same(&rt, sink.faults(), 1);
-    same(&rt, (sink.put(b"gh").is_ok(), sink.push().is_ok()), (true, false));
+    same(
+        &rt,
+        (sink.put(b"gh").is_ok(), sink.push().is_ok()),
+        (true, false),
+    );
     same(&rt, (sink.put(b"").is_ok(), sink.faults()), (true, 2));
     Ok(())
 }
@@ -188,8 +208,23 @@ fn a_sink_fails_where_its_stream_takes_nothing_or_cannot_flush(rt: HostRuntime) 
 fn two_draws_of_the_system_differ_and_one_without_randomness_fails(rt: HostRuntime) {
     let mut seeds = OsSeeds::new(&rt);
     let (mut first, mut second) = ([0; 300], [0; 300]);
-    same(&rt, (seeds.fill(&mut first).is_ok(), seeds.fill(&mut second).is_ok()), (true, true));
-    same(&rt, (first != second, first[268..] != [0; 32]), (true, true));
+    same(
+        &rt,
+        (
+            seeds.fill(&mut first).is_ok(),
+            seeds.fill(&mut second).is_ok(),
+        ),
+        (true, true),
+    );
+    same(
+        &rt,
+        (first != second, first[268..] != [0; 32]),
+        (true, true),
+    );
     let mut none = OsSeeds::new(NoEntropy);
-    same(&rt, (none.fill(&mut first).is_err(), none.faults()), (true, 1));
+    same(
+        &rt,
+        (none.fill(&mut first).is_err(), none.faults()),
+        (true, 1),
+    );
 }

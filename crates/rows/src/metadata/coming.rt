@@ -33,7 +33,11 @@ fn header(alloc: Global, lexicon: &Lexicon, words: &[&str]) -> Result<Stand> {
     };
     let sizes = sizes_of(atom, header, main)?;
     let size = number(size)?;
-    let text = if text.starts_with('{') { *text } else { lexicon.text(text)? };
+    let text = if text.starts_with('{') {
+        *text
+    } else {
+        lexicon.text(text)?
+    };
     let text = String::from_str(alloc, text)?;
     Ok(Stand { sizes, size, text })
 }
