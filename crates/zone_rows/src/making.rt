@@ -166,6 +166,7 @@ fn conversion_wish(row: &Row) -> Result<luks_init::Wish>
         direction: row.direction,
         resilience: row.guard,
         hotzone_size: hotzone,
+        drop_keyslots: false,
     })
 }
 
