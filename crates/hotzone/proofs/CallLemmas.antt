@@ -17,7 +17,7 @@ use Rattle.disk_views.specs.Parts.{block_at, cell_in, AreBlocks}
 use Rattle.disk_views.specs.Views.{View, IsSynced, IsThinned, IsTried, IsUnchanged, IsWritten}
 use Rattle.disk_views.specs.Views.{view_of_cells}
 use Rattle.hotzone.specs.Promises.{Leads, TellsAlike}
-use Rattle.sector_disk.proofs.ImageLemmas.{blocks_of-joined}
+use Rattle.base_terms.proofs.BlockLemmas.{blocks_of-joined}
 use Rattle.sector_disk.specs.Cells.{Cell, content, currents, wrote}
 use Rattle.sector_disk.specs.Cells as disk_cells
 use Rattle.sector_disk.specs.Devices.{Device, ReadCall, SyncCall, WriteCall, failed_call, succeeded}

@@ -6,6 +6,7 @@ use Rattle.std.specs.Prelude.{Contains}
 use Rattle.std.specs.List.{AllByRecursion}
 use Rattle.std.proofs.lemmas.List.{get_or_default, take_at, drop_at}
 use Rattle.std.proofs.lemmas.List.Elements.{Contains-push_cases}
+use Rattle.base_terms.proofs.BlockLemmas.{blocks_of-joined, length-joined}
 use Rattle.base_terms.specs.Blocks.{blocks_of, joined, lengths}
 use Rattle.sector_disk.specs.Calls.{Call, table}
 use Rattle.sector_disk.specs.Cells.{Cell, sures, currents, IsHeld, AreHeld, IsImage}
@@ -129,33 +130,6 @@ length-even (suc count) size (cell ∷ cells) even =
     ap (λ n. suc n)
     (length-even count size cells (let rest : lengths (currents cells) ≡ replicate count size =
     cc in rest))
-
--- blocks of one size are those of their text
-pub blocks_of-joined : (size n : ℕ) (blocks : List (List ℕ)) → lengths blocks ≡ replicate n size
-    → blocks_of size n (joined blocks) ≡ blocks
-unfolding lengths blocks_of joined
-blocks_of-joined size zero [] even = refl
-blocks_of-joined size (suc n) [] even = absurd (cc)
-blocks_of-joined size zero (block ∷ blocks) even = absurd (cc)
-blocks_of-joined size (suc n) (block ∷ blocks) even =
-    let is : length block ≡ size = cc in
-    let rest : lengths blocks ≡ replicate n size = cc in
-    ap₂ (λ x xs. x ∷ xs) (take_at block (joined blocks) size is)
-    (ap (λ text. blocks_of size n text) (drop_at block (joined blocks) size is)
-    ∙ blocks_of-joined size n blocks rest)
-
-pub length-joined : (size n : ℕ) (blocks : List (List ℕ)) → lengths blocks ≡ replicate n size
-    → length (joined blocks) ≡ n * size
-unfolding lengths joined
-length-joined size zero [] even = omega arith
-length-joined size (suc n) [] even = absurd (cc)
-length-joined size zero (block ∷ blocks) even = absurd (cc)
-length-joined size (suc n) (block ∷ blocks) even =
-    let is : length block ≡ size = cc in
-    let rest : length (joined blocks) ≡ n * size =
-    length-joined size n blocks (let e : lengths blocks ≡ replicate n size = cc in e) in
-    let one : suc n * size ≡ size + n * size = grind arith in
-    rw one (length-append block (joined blocks) ∙ ap₂ (λ a b. a + b) is rest)
 
 -- the image of a disk has an atom's bytes for each atom
 pub even_image : (choice : Choice) (atom atoms : ℕ) (start : List ℕ) (calls : List Call)

@@ -17,7 +17,7 @@ use Rattle.luks_store.proofs.SettledLemmas.{current_is}
 use Rattle.luks_store.specs.Devices.{IsCertain, header_room}
 use Rattle.luks_store.specs.Promises.{AreasBeginBehind}
 use Rattle.luks_store.specs.declared.loaded.Stored.{Stored}
-use Rattle.sector_disk.proofs.ImageLemmas.{length-joined}
+use Rattle.base_terms.proofs.BlockLemmas.{length-joined}
 use Rattle.sector_disk.specs.Cells.{Cell, currents}
 use Rattle.sector_disk.specs.Devices.{Device}
 use Rattle.sector_disk.specs.Geometry.{IsAtom}

@@ -8,7 +8,7 @@ use Rattle.disk_views.proofs.Blockwise.{block_at-part, length-part, same_blocks}
 use Rattle.disk_views.specs.Parts.{block_at, value_in}
 use Rattle.disk_views.specs.Views.{IsOutside}
 use Rattle.luks_store.proofs.SettledLemmas.{atom_of_joined}
-use Rattle.sector_disk.proofs.ImageLemmas.{length-joined}
+use Rattle.base_terms.proofs.BlockLemmas.{length-joined}
 use Rattle.slot_commit.proofs.AgreeLemmas.{agrees_by_atoms}
 use Rattle.slot_commit.specs.Agreements.{AgreesBut}
 

@@ -212,14 +212,6 @@ impl<D: Disk, C: SectorCipher + Copy> Volume<D, C> {
         self.keys
     }
 
-    /// The keys, lent as long as nothing is done with the volume.
-    pub fn borrow_keys(&self) -> &Keys<C>
-        ensures is { result.now ≡ self.now.keys }
-        ensures fits { KeysFit C.sector result.now self.now.map.atom self.now.map.blocks }
-    {
-        &self.keys
-    }
-
     /// Whether a lane is one of clients: the last lane is the conversion's own.
     pub fn is_client(&self, lane: u32) -> bool
         ensures { IsTrue result ↔ IsClient self.now lane }

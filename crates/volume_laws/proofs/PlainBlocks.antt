@@ -6,7 +6,7 @@ use Common.{◌*◌, ◌+◌, ◌<◌, ◌∙◌, ◌∷◌, ◌≡◌, ◌≤�
 use Common.{Contains-append_left, Contains-push, blocks_of, changed, joined, lengths, block_at}
 use Common.{IsOutside, block_at-part, length-part, same_blocks, Block, flushed, settled, values_of}
 use Common.{written, AreSure, newest_bytes}
-use Rattle.sector_disk.proofs.ImageLemmas.{blocks_of-joined, length-joined}
+use Rattle.base_terms.proofs.BlockLemmas.{blocks_of-joined, length-joined}
 use Rattle.disk_views.proofs.Entries.{blocks_of-at, changed_blocks-inside, changed_blocks-outside}
 use Rattle.volume_laws.specs.Contents.{block_in}
 

@@ -6,7 +6,7 @@ use Common.{suc, sym, zero, ℕ, ◌*◌, ◌+◌, ◌<◌, ◌∙◌, ◌∷◌
 use Common.{AreSettled, content, currents, AreBytes, AreBlocks, block_at, cell_in, one_block, Map}
 use Common.{Block, settled, settled_blocks, ChangeNothing, IsFresh, IsWholeDisk, place_in, side_in}
 use Common.{AreLawful, Seals, AreApart, IsSound, MapFits, State}
-use Rattle.sector_disk.proofs.ImageLemmas.{blocks_of-joined}
+use Rattle.base_terms.proofs.BlockLemmas.{blocks_of-joined}
 use Rattle.disk_views.proofs.Entries.{blocks_of-at, length-blocks_of}
 use Rattle.volume_machine.proofs.NextPieces.{on_disk}
 use Rattle.volume_laws.specs.Contents.{IsSealed, StandsFor, block_in, blocks_from}

@@ -1,7 +1,8 @@
 use Rattle.std.proofs.Common.{◌∙◌, length, ap, refl}
 use Rattle.sector_disk.specs.EachCell.{held_table}
 use Rattle.sector_disk.proofs.CellLemmas.{currents_sures}
-use Rattle.sector_disk.proofs.ImageLemmas.{even_image, image_is, length-joined, blocks_of-joined}
+use Rattle.sector_disk.proofs.ImageLemmas.{even_image, image_is}
+use Rattle.base_terms.proofs.BlockLemmas.{length-joined, blocks_of-joined}
 use Rattle.sector_disk.proofs.mem_disk.MemDisk.restart.Goals as goal
 
 pub begun_with-requires : goal.begun_with-requires
