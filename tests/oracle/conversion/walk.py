@@ -1,15 +1,13 @@
-"""The rows on conversions, and what each comes to: what the metadata of each step are, where the blocks
-of their volume lie, and which rule they break. The cases stand in metadata_cases.py."""
+"""The metadata of a conversion, step by step: what they are, where they say that the volume's blocks lie,
+and which rule they break."""
 
 import json
 
-from ..conversion import begun
-from ..conversion.rules import first_broken, mandatory
-from ..conversion.steps import Conversion, Disks, Wish, finished, moved, opened, started
-from ..judging import text_of as text_of_lines
 from ..luks.ciphers import STRIPES, KeyDraw
 from ..luks.header import REQUIREMENT, text_of
-from .metadata_cases import CASES
+from . import begun
+from .rules import first_broken, mandatory
+from .steps import Conversion, Disks, Wish, finished, moved, opened, started
 
 ROUNDS = 1000
 # what stands in the way of a beginning, of a number and a limit
@@ -69,18 +67,11 @@ def drawn_key(header, disks, passphrase, key_size, sector_size, direction, guard
         return None, WANTS[what].format(number, limit)
 
 
-class Rows:
-    """Where the rows so far have come to."""
+class Walk:
+    """Where the steps so far have come to."""
 
     def __init__(self):
         self.header = self.disks = self.size = None
-
-    def row(self, columns):
-        """A row in full."""
-        if columns[0] != "disks":
-            return columns
-        atom, main = str(self.disks.atom), columns[1]
-        return ["header", self.size, atom, "attached", main, text_of(self.header)]
 
     def taken(self, what, words):
         self.size, *disks = words[:4]
@@ -121,19 +112,3 @@ class Rows:
         else:
             self.size = size
         return [line] if what == "header" else [line, text_of(made)]
-
-
-def judged():
-    """The rows, and what they come to."""
-    rows, table, found = Rows(), [], []
-    for case in CASES:
-        if isinstance(case, str):
-            table.append(case)
-        else:
-            columns = rows.row(case)
-            table.append("\t".join(columns))
-            found += rows.lines(*columns)
-    return {
-        "crates/conversion_rows/data/conversions.rows": text_of_lines(table),
-        "crates/conversion_rows/stdout": text_of_lines(found),
-    }
