@@ -20,7 +20,7 @@
 //! - `sum NAME AT SIZE`: such a copy's checksum is made right; `token NAME LETTERS`: both copies of
 //!   16384 bytes have a token with so many letters.
 //!
-//! Settled from there on: `key NAME SPELLED`, a key file; `seeds FIRST STEP`, the bytes that are drawn
+//! Settled from there on: `key NAME SPELLED`, a key file, in place of one of its name; `seeds FIRST STEP`, the bytes that are drawn
 //! rise from the first one by so much (at first 0 and 1); each `format` and `init` draws the next 32.
 //!
 //! Settled for the next command alone:

@@ -88,10 +88,10 @@ impl Outcome {
     }
 }
 
-/// The key files of a bay.
+/// The key files of a bay, which gives the first of a name: the last that the script has.
 fn keys_of(alloc: Global, world: &World) -> Result<Vec<(String, Bytes)>> {
     let mut keys = Vec::new(alloc);
-    for (name, bytes) in world.keys.as_slice().iter() {
+    for (name, bytes) in world.keys.as_slice().iter().rev() {
         keys.push((name.clone()?, Bytes::new(bytes.clone()?)))?;
     }
     Ok(keys)
