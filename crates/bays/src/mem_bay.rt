@@ -17,7 +17,7 @@ ghost use Rattle.std.specs.declared.string.String.{String};
 ghost use Rattle.sector_disk.specs.declared.mem_disk.MemDisk.{MemDisk};
 
 use crate::names::find_name;
-use crate::{Bay, BayFault, MemLink};
+use crate::{Bay, BayFault, Manner, MemLink};
 use base_terms::Bytes;
 use io_edge::{FaultPlan, ListSink, ListSource};
 use sector_disk::{Disk, MemDisk};
@@ -177,7 +177,7 @@ impl Bay for MemBay {
 
     ghost asks_key = { λ _ _ _ _. Unit {0} };
 
-    ghost asks_links = { λ _ _ _ _ _ _. Unit {0} };
+    ghost asks_links = { λ _ _ _ _ _ _ _. Unit {0} };
 
     /// Gives each disk out once. Fails exactly where the call's number is one of those that are to
     /// fail, where there is no disk of that name, or no more, and where it has another atom.
@@ -273,6 +273,7 @@ impl Bay for MemBay {
         address: &str,
         workers: u32,
         sessions: u32,
+        _manner: Manner,
     ) -> Result<Vec<MemLink>, BayFault>
         requires { 0 < workers }
         ensures count { IfOk result (λ links. length links.items ≡ workers) }

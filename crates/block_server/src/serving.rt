@@ -90,7 +90,7 @@ where
     requires some { 0 < length links.items }
     requires few { length links.items ≤ 16 }
     requires bound { (k : ℕ) (link : L) → k < length links.items →
-        (L.state (slice_index_or links.items k link)).bound ≤ 65535 }
+        (L.state (slice_index_or links.items k link)).bound ≤ 4294967295 }
     requires limit { (1 ≤ limit) × (limit < 2 ^ 63 - 1) }
     ensures served { MatchResult result
         (λ served. HasServedBeside L.state
@@ -134,7 +134,7 @@ where
     requires some { 0 < length links.items }
     requires few { length links.items ≤ 16 }
     requires bound { (k : ℕ) (link : L) → k < length links.items →
-        (L.state (slice_index_or links.items k link)).bound ≤ 65535 }
+        (L.state (slice_index_or links.items k link)).bound ≤ 4294967295 }
     requires none { workers.items ≡ [] }
     requires room { length links.items ≤ vec_capacity workers }
     requires leavings { IsRoomFor (length links.items) leavings }

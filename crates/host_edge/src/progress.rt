@@ -91,6 +91,10 @@ impl<R: Clock + Drop> Gate for ProgressGate<R> {
             *told = Some(self.heard(*told, now, converted));
         }
     }
+
+    fn notify(&self, line: &str) {
+        let _ = eprintln!(self.errors; "reencd: {line}");
+    }
 }
 
 impl Told {

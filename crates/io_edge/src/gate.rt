@@ -20,14 +20,18 @@ pub struct Converted {
     pub atom: u32,
 }
 
-/// What holds threads at their places, and is told how far a conversion is. Both answer nothing, so
-/// they can't change an answer.
+/// What holds threads at their places, and is told how far a conversion is, and what people should
+/// know. None of these answers anything, so they can't change an answer.
 pub trait Gate {
     /// Holds the thread at this place as long as the gate wants.
     fn pause(&self, place: Place);
 
     /// Takes note of how far a conversion is, before each of its steps.
     fn tell(&self, converted: Converted);
+
+    /// Takes note of something that people should know: one line, without its line feed. A gate
+    /// that tells nobody does nothing.
+    fn notify(&self, _line: &str) {}
 }
 
 /// A gate that holds nobody, and takes no notes.

@@ -97,12 +97,14 @@ cause_right head head' main main' result cause same = record {
 pub record Stays (old new : Device) : Type 0 where
   pub size : new.size ≡ old.size
   pub atoms : new.atoms ≡ old.atoms
+  pub tail : new.tail ≡ old.tail
   pub values : new.values ≡ old.values
 
 pub stays_alone : (old new : Device) → new ≡ old → Stays old new
 stays_alone old new same = record {
   size = ap (λ one. one.size) same;
   atoms = ap (λ one. one.atoms) same;
+  tail = ap (λ one. one.tail) same;
   values = ap (λ one. one.values) same;
 }
 
@@ -110,7 +112,7 @@ stays_alone old new same = record {
 sync_stays : (number : ℕ) (old new : Device) (result : Result (Unit {0}) Failed)
     → SyncCall (marked old number) new result → Stays old new
 sync_stays number old new result call =
-    record { size = call.size; atoms = call.atoms; values = call.values }
+    record { size = call.size; atoms = call.atoms; tail = call.tail; values = call.values }
 
 abbrev Synced : List Cell → List Cell → Type 0
 Synced cells next = next ≡ map synced cells
@@ -151,6 +153,7 @@ sync_ok : (old new : Joint) → Joins old new → Stays old.head new.head → St
 sync_ok old new joins head main of_head of_main any turn_head turn_main step cause = record {
   size = main.size;
   atoms = ap₂ (λ a b. a + b) head.atoms joins.used;
+  tail = main.tail;
   values = values_stay old new joins head main;
   told = moves_by (BothStep old of_head of_main Synced Synced) Synced (joint_told old)
       (joint_told new) step
@@ -183,6 +186,7 @@ sync_err : (failed : Failed) (old new : Joint) → Joins old new → Stays old.h
 sync_err failed old new joins head main (of_head, turn_head) (of_main, turn_main) cause = record {
   size = main.size;
   atoms = ap₂ (λ a b. a + b) head.atoms joins.used;
+  tail = main.tail;
   values = values_stay old new joins head main;
   told = joint_moves_or_not of_head of_main IsThinned IsThinned IsThinned old new
       (thinned_step of_head of_main old)

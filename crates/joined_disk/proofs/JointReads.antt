@@ -100,6 +100,7 @@ read_ok at front back old new joins parts head main of_head of_main any turn_hea
     of_back cause = record {
       size = main.size;
       atoms = ap₂ (λ a b. a + b) head.atoms joins.used;
+      tail = main.tail;
       values = values_stay old new joins head main;
       content = across at front back old joins.head parts of_front of_back;
       told = moves_by (BothStep old of_head of_main IsKept IsKept) IsKept (joint_told old)
@@ -121,6 +122,7 @@ read_err at front back failed old new joins head main (of_head, turn_head) (of_m
     cause = record {
       size = main.size;
       atoms = ap₂ (λ a b. a + b) head.atoms joins.used;
+      tail = main.tail;
       values = values_stay old new joins head main;
       content = λ _ _. tt;
       told = joint_moves_or_not of_head of_main IsKept IsKept IsKept old new
@@ -134,7 +136,7 @@ read_stays : (size at : ℕ) (bytes : List ℕ) (number : ℕ) (old new : Device
     (result : Result (Unit {0}) Failed)
     → ReadCall size at bytes (marked old number) new result → Stays old new
 read_stays size at bytes number old new result call =
-    record { size = call.size; atoms = call.atoms; values = call.values }
+    record { size = call.size; atoms = call.atoms; tail = call.tail; values = call.values }
 
 pub joint_read : (at : ℕ) (front back : List ℕ) (old new : Joint)
     (result : Result (Unit {0}) Failed) → Joins old new

@@ -11,7 +11,7 @@ use Rattle.base_terms.specs.Blocks.{pasted, changed, blocks_of, lengths}
 use Rattle.base_terms.specs.Causes.{HasCause}
 use Rattle.base_terms.proofs.BlockLemmas.{pasted-nil, changed-nil}
 use Rattle.sector_disk.specs.Cells.{Cell, wrote, currents, IsTried}
-use Rattle.sector_disk.specs.Devices.{Device, WriteCall}
+use Rattle.sector_disk.specs.Devices.{Device, WriteCall, marked}
 use Rattle.sector_disk.specs.Geometry.{IsAtom, IsInDisk}
 use Rattle.joined_disk.specs.Joined.{Joint, both_tables, both_values, joint_told, joined_disk}
 use Rattle.joined_disk.specs.JoinedCalls.{BothWritten}
@@ -326,11 +326,23 @@ drop_min n text = by_order (le_or n (length text))
         ∙ drop_all (length text) text (omega arith) ∙ sym (drop_all n text above)
 
 -- a disk whose sizes stayed
-abbrev SameSizes : Device → Device → Type 0
-SameSizes old new = (new.size ≡ old.size) × (new.atoms ≡ old.atoms)
+record SameSizes (old new : Device) : Type 0 where
+  size : new.size ≡ old.size
+  atoms : new.atoms ≡ old.atoms
+  tail : new.tail ≡ old.tail
 
 same_sizes : (old new : Device) → new ≡ old → SameSizes old new
-same_sizes old new same = (ap (λ one. one.size) same, ap (λ one. one.atoms) same)
+same_sizes old new same = record {
+  size = ap (λ one. one.size) same;
+  atoms = ap (λ one. one.atoms) same;
+  tail = ap (λ one. one.tail) same;
+}
+
+write_sizes : (size at : ℕ) (bytes : List ℕ) (number : ℕ) (old new : Device)
+    (result : Result (Unit {0}) Failed)
+    → WriteCall size at bytes (marked old number) new result → SameSizes old new
+write_sizes size at bytes number old new result call =
+    record { size = call.size; atoms = call.atoms; tail = call.tail }
 
 write_ok : (of_head of_main : Bool) (at n : ℕ) (body front back : List ℕ) (old new : Joint)
     → Joins old new
@@ -346,9 +358,10 @@ write_ok : (of_head of_main : Bool) (at n : ℕ) (body front back : List ℕ) (o
     → WriteCall old.main.size at body (joined_disk old) (joined_disk new) (Ok tt)
 write_ok of_head of_main at n body front back old new joins spans head main any no_front no_back
     turn_head turn_main wrote_head wrote_main cause = record {
-      size = main.0;
-      atoms = ap₂ (λ a b. a + b) head.1 joins.used;
-      values = values_told old new at n body front back joins spans main.0 wrote_head wrote_main;
+      size = main.size;
+      atoms = ap₂ (λ a b. a + b) head.atoms joins.used;
+      tail = main.tail;
+      values = values_told old new at n body front back joins spans main.size wrote_head wrote_main;
       told = moves_by
           (BothStep old of_head of_main (Wrote at (texts_of old.main.size front))
           (Wrote (at - old.head.atoms) (texts_of old.main.size back)))
@@ -379,10 +392,11 @@ write_err : (at n : ℕ) (body front back : List ℕ) (failed : Failed) (old new
     → WriteCall old.main.size at body (joined_disk old) (joined_disk new) (Err failed)
 write_err at n body front back failed old new joins spans head main (of_head, turn_head)
     (of_main, turn_main) tried_head tried_main cause = record {
-      size = main.0;
-      atoms = ap₂ (λ a b. a + b) head.1 joins.used;
+      size = main.size;
+      atoms = ap₂ (λ a b. a + b) head.atoms joins.used;
+      tail = main.tail;
       values =
-          values_left old new at n body front back joins spans main.0 head.0 head.1 main.1
+          values_left old new at n body front back joins spans main.size head.size head.atoms main.atoms
           tried_head tried_main;
       told = joint_moves_or_not of_head of_main (Tried at (texts_of old.main.size front))
           (Tried (at - old.head.atoms) (texts_of old.main.size back))
@@ -412,14 +426,14 @@ pub joint_write : (at n : ℕ) (body front back : List ℕ) (old new : Joint)
     → WriteCall old.main.size at body (joined_disk old) (joined_disk new) result
 joint_write at n body front back old new (Ok tt) joins spans (inl (none, same, call)) =
     write_ok false true at n body front back old new joins spans (same_sizes _ _ same)
-    (call.size, call.atoms) refl
+    (write_sizes _ _ _ _ _ _ _ call) refl
     (λ _. none) (λ is. absurd (cc))
     (turned_not old.calls _ old.head.told new.head.told (ap (λ one. one.told) same))
     (turned old.calls _ old.main.told new.main.told call.told)
     (written_none old.main.size at front old.head new.head same none) call.values
     (cause_right _ _ _ _ _ call.cause (ap (λ one. one.faults) same))
 joint_write at n body front back old new (Ok tt) joins spans (inr (inl (done, same, call))) =
-    write_ok true false at n body front back old new joins spans (call.size, call.atoms)
+    write_ok true false at n body front back old new joins spans (write_sizes _ _ _ _ _ _ _ call)
     (same_sizes _ _ same) refl
     (λ is. absurd (cc)) (λ _. done refl)
     (turned old.calls _ old.head.told new.head.told call.told)
@@ -428,29 +442,29 @@ joint_write at n body front back old new (Ok tt) joins spans (inr (inl (done, sa
     (written_none old.main.size (at - old.head.atoms) back old.main new.main same (done refl))
     (cause_left _ _ _ _ _ call.cause (ap (λ one. one.faults) same))
 joint_write at n body front back old new (Ok tt) joins spans (inr (inr (first, call))) =
-    write_ok true true at n body front back old new joins spans (first.size, first.atoms)
-    (call.size, call.atoms) refl
+    write_ok true true at n body front back old new joins spans (write_sizes _ _ _ _ _ _ _ first)
+    (write_sizes _ _ _ _ _ _ _ call) refl
     (λ is. absurd (cc)) (λ is. absurd (cc))
     (turned old.calls _ old.head.told new.head.told first.told)
     (turned old.calls _ old.main.told new.main.told call.told)
     first.values call.values (cause_right _ _ _ _ _ call.cause (first.cause.held refl))
 joint_write at n body front back old new (Err failed) joins spans (inl (none, same, call)) =
     write_err at n body front back failed old new joins spans (same_sizes _ _ same)
-    (call.size, call.atoms)
+    (write_sizes _ _ _ _ _ _ _ call)
     (not_turn old.calls _ old.head new.head same)
     (any_turn old.calls _ old.main.told new.main.told call.told)
     (tried_alone old.main.size at front old.head new.head same) call.values
     (cause_right _ _ _ _ _ call.cause (ap (λ one. one.faults) same))
 joint_write at n body front back old new (Err failed) joins spans (inr (inl (done, same, call))) =
-    write_err at n body front back failed old new joins spans (call.size, call.atoms)
+    write_err at n body front back failed old new joins spans (write_sizes _ _ _ _ _ _ _ call)
     (same_sizes _ _ same)
     (any_turn old.calls _ old.head.told new.head.told call.told)
     (not_turn old.calls _ old.main new.main same)
     call.values (tried_alone old.main.size (at - old.head.atoms) back old.main new.main same)
     (cause_left _ _ _ _ _ call.cause (ap (λ one. one.faults) same))
 joint_write at n body front back old new (Err failed) joins spans (inr (inr (first, call))) =
-    write_err at n body front back failed old new joins spans (first.size, first.atoms)
-    (call.size, call.atoms)
+    write_err at n body front back failed old new joins spans (write_sizes _ _ _ _ _ _ _ first)
+    (write_sizes _ _ _ _ _ _ _ call)
     (any_turn old.calls (Tried at (texts_of old.main.size front)) old.head.told new.head.told
     (inr (moves_by (Wrote at (texts_of old.main.size front))
     (Tried at (texts_of old.main.size front)) (under old.calls old.head.told) new.head.told

@@ -11,6 +11,7 @@ abbrev pub nothing : ℕ → Device
 nothing size = record {
   size = size;
   atoms = 0;
+  tail = 0;
   values = Some [];
   told = Some (record { now = []; past = []; mark = Some 0 });
   faults = 0;
@@ -123,11 +124,12 @@ abbrev pub both_faults : ℕ → ℕ → ℕ
 both_faults head main = min (head + main) (2 ^ 64 - 1)
 
 -- what a disk of two shows: the atoms of the head, and behind them those of the main disk that are
--- used
+-- used; its end is that of the main disk
 abbrev pub joined_disk : Joint → Device
 joined_disk joint = record {
   size = joint.main.size;
   atoms = joint.head.atoms + joint.used;
+  tail = joint.main.tail;
   values = both_values (joint.used * joint.main.size) joint.head.values joint.main.values;
   told = joint_told joint;
   faults = both_faults joint.head.faults joint.main.faults;

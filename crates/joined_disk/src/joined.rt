@@ -230,6 +230,10 @@ impl<D: Disk> Disk for JoinedDisk<D> {
         self.base + self.used
     }
 
+    fn tail(&self) -> u64 {
+        self.main.tail()
+    }
+
     fn read(&mut self, at: u64, buf: &mut [u8]) -> Result<(), Failed>
         requires { IsInDisk (joined_disk (joint_in self.old)).size
             (joined_disk (joint_in self.old)).atoms at (length buf.old) }

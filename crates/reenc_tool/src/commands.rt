@@ -20,7 +20,7 @@ use crate::sessions::{lanes_for, serve_volume};
 use crate::showing::show;
 use crate::starting::start;
 use crate::text::{count_sessions, print};
-use bays::{Bay, BayFault, Link};
+use bays::{Bay, BayFault, Link, Manner};
 use command_line::{Command, Refusal, Serve, read_words};
 use io_edge::{Gate, Seeds, Sink};
 use sector_cipher::Context;
@@ -118,7 +118,11 @@ where
         };
         return unserved(alloc, cause, Some(disk), Vec::new(alloc));
     }
-    match bay.links(alloc, words.address, words.workers, words.sessions) {
+    let manner = Manner {
+        idle_timeout: words.idle_timeout,
+        verbose: words.verbose,
+    };
+    match bay.links(alloc, words.address, words.workers, words.sessions, manner) {
         Ok(links) => serve_disk(rt, alloc, disk, links, lanes_for(words.workers), gate),
         Err(fault) => {
             let cause = cause_by(Failing::Listening, fault, bay.faults());

@@ -23,7 +23,7 @@ use crate::history::Pass;
 use crate::resuming::ended_unresumed;
 use crate::sessions::{lanes_for, serve_volume};
 use crate::volume_refusal::VolumeRefusal;
-use bays::{Bay, Link};
+use bays::{Bay, Link, Manner};
 use cipher_laws::SectorCipher;
 use command_line::Serve;
 use converted_beside::conversions_end_beside_clients;
@@ -220,7 +220,11 @@ where
         ⟦<Context as SectorCipher>⟧.sealed ⟦<Context as SectorCipher>⟧.opened volume.map.atom
         volume.keys) begun (outcome_of result)) }
 {
-    match bay.links(alloc, words.address, words.workers, words.sessions) {
+    let manner = Manner {
+        idle_timeout: words.idle_timeout,
+        verbose: words.verbose,
+    };
+    match bay.links(alloc, words.address, words.workers, words.sessions, manner) {
         Ok(links) => serve_joined(rt, alloc, volume, links, gate, words.converts),
         Err(fault) => {
             let cause = cause_by(Failing::Listening, fault, bay.faults());

@@ -14,6 +14,10 @@ atom_of disk = disk.atom
 abbrev pub atoms_of : MemDisk → ℕ
 atoms_of disk = disk.atoms
 
+-- how many bytes lie behind the last whole atom
+abbrev pub tail_of : MemDisk → ℕ
+tail_of disk = disk.tail
+
 -- how many atoms some bytes fill
 abbrev pub atoms_in : MemDisk → List ℕ → ℕ
 atoms_in disk bytes = length bytes / disk.atom
@@ -40,6 +44,7 @@ abbrev pub device_of : MemDisk → Device
 device_of disk = record {
   size = disk.atom;
   atoms = disk.atoms;
+  tail = disk.tail;
   values = Some disk.bytes.items;
   told = Some (told_of disk);
   faults = disk.plan.faults;

@@ -24,6 +24,7 @@ use std::alloc::{AllocError, AllocFailed, Global};
 pub struct MemDisk {
     atom: u32,
     atoms: u64,
+    tail: u64,
     start: Vec<u8>,
     bytes: Vec<u8>,
     calls: CallRecord,
@@ -47,6 +48,7 @@ impl Drop for MemDisk {
         let MemDisk {
             atom: _,
             atoms: _,
+            tail: _,
             start,
             bytes,
             calls,
@@ -60,7 +62,7 @@ impl Drop for MemDisk {
 
 impl MemDisk {
     ghost use Rattle.sector_disk.specs.Mem.{atom_of, atoms_of, atoms_in, bytes_of, told_of};
-    ghost use Rattle.sector_disk.specs.Mem.{limits_of};
+    ghost use Rattle.sector_disk.specs.Mem.{limits_of, tail_of, device_of};
 
     /// A disk of so many atoms of so many bytes, all zero. Its record has room for so many device
     /// calls and written atoms, whose memory it takes now. The calls of the numbers in `fails`,
@@ -75,6 +77,7 @@ impl MemDisk {
         requires { IsDisk atom atoms }
         ensures atom { IfOk result (λ disk. atom_of disk ≡ atom) }
         ensures atoms { IfOk result (λ disk. atoms_of disk ≡ atoms) }
+        ensures tail { IfOk result (λ disk. tail_of disk ≡ 0) }
         ensures zeros { IfOk result (λ disk. bytes_of disk ≡ replicate (atoms * atom) 0) }
         ensures told { IfOk result (λ disk. told_of disk
             ≡ fresh (replicate atoms (sure (replicate atom 0)))) }
@@ -87,6 +90,7 @@ impl MemDisk {
         Ok(MemDisk {
             atom,
             atoms,
+            tail: 0,
             start,
             bytes,
             calls: CallRecord::new(alloc, atom, room)?,
@@ -100,11 +104,21 @@ impl MemDisk {
     pub fn stop_after(&mut self, k: u64)
         ensures atom { atom_of self.new ≡ atom_of self.old }
         ensures atoms { atoms_of self.new ≡ atoms_of self.old }
+        ensures tail { tail_of self.new ≡ tail_of self.old }
         ensures bytes { bytes_of self.new ≡ bytes_of self.old }
         ensures told { told_of self.new ≡ told_of self.old }
         ensures limits { limits_of self.new ≡ record (limits_of self.old) { stop = Some k } }
     {
         self.stop = Some(k);
+    }
+
+    /// Gives the disk so many bytes behind its last whole atom. No call reaches them, and nothing
+    /// else of it changes.
+    pub fn set_tail(&mut self, tail: u64)
+        ensures tail { device_of self.new ≡ record (device_of self.old) { tail = tail } }
+        ensures limits { limits_of self.new ≡ limits_of self.old }
+    {
+        self.tail = tail;
     }
 
     /// How many device calls there were since the disk was made, those that failed among them.
@@ -121,6 +135,7 @@ impl MemDisk {
         requires { IsChoice choice }
         ensures atom { IfOk result (λ disk. atom_of disk ≡ atom_of self) }
         ensures atoms { IfOk result (λ disk. atoms_of disk ≡ atoms_of self) }
+        ensures tail { IfOk result (λ disk. tail_of disk ≡ tail_of self) }
         ensures told { IfOk result (λ disk. told_of disk
             ≡ fresh (sures (image_of choice (told_of self).now))) }
         ensures image { IfOk result (λ disk.
@@ -156,6 +171,7 @@ impl MemDisk {
         requires { length content.items ≡ atoms_of self * atom_of self }
         ensures atom { atom_of result ≡ atom_of self }
         ensures atoms { atoms_of result ≡ atoms_of self }
+        ensures tail { tail_of result ≡ tail_of self }
         ensures told { told_of result
             ≡ fresh (sures (blocks_of (atom_of self) (atoms_of self) content.items)) }
         ensures limits { limits_of result ≡ fresh_limits (limits_of self).room [] }
@@ -188,6 +204,7 @@ impl MemDisk {
         requires room { ¬ IsFull (limits_of self.old) (atoms_in self.old body.now) }
         ensures atom { atom_of self.new ≡ atom_of self.old }
         ensures atoms { atoms_of self.new ≡ atoms_of self.old }
+        ensures tail { tail_of self.new ≡ tail_of self.old }
         ensures bytes { bytes_of self.new ≡ bytes_of self.old }
         ensures told { told_of self.new ≡ then_table (told_of self.old)
             (changed_by kind (told_of self.old).now at
@@ -204,6 +221,7 @@ impl MemDisk {
         requires room { ¬ IsFull (limits_of self.old) (atoms_in self.old body.now) }
         ensures atom { atom_of self.new ≡ atom_of self.old }
         ensures atoms { atoms_of self.new ≡ atoms_of self.old }
+        ensures tail { tail_of self.new ≡ tail_of self.old }
         ensures bytes { bytes_of self.new
             ≡ pasted (bytes_of self.old) (at * atom_of self.old) body.now }
         ensures told { told_of self.new
@@ -246,6 +264,10 @@ impl Disk for MemDisk {
 
     fn atoms(&self) -> u64 {
         self.atoms
+    }
+
+    fn tail(&self) -> u64 {
+        self.tail
     }
 
     /// Fails exactly where the call's number is one of those that are to fail, where it comes after

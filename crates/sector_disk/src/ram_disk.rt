@@ -41,6 +41,7 @@ impl Disk for RamDisk {
     ghost device = { λ d. record {
       size = d.atom;
       atoms = d.atoms;
+      tail = 0;
       values = Some d.bytes.items;
       told = None;
       faults = 0;
@@ -66,6 +67,10 @@ impl Disk for RamDisk {
 
     fn atoms(&self) -> u64 {
         self.atoms
+    }
+
+    fn tail(&self) -> u64 {
+        0
     }
 
     fn read(&mut self, at: u64, buf: &mut [u8]) -> Result<(), Failed> {

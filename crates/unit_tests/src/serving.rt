@@ -1,5 +1,5 @@
 use crate::same::same;
-use bays::{Bay, MemBay, MemLink};
+use bays::{Bay, Manner, MemBay, MemLink};
 use block_server::{Served, Standing, serve};
 use io_edge::{ListSink, ListSource, OpenGate};
 use nbd_session::{Ending, SessionEnd};
@@ -58,7 +58,7 @@ fn serve_one<R: AllocGlobal + Threads + Wait + Sync>(
 ) -> Result<Served<RamDisk, MemLink>, Fail> {
     let alloc = rt.alloc();
     let mut bay = make_bay(alloc)?;
-    let Ok(links) = bay.links(alloc, "a", 1, 1) else {
+    let Ok(links) = bay.links(alloc, "a", 1, 1, Manner::QUIET) else {
         return Err(Fail::new("no links"));
     };
     let Ok(volume) = Volume::plain(alloc, RamDisk::new(alloc, 512, 8)?, 2) else {

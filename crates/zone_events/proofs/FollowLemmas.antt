@@ -112,6 +112,7 @@ module _ {C : Type 0} (sector : C → ℕ) (w : Worker C) (working : IsWorking s
     disk = record {
       size = w.loaded.valid.sizes.atom;
       atoms = all_atoms w.loaded.valid.sizes;
+      tail = 0;
       values = None;
       told = None;
       faults = 0;
