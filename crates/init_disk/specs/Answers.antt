@@ -4,7 +4,7 @@ use Rattle.base_terms.specs.declared.failed.Failed.{Failed}
 use Rattle.header_report.specs.Examinations.{sizes_alone}
 use Rattle.init_disk.specs.Calls.{IsBegunOf, IsUnmadeOf, IsUnopenedOf}
 use Rattle.init_disk.specs.Tables.{TellsThroughout}
-use Rattle.init_disk.specs.Unlocking.{IsLinearOn, IsNotLinear, IsUnlockedOn}
+use Rattle.init_disk.specs.Unlocking.{IsLinearOn, IsNotLinear, IsUnlockedOn, WouldLoseOn}
 use Rattle.init_disk.specs.declared.making.MakeFault.{MakeFault}
 use Rattle.init_disk.specs.declared.refusal.Refusal.{Refusal}
 use Rattle.init_disk.specs.declared.refusal.Refusal.TheVariants as refusals
@@ -15,14 +15,16 @@ use Rattle.volume_opening.specs.Refusals.{IsUnopenedBy}
 use Rattle.volume_opening.specs.Shorts.{IsShort}
 use Rattle.volume_opening.specs.declared.refusal.Refusal.TheVariants as openings
 
--- The header and the key were found on a disk, which was only read. Then the conversion was begun
+-- The header and the key were found on a disk, which was only read, and nothing is lost by what is
+-- wished: no keyslot of another passphrase unasked, and no byte of the volume behind the last whole
+-- atom. Then the conversion was begun
 -- under them; or all was made, and a call by which it is written failed. Of a disk that told its
 -- bytes, each image of each table that it tells since the first sync stands for what they stood for.
 pub record IsBegunUnder (device : Device) (w : Wish) (pass seed : List ℕ) (back : Device)
     (result : Result (Unit {0}) Failed) : Type 0 where
   pub key : Option (List ℕ)
   pub read : Device
-  pub unlocked : IsUnlockedOn device pass key read
+  pub unlocked : IsUnlockedOn device w pass key read
   pub begun : IsBegunOf (sizes_alone device) key w pass seed read back result
   pub tables : (first : List ℕ) → device.values ≡ Some first
       → TellsThroughout (sizes_alone device) pass first begun.header begun.slot device back
@@ -40,7 +42,7 @@ pub record IsUnopenedUnder (device : Device) (w : Wish) (pass seed : List ℕ) (
     (back : Device) : Type 0 where
   pub key : Option (List ℕ)
   pub read : Device
-  pub unlocked : IsUnlockedOn device pass key read
+  pub unlocked : IsUnlockedOn device w pass key read
   pub unopened : IsUnopenedOf (sizes_alone device) key w pass seed read back cause
   pub short : (bytes : List ℕ) → device.values ≡ Some bytes → IsShort cause
 
@@ -49,7 +51,7 @@ pub record IsUnmadeUnder (device : Device) (w : Wish) (pass seed : List ℕ) (fa
     (back : Device) : Type 0 where
   pub key : Option (List ℕ)
   pub read : Device
-  pub unlocked : IsUnlockedOn device pass key read
+  pub unlocked : IsUnlockedOn device w pass key read
   pub unmade : IsUnmadeOf (sizes_alone device) w pass seed read back fault
 
 -- Why no conversion was begun on a disk, and what that leaves of it.
@@ -62,6 +64,12 @@ IsUnstartedBy device disk w pass seed (refusals.Unopened refusal) back =
     IsUnopenedBy device disk pass refusal None back × IsNotLinear (device disk) refusal
 IsUnstartedBy device disk w pass seed refusals.Linear back =
     IsLinearOn (device disk) (device back)
+IsUnstartedBy device disk w pass seed refusals.Memory back =
+    WouldLoseOn (device disk) w pass (device back) refusals.Memory
+IsUnstartedBy device disk w pass seed (refusals.Keyslots list) back =
+    WouldLoseOn (device disk) w pass (device back) (refusals.Keyslots list)
+IsUnstartedBy device disk w pass seed (refusals.Tail bytes) back =
+    WouldLoseOn (device disk) w pass (device back) (refusals.Tail bytes)
 IsUnstartedBy device disk w pass seed (refusals.Unmade fault) back =
     IsUnmadeUnder (device disk) w pass seed fault (device back)
 IsUnstartedBy device disk w pass seed refusals.Writing back =

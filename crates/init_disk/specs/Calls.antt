@@ -124,6 +124,9 @@ IsUnbegunOf sizes key w pass seed old new (refusals.Unopened (openings.Opening c
     IsUnopenedOf sizes key w pass seed old new cause
 IsUnbegunOf sizes key w pass seed old new (refusals.Unopened refusal) = ⊥
 IsUnbegunOf sizes key w pass seed old new refusals.Linear = ⊥
+IsUnbegunOf sizes key w pass seed old new refusals.Memory = ⊥
+IsUnbegunOf sizes key w pass seed old new (refusals.Keyslots list) = ⊥
+IsUnbegunOf sizes key w pass seed old new (refusals.Tail bytes) = ⊥
 IsUnbegunOf sizes key w pass seed old new (refusals.Unmade fault) =
     IsUnmadeOf sizes w pass seed old new fault
 IsUnbegunOf sizes key w pass seed old new refusals.Writing =

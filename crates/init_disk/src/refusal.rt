@@ -1,6 +1,8 @@
 // Why no conversion is begun on a disk.
 
 use crate::making::MakeFault;
+use json_members::Listed;
+use luks_slots::SlotKind;
 use sector_disk::Disk;
 
 /// Why no conversion of a disk's volume is begun: the first of these that it has, unless memory was
@@ -13,6 +15,15 @@ pub enum Refusal {
     Unopened(volume_opening::Refusal),
     /// The volume's segment isn't encrypted. It is tested before the passphrase is looked at.
     Linear,
+    /// Memory was wanted to list the keyslots that hold the volume's key.
+    Memory,
+    /// Besides the keyslot that the passphrase opens others hold the volume's key, which a
+    /// conversion would drop, and it isn't asked for: all that hold it, by number and kind. It is
+    /// tested once the passphrase gave the key.
+    Keyslots(Listed<(u64, SlotKind)>),
+    /// The volume goes to the end of the disk, and so many bytes of it lie there behind the last
+    /// whole atom, which a conversion wouldn't reach.
+    Tail(u64),
     /// What is to be written can't be made.
     Unmade(MakeFault),
     /// A device call failed by which the new keyslot, or the header that names it, is written. The

@@ -9,11 +9,13 @@ ghost use Rattle.reenc_recovery.specs.Calls.{DiskSyncsAndReads};
 ghost use Rattle.sector_disk.specs.Devices.{succeeded};
 ghost use Rattle.volume_opening.specs.declared.refusal.Refusal.TheVariants.{Opening};
 
+use crate::changes::tell_changes;
 use crate::checking::check_alone;
 use crate::laws::slots_keep_contents;
 use crate::making::make_slot;
 use crate::refusal::Refusal;
 use base_terms::Failed;
+use io_edge::Gate;
 use luks_copies::Repair;
 use luks_init::Wish;
 use luks_store::Loaded;
@@ -23,6 +25,7 @@ use reenc_recovery::{
 use sector_disk::Disk;
 use slot_commit::{SlotCommit, write_slot};
 use std::alloc::Global;
+use volume_opening::note_repair;
 
 /// What was checked and made, before anything is written.
 #[derive(Drop)]
@@ -87,14 +90,15 @@ fn make_ready<D: Disk>(
 
 /// Begins the conversion of the volume under the header of a disk and the key of its segment: a
 /// sync, the reads, all checks, the repair of a copy that lacks or is older, and then the new
-/// keyslot and the next header. The disk is handed back.
-pub(crate) fn start<D: Disk>(
+/// keyslot and the next header. The gate is told before what changes. The disk is handed back.
+pub(crate) fn start<D: Disk, G: Gate>(
     alloc: Global,
     disk: D,
     keys: &SideKeys,
     wish: &Wish,
     pass: &[u8],
     seed: &[u8; 32],
+    gate: &G,
 ) -> (D, Result<(), Refusal>)
     requires { IsWish wish.now (D.device disk).size }
     ensures begun { IfOk result.1 (λ _. IsBegunOf (sizes_alone (D.device disk)) keys.now.new
@@ -112,10 +116,12 @@ pub(crate) fn start<D: Disk>(
         Err(refusal) => return (disk, Err(refusal)),
     };
     let Ready {
-        header: _header,
+        header,
         repair,
         slot,
     } = ready;
+    tell_changes(alloc, gate, header.valid(), &keys.new, wish);
+    note_repair(alloc, gate, &header);
     match mend(&mut disk, repair) {
         Ok(()) => {}
         Err(Failed) => {

@@ -5,6 +5,8 @@ ghost use Rattle.init_disk.specs.Unlocking.{IsLockedBy, IsUnlockedOn, linear_by}
 ghost use Rattle.luks_rules.specs.Idles.{idle_of};
 
 use crate::refusal::Refusal;
+use crate::slips::lose_nothing;
+use luks_init::Wish;
 use luks_rules::Valid;
 use luks_slots::Key;
 use sector_disk::Disk;
@@ -27,16 +29,18 @@ fn is_linear(valid: &Valid) -> bool
 /// # Errors
 ///
 /// No header was read, a conversion is under way, the volume isn't encrypted, the passphrase doesn't
-/// have 1 to 512 bytes, or no keyslot gave a key.
+/// have 1 to 512 bytes, or no keyslot gave a key; or by the conversion that is wished keyslots of
+/// other passphrases would go unasked, or bytes of the volume lie behind the disk's last whole atom.
 pub(crate) fn unlock_volume<D: Disk>(
     alloc: Global,
     disk: D,
     pass: &[u8],
+    wish: &Wish,
 ) -> (D, Result<Option<Key>, Refusal>)
     ensures unlocked { IfOk result.1
-        (λ key. IsUnlockedOn (D.device disk) pass.now key (D.device result.0)) }
+        (λ key. IsUnlockedOn (D.device disk) wish.now pass.now key (D.device result.0)) }
     ensures locked { IfErr result.1
-        (λ refusal. IsLockedBy D.device disk pass.now refusal result.0) }
+        (λ refusal. IsLockedBy D.device disk wish.now pass.now refusal result.0) }
 {
     let (disk, loaded) = read_header(alloc, disk);
     let mut disk = disk;
@@ -51,7 +55,10 @@ pub(crate) fn unlock_volume<D: Disk>(
         return (disk, Err(Refusal::Linear));
     }
     match find_key(alloc, loaded.valid(), &mut disk, pass) {
-        Ok(key) => (disk, Ok(key)),
+        Ok(key) => match lose_nothing(alloc, loaded.valid(), disk.tail(), wish) {
+            Ok(()) => (disk, Ok(key)),
+            Err(refusal) => (disk, Err(refusal)),
+        },
         Err(refusal) => (disk, Err(Refusal::Unopened(refusal))),
     }
 }

@@ -1,6 +1,7 @@
 pub mod Devices
 pub mod Functions
 pub mod Stripes
+pub mod Kinds
 pub mod Slots
 pub mod Unlocks
 pub mod Laws

@@ -44,6 +44,7 @@ pub record IsRead (before now : Told) : Type 0 where
 pub record KeepsBytes (old new : disk_type) : Type 0 where
   pub size : new.size ≡ old.size
   pub atoms : new.atoms ≡ old.atoms
+  pub tail : new.tail ≡ old.tail
   pub values : new.values ≡ old.values
   pub later : old.faults ≤ new.faults
   pub told : (now : Told) → new.told ≡ Some now
@@ -54,6 +55,7 @@ pub record KeepsBytes (old new : disk_type) : Type 0 where
 pub record IsUnwritten (old new : Joint) : Type 0 where
   pub size : (joined_disk new).size ≡ (joined_disk old).size
   pub atoms : (joined_disk new).atoms ≡ (joined_disk old).atoms
+  pub tail : (joined_disk new).tail ≡ (joined_disk old).tail
   pub values : (joined_disk new).values ≡ (joined_disk old).values
   pub told : (now : Told) → (joined_disk new).told ≡ Some now
       → (before : Told) × ((joined_disk old).told ≡ Some before) × IsRead before now

@@ -12,6 +12,7 @@ keeps_bytes : (old new : Joint) → IsUnwritten old new
 keeps_bytes old new unwritten = record {
   size = unwritten.size;
   atoms = unwritten.atoms;
+  tail = unwritten.tail;
   values = unwritten.values;
   later = unwritten.later;
   told = λ now is.

@@ -44,6 +44,7 @@ module _ {C D : Type 0} {sector : C → ℕ} {sealed opened : C → ℕ → List
   knows-refused refusals.Idle refused = tt
   knows-refused (refusals.Passphrase count) refused = tt
   knows-refused (refusals.Slots side fault) refused = tt
+  knows-refused (refusals.Tail bytes) refused = tt
   knows-refused (refusals.Unopened cause) refused =
       knows-found refused.2.keys refused.2.read refused.2.under refused.2.begins
 
@@ -68,6 +69,7 @@ module _ {C D : Type 0} {sector : C → ℕ} {sealed opened : C → ℕ → List
   keeps-refused refusals.Idle refused = tt
   keeps-refused (refusals.Passphrase count) refused = tt
   keeps-refused (refusals.Slots side fault) refused = tt
+  keeps-refused (refusals.Tail bytes) refused = tt
   keeps-refused (refusals.Unopened cause) refused = keeps-vain cause refused.0 refused.2
 
 -- ---- so `serve` says

@@ -11,6 +11,7 @@ mod commands;
 mod ended;
 mod history;
 mod making;
+mod notices;
 mod opening;
 mod refusal_text;
 mod resuming;

@@ -110,12 +110,13 @@ fn only_disk<D: Disk>(unopened: Unopened<D>) -> D
 
 /// Opens the volume on a disk under a passphrase, with so many lanes. Where a conversion of it is under
 /// way that is taken up.
-fn open_volume<R: Threads + Sync, D: Disk>(
+fn open_volume<R: Threads + Sync, D: Disk, G: Gate>(
     rt: &R,
     alloc: Global,
     disk: D,
     pass: &[u8],
     lanes: u32,
+    gate: &G,
 ) -> Result<Volume<JoinedDisk<D>, Context>, NoVolume<D>>
     requires { 0 < lanes }
     ensures opened { IfOk result (IsAnyVolume ⟦<Context as SectorCipher>⟧.sector
@@ -125,12 +126,12 @@ fn open_volume<R: Threads + Sync, D: Disk>(
         ⟦<Context as SectorCipher>⟧.sealed ⟦<Context as SectorCipher>⟧.opened D.device disk
         pass.now) }
 {
-    match open_by_passphrase(alloc, disk, pass, lanes) {
+    match open_by_passphrase(alloc, disk, pass, lanes, gate) {
         Ok(volume) => Ok(volume),
         Err(unopened) => match &unopened.refusal {
             Refusal::InProgress => {
                 let disk = only_disk(unopened);
-                match take_up_conversion(rt, alloc, disk, pass, lanes) {
+                match take_up_conversion(rt, alloc, disk, pass, lanes, gate) {
                     Ok(volume) => Ok(volume),
                     Err(refused) => Err(NoVolume::Midway(refused)),
                 }
@@ -183,7 +184,7 @@ where
     stops_beside_clients_stand_under_passphrases::<Context>();
     conversions_end_beside_clients::<Context>();
     ends_beside_clients_stand_under_passphrases::<Context>();
-    match open_volume(rt, alloc, disk, pass, lanes_for(words.workers)) {
+    match open_volume(rt, alloc, disk, pass, lanes_for(words.workers), gate) {
         Ok(volume) => serve_opened(rt, alloc, bay, volume, words, gate),
         Err(NoVolume::Idle(unopened)) => ended_unopened(alloc, unopened),
         Err(NoVolume::Midway(refused)) => ended_unresumed(alloc, refused),
@@ -261,7 +262,7 @@ where
     requires some { 0 < length links.items }
     requires few { length links.items ≤ 16 }
     requires bound { (k : ℕ) (link : L) → k < length links.items →
-        (L.state (slice_index_or links.items k link)).bound ≤ 65535 }
+        (L.state (slice_index_or links.items k link)).bound ≤ 4294967295 }
     ensures status { result.status ≡ status_of result.cause }
     ensures ended { RanAs D.device L.state converts volume (seals_of
         ⟦<Context as SectorCipher>⟧.sealed ⟦<Context as SectorCipher>⟧.opened volume.map.atom

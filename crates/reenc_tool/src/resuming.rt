@@ -73,6 +73,7 @@ impl<'w> Cause<'w> {
             Refusal::Idle => Cause::WrongState,
             Refusal::Passphrase(length) => Cause::of_passphrase(*length as u64),
             Refusal::Slots(_, fault) => Cause::of_slots(fault, faults),
+            Refusal::Tail(bytes) => Cause::of_tail(*bytes),
             Refusal::Unopened(cause) => Cause::of_conversion(cause, faults),
         }
     }

@@ -77,7 +77,7 @@ where
     requires some { 0 < length links.items }
     requires few { length links.items ≤ 16 }
     requires bound { (k : ℕ) (link : L) → k < length links.items →
-        (L.state (slice_index_or links.items k link)).bound ≤ 65535 }
+        (L.state (slice_index_or links.items k link)).bound ≤ 4294967295 }
     ensures served { IsServedAs L.state converts volume (seals_of ⟦<Context as SectorCipher>⟧.sealed
         ⟦<Context as SectorCipher>⟧.opened volume.map.atom volume.keys) (D.device result.0)
         links.items (came_of result.1)

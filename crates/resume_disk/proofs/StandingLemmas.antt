@@ -199,6 +199,7 @@ module _ {D : Type 0} (device : D → Device) (disk back : D) (pass first : List
         slots_short none.now
         (subst (λ (z : Sizes). progress_of stored.valid.meta z ≡ Some none.now) found.sizes none.known)
         read new side fault (kept.values ∙ told) none.lacks
+    keys_short read new (refusals.Tail bytes) kept none = absurd none
     keys_short read new (refusals.Unopened cause) kept none = absurd none
 
   -- ---- by the bytes' header the volume may be led on
@@ -226,6 +227,7 @@ module _ {D : Type 0} (device : D → Device) (disk back : D) (pass first : List
   locked_short (refusals.Slots side fault) by =
       keys_short by.stored by.found by.read (device back) (refusals.Slots side fault) by.header_read
       by.none
+  locked_short (refusals.Tail bytes) by = tt
   locked_short (refusals.Unopened cause) by =
       keys_short by.stored by.found by.read (device back) (refusals.Unopened cause) by.header_read
       by.none
@@ -241,6 +243,7 @@ module _ {D : Type 0} (device : D → Device) (disk back : D) (pass first : List
       locked_short (refusals.Passphrase count) locked
   refused_cut sector sealed opened (refusals.Slots side fault) header (none, locked) =
       locked_short (refusals.Slots side fault) locked
+  refused_cut sector sealed opened (refusals.Tail bytes) header (none, locked) = tt
   refused_cut sector sealed opened (refusals.Unopened cause) header (joint, are, under) =
       may_lead cause under.keys (under.refused first told) (under.short first told)
 

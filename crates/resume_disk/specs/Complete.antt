@@ -60,6 +60,7 @@ WantsBefore (refusals.Header fault) = WantsForHeader fault
 WantsBefore refusals.Idle = ⊥
 WantsBefore (refusals.Passphrase count) = ⊥
 WantsBefore (refusals.Slots side fault) = WantsForSlots fault
+WantsBefore (refusals.Tail bytes) = Unit {0}
 WantsBefore (refusals.Unopened cause) = WantsForOpening cause
 
 -- Memory, numbers, or room for a text, of the worker; or two atoms of one block, an old one and a new one,

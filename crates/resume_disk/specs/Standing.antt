@@ -40,12 +40,14 @@ CutsOpening causes.NotBuilt = ⊥
 CutsOpening (causes.SeqEnd left wanted) = Unit {0}
 CutsOpening (causes.JsonFull length limit) = Unit {0}
 
--- memory or a device call, also while the header was read, or the keyslots
+-- memory or a device call, also while the header was read, or the keyslots; or bytes of the volume lie
+-- behind the last whole atom of its disk, as its refusal says exactly
 abbrev pub IsCutBy : Refusal → Type 0
 IsCutBy (refusals.Header fault) = IsUnread fault
 IsCutBy refusals.Idle = ⊥
 IsCutBy (refusals.Passphrase count) = ⊥
 IsCutBy (refusals.Slots side fault) = IsCutShort (Err fault)
+IsCutBy (refusals.Tail bytes) = Unit {0}
 IsCutBy (refusals.Unopened cause) = CutsOpening cause
 
 -- or it was led on, and its worker ended so as it says

@@ -48,6 +48,7 @@ fn wish(resilience: Guard) -> Wish
         direction: Direction::Forward,
         resilience,
         hotzone_size: 65536,
+        drop_keyslots: false,
     }
 }
 

@@ -8,8 +8,10 @@ ghost use Rattle.luks_store.specs.Loads.{HasCause};
 ghost use Rattle.volume_opening.specs.Openings.{IsFound, IsKeyFound, IsOpenedBy};
 ghost use Rattle.volume_opening.specs.Refusals.{IsNoKeyFound, IsUnopenedBy};
 
+use crate::notices::note_repair;
 use crate::refusal::{Refusal, Unopened};
 use cipher_laws::SectorCipher;
+use io_edge::Gate;
 use joined_disk::JoinedDisk;
 use luks_rules::Valid;
 use luks_slots::{Key, unlock};
@@ -83,16 +85,17 @@ pub fn find_key<D: Disk>(
 /// The volume on a disk, with so many lanes, under the header that the disk has and the key that
 /// its keyslots give to a passphrase of 1 to 512 bytes. The header is read, and the keyslots; then
 /// the disk is synced, the header is read and checked once more, and a copy of it that lacks or is
-/// older is written anew. Nothing is written before all checks have passed.
+/// older is written anew, which the gate is told. Nothing is written before all checks have passed.
 ///
 /// # Errors
 ///
 /// Why no volume was opened, with the disk.
-pub fn open_by_passphrase<D: Disk>(
+pub fn open_by_passphrase<D: Disk, G: Gate>(
     alloc: Global,
     disk: D,
     pass: &[u8],
     lanes: u32,
+    gate: &G,
 ) -> Result<Volume<JoinedDisk<D>, Context>, Unopened<D>>
     requires { 0 < lanes }
     ensures opened { IfOk result (IsOpenedBy ⟦<Context as SectorCipher>⟧.sector
@@ -123,6 +126,7 @@ pub fn open_by_passphrase<D: Disk>(
             });
         }
     };
+    note_repair(alloc, gate, &header);
     let keys = SideKeys {
         old: None,
         new: key,

@@ -60,6 +60,7 @@ fn wish_of(words: [&str; 5]) -> Result<Wish> {
         direction: direction_of(direction),
         resilience: guard_of(guard),
         hotzone_size,
+        drop_keyslots: false,
     })
 }
 
