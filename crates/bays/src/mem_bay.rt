@@ -29,7 +29,6 @@ const KEY_BYTES: usize = 513;
 
 /// A bay in memory. Its calls fail as they were told to, by their numbers counted from 0, and where
 /// a name or the address is unknown; a call that fails changes nothing but the counts.
-#[derive(Debug)]
 pub struct MemBay {
     disks: Vec<(String, MemDisk)>,
     keys: Vec<(String, Bytes)>,

@@ -8,7 +8,7 @@ ghost use Rattle.std.specs.Prelude.{◌≡◌, ◌≤◌, ◌↔◌, IsTrue};
 ghost use Rattle.block_range.specs.Blocks.{SharesBlock, len_of};
 
 /// The blocks from `start` on that are below `end`.
-#[derive(Clone, Copy, Debug, PartialEq, Eq)]
+#[derive(Clone, Copy, PartialEq, Eq)]
 pub struct BlockRange {
     /// The number of the first block.
     pub start: u64,

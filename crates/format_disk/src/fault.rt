@@ -1,7 +1,7 @@
 // Why no volume is made.
 
 /// What doesn't fit, the first in this order; or memory was wanted, which may come before any.
-#[derive(Clone, Copy, Debug, PartialEq, Eq)]
+#[derive(Clone, Copy, PartialEq, Eq)]
 pub enum FormatFault {
     Memory,
     /// The keyslot's area has more bytes than the keyslots area; or the copies of the header and

@@ -119,7 +119,7 @@ impl Told {
 }
 
 /// How far a conversion is, and how long it took to convert so many blocks.
-#[derive(Clone, Copy, Debug)]
+#[derive(Clone, Copy)]
 pub struct Course {
     pub converted: Converted,
     pub moved: u64,

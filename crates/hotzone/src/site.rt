@@ -17,7 +17,7 @@ const MOST_BYTES: u32 = 1_048_576;
 const DIGEST: u32 = 32;
 
 /// What is saved of a zone's blocks before they are written anew.
-#[derive(Clone, Copy, Debug, PartialEq, Eq)]
+#[derive(Clone, Copy, PartialEq, Eq)]
 pub enum Guard {
     /// Their old atoms.
     Journal,
@@ -27,7 +27,7 @@ pub enum Guard {
 }
 
 /// The blocks of a zone, and where its calls lie on the disk.
-#[derive(Clone, Copy, Debug, PartialEq, Eq)]
+#[derive(Clone, Copy, PartialEq, Eq)]
 pub struct Site {
     /// Its blocks; it has none where no old block is left.
     pub blocks: BlockRange,

@@ -30,10 +30,18 @@ use std::thread::Threads;
 use volume_machine::Keys;
 
 /// A conversion that goes on, zone by zone, one device call a step.
-#[derive(Drop)]
 pub struct Zone<C: SectorCipher + Copy> {
     worker: Worker<C>,
     scratch: Scratch,
+}
+
+// By hand, so that a value that is dropped in place is one call to the prover.
+impl<C: SectorCipher + Copy> Drop for Zone<C> {
+    fn drop(self) {
+        let Zone { worker, scratch } = self;
+        drop(worker);
+        drop(scratch);
+    }
 }
 
 impl<C: SectorCipher + Copy> Model for Zone<C> {

@@ -17,7 +17,7 @@ use slot_commit::SlotCommit;
 use std::alloc::{AllocError, Global};
 
 /// Why what is to be written can't be made: the first in this order.
-#[derive(Clone, Copy, Debug, PartialEq, Eq)]
+#[derive(Clone, Copy, PartialEq, Eq)]
 pub enum MakeFault {
     /// No conversion can begin; or memory was wanted, which may come before any.
     Unready(InitFault),

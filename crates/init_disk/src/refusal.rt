@@ -7,7 +7,7 @@ use sector_disk::Disk;
 
 /// Why no conversion of a disk's volume is begun: the first of these that it has, unless memory was
 /// wanted or a device call failed before.
-#[derive(Debug, Drop)]
+#[derive(Drop)]
 pub enum Refusal {
     /// The volume isn't opened by the passphrase: there is no header, a conversion is under way,
     /// the passphrase doesn't have 1 to 512 bytes, no keyslot gave a key, or what was found once

@@ -1,5 +1,5 @@
 /// Where a thread may be held.
-#[derive(Clone, Copy, Debug, PartialEq, Eq)]
+#[derive(Clone, Copy, PartialEq, Eq)]
 pub enum Place {
     /// Before it asks again for a range that it waits for.
     Waiting,
@@ -10,7 +10,7 @@ pub enum Place {
 }
 
 /// How far a conversion is.
-#[derive(Clone, Copy, Debug, PartialEq, Eq)]
+#[derive(Clone, Copy, PartialEq, Eq)]
 pub struct Converted {
     /// How many blocks are new.
     pub done: u64,
@@ -35,7 +35,7 @@ pub trait Gate {
 }
 
 /// A gate that holds nobody, and takes no notes.
-#[derive(Clone, Copy, Debug)]
+#[derive(Clone, Copy)]
 pub struct OpenGate;
 
 impl Gate for OpenGate {

@@ -22,14 +22,14 @@ use volume_machine::{Ask, Keys, Open};
 const MOST_BYTES: usize = 1_048_576;
 
 /// What of a volume never changes: the bytes of a block, and how many blocks there are.
-#[derive(Clone, Copy, Debug, PartialEq, Eq)]
+#[derive(Clone, Copy, PartialEq, Eq)]
 pub struct Shape {
     pub atom: u32,
     pub blocks: u64,
 }
 
 /// Which call's answer a plan awaits.
-#[derive(Clone, Copy, Debug)]
+#[derive(Clone, Copy)]
 enum Stage {
     /// Its admit's, which will be refused.
     Refusing,
@@ -46,7 +46,7 @@ enum Stage {
 }
 
 /// The plan of one operation of a session.
-#[derive(Debug, Drop)]
+#[derive(Drop)]
 pub struct Plan {
     alloc: Global,
     shape: Shape,

@@ -20,7 +20,7 @@ use sector_disk::Disk;
 use std::alloc::{AllocError, Global};
 
 /// How many of a commit's four device calls are done.
-#[derive(Clone, Copy, Debug, PartialEq, Eq)]
+#[derive(Clone, Copy, PartialEq, Eq)]
 pub enum Stage {
     /// None.
     Begun,
@@ -52,12 +52,25 @@ pub enum CommitError {
 
 /// A commit of a header: the bytes of both copies of the next one, and how far their writing is. It
 /// is four device calls: write the primary, sync, write the secondary, sync.
-#[derive(Debug, Drop)]
 pub struct Commit {
     first: Bytes,
     second: Bytes,
     size: u64,
     stage: Stage,
+}
+
+// By hand, so that a value that is dropped in place is one call to the prover.
+impl Drop for Commit {
+    fn drop(self) {
+        let Commit {
+            first,
+            second,
+            size: _,
+            stage: _,
+        } = self;
+        drop(first);
+        drop(second);
+    }
 }
 
 /// The bytes of a header's copy with this text.

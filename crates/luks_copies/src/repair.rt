@@ -19,7 +19,7 @@ use sector_disk::Disk;
 use std::alloc::{AllocError, Global};
 
 /// How many of a repair's two device calls are done.
-#[derive(Clone, Copy, Debug, PartialEq, Eq)]
+#[derive(Clone, Copy, PartialEq, Eq)]
 pub enum RepairStage {
     /// None.
     Broken,
@@ -31,7 +31,7 @@ pub enum RepairStage {
 
 /// A repair of a header: the copy that is written anew with the bytes of the one that is used, and
 /// how far this is. It is two device calls: write the copy, sync.
-#[derive(Debug, Drop)]
+#[derive(Drop)]
 pub struct Repair {
     copy: Bytes,
     place: u64,

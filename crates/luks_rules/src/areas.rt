@@ -8,7 +8,7 @@ use luks_json::{Config, Keyslot, Parts, Segment};
 use std::alloc::{AllocError, Global};
 
 /// A run of bytes of the header's disk that a keyslot holds.
-#[derive(Clone, Copy, Debug, PartialEq, Eq)]
+#[derive(Clone, Copy, PartialEq, Eq)]
 pub struct Area {
     /// Its first byte.
     pub offset: u64,

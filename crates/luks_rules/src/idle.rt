@@ -7,7 +7,7 @@ use disk_sizes::Sizes;
 use luks_json::{Digest, Parts, Segment};
 
 /// A volume of which nothing is being converted.
-#[derive(Clone, Copy, Debug, PartialEq, Eq)]
+#[derive(Clone, Copy, PartialEq, Eq)]
 pub struct Idle {
     /// Its one segment. Whether it is encrypted is told by its `encryption` alone: also a linear
     /// segment may be listed by a digest, which then says nothing of it.

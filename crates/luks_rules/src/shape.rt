@@ -17,7 +17,7 @@ use disk_sizes::Sizes;
 use luks_json::{Digest, Encryption, Mode, Parts, Resilience, Segment, SegmentSize};
 
 /// How far a conversion is.
-#[derive(Clone, Copy, Debug, PartialEq, Eq)]
+#[derive(Clone, Copy, PartialEq, Eq)]
 pub struct Progress {
     pub conversion: Conversion,
     /// The whole segment that is converted.

@@ -9,7 +9,7 @@ use crate::Front;
 use nbd_wire::{ChunkFlags, ChunkHead, ChunkType, ErrorAt, error_data};
 
 /// What a chunk holds ("Structured reply types").
-#[derive(Clone, Copy, Debug)]
+#[derive(Clone, Copy)]
 pub enum Payload<'a> {
     /// Nothing: the READ was of no bytes.
     Nothing,
@@ -49,7 +49,7 @@ impl<'a> Payload<'a> {
 }
 
 /// A chunk of the reply to a READ.
-#[derive(Clone, Copy, Debug)]
+#[derive(Clone, Copy)]
 pub struct Chunk<'a> {
     /// Whether it is the last one.
     pub done: bool,

@@ -3,7 +3,7 @@ ghost use Rattle.std.specs.Prelude.{◌≡◌, ◌≤◌, ◌++◌, ℕ, List, l
 use std::marker::Model;
 
 /// The bytes of a chunk's text that come in front of its bytes of the export, 34 at most.
-#[derive(Debug, Drop)]
+#[derive(Drop)]
 pub struct Front {
     bytes: [u8; 34],
     end: usize,

@@ -9,7 +9,7 @@ use nbd_wire::ErrorAt;
 const MOST: usize = 1 << 20;
 
 /// What a READ comes to.
-#[derive(Clone, Copy, Debug)]
+#[derive(Clone, Copy)]
 pub enum Outcome<'a> {
     /// The bytes of its range.
     Content(&'a [u8]),
@@ -20,7 +20,7 @@ pub enum Outcome<'a> {
 }
 
 /// The reply to a READ from an offset of the export on.
-#[derive(Clone, Copy, Debug)]
+#[derive(Clone, Copy)]
 pub struct ReadReply<'a> {
     pub offset: u64,
     pub outcome: Outcome<'a>,
@@ -118,7 +118,7 @@ impl<'a> ReadReply<'a> {
 }
 
 /// The chunks of a reply that are still to come.
-#[derive(Clone, Copy, Debug)]
+#[derive(Clone, Copy)]
 pub struct ReadChunks<'a> {
     rest: Option<ReadReply<'a>>,
     whole: bool,

@@ -12,7 +12,7 @@ use luks_rules::{Extent, Idle, Valid};
 use segment_map::{Direction, Map};
 
 /// Where the blocks of a volume lie, and the segment of each of its sides.
-#[derive(Clone, Copy, Debug, PartialEq, Eq)]
+#[derive(Clone, Copy, PartialEq, Eq)]
 pub struct Placement {
     pub map: Map,
     /// The segment of the blocks that are old or in an open zone.

@@ -22,7 +22,7 @@ const MOST_PASSPHRASE_BYTES: u64 = 512;
 
 /// Why a command ended as it did. Where several causes hold, it is the first in the order of the
 /// command's steps; `Output` comes only in place of `Fine`.
-#[derive(Clone, Copy, Debug, PartialEq, Eq)]
+#[derive(Clone, Copy, PartialEq, Eq)]
 pub enum Cause<'w> {
     /// It did what it was asked: status 0. A session that failed, or a client's failed read,
     /// changes nothing in that.
@@ -64,7 +64,7 @@ pub enum Cause<'w> {
 }
 
 /// What failed of the outside.
-#[derive(Clone, Copy, Debug, PartialEq, Eq)]
+#[derive(Clone, Copy, PartialEq, Eq)]
 pub enum Failing {
     /// The bay gave no disk.
     Opening,
@@ -86,7 +86,7 @@ pub enum Failing {
 }
 
 /// What doesn't fit.
-#[derive(Clone, Copy, Debug, PartialEq, Eq)]
+#[derive(Clone, Copy, PartialEq, Eq)]
 pub enum Fit {
     /// The keyslot's area has more bytes than the keyslots area; or that ends at a byte which the
     /// disk of a detached header doesn't have; or an area of a conversion has more bytes than are
@@ -282,7 +282,6 @@ impl<'w> Cause<'w> {
 }
 
 /// A command that ended. What the bay gave is handed back.
-#[derive(Drop)]
 pub struct Ended<'w, D: Disk, L> {
     /// The exit status, which the cause determines.
     pub status: u8,
@@ -304,6 +303,31 @@ pub struct Ended<'w, D: Disk, L> {
     pub sessions: Vec<Vec<SessionEnd>>,
     /// The links that the bay gave.
     pub links: Vec<L>,
+}
+
+// By hand, so that a command's end that is dropped in place is one call to the prover.
+impl<'w, D: Disk + Drop, L: Drop> Drop for Ended<'w, D, L> {
+    fn drop(self) {
+        let Ended {
+            status: _,
+            cause: _,
+            fault,
+            refusal,
+            memory: _,
+            disk,
+            header,
+            pass,
+            sessions,
+            links,
+        } = self;
+        drop(fault);
+        drop(refusal);
+        drop(disk);
+        drop(header);
+        drop(pass);
+        drop(sessions);
+        drop(links);
+    }
 }
 
 /// What came of sessions: why they ended, whether memory was wanted for a session's end, the pass of
@@ -376,6 +400,8 @@ impl<'w, D: Disk, L> Ended<'w, D, L> {
         ensures pass { result.pass ≡ self.entry.pass }
     {
         let Ended {
+            status: _,
+            cause: _,
             fault,
             refusal,
             memory,
@@ -384,7 +410,6 @@ impl<'w, D: Disk, L> Ended<'w, D, L> {
             pass,
             sessions,
             links,
-            ..
         } = self;
         Ended {
             status: cause.status(),

@@ -7,7 +7,7 @@ use std::alloc::{AllocError, Global};
 use std::marker::Model;
 
 /// What one atom holds, in memory: its current value, and its candidates, the oldest first.
-#[derive(Debug, Drop)]
+#[derive(Drop)]
 pub(crate) struct AtomValues {
     current: Bytes,
     candidates: Vec<Bytes>,

@@ -8,7 +8,7 @@ use std::alloc::{AllocError, Global};
 use std::marker::Model;
 
 /// What a device call did.
-#[derive(Clone, Copy, Debug, PartialEq, Eq)]
+#[derive(Clone, Copy, PartialEq, Eq)]
 pub(crate) enum Kind {
     Read,
     Write,
@@ -17,7 +17,7 @@ pub(crate) enum Kind {
 }
 
 /// A device call, but for its bytes.
-#[derive(Clone, Copy, Debug)]
+#[derive(Clone, Copy)]
 struct Note {
     kind: Kind,
     at: u64,
@@ -26,7 +26,7 @@ struct Note {
 }
 
 /// The device calls of a disk in memory. The memory for all of them is taken when it is made.
-#[derive(Debug, Drop)]
+#[derive(Drop)]
 pub(crate) struct CallRecord {
     atom: u32,
     room: u64,

@@ -4,7 +4,7 @@ ghost use Rattle.sector_disk.specs.Images.{IsChoice, place_of};
 /// Which image of a disk a restart takes: of each atom the newest candidate, the oldest, or of atom
 /// `i` the one of number `numbers[i mod len] mod count`, where `count` is how many it has and the
 /// oldest has number 0.
-#[derive(Debug, Drop)]
+#[derive(Drop)]
 pub enum Choice {
     Newest,
     Oldest,

@@ -20,7 +20,6 @@ use std::alloc::{AllocError, AllocFailed, Global};
 
 /// A disk in memory that tells its tables. It fails as it was told to: at the calls of certain
 /// numbers, after a stop, and where the record of its calls is full.
-#[derive(Debug)]
 pub struct MemDisk {
     atom: u32,
     atoms: u64,

@@ -7,7 +7,7 @@ use base_terms::{Failed, bytes_are_below_256, paste, zeros};
 use std::alloc::{AllocError, Global};
 
 /// A disk in memory that never fails. It tells its current bytes alone.
-#[derive(Debug, Drop)]
+#[derive(Drop)]
 pub struct RamDisk {
     atom: u32,
     atoms: u64,

@@ -10,7 +10,7 @@ use block_range::BlockRange;
 const MOST_BYTES: u32 = 1_048_576;
 
 /// Where the blocks of a volume lie. A block has the size of the disk's atom.
-#[derive(Clone, Copy, Debug, PartialEq, Eq)]
+#[derive(Clone, Copy, PartialEq, Eq)]
 pub struct Map {
     /// The bytes of a block, 1 MiB at most.
     pub atom: u32,
@@ -36,7 +36,7 @@ pub struct Map {
 }
 
 /// A run of blocks on one side.
-#[derive(Clone, Copy, Debug, PartialEq, Eq)]
+#[derive(Clone, Copy, PartialEq, Eq)]
 pub struct Piece {
     /// The first block.
     pub first: u64,

@@ -21,7 +21,7 @@ use std::thread::Threads;
 use volume_cell::Cell;
 
 /// What came of an operation.
-#[derive(Debug, Drop)]
+#[derive(Drop)]
 pub enum Executed {
     /// Its reply, and a buffer for another use.
     Replied(Reply, Bytes),

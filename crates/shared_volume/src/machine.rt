@@ -24,11 +24,23 @@ use volume_worker::converted_of;
 
 /// A volume, and for the proofs alone what it was when it was handed in. The steps of its worker
 /// take memory where this says.
-#[derive(Drop)]
 pub struct SharedVolume<D: Disk> {
     volume: Volume<D, Context>,
     opening: Snapshot<Volume<D, Context>>,
     alloc: Global,
+}
+
+// By hand, so that a value that is dropped in place is one call to the prover.
+impl<D: Disk + Drop> Drop for SharedVolume<D> {
+    fn drop(self) {
+        let SharedVolume {
+            volume,
+            opening,
+            alloc: _,
+        } = self;
+        drop(volume);
+        drop(opening);
+    }
 }
 
 impl<D: Disk> SharedVolume<D> {

@@ -11,13 +11,25 @@ use sector_disk::Disk;
 
 /// A new keyslot: its area, as it is to stand on the disk, and a commit of the header that names
 /// it.
-#[derive(Drop)]
 pub struct SlotCommit {
     /// The byte of the disk at which the area begins, in whole atoms.
     pub area_offset: u64,
     /// The bytes of the area, whole atoms.
     pub area: Bytes,
     pub commit: Commit,
+}
+
+// By hand, so that a value that is dropped in place is one call to the prover.
+impl Drop for SlotCommit {
+    fn drop(self) {
+        let SlotCommit {
+            area_offset: _,
+            area,
+            commit,
+        } = self;
+        drop(area);
+        drop(commit);
+    }
 }
 
 /// Writes and syncs both copies of the header, those that aren't yet.

@@ -8,7 +8,7 @@ use segment_map::{Map, Piece};
 
 /// The blocks of an operation, which lie in the volume, and the map that they have until its
 /// finish.
-#[derive(Clone, Copy, Debug, PartialEq, Eq)]
+#[derive(Clone, Copy, PartialEq, Eq)]
 pub struct Grant {
     /// The map of the volume.
     pub map: Map,

@@ -6,7 +6,7 @@ use luks_store::Loaded;
 use volume_machine::Keys;
 
 /// Why a zone isn't begun to be written again.
-#[derive(Clone, Copy, Debug, PartialEq, Eq)]
+#[derive(Clone, Copy, PartialEq, Eq)]
 pub enum MendFault {
     /// The header has so many numbers left, and the commit to come takes so many more.
     SeqEnd { left: u64, wanted: u64 },
@@ -18,7 +18,7 @@ pub enum MendFault {
 }
 
 /// The device call that comes next. `done` atoms of the zone were written.
-#[derive(Clone, Copy, Debug, PartialEq, Eq)]
+#[derive(Clone, Copy, PartialEq, Eq)]
 pub enum MendCall {
     /// What was saved of a part is read: by journal its old atoms, by checksum their digests.
     ReadSaved { done: u64 },
@@ -37,7 +37,6 @@ pub enum MendCall {
 }
 
 /// A zone that is written again.
-#[derive(Drop)]
 pub struct Mender<C> {
     /// The keys of the volume's sides.
     pub keys: Keys<C>,
@@ -53,4 +52,24 @@ pub struct Mender<C> {
     pub digests: Buffer,
     /// The device call that comes next.
     pub next: MendCall,
+}
+
+// By hand, so that a value that is dropped in place is one call to the prover.
+impl<C: Drop> Drop for Mender<C> {
+    fn drop(self) {
+        let Mender {
+            keys,
+            loaded,
+            moved,
+            site: _,
+            buffer,
+            digests,
+            next: _,
+        } = self;
+        drop(keys);
+        drop(loaded);
+        drop(moved);
+        drop(buffer);
+        drop(digests);
+    }
 }
