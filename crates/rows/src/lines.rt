@@ -56,6 +56,8 @@ pub(crate) enum Change<'a> {
         at: u64,
         size: u64,
     },
+    /// There are so many bytes behind the last whole atom.
+    Tail { bytes: u64 },
     /// Both copies of a header have a token with so many letters.
     Token {
         letters: u64,
@@ -149,7 +151,7 @@ pub(crate) fn line_of<'a>(alloc: Global, line: &'a str) -> Result<Line<'a>> {
     match word {
         "bytes" | "text" | "file" | "rising" | "drawn" | "edited" => naming(alloc, word, rest),
         "disk" => disk(alloc, rest),
-        "put" | "fill" | "copy" | "sum" | "token" => changing(alloc, word, rest),
+        "put" | "fill" | "tail" | "copy" | "sum" | "token" => changing(alloc, word, rest),
         "run" => Ok(Line::Run(rest)),
         "loose" => Ok(Line::Loose(rest)),
         "stops" => Ok(Line::Stops(rest)),
@@ -220,6 +222,7 @@ fn changing<'a>(alloc: Global, word: &str, rest: &'a str) -> Result<Line<'a>> {
                 at: *at,
                 size: *size,
             },
+            ("tail", [bytes]) => Change::Tail { bytes: *bytes },
             ("token", [letters]) => Change::Token { letters: *letters },
             _ => return Err(anyhow!("{word} has other numbers")),
         },

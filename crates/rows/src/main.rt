@@ -15,7 +15,8 @@
 //! Disks, which have the same bytes from one command to the next:
 //! - `disk NAME ATOM ATOMS BYTE`: all bytes are this one. The first name is the disk's, a second one
 //!   that of a detached header; the first name again begins anew with it alone;
-//! - `put NAME AT SPELLED`, `fill NAME AT LENGTH BYTE`: bytes at a byte;
+//! - `put NAME AT SPELLED`, `fill NAME AT LENGTH BYTE`: bytes at a byte; `tail NAME BYTES`: it has so many
+//!   bytes behind its last whole atom;
 //! - `copy NAME AT SIZE NUMBER LETTER TEXT`: a copy of a header of a named text;
 //! - `sum NAME AT SIZE`: such a copy's checksum is made right; `token NAME LETTERS`: both copies of
 //!   16384 bytes have a token with so many letters.
@@ -38,7 +39,7 @@
 //!
 //! Commands, each of which is shown as it stands, and behind it what it comes to:
 //! - `run WORDS`: the status, its cause and the text that is printed; why there is no header or no
-//!   volume; what the gate was told of a conversion; of each session its link, its number, how it
+//!   volume; what people are told besides (`says`); what the gate was told of a conversion; of each session its link, its number, how it
 //!   ended, the bytes that were taken and put, and these, of more than 64 their SHA-256; whether
 //!   clients and worker met; and of each disk that was handed back how many device calls there were,
 //!   and the SHA-256 of what is left;
@@ -92,7 +93,7 @@ use anyhow::Result;
 use std::env;
 
 /// The scripts, in the order in which they are shown.
-const SCRIPTS: [&str; 16] = [
+const SCRIPTS: [&str; 17] = [
     "vectors.rows",
     "headers.rows",
     "copies.rows",
@@ -109,6 +110,7 @@ const SCRIPTS: [&str; 16] = [
     "zones.rows",
     "serving.rows",
     "crowd.rows",
+    "slips.rows",
 ];
 
 fn main(rt: HostRuntime) -> Result<()> {

@@ -25,7 +25,8 @@ pub(crate) struct Outcome {
     pub(crate) text: String,
     /// Why no header is shown, or no volume was opened.
     pub(crate) why: String,
-    /// What the gate was told of a conversion.
+    /// What the gate was told that people should know, and of a conversion.
+    pub(crate) notices: Vec<String>,
     pub(crate) course: String,
     /// Whether clients and worker met.
     pub(crate) met: &'static str,
@@ -46,6 +47,7 @@ impl Drop for Outcome {
             ended,
             text,
             why,
+            notices,
             course,
             met: _,
             sessions,
@@ -53,7 +55,7 @@ impl Drop for Outcome {
             disk,
             header,
         } = self;
-        drop((ended, text, why, course, sessions, put));
+        drop((ended, text, why, notices, course, sessions, put));
         drop((disk, header));
     }
 }
@@ -66,6 +68,7 @@ impl Outcome {
             ended,
             text,
             why,
+            notices,
             course,
             met: _,
             sessions,
@@ -73,7 +76,7 @@ impl Outcome {
             disk,
             header,
         } = self;
-        drop((ended, text, why, course, sessions, put));
+        drop((ended, text, why, notices, course, sessions, put));
         (disk, header)
     }
 
@@ -234,6 +237,7 @@ fn told(
     alloc: Global,
     ended: Ended<'_, MemDisk, MemLink>,
     out: &ListSink,
+    notices: Vec<String>,
     course: String,
     met: &'static str,
 ) -> Result<Outcome> {
@@ -257,6 +261,7 @@ fn told(
         ended: format!(in alloc; "{status} {cause:?}{wanted}")?,
         text: String::from_str(alloc, text)?,
         why,
+        notices,
         course,
         met,
         sessions: sessions_of(alloc, sessions.as_slice(), links.as_slice())?,
@@ -280,9 +285,9 @@ pub(crate) fn run_on(
     let mut bay = bay_of(alloc, world, disks, clients)?;
     let mut seeds = seeds_of(alloc, world)?;
     let mut out = ListSink::new(alloc, world.next.room as usize, world.next.fails_of("out"))?;
-    let gate = ScriptGate::new(*rt, world.next.meet);
+    let gate = ScriptGate::new(alloc, *rt, world.next.meet);
     let words = words.as_slice();
     let ended = run(threads, alloc, words, &mut bay, &mut seeds, &mut out, &gate);
-    let course = gate.course(alloc)?;
-    told(alloc, ended, &out, course, gate.met())
+    let (notices, course) = (gate.notices()?, gate.course(alloc)?);
+    told(alloc, ended, &out, notices, course, gate.met())
 }

@@ -55,6 +55,7 @@ fn show_outcome(rt: &HostRuntime, outcome: &Outcome, is_loose: bool) -> Result<(
         ended,
         text,
         why,
+        notices,
         course,
         met,
         sessions,
@@ -63,6 +64,9 @@ fn show_outcome(rt: &HostRuntime, outcome: &Outcome, is_loose: bool) -> Result<(
     println!(rt; "  {ended} {text:?}")?;
     if !why.is_empty() {
         println!(rt; "  {why}")?;
+    }
+    for notice in notices.as_slice() {
+        println!(rt; "  says {notice}")?;
     }
     if !course.is_empty() && !is_loose {
         println!(rt; "  {course}")?;

@@ -198,7 +198,8 @@ impl World {
                 Some(calls) if disks.is_empty() => Limit::Stop(calls),
                 _ => Limit::Fail(self.next.fails_of(shelf.name.as_str())),
             };
-            let disk = disk_with(alloc, shelf.atom, shelf.bytes.as_slice(), limit)?;
+            let mut disk = disk_with(alloc, shelf.atom, shelf.bytes.as_slice(), limit)?;
+            disk.set_tail(shelf.tail);
             disks.push((shelf.name.clone()?, disk))?;
         }
         Ok(disks)
