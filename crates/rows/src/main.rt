@@ -55,6 +55,7 @@
 //!   SHA-256 of the disk; then how it ends that is given again, and what the reader is put.
 //!
 //! What no command shows:
+//! - `words WORDS`: the first line that a person is told of words that ask for nothing, else `taken`;
 //! - `value seal CIPHER KEY SECTOR NUMBER BYTES`, bytes sealed by sectors from that number on; `value
 //!   xts KEY KEY NUMBER BYTES`, as one sector under the keys of body and tweak; `value hmac HASH KEY
 //!   TEXT`; `value derive HASH PASSWORD SALT ROUNDS LENGTH`; `value split HASH KEY DRAWN STRIPES`, the
@@ -93,7 +94,8 @@ use anyhow::Result;
 use std::env;
 
 /// The scripts, in the order in which they are shown.
-const SCRIPTS: [&str; 17] = [
+const SCRIPTS: [&str; 18] = [
+    "words.rows",
     "vectors.rows",
     "headers.rows",
     "copies.rows",

@@ -7,7 +7,7 @@ use anyhow::{Result, anyhow};
 use base_terms::Bytes;
 use bays::{MemBay, MemLink};
 use io_edge::{FixedSeeds, ListSink, ListSource};
-use reenc_tool::{Ended, FaultText, RefusalText, SessionEnd, run};
+use reenc_tool::{Ended, FaultText, RefusalText, SessionEnd, explain_words, run};
 use sector_disk::MemDisk;
 use std::alloc::Global;
 use std::sync::Wait;
@@ -159,6 +159,15 @@ fn words_of(alloc: Global, line: &str) -> Result<Vec<String>> {
         }
     }
     Ok(words)
+}
+
+/// The first line that a person is told of words that ask for nothing.
+pub(crate) fn told_of_words(alloc: Global, line: &str) -> Result<String> {
+    let words = words_of(alloc, line)?;
+    match explain_words(alloc, words.as_slice())? {
+        None => Ok(String::from_str(alloc, "taken")?),
+        Some(text) => Ok(String::from_str(alloc, text.as_str().lines().next().unwrap_or(""))?),
+    }
 }
 
 /// Bytes, as they are told: all of few, of more their SHA-256.
