@@ -9,3 +9,4 @@ mod LawLemmas
 mod MakeLemmas
 mod StartLemmas
 mod ThroughoutLemmas
+pub mod SlipLemmas

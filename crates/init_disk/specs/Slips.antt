@@ -1,6 +1,6 @@
 -- What an operator would lose by a conversion without knowing it: keyslots of other passphrases, and
 -- bytes behind the last whole atom of the disk.
-use Rattle.std.specs.Prelude.{ℕ, ◌≡◌, ◌&&◌, nat_lt, not, Bool, true, false, List, [], length}
+use Rattle.std.specs.Prelude.{ℕ, ◌≡◌, ◌⊎◌, ◌<◌, ◌≤◌, true, false, List, [], length}
 use Rattle.std.specs.Prelude.{Option, Some, None, option_and_then}
 use Rattle.disk_sizes.specs.declared.Sizes.{Sizes}
 use Rattle.init_disk.specs.declared.refusal.Refusal.{Refusal}
@@ -28,15 +28,15 @@ holders_by m (Some d) = holders m d
 abbrev pub key_holders : Parts → Sizes → List (ℕ × SlotKind)
 key_holders m sizes = holders_by m (digest_by m (idle_of m sizes))
 
--- Whether a conversion would drop keyslots unasked: besides the one that the passphrase opens there
--- is another that holds the volume's key.
-abbrev pub drops_others : Bool → Parts → Sizes → Bool
-drops_others asked m sizes = not asked && nat_lt 1 (length (key_holders m sizes))
+-- Keyslots of other passphrases may go, or there is none: besides the one that the passphrase opens no
+-- other holds the volume's key.
+abbrev pub KeepsOthers : Wish → Parts → Sizes → Type 0
+KeepsOthers w m sizes = (w.drop_keyslots ≡ true) ⊎ (length (key_holders m sizes) ≤ 1)
 
--- Nothing is lost: keyslots of other passphrases may go, or there is none; and no byte of the volume
--- lies behind the last whole atom of its disk, which has so many there.
+-- Nothing is lost: no keyslot of another passphrase unasked; and no byte of the volume lies behind the
+-- last whole atom of its disk, which has so many there.
 pub record LosesNothing (w : Wish) (m : Parts) (sizes : Sizes) (tail : ℕ) : Type 0 where
-  pub kept : drops_others w.drop_keyslots m sizes ≡ false
+  pub kept : KeepsOthers w m sizes
   pub whole : has_tail m.segments tail ≡ false
 
 -- The first that would be lost: the keyslots that hold the volume's key are told, or how many bytes
@@ -46,9 +46,8 @@ WouldLose w m sizes tail (refusals.Unopened refusal) = ⊥
 WouldLose w m sizes tail refusals.Linear = ⊥
 WouldLose w m sizes tail refusals.Memory = Unit {0}
 WouldLose w m sizes tail (refusals.Keyslots list) =
-    (list ≡ key_holders m sizes) × (drops_others w.drop_keyslots m sizes ≡ true)
+    (list ≡ key_holders m sizes) × (w.drop_keyslots ≡ false) × (1 < length list)
 WouldLose w m sizes tail (refusals.Tail bytes) =
-    (bytes ≡ tail) × (drops_others w.drop_keyslots m sizes ≡ false)
-    × (has_tail m.segments tail ≡ true)
+    (bytes ≡ tail) × KeepsOthers w m sizes × (has_tail m.segments tail ≡ true)
 WouldLose w m sizes tail (refusals.Unmade fault) = ⊥
 WouldLose w m sizes tail refusals.Writing = ⊥

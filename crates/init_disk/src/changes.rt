@@ -42,12 +42,18 @@ fn tell_encryption<G: Gate>(alloc: Global, gate: &G, old: Encryption, wish: &Wis
     if old.cipher != wish.cipher {
         let before = old.cipher.name();
         let now = wish.cipher.name();
-        tell(gate, format!(in alloc; "the cipher changes from {before} to {now}"));
+        tell(
+            gate,
+            format!(in alloc; "the cipher changes from {before} to {now}"),
+        );
     }
     if old.sector_size != u64::from(wish.sector_size) {
         let before = old.sector_size;
         let now = wish.sector_size;
-        tell(gate, format!(in alloc; "the sector size changes from {before} to {now} bytes"));
+        tell(
+            gate,
+            format!(in alloc; "the sector size changes from {before} to {now} bytes"),
+        );
     }
 }
 
@@ -71,7 +77,10 @@ pub(crate) fn tell_changes<G: Gate>(
         let before = key.as_slice().len();
         let now = wish.key_size;
         if before != now as usize {
-            tell(gate, format!(in alloc; "the key size changes from {before} to {now} bytes"));
+            tell(
+                gate,
+                format!(in alloc; "the key size changes from {before} to {now} bytes"),
+            );
         }
     }
     let Some(number) = idle.segment.digest else {

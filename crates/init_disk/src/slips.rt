@@ -1,7 +1,7 @@
 // What an operator would lose by a conversion without knowing it.
 
-ghost use Rattle.std.specs.Prelude.{◌≡◌, ℕ, false, IfOk, MatchResult};
-ghost use Rattle.init_disk.specs.Slips.{LosesNothing, WouldLose, drops_others, key_holders};
+ghost use Rattle.std.specs.Prelude.{◌≡◌, ℕ, IfOk, MatchResult};
+ghost use Rattle.init_disk.specs.Slips.{KeepsOthers, LosesNothing, WouldLose, key_holders};
 
 use crate::refusal::Refusal;
 use json_members::Listed;
@@ -27,9 +27,10 @@ fn key_holders(alloc: Global, valid: &Valid) -> Result<Vec<(u64, SlotKind)>, All
 }
 
 /// Refuses to drop keyslots of other passphrases unasked.
+#[tactic(auto, using(crate::proofs::SlipLemmas::few_kept, crate::proofs::SlipLemmas::others_go))]
 fn keep_others(alloc: Global, valid: &Valid, wish: &Wish) -> Result<(), Refusal>
     ensures { MatchResult result
-        (λ _. drops_others wish.now.drop_keyslots valid.now.meta valid.now.sizes ≡ false)
+        (λ _. KeepsOthers wish.now valid.now.meta valid.now.sizes)
         (λ refusal. (tail : ℕ) → WouldLose wish.now valid.now.meta valid.now.sizes tail refusal) }
 {
     if wish.drop_keyslots {
@@ -47,6 +48,7 @@ fn keep_others(alloc: Global, valid: &Valid, wish: &Wish) -> Result<(), Refusal>
 /// Refuses a conversion by which an operator would lose keyslots of other passphrases, unless they
 /// may go, or bytes of the volume that lie behind the last whole atom of the disk, which has so many
 /// there.
+#[tactic(auto, using(crate::proofs::SlipLemmas::nothing_lost, crate::proofs::SlipLemmas::tail_lost))]
 pub(crate) fn lose_nothing(
     alloc: Global,
     valid: &Valid,

@@ -54,11 +54,12 @@ pub(crate) fn unlock_volume<D: Disk>(
     if is_linear(loaded.valid()) {
         return (disk, Err(Refusal::Linear));
     }
-    match find_key(alloc, loaded.valid(), &mut disk, pass) {
-        Ok(key) => match lose_nothing(alloc, loaded.valid(), disk.tail(), wish) {
-            Ok(()) => (disk, Ok(key)),
-            Err(refusal) => (disk, Err(refusal)),
-        },
-        Err(refusal) => (disk, Err(Refusal::Unopened(refusal))),
+    let key = match find_key(alloc, loaded.valid(), &mut disk, pass) {
+        Ok(key) => key,
+        Err(refusal) => return (disk, Err(Refusal::Unopened(refusal))),
+    };
+    match lose_nothing(alloc, loaded.valid(), disk.tail(), wish) {
+        Ok(()) => (disk, Ok(key)),
+        Err(refusal) => (disk, Err(refusal)),
     }
 }

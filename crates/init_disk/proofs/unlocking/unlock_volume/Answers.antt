@@ -18,8 +18,8 @@ returns-then-is_linear-clause-locked g c = record {
       ∙ sym c.is_linear.ensures ∙ c.if-is_linear.true;
 }
 
-pub returns-in-Ok-find_key-clause-unlocked : goal.returns-in-Ok-find_key-clause-unlocked
-returns-in-Ok-find_key-clause-unlocked g c =
+pub returns-in-Ok-lose_nothing-clause-unlocked : goal.returns-in-Ok-lose_nothing-clause-unlocked
+returns-in-Ok-lose_nothing-clause-unlocked g c =
     unlocked_on (g.D.Disk.device c.args.disk) (g.D.Disk.device c.read_header-disk.result.0)
     (g.D.Disk.device c.find_key.new.disk) c.args.wish.now c.args.pass.now c.in-Ok.loaded
     c.in-Ok-find_key.key
