@@ -30,7 +30,9 @@ pub enum Item {
         value: &'static str,
     },
     /// The same without a value.
-    UnbuiltFlag { name: &'static str },
+    UnbuiltFlag {
+        name: &'static str,
+    },
 }
 
 /// The argument of `clap` that a word is.

@@ -150,7 +150,9 @@ fn hotzone_size_or_default(matches: &ArgMatches<'_>, atom: u32) -> Result<u64, R
     ensures most { IfOk result (λ size. size ≤ 67108864) }
     ensures whole { IfOk result (λ size. size % atom ≡ 0) }
 {
-    let refused = Refused("--hotzone-size takes bytes: a multiple of --atom, at most 67108864, not 0");
+    let refused = Refused(
+        "--hotzone-size takes bytes: a multiple of --atom, at most 67108864, not 0",
+    );
     let size = number_or(matches, "hotzone-size", 1_048_576, 1, 67_108_864, refused)?;
     if size % atom as u64 != 0 {
         return Err(refused);

@@ -200,7 +200,7 @@ module _ {C D : Type 0} (sector : C → ℕ) (sealed opened : C → ℕ → List
   )
   refused-then (refusals.Tail bytes) header back (none, is) = (
     none,
-    tail-then (device disk) (device read) kept pass bytes (device back) is,
+    tail-then (device disk) (device read) kept sector sealed opened pass bytes (device back) is,
   )
 
   -- it isn't refused since nothing is being converted, where the disk told that something is
