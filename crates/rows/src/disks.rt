@@ -21,6 +21,8 @@ const MOST_ATOMS: u64 = 8192;
 pub(crate) struct Shelf {
     pub(crate) name: String,
     pub(crate) atom: u64,
+    /// How many bytes it has behind its last whole atom.
+    pub(crate) tail: u64,
     pub(crate) bytes: Vec<u8>,
 }
 
@@ -43,6 +45,7 @@ pub(crate) fn shelf(alloc: Global, name: &str, atom: u64, atoms: u64, byte: u8) 
     Ok(Shelf {
         name: String::from_str(alloc, name)?,
         atom,
+        tail: 0,
         bytes,
     })
 }
