@@ -14,13 +14,11 @@ mod network;
 mod notices;
 mod progress;
 mod streams;
-#[cfg(test)]
-mod tests;
 
 pub use door::Door;
 pub use host_bay::HostBay;
 pub use host_file::HostFile;
 pub use host_link::{HostLink, HostSink, HostSource};
 pub use network::{Listener, Network, accept};
-pub use progress::ProgressGate;
+pub use progress::{Course, ProgressGate, Told};
 pub use streams::{HostReader, HostWriter};
