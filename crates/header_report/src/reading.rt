@@ -11,18 +11,10 @@ use sector_disk::Disk;
 use std::alloc::Global;
 
 /// A disk whose header was read: the disk, and what the header says, or why none is told.
+#[derive(Drop)]
 pub struct Examined<D> {
     pub disk: D,
     pub told: Result<String, StoreFault>,
-}
-
-// By hand, so that a value that is dropped in place is one call to the prover.
-impl<D: Drop> Drop for Examined<D> {
-    fn drop(self) {
-        let Examined { disk, told } = self;
-        drop(disk);
-        drop(told);
-    }
 }
 
 /// Whether another look may find a header: where no copy is valid, or both differ, a commit of
