@@ -21,7 +21,7 @@ use luks_bin::is_header_size;
 use uuid::Uuid;
 
 /// `format`: a new volume on a disk.
-#[derive(Clone, Copy, Debug)]
+#[derive(Clone, Copy)]
 pub struct Format<'a> {
     pub disk: &'a str,
     /// The disk that is to have its header. None where that lies on `disk`, in front of the data.

@@ -19,7 +19,7 @@ use clap::ArgMatches;
 use luks_json::Cipher;
 
 /// How the data of a new segment are encrypted, and how the passphrase opens their key.
-#[derive(Clone, Copy, Debug)]
+#[derive(Clone, Copy)]
 pub struct NewSegment {
     /// The cipher of its data.
     pub cipher: Cipher,

@@ -22,7 +22,7 @@ use clap::ArgMatches;
 use luks_json::Direction;
 
 /// What keeps the open zone of a conversion safe.
-#[derive(Clone, Copy, Debug, PartialEq, Eq)]
+#[derive(Clone, Copy, PartialEq, Eq)]
 pub enum Guard {
     /// `journal`: copies of its old blocks.
     Journal,
@@ -56,7 +56,7 @@ impl Guard {
 }
 
 /// `init`: a conversion of the volume on a disk to a new key is begun.
-#[derive(Clone, Copy, Debug)]
+#[derive(Clone, Copy)]
 pub struct Init<'a> {
     pub disk: &'a str,
     /// The file of the passphrase that opens the volume, and is to open the new key.

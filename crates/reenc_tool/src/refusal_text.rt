@@ -12,7 +12,7 @@ use volume_opening::Refusal as OpeningRefusal;
 
 /// Why a volume isn't opened by a passphrase, as it is told to people: one line, without its line
 /// feed.
-#[derive(Clone, Copy, Debug)]
+#[derive(Clone, Copy)]
 pub struct RefusalText<'a>(pub &'a VolumeRefusal);
 
 impl fmt::Display for RefusalText<'_> {
