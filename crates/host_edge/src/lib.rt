@@ -6,6 +6,8 @@
 //! refuses, where clients may connect, and how far a conversion is, is said on standard error.
 #![tactic(auto)]
 
+mod client_stream;
+mod descriptors;
 mod door;
 mod host_bay;
 mod host_file;
@@ -15,6 +17,8 @@ mod notices;
 mod progress;
 mod streams;
 
+pub use client_stream::{ClientStream, Watch};
+pub use descriptors::keep_standard_streams;
 pub use door::Door;
 pub use host_bay::HostBay;
 pub use host_file::HostFile;

@@ -1,6 +1,6 @@
 // What people are told of a conversion on its way.
 
-use io_edge::{Converted, Gate, Place};
+use gates::{Converted, Gate, Place};
 use std::fmt::{self, Display, Formatter, Write};
 use std::io::{IsTerminal, Stderr};
 use std::sync::Mutex;
@@ -90,6 +90,10 @@ impl<R: Clock + Drop> Gate for ProgressGate<R> {
         if let Some(mut told) = self.told.try_lock() {
             *told = Some(self.heard(*told, now, converted));
         }
+    }
+
+    fn notify(&self, line: &str) {
+        let _ = eprintln!(self.errors; "reencd: {line}");
     }
 }
 

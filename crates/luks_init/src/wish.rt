@@ -39,6 +39,8 @@ pub struct Wish {
     /// The bytes of the largest zone that is to have room: whole atoms, at least one, and at most
     /// 67108864 bytes.
     pub hotzone_size: u64,
+    /// Whether keyslots that hold the old key for other passphrases may go.
+    pub drop_keyslots: bool,
 }
 
 impl Wish {

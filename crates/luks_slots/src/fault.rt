@@ -1,5 +1,6 @@
 // Why no key is found, and why no keyslot is made.
 
+use crate::kinds::SlotKind;
 use json_members::Listed;
 use std::alloc::AllocError;
 
@@ -10,10 +11,10 @@ pub enum Refusal {
     NotAssigned,
     /// Its priority is 0: it is to be ignored.
     Priority,
-    /// It isn't one that is opened here: its key isn't derived by PBKDF2, a hash or its area's
-    /// cipher isn't known, a key has no length of its cipher, it hasn't 4000 stripes, or its area
-    /// is shorter than these.
-    Unsupported,
+    /// It isn't one that is opened here, of this kind: its key isn't derived by PBKDF2, a hash or
+    /// its area's cipher isn't known, a key has no length of its cipher, it hasn't 4000 stripes, or
+    /// its area is shorter than these.
+    Unsupported(SlotKind),
     /// What the passphrase unseals has another digest.
     DigestDiffers,
 }

@@ -9,15 +9,17 @@
 //! - `checksums`: resil_checksum, digests beside another implementation's.
 //! - `ciphers`: aes_core, the vectors and the S-box of the cipher's standard.
 //! - `courses`: host_edge, what people are told of a conversion on its way, and when.
-//! - `joining`: joined_disk, calls over the seam, each of either disk's failing in turn.
+//! - `edges`: file_disk and host_edge, over a file and a network that refuse.
+//! - `joining`: sector_disk, two disks as one: calls over the seam, each of either disk's failing in turn.
 //! - `journals`: resil_journal, old atoms and the room for them.
 //! - `locks`: range_lock, entries that are held and that wait.
 //! - `maps`: segment_map, pieces, places and how far a conversion has come.
 //! - `messages`: nbd_wire, the protocol's messages and the numbers of its names.
-//! - `ranges`: block_range, ranges that share a block.
-//! - `sectors`: cipher_blocks, blocks of a sector.
+//! - `ranges`: base_terms, ranges that share a block.
+//! - `sectors`: cipher_laws, blocks of a sector.
 //! - `seeds`: seed_stream, the test vectors of the cipher's standard.
 //! - `sessions`: nbd_session, whole sessions by a table, in `sessions/`, and one cut at each byte.
+//! - `streams`: io_edge, streams of the system that fail in mid-stream.
 //! - `workers`: reenc_worker, each end of a conversion behind calls that went on.
 //!
 //! `same` has what all of them assert.
@@ -33,6 +35,8 @@ mod checksums;
 mod ciphers;
 #[cfg(test)]
 mod courses;
+#[cfg(test)]
+mod edges;
 #[cfg(test)]
 mod joining;
 #[cfg(test)]
@@ -53,5 +57,7 @@ mod sectors;
 mod seeds;
 #[cfg(test)]
 mod sessions;
+#[cfg(test)]
+mod streams;
 #[cfg(test)]
 mod workers;

@@ -3,7 +3,7 @@
 //! them stand in unit_tests, which is proved long before these crates are.
 //!
 //! - `beginnings`: luks_init, where a conversion's areas come to lie and what stands in its way.
-//! - `copies`: luks_copies, commits and repairs on a disk, each call failing in turn.
+//! - `copies`: luks_store, commits and repairs on a disk, each call failing in turn.
 //! - `formats`: luks_format, a new volume's header beside another implementation's.
 //! - `headers`: luks_bin, copies that are written, changed and read, also one by cryptsetup.
 //! - `placements`: reenc_meta, where the blocks of a volume lie.
