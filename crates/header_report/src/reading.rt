@@ -13,23 +13,11 @@ use std::alloc::Global;
 
 /// A disk whose header was read: the disk, what the header says, or why none is told, and what is
 /// said of a copy that isn't as the other one.
+#[derive(Drop)]
 pub struct Examined<D> {
     pub disk: D,
     pub told: Result<String, StoreFault>,
     pub notice: Option<&'static str>,
-}
-
-// By hand, so that a value that is dropped in place is one call to the prover.
-impl<D: Drop> Drop for Examined<D> {
-    fn drop(self) {
-        let Examined {
-            disk,
-            told,
-            notice: _,
-        } = self;
-        drop(disk);
-        drop(told);
-    }
 }
 
 /// Whether another look may find a header: where no copy is valid, or both differ, a commit of

@@ -49,7 +49,11 @@ impl Drop for OpenCause {
     fn drop(self) {
         match self {
             OpenCause::Memory | OpenCause::Device => (),
-            OpenCause::NoHeader { .. } | OpenCause::CopiesDiffer { .. } => (),
+            OpenCause::NoHeader {
+                primary: _,
+                secondary: _,
+            } => (),
+            OpenCause::CopiesDiffer { seqid: _, place: _ } => (),
             OpenCause::Json(fault) => drop(fault),
             OpenCause::Rule(fault) => drop(fault),
             OpenCause::InProgress => (),

@@ -282,6 +282,7 @@ impl<'w> Cause<'w> {
 }
 
 /// A command that ended. What the bay gave is handed back.
+#[derive(Drop)]
 pub struct Ended<'w, D: Disk, L> {
     /// The exit status, which the cause determines.
     pub status: u8,
@@ -303,31 +304,6 @@ pub struct Ended<'w, D: Disk, L> {
     pub sessions: Vec<Vec<SessionEnd>>,
     /// The links that the bay gave.
     pub links: Vec<L>,
-}
-
-// By hand, so that a command's end that is dropped in place is one call to the prover.
-impl<'w, D: Disk + Drop, L: Drop> Drop for Ended<'w, D, L> {
-    fn drop(self) {
-        let Ended {
-            status: _,
-            cause: _,
-            fault,
-            refusal,
-            memory: _,
-            disk,
-            header,
-            pass,
-            sessions,
-            links,
-        } = self;
-        drop(fault);
-        drop(refusal);
-        drop(disk);
-        drop(header);
-        drop(pass);
-        drop(sessions);
-        drop(links);
-    }
 }
 
 /// What came of sessions: why they ended, whether memory was wanted for a session's end, the pass of
@@ -400,8 +376,6 @@ impl<'w, D: Disk, L> Ended<'w, D, L> {
         ensures pass { result.pass ≡ self.entry.pass }
     {
         let Ended {
-            status: _,
-            cause: _,
             fault,
             refusal,
             memory,
@@ -410,6 +384,7 @@ impl<'w, D: Disk, L> Ended<'w, D, L> {
             pass,
             sessions,
             links,
+            ..
         } = self;
         Ended {
             status: cause.status(),

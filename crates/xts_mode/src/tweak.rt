@@ -51,16 +51,3 @@ pub(crate) fn eight_tweaks(tweak: u128) -> (EightBlocks, u128)
     };
     (masks, double(eighth))
 }
-
-#[cfg(test)]
-mod tests {
-    use super::*;
-
-    #[test]
-    fn the_top_bit_comes_back_as_87(rt: HostRuntime) {
-        assert_eq!(rt; double(1), 2);
-        assert_eq!(rt; double(1 << 126), 1 << 127);
-        assert_eq!(rt; double(1 << 127), 0x87);
-        assert_eq!(rt; double(u128::MAX), (u128::MAX - 1) ^ 0x87);
-    }
-}

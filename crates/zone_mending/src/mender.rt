@@ -37,6 +37,7 @@ pub enum MendCall {
 }
 
 /// A zone that is written again.
+#[derive(Drop)]
 pub struct Mender<C> {
     /// The keys of the volume's sides.
     pub keys: Keys<C>,
@@ -52,24 +53,4 @@ pub struct Mender<C> {
     pub digests: Buffer,
     /// The device call that comes next.
     pub next: MendCall,
-}
-
-// By hand, so that a value that is dropped in place is one call to the prover.
-impl<C: Drop> Drop for Mender<C> {
-    fn drop(self) {
-        let Mender {
-            keys,
-            loaded,
-            moved,
-            site: _,
-            buffer,
-            digests,
-            next: _,
-        } = self;
-        drop(keys);
-        drop(loaded);
-        drop(moved);
-        drop(buffer);
-        drop(digests);
-    }
 }

@@ -1,6 +1,8 @@
-use crate::s_box::{CONSTANT, inverse_sub_bytes, sub_block};
-use crate::transposition::{copies, to_blocks, to_planes};
-use crate::{Aes, KeyLength};
+// AES beside the vectors and the table of its standard.
+
+use crate::same::same;
+use aes_core::{Aes, KeyLength};
+use cipher_blocks::xor;
 use cipher_laws::{BlockCipher, EightBlocks};
 use std::simd::prelude::*;
 use std::test::Fail;
@@ -83,21 +85,31 @@ const PUBLISHED: [Vector; 11] = [
     },
 ];
 
+/// The cipher under a vector's key.
+fn cipher_of(vector: &Vector) -> Result<Aes, KeyLength> {
+    let mut key = [0; 32];
+    key[..16].copy_from_slice(&vector.key.to_be_bytes());
+    key[16..].copy_from_slice(&vector.more.unwrap_or(0).to_be_bytes());
+    let length = if vector.more.is_some() { 32 } else { 16 };
+    Aes::new(&key[..length])
+}
+
+/// A vector's block as it is sealed, and that as it is unsealed.
+fn there_and_back(vector: &Vector) -> Result<[u128; 2], KeyLength> {
+    let cipher = cipher_of(vector)?;
+    let mut block = vector.plain.to_be_bytes();
+    cipher.seal(&mut block);
+    let sealed = u128::from_be_bytes(block);
+    cipher.unseal(&mut block);
+    Ok([sealed, u128::from_be_bytes(block)])
+}
+
 #[test]
-fn published_vectors(rt: HostRuntime) -> Result<(), Fail> {
+fn published_vectors(rt: HostRuntime) {
     for vector in &PUBLISHED {
-        let mut key = [0; 32];
-        key[..16].copy_from_slice(&vector.key.to_be_bytes());
-        key[16..].copy_from_slice(&vector.more.unwrap_or(0).to_be_bytes());
-        let length = if vector.more.is_some() { 32 } else { 16 };
-        let cipher = Aes::new(&key[..length])?;
-        let mut block = vector.plain.to_be_bytes();
-        cipher.seal(&mut block);
-        assert_eq!(rt; u128::from_be_bytes(block), vector.sealed, "sealed");
-        cipher.unseal(&mut block);
-        assert_eq!(rt; u128::from_be_bytes(block), vector.plain, "unsealed");
+        let wanted = [vector.sealed, vector.plain];
+        same(&rt, there_and_back(vector), Ok(wanted));
     }
-    Ok(())
 }
 
 // FIPS 197, figure 7: row x has the S-box of the bytes x0, .., xf.
@@ -120,16 +132,76 @@ const S_BOX: [u128; 16] = [
     0x8ca1890d_bfe64268_41992d0f_b054bb16,
 ];
 
+/// The S-box of a byte, by its row and column.
+fn boxed(byte: u8) -> u8 {
+    let row = S_BOX[usize::from(byte / 16)].to_be_bytes();
+    row[usize::from(byte % 16)]
+}
+
+/// SubBytes and ShiftRows.
+fn shifted(state: &[u8; 16]) -> [u8; 16] {
+    let mut moved = [0; 16];
+    for place in 0..16usize {
+        moved[place] = boxed(state[place * 5 % 16]);
+    }
+    moved
+}
+
+fn doubled(byte: u8) -> u8 {
+    (byte << 1) ^ ((byte >> 7) * 0x1b)
+}
+
+/// MixColumns.
+fn mixed(state: &[u8; 16]) -> [u8; 16] {
+    let mut mixed = [0; 16];
+    for place in 0..16usize {
+        let top = place / 4 * 4;
+        let (one, two) = (state[place], state[top + (place + 1) % 4]);
+        let (three, four) = (state[top + (place + 2) % 4], state[top + (place + 3) % 4]);
+        mixed[place] = doubled(one ^ two) ^ two ^ three ^ four;
+    }
+    mixed
+}
+
+/// The next round's key of a key of 16 bytes.
+fn next_key(key: &[u8; 16], constant: u8) -> [u8; 16] {
+    let mut next = *key;
+    next[0] ^= constant;
+    for place in 0..4usize {
+        next[place] ^= boxed(key[12 + (place + 1) % 4]);
+    }
+    for place in 4..16usize {
+        next[place] ^= next[place - 4];
+    }
+    next
+}
+
+/// Sixteen times this byte, sealed under zeros by the table alone. Each is boxed as it is, since the
+/// first round's key is zeros.
+fn sealed_by_table(byte: u8) -> [u8; 16] {
+    let (mut key, mut state) = ([0; 16], [byte; 16]);
+    for constant in [1, 2, 4, 8, 16, 32, 64, 128, 0x1b] {
+        key = next_key(&key, constant);
+        state = xor(&mixed(&shifted(&state)), &key);
+    }
+    xor(&shifted(&state), &next_key(&key, 0x36))
+}
+
+/// Sixteen times this byte, as it is sealed under zeros, and that as it is unsealed.
+fn sealed_under_zeros(byte: u8) -> Result<[[u8; 16]; 2], KeyLength> {
+    let cipher = Aes::new(&[0; 16])?;
+    let mut block = [byte; 16];
+    cipher.seal(&mut block);
+    let sealed = block;
+    cipher.unseal(&mut block);
+    Ok([sealed, block])
+}
+
 #[test]
 fn s_box_of_each_byte(rt: HostRuntime) {
-    let mut bytes = u8x16::from_array([0, 1, 2, 3, 4, 5, 6, 7, 8, 9, 10, 11, 12, 13, 14, 15]);
-    for row in S_BOX {
-        let boxed = sub_block(bytes);
-        assert_eq!(rt; u128::from_be_bytes(boxed.to_array()), row);
-        let planes = to_planes(copies(boxed ^ u8x16::splat(CONSTANT)));
-        let back = to_blocks(inverse_sub_bytes(planes)).b7;
-        assert_eq!(rt; back.to_array(), bytes.to_array());
-        bytes = bytes + u8x16::splat(16);
+    for byte in 0..=255u8 {
+        let wanted = [sealed_by_table(byte), [byte; 16]];
+        same(&rt, sealed_under_zeros(byte), Ok(wanted));
     }
 }
 
@@ -137,57 +209,46 @@ fn vector_of(block: u128) -> u8x16 {
     u8x16::from_array(block.to_be_bytes())
 }
 
-fn block_of(vector: u8x16) -> u128 {
-    u128::from_be_bytes(vector.to_array())
+/// Four blocks, and the same from the last to the first.
+fn eight_of(blocks: [u128; 4]) -> EightBlocks {
+    EightBlocks {
+        b0: vector_of(blocks[0]),
+        b1: vector_of(blocks[1]),
+        b2: vector_of(blocks[2]),
+        b3: vector_of(blocks[3]),
+        b4: vector_of(blocks[3]),
+        b5: vector_of(blocks[2]),
+        b6: vector_of(blocks[1]),
+        b7: vector_of(blocks[0]),
+    }
 }
 
 #[test]
 fn eight_blocks_are_sealed_and_unsealed_at_once(rt: HostRuntime) -> Result<(), Fail> {
     let [.., first, second, third, fourth] = &PUBLISHED;
-    let mut key = [0; 32];
-    key[..16].copy_from_slice(&first.key.to_be_bytes());
-    key[16..].copy_from_slice(&first.more.unwrap_or(0).to_be_bytes());
-    let cipher = Aes::new(&key)?;
-    let mut blocks = EightBlocks {
-        b0: vector_of(first.plain),
-        b1: vector_of(second.plain),
-        b2: vector_of(third.plain),
-        b3: vector_of(fourth.plain),
-        b4: vector_of(fourth.plain),
-        b5: vector_of(third.plain),
-        b6: vector_of(second.plain),
-        b7: vector_of(first.plain),
-    };
+    let plain = eight_of([first.plain, second.plain, third.plain, fourth.plain]);
+    let sealed = eight_of([first.sealed, second.sealed, third.sealed, fourth.sealed]);
+    let cipher = cipher_of(first)?;
+    let mut blocks = plain;
     cipher.seal_eight(&mut blocks);
-    assert_eq!(rt; block_of(blocks.b0), first.sealed);
-    assert_eq!(rt; block_of(blocks.b1), second.sealed);
-    assert_eq!(rt; block_of(blocks.b2), third.sealed);
-    assert_eq!(rt; block_of(blocks.b3), fourth.sealed);
-    assert_eq!(rt; block_of(blocks.b4), fourth.sealed);
-    assert_eq!(rt; block_of(blocks.b5), third.sealed);
-    assert_eq!(rt; block_of(blocks.b6), second.sealed);
-    assert_eq!(rt; block_of(blocks.b7), first.sealed);
+    same(&rt, blocks.to_arrays(), sealed.to_arrays());
     cipher.unseal_eight(&mut blocks);
-    assert_eq!(rt; block_of(blocks.b0), first.plain);
-    assert_eq!(rt; block_of(blocks.b1), second.plain);
-    assert_eq!(rt; block_of(blocks.b2), third.plain);
-    assert_eq!(rt; block_of(blocks.b3), fourth.plain);
-    assert_eq!(rt; block_of(blocks.b4), fourth.plain);
-    assert_eq!(rt; block_of(blocks.b5), third.plain);
-    assert_eq!(rt; block_of(blocks.b6), second.plain);
-    assert_eq!(rt; block_of(blocks.b7), first.plain);
+    same(&rt, blocks.to_arrays(), plain.to_arrays());
     Ok(())
+}
+
+/// The length that is refused, if a key of so many bytes is.
+fn refused(length: usize) -> Option<KeyLength> {
+    let bytes = [0x5a; 64];
+    Aes::new(&bytes[..length.min(64)]).err()
 }
 
 #[test]
 fn other_key_lengths_are_refused(rt: HostRuntime) {
-    let bytes = [0x5a; 64];
     for length in [0, 1, 15, 17, 24, 31, 33, 48, 64] {
-        let refused = Aes::new(&bytes[..length]).err();
-        assert_eq!(rt; refused, Some(KeyLength(length)), "at {length}");
+        same(&rt, refused(length), Some(KeyLength(length)));
     }
-    assert!(rt; Aes::new(&bytes[..16]).is_ok());
-    assert!(rt; Aes::new(&bytes[..32]).is_ok());
+    same(&rt, [refused(16), refused(32)], [None, None]);
 }
 
 fn is_shared<T: Send + Sync>(_value: &T) {}
@@ -198,9 +259,7 @@ fn a_key_is_shared_between_threads(rt: HostRuntime) -> Result<(), Fail> {
     is_shared(&cipher);
     let mut block = [0; 16];
     cipher.seal(&mut block);
-    assert_eq!(rt;
-        u128::from_be_bytes(block),
-        0x66e94bd4_ef8a2c3b_884cfa59_ca342b2e
-    );
+    let sealed = u128::from_be_bytes(block);
+    same(&rt, sealed, 0x66e94bd4_ef8a2c3b_884cfa59_ca342b2e);
     Ok(())
 }
