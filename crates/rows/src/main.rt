@@ -85,6 +85,7 @@ mod lines;
 mod metadata;
 mod numbers;
 mod running;
+mod sessions;
 mod showing;
 mod stops;
 mod vectors;
