@@ -1,8 +1,7 @@
 // Why a volume that is being converted isn't opened.
 
-use joined_disk::JoinedDisk;
 use reenc_recovery::OpenCause;
-use sector_disk::Disk;
+use sector_disk::{Disk, JoinedDisk};
 use zone_mending::MendFault;
 
 /// Why a volume that is being converted isn't opened: the first of the causes that the disks and the

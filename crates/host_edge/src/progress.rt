@@ -1,6 +1,6 @@
 // What people are told of a conversion on its way.
 
-use io_edge::{Converted, Gate, Place};
+use gates::{Converted, Gate, Place};
 use std::fmt::{self, Display, Formatter, Write};
 use std::io::{IsTerminal, Stderr};
 use std::sync::Mutex;

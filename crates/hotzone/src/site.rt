@@ -5,7 +5,7 @@ ghost use Rattle.hotzone.specs.Sites.{IsSaved, count_of, guard_of, part_at, save
 ghost use Rattle.sector_disk.specs.Geometry.{IsAtom};
 ghost use Rattle.luks_rules.specs.Rooms.{capacity_by};
 
-use block_range::BlockRange;
+use base_terms::BlockRange;
 use luks_json::Resilience;
 use luks_rules::Conversion;
 use segment_map::{Direction, Map};
@@ -42,7 +42,7 @@ pub struct Site {
 }
 
 impl Site {
-    ghost use Rattle.block_range.specs.Blocks.{len_of};
+    ghost use Rattle.base_terms.specs.Ranges.Blocks.{len_of};
 
     /// How many atoms of the zone the part has that begins behind the first `done` of them: those
     /// that are left, or as many as 1 MiB has.

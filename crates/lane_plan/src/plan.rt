@@ -10,8 +10,7 @@ mod pieces;
 
 use crate::buffers::{grown, with_zeros};
 use crate::{Answer, Call, Next};
-use base_terms::{Buffer, Bytes};
-use block_range::BlockRange;
+use base_terms::{BlockRange, Buffer, Bytes};
 use cipher_laws::SectorCipher;
 use plain_disk::{Op, Reply};
 use segment_map::{Map, Piece};

@@ -3,7 +3,7 @@ ghost use Rattle.std.specs.List.{list_any};
 ghost use Rattle.luks_rules.specs.Areas.{area_of, areas_of, end_of, areas_begin, areas_end};
 ghost use Rattle.luks_rules.specs.Areas.{is_outside, passes_limit, breaks_bounds};
 
-use disk_sizes::Sizes;
+use base_terms::Sizes;
 use luks_json::{Config, Keyslot, Parts, Segment};
 use std::alloc::{AllocError, Global};
 

@@ -11,7 +11,7 @@ use crate::idle::{Idle, find_idle};
 use crate::rules::judge;
 use crate::segments::any_goes_to_end;
 use crate::shape::Progress;
-use disk_sizes::Sizes;
+use base_terms::Sizes;
 use luks_json::{Digest, Meta};
 use std::alloc::Global;
 use std::marker::Model;

@@ -8,7 +8,7 @@
 //! Memory is taken when a table is made, and never after.
 #![tactic(auto)]
 
-use block_range::BlockRange;
+use base_terms::BlockRange;
 
 mod table;
 

@@ -7,7 +7,7 @@ ghost use Rattle.reenc_meta.specs.Placements.{all_atoms, base_of, IsIdlePlacemen
 ghost use Rattle.reenc_meta.specs.Places.{IsRightFor};
 ghost use Rattle.sector_disk.specs.Geometry.{IsDisk};
 
-use disk_sizes::Sizes;
+use base_terms::Sizes;
 use luks_rules::{Extent, Idle, Valid};
 use segment_map::{Direction, Map};
 

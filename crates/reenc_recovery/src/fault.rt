@@ -3,12 +3,11 @@
 ghost use Rattle.std.specs.Prelude.{◌≡◌};
 
 use base_terms::Bytes;
-use joined_disk::JoinedDisk;
 use json_members::JsonFault;
 use luks_bin::BinFault;
 use luks_rules::RuleFault;
 use luks_store::StoreFault;
-use sector_disk::Disk;
+use sector_disk::{Disk, JoinedDisk};
 use std::alloc::AllocError;
 
 /// Why a volume isn't opened: the first of the causes from `NoHeader` on that the disks and the key

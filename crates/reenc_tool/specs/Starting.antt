@@ -5,9 +5,9 @@ use Rattle.bays.specs.Bays.{Holdings, LeavesAll}
 use Rattle.command_line.specs.Starts.{Starting, guard_name}
 use Rattle.command_line.specs.declared.starting.Guard.{Guard as NamedGuard}
 use Rattle.command_line.specs.declared.starting.Guard.TheVariants as named
-use Rattle.init_disk.specs.Answers.{IsStartedBy, IsUnstartedBy}
-use Rattle.init_disk.specs.declared.refusal.Refusal.{Refusal}
-use Rattle.init_disk.specs.declared.refusal.Refusal.TheVariants as starts
+use Rattle.luks_init.specs.DiskInit.Answers.{IsStartedBy, IsUnstartedBy}
+use Rattle.luks_init.specs.declared.init_disk.refusal.Refusal.{Refusal}
+use Rattle.luks_init.specs.declared.init_disk.refusal.Refusal.TheVariants as starts
 use Rattle.io_edge.specs.Supply.{Supply}
 use Rattle.luks_init.specs.declared.wish.Guard.{Guard}
 use Rattle.luks_init.specs.declared.wish.Guard.TheVariants.{Journal, Checksum}

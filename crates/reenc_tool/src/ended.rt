@@ -7,7 +7,7 @@ ghost use Rattle.reenc_tool.specs.Texts.{fault_line};
 use crate::history::Pass;
 use crate::volume_refusal::VolumeRefusal;
 use block_server::VolumePass;
-use format_disk::FormatFault;
+use luks_format::FormatFault;
 use luks_rules::RuleFault;
 use luks_slots::SlotFault;
 use luks_store::StoreFault;

@@ -3,8 +3,7 @@
 ghost use Rattle.std.specs.Prelude.{◌≡◌, option_map};
 
 use block_server::VolumePass;
-use joined_disk::JoinedDisk;
-use sector_disk::Disk;
+use sector_disk::{Disk, JoinedDisk};
 
 /// The pass of a volume whose sessions were served, by which its whole history is known: to clauses,
 /// since no event is stored.

@@ -1,6 +1,6 @@
 // What people are told while a command goes on.
 
-use io_edge::Gate;
+use gates::Gate;
 use sector_disk::Disk;
 use std::alloc::Global;
 

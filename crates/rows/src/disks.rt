@@ -1,12 +1,13 @@
 // The disks of a script, and what is left of them.
 
 ghost use Rattle.std.specs.Prelude.{IfOk};
-ghost use Rattle.sector_disk.specs.Images.{IsChoice};
+ghost use Rattle.memory_disks.specs.Images.{IsChoice};
 
 use crate::numbers::number;
 use anyhow::{Result, anyhow};
 use base_terms::zeros;
-use sector_disk::{Choice, Disk, MemDisk};
+use memory_disks::{Choice, MemDisk};
+use sector_disk::Disk;
 use sha2::{Digest, Sha256};
 use std::alloc::Global;
 

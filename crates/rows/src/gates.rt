@@ -1,7 +1,7 @@
 // A gate at which clients and the worker of a conversion meet, and that keeps what it is told.
 
 use anyhow::{Result, anyhow};
-use io_edge::{Converted, Gate, Place};
+use gates::{Converted, Gate, Place};
 use std::alloc::Global;
 use std::sync::Mutex;
 use std::sync::atomic::{AtomicU64, Ordering};

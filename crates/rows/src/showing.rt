@@ -8,7 +8,7 @@ use crate::stops::{show_faults, show_stops};
 use crate::vectors::value_of;
 use crate::world::{Next, World};
 use anyhow::{Context, Result};
-use sector_disk::MemDisk;
+use memory_disks::MemDisk;
 use std::fs;
 use std::sync::Wait;
 use std::thread::Threads;

@@ -9,7 +9,7 @@ use crate::lines::{Change, Origin, Setting};
 use crate::metadata::{Stand, nothing};
 use crate::numbers::numbers;
 use anyhow::{Context, Result, anyhow};
-use sector_disk::MemDisk;
+use memory_disks::MemDisk;
 use std::alloc::Global;
 use std::fs;
 

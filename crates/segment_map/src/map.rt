@@ -4,7 +4,7 @@ ghost use Rattle.std.specs.Prelude.{◌+◌, ◌^◌, ◌<◌, ◌≤◌};
 ghost use Rattle.segment_map.specs.Sides.{left_of};
 
 use crate::{Direction, Side};
-use block_range::BlockRange;
+use base_terms::BlockRange;
 
 /// The bytes of the longest piece: 1 MiB.
 const MOST_BYTES: u32 = 1_048_576;

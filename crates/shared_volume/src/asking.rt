@@ -1,7 +1,7 @@
 // What is asked of a volume that threads share.
 
 use crate::calling::LaneCall;
-use io_edge::Converted;
+use gates::Converted;
 use lane_plan::Answer;
 use volume_core::Worked;
 

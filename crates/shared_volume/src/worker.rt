@@ -8,13 +8,13 @@ ghost use Rattle.volume_cell.specs.Passes.{IsPassOf, known};
 use crate::asking::{SharedEvent, SharedOutcome};
 use crate::machine::SharedVolume;
 use crate::sharing::SharedCell;
-use io_edge::Converted;
+use gates::Converted;
 use reenc_worker::{WorkAnswer, WorkerEnd, WorkerPort};
 use sector_disk::Disk;
 use std::sync::Wait;
 use std::thread::Threads;
 use volume_cell::Pass;
-use volume_worker::told;
+use volume_core::told;
 
 /// The worker of a volume that threads share: the pass by which it asks, whose name is the number
 /// of the last lane, and what its last call told. Each call makes one step of the conversion, an

@@ -2,8 +2,7 @@
 
 use crate::same::same;
 use aes_core::{Aes, KeyLength};
-use cipher_blocks::xor;
-use cipher_laws::{BlockCipher, EightBlocks};
+use cipher_laws::{BlockCipher, EightBlocks, xor};
 use std::simd::prelude::*;
 use std::test::Fail;
 

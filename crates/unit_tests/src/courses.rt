@@ -1,8 +1,8 @@
 // What people are told of a conversion on its way, and when.
 
 use crate::same::same;
+use gates::Converted;
 use host_edge::{Course, Told};
-use io_edge::Converted;
 use std::alloc::{AllocError, Global};
 use std::io;
 use std::process::Abort;

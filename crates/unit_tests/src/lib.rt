@@ -9,8 +9,8 @@
 //! - `checksums`: resil_checksum, digests beside another implementation's.
 //! - `ciphers`: aes_core, the vectors and the S-box of the cipher's standard.
 //! - `copies`: luks_copies, commits and repairs on a disk, each call failing in turn.
-//! - `courses`: host_edge, what people are told of a conversion on its way, and when.
 //! - `edges`: file_disk and host_edge, over a file and a network that refuse.
+//! - `courses`: host_edge, what people are told of a conversion on its way, and when.
 //! - `formats`: luks_format, a new volume's header beside another implementation's.
 //! - `headers`: luks_bin, copies that are written, changed and read, also one by cryptsetup.
 //! - `joining`: joined_disk, calls over the seam, each of either disk's failing in turn.

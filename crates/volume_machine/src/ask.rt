@@ -3,8 +3,7 @@
 ghost use Rattle.std.specs.Prelude.{◌≡◌, ◌+◌, ◌/◌, ◌<◌};
 ghost use Rattle.sector_disk.specs.Geometry.{IsAtom};
 
-use base_terms::{INVALID, NO_SPACE};
-use block_range::BlockRange;
+use base_terms::{BlockRange, INVALID, NO_SPACE};
 use plain_disk::{MAX_READ, wrong_range};
 use range_lock::Kind;
 

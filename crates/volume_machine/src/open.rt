@@ -3,7 +3,7 @@
 ghost use Rattle.std.specs.Prelude.{◌≡◌, ◌+◌, ◌<◌, ◌^◌, Some, false, length};
 
 use crate::Ask;
-use block_range::BlockRange;
+use base_terms::BlockRange;
 use segment_map::Piece;
 
 /// The operation of a lane under way: the session that asked for it, its blocks, the first of them

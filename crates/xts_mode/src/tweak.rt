@@ -2,7 +2,7 @@
 
 ghost use Rattle.std.specs.Prelude.{◌≡◌, ℕ, ◌<◌};
 ghost use Rattle.cipher_laws.specs.Eight.{block};
-ghost use Rattle.cipher_blocks.specs.Blocks.{number_block};
+ghost use Rattle.cipher_laws.specs.CipherBlocks.Blocks.{number_block};
 ghost use Rattle.xts_mode.specs.Xts.{doubled, doubled_times};
 
 use cipher_laws::EightBlocks;
