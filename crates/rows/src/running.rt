@@ -1,7 +1,7 @@
 // Commands that are run.
 
 use crate::disks::{calls_of, left_on};
-use crate::gates::ScriptGate;
+use crate::meeting::ScriptGate;
 use crate::sessions::{put_of, sessions_of};
 use crate::world::World;
 use anyhow::{Result, anyhow};

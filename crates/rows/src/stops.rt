@@ -4,7 +4,7 @@ use crate::disks::{Limit, disk_with, sum_of};
 use crate::running::{Outcome, run_on};
 use crate::world::World;
 use anyhow::{Result, anyhow};
-use sector_disk::MemDisk;
+use memory_disks::MemDisk;
 use sha2::{Digest, Sha256};
 use std::alloc::Global;
 use std::sync::Wait;
