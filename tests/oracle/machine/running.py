@@ -5,7 +5,7 @@ import hashlib
 import json
 import re
 
-from ..conversion.images import runs_of
+from ..conversion.images import content
 from ..luks.ciphers import sum_of
 from ..luks.header import Header
 from . import serving
@@ -18,15 +18,13 @@ IMAGES = ["oldest", "newest", "0,1", "1,0,1"]
 # by how many places of their list the second stops of two images are apart
 APART = 5
 # what a line may be that isn't why nothing was opened
-OTHERS = re.compile(r"\d+ told, |link \d+: |met$|missed$|(disk|header): \d+ calls, ")
+OTHERS = re.compile(r"says |\d+ told, |link \d+: |met$|missed$|(disk|header): \d+ calls, ")
 
 
 def run_on(world, words, disks, clients=()):
     """A command's end, on these disks, for these clients, and the bay behind it."""
-    fails = world.next.fails_of
-    bay = Bay(disks, world.seed(), fails("bay"), fails("seeds"), world.keys, clients)
-    bay.link_fails = {link: fails(f"link{link}") for link in range(4)}
-    ended = put_out(ended_by(bay, words), world.next.room, fails("out"))
+    bay = Bay(disks, world.keys, world.seed(), clients, world.next.fails_of)
+    ended = put_out(ended_by(bay, words), world.next.room, world.next.fails_of("out"))
     if any(world.next.taken < len(session.put) for _, _, session in bay.sessions):
         raise NotJudged
     return ended, bay
@@ -73,12 +71,14 @@ def disks_of(world):
 
 
 def run(world, words, is_loose, there):
-    """The lines of a command that is run; why nothing was opened is taken as it is there."""
+    """The lines of a command that is run; why nothing was opened, and what people are told besides, are taken
+    as they are there."""
     disks = disks_of(world)
     ended, bay = run_on(world, words, disks, world.next.clients)
     lines = [told(ended)]
     if ended[0] and len(there) > 1 and not OTHERS.match(there[1]):
         lines.append(there[1])
+    lines += [line for line in there if line.startswith("says ")]
     if bay.course and not is_loose:
         lines.append(bay.course)
     lines += [told_session(*one) for one in in_order(bay.sessions)]
@@ -133,7 +133,7 @@ class Scene:
         if not header.in_progress():
             return serving.opened_idle(disk, header, passphrase).content()
         volume = Volume(disk, header.objects, find_keys(disk, header.objects, passphrase))
-        return b"".join(data for _, _, data in runs_of(volume, data)[1])
+        return content(volume, data)
 
     def checked(self, data):
         assert self.content_of(data) == self.content, "an image of another content"

@@ -8,7 +8,7 @@ from ..luks.header import MAGICS, copy_of, summed
 from .changes import noted
 
 UNIFORM = "12345678-1234-4234-8234-123456789ABC"
-SHOWN = ("run", "loose", "stops", "faults", "value", "metadata")
+SHOWN = ("run", "loose", "stops", "faults", "words", "value", "metadata")
 
 
 def rising(length, first, modulus):

@@ -2,38 +2,15 @@
 conversion is led to its end behind them. What is read and written of the disk goes by pieces of at
 most 1 MiB on one side (docs/CONVERSION.md)."""
 
-import argparse
-
-from ..conversion.zones import Led, mend
+from ..conversion.zones import Led
 from ..luks.ciphers import UNIT, Side
 from ..luks.header import Header
 from ..nbd import server as nbd
-from ..words import Faulty, Parser
 from .bay import Ended, device, failing, fault, no_fit, read_header
 from .commands import COMMANDS, checked, find_key, led_to_its_end, taken_up
 from .disk import Failed
 
 PIECE = 1048576
-
-
-class Words(argparse.Namespace):
-    """What the words of `serve` ask for."""
-
-    @classmethod
-    def of(cls, words):
-        parser = Parser()
-        for name in ("key-file", "listen", "idle-timeout"):
-            parser.add_argument("--" + name)
-        for name in ("plain", "no-worker", "verbose"):
-            parser.add_argument("--" + name, action="store_true")
-        for name, default in [("atom", 4096), ("workers", 4), ("sessions", 65535)]:
-            parser.add_argument("--" + name, type=int, default=default)
-        wish = parser.parse_args(words, cls())
-        if not (1 <= wish.workers <= 16 and 1 <= wish.sessions <= 65535):
-            raise Faulty
-        if wish.plain == bool(wish.key_file) or wish.listen is None:
-            raise Faulty
-        return wish
 
 
 class Plain:
@@ -162,7 +139,7 @@ def served(bay, wish, blocks):
     lasts = []
     for link in range(wish.workers):
         asked = len(clients[link :: wish.workers]) + 1
-        fails = [call for call in bay.link_fails.get(link, ()) if call < asked]
+        fails = [call for call in bay.fails_of(f"link{link}") if call < asked]
         lasts.append(min(fails, default=asked))
         failed += bool(fails)
     for number, sent in enumerate(clients):
@@ -172,8 +149,7 @@ def served(bay, wish, blocks):
     return failed
 
 
-def serve(bay, words):
-    wish = Words.of(words)
+def serve(bay, wish):
     disk = bay.disk(wish.disk, wish.atom)
     blocks, volume = opened(bay, disk, wish)
     bay.listen(wish.listen)
