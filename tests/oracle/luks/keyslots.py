@@ -37,13 +37,17 @@ def key_in(data, passphrase, kdf, af_hash, area, size):
     return merged(stripes[: size * STRIPES], size, af_hash)
 
 
+@functools.lru_cache(None)
+def digest_of(key, hash_name, salt, iterations, length):
+    return hashlib.pbkdf2_hmac(hash_name, key, salt, iterations, length)
+
+
 def is_of(key, digest):
     """Whether a key has this digest, which is of 20 to 64 bytes."""
     wanted, salt = base64.b64decode(digest["digest"]), base64.b64decode(digest["salt"])
     if not 20 <= len(wanted) <= 64 or digest["hash"] not in HASHES:
         return False
-    told = hashlib.pbkdf2_hmac(digest["hash"], key, salt, digest["iterations"], len(wanted))
-    return told == wanted
+    return digest_of(key, digest["hash"], salt, digest["iterations"], len(wanted)) == wanted
 
 
 def unlock(disk, objects, digests, passphrase):
