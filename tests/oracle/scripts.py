@@ -61,8 +61,10 @@ def told_of(words, there):
     try:
         asked(words)
         return ["taken"]
-    except Faulty:
-        return ["faulty"] if there in ([], ["taken"]) else there
+    except Faulty as found:
+        if not there:
+            raise NotJudged from found
+        return ["faulty"] if there == ["taken"] else there
 
 
 def come_to(world, line, there):

@@ -4,12 +4,14 @@ one whose device calls fail; the latter two go on, and a client is served at the
 import hashlib
 import json
 import re
+from types import SimpleNamespace
 
 from ..conversion.images import content
 from ..luks.ciphers import sum_of
 from ..luks.header import Header
 from . import serving
-from ..words import NotJudged
+from ..nbd import server as nbd
+from ..words import NotJudged, asked
 from .bay import Bay
 from .commands import Volume, ended_by, find_keys
 from .disk import Disk
@@ -59,6 +61,28 @@ def in_order(sessions):
     return sorted(sessions, key=lambda one: one[:2])
 
 
+def breaks_beside(world, words, there):
+    """The lines of a command whose conversion a failing call breaks beside one client's requests: some of
+    these come before that, and each behind it is refused, as it is there. Of the disk behind it the
+    volume's content is known, and that its conversion isn't at its end."""
+    if not there:
+        raise NotJudged
+    (name, shelf), (sent,) = next(iter(world.disks.items())), world.next.clients
+    wish = SimpleNamespace(**asked(words.split(" ")))
+    disk = Disk(shelf.atom, shelf.bytes)
+    bay = Bay({name: disk}, world.keys, b"")
+    blocks, _ = serving.opened(bay, bay.disk(name, wish.atom), wish)
+    for healthy in range(sent.count(b"\x25\x60\x95\x13") + 1):
+        session = nbd.Session(bytearray(blocks.content()), shelf.atom, sent, healthy)
+        line = told_session(0, 0, session)
+        if line in there:
+            break
+    blocks.write(0, bytes(session.disk))
+    shelf.bytes = disk.bytes()
+    ended = 2, "Device { failing: Writing, faults: 1 }", "fault 2 Device\n"
+    return [told(ended), line] + ["met"] * (world.next.meet is not None)
+
+
 def disks_of(world):
     disks = {}
     for name, shelf in world.disks.items():
@@ -74,6 +98,8 @@ def run(world, words, is_loose, there):
     """The lines of a command that is run; why nothing was opened, and what people are told besides, are taken
     as they are there."""
     disks = disks_of(world)
+    if is_loose and world.next.clients and world.next.fails_of(next(iter(disks))):
+        return breaks_beside(world, words, there)
     ended, bay = run_on(world, words, disks, world.next.clients)
     lines = [told(ended)]
     if ended[0] and len(there) > 1 and not OTHERS.match(there[1]):

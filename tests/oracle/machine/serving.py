@@ -49,12 +49,8 @@ class Blocks:
             self.broken = failed.args[0] != "read"
             raise
 
-    def read(self, at, length):
-        found = b""
-        for place, size, side in self.pieces(at, length):
-            data = self.call(self.disk.read, self.offset + place, size)
-            found += side.opened(data, place // UNIT)
-        return found
+    def read_piece(self, place, size, side):
+        return side.opened(self.call(self.disk.read, self.offset + place, size), place // UNIT)
 
     def write(self, at, data):
         for place, size, side in self.pieces(at, len(data)):
@@ -80,10 +76,13 @@ class OnDisk(nbd.Session):
         super().__init__(bytearray(blocks.content()), blocks.disk.atom, sent)
 
     def carried_out(self, kind, flags, offset, data):
-        blocks = self.blocks
+        blocks, is_broken = self.blocks, self.blocks.broken
         try:
             if kind == nbd.READ:
-                self.disk[offset : offset + len(data)] = blocks.read(offset, len(data))
+                for place, size, side in blocks.pieces(offset, len(data)):
+                    self.failed_at = None if is_broken else place
+                    self.disk[place : place + size] = blocks.read_piece(place, size, side)
+                self.failed_at = None
             elif kind == nbd.FLUSH:
                 blocks.call(blocks.disk.settle)
             else:
