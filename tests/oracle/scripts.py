@@ -1,6 +1,6 @@
-"""The scripts of the crate `rows`, and what each line of theirs comes to that shows something. A command of
-which this implementation says nothing is passed over, and so are those behind it up to the next disk,
-where it left another one."""
+"""The scripts of the crate `rows`, and what each line of theirs comes to that shows something. A
+command of which this implementation says nothing is passed over, and so are those behind it up
+to the next disk, where it left another one."""
 
 import os
 import re
@@ -83,8 +83,8 @@ def come_to(world, line, there):
 
 
 class Script:
-    """What a script comes to, beside what is printed of it; how many of its lines are judged, and how many
-    are passed over."""
+    """What a script comes to, beside what is printed of it; how many of its lines are judged,
+    and how many are passed over."""
 
     def __init__(self, name, part):
         self.lines, self.judged, self.passed = [f"{name}.rows"], 0, 0

@@ -9,8 +9,8 @@ from .steps import FINAL, PREVIOUS, ZONE, digest_of
 
 
 def content_of_zone(volume, image, place, first, count):
-    """What the blocks of an open zone open to: by journal what was saved of them; by checksum what is
-    in their places, under the old key where it has the digest that was saved."""
+    """What the blocks of an open zone open to: by journal what was saved of them; by checksum
+    what is in their places, under the old key where it has the digest that was saved."""
     atom, area = volume.atom, volume.found.area
     saved, units = int(area["offset"]), atom // UNIT
     if area["type"] == "journal":

@@ -1,7 +1,7 @@
-"""A zone that a stop left open, written again (docs/CONVERSION.md): what is saved of it is opened under
-the old key, sealed under the new one and put where the zone is, part by part (by checksum what is
-there of old atoms, as the digests tell, and new ones are put there again); and the header gets the
-next number and the metadata with the boundary moved."""
+"""A zone that a stop left open, written again (docs/CONVERSION.md): what is saved of it is
+opened under the old key, sealed under the new one and put where the zone is, part by part (by
+checksum what is there of old atoms, as the digests tell, and new ones are put there again); and
+the header gets the next number and the metadata with the boundary moved."""
 
 import hashlib
 
@@ -32,8 +32,8 @@ class Mended:
         return self.volume.new.sealed(self.volume.old.opened(old, first), first)
 
     def part(self, disk, done, count, at):
-        """Reads a part, and says what it is to be. By checksum an atom in the zone is an old one where
-        it has the digest that was saved of it; all others are new."""
+        """Reads a part, and says what it is to be. By checksum an atom in the zone is an old one
+        where it has the digest that was saved of it; all others are new."""
         volume, atom = self.volume, self.volume.atom
         saved = int(self.found.area["offset"])
         if self.found.area["type"] == "journal":

@@ -1,5 +1,5 @@
-"""Conversions that are led zone by zone: the device calls of each zone and of the finish, one after the
-other (docs/CONVERSION.md), with the metadata of steps.py."""
+"""Conversions that are led zone by zone: the device calls of each zone and of the finish, one
+after the other (docs/CONVERSION.md), with the metadata of steps.py."""
 
 import hashlib
 
@@ -12,8 +12,8 @@ PART = 1048576
 
 
 class Fault(Exception):
-    """Why no step follows: `SeqEnd`, how many numbers are left and how many are wanted, or `JsonFull`, a
-    text's length and the limit."""
+    """Why no step follows: `SeqEnd`, how many numbers are left and how many are wanted, or
+    `JsonFull`, a text's length and the limit."""
 
 
 class Led:

@@ -123,8 +123,8 @@ def sealed_stripes(key, drawn_stripes, passphrase, salt, iterations):
 
 
 class KeyDraw:
-    """A key and what is drawn with it, in this order: the key, the keyslot's salt, the stripes but the
-    last, and the digest's salt; what a volume's making draws besides is left."""
+    """A key and what is drawn with it, in this order: the key, the keyslot's salt, the stripes
+    but the last, and the digest's salt; what a volume's making draws besides is left."""
 
     def __init__(self, key_size, data):
         self.left = data

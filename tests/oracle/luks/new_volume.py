@@ -12,8 +12,8 @@ class Wish(SimpleNamespace):
     """What the words of `format` ask for."""
 
     def keyslots_end(self):
-        """Where the keyslots area ends: with the gap in front of the data, or at 16 MiB of a disk of
-        its own."""
+        """Where the keyslots area ends: with the gap in front of the data, or at 16 MiB of a
+        disk of its own."""
         return 16 << 20 if self.header is not None else self.data_offset
 
     def keyslots_size(self):

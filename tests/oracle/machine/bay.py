@@ -24,7 +24,8 @@ def no_fit(what, number, limit):
 
 
 def refused(found):
-    """What ends a command where something doesn't fit, or headers to come have no number or no room."""
+    """What ends a command where something doesn't fit, or headers to come have no number or no
+    room."""
     what, first, second = found.args
     if isinstance(found, NoFit):
         return no_fit(what, first, second)
@@ -32,9 +33,9 @@ def refused(found):
 
 
 class Bay:
-    """Disks and key files by their names, the 32 bytes that are drawn, what clients at the address `A` send,
-    and the numbers of the calls that fail by whose they are. It keeps which disks were opened, the links'
-    sessions, and what a gate was told."""
+    """Disks and key files by their names, the 32 bytes that are drawn, what clients at the
+    address `A` send, and the numbers of the calls that fail by whose they are. It keeps which
+    disks were opened, the links' sessions, and what a gate was told."""
 
     def __init__(self, disks, keys, seed, clients=(), fails_of=lambda _: ()):
         self.disks, self.keys, self.drawn_from = disks, keys, seed
@@ -69,8 +70,8 @@ class Bay:
 
 
 class failing:
-    """What device calls are made for: one that fails in here ends the command so, and so does a headers'
-    text or number that doesn't fit."""
+    """What device calls are made for: one that fails in here ends the command so, and so does a
+    headers' text or number that doesn't fit."""
 
     def __init__(self, what, disk=None):
         self.what, self.disk = what, disk

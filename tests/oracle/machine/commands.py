@@ -1,5 +1,5 @@
-"""The commands on disks in memory (docs/CLI.md): what each calls of the disk, one after the other, and
-how it ends."""
+"""The commands on disks in memory (docs/CLI.md): what each calls of the disk, one after the
+other, and how it ends."""
 
 import json
 from types import SimpleNamespace
@@ -169,8 +169,8 @@ def find_keys(disk, objects, passphrase):
 
 
 def taken_up(disk, passphrase):
-    """Opens the volume of a conversion that is under way: what is read and checked, and then what is
-    written before the first zone."""
+    """Opens the volume of a conversion that is under way: what is read and checked, and then
+    what is written before the first zone."""
     header = read_header(disk, "Reading")
     if not header.in_progress():
         raise fault(6, "WrongState")

@@ -1,5 +1,6 @@
-"""What the lines of a script come to: a command that is run, one that is stopped within its device calls, and
-one whose device calls fail; the latter two go on, and a client is served at the end."""
+"""What the lines of a script come to: a command that is run, one that is stopped within its
+device calls, and one whose device calls fail; the latter two go on, and a client is served at
+the end."""
 
 import hashlib
 import json
@@ -62,9 +63,9 @@ def in_order(sessions):
 
 
 def breaks_beside(world, words, there):
-    """The lines of a command whose conversion a failing call breaks beside one client's requests: some of
-    these come before that, and each behind it is refused, as it is there. Of the disk behind it the
-    volume's content is known, and that its conversion isn't at its end."""
+    """The lines of a command whose conversion a failing call breaks beside one client's
+    requests: some of these come before that, and each behind it is refused, as it is there. Of
+    the disk behind it the volume's content is known, and that its conversion isn't at its end."""
     if not there:
         raise NotJudged
     (name, shelf), (sent,) = next(iter(world.disks.items())), world.next.clients
@@ -95,8 +96,8 @@ def disks_of(world):
 
 
 def run(world, words, is_loose, there):
-    """The lines of a command that is run; why nothing was opened, and what people are told besides, are taken
-    as they are there."""
+    """The lines of a command that is run; why nothing was opened, and what people are told
+    besides, are taken as they are there."""
     disks = disks_of(world)
     if is_loose and world.next.clients and world.next.fails_of(next(iter(disks))):
         return breaks_beside(world, words, there)
@@ -123,8 +124,8 @@ def run(world, words, is_loose, there):
 
 
 class Scene:
-    """The first disk of a script, on which a command is stopped or fails and goes on; what comes of a disk
-    is kept by its bytes."""
+    """The first disk of a script, on which a command is stopped or fails and goes on; what comes
+    of a disk is kept by its bytes."""
 
     def __init__(self, world, words):
         self.world, self.words, self.kept = world, words, {}
@@ -151,8 +152,8 @@ class Scene:
         return " ".join(line[1] for line in lines if line[0] in ("boundary", "zone")) or "idle"
 
     def content_of(self, data):
-        """The content that an image holds by the header that it has, under the first key file that opens
-        it."""
+        """The content that an image holds by the header that it has, under the first key file
+        that opens it."""
         disk = Disk(self.atom, data)
         (key_file,) = re.findall(r"--key-file (\S+)", self.words)
         header, passphrase = Header(disk), self.world.keys[key_file]
@@ -166,8 +167,8 @@ class Scene:
         return data
 
     def goes_on(self, image, second, left):
-        """How an image goes on: the command is stopped once more, and then it isn't, and the client is
-        served. What is told, and what stands on the disk behind either."""
+        """How an image goes on: the command is stopped once more, and then it isn't, and the
+        client is served. What is told, and what stands on the disk behind either."""
         if (image, second, left) not in self.kept:
             ended, _, disk = self.ran(self.words, self.checked(image), stop=second)
             again = self.checked(disk.image(left))
@@ -189,7 +190,8 @@ def stops(world, words):
         found = []
         for which, left in enumerate(IMAGES):
             image = disk.image(left)
-            text, *behind = scene.goes_on(image, seconds[(stop + APART * which) % len(seconds)], left)
+            second = seconds[(stop + APART * which) % len(seconds)]
+            text, *behind = scene.goes_on(image, second, left)
             found.append(text)
             for data in (image, *behind):
                 images.update(data)

@@ -1,6 +1,6 @@
-"""`serve` for clients whose bytes are there: the volume is opened, the sessions follow one another, and a
-conversion is led to its end behind them. What is read and written of the disk goes by pieces of at
-most 1 MiB on one side (docs/CONVERSION.md)."""
+"""`serve` for clients whose bytes are there: the volume is opened, the sessions follow one
+another, and a conversion is led to its end behind them. What is read and written of the disk
+goes by pieces of at most 1 MiB on one side (docs/CONVERSION.md)."""
 
 from ..conversion.zones import Led
 from ..luks.ciphers import UNIT, Side
@@ -132,8 +132,8 @@ def opened(bay, disk, wish):
 
 
 def served(bay, wish, blocks):
-    """Serves the clients in the order of their numbers, each by its link, up to the call at which that
-    fails; how many links fail."""
+    """Serves the clients in the order of their numbers, each by its link, up to the call at
+    which that fails; how many links fail."""
     clients, failed = bay.clients[: wish.sessions], 0
     lasts = []
     for link in range(wish.workers):

@@ -1,8 +1,7 @@
-"""A model of the server: what a session puts for the bytes that its client sends, how it ends, and
-what is then on the disk. It says what the NBD protocol document and docs/FORMATS.md say, by its own
-words, for a disk whose calls don't fail, or whose volume is broken from some request on, and with memory for
-everything.
-"""
+"""A model of the server: what a session puts for the bytes that its client sends, how it ends,
+and what is then on the disk. It says what the NBD protocol document and docs/FORMATS.md say, by
+its own words, for a disk whose calls don't fail, or whose volume is broken from some request on,
+and with memory for everything."""
 
 import struct
 
@@ -70,8 +69,9 @@ class Ended(Exception):
 
 
 class Session:
-    """One session, from the bytes that the client sends, whose input then ends. Where `healthy` is a number, the
-    volume is broken behind so many requests: each one from then on that isn't wrong is refused."""
+    """One session, from the bytes that the client sends, whose input then ends. Where `healthy`
+    is a number, the volume is broken behind so many requests: each one from then on that isn't
+    wrong is refused."""
 
     def __init__(self, disk, atom, sent, healthy=None):
         self.disk, self.atom, self.sent, self.healthy = disk, atom, sent, healthy
@@ -180,8 +180,9 @@ class Session:
             self.put += simple_reply(cookie, error)
 
     def carried_out(self, kind, flags, offset, data):
-        """Does what a request asks for, which has so many bytes, or these; the error that it is answered, 0
-        for none. Where a piece of a read fails, `failed_at` is that piece's first byte."""
+        """Does what a request asks for, which has so many bytes, or these; the error that it is
+        answered, 0 for none. Where a piece of a read fails, `failed_at` is that piece's first
+        byte."""
         if self.healthy is not None and self.asked >= self.healthy:
             return EIO
         if kind in (WRITE, WRITE_ZEROES):
