@@ -62,6 +62,11 @@ def in_order(sessions):
     return sorted(sessions, key=lambda one: one[:2])
 
 
+def said(there):
+    """What people are told besides, as it is there."""
+    return [line for line in there if line.startswith("says ")]
+
+
 def breaks_beside(world, words, there):
     """The lines of a command whose conversion a failing call breaks beside one client's
     requests: some of these come before that, and each behind it is refused, as it is there. Of
@@ -81,7 +86,7 @@ def breaks_beside(world, words, there):
     blocks.write(0, bytes(session.disk))
     shelf.bytes = disk.bytes()
     ended = 2, "Device { failing: Writing, faults: 1 }", "fault 2 Device\n"
-    return [told(ended), line] + ["met"] * (world.next.meet is not None)
+    return [told(ended), *said(there), line] + ["met"] * (world.next.meet is not None)
 
 
 def disks_of(world):
@@ -105,7 +110,7 @@ def run(world, words, is_loose, there):
     lines = [told(ended)]
     if ended[0] and len(there) > 1 and not OTHERS.match(there[1]):
         lines.append(there[1])
-    lines += [line for line in there if line.startswith("says ")]
+    lines += said(there)
     if bay.course and not is_loose:
         lines.append(bay.course)
     lines += [told_session(*one) for one in in_order(bay.sessions)]
