@@ -4,8 +4,7 @@
 needs fio
 fio --enghelp 2>/dev/null | grep -qw nbd || { echo "skipped: fio has no nbd"; exit 77; }
 
-printf 'a passphrase' >key
-truncate -s $VOLUME volume.img
+printf 'a passphrase' >key && truncate -s $VOLUME volume.img
 reencd format volume.img --key-file key
 reencd init volume.img --key-file key
 reencd serve volume.img --key-file key --listen 127.0.0.1:$PORT --sessions 8 >done 2>said &

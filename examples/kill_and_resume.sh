@@ -10,8 +10,7 @@ serve() {
     while kill -0 $! && ! grep -qs listening said; do sleep 0.1; done
 }
 
-printf 'a passphrase' >key
-truncate -s $VOLUME volume.img
+printf 'a passphrase' >key && truncate -s $VOLUME volume.img
 reencd format volume.img --key-file key
 serve
 head -c 1M /dev/urandom >plain.img

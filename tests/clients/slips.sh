@@ -123,9 +123,8 @@ truncate -s $size whole.img
 if device=$(losetup -f --show whole.img 2>/dev/null); then
     undo=("losetup -d $device" "${undo[@]}")
     mkdir mounted
-    if command -v mke2fs >/dev/null && mke2fs -q "$device" && mount "$device" mounted 2>/dev/null; then
+    if command -v mke2fs >/dev/null && mke2fs -q "$device" && mount -o ro "$device" mounted 2>/dev/null; then
         undo=("umount mounted" "${undo[@]}")
-        sync
         for words in "format $device --key-file key" "init $device --key-file key" \
             "resume $device --key-file key" "serve $device --plain --listen stdio"; do
             # shellcheck disable=SC2086
@@ -149,7 +148,7 @@ if device=$(losetup -f --show whole.img 2>/dev/null); then
     if command -v sfdisk >/dev/null && echo "2048,,L" | sfdisk -q --wipe always "$device" 2>/dev/null &&
         losetup -d "$device" && device=$(losetup -P -f --show whole.img) && [ -b "${device}p1" ]; then
         undo=("losetup -d $device" "${undo[@]}")
-        if mke2fs -q "${device}p1" && mount "${device}p1" mounted 2>/dev/null; then
+        if mke2fs -q "${device}p1" && mount -o ro "${device}p1" mounted 2>/dev/null; then
             undo=("umount mounted" "${undo[@]}")
             keeps "$device" 2 "fault 2 Device" "device in use, mounted at $room/mounted" \
                 format "$device" --key-file key

@@ -10,7 +10,7 @@ use sector_disk::Disk;
 use std::alloc::Global;
 
 /// Why a bay doesn't give what it was asked for.
-#[derive(Clone, Copy, Debug, PartialEq, Eq)]
+#[derive(Clone, Copy, PartialEq, Eq)]
 pub enum BayFault {
     Failed,
     Memory,

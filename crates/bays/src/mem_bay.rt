@@ -6,7 +6,7 @@ ghost use Rattle.std.specs.String.{string_bytes};
 ghost use Rattle.std.specs.Str.{bytes_eq};
 ghost use Rattle.io_edge.specs.FaultPlan.{fresh_plan, next_plan};
 ghost use Rattle.sector_disk.specs.Geometry.{IsAtom};
-ghost use Rattle.sector_disk.specs.Mem.{atom_of};
+ghost use Rattle.memory_disks.specs.Mem.{atom_of};
 ghost use Rattle.bays.specs.Bays.{AfterDisk, AfterLinks, AreBounded, AreFresh, HasBayCause};
 ghost use Rattle.bays.specs.Bays.{LeavesAll, share};
 ghost use Rattle.bays.specs.Memory.{Line, AreDealt, HaveShares, IsIdle, fails_of, has_disk};
@@ -14,13 +14,14 @@ ghost use Rattle.bays.specs.Memory.{holdings_of, inputs_of, is_failed, link_stat
 ghost use Rattle.bays.specs.Names.{StandsAt, named, without};
 ghost use Rattle.std.specs.declared.alloc.Global.{Global};
 ghost use Rattle.std.specs.declared.string.String.{String};
-ghost use Rattle.sector_disk.specs.declared.mem_disk.MemDisk.{MemDisk};
+ghost use Rattle.memory_disks.specs.declared.mem_disk.MemDisk.{MemDisk};
 
 use crate::names::find_name;
 use crate::{Bay, BayFault, Manner, MemLink};
 use base_terms::Bytes;
 use io_edge::{FaultPlan, ListSink, ListSource};
-use sector_disk::{Disk, MemDisk};
+use memory_disks::MemDisk;
+use sector_disk::Disk;
 use std::alloc::{AllocError, Global};
 use std::marker::Model;
 
@@ -29,7 +30,6 @@ const KEY_BYTES: usize = 513;
 
 /// A bay in memory. Its calls fail as they were told to, by their numbers counted from 0, and where
 /// a name or the address is unknown; a call that fails changes nothing but the counts.
-#[derive(Debug)]
 pub struct MemBay {
     disks: Vec<(String, MemDisk)>,
     keys: Vec<(String, Bytes)>,

@@ -3,8 +3,9 @@
 
 ghost use Rattle.std.specs.Prelude.{◌≡◌, ◌%◌, ◌<◌, ◌≤◌, length};
 
+use bulk_seal::{seal_many, unseal_many};
 use cipher_laws::SectorCipher;
-use sector_cipher::{Context, seal_many, unseal_many};
+use sector_cipher::Context;
 use std::io;
 use std::thread::Threads;
 use std::time::{Clock, Duration, Instant};

@@ -19,8 +19,7 @@ use crate::link::Standing;
 use crate::worker::Worker;
 use crate::workers::{dismiss, engage};
 use bays::Link;
-use io_edge::Gate;
-use lanes_beside::lanes_are_alone_beside;
+use gates::Gate;
 use nbd_session::SessionEnd;
 use reenc_worker::WorkerEnd;
 use sector_cipher::Context;
@@ -34,6 +33,7 @@ use std::sync::Wait;
 use std::thread::Threads;
 use volume_cell::Pass;
 use volume_core::Volume;
+use volume_laws::lanes_are_alone_beside;
 
 /// The most links that are served.
 pub const MAX_LINKS: usize = 16;

@@ -16,7 +16,7 @@ ghost use denote.Param.Send.{IsSend, IsSync};
 use crate::leavings::{Leavings, put};
 use crate::worker::Worker;
 use bays::Link;
-use io_edge::Gate;
+use gates::Gate;
 use lane_plan::Shape;
 use sector_cipher::Context;
 use sector_disk::Disk;

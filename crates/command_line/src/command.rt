@@ -30,7 +30,7 @@ use clap::{ArgMatches, Error};
 use std::alloc::Global;
 
 /// `serve` on a disk.
-#[derive(Clone, Copy, Debug)]
+#[derive(Clone, Copy)]
 pub struct Serve<'a> {
     pub disk: &'a str,
     /// The file of the passphrase that opens the volume on the disk. None where the disk is served
@@ -53,7 +53,7 @@ pub struct Serve<'a> {
 }
 
 /// `status`: what the header of a disk says.
-#[derive(Clone, Copy, Debug)]
+#[derive(Clone, Copy)]
 pub struct Status<'a> {
     pub disk: &'a str,
     /// The bytes of an atom: 512 or 4096.
@@ -61,7 +61,7 @@ pub struct Status<'a> {
 }
 
 /// What the words of a command line ask for.
-#[derive(Clone, Copy, Debug)]
+#[derive(Clone, Copy)]
 pub enum Command<'a> {
     Format(Format<'a>),
     Init(Init<'a>),
@@ -71,7 +71,7 @@ pub enum Command<'a> {
 }
 
 /// Why no command was read.
-#[derive(Clone, Copy, Debug, PartialEq, Eq)]
+#[derive(Clone, Copy, PartialEq, Eq)]
 pub enum Refusal {
     /// The words ask for nothing, or for what isn't built yet.
     Usage,

@@ -7,7 +7,7 @@ use clap::{Arg, ArgAction, Command};
 use std::alloc::{AllocError, Global};
 
 /// A word of a command, behind the command's name.
-#[derive(Clone, Copy, Debug)]
+#[derive(Clone, Copy)]
 pub enum Item {
     /// The disk, by its name.
     Disk,
@@ -30,7 +30,9 @@ pub enum Item {
         value: &'static str,
     },
     /// The same without a value.
-    UnbuiltFlag { name: &'static str },
+    UnbuiltFlag {
+        name: &'static str,
+    },
 }
 
 /// The argument of `clap` that a word is.

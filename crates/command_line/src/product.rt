@@ -76,11 +76,15 @@ const METADATA_SIZE: Item = Item::Valued {
 
 // At the end of each command's help.
 const FORMAT_EXAMPLE: &str = "Example: reencd format disk.img --key-file key";
+
 const INIT_EXAMPLE: &str =
     "Example: reencd init disk.img --key-file key --key-size 64 --sector-size 4096";
+
 const SERVE_EXAMPLE: &str =
     "Example: reencd serve disk.img --key-file key --listen 127.0.0.1:10809";
+
 const RESUME_EXAMPLE: &str = "Example: reencd resume disk.img --key-file key";
+
 const STATUS_EXAMPLE: &str = "Example: reencd status disk.img";
 
 #[tactic(auto, unfolding(crate::specs::Product::format_rules))]
@@ -116,13 +120,7 @@ fn format<'a>(alloc: Global) -> Result<Command<'a>, AllocError>
             required: false,
         },
     ];
-    leaf(
-        alloc,
-        "format",
-        "Make a new volume",
-        FORMAT_EXAMPLE,
-        &items,
-    )
+    leaf(alloc, "format", "Make a new volume", FORMAT_EXAMPLE, &items)
 }
 
 #[tactic(auto, unfolding(crate::specs::Product::init_rules))]

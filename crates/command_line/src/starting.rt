@@ -22,7 +22,7 @@ use clap::ArgMatches;
 use luks_json::Direction;
 
 /// What keeps the open zone of a conversion safe.
-#[derive(Clone, Copy, Debug, PartialEq, Eq)]
+#[derive(Clone, Copy, PartialEq, Eq)]
 pub enum Guard {
     /// `journal`: copies of its old blocks.
     Journal,
@@ -56,7 +56,7 @@ impl Guard {
 }
 
 /// `init`: a conversion of the volume on a disk to a new key is begun.
-#[derive(Clone, Copy, Debug)]
+#[derive(Clone, Copy)]
 pub struct Init<'a> {
     pub disk: &'a str,
     /// The file of the passphrase that opens the volume, and is to open the new key.
@@ -150,7 +150,9 @@ fn hotzone_size_or_default(matches: &ArgMatches<'_>, atom: u32) -> Result<u64, R
     ensures most { IfOk result (λ size. size ≤ 67108864) }
     ensures whole { IfOk result (λ size. size % atom ≡ 0) }
 {
-    let refused = Refused("--hotzone-size takes bytes: a multiple of --atom, at most 67108864, not 0");
+    let refused = Refused(
+        "--hotzone-size takes bytes: a multiple of --atom, at most 67108864, not 0",
+    );
     let size = number_or(matches, "hotzone-size", 1_048_576, 1, 67_108_864, refused)?;
     if size % atom as u64 != 0 {
         return Err(refused);

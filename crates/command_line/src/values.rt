@@ -18,7 +18,7 @@ ghost use Rattle.command_line.specs.Values.{
 use clap::ArgMatches;
 
 /// Why the values of words are refused, for a person.
-#[derive(Clone, Copy, Debug)]
+#[derive(Clone, Copy)]
 pub struct Refused(pub &'static str);
 
 /// The value of an option, or the word of the disk, where there is one.

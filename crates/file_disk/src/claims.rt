@@ -31,7 +31,18 @@ pub(crate) fn check_claims(machine: &HostRuntime, file: &File) -> io::Result<()>
     if !opened.file_type().is_block_device() {
         return Ok(());
     }
-    let number = number_of(machine, opened.rdev())?;
+    match check_device(machine, opened.rdev()) {
+        Err(error) if error.kind() == ErrorKind::NotFound => {
+            let message = "whether it is in use isn't told by /sys and /proc";
+            Err(io::Error::new(ErrorKind::Unsupported, message))
+        }
+        checked => checked,
+    }
+}
+
+/// Refuses the block device of this number where it is in use.
+fn check_device(machine: &HostRuntime, device: u64) -> io::Result<()> {
+    let number = number_of(machine, device)?;
     let folder = format!(in machine.alloc(); "/sys/dev/block/{number}")?;
     check_folder(machine, folder.as_str())?;
     if is_part(machine, folder.as_str())? {

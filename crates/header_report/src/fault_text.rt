@@ -5,7 +5,7 @@ use luks_store::StoreFault;
 use std::fmt;
 
 /// Why a header isn't read, as it is told to people: one line, without its line feed.
-#[derive(Clone, Copy, Debug)]
+#[derive(Clone, Copy)]
 pub struct FaultText<'a>(pub &'a StoreFault);
 
 impl fmt::Display for FaultText<'_> {

@@ -1,14 +1,13 @@
 ghost use Rattle.std.specs.Prelude.{◌≡◌, ℕ, List, Some, IfOk, IfErr};
-ghost use Rattle.joined_disk.specs.Counts.{joint_in, sizes_of};
+ghost use Rattle.sector_disk.specs.JoinedDisks.Counts.{joint_in, sizes_of};
 ghost use Rattle.luks_store.specs.Devices.{device_of, front_of, IsUnwritten};
 ghost use Rattle.luks_store.specs.Loads.{Answers, HasCause, stored_in};
 ghost use Rattle.header_report.specs.Examinations.{Explains, IsReadAlone, Tells, seen};
 
 use crate::copies::copy_notice;
 use crate::text::report;
-use joined_disk::JoinedDisk;
 use luks_store::{Loaded, StoreFault, load};
-use sector_disk::Disk;
+use sector_disk::{Disk, JoinedDisk};
 use std::alloc::Global;
 
 /// A disk whose header was read: the disk, what the header says, or why none is told, and what is

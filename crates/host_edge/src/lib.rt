@@ -16,8 +16,6 @@ mod network;
 mod notices;
 mod progress;
 mod streams;
-#[cfg(test)]
-mod tests;
 
 pub use client_stream::{ClientStream, Watch};
 pub use descriptors::keep_standard_streams;
@@ -26,5 +24,5 @@ pub use host_bay::HostBay;
 pub use host_file::HostFile;
 pub use host_link::{HostLink, HostSink, HostSource};
 pub use network::{Listener, Network, accept};
-pub use progress::ProgressGate;
+pub use progress::{Course, ProgressGate, Told};
 pub use streams::{HostReader, HostWriter};

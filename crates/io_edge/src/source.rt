@@ -35,7 +35,7 @@ pub trait Source: Drop {
 }
 
 /// A text in memory, given in pieces.
-#[derive(Debug, Drop)]
+#[derive(Drop)]
 pub struct ListSource {
     bytes: Vec<u8>,
     at: usize,

@@ -10,7 +10,7 @@ use Rattle.luks_json.specs.declared.segment.Segment.{Segment}
 use Rattle.luks_json.specs.declared.segment.SegmentSize.{SegmentSize}
 use Rattle.luks_json.specs.declared.segment.SegmentSize.TheVariants.{Dynamic, Sized}
 use Rattle.luks_rules.specs.Areas.{main_bytes}
-use Rattle.disk_sizes.specs.declared.Sizes.{Sizes}
+use Rattle.base_terms.specs.declared.disk_sizes.Sizes.{Sizes}
 
 -- whether a conversion is under way: the profile's string is mandatory
 unfoldable pub in_progress : Config → Bool

@@ -7,7 +7,7 @@ ghost use Rattle.luks_rules.specs.Segments.{breaks_count, breaks_segments, bytes
 ghost use Rattle.luks_rules.specs.Segments.{goes_to_end, holds_none, in_progress, is_backup, is_dynamic};
 ghost use Rattle.luks_rules.specs.Segments.{is_live, live_bytes, passes_end, whole_blocks};
 
-use disk_sizes::Sizes;
+use base_terms::Sizes;
 use json_members::{Listed, Text};
 use luks_json::{Config, PROFILE, Parts, Segment, SegmentSize};
 

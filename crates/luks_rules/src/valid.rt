@@ -11,23 +11,39 @@ use crate::idle::{Idle, find_idle};
 use crate::rules::judge;
 use crate::segments::any_goes_to_end;
 use crate::shape::Progress;
-use disk_sizes::Sizes;
+use base_terms::Sizes;
 use luks_json::{Digest, Meta};
 use std::alloc::Global;
 use std::marker::Model;
 
 /// Metadata, and the sizes of the disks that they speak of.
-#[derive(Drop)]
 pub struct Checked {
     pub meta: Meta,
     pub sizes: Sizes,
 }
 
+// By hand, so that a value that is dropped in place is one call to the prover.
+impl Drop for Checked {
+    fn drop(self) {
+        let Checked { meta, sizes: _ } = self;
+        drop(meta);
+    }
+}
+
 /// Metadata that break no rule, with the sizes of their disks.
-#[derive(Drop)]
 pub struct Valid {
     checked: Checked,
     progress: Option<Progress>,
+}
+
+impl Drop for Valid {
+    fn drop(self) {
+        let Valid {
+            checked,
+            progress: _,
+        } = self;
+        drop(checked);
+    }
 }
 
 impl Model for Valid {

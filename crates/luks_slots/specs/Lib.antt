@@ -7,3 +7,4 @@ pub mod Unlocks
 pub mod Laws
 pub mod Gaps
 pub mod NewSlots
+pub mod KeyMaking

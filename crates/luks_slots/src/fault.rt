@@ -5,7 +5,7 @@ use json_members::Listed;
 use std::alloc::AllocError;
 
 /// Why a keyslot gave no key, the first of these that holds.
-#[derive(Clone, Copy, Debug, PartialEq, Eq)]
+#[derive(Clone, Copy, PartialEq, Eq)]
 pub enum Refusal {
     /// The digest doesn't list it.
     NotAssigned,
@@ -20,7 +20,7 @@ pub enum Refusal {
 }
 
 /// Why there is no key, or no new keyslot.
-#[derive(Debug, Drop)]
+#[derive(Drop)]
 pub enum SlotFault {
     /// Memory ran out.
     Memory,

@@ -8,8 +8,8 @@ use Rattle.std.specs.List.{All}
 use Rattle.std.proofs.lemmas.List.{append-nil}
 use Rattle.std.proofs.lemmas.List.Elements.{All-nil, All-cons, All-append}
 use Rattle.base_terms.specs.declared.failed.Failed.{Failed}
-use Rattle.joined_disk.specs.Joined.{Joint, joined_disk}
-use Rattle.joined_disk.specs.JoinedCalls.{JointRead}
+use Rattle.sector_disk.specs.JoinedDisks.Joined.{Joint, joined_disk}
+use Rattle.sector_disk.specs.JoinedDisks.JoinedCalls.{JointRead}
 use Rattle.luks_store.specs.Devices.{IsRead, IsUnwritten, KeepsBytes}
 use Rattle.luks_store.proofs.PageLemmas.{page-place}
 use Rattle.luks_store.specs.Loads.{HasCause, IsNoRead, Says}

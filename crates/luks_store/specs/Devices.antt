@@ -4,11 +4,11 @@ use Rattle.std.specs.Prelude.{Some, if◌then◌else◌, length, replicate, Cont
 use Rattle.std.specs.List.{All, list_all}
 use Rattle.base_terms.specs.Blocks.{joined, lengths}
 use Rattle.base_terms.specs.Causes.{Rose}
-use Rattle.disk_sizes.specs.declared.Sizes.{Sizes}
-use Rattle.disk_views.specs.Parts.{cell_in}
-use Rattle.joined_disk.specs.Counts.{joint_in}
-use Rattle.joined_disk.specs.Joined.{Joint, joined_disk}
-use Rattle.joined_disk.specs.declared.joined.JoinedDisk.{JoinedDisk}
+use Rattle.base_terms.specs.declared.disk_sizes.Sizes.{Sizes}
+use Rattle.sector_disk.specs.DiskViews.Parts.{cell_in}
+use Rattle.sector_disk.specs.JoinedDisks.Counts.{joint_in}
+use Rattle.sector_disk.specs.JoinedDisks.Joined.{Joint, joined_disk}
+use Rattle.sector_disk.specs.declared.joined.joined.JoinedDisk.{JoinedDisk}
 use Rattle.luks_rules.specs.Areas.{header_bytes, main_bytes}
 use Rattle.luks_store.specs.declared.fault.ReadFault.{ReadFault}
 use Rattle.luks_store.specs.declared.fault.ReadFault.TheVariants.{Memory, Device}

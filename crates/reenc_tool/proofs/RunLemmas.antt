@@ -21,7 +21,7 @@ use Rattle.volume_machine.specs.Sound.{IsSound, AreApart}
 use Rattle.sector_disk.specs.Devices.{Device}
 use Rattle.volume_machine.specs.States.{State}
 use Rattle.volume_machine.specs.Works.{Work}
-use Rattle.served_conversions.specs.Clients.{without_work}
+use Rattle.recovery_laws.specs.Served.Clients.{without_work}
 use Rattle.reenc_tool.specs.declared.ended.Cause.{Cause}
 use Rattle.reenc_tool.specs.Outcomes.{Coming, Outcome, unserved}
 use Rattle.reenc_tool.specs.Plain.{IsPlainVolume}

@@ -5,11 +5,11 @@ use Rattle.std.proofs.lemmas.List.{length-replicate}
 use Rattle.conversion_opening.specs.Causes.{IsCauseIn}
 use Rattle.conversion_opening.specs.Openings.{IsOpenedOf, IsUnopened}
 use Rattle.conversion_opening.specs.declared.fault.ConversionCause.{ConversionCause}
-use Rattle.disk_sizes.specs.declared.Sizes.{Sizes}
+use Rattle.base_terms.specs.declared.disk_sizes.Sizes.{Sizes}
 use Rattle.header_report.proofs.ExamineLemmas.{cause-later}
 use Rattle.header_report.specs.Examinations.{TellsFault, sizes_alone}
-use Rattle.joined_disk.specs.Counts.{HasSizes}
-use Rattle.joined_disk.specs.Joined.{Joint, joined_disk}
+use Rattle.sector_disk.specs.JoinedDisks.Counts.{HasSizes}
+use Rattle.sector_disk.specs.JoinedDisks.Joined.{Joint, joined_disk}
 use Rattle.luks_rules.specs.Segments.{in_progress}
 use Rattle.luks_store.specs.Devices.{KeepsBytes}
 use Rattle.luks_store.specs.Loads.{Says, stored_in}
@@ -26,8 +26,8 @@ use Rattle.resume_disk.specs.Resuming.{AreUnderKeys, BeginsWith, IsOpenedMidway}
 use Rattle.resume_disk.specs.declared.refusal.Refusal.{Refusal}
 use Rattle.resume_disk.specs.declared.refusal.Refusal.TheVariants as refusals
 use Rattle.sector_disk.specs.Devices.{Device}
-use Rattle.served_conversions.specs.Clients.{without_work}
-use Rattle.served_conversions.specs.Serving.{TakenVolumesLieIdle}
+use Rattle.recovery_laws.specs.Served.Clients.{without_work}
+use Rattle.recovery_laws.specs.Served.Serving.{TakenVolumesLieIdle}
 use Rattle.shared_volume.specs.Histories.{MayBeShared}
 use Rattle.volume_core.specs.Zones.{IsReadBy}
 use Rattle.volume_laws.specs.Converting.{IsInOrder}
@@ -200,7 +200,7 @@ module _ {C D : Type 0} (sector : C → ℕ) (sealed opened : C → ℕ → List
   )
   refused-then (refusals.Tail bytes) header back (none, is) = (
     none,
-    tail-then (device disk) (device read) kept pass bytes (device back) is,
+    tail-then (device disk) (device read) kept sector sealed opened pass bytes (device back) is,
   )
 
   -- it isn't refused since nothing is being converted, where the disk told that something is

@@ -5,9 +5,9 @@ use Rattle.bays.specs.Bays.{Holdings, LeavesAll}
 use Rattle.command_line.specs.Starts.{Starting, guard_name}
 use Rattle.command_line.specs.declared.starting.Guard.{Guard as NamedGuard}
 use Rattle.command_line.specs.declared.starting.Guard.TheVariants as named
-use Rattle.init_disk.specs.Answers.{IsStartedBy, IsUnstartedBy}
-use Rattle.init_disk.specs.declared.refusal.Refusal.{Refusal}
-use Rattle.init_disk.specs.declared.refusal.Refusal.TheVariants.{Unopened, Keyslots as Holders}
+use Rattle.luks_init.specs.DiskInit.Answers.{IsStartedBy, IsUnstartedBy}
+use Rattle.luks_init.specs.declared.init_disk.refusal.Refusal.{Refusal}
+use Rattle.luks_init.specs.declared.init_disk.refusal.Refusal.TheVariants as starts
 use Rattle.io_edge.specs.Supply.{Supply}
 use Rattle.luks_init.specs.declared.wish.Guard.{Guard}
 use Rattle.luks_init.specs.declared.wish.Guard.TheVariants.{Journal, Checksum}
@@ -60,8 +60,8 @@ pub record IsStarted {D L : Type 0} (device : D → DiskState) (words : Starting
 
 -- why no volume was opened, or which keyslots would go, where that is why no conversion was begun
 abbrev pub opening_refusal : Refusal → Option VolumeRefusal
-opening_refusal (Unopened refusal) = Some (Opening refusal)
-opening_refusal (Holders list) = Some (Keyslots list)
+opening_refusal (starts.Unopened refusal) = Some (Opening refusal)
+opening_refusal (starts.Keyslots list) = Some (Keyslots list)
 opening_refusal _ = None
 
 -- what a command hands back that began no conversion, of whose disk so many calls failed

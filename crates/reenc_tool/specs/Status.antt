@@ -11,12 +11,12 @@ use Rattle.reenc_tool.specs.declared.ended.Fit.TheVariants.{Area, Blocks, Json, 
 use Rattle.reenc_tool.specs.declared.ended.Fit.TheVariants.{Events, Numbers, Tail}
 use Rattle.conversion_opening.specs.declared.fault.ConversionCause.{ConversionCause}
 use Rattle.conversion_opening.specs.declared.fault.ConversionCause.TheVariants as conversions
-use Rattle.format_disk.specs.declared.fault.FormatFault.{FormatFault}
-use Rattle.format_disk.specs.declared.fault.FormatFault.TheVariants as formats
-use Rattle.init_disk.specs.declared.making.MakeFault.{MakeFault}
-use Rattle.init_disk.specs.declared.making.MakeFault.TheVariants as makings
-use Rattle.init_disk.specs.declared.refusal.Refusal.{Refusal as StartRefusal}
-use Rattle.init_disk.specs.declared.refusal.Refusal.TheVariants as starts
+use Rattle.luks_format.specs.declared.format_disk.fault.FormatFault.{FormatFault}
+use Rattle.luks_format.specs.declared.format_disk.fault.FormatFault.TheVariants as formats
+use Rattle.luks_init.specs.declared.init_disk.making.MakeFault.{MakeFault}
+use Rattle.luks_init.specs.declared.init_disk.making.MakeFault.TheVariants as makings
+use Rattle.luks_init.specs.declared.init_disk.refusal.Refusal.{Refusal as StartRefusal}
+use Rattle.luks_init.specs.declared.init_disk.refusal.Refusal.TheVariants as starts
 use Rattle.luks_init.specs.declared.fault.InitFault.{InitFault}
 use Rattle.luks_init.specs.declared.fault.InitFault.TheVariants as inits
 use Rattle.reenc_recovery.specs.declared.fault.OpenCause.{OpenCause}

@@ -23,7 +23,8 @@ use crate::starting::start;
 use crate::text::{count_sessions, print};
 use bays::{Bay, BayFault, Link, Manner};
 use command_line::{Command, Refusal, Serve, read_words};
-use io_edge::{Gate, Seeds, Sink};
+use gates::Gate;
+use io_edge::{Seeds, Sink};
 use sector_cipher::Context;
 use sector_disk::Disk;
 use std::alloc::Global;
@@ -234,7 +235,9 @@ where
 /// header that converts nothing. Where the disk told its bytes, and they stood for a content under the
 /// passphrase, each image that a stop leaves of the opening or of the worker stands for that content,
 /// whatever the conversion ended with, and at its end each block holds it. Each cause has its reason.
-/// The bay is asked once for the disk, once for the header's and once for a key file, each where the
+/// No conversion is begun, led on or served of a volume of which bytes lie behind the last whole atom
+/// of its disk, and none is begun by which keyslots of other passphrases go unasked: these are refused
+/// before anything is written. The bay is asked once for the disk, once for the header's and once for a key file, each where the
 /// words name one, and for clients once for the links, and for nothing else. The text changes the cause
 /// only where all was fine: to `Output` where it can't be put and pushed out, to `Memory` where memory
 /// is wanted for it. Words that ask for nothing leave the bay as it was, and those of other commands

@@ -4,8 +4,8 @@ ghost use Rattle.std.specs.Prelude.{◌≡◌, ◌*◌, ◌^◌, ◌<◌, true, 
 ghost use Rattle.std.specs.Prelude.{string_bytes};
 ghost use Rattle.command_line.specs.Formats.{IsFormatting, formatting};
 ghost use Rattle.header_report.specs.Examinations.{sizes_alone};
-ghost use Rattle.joined_disk.specs.Counts.{HasSizes};
-ghost use Rattle.joined_disk.specs.Joined.{in_front};
+ghost use Rattle.sector_disk.specs.JoinedDisks.Counts.{HasSizes};
+ghost use Rattle.sector_disk.specs.JoinedDisks.Joined.{in_front};
 ghost use Rattle.luks_format.specs.Wishes.{FitsDisk, IsWish};
 ghost use Rattle.reenc_tool.specs.Making.{AsksForHeader, AsksForKey, ComesTo, HasMade, IsOn};
 ghost use Rattle.reenc_tool.specs.Making.{IsOnOne, IsOnTwo, formatted_line, wish_of};
@@ -15,17 +15,16 @@ ghost use Rattle.reenc_tool.specs.Status.{status_of};
 use crate::commands::{cause_by, unserved};
 use crate::ended::{Cause, Ended, Failing, Sessions};
 use crate::notices::note_tail;
+use base_terms::Sizes;
 use bays::Bay;
 use command_line::Format;
-use disk_sizes::Sizes;
-use format_disk::{
-    make_volume, new_volumes_fit_their_disk, new_volumes_leave_the_rest, write_volume,
+use gates::Gate;
+use image_laws::new_volumes_stand;
+use io_edge::Seeds;
+use luks_format::{
+    Wish, make_volume, new_volumes_fit_their_disk, new_volumes_leave_the_rest, write_volume,
 };
-use io_edge::{Gate, Seeds};
-use joined_disk::JoinedDisk;
-use luks_format::Wish;
-use new_volumes::new_volumes_stand;
-use sector_disk::Disk;
+use sector_disk::{Disk, JoinedDisk};
 use std::alloc::{AllocError, Global};
 use uuid::Uuid;
 

@@ -1,6 +1,6 @@
 // What people are told while a command goes on.
 
-use io_edge::Gate;
+use gates::Gate;
 use sector_disk::Disk;
 use std::alloc::Global;
 
@@ -18,7 +18,9 @@ pub fn note_tail<D: Disk, G: Gate>(alloc: Global, gate: &G, name: &str, disk: &D
             (--atom 512 would use them)"
         )
     } else {
-        format!(in alloc; "{name}: the last {tail} bytes aren't used: no whole atom of {atom} bytes")
+        format!(in alloc;
+            "{name}: the last {tail} bytes aren't used: no whole atom of {atom} bytes"
+        )
     };
     if let Ok(line) = line {
         gate.notify(line.as_str());

@@ -6,7 +6,7 @@ ghost use Rattle.command_line.specs.Commands.{IsServing, serving};
 ghost use Rattle.reenc_tool.specs.Encrypted.{HandsBack, ended_unopened};
 ghost use Rattle.reenc_tool.specs.KeyFiles.{ServesUnder, ServesVolume};
 ghost use Rattle.reenc_tool.specs.Volumes.{IsAnyVolume, IsNoVolume, RanAs};
-ghost use Rattle.served_conversions.specs.Clients.{without_work};
+ghost use Rattle.recovery_laws.specs.Served.Clients.{without_work};
 ghost use Rattle.luks_store.specs.Devices.{device_of};
 ghost use Rattle.reenc_tool.specs.Linking.{IsLinked};
 ghost use Rattle.reenc_tool.specs.Outcomes.{came_of, none_came, outcome_of};
@@ -26,31 +26,28 @@ use crate::volume_refusal::VolumeRefusal;
 use bays::{Bay, Link, Manner};
 use cipher_laws::SectorCipher;
 use command_line::Serve;
-use converted_beside::conversions_end_beside_clients;
-use io_edge::Gate;
-use joined_disk::JoinedDisk;
-use lanes_beside::executions_join_beside;
-use luks_copies::copies_are_read;
+use gates::Gate;
 use luks_slots::keys_are_in_areas;
+use luks_store::header_copies::copies_are_read;
 use luks_store::headers_stand_in_front;
-use resume_disk::{Refused, standing_conversions_end, take_up_conversion};
-use resumed_volumes::{
+use recovery_laws::{
     begun_conversions_start, conversions_go_on_under_their_passphrase,
-    openings_of_conversions_keep_content, resumed_conversions_keep_content,
-};
-use sector_cipher::Context;
-use sector_disk::Disk;
-use served_beside::tables_are_of_deeds;
-use served_conversions::{
-    ends_beside_clients_stand_under_passphrases, found_keys_are_given, passphrases_give_keys,
+    ends_beside_clients_stand_under_passphrases, found_keys_are_given,
+    openings_of_conversions_keep_content, passphrases_give_keys, resumed_conversions_keep_content,
     stops_beside_clients_stand_again, stops_beside_clients_stand_under_passphrases,
     taken_volumes_keep_content,
 };
+use resume_disk::{Refused, standing_conversions_end, take_up_conversion};
+use sector_cipher::Context;
+use sector_disk::{Disk, JoinedDisk};
 use std::alloc::Global;
 use std::sync::Wait;
 use std::thread::Threads;
 use volume_core::Volume;
-use volume_laws::{every_run_is_served, executions_join};
+use volume_laws::served_beside::tables_are_of_deeds;
+use volume_laws::{
+    conversions_end_beside_clients, every_run_is_served, executions_join, executions_join_beside,
+};
 use volume_opening::{Refusal, Unopened, open_by_passphrase, opened_volumes_stand_along};
 
 /// Why no volume was opened, of which nothing is being converted, or of which something is.

@@ -12,7 +12,7 @@ use volume_opening::Refusal as OpeningRefusal;
 
 /// Why a volume isn't opened by a passphrase, as it is told to people: one line, without its line
 /// feed.
-#[derive(Clone, Copy, Debug)]
+#[derive(Clone, Copy)]
 pub struct RefusalText<'a>(pub &'a VolumeRefusal);
 
 impl fmt::Display for RefusalText<'_> {
@@ -59,7 +59,10 @@ impl fmt::Display for UnresumedText<'_> {
                 write!(f, "{}: {}", key_of(*side), SlotsText(fault, "its digest"))
             }
             ResumeRefusal::Tail(bytes) => {
-                write!(f, "the last {bytes} bytes of the volume are in no whole atom")
+                write!(
+                    f,
+                    "the last {bytes} bytes of the volume are in no whole atom"
+                )
             }
             ResumeRefusal::Unopened(cause) => write!(f, "{}", ConversionText(cause)),
         }
@@ -201,7 +204,10 @@ struct HoldersText<'a>(&'a [(u64, SlotKind)]);
 
 impl fmt::Display for HoldersText<'_> {
     fn fmt<W: fmt::Write>(&self, f: &mut fmt::Formatter<W>) -> fmt::Result {
-        write!(f, "more keyslots than this passphrase's hold the volume's key:")?;
+        write!(
+            f,
+            "more keyslots than this passphrase's hold the volume's key:"
+        )?;
         for (number, kind) in self.0 {
             write!(f, " slot {number} {};", kind_name(*kind))?;
         }

@@ -22,9 +22,9 @@ use crate::ended::{Cause, Ended, Failing, Fit, Sessions};
 use crate::volume_refusal::VolumeRefusal;
 use bays::Bay;
 use command_line::{Guard as NamedGuard, Init};
-use init_disk::{MakeFault, Refusal, Unstarted, begin_conversion};
-use io_edge::{Gate, Seeds};
-use luks_init::{Guard, InitFault, Wish};
+use gates::Gate;
+use io_edge::Seeds;
+use luks_init::{Guard, InitFault, MakeFault, Refusal, Unstarted, Wish, begin_conversion};
 use sector_disk::Disk;
 use std::alloc::{AllocError, Global};
 

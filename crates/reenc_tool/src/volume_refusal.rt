@@ -6,7 +6,7 @@ use resume_disk::Refusal as ResumeRefusal;
 use volume_opening::Refusal as OpeningRefusal;
 
 /// Why no volume was opened.
-#[derive(Debug, Drop)]
+#[derive(Drop)]
 pub enum VolumeRefusal {
     /// One of which nothing is being converted, which is served, or begins to be converted.
     Opening(OpeningRefusal),

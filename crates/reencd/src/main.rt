@@ -6,8 +6,9 @@
 mod notices;
 
 use file_disk::FileSystem;
+use gates::Gate;
 use host_edge::{HostBay, Network, ProgressGate, keep_standard_streams};
-use io_edge::{Gate, OsSeeds, Seeds, Sink, StdSink};
+use io_edge::{OsSeeds, Seeds, Sink, StdSink};
 use notices::{Reason, explain};
 use reenc_tool::{Cause, Ended, Failing, asked_help, run};
 use std::alloc::Global;

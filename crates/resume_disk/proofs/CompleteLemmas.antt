@@ -7,7 +7,7 @@ use Rattle.conversion_opening.specs.Causes.{HasCauseIn}
 use Rattle.conversion_opening.specs.declared.fault.ConversionCause.{ConversionCause}
 use Rattle.conversion_opening.specs.declared.fault.ConversionCause.TheVariants as causes
 use Rattle.header_report.specs.Examinations.{sizes_alone}
-use Rattle.joined_disk.specs.Joined.{Joint, in_front, joined_disk}
+use Rattle.sector_disk.specs.JoinedDisks.Joined.{Joint, in_front, joined_disk}
 use Rattle.luks_json.specs.declared.meta.Parts.{Parts}
 use Rattle.luks_rules.specs.declared.shape.Progress.{Progress}
 use Rattle.luks_slots.specs.Unlocks.{IsCutShort}

@@ -4,11 +4,11 @@ use Rattle.std.proofs.Common.{Some, None, true, false}
 use Rattle.conversion_opening.specs.Causes.{HasCauseIn, IsCauseIn}
 use Rattle.conversion_opening.specs.Openings.{IsOpenedOf, IsUnopened}
 use Rattle.conversion_opening.specs.declared.fault.ConversionCause.{ConversionCause}
-use Rattle.disk_sizes.specs.declared.Sizes.{Sizes}
+use Rattle.base_terms.specs.declared.disk_sizes.Sizes.{Sizes}
 use Rattle.header_report.proofs.ExamineLemmas.{alone_values, whole_front}
 use Rattle.header_report.specs.Examinations.{sizes_alone}
-use Rattle.joined_disk.specs.Counts.{HasSizes}
-use Rattle.joined_disk.specs.Joined.{Joint, joined_disk}
+use Rattle.sector_disk.specs.JoinedDisks.Counts.{HasSizes}
+use Rattle.sector_disk.specs.JoinedDisks.Joined.{Joint, joined_disk}
 use Rattle.luks_store.specs.Devices.{KeepsBytes, front_of}
 use Rattle.luks_store.specs.Loads.{stored_in}
 use Rattle.luks_store.specs.declared.loaded.Stored.{Stored}
@@ -33,7 +33,7 @@ use Rattle.volume_opening.proofs.OpenedLemmas.{same_sizes, same_stored}
 use Rattle.volume_opening.proofs.ReadLemmas.{keeps_on}
 use Rattle.volume_opening.specs.Openings.{IsFound, alone}
 use Rattle.zone_events.specs.Readings.{reading_of}
-use Rattle.zone_images.specs.Holding.{TellsLawfully}
+use Rattle.image_laws.specs.Led.Holding.{TellsLawfully}
 
 -- ---- header and keys
 pub under_keys : (device read new : Device) (pass : List ℕ) (stored : Stored) (keys : SideKeys)

@@ -5,7 +5,7 @@ use Rattle.std.specs.Prelude.{option_and_then}
 use Rattle.conversion_opening.specs.Causes.{IsCauseIn}
 use Rattle.conversion_opening.specs.declared.fault.ConversionCause.{ConversionCause}
 use Rattle.conversion_opening.specs.declared.fault.ConversionCause.TheVariants as causes
-use Rattle.disk_sizes.specs.declared.Sizes.{Sizes}
+use Rattle.base_terms.specs.declared.disk_sizes.Sizes.{Sizes}
 use Rattle.header_report.proofs.ExamineLemmas.{whole_front}
 use Rattle.header_report.specs.Examinations.{sizes_alone}
 use Rattle.hotzone.specs.Sites.{IsSaved}
@@ -24,7 +24,7 @@ use Rattle.luks_store.specs.Loads.{Says, stored_in}
 use Rattle.luks_store.specs.declared.fault.StoreFault.{StoreFault}
 use Rattle.luks_store.specs.declared.fault.StoreFault.TheVariants as faults
 use Rattle.luks_store.specs.declared.loaded.Stored.{Stored}
-use Rattle.open_zones.specs.Images.{ImageStandsFor, OpenStandsFor}
+use Rattle.image_laws.specs.Opened.Images.{ImageStandsFor, OpenStandsFor}
 use Rattle.reenc_recovery.proofs.PlacingLemmas.{is_idle}
 use Rattle.reenc_recovery.specs.Images.{StandsFor}
 use Rattle.reenc_recovery.specs.Keys.{key_by, key_for}
@@ -40,8 +40,8 @@ use Rattle.resume_disk.specs.declared.refusal.Unfinished.TheVariants as unfinish
 use Rattle.sector_disk.specs.Devices.{Device}
 use Rattle.segment_map.specs.declared.Side.{Side}
 use Rattle.segment_map.specs.declared.Side.TheVariants.{New, Old, Zone}
-use Rattle.started_volumes.proofs.BlockLemmas.{progress-busy}
-use Rattle.started_volumes.proofs.GapLemmas.{one-header}
+use Rattle.image_laws.proofs.Started.BlockLemmas.{progress-busy}
+use Rattle.image_laws.proofs.Started.GapLemmas.{one-header}
 use Rattle.volume_opening.specs.Openings.{IsFound, IsTried}
 use Rattle.volume_opening.specs.Refusals.{IsNotTried}
 use Rattle.volume_opening.specs.Shorts.{IsUnread}

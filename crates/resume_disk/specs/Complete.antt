@@ -7,7 +7,7 @@ use Rattle.luks_slots.specs.declared.fault.SlotFault.{SlotFault}
 use Rattle.luks_slots.specs.declared.fault.SlotFault.TheVariants as slots
 use Rattle.luks_store.specs.declared.fault.StoreFault.{StoreFault}
 use Rattle.luks_store.specs.declared.fault.StoreFault.TheVariants as faults
-use Rattle.open_zones.specs.Images.{ImageStandsFor}
+use Rattle.image_laws.specs.Opened.Images.{ImageStandsFor}
 use Rattle.reenc_recovery.specs.declared.fault.OpenCause.{OpenCause}
 use Rattle.reenc_recovery.specs.declared.fault.OpenCause.TheVariants as openings
 use Rattle.reenc_worker.specs.declared.ends.WorkerEnd.{WorkerEnd}

@@ -4,9 +4,9 @@ use Rattle.conversion_opening.specs.Causes.{HasCauseIn, IsCauseIn}
 use Rattle.conversion_opening.specs.Openings.{IsUnopened}
 use Rattle.conversion_opening.specs.declared.fault.ConversionCause.{ConversionCause}
 use Rattle.conversion_opening.specs.declared.fault.ConversionCause.TheVariants as causes
-use Rattle.disk_sizes.specs.declared.Sizes.{Sizes}
+use Rattle.base_terms.specs.declared.disk_sizes.Sizes.{Sizes}
 use Rattle.header_report.specs.Examinations.{TellsFault, sizes_alone}
-use Rattle.joined_disk.specs.Joined.{Joint, joined_disk}
+use Rattle.sector_disk.specs.JoinedDisks.Joined.{Joint, joined_disk}
 use Rattle.luks_store.specs.Devices.{KeepsBytes}
 use Rattle.luks_store.specs.Loads.{HasCause, stored_in}
 use Rattle.luks_store.specs.declared.loaded.Stored.{Stored}
@@ -22,7 +22,7 @@ use Rattle.sector_disk.specs.Devices.{Device}
 use Rattle.volume_opening.specs.Openings.{IsFound, alone}
 use Rattle.volume_opening.specs.Refusals.{AreOf}
 use Rattle.volume_opening.specs.Shorts.{IsShort as IsOpeningShort}
-use Rattle.zone_images.specs.Holding.{TellsLawfully}
+use Rattle.image_laws.specs.Led.Holding.{TellsLawfully}
 
 -- ---- no keys
 -- No keys were found under the header of a disk, which was only read.

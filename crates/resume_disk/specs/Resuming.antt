@@ -2,8 +2,8 @@
 use Rattle.std.specs.Prelude.{ℕ, ◌≡◌, ◌≢◌, ◌*◌, List, length, Option, Some, false}
 use Rattle.conversion_opening.specs.Openings.{IsOpenedOf}
 use Rattle.header_report.specs.Examinations.{sizes_alone}
-use Rattle.joined_disk.specs.Counts.{HasSizes}
-use Rattle.joined_disk.specs.Joined.{Joint, joined_disk}
+use Rattle.sector_disk.specs.JoinedDisks.Counts.{HasSizes}
+use Rattle.sector_disk.specs.JoinedDisks.Joined.{Joint, joined_disk}
 use Rattle.luks_rules.specs.Segments.{has_tail}
 use Rattle.luks_store.specs.Devices.{KeepsBytes}
 use Rattle.luks_store.specs.declared.loaded.Stored.{Stored}
@@ -21,7 +21,7 @@ use Rattle.volume_machine.specs.States.{State}
 use Rattle.volume_machine.specs.declared.keys.Keys.{Keys}
 use Rattle.volume_opening.specs.Openings.{IsFound, alone}
 use Rattle.volume_opening.specs.Refusals.{AreOf}
-use Rattle.worker_laws.specs.Conversions.{HasConverted, MayConvert}
+use Rattle.volume_laws.specs.WorkerRuns.Conversions.{HasConverted, MayConvert}
 use Rattle.zone_events.specs.Heads.{header_on}
 use Rattle.zone_events.specs.Readings.{reading_of}
 use Rattle.zone_events.specs.Works.{layout_for}

@@ -2,7 +2,7 @@
 use Rattle.std.specs.Prelude.{ℕ, ◌≡◌, List, Some, Ok, Err}
 use Rattle.conversion_opening.specs.declared.fault.ConversionCause.{ConversionCause}
 use Rattle.conversion_opening.specs.declared.fault.ConversionCause.TheVariants as causes
-use Rattle.disk_sizes.specs.declared.Sizes.{Sizes}
+use Rattle.base_terms.specs.declared.disk_sizes.Sizes.{Sizes}
 use Rattle.header_report.specs.Examinations.{sizes_alone}
 use Rattle.hotzone.specs.Sites.{IsSaved}
 use Rattle.luks_rules.specs.Shapes.{progress_of}
@@ -11,7 +11,7 @@ use Rattle.luks_slots.specs.Unlocks.{IsCutShort}
 use Rattle.luks_store.specs.Devices.{front_of}
 use Rattle.luks_store.specs.Loads.{stored_in}
 use Rattle.luks_store.specs.declared.loaded.Stored.{Stored}
-use Rattle.open_zones.specs.Images.{ImageStandsFor}
+use Rattle.image_laws.specs.Opened.Images.{ImageStandsFor}
 use Rattle.resume_disk.specs.Refusals.{IsUnfinishedBy}
 use Rattle.resume_disk.specs.declared.refusal.Refusal.{Refusal}
 use Rattle.resume_disk.specs.declared.refusal.Refusal.TheVariants as refusals

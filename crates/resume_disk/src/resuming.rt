@@ -9,13 +9,13 @@ ghost use Rattle.resume_disk.specs.declared.refusal.Unfinished.TheVariants.{Halt
 use crate::refusal::{Finished, Halted, Unfinished};
 use crate::taking::take_up_conversion;
 use cipher_laws::SectorCipher;
-use io_edge::Gate;
+use gates::Gate;
 use reenc_worker::WorkerEnd;
 use sector_cipher::Context;
 use sector_disk::Disk;
 use std::alloc::Global;
 use std::thread::Threads;
-use volume_worker::finish_conversion;
+use volume_core::finish_conversion;
 
 /// What a run is answered by its worker's end, with the disk.
 fn conclude<D: Disk>(

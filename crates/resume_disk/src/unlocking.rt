@@ -1,7 +1,7 @@
 // The keys of a volume that is being converted.
 
 ghost use Rattle.std.specs.Prelude.{ℕ, IfErr, IfOk, IsSome};
-ghost use Rattle.joined_disk.specs.Counts.{HasSizes};
+ghost use Rattle.sector_disk.specs.JoinedDisks.Counts.{HasSizes};
 ghost use Rattle.luks_json.specs.declared.digest.Digest.{Digest as digest_type};
 ghost use Rattle.luks_rules.specs.States.{IsUnder};
 ghost use Rattle.luks_store.specs.Devices.{KeepsBytes};
@@ -10,7 +10,7 @@ ghost use Rattle.resume_disk.specs.Refusals.{IsLockedBy};
 ghost use Rattle.resume_disk.specs.Resuming.{AreUnderKeys};
 
 use crate::refusal::Refusal;
-use io_edge::Gate;
+use gates::Gate;
 use luks_rules::{Extent, Valid};
 use luks_slots::{Key, SlotFault, unlock};
 use reenc_recovery::SideKeys;

@@ -1,7 +1,7 @@
 -- The objects of a wish are ones that a header may have, and a volume has room for its place.
 use Rattle.std.proofs.Common.{◌≡◌, Some, true, subst, sym}
 use Rattle.std.specs.Option.{IfSome, IsSomeAnd}
-use Rattle.disk_sizes.specs.declared.Sizes.{Sizes}
+use Rattle.base_terms.specs.declared.disk_sizes.Sizes.{Sizes}
 use Rattle.luks_json.specs.Segments.{is_sector_size}
 use Rattle.luks_json.specs.declared.meta.Parts.{Parts}
 use Rattle.luks_json.specs.declared.reencrypt.Mode.{Mode}

@@ -1,12 +1,13 @@
 // The disks of a script, and what is left of them.
 
 ghost use Rattle.std.specs.Prelude.{IfOk};
-ghost use Rattle.sector_disk.specs.Images.{IsChoice};
+ghost use Rattle.memory_disks.specs.Images.{IsChoice};
 
 use crate::numbers::number;
 use anyhow::{Result, anyhow};
 use base_terms::zeros;
-use sector_disk::{Choice, Disk, MemDisk};
+use memory_disks::{Choice, MemDisk};
+use sector_disk::Disk;
 use sha2::{Digest, Sha256};
 use std::alloc::Global;
 
@@ -21,6 +22,8 @@ const MOST_ATOMS: u64 = 8192;
 pub(crate) struct Shelf {
     pub(crate) name: String,
     pub(crate) atom: u64,
+    /// How many bytes it has behind its last whole atom.
+    pub(crate) tail: u64,
     pub(crate) bytes: Vec<u8>,
 }
 
@@ -43,6 +46,7 @@ pub(crate) fn shelf(alloc: Global, name: &str, atom: u64, atoms: u64, byte: u8) 
     Ok(Shelf {
         name: String::from_str(alloc, name)?,
         atom,
+        tail: 0,
         bytes,
     })
 }

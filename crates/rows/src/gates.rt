@@ -1,7 +1,7 @@
 // A gate at which clients and the worker of a conversion meet, and that keeps what it is told.
 
-use anyhow::Result;
-use io_edge::{Converted, Gate, Place};
+use anyhow::{Result, anyhow};
+use gates::{Converted, Gate, Place};
 use std::alloc::Global;
 use std::sync::Mutex;
 use std::sync::atomic::{AtomicU64, Ordering};
@@ -43,7 +43,7 @@ fn heard(told: Option<Told>, converted: Converted) -> Told {
 
 /// Where it has a step, holds the first operation that is admitted until the worker has come to the
 /// step of this number, or, where that is 0, until a second operation is admitted; and holds the
-/// worker there until then. It keeps what it is told of a conversion.
+/// worker there until then. It keeps what it is told of a conversion, and what people should know.
 #[derive(Drop)]
 pub(crate) struct ScriptGate<R: Clock + Drop> {
     clock: R,
@@ -52,10 +52,12 @@ pub(crate) struct ScriptGate<R: Clock + Drop> {
     steps: AtomicU64,
     missed: AtomicU64,
     told: Mutex<Option<Told>>,
+    alloc: Global,
+    notices: Mutex<Vec<String>>,
 }
 
 impl<R: Clock + Drop> ScriptGate<R> {
-    pub(crate) fn new(clock: R, step: Option<u64>) -> ScriptGate<R> {
+    pub(crate) fn new(alloc: Global, clock: R, step: Option<u64>) -> ScriptGate<R> {
         ScriptGate {
             clock,
             step,
@@ -63,6 +65,8 @@ impl<R: Clock + Drop> ScriptGate<R> {
             steps: AtomicU64::new(0),
             missed: AtomicU64::new(0),
             told: Mutex::new(None),
+            alloc,
+            notices: Mutex::new(Vec::new(alloc)),
         }
     }
 
@@ -110,6 +114,14 @@ impl<R: Clock + Drop> ScriptGate<R> {
         if kept { "met" } else { "missed" }
     }
 
+    /// What people should know, a line each.
+    pub(crate) fn notices(&self) -> Result<Vec<String>> {
+        match self.notices.try_lock() {
+            Some(lines) => Ok(lines.clone()?),
+            None => Err(anyhow!("a gate that somebody still tells something")),
+        }
+    }
+
     /// What it was told of a conversion, in words; none where nothing was.
     pub(crate) fn course(&self, alloc: Global) -> Result<String> {
         let told = match self.told.try_lock() {
@@ -143,6 +155,13 @@ impl<R: Clock + Drop> Gate for ScriptGate<R> {
     fn tell(&self, converted: Converted) {
         if let Some(mut told) = self.told.try_lock() {
             *told = Some(heard(*told, converted));
+        }
+    }
+
+    fn notify(&self, line: &str) {
+        let line = String::from_str(self.alloc, line);
+        if let (Ok(line), Some(mut lines)) = (line, self.notices.try_lock()) {
+            let _ = lines.push(line);
         }
     }
 }

@@ -126,6 +126,7 @@ pub(crate) fn change(
                 text.as_bytes(),
             )?;
         }
+        Change::Tail { bytes } => shelf.tail = bytes,
         Change::Sum { at, size } => sum_anew(part_of(bytes, at, size)?)?,
         Change::Token { letters } => {
             for copy in bytes.chunks_mut(COPY).take(2) {

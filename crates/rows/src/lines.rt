@@ -56,6 +56,10 @@ pub(crate) enum Change<'a> {
         at: u64,
         size: u64,
     },
+    /// There are so many bytes behind the last whole atom.
+    Tail {
+        bytes: u64,
+    },
     /// Both copies of a header have a token with so many letters.
     Token {
         letters: u64,
@@ -122,6 +126,8 @@ pub(crate) enum Line<'a> {
     Stops(&'a str),
     /// Device calls of a command fail, and it is run again.
     Faults(&'a str),
+    /// What a person is told of words.
+    Words(&'a str),
     /// A calculation, which no command shows.
     Value(&'a str),
     /// A header of a conversion, step by step.
@@ -133,7 +139,7 @@ impl Line<'_> {
     pub(crate) fn is_shown(&self) -> bool {
         match self {
             Line::Run(_) | Line::Loose(_) | Line::Stops(_) | Line::Faults(_) => true,
-            Line::Value(_) | Line::Metadata(_) => true,
+            Line::Words(_) | Line::Value(_) | Line::Metadata(_) => true,
             Line::Remark | Line::Name { .. } | Line::Disk { .. } | Line::Change { .. } => false,
             Line::Set(_) => false,
         }
@@ -149,11 +155,12 @@ pub(crate) fn line_of<'a>(alloc: Global, line: &'a str) -> Result<Line<'a>> {
     match word {
         "bytes" | "text" | "file" | "rising" | "drawn" | "edited" => naming(alloc, word, rest),
         "disk" => disk(alloc, rest),
-        "put" | "fill" | "copy" | "sum" | "token" => changing(alloc, word, rest),
+        "put" | "fill" | "tail" | "copy" | "sum" | "token" => changing(alloc, word, rest),
         "run" => Ok(Line::Run(rest)),
         "loose" => Ok(Line::Loose(rest)),
         "stops" => Ok(Line::Stops(rest)),
         "faults" => Ok(Line::Faults(rest)),
+        "words" => Ok(Line::Words(rest)),
         "value" => Ok(Line::Value(rest)),
         "metadata" => Ok(Line::Metadata(rest)),
         _ => Ok(Line::Set(setting(alloc, word, rest)?)),
@@ -220,6 +227,7 @@ fn changing<'a>(alloc: Global, word: &str, rest: &'a str) -> Result<Line<'a>> {
                 at: *at,
                 size: *size,
             },
+            ("tail", [bytes]) => Change::Tail { bytes: *bytes },
             ("token", [letters]) => Change::Token { letters: *letters },
             _ => return Err(anyhow!("{word} has other numbers")),
         },

@@ -15,12 +15,13 @@
 //! Disks, which have the same bytes from one command to the next:
 //! - `disk NAME ATOM ATOMS BYTE`: all bytes are this one. The first name is the disk's, a second one
 //!   that of a detached header; the first name again begins anew with it alone;
-//! - `put NAME AT SPELLED`, `fill NAME AT LENGTH BYTE`: bytes at a byte;
+//! - `put NAME AT SPELLED`, `fill NAME AT LENGTH BYTE`: bytes at a byte; `tail NAME BYTES`: it has so many
+//!   bytes behind its last whole atom;
 //! - `copy NAME AT SIZE NUMBER LETTER TEXT`: a copy of a header of a named text;
 //! - `sum NAME AT SIZE`: such a copy's checksum is made right; `token NAME LETTERS`: both copies of
 //!   16384 bytes have a token with so many letters.
 //!
-//! Settled from there on: `key NAME SPELLED`, a key file; `seeds FIRST STEP`, the bytes that are drawn
+//! Settled from there on: `key NAME SPELLED`, a key file, in place of one of its name; `seeds FIRST STEP`, the bytes that are drawn
 //! rise from the first one by so much (at first 0 and 1); each `format` and `init` draws the next 32.
 //!
 //! Settled for the next command alone:
@@ -38,7 +39,7 @@
 //!
 //! Commands, each of which is shown as it stands, and behind it what it comes to:
 //! - `run WORDS`: the status, its cause and the text that is printed; why there is no header or no
-//!   volume; what the gate was told of a conversion; of each session its link, its number, how it
+//!   volume; what people are told besides (`says`); what the gate was told of a conversion; of each session its link, its number, how it
 //!   ended, the bytes that were taken and put, and these, of more than 64 their SHA-256; whether
 //!   clients and worker met; and of each disk that was handed back how many device calls there were,
 //!   and the SHA-256 of what is left;
@@ -54,6 +55,7 @@
 //!   SHA-256 of the disk; then how it ends that is given again, and what the reader is put.
 //!
 //! What no command shows:
+//! - `words WORDS`: the first line that a person is told of words that ask for nothing, else `taken`;
 //! - `value seal CIPHER KEY SECTOR NUMBER BYTES`, bytes sealed by sectors from that number on; `value
 //!   xts KEY KEY NUMBER BYTES`, as one sector under the keys of body and tweak; `value hmac HASH KEY
 //!   TEXT`; `value derive HASH PASSWORD SALT ROUNDS LENGTH`; `value split HASH KEY DRAWN STRIPES`, the
@@ -92,7 +94,8 @@ use anyhow::Result;
 use std::env;
 
 /// The scripts, in the order in which they are shown.
-const SCRIPTS: [&str; 16] = [
+const SCRIPTS: [&str; 18] = [
+    "words.rows",
     "vectors.rows",
     "headers.rows",
     "copies.rows",
@@ -109,6 +112,7 @@ const SCRIPTS: [&str; 16] = [
     "zones.rows",
     "serving.rows",
     "crowd.rows",
+    "slips.rows",
 ];
 
 fn main(rt: HostRuntime) -> Result<()> {

@@ -8,8 +8,8 @@ mod wishes;
 
 use crate::bytes::Lexicon;
 use anyhow::Result;
+use base_terms::Sizes;
 use coming::come_to;
-use disk_sizes::Sizes;
 pub(crate) use stands::Stand;
 use stands::told;
 use std::alloc::Global;

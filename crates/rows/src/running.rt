@@ -7,8 +7,8 @@ use anyhow::{Result, anyhow};
 use base_terms::Bytes;
 use bays::{MemBay, MemLink};
 use io_edge::{FixedSeeds, ListSink, ListSource};
-use reenc_tool::{Ended, FaultText, RefusalText, SessionEnd, run};
-use sector_disk::MemDisk;
+use memory_disks::MemDisk;
+use reenc_tool::{Ended, FaultText, RefusalText, SessionEnd, explain_words, run};
 use std::alloc::Global;
 use std::sync::Wait;
 use std::thread::Threads;
@@ -25,7 +25,8 @@ pub(crate) struct Outcome {
     pub(crate) text: String,
     /// Why no header is shown, or no volume was opened.
     pub(crate) why: String,
-    /// What the gate was told of a conversion.
+    /// What the gate was told that people should know, and of a conversion.
+    pub(crate) notices: Vec<String>,
     pub(crate) course: String,
     /// Whether clients and worker met.
     pub(crate) met: &'static str,
@@ -46,6 +47,7 @@ impl Drop for Outcome {
             ended,
             text,
             why,
+            notices,
             course,
             met: _,
             sessions,
@@ -53,7 +55,7 @@ impl Drop for Outcome {
             disk,
             header,
         } = self;
-        drop((ended, text, why, course, sessions, put));
+        drop((ended, text, why, notices, course, sessions, put));
         drop((disk, header));
     }
 }
@@ -66,6 +68,7 @@ impl Outcome {
             ended,
             text,
             why,
+            notices,
             course,
             met: _,
             sessions,
@@ -73,7 +76,7 @@ impl Outcome {
             disk,
             header,
         } = self;
-        drop((ended, text, why, course, sessions, put));
+        drop((ended, text, why, notices, course, sessions, put));
         (disk, header)
     }
 
@@ -88,10 +91,10 @@ impl Outcome {
     }
 }
 
-/// The key files of a bay.
+/// The key files of a bay, which gives the first of a name: the last that the script has.
 fn keys_of(alloc: Global, world: &World) -> Result<Vec<(String, Bytes)>> {
     let mut keys = Vec::new(alloc);
-    for (name, bytes) in world.keys.as_slice().iter() {
+    for (name, bytes) in world.keys.as_slice().iter().rev() {
         keys.push((name.clone()?, Bytes::new(bytes.clone()?)))?;
     }
     Ok(keys)
@@ -156,6 +159,15 @@ fn words_of(alloc: Global, line: &str) -> Result<Vec<String>> {
         }
     }
     Ok(words)
+}
+
+/// The first line that a person is told of words that ask for nothing.
+pub(crate) fn told_of_words(alloc: Global, line: &str) -> Result<String> {
+    let words = words_of(alloc, line)?;
+    match explain_words(alloc, words.as_slice())? {
+        None => Ok(String::from_str(alloc, "taken")?),
+        Some(text) => Ok(String::from_str(alloc, text.as_str().lines().next().unwrap_or(""))?),
+    }
 }
 
 /// Bytes, as they are told: all of few, of more their SHA-256.
@@ -234,6 +246,7 @@ fn told(
     alloc: Global,
     ended: Ended<'_, MemDisk, MemLink>,
     out: &ListSink,
+    notices: Vec<String>,
     course: String,
     met: &'static str,
 ) -> Result<Outcome> {
@@ -257,6 +270,7 @@ fn told(
         ended: format!(in alloc; "{status} {cause:?}{wanted}")?,
         text: String::from_str(alloc, text)?,
         why,
+        notices,
         course,
         met,
         sessions: sessions_of(alloc, sessions.as_slice(), links.as_slice())?,
@@ -280,9 +294,9 @@ pub(crate) fn run_on(
     let mut bay = bay_of(alloc, world, disks, clients)?;
     let mut seeds = seeds_of(alloc, world)?;
     let mut out = ListSink::new(alloc, world.next.room as usize, world.next.fails_of("out"))?;
-    let gate = ScriptGate::new(*rt, world.next.meet);
+    let gate = ScriptGate::new(alloc, *rt, world.next.meet);
     let words = words.as_slice();
     let ended = run(threads, alloc, words, &mut bay, &mut seeds, &mut out, &gate);
-    let course = gate.course(alloc)?;
-    told(alloc, ended, &out, course, gate.met())
+    let (notices, course) = (gate.notices()?, gate.course(alloc)?);
+    told(alloc, ended, &out, notices, course, gate.met())
 }

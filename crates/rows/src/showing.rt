@@ -3,12 +3,12 @@
 use crate::disks::{Shelf, calls_of, left_on, sum_of};
 use crate::lines::{Line, line_of};
 use crate::metadata::show_metadata;
-use crate::running::{Outcome, run_on};
+use crate::running::{Outcome, run_on, told_of_words};
 use crate::stops::{show_faults, show_stops};
 use crate::vectors::value_of;
 use crate::world::{Next, World};
 use anyhow::{Context, Result};
-use sector_disk::MemDisk;
+use memory_disks::MemDisk;
 use std::fs;
 use std::sync::Wait;
 use std::thread::Threads;
@@ -55,6 +55,7 @@ fn show_outcome(rt: &HostRuntime, outcome: &Outcome, is_loose: bool) -> Result<(
         ended,
         text,
         why,
+        notices,
         course,
         met,
         sessions,
@@ -63,6 +64,9 @@ fn show_outcome(rt: &HostRuntime, outcome: &Outcome, is_loose: bool) -> Result<(
     println!(rt; "  {ended} {text:?}")?;
     if !why.is_empty() {
         println!(rt; "  {why}")?;
+    }
+    for notice in notices.as_slice() {
+        println!(rt; "  says {notice}")?;
     }
     if !course.is_empty() && !is_loose {
         println!(rt; "  {course}")?;
@@ -131,6 +135,11 @@ fn do_line(
         } => return world.make_disk(alloc, name, atom, atoms, byte),
         Line::Change { name, change } => return world.change(alloc, name, change),
         Line::Set(setting) => return world.set(alloc, setting),
+        Line::Words(words) => {
+            let told = told_of_words(alloc, words)?;
+            println!(rt; "  {told}")?;
+            return Ok(());
+        }
         Line::Value(words) => {
             let value = value_of(alloc, &world.lexicon, words)?;
             println!(rt; "  {value}")?;

@@ -9,12 +9,11 @@ use crate::lines::{Change, Origin, Setting};
 use crate::metadata::{Stand, nothing};
 use crate::numbers::numbers;
 use anyhow::{Context, Result, anyhow};
-use sector_disk::MemDisk;
+use memory_disks::MemDisk;
 use std::alloc::Global;
 use std::fs;
 
 /// How the next command is run.
-#[derive(Drop)]
 pub(crate) struct Next {
     /// What each client sends, and in pieces of how many bytes; how many it takes.
     pub(crate) clients: Vec<Vec<u8>>,
@@ -35,6 +34,27 @@ pub(crate) struct Next {
     pub(crate) again: Vec<u64>,
     /// The words of the command that serves the clients at the end.
     pub(crate) reader: String,
+}
+
+// By hand, so that one that is dropped in place is one call to the prover.
+impl Drop for Next {
+    fn drop(self) {
+        let Next {
+            clients,
+            piece: _,
+            taken: _,
+            room: _,
+            fails,
+            stop: _,
+            left,
+            meet: _,
+            tried,
+            again,
+            reader,
+        } = self;
+        drop((clients, fails, left));
+        drop((tried, again, reader));
+    }
 }
 
 impl Next {
@@ -75,7 +95,6 @@ impl Next {
 }
 
 /// What a script has settled.
-#[derive(Drop)]
 pub(crate) struct World {
     pub(crate) lexicon: Lexicon,
     /// The disk, and that of a detached header, in this order.
@@ -87,6 +106,23 @@ pub(crate) struct World {
     pub(crate) next: Next,
     /// The header of a conversion that goes on step by step.
     pub(crate) stand: Stand,
+}
+
+// By hand, so that one that is dropped in place is one call to the prover.
+impl Drop for World {
+    fn drop(self) {
+        let World {
+            lexicon,
+            disks,
+            keys,
+            first: _,
+            step: _,
+            next,
+            stand,
+        } = self;
+        drop((lexicon, disks, keys));
+        drop((next, stand));
+    }
 }
 
 impl World {
@@ -198,7 +234,8 @@ impl World {
                 Some(calls) if disks.is_empty() => Limit::Stop(calls),
                 _ => Limit::Fail(self.next.fails_of(shelf.name.as_str())),
             };
-            let disk = disk_with(alloc, shelf.atom, shelf.bytes.as_slice(), limit)?;
+            let mut disk = disk_with(alloc, shelf.atom, shelf.bytes.as_slice(), limit)?;
+            disk.set_tail(shelf.tail);
             disks.push((shelf.name.clone()?, disk))?;
         }
         Ok(disks)

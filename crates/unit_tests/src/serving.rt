@@ -1,9 +1,10 @@
 use crate::same::same;
 use bays::{Bay, Manner, MemBay, MemLink};
 use block_server::{Served, Standing, serve};
-use io_edge::{ListSink, ListSource, OpenGate};
+use gates::OpenGate;
+use io_edge::{ListSink, ListSource};
+use memory_disks::RamDisk;
 use nbd_session::{Ending, SessionEnd};
-use sector_disk::RamDisk;
 use std::alloc::{AllocError, Global};
 use std::sync::Wait;
 use std::test::Fail;

@@ -6,7 +6,7 @@ use Rattle.std.proofs.lemmas.List.Elements.{All-append, All-nil}
 use Rattle.std.specs.List.{All}
 use Rattle.header_report.proofs.ExamineLemmas.{cause-told}
 use Rattle.header_report.specs.Examinations.{TellsFault, sizes_alone}
-use Rattle.joined_disk.specs.Joined.{both_faults}
+use Rattle.sector_disk.specs.JoinedDisks.Joined.{both_faults}
 use Rattle.luks_slots.specs.Devices.{IsUnwritten}
 use Rattle.luks_store.specs.Devices.{KeepsBytes}
 use Rattle.luks_store.specs.Loads.{Answers, HasCause, stored_in}

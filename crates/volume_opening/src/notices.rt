@@ -1,5 +1,5 @@
+use gates::Gate;
 use header_report::copy_notice;
-use io_edge::Gate;
 use luks_store::Loaded;
 use std::alloc::Global;
 

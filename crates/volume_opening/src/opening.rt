@@ -2,7 +2,7 @@
 
 ghost use Rattle.std.specs.Prelude.{◌<◌, IfErr, IfOk};
 ghost use Rattle.header_report.specs.Examinations.{TellsFault};
-ghost use Rattle.joined_disk.specs.Counts.{HasSizes};
+ghost use Rattle.sector_disk.specs.JoinedDisks.Counts.{HasSizes};
 ghost use Rattle.luks_store.specs.Devices.{KeepsBytes};
 ghost use Rattle.luks_store.specs.Loads.{HasCause};
 ghost use Rattle.volume_opening.specs.Openings.{IsFound, IsKeyFound, IsOpenedBy};
@@ -11,14 +11,13 @@ ghost use Rattle.volume_opening.specs.Refusals.{IsNoKeyFound, IsUnopenedBy};
 use crate::notices::note_repair;
 use crate::refusal::{Refusal, Unopened};
 use cipher_laws::SectorCipher;
-use io_edge::Gate;
-use joined_disk::JoinedDisk;
+use gates::Gate;
 use luks_rules::Valid;
 use luks_slots::{Key, unlock};
 use luks_store::{Loaded, StoreFault, load};
 use reenc_recovery::{OpenFault, SideKeys, open_volume, opened_volumes_go_by_passphrases};
 use sector_cipher::Context;
-use sector_disk::Disk;
+use sector_disk::{Disk, JoinedDisk};
 use std::alloc::Global;
 use volume_core::Volume;
 

@@ -5,6 +5,7 @@ import argparse
 
 from ..luks.ciphers import STRIPES, KeyDraw, area_size, drawn, pages
 from ..luks.header import HEAD, text_of
+from ..words import Parser
 from . import steps
 
 
@@ -17,10 +18,9 @@ class Wish(argparse.Namespace):
 
     @classmethod
     def of(cls, words):
-        parser = argparse.ArgumentParser()
-        parser.add_argument("command")
-        parser.add_argument("disk")
+        parser = Parser()
         parser.add_argument("--key-file")
+        parser.add_argument("--drop-keyslots", action="store_true")
         parser.add_argument("--cipher", default="aes-xts-plain64")
         parser.add_argument("--resilience", default="journal")
         parser.add_argument("--direction", default="forward")

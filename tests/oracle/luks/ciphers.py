@@ -1,6 +1,7 @@
 """Ciphers of sectors, the anti-forensic split and what is drawn, by hashlib and cryptography."""
 
 import base64
+import functools
 import hashlib
 import struct
 
@@ -68,11 +69,6 @@ class Side:
         return self.turned(data, first, "decryptor")
 
 
-def area_of(key):
-    """How a keyslot's area is encrypted."""
-    return Side("aes-xts-plain64", key, UNIT)
-
-
 # ---- the anti-forensic split
 
 
@@ -80,32 +76,43 @@ def xor(a, b):
     return (int.from_bytes(a, "big") ^ int.from_bytes(b, "big")).to_bytes(len(a), "big")
 
 
-def diffuse(data):
-    """The diffusion of the anti-forensic split, by SHA-256."""
-    parts = (data[i : i + 32] for i in range(0, len(data), 32))
-    sums = (hashlib.sha256(struct.pack(">I", i) + p).digest()[: len(p)] for i, p in enumerate(parts))
-    return b"".join(sums)
-
-
-def mixed(stripes, size):
-    """What the last stripe is added to."""
-    found = bytes(size)
-    for place in range(0, len(stripes), size):
-        found = diffuse(xor(found, stripes[place : place + size]))
+def diffuse(data, hash_name):
+    """The diffusion of the anti-forensic split."""
+    size, found = hashlib.new(hash_name).digest_size, b""
+    for place in range(0, len(data), size):
+        part = data[place : place + size]
+        number = struct.pack(">I", place // size)
+        found += hashlib.new(hash_name, number + part).digest()[: len(part)]
     return found
 
 
-def split(key, stripes):
+def mixed(stripes, size, hash_name="sha256"):
+    """What the last stripe is added to."""
+    found = bytes(size)
+    for place in range(0, len(stripes), size):
+        found = diffuse(xor(found, stripes[place : place + size]), hash_name)
+    return found
+
+
+def split(key, stripes, hash_name="sha256"):
     """The stripes of a key, of which all but the last are drawn."""
-    return stripes + xor(mixed(stripes, len(key)), key)
+    return stripes + xor(mixed(stripes, len(key), hash_name), key)
 
 
-def merged(stripes, size):
+def merged(stripes, size, hash_name):
     """The key that stripes merge to."""
-    return xor(mixed(stripes[:-size], size), stripes[-size:])
+    return xor(mixed(stripes[:-size], size, hash_name), stripes[-size:])
 
 
 # ---- keyslots
+
+
+@functools.lru_cache(64)
+def sealed_stripes(key, drawn_stripes, passphrase, salt, iterations):
+    """A key's stripes under a passphrase, in whole sectors."""
+    area_key = hashlib.pbkdf2_hmac("sha256", passphrase, salt, iterations, 64)
+    stripes = split(key, drawn_stripes)
+    return Side("aes-xts-plain64", area_key, UNIT).sealed(stripes + bytes(-len(stripes) % UNIT), 0)
 
 
 class KeyDraw:
@@ -125,9 +132,7 @@ class KeyDraw:
 
     def area(self, passphrase, iterations, atom):
         """The bytes of the keyslot's area, in whole atoms."""
-        area_key = hashlib.pbkdf2_hmac("sha256", passphrase, self.slot_salt, iterations, 64)
-        stripes = split(self.key, self.stripes)
-        area = area_of(area_key).sealed(stripes + bytes(-len(stripes) % UNIT), 0)
+        area = sealed_stripes(self.key, self.stripes, passphrase, self.slot_salt, iterations)
         return area + bytes(-len(area) % atom)
 
     def slot(self, place, iterations):

@@ -92,6 +92,27 @@ class NoHeader(Exception):
     """Neither copy is right."""
 
 
+class CopiesDiffer(Exception):
+    """Both copies have one number, and are otherwise not the same."""
+
+
+def meaning(copy):
+    """The bytes that both copies have."""
+    data = bytearray(copy.data)
+    for start, end in [(0, 6), (104, 168), (256, 264), (448, 512)]:
+        data[start:end] = bytes(end - start)
+    return bytes(data)
+
+
+def objects_in(text):
+    """The objects of a header's text; none of one that is no JSON."""
+    try:
+        found = json.loads(text)
+    except ValueError:
+        return {}
+    return found if isinstance(found, dict) else {}
+
+
 class Header:
     """The header that a disk has: the copy that is used, the salts of both, and which one is to be
     written anew."""
@@ -107,11 +128,14 @@ class Header:
         there = [copy for copy in copies if copy]
         if not there:
             raise NoHeader
+        if len(there) == 2 and primary.number == secondary.number:
+            if meaning(primary) != meaning(secondary):
+                raise CopiesDiffer
         self.used = max(there, key=lambda copy: copy.number)
         self.salts = [(copy or self.used).salt for copy in copies]
         worse = [not copy or copy.number < self.used.number for copy in copies]
         self.repairs = worse.index(True) if True in worse else None
-        self.objects = json.loads(self.used.text)
+        self.objects = objects_in(self.used.text)
 
     def in_progress(self):
         required = self.objects["config"].get("requirements", {}).get("mandatory", [])

@@ -4,6 +4,7 @@ key stream of ChaCha20 under 32 drawn bytes."""
 import argparse
 import uuid
 
+from ..words import Parser
 from .ciphers import KeyDraw, STRIPES, area_size, drawn
 from .header import HEAD, copy_of, text_of
 
@@ -21,9 +22,7 @@ class Wish(argparse.Namespace):
 
     @classmethod
     def of(cls, words):
-        parser = argparse.ArgumentParser()
-        parser.add_argument("command")
-        parser.add_argument("disk")
+        parser = Parser()
         parser.add_argument("--header")
         parser.add_argument("--key-file")
         parser.add_argument("--cipher", default="aes-xts-plain64")

@@ -1,55 +1,34 @@
 """The commands on disks in memory (docs/CLI.md): what each calls of the disk, one after the other, and
 how it ends."""
 
-import argparse
-import base64
-import functools
-import hashlib
+import json
 
 from ..conversion import begun, steps
 from ..conversion.mending import Mended
 from ..conversion.zones import Led
 from ..luks import new_volume
-from ..luks.ciphers import STRIPES, UNIT, Side, area_of, merged
-from ..luks.header import LARGEST, Header, NoHeader, numbered
-from .bay import Ended, device, failing, fault, no_fit, read_header, refused
+from ..luks.ciphers import Side
+from ..luks.keyslots import unlock
+from ..luks.header import LARGEST, CopiesDiffer, Header, NoHeader, numbered
+from ..words import Faulty, Parser
+from .bay import Ended, device, failing, fault, judge, no_fit, read_header, refused
 from .disk import Both, Disk
 
 # ---- keys
 
 
-@functools.lru_cache(None)
-def key_in(area, passphrase, salt, iterations, size):
-    """The key of so many bytes that a passphrase unseals from a keyslot's area."""
-    area_key = hashlib.pbkdf2_hmac("sha256", passphrase, salt, iterations, 64)
-    return merged(area_of(area_key).opened(area, 0)[: size * STRIPES], size)
-
-
-def unlock(disk, objects, digests, passphrase):
-    """Reads the areas of the keyslots that digests list, by rising number, until one gives the
-    passphrase the key of such a digest: that key."""
-    for number, slot in numbered(objects["keyslots"]):
-        if slot["type"] != "luks2" or not any(number in one["keyslots"] for one in digests):
-            continue
-        area, kdf, size = slot["area"], slot["kdf"], slot["key_size"]
-        whole = -(-size * STRIPES // UNIT) * UNIT
-        read = -(-whole // disk.atom) * disk.atom
-        data = disk.read(int(area["offset"]), read)[:whole]
-        key = key_in(data, passphrase, base64.b64decode(kdf["salt"]), kdf["iterations"], size)
-        for one in digests:
-            salt = base64.b64decode(one["salt"])
-            told = hashlib.pbkdf2_hmac("sha256", key, salt, one["iterations"], 32)
-            if number in one["keyslots"] and told == base64.b64decode(one["digest"]):
-                return key
-    return None
-
-
 def find_key(disk, objects, digests, passphrase):
-    with failing("Reading"):
+    with failing("Reading", disk):
         key = unlock(disk, objects, digests, passphrase)
     if key is None:
         raise fault(5, "NoKey")
     return key
+
+
+def holds_all(disk, objects):
+    """Refuses a disk behind whose last whole atom bytes of the volume are."""
+    if disk.tail and any(one["size"] == "dynamic" for one in objects["segments"].values()):
+        raise no_fit("Tail", disk.tail, 0)
 
 
 def checked(passphrase):
@@ -60,13 +39,10 @@ def checked(passphrase):
 
 def asked(words, *options):
     """What the words of a command ask for."""
-    parser = argparse.ArgumentParser()
-    parser.add_argument("command")
-    parser.add_argument("disk")
-    parser.add_argument("--key-file")
+    parser = Parser()
     parser.add_argument("--atom", type=int, default=4096)
     for option in options:
-        parser.add_argument(option, action="store_true" if option == "--no-worker" else "store")
+        parser.add_argument(option)
     return parser.parse_args(words)
 
 
@@ -101,19 +77,24 @@ def init(bay, words):
     header = read_header(disk, "Reading")
     if header.in_progress():
         raise fault(6, "WrongState")
-    find_key(disk, header.objects, header.objects["digests"].values(), checked(passphrase))
-    with failing("Starting"):
+    digests = header.objects["digests"].values()
+    find_key(disk, header.objects, digests, checked(passphrase))
+    held = [slot for digest in digests if digest["segments"] for slot in digest["keyslots"]]
+    if len(held) > 1 and not wish.drop_keyslots:
+        raise fault(15, "Keyslots")
+    holds_all(disk, header.objects)
+    with failing("Starting", disk):
         disk.settle()
     header = read_header(disk, "Starting")
     disks, used = steps.Disks(disk.atom, "attached", len(disk.held)), header.used
     draw = begun.draw_of(wish, seed)
-    with failing("Starting"):
+    with failing("Starting", disk):
         made = begun.Beginning(header.objects, disks, wish, draw)
     if used.number == LARGEST:
         raise no_fit("Seqid", used.number, used.number - 1)
-    with failing("Starting"):
+    with failing("Starting", disk):
         header.repair(disk)
-    with failing("Writing"):
+    with failing("Writing", disk):
         disk.put(made.place, draw.area(passphrase, wish.iterations, wish.atom))
         disk.settle()
         for which in range(2):
@@ -127,6 +108,8 @@ def init(bay, words):
 
 
 def segment_text(segment):
+    if segment["type"] == "linear":
+        return f'linear offset {segment["offset"]}'
     return f'{segment["encryption"]} sector {segment["sector_size"]} offset {segment["offset"]}'
 
 
@@ -151,26 +134,28 @@ def state_text(disk, objects):
 def status(bay, words):
     wish = asked(words)
     disk = bay.disk(wish.disk, wish.atom)
-    with failing("Reading"):
+    with failing("Reading", disk):
         try:
             header = Header(disk)
-        except NoHeader:
+        except (NoHeader, CopiesDiffer):
             # a server may be in the middle of a commit: it is read once more
             header = Header(disk)
     objects = header.objects
-    lines = [f"uuid: {header.used.identifier}", f"seqid: {header.used.number}"]
+    judge(disk, objects)
+    lines = [f"uuid: {header.used.identifier.lower()}", f"seqid: {header.used.number}"]
     if header.in_progress():
         lines += state_text(disk, objects)
     else:
-        live = objects["segments"]["0"]
-        blocks = len(disk.held) - int(live["offset"]) // disk.atom
+        (live,) = objects["segments"].values()
+        disks = steps.Disks(disk.atom, "attached", len(disk.held))
+        blocks = disks.length(live) // disk.atom
         lines += ["state: idle", f"live: {segment_text(live)} blocks {blocks}"]
     for number, slot in numbered(objects["keyslots"]):
         lines.append(f"slot {number}: {slot_text(slot)}")
     raise Ended(0, "Fine", "".join(line + "\n" for line in lines))
 
 
-# ---- resume and serve
+# ---- resume
 
 
 class Volume:
@@ -199,7 +184,8 @@ def taken_up(disk, passphrase):
     if not header.in_progress():
         raise fault(6, "WrongState")
     keys = find_keys(disk, header.objects, checked(passphrase))
-    with failing("Starting"):
+    holds_all(disk, header.objects)
+    with failing("Starting", disk):
         disk.settle()
         header = Header(disk)
         volume = Volume(disk, header.objects, keys)
@@ -242,64 +228,44 @@ class Told(Led):
         first, last, volume = self.told[0], self.told[-1], self.volume
         changes = sum(one != other for one, other in zip(self.told, self.told[1:]))
         return (
-            f" ({len(self.told)} told, {first} to {last} of {volume.blocks} blocks"
-            f" of {volume.atom} bytes, {changes} changes)"
+            f"{len(self.told)} told, {first} to {last} of {volume.blocks} blocks"
+            f" of {volume.atom} bytes, {changes} changes"
         )
 
 
-def led_to_its_end(disk, volume, failing_at):
+def led_to_its_end(bay, disk, volume, failing_at):
     """The conversion is led on; where it ends before, the command does."""
     led = Told(volume, disk)
     answer = led.lead()
-    disk.course = led.course()
+    bay.course = led.course()
     if answer.startswith("Device"):
-        raise device(failing_at())
+        raise device(failing_at(), disk.faults)
     if answer != "AllDone":
         raise refused(led.why)
 
 
 def resume(bay, words):
-    wish = asked(words)
+    wish = asked(words, "--key-file")
     disk = bay.disk(wish.disk, wish.atom)
     passphrase = bay.passphrase(wish.key_file)
     volume = taken_up(disk, passphrase)
-    led_to_its_end(disk, volume, lambda: "Converting")
+    led_to_its_end(bay, disk, volume, lambda: "Converting")
     raise Ended(0, "Fine", f"finished {volume.blocks} blocks\n")
 
 
-def opened_idle(disk, header, passphrase):
-    """Opens a volume of which nothing is being converted by the header that was read."""
-    key = find_key(disk, header.objects, header.objects["digests"].values(), checked(passphrase))
-    with failing("Starting"):
-        disk.settle()
-        Header(disk).repair(disk)
-    return key
-
-
-def serve(bay, words):
-    """`serve`, for clients of whom none comes. It reads the header first; a conversion that is under way
-    by it is led to its end by the calls that `resume` makes, unless it is told not to."""
-    wish = asked(words, "--listen", "--no-worker")
-    disk = bay.disk(wish.disk, wish.atom)
-    passphrase = bay.passphrase(wish.key_file)
-    header = read_header(disk, "Reading")
-    if header.in_progress():
-        volume = taken_up(disk, passphrase)
-        if not wish.no_worker:
-            led_to_its_end(disk, volume, lambda: "Writing" if disk.is_broken else "Converting")
-    else:
-        opened_idle(disk, header, passphrase)
-    raise Ended(0, "Fine", "served 0 sessions\n")
-
-
-COMMANDS = {"format": make, "init": init, "status": status, "resume": resume, "serve": serve}
+COMMANDS = {"format": make, "init": init, "status": status, "resume": resume}
 
 
 def ended_by(bay, words):
     """How a command ends: the status, its cause, and what it prints."""
-    words = words.split(" ") if isinstance(words, str) else words
+    words = words.split(" ") if words else []
     try:
+        if not words or words[0] not in COMMANDS:
+            raise Faulty
         COMMANDS[words[0]](bay, words)
     except Ended as ended:
         return ended.args
+    except Faulty:
+        told = json.dumps(words, ensure_ascii=False)
+        return fault(1, "Usage", f"Usage {{ words: {told} }}").args
     raise ValueError("a command without an end")

@@ -7,20 +7,23 @@ class Failed(Exception):
 
 class Disk:
     """Of each atom the bytes that it has and those that a stop may leave. The calls with these numbers
-    fail; one that is stopped makes so many calls, and all behind them fail."""
+    fail; one that is stopped makes so many calls, and all behind them fail. The tail are bytes behind the last
+    whole atom."""
 
-    def __init__(self, atom, data, fails=(), stop=None):
-        self.atom, self.fails, self.stop = atom, set(fails), stop
+    def __init__(self, atom, data, fails=(), stop=None, tail=0):
+        self.atom, self.fails, self.stop, self.tail = atom, set(fails), stop, tail
         self.held = [data[at : at + atom] for at in range(0, len(data), atom)]
         self.candidates = [[one] for one in self.held]
-        self.calls = 0
+        self.calls = self.faults = 0
         self.is_broken = False
 
     def call(self):
-        """Counts a call, and says whether it is made."""
+        """Counts a call, and whether it fails."""
         self.calls += 1
         is_stopped = self.stop is not None and self.stop < self.calls
-        return self.calls - 1 not in self.fails and not is_stopped
+        is_right = self.calls - 1 not in self.fails and not is_stopped
+        self.faults += not is_right
+        return is_right
 
     def read(self, place, length):
         if not self.call():

@@ -116,3 +116,15 @@ def told(zone, forward, asks):
     orders, states, ends = Orders(zone, forward, asks).walk()
     lines = sorted("".join(f".{byte}" for byte in end) + f" by {count}" for end, count in ends.items())
     return f"{orders} orders, {states} places; " + " ".join(lines)
+
+
+def main():
+    """A write beside a read, by zones of two blocks, and two writes beside each other, by one zone."""
+    beside = [("write", 0, 2, False), ("read", 1, 2, False)]
+    print("zones of 2 forward, a write and a read:", told(2, True, beside))
+    both = [("write", 2, 2, False), ("write", 1, 2, False)]
+    print("a zone of 4 backward, two writes:", told(4, False, both))
+
+
+if __name__ == "__main__":
+    main()

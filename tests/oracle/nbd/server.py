@@ -170,15 +170,23 @@ class Session:
             raise Ended(f"TooLong({length})")
         data = self.take(length) if kind == WRITE else b""
         error = self.refusal(flags, kind, offset, length)
-        if not error and self.healthy is not None and self.asked >= self.healthy:
-            error = EIO
+        if not error:
+            data = data if kind == WRITE else bytes(length)
+            error = self.carried_out(kind, flags, offset, data)
         self.asked += 1
         if kind == READ:
             self.answer_read(flags, cookie, offset, length, error)
-            return
-        if not error and kind in (WRITE, WRITE_ZEROES):
-            self.disk[offset : offset + length] = data if kind == WRITE else bytes(length)
-        self.put += simple_reply(cookie, error)
+        else:
+            self.put += simple_reply(cookie, error)
+
+    def carried_out(self, kind, flags, offset, data):
+        """Does what a request asks for, which has so many bytes, or these; the error that it is answered, 0
+        for none."""
+        if self.healthy is not None and self.asked >= self.healthy:
+            return EIO
+        if kind in (WRITE, WRITE_ZEROES):
+            self.disk[offset : offset + len(data)] = data
+        return 0
 
     def refusal(self, flags, kind, offset, length):
         """The error that a request is answered, 0 for none."""

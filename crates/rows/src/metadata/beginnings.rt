@@ -9,8 +9,8 @@ use crate::metadata::stands::{number, small_number};
 use anyhow::{Result, anyhow};
 use luks_init::{Begun, Guard, InitFault, Wish, begin};
 use luks_json::{Cipher, Direction};
-use luks_keys::{drawn_len, split_drawn};
 use luks_rules::Valid;
+use luks_slots::{drawn_len, split_drawn};
 use std::alloc::{AllocError, Global};
 
 /// Whether a wish is one for a disk of such atoms.

@@ -5,7 +5,7 @@ ghost use Rattle.reenc_meta.specs.Placements.{all_atoms};
 ghost use Rattle.sector_disk.specs.Geometry.{IsDisk};
 
 use anyhow::{Result, anyhow};
-use disk_sizes::Sizes;
+use base_terms::Sizes;
 use luks_json::Meta;
 use luks_rules::{CheckError, Valid, check};
 use reenc_meta::{Reenc, place_idle};

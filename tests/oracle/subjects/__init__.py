@@ -1,1 +1,0 @@
-"""What is judged: each module makes what the rows of its subject are to be."""
