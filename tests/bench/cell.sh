@@ -2,9 +2,9 @@
 # Times the cell beside a mutex around the same machine: turns a second with one, two and four threads,
 # in one run. Then two threads ask a cell whose machine sleeps a millisecond at each turn. Both must
 # finish, and the program must use less than a fifth of a processor while they wait. TURNS (10000000) of
-# each thread, SLEEPS (2000) of each thread and CELL_BENCH, the program, may be set.
+# each thread, SLEEPS (2000) of each thread and BENCH, the program, may be set.
 set -u
-bench=${CELL_BENCH:-$(cd "$(dirname "$0")/../.." && pwd)/crates/cell_bench/out/cell_bench}
+bench=${BENCH:-$(cd "$(dirname "$0")/../.." && pwd)/crates/bench/out/bench}
 sleeps=${SLEEPS:-2000}
 seen=$(mktemp)
 trap 'rm -f "$seen"' EXIT
@@ -15,12 +15,12 @@ fail() {
     exit 1
 }
 
-[ -x "$bench" ] || fail "there is no program $bench: rt run in crates/cell_bench builds it"
-"$bench" "${TURNS:-10000000}" || fail "status $? of the turns"
+[ -x "$bench" ] || fail "there is no program $bench: rt run in crates/bench builds it"
+"$bench" cell "${TURNS:-10000000}" || fail "status $? of the turns"
 
 # seconds that passed, and those of a processor in the program and in the system
 TIMEFORMAT='%R %U %S'
-took=$({ time "$bench" sleep "$sleeps" >"$seen" 2>&1; } 2>&1) || fail "the sleepers: $(cat "$seen")"
+took=$({ time "$bench" cell sleep "$sleeps" >"$seen" 2>&1; } 2>&1) || fail "the sleepers: $(cat "$seen")"
 grep -q "^two threads slept $sleeps times each" "$seen" || fail "the sleepers: $(cat "$seen")"
 cat "$seen"
 echo "$took" | awk -v sleeps="$sleeps" '{

@@ -3,25 +3,25 @@
 # AES instructions masked (bit planes by SSSE3), without SSSE3 besides (tables), and with all. It
 # prints MiB a second, the best burst of each: 32 KiB at a time in one thread, and a MiB in one part
 # and in PARTS. OpenSSL's CBC has the IV given, ours makes it. TURNS (5), BURSTS (40) and PARTS (4)
-# may be set; other builds of cipher_bench, named in OTHERS, are timed in the same turns. Build
-# cipher_bench first: `make bench`.
+# may be set; other builds of bench, named in OTHERS, are timed in the same turns. Build
+# bench first: `make bench`.
 set -u
 here=$(cd "$(dirname "${BASH_SOURCE[0]}")" && pwd)
-ours=${CIPHER_BENCH:-$here/../../crates/cipher_bench/out/cipher_bench}
+ours=${BENCH:-$here/../../crates/bench/out/bench}
 turns=${TURNS:-5} bursts=${BURSTS:-40} parts=${PARTS:-4}
 for tool in gcc python3; do
     command -v "$tool" >/dev/null || { echo "skipped: there is no $tool"; exit 77; }
 done
-[ -x "$ours" ] || { echo "skipped: cipher_bench is not built"; exit 77; }
+[ -x "$ours" ] || { echo "skipped: bench is not built"; exit 77; }
 room=$(mktemp -d)
 trap 'rm -rf "$room"' EXIT
 gcc -O2 -o "$room/openssl_bursts" "$here/openssl_bursts.c" -lcrypto 2>"$room/gcc" ||
     { echo "skipped: OpenSSL's headers are not there (libssl-dev)"; exit 77; }
 
 for _ in $(seq "$turns"); do
-    "$ours" "$bursts" "$parts" >>"$room/ours" || exit 1
+    "$ours" ciphers "$bursts" "$parts" >>"$room/ours" || exit 1
     for other in ${OTHERS:-}; do
-        "$other" "$bursts" >>"$room/$(basename "$other")" || exit 1
+        "$other" ciphers "$bursts" >>"$room/$(basename "$other")" || exit 1
     done
     # bit 57 is AES, bit 33 carry-less multiplication, bit 41 SSSE3, bit 60 AVX; the second word's
     # bits 41 and 42 are the vector forms of the first two

@@ -1,6 +1,6 @@
-"""Writes JSON texts of headers into a folder, each in a folder of its own with the rows of header_rows
-that read and judge it: one that fits a copy of 16 KiB, and hostile ones that fill the largest, with as
-many objects of a kind as fit. Prints of each its name and how many rows there are."""
+"""Writes JSON texts of headers into a folder, each in a folder of its own with a script of `rows` that
+reads and judges it, and with the line that this is to show: one that fits a copy of 16 KiB, and hostile ones that fill the largest, with as
+many objects of a kind as fit. Prints of each its name and how often it is read."""
 import os
 import sys
 
@@ -8,11 +8,9 @@ SMALL, LARGEST = 16384, 4194304
 AREA = '"area":{"type":"raw","offset":"32768","size":"258048","encryption":"aes-xts-plain64","key_size":64}'
 KDF = '"kdf":{"type":"pbkdf2","hash":"sha256","iterations":1000,"salt":"%s="}' % ("A" * 43)
 LUKS2 = '{"type":"luks2","key_size":64,"af":{"type":"luks1","stripes":4000,"hash":"sha256"},%s,%s}' % (AREA, KDF)
-BOUNDS = "rule 1 AreaBounds: an area isn't within its bounds"
-LISTED = "rule 3 DigestRef: digests don't list what they should"
-GAP = "rule 4 SegmentGap: the segments hold no whole volume"
-VALID = ("268431360 blocks at 16777216, Some(Encryption { iv_tweak: 0, cipher: AesXtsPlain64, sector_size: 4096 }), "
-         "of digest Some(0) with Some(0) keyslots")
+BOUNDS, LISTED, GAP = "AreaBounds", "DigestRef", "SegmentGap"
+VALID = ("Map { atom: 4096, blocks: 268431360, boundary: 268431360, direction: Forward, zone: 0, old_place: 4096, "
+         "new_place: 4096 }")
 CRYPT = ('{"type":"crypt","offset":"16777216","size":"4096","iv_tweak":"0",'
          '"encryption":"aes-xts-plain64","sector_size":4096}')
 DIGEST = '{"type":"pbkdf2","keyslots":%s,"segments":[],"hash":"sha256","iterations":1000,"salt":"","digest":""}'
@@ -102,8 +100,10 @@ for name, size, outcome, content in texts():
     times = 1 if size == LARGEST else 1000
     with open(f"{folder}/text.json", "w") as file:
         file.write(content)
-    with open(f"{folder}/rules.rows", "w") as file:
-        file.write(f"check {size} 4096 attached 268435456\t{outcome}\ttext.json\n" * times)
-    for empty in ("members.rows", "texts.rows"):
-        open(f"{folder}/{empty}", "w").close()
+    line = f"metadata header\t{size} 4096 attached 268435456".replace(" ", "\t").replace("metadata\t", "metadata ")
+    with open(f"{folder}/texts.rows", "w") as file:
+        file.write("file TEXT text.json\n" + f"{line}\tTEXT\n" * times)
+    with open(f"{folder}/wanted", "w") as file:
+        file.write(outcome)
+    open(f"{folder}/names", "w").close()
     print(name, times)

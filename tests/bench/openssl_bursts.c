@@ -1,5 +1,5 @@
-// OpenSSL's XTS and CBC in short bursts, the best of which count, as cipher_bench times its own:
-// 4 rounds over 32 KiB, with the IV set for each sector. It prints lines as cipher_bench does.
+// OpenSSL's XTS and CBC in short bursts, the best of which count, as bench times its own:
+// 4 rounds over 32 KiB, with the IV set for each sector. It prints lines as bench does.
 #include <openssl/evp.h>
 #include <stdint.h>
 #include <stdio.h>

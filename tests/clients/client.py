@@ -17,8 +17,8 @@ def request(kind, cookie, offset=0, length=0, flags=0):
 class Client:
     """One connection that has agreed on the export."""
 
-    def __init__(self, port):
-        self.socket = socket.create_connection(("127.0.0.1", port), timeout=20)
+    def __init__(self, port, timeout=20):
+        self.socket = socket.create_connection(("127.0.0.1", port), timeout=timeout)
         assert self.take(16) == b"NBDMAGICIHAVEOPT"
         self.take(2)
         self.socket.sendall(struct.pack(">I", 3) + b"IHAVEOPT" + struct.pack(">IIIH", OPTION_GO, 6, 0, 0))

@@ -174,8 +174,8 @@ changed() {
     python3 - "$here" "$@" <<'PYTHON' || fail "the header of $1"
 import sys
 
-sys.path.insert(0, sys.argv[1] + "/../models")
-from begun_volume import CHANGES
+sys.path.insert(0, sys.argv[1] + "/..")
+from oracle.machine.changes import CHANGES
 
 path, change, number = sys.argv[2:]
 with open(path, "rb") as file:

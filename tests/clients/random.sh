@@ -1,5 +1,5 @@
 # Random options and requests, right and wrong ones, whole and cut, for a while: each session is
-# answered as the model of tests/models says, the server never hangs, and its memory doesn't grow.
+# answered as the model of tests/oracle says, the server never hangs, and its memory doesn't grow.
 # SEED (1) and SECONDS_EACH (20) may be set.
 . "$(dirname "$0")/common.sh"
 needs python3

@@ -17,8 +17,8 @@ import sys
 import time
 from collections import Counter
 
-sys.path.insert(0, os.path.join(os.path.dirname(os.path.abspath(__file__)), "../models"))
-import nbd_server as nbd
+sys.path.insert(0, os.path.join(os.path.dirname(os.path.abspath(__file__)), ".."))
+from oracle.nbd import server as nbd
 
 # so many seconds without a byte of the server are a hang
 PATIENCE = 30

@@ -24,15 +24,24 @@ explains() {
     grep -q -- "$reason" err || fail "it doesn't say '$reason': $(cat err)"
 }
 
+# These words ask for help, which is printed.
+helps() {
+    text=$1
+    shift
+    "$reencd" "$@" >out 2>err </dev/null
+    expect "$*" "$? $(cat err)" "0 "
+    grep -q -- "$text" out || fail "it doesn't say '$text': $(cat out)"
+}
+
 truncate -s 1M disk.img
 truncate -s 511 small.img
 mkdir folder
 # shellcheck disable=SC2046
 {
     explains "Usage: reencd <COMMAND>"
-    explains "Usage: reencd <COMMAND>" --help
+    helps "Usage: reencd <COMMAND>" --help
     explains "error: the following required arguments were not provided" serve
-    explains "--listen <ADDRESS>" serve --help
+    helps "--listen <ADDRESS>" serve --help
     explains "error: unrecognized subcommand 'open'" open
     explains "error: unexpected argument '--size' found" status disk.img --size 1
     explains "error: the argument '--plain' cannot be used multiple times" $(plain disk.img stdio) --plain
@@ -41,15 +50,15 @@ mkdir folder
     explains "error: this command is not built yet" demo --seed 1 --blocks 1 --workers 1
     explains "error: resume takes no --header yet" resume disk.img --key-file key --header other.img
     explains "--key-file <FILE>" resume disk.img
-    explains "Convert a volume to the end of its conversion" resume --help
+    helps "Convert a volume to the end of its conversion" resume --help
     refuses 2 "fault 2 Device" "reencd: missing.img: No such file or directory" resume missing.img --key-file key
     refuses 2 "fault 2 Device" "reencd: missing: No such file or directory" resume disk.img --key-file missing
     refuses 3 "fault 3 NoHeader" "reencd: header: primary: Magic; secondary: Magic" resume disk.img --key-file /dev/null
     refuses 2 "fault 2 Device" "reencd: missing.img: No such file or directory" $(plain missing.img stdio)
     refuses 2 "fault 2 Device" "reencd: folder: Is a directory" $(plain folder stdio)
     refuses 8 "fault 8 NoFit" "reencd: the disk has no room for a block" $(plain small.img stdio)
-    refuses 2 "fault 2 Device" "reencd: nowhere: invalid socket address" $(plain disk.img nowhere)
-    refuses 2 "fault 2 Device" "reencd: 127.0.0.1:65536: invalid port value" $(plain disk.img 127.0.0.1:65536)
+    refuses 2 "fault 2 Device" "reencd: nowhere: no address: HOST:PORT, as 127.0.0.1:10809, or stdio" $(plain disk.img nowhere)
+    refuses 2 "fault 2 Device" "reencd: 127.0.0.1:65536: no address: HOST:PORT, as 127.0.0.1:10809, or stdio" $(plain disk.img 127.0.0.1:65536)
     refuses 2 "fault 2 Device" "reencd: 192.0.2.1:10809: Cannot assign requested address" $(plain disk.img 192.0.2.1:10809)
     serve disk.img 512 1
     refuses 2 "fault 2 Device" "reencd: disk.img: locked by another process" $(plain disk.img stdio)

@@ -23,6 +23,4 @@ mod key_schedule;
 mod plane;
 mod planes;
 mod s_box;
-#[cfg(test)]
-mod tests;
 mod transposition;

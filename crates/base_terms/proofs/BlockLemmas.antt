@@ -1,7 +1,7 @@
 -- Lemmas on texts and their blocks.
 use Rattle.std.proofs.Common.{◌≡◌, ℕ, zero, suc, ◌+◌, ◌-◌, ◌*◌, ◌<◌, ◌≤◌, List, [], ◌∷◌, ◌++◌}
 use Rattle.std.proofs.Common.{length, take, drop, map, replicate, refl, sym, ◌∙◌, ap, ap₂, arith}
-use Rattle.std.proofs.Common.{append_assoc, slice_index_or, length-drop, add-zero, add_assoc}
+use Rattle.std.proofs.Common.{append_assoc, slice_index_or, length-append, length-drop, add-zero, add_assoc}
 use Rattle.std.proofs.lemmas.List.{append-nil, take-append-drop, nil_from_length, drop_all}
 use Rattle.std.proofs.lemmas.List.{drop-drop, take_at, drop_at, take-replicate, drop-replicate}
 use Rattle.std.proofs.lemmas.List.{length-take-le}
@@ -251,3 +251,30 @@ blocks_of-replicate size (suc n) byte =
     (ap (λ text. blocks_of size n text) (drop-replicate {X = ℕ} size (suc n * size) byte
     ∙ ap (λ m. replicate m byte) rest)
     ∙ blocks_of-replicate size n byte)
+
+-- blocks of one size are those of their text
+pub blocks_of-joined : (size n : ℕ) (blocks : List (List ℕ)) → lengths blocks ≡ replicate n size
+    → blocks_of size n (joined blocks) ≡ blocks
+unfolding lengths blocks_of joined
+blocks_of-joined size zero [] even = refl
+blocks_of-joined size (suc n) [] even = absurd (cc)
+blocks_of-joined size zero (block ∷ blocks) even = absurd (cc)
+blocks_of-joined size (suc n) (block ∷ blocks) even =
+    let is : length block ≡ size = cc in
+    let rest : lengths blocks ≡ replicate n size = cc in
+    ap₂ (λ x xs. x ∷ xs) (take_at block (joined blocks) size is)
+    (ap (λ text. blocks_of size n text) (drop_at block (joined blocks) size is)
+    ∙ blocks_of-joined size n blocks rest)
+
+pub length-joined : (size n : ℕ) (blocks : List (List ℕ)) → lengths blocks ≡ replicate n size
+    → length (joined blocks) ≡ n * size
+unfolding lengths joined
+length-joined size zero [] even = omega arith
+length-joined size (suc n) [] even = absurd (cc)
+length-joined size zero (block ∷ blocks) even = absurd (cc)
+length-joined size (suc n) (block ∷ blocks) even =
+    let is : length block ≡ size = cc in
+    let rest : length (joined blocks) ≡ n * size =
+    length-joined size n blocks (let e : lengths blocks ≡ replicate n size = cc in e) in
+    let one : suc n * size ≡ size + n * size = grind arith in
+    rw one (length-append block (joined blocks) ∙ ap₂ (λ a b. a + b) is rest)

@@ -7,7 +7,7 @@ use std::marker::Model;
 /// A buffer of bytes that is used again and again. It keeps its longest length and lends its front,
 /// so that a shorter text takes no memory and writes no byte twice. Contracts see it as the list of
 /// all its bytes.
-#[derive(Debug, Drop)]
+#[derive(Drop)]
 pub struct Buffer {
     vec: Vec<u8>,
 }

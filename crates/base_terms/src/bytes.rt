@@ -5,7 +5,7 @@ use std::marker::Model;
 
 /// A text of bytes of its own, which contracts see as the list of its bytes. Where it was made of a
 /// buffer, it keeps the memory behind its last byte.
-#[derive(Debug, Drop)]
+#[derive(Drop)]
 pub struct Bytes {
     vec: Vec<u8>,
     len: usize,

@@ -9,8 +9,8 @@ use Rattle.std.specs.declared.alloc.Global.{Global}
 use Rattle.std.specs.declared.string.String.{String}
 use Rattle.io_edge.specs.FaultPlan.{Plan, fresh_plan}
 use Rattle.io_edge.specs.Memory.{Input, Output}
-use Rattle.sector_disk.specs.Mem.{atom_of}
-use Rattle.sector_disk.specs.declared.mem_disk.MemDisk.{MemDisk}
+use Rattle.memory_disks.specs.Mem.{atom_of}
+use Rattle.memory_disks.specs.declared.mem_disk.MemDisk.{MemDisk}
 use Rattle.bays.specs.declared.bay.BayFault.{BayFault}
 use Rattle.bays.specs.declared.bay.BayFault.TheVariants.{Failed, Memory}
 use Rattle.bays.specs.Bays.{Holdings, share}

@@ -10,10 +10,28 @@ use sector_disk::Disk;
 use std::alloc::Global;
 
 /// Why a bay doesn't give what it was asked for.
-#[derive(Clone, Copy, Debug, PartialEq, Eq)]
+#[derive(Clone, Copy, PartialEq, Eq)]
 pub enum BayFault {
     Failed,
     Memory,
+}
+
+/// How the clients of a command are dealt with.
+#[derive(Clone, Copy, Debug, PartialEq, Eq)]
+pub struct Manner {
+    /// After how many seconds a client that says nothing is dropped, once it was met. None where it
+    /// may be silent for ever.
+    pub idle_timeout: Option<u32>,
+    /// Whether the coming and going of each client is told.
+    pub verbose: bool,
+}
+
+impl Manner {
+    /// A silent client is never dropped, and nothing is told.
+    pub const QUIET: Manner = Manner {
+        idle_timeout: None,
+        verbose: false,
+    };
 }
 
 /// Where a command's disks, keys and clients come from. A call that gives nothing leaves all as it
@@ -24,6 +42,7 @@ pub trait Bay {
     type Link: Link;
 
     ghost use Rattle.bays.specs.declared.bay.BayFault.{BayFault};
+    ghost use Rattle.bays.specs.declared.bay.Manner.{Manner};
 
     /// Its disks and key files by name and its clients by address, and how many calls failed.
     ghost holdings: { Self → Holdings Self.Disk };
@@ -39,8 +58,10 @@ pub trait Bay {
     /// What asking for a key file does, by the name and the answer.
     ghost asks_key: { Self → List ℕ → Result (List ℕ) BayFault → Self → Type 0 };
 
-    /// What asking for links does, by the address, the workers, the sessions and the answer.
-    ghost asks_links: { Self → List ℕ → ℕ → ℕ → Result (List Self.Link) BayFault → Self → Type 0 };
+    /// What asking for links does, by the address, the workers, the sessions, how clients are dealt
+    /// with and the answer.
+    ghost asks_links: { Self → List ℕ → ℕ → ℕ → Manner → Result (List Self.Link) BayFault → Self →
+        Type 0 };
 
     /// The disk of that name, with atoms of so many bytes. All else in the bay stands.
     fn disk(&mut self, alloc: Global, name: &str, atom: u32) -> Result<Self::Disk, BayFault>
@@ -85,11 +106,14 @@ pub trait Bay {
         address: &str,
         workers: u32,
         sessions: u32,
+        manner: Manner,
     ) -> Result<Vec<Self::Link>, BayFault>
         requires { 0 < workers }
         ensures asked { MatchResult result
-            (λ links. asks_links self.old address.now workers sessions (Ok links.items) self.new)
-            (λ fault. asks_links self.old address.now workers sessions (Err fault) self.new) }
+            (λ links. asks_links self.old address.now workers sessions manner (Ok links.items)
+            self.new)
+            (λ fault. asks_links self.old address.now workers sessions manner (Err fault)
+            self.new) }
         ensures count { IfOk result (λ links. length links.items ≡ workers) }
         ensures fresh { IfOk result
             (λ links. AreFresh Self.Link.state ((holdings self.old).inputs address.now) workers

@@ -13,7 +13,7 @@ mod mem_bay;
 mod mem_link;
 mod names;
 
-pub use bay::{Bay, BayFault};
+pub use bay::{Bay, BayFault, Manner};
 pub use link::Link;
 pub use mem_bay::MemBay;
 pub use mem_link::MemLink;

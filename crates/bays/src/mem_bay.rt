@@ -6,7 +6,7 @@ ghost use Rattle.std.specs.String.{string_bytes};
 ghost use Rattle.std.specs.Str.{bytes_eq};
 ghost use Rattle.io_edge.specs.FaultPlan.{fresh_plan, next_plan};
 ghost use Rattle.sector_disk.specs.Geometry.{IsAtom};
-ghost use Rattle.sector_disk.specs.Mem.{atom_of};
+ghost use Rattle.memory_disks.specs.Mem.{atom_of};
 ghost use Rattle.bays.specs.Bays.{AfterDisk, AfterLinks, AreBounded, AreFresh, HasBayCause};
 ghost use Rattle.bays.specs.Bays.{LeavesAll, share};
 ghost use Rattle.bays.specs.Memory.{Line, AreDealt, HaveShares, IsIdle, fails_of, has_disk};
@@ -14,13 +14,14 @@ ghost use Rattle.bays.specs.Memory.{holdings_of, inputs_of, is_failed, link_stat
 ghost use Rattle.bays.specs.Names.{StandsAt, named, without};
 ghost use Rattle.std.specs.declared.alloc.Global.{Global};
 ghost use Rattle.std.specs.declared.string.String.{String};
-ghost use Rattle.sector_disk.specs.declared.mem_disk.MemDisk.{MemDisk};
+ghost use Rattle.memory_disks.specs.declared.mem_disk.MemDisk.{MemDisk};
 
 use crate::names::find_name;
-use crate::{Bay, BayFault, MemLink};
+use crate::{Bay, BayFault, Manner, MemLink};
 use base_terms::Bytes;
 use io_edge::{FaultPlan, ListSink, ListSource};
-use sector_disk::{Disk, MemDisk};
+use memory_disks::MemDisk;
+use sector_disk::Disk;
 use std::alloc::{AllocError, Global};
 use std::marker::Model;
 
@@ -29,7 +30,6 @@ const KEY_BYTES: usize = 513;
 
 /// A bay in memory. Its calls fail as they were told to, by their numbers counted from 0, and where
 /// a name or the address is unknown; a call that fails changes nothing but the counts.
-#[derive(Debug)]
 pub struct MemBay {
     disks: Vec<(String, MemDisk)>,
     keys: Vec<(String, Bytes)>,
@@ -177,7 +177,7 @@ impl Bay for MemBay {
 
     ghost asks_key = { λ _ _ _ _. Unit {0} };
 
-    ghost asks_links = { λ _ _ _ _ _ _. Unit {0} };
+    ghost asks_links = { λ _ _ _ _ _ _ _. Unit {0} };
 
     /// Gives each disk out once. Fails exactly where the call's number is one of those that are to
     /// fail, where there is no disk of that name, or no more, and where it has another atom.
@@ -273,6 +273,7 @@ impl Bay for MemBay {
         address: &str,
         workers: u32,
         sessions: u32,
+        _manner: Manner,
     ) -> Result<Vec<MemLink>, BayFault>
         requires { 0 < workers }
         ensures count { IfOk result (λ links. length links.items ≡ workers) }

@@ -16,7 +16,6 @@ use std::marker::Model;
 
 /// A link in memory, which gives the connections that it was dealt, in their order, and keeps those
 /// that it got back. It fails exactly at the calls of `next` that it was told, counted from 0.
-#[derive(Debug)]
 pub struct MemLink {
     ahead: VecDeque<(ListSource, ListSink)>,
     handed: Vec<(ListSource, ListSink)>,

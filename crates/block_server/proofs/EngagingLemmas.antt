@@ -30,7 +30,7 @@ module _ {D P L : Type 0} (state : L → LinkState) (cell : VolumeCell D Context
         → IsPassOf cell lane.pass → IsAtRest sealed opened (known lane.pass)
         → IsLaneOf sector_of (known lane.pass) number keys shape → (known lane.pass).calls ≡ []
         → (known lane.pass).start ≡ start → lane.number ≡ number → lane.keys ≡ keys
-        → lane.shape ≡ shape → IsShape shape → (state link).bound ≤ 65535
+        → lane.shape ≡ shape → IsShape shape → (state link).bound ≤ 4294967295
         → ((other : L) → link ≡ slice_index_or olds number other) → IsEngaged number worker
     engaged number keys lane link worker lane_is link_is ends pass rests own calls started number_is
         keys_is shape_is fits bound at = (
@@ -51,7 +51,7 @@ module _ {D P L : Type 0} (state : L → LinkState) (cell : VolumeCell D Context
             shape_is = ap (λ (l : Lane D). l.shape) lane_is ∙ shape_is;
             fits = fits;
             ends = ends;
-            bound = subst (λ (l : L). (state l).bound ≤ 65535) (sym link_is) bound;
+            bound = subst (λ (l : L). (state l).bound ≤ 4294967295) (sym link_is) bound;
           },
           (λ other. link_is ∙ at other),
           ap (λ (l : Lane D). (known l.pass).start) lane_is ∙ started,

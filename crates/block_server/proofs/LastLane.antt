@@ -1,7 +1,7 @@
 -- The last lane, which is the conversion's own: what deeds leave of it.
 use Rattle.std.proofs.Common.{◌≡◌, ℕ, zero, suc, ◌≤◌, List, [], ◌∷◌, ◌++◌, Option, Some, None, length}
 use Rattle.std.proofs.Common.{refl, sym, ◌∙◌, ap, subst, arith}
-use Rattle.lanes_beside.specs.Lanes.{work_in, works_over}
+use Rattle.volume_laws.specs.BesideLanes.Lanes.{work_in, works_over}
 use Rattle.reenc_worker.specs.declared.ends.WorkAnswer.TheVariants.{Stepped, Waiting, Ended}
 use Rattle.reenc_worker.specs.declared.ends.WorkerEnd.{WorkerEnd}
 use Rattle.shared_volume.specs.Serving.{IsLastWork}
@@ -18,7 +18,7 @@ use Rattle.volume_machine.specs.WorkSteps.{misses_conclusion, misses_part, misse
 use Rattle.volume_machine.specs.WorkSteps.{queues, stays, steps, takes, wiped, wipes}
 use Rattle.volume_machine.specs.Works.{Work}
 use Rattle.volume_machine.specs.declared.open.Open.{Open}
-use Rattle.worker_laws.specs.Steps.{told_by}
+use Rattle.volume_laws.specs.WorkerRuns.Steps.{told_by}
 
 -- ---- a step that ends the worker leaves the lane without an operation
 stepped-on : (end : WorkerEnd) → Stepped ≡ Ended end → ⊥

@@ -2,7 +2,7 @@
 use Rattle.std.proofs.Common.{◌≡◌, ◌≢◌, ◌⊎◌, inl, inr, ℕ, ◌-◌, ◌^◌, ◌<◌, ◌≤◌, List, [], ◌∷◌, ◌++◌}
 use Rattle.std.proofs.Common.{All, Contains, length, length-append, refl, sym, ◌∙◌, ap, subst, arith}
 use Rattle.std.proofs.lemmas.List.Elements.{All-head, All-tail}
-use Rattle.lanes_beside.specs.Lanes.{work_in, works_over}
+use Rattle.volume_laws.specs.BesideLanes.Lanes.{work_in, works_over}
 use Rattle.reenc_worker.specs.Answers.{AreAnswers, GoesOn, ended, exhausted}
 use Rattle.reenc_worker.specs.declared.ends.WorkAnswer.{WorkAnswer}
 use Rattle.reenc_worker.specs.declared.ends.WorkAnswer.TheVariants.{Ended}

@@ -1,7 +1,7 @@
 -- How the conversion's worker ended, by its pass, where there was one.
 use Rattle.std.proofs.Common.{◌≡◌, ◌≢◌, inl, inr, ℕ, suc, ◌≤◌, List, [], Option, Some, None, length}
 use Rattle.std.proofs.Common.{refl, ◌∙◌}
-use Rattle.lanes_beside.specs.Lanes.{works_over}
+use Rattle.volume_laws.specs.BesideLanes.Lanes.{works_over}
 use Rattle.reenc_worker.specs.declared.ends.WorkerEnd.TheVariants.{Spent}
 use Rattle.shared_volume.specs.Serving.{EndsBy, WentOn}
 use Rattle.volume_machine.specs.Deeds.{AreDeeds, Deed, state_after}

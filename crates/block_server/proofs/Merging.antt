@@ -3,7 +3,7 @@ use Rattle.std.proofs.Common.{◌≡◌, ◌≢◌, inl, inr, ℕ, Bool, true, f
 use Rattle.std.proofs.Common.{if◌then◌else◌, nat_eq, refl, sym, ◌∙◌, ap, subst, arith}
 use Rattle.plain_disk.specs.Plain.{Exchange}
 use Rattle.block_server.specs.Merging.{AreOfLane, IsMergedFrom}
-use Rattle.lanes_beside.specs.Lanes.{answered_at, answered_on}
+use Rattle.volume_laws.specs.BesideLanes.Lanes.{answered_at, answered_on}
 use Rattle.volume_machine.proofs.Locking.{same_or_not}
 use Rattle.volume_machine.specs.Answers.{Answered, AreTagged, Tagged, of_session}
 use Rattle.volume_machine.specs.Deeds.{Act, Deed, answered_of, answered_over, client, plain_by, worker}

@@ -1,10 +1,10 @@
 -- What deeds answer goes by their own pieces alone, whatever the lanes had in plain before.
 use Rattle.std.proofs.Common.{◌≡◌, inl, inr, ℕ, suc, ◌<◌, List, [], ◌∷◌, ◌++◌, Option, Some, None}
 use Rattle.std.proofs.Common.{IsSome, length, refl, sym, ◌∙◌, ap, subst}
-use Rattle.lanes_beside.proofs.Beside.{work-some}
-use Rattle.lanes_beside.proofs.ClientsLeft.{clients_left, stays_same}
-use Rattle.lanes_beside.specs.Clients.{IsLeftBeside}
-use Rattle.lanes_beside.specs.Lanes.{IsKept}
+use Rattle.volume_laws.proofs.BesideLanes.Beside.{work-some}
+use Rattle.volume_laws.proofs.BesideLanes.ClientsLeft.{clients_left, stays_same}
+use Rattle.volume_laws.specs.BesideLanes.Clients.{IsLeftBeside}
+use Rattle.volume_laws.specs.BesideLanes.Lanes.{IsKept}
 use Rattle.volume_laws.proofs.{Admits.plain-own}
 use Rattle.volume_laws.proofs.LanesAlone.{other_plain}
 use Rattle.volume_laws.proofs.VolumesKept.{event_in_order, step_in_order}

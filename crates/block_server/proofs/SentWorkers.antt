@@ -20,8 +20,8 @@ use Rattle.sector_cipher.proofs.disk.DiskCipher.TheSendSync as cipher
 use Rattle.sector_cipher.specs.contracts.disk.DiskCipher as DiskCipher
 use Rattle.sector_cipher.specs.contracts.disk.DiskCipherSectorCipher.TheImpl as disk
 use Rattle.sector_disk.specs.declared.device.Disk as disk_laws
-use Rattle.sent_volumes.proofs.JsonValues.{list_send}
-use Rattle.sent_volumes.proofs.Volumes.{volume_send}
+use Rattle.shared_volume.proofs.Sending.JsonValues.{list_send}
+use Rattle.shared_volume.proofs.Sending.Volumes.{volume_send}
 use Rattle.shared_volume.proofs.departures.Departures.TheSendSync as departures
 use Rattle.shared_volume.specs.contracts.asking.SharedEvent as SharedEvent
 use Rattle.shared_volume.specs.contracts.asking.SharedOutcome as SharedOutcome

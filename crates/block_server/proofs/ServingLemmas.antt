@@ -3,8 +3,8 @@ use Rattle.std.proofs.Common.{◌≡◌, ◌≢◌, ◌+◌, ◌-◌, ◌^◌, �
 use Rattle.std.proofs.Common.{length, refl, sym, ◌∙◌, ap, subst}
 use Rattle.bays.specs.Stories.{LinkState}
 use Rattle.lane_plan.specs.declared.plan.Shape.{Shape}
-use Rattle.lanes_beside.specs.Lanes.{AreAloneBeside, AreMade, AreMetBeside, BeginsBeside, StaysSame}
-use Rattle.lanes_beside.specs.Lanes.{works_over}
+use Rattle.volume_laws.specs.BesideLanes.Lanes.{AreAloneBeside, AreMade, AreMetBeside, BeginsBeside, StaysSame}
+use Rattle.volume_laws.specs.BesideLanes.Lanes.{works_over}
 use Rattle.nbd_session.specs.declared.ending.SessionEnd.{SessionEnd}
 use Rattle.reenc_worker.specs.Answers.{AreAnswers}
 use Rattle.reenc_worker.specs.declared.ends.WorkAnswer.{WorkAnswer}

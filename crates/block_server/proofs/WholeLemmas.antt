@@ -4,10 +4,10 @@ use Rattle.std.proofs.Common.{◌∷◌, Contains, IfSome, Option, Some, None, l
 use Rattle.std.proofs.Common.{refl, sym, ◌∙◌, ap, subst, arith}
 use Rattle.std.proofs.Math.Nat.{mod-eq_of_lt}
 use Rattle.bays.specs.Stories.{LinkState}
-use Rattle.disk_sizes.specs.declared.Sizes.{Sizes}
+use Rattle.base_terms.specs.declared.disk_sizes.Sizes.{Sizes}
 use Rattle.lane_plan.specs.declared.plan.Shape.{Shape}
-use Rattle.lanes_beside.specs.Executing.{ExecutesBeside}
-use Rattle.lanes_beside.specs.Lanes.{StaysSame, answered_on, works_over}
+use Rattle.volume_laws.specs.BesideLanes.Executing.{ExecutesBeside}
+use Rattle.volume_laws.specs.BesideLanes.Lanes.{StaysSame, answered_on, works_over}
 use Rattle.nbd_hand.specs.declared.export.Export.{Export}
 use Rattle.nbd_session.specs.declared.ending.SessionEnd.{SessionEnd}
 use Rattle.reenc_worker.specs.Answers.{AreAnswers}

@@ -1,9 +1,9 @@
 -- Links served at once on one volume, beside the worker of its conversion.
 use Rattle.std.specs.Prelude.{ℕ, ◌≡◌, ◌≢◌, ◌≤◌, List, [], length, Option, Some, None, IsSome}
 use Rattle.bays.specs.Stories.{LinkState}
-use Rattle.disk_sizes.specs.declared.Sizes.{Sizes}
-use Rattle.lanes_beside.specs.Executing.{ExecutesBeside}
-use Rattle.lanes_beside.specs.Lanes.{IsKept, StaysSame, works_over}
+use Rattle.base_terms.specs.declared.disk_sizes.Sizes.{Sizes}
+use Rattle.volume_laws.specs.BesideLanes.Executing.{ExecutesBeside}
+use Rattle.volume_laws.specs.BesideLanes.Lanes.{IsKept, StaysSame, works_over}
 use Rattle.nbd_session.specs.declared.ending.SessionEnd.{SessionEnd}
 use Rattle.reenc_worker.specs.declared.ends.WorkerEnd.{WorkerEnd}
 use Rattle.reenc_worker.specs.declared.ends.WorkerEnd.TheVariants.{Spent}

@@ -33,7 +33,7 @@ module _ {D P L : Type 0} (state : L → LinkState) (cell : VolumeCell D Context
       pub shape_is : worker.lane.shape ≡ shape
       pub fits : IsShape shape
       pub ends : worker.ends.items ≡ []
-      pub bound : (state worker.link).bound ≤ 65535
+      pub bound : (state worker.link).bound ≤ 4294967295
 
     -- It served its link: its lane executed just the operations of its sessions, each of its
     -- session, and was left at rest, or by one of them, since the history was found full.

@@ -11,7 +11,7 @@ use std::alloc::Global;
 
 /// What came of asking a link for its next connection: it was served, there is none, the link
 /// failed, or memory was wanted before the link was asked.
-#[derive(Clone, Copy, Debug)]
+#[derive(Clone, Copy)]
 pub enum Asked {
     Served,
     Ended,

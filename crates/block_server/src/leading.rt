@@ -16,7 +16,7 @@ ghost use denote.Param.Send.{IsSync};
 use crate::worker::Worker;
 use crate::workers::work_all;
 use bays::Link;
-use io_edge::{Converted, Gate};
+use gates::{Converted, Gate};
 use lane_plan::Shape;
 use reenc_worker::{WorkerEnd, work_loop};
 use sector_disk::Disk;

@@ -11,10 +11,10 @@ use nbd_session::{Export, SessionEnd};
 use std::alloc::Global;
 
 /// The most sessions that one link serves.
-pub const MAX_SESSIONS: u32 = 65_535;
+pub const MAX_SESSIONS: u32 = u32::MAX;
 
 /// After so many asks a link has none ahead, since it has at most `MAX_SESSIONS`.
-const MAX_ASKS: u32 = 65_536;
+const MAX_ASKS: u64 = 4_294_967_296;
 
 /// How a link stands: it was to be asked on, it had no more, or it failed.
 #[derive(Clone, Copy, Debug, PartialEq, Eq)]
@@ -35,8 +35,8 @@ pub fn serve_link<L: Link, P: SharedPort>(
     first: &Export,
     step: u64,
 ) -> Standing
-    requires bound { (L.state link.old).bound ≤ 65535 }
-    requires numbers { first.now.number + 65536 * step < 2 ^ 64 }
+    requires bound { (L.state link.old).bound ≤ 4294967295 }
+    requires numbers { first.now.number + 4294967296 * step < 2 ^ 64 }
     requires usable { P.usable port.old }
     ensures usable { P.usable port.new }
     ensures served { (k : ℕ) → (played : List Played)
@@ -47,7 +47,7 @@ pub fn serve_link<L: Link, P: SharedPort>(
 {
     for turn in 0..MAX_ASKS {
         let export = Export {
-            number: first.number + u64::from(turn) * step,
+            number: first.number + turn * step,
             size: first.size,
             atom: first.atom,
         };

@@ -6,7 +6,7 @@ ghost use Rattle.block_server.specs.Sessions.{tagged};
 ghost use Rattle.volume_machine.specs.Answers.{Tagged};
 
 use base_terms::{Buffer, Bytes};
-use io_edge::Gate;
+use gates::Gate;
 use nbd_session::{Port, Submitted};
 use plain_disk::Op;
 use sector_disk::Disk;

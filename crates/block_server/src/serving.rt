@@ -19,8 +19,7 @@ use crate::link::Standing;
 use crate::worker::Worker;
 use crate::workers::{dismiss, engage};
 use bays::Link;
-use io_edge::Gate;
-use lanes_beside::lanes_are_alone_beside;
+use gates::Gate;
 use nbd_session::SessionEnd;
 use reenc_worker::WorkerEnd;
 use sector_cipher::Context;
@@ -34,6 +33,7 @@ use std::sync::Wait;
 use std::thread::Threads;
 use volume_cell::Pass;
 use volume_core::Volume;
+use volume_laws::lanes_are_alone_beside;
 
 /// The most links that are served.
 pub const MAX_LINKS: usize = 16;
@@ -90,7 +90,7 @@ where
     requires some { 0 < length links.items }
     requires few { length links.items ≤ 16 }
     requires bound { (k : ℕ) (link : L) → k < length links.items →
-        (L.state (slice_index_or links.items k link)).bound ≤ 65535 }
+        (L.state (slice_index_or links.items k link)).bound ≤ 4294967295 }
     requires limit { (1 ≤ limit) × (limit < 2 ^ 63 - 1) }
     ensures served { MatchResult result
         (λ served. HasServedBeside L.state
@@ -134,7 +134,7 @@ where
     requires some { 0 < length links.items }
     requires few { length links.items ≤ 16 }
     requires bound { (k : ℕ) (link : L) → k < length links.items →
-        (L.state (slice_index_or links.items k link)).bound ≤ 65535 }
+        (L.state (slice_index_or links.items k link)).bound ≤ 4294967295 }
     requires none { workers.items ≡ [] }
     requires room { length links.items ≤ vec_capacity workers }
     requires leavings { IsRoomFor (length links.items) leavings }

@@ -7,7 +7,7 @@ use crate::link::{Standing, serve_link};
 use crate::port::LanePort;
 use base_terms::Buffer;
 use bays::Link;
-use io_edge::Gate;
+use gates::Gate;
 use lane_plan::Shape;
 use nbd_session::{Export, SessionEnd};
 use sector_disk::Disk;

@@ -16,7 +16,7 @@ ghost use denote.Param.Send.{IsSend, IsSync};
 use crate::leavings::{Leavings, put};
 use crate::worker::Worker;
 use bays::Link;
-use io_edge::Gate;
+use gates::Gate;
 use lane_plan::Shape;
 use sector_cipher::Context;
 use sector_disk::Disk;
@@ -44,7 +44,7 @@ pub(crate) fn engage<D: Disk, L: Link + Drop>(
         IsSomeAnd (known first.old).start (IsOn sector_of number keys shape) }
     requires shape { IsShape shape }
     requires bound { (k : ℕ) (link : L) → k < length links.items →
-        (L.state (slice_index_or links.items k link)).bound ≤ 65535 }
+        (L.state (slice_index_or links.items k link)).bound ≤ 4294967295 }
     requires few { length links.items ≤ 16 }
     requires none { workers.old.items ≡ [] }
     requires room { length links.items ≤ vec_capacity workers.old }

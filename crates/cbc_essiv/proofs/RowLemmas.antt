@@ -7,8 +7,8 @@ use Rattle.std.proofs.lemmas.List.{take_at, drop_at, take_all, take-take, drop-t
 use Rattle.std.proofs.lemmas.List.{drop_all, length-take-le, take-append-drop}
 use Rattle.std.proofs.Math.Nat.{mod-add-div', div-mul-le_self, mul-le-mul_left, mul-le-mul_right}
 use borrow.Rule.Slice.PartMut.{put_mid}
-use Rattle.cipher_blocks.specs.Blocks.{block_of, with_block, joined}
-use Rattle.cipher_blocks.specs.RowLaws.{sectors_within, units_within}
+use Rattle.cipher_laws.specs.CipherBlocks.Blocks.{block_of, with_block, joined}
+use Rattle.cipher_laws.specs.CipherBlocks.RowLaws.{sectors_within, units_within}
 use Rattle.cbc_essiv.specs.Rows.{sector_of}
 
 -- sectors before one lie before it

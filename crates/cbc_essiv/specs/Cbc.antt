@@ -3,8 +3,8 @@
 use Rattle.std.specs.Prelude.{ℕ, zero, suc, ◌-◌, ◌/◌, List, length}
 use Rattle.cipher_laws.specs.Eight.{block}
 use Rattle.cipher_laws.specs.declared.eight_blocks.EightBlocks.{EightBlocks}
-use Rattle.cipher_blocks.specs.Blocks.{xored, number_block}
-use Rattle.cipher_blocks.specs.UnderWay.{IsUnderWay}
+use Rattle.cipher_laws.specs.CipherBlocks.Blocks.{xored, number_block}
+use Rattle.cipher_laws.specs.CipherBlocks.UnderWay.{IsUnderWay}
 use Rattle.cipher_laws.specs.Pieces.{worked}
 
 -- one block, sealed after the sealed block before it: the two are xored first

@@ -3,10 +3,10 @@ use Rattle.std.proofs.Common.{◌≡◌, ℕ, ◌/◌, List, length, refl, ap, s
 use Rattle.cipher_laws.specs.Bytes.{IsBlock, AreSectors}
 use Rattle.cipher_laws.specs.Laws.{KeepsBlocks, UndoesBlocks, KeepsLengths, GivesBytes}
 use Rattle.cipher_laws.specs.Laws.{UndoesSectors}
-use Rattle.cipher_blocks.specs.Blocks.{xored}
-use Rattle.cipher_blocks.specs.BlockLaws.{xored_twice, xored_is_block, number_block_is_block}
-use Rattle.cipher_blocks.specs.PieceLaws.{block_pieces, block_pieces_undone, whole_blocks}
-use Rattle.cipher_blocks.specs.PieceLaws.{KeepsPieces, length-worked, bytes-worked, worked_undone}
+use Rattle.cipher_laws.specs.CipherBlocks.Blocks.{xored}
+use Rattle.cipher_laws.specs.CipherBlocks.BlockLaws.{xored_twice, xored_is_block, number_block_is_block}
+use Rattle.cipher_laws.specs.CipherBlocks.PieceLaws.{block_pieces, block_pieces_undone, whole_blocks}
+use Rattle.cipher_laws.specs.CipherBlocks.PieceLaws.{KeepsPieces, length-worked, bytes-worked, worked_undone}
 use Rattle.cbc_essiv.specs.Cbc.{seal_after, unseal_after, cbc_sealed, cbc_opened, essiv}
 use Rattle.cbc_essiv.specs.Cbc.{cbc_essiv_sealed, cbc_essiv_opened}
 

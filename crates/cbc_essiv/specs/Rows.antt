@@ -1,6 +1,6 @@
 -- Sectors in a row.
 use Rattle.std.specs.Prelude.{◌≡◌, ℕ, ◌+◌, ◌-◌, ◌*◌, ◌/◌, List, length, take, drop}
-use Rattle.cipher_blocks.specs.UnderWay.{IsUnderWay}
+use Rattle.cipher_laws.specs.CipherBlocks.UnderWay.{IsUnderWay}
 use Rattle.cipher_laws.specs.Sectors.{by_sectors}
 use Rattle.cbc_essiv.specs.Cbc.{cbc_essiv_sealed}
 

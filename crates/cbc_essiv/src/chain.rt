@@ -4,8 +4,9 @@ ghost use Rattle.std.specs.Prelude.{◌≡◌, ℕ, ◌*◌, ◌/◌, ◌%◌, �
 ghost use Rattle.cipher_laws.specs.Eight.{block};
 ghost use Rattle.cbc_essiv.specs.Cbc.{cbc_sealed, cbc_opened, before, IsUnsealedTo};
 
-use cipher_blocks::{UnderIv, block_at, eight_at, put_block, put_eight, xor, xor_eight};
-use cipher_laws::{BlockCipher, EightBlocks};
+use cipher_laws::{
+    BlockCipher, EightBlocks, UnderIv, block_at, eight_at, put_block, put_eight, xor, xor_eight,
+};
 use std::simd::prelude::*;
 
 // CBC of a sector by a cipher of blocks, under the IV.

@@ -5,8 +5,7 @@ ghost use Rattle.cbc_essiv.specs.Cbc.{essiv, cbc_essiv_sealed, cbc_essiv_opened}
 
 use crate::chain::{SealsChain, UnsealsChain, seal_chain, unseal_chain};
 use crate::side_by_side::seal_eights;
-use cipher_blocks::{change_sectors, number_block};
-use cipher_laws::{BlockCipher, SectorMode};
+use cipher_laws::{BlockCipher, SectorMode, change_sectors, number_block};
 
 /// CBC with its two keys, each in a block cipher of its own.
 #[derive(Clone, Copy)]

@@ -2,12 +2,11 @@
 
 ghost use Rattle.std.specs.Prelude.{◌≡◌, ℕ, ◌+◌, ◌*◌, ◌/◌, ◌%◌, ◌<◌, ◌≤◌, ◌^◌, length};
 ghost use Rattle.cipher_laws.specs.Eight.{block};
-ghost use Rattle.cipher_blocks.specs.Blocks.{block_of, with_block};
+ghost use Rattle.cipher_laws.specs.CipherBlocks.Blocks.{block_of, with_block};
 ghost use Rattle.cbc_essiv.specs.Cbc.{cbc_sealed};
 ghost use Rattle.cbc_essiv.specs.Rows.{sector_of, IsSealedTo};
 
-use cipher_blocks::{block_at, put_block, sealed_numbers, xor_eight};
-use cipher_laws::{BlockCipher, EightBlocks};
+use cipher_laws::{BlockCipher, EightBlocks, block_at, put_block, sealed_numbers, xor_eight};
 use std::simd::prelude::*;
 
 // Seals sectors in a row as far as they are eight and eight, and hands back the number of the

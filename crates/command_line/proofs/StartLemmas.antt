@@ -14,6 +14,7 @@ use Rattle.command_line.specs.Plain.{valued, value_in}
 use Rattle.command_line.specs.Product.{init_rules, product}
 use Rattle.command_line.specs.Segments.{segment_by}
 use Rattle.command_line.specs.Starts.{Starting, asks_unbuilt, starting_by}
+use Rattle.command_line.specs.Values.{is_true}
 use Rattle.command_line.proofs.FormatLemmas.{HasBoth}
 use Rattle.command_line.proofs.LeafLemmas.{HasDefault, HaveFineDefaults, NoDefault, all_have}
 use Rattle.command_line.proofs.LeafLemmas.{default_value, fine_defaults, first_value, is_taken}
@@ -55,7 +56,8 @@ init_has (valued name value) (plain, is) = elim is [
       subst (λ n. HasPiece init_built (valued n value)) (sym e)
       (plain, record { dashes = refl; long = refl }, (false, refl, refl))
 ]
-init_has (flag name) is = absurd is
+init_has (flag name) is = subst (λ n. HasPiece init_built (flag n)) (sym is)
+    (record { dashes = refl; long = refl }, refl)
 
 -- a name that no piece of `init` has
 abbrev IsUnnamed : Text → Type 0
@@ -64,11 +66,12 @@ IsUnnamed name = (bytes_eq (codes "disk") name ≡ false) × (bytes_eq (codes "k
     × (bytes_eq (codes "key-size") name ≡ false) × (bytes_eq (codes "sector-size") name ≡ false)
     × (bytes_eq (codes "iterations") name ≡ false) × (bytes_eq (codes "resilience") name ≡ false)
     × (bytes_eq (codes "direction") name ≡ false) × (bytes_eq (codes "hotzone-size") name ≡ false)
+    × (bytes_eq (codes "drop-keyslots") name ≡ false)
 
 init_other : (name : Text) → IsUnnamed name → (piece : Piece) → IsInitPiece piece →
     bytes_eq (name_of piece) name ≡ false
-init_other name (a, b, c, d, e, f, g, h, i, j) (disk word) plain = a
-init_other name (a, b, c, d, e, f, g, h, i, j) (valued named value) (plain, is) = elim is [
+init_other name (a, b, c, d, e, f, g, h, i, j, k) (disk word) plain = a
+init_other name (a, b, c, d, e, f, g, h, i, j, k) (valued named value) (plain, is) = elim is [
   | inl same ↦ rw same b
   | inr (inl same) ↦ rw same c
   | inr (inr (inl same)) ↦ rw same d
@@ -79,13 +82,14 @@ init_other name (a, b, c, d, e, f, g, h, i, j) (valued named value) (plain, is) 
   | inr (inr (inr (inr (inr (inr (inr (inl same))))))) ↦ rw same i
   | inr (inr (inr (inr (inr (inr (inr (inr same))))))) ↦ rw same j
 ]
-init_other name apart (flag named) is = absurd is
+init_other name (a, b, c, d, e, f, g, h, i, j, k) (flag named) is = rw is k
 
 -- options that have no default of their own
 init_kept : (name : Text) → (bytes_eq (codes "encrypt") name ≡ false)
-    × (bytes_eq (codes "decrypt") name ≡ false) → NoDefault name init_built
+    × (bytes_eq (codes "decrypt") name ≡ false)
+    × (bytes_eq (codes "drop-keyslots") name ≡ false) → NoDefault name init_built
 unfolding NoDefault init_rules
-init_kept name (encrypt, decrypt) = (
+init_kept name (encrypt, decrypt, others) = (
   inl refl,
   (
     inl refl,
@@ -111,7 +115,7 @@ init_kept name (encrypt, decrypt) = (
                         inl refl,
                         (
                           inl refl,
-                          (inr encrypt, (inr decrypt, (inl refl, tt))),
+                          (inr encrypt, (inr decrypt, (inr others, (inl refl, tt)))),
                         ),
                       ),
                     ),
@@ -154,7 +158,7 @@ init_defaults = (
                         inl refl,
                         (
                           inl refl,
-                          (inr refl, (inr refl, (inl refl, tt))),
+                          (inr refl, (inr refl, (inr refl, (inl refl, tt)))),
                         ),
                       ),
                     ),
@@ -244,6 +248,61 @@ decrypt_default = inr (
   ),
 )
 
+drop_default : HasDefault (codes "drop-keyslots") (codes "false") init_built
+unfolding HasDefault init_rules
+drop_default = inr (
+  inl refl,
+  inr (
+    inl refl,
+    inr (
+      inl refl,
+      inr (
+        inl refl,
+        inr (
+          inl refl,
+          inr (
+            inl refl,
+            inr (
+              inl refl,
+              inr (
+                inl refl,
+                inr (
+                  inl refl,
+                  inr (
+                    inl refl,
+                    inr (
+                      inl refl,
+                      inr (
+                        inl refl,
+                        inr (
+                          inl refl,
+                          inr (inr refl, inr (inr refl, inl (refl, refl))),
+                        ),
+                      ),
+                    ),
+                  ),
+                ),
+              ),
+            ),
+          ),
+        ),
+      ),
+    ),
+  ),
+)
+
+-- the flag is set where it is given
+drop_by : (pieces : List Piece) (set : Option Text) →
+    value_in (codes "drop-keyslots") pieces ≡ set →
+    is_true (first_of (codes "drop-keyslots") (fold with_default (rows_for pieces) init_built))
+    ≡ is_true (value_in (codes "drop-keyslots") pieces)
+drop_by pieces (Some word) set =
+    ap is_true ((is_there init_built pieces (codes "drop-keyslots") word set).first ∙ sym set)
+drop_by pieces None set =
+    ap is_true (default_value init_built pieces (codes "drop-keyslots") (codes "false")
+    drop_default set)
+    ∙ ap is_true (sym set)
+
 init_checked : (rows : List Row) → is_given (codes "disk") rows ≡ true →
     is_given (codes "key-file") rows ≡ true →
     check_fault (leaf_of (codes "init") init_built) rows false ≡ []
@@ -285,9 +344,11 @@ same_start : (f g : Text → Option Text) → f (codes "disk") ≡ g (codes "dis
     f (codes "iterations") ≡ g (codes "iterations") →
     f (codes "resilience") ≡ g (codes "resilience") →
     f (codes "direction") ≡ g (codes "direction") →
-    f (codes "hotzone-size") ≡ g (codes "hotzone-size") → starting_by f ≡ starting_by g
+    f (codes "hotzone-size") ≡ g (codes "hotzone-size") →
+    is_true (f (codes "drop-keyslots")) ≡ is_true (g (codes "drop-keyslots")) →
+    starting_by f ≡ starting_by g
 unfolding starting_by segment_by
-same_start f g a b c d e h i j k l = rw (a, b, c, d, e, h, i, j, k, l) refl
+same_start f g a b c d e h i j k l m = rw (a, b, c, d, e, h, i, j, k, l, m) refl
 
 pub init_taken : TakesInit asked
 init_taken pieces words is =
@@ -296,7 +357,9 @@ init_taken pieces words is =
     (fine_defaults init_built init_defaults) in
     let rows = fold with_default (rows_for pieces) init_built in
     let value : (name : Text) → (bytes_eq (codes "encrypt") name ≡ false)
-    × (bytes_eq (codes "decrypt") name ≡ false) → first_of name rows ≡ value_in name pieces =
+    × (bytes_eq (codes "decrypt") name ≡ false)
+    × (bytes_eq (codes "drop-keyslots") name ≡ false) →
+    first_of name rows ≡ value_in name pieces =
     λ name apart. first_value init_built pieces name (init_kept name apart) in
     let unnamed : (name : Text) → IsUnnamed name → value_in name pieces ≡ None =
     λ name apart. none_named IsInitPiece name pieces (init_other name apart) is.known in
@@ -304,24 +367,25 @@ init_taken pieces words is =
     let name = is_there init_built pieces (codes "disk") both.disk both.disk_is in
     let key = is_there init_built pieces (codes "key-file") both.key_file both.key_file_is in
     let built = none_unbuilt rows
-    (value (codes "header") (refl, refl) ∙ unnamed (codes "header")
-    (refl, refl, refl, refl, refl, refl, refl, refl, refl, refl))
-    (value (codes "metadata-size") (refl, refl) ∙ unnamed (codes "metadata-size")
-    (refl, refl, refl, refl, refl, refl, refl, refl, refl, refl))
-    (value (codes "shift") (refl, refl) ∙ unnamed (codes "shift")
-    (refl, refl, refl, refl, refl, refl, refl, refl, refl, refl))
+    (value (codes "header") (refl, refl, refl) ∙ unnamed (codes "header")
+    (refl, refl, refl, refl, refl, refl, refl, refl, refl, refl, refl))
+    (value (codes "metadata-size") (refl, refl, refl) ∙ unnamed (codes "metadata-size")
+    (refl, refl, refl, refl, refl, refl, refl, refl, refl, refl, refl))
+    (value (codes "shift") (refl, refl, refl) ∙ unnamed (codes "shift")
+    (refl, refl, refl, refl, refl, refl, refl, refl, refl, refl, refl))
     (default_value init_built pieces (codes "encrypt") (codes "false") encrypt_default
     (unnamed (codes "encrypt")
-    (refl, refl, refl, refl, refl, refl, refl, refl, refl, refl)))
+    (refl, refl, refl, refl, refl, refl, refl, refl, refl, refl, refl)))
     (default_value init_built pieces (codes "decrypt") (codes "false") decrypt_default
     (unnamed (codes "decrypt")
-    (refl, refl, refl, refl, refl, refl, refl, refl, refl, refl))) in
+    (refl, refl, refl, refl, refl, refl, refl, refl, refl, refl, refl))) in
     let same = same_start (λ name. first_of name rows) (λ name. value_in name pieces)
-    (value (codes "disk") (refl, refl)) (value (codes "key-file") (refl, refl))
-    (value (codes "atom") (refl, refl)) (value (codes "cipher") (refl, refl))
-    (value (codes "key-size") (refl, refl)) (value (codes "sector-size") (refl, refl))
-    (value (codes "iterations") (refl, refl)) (value (codes "resilience") (refl, refl))
-    (value (codes "direction") (refl, refl)) (value (codes "hotzone-size") (refl, refl)) in
+    (value (codes "disk") (refl, refl, refl)) (value (codes "key-file") (refl, refl, refl))
+    (value (codes "atom") (refl, refl, refl)) (value (codes "cipher") (refl, refl, refl))
+    (value (codes "key-size") (refl, refl, refl)) (value (codes "sector-size") (refl, refl, refl))
+    (value (codes "iterations") (refl, refl, refl)) (value (codes "resilience") (refl, refl, refl))
+    (value (codes "direction") (refl, refl, refl)) (value (codes "hotzone-size") (refl, refl, refl))
+    (drop_by pieces _ refl) in
     asks (codes "init") init_built (all_spelt pieces) (starts words) init_named
     (taken.fine (init_checked rows name.given key.given))
     (ap (command_in (codes "init")) taken.rows

@@ -18,7 +18,7 @@ use Rattle.command_line.specs.Plain.{IsStatusPiece, Piece, all_spelt, disk, flag
 use Rattle.command_line.specs.Plain.{TakesServe, TakesStatus, value_in}
 use Rattle.command_line.specs.Product.{product}
 use Rattle.command_line.specs.Product.{serve_rules, status_rules}
-use Rattle.command_line.specs.Values.{atom_or_default, is_set, number_or}
+use Rattle.command_line.specs.Values.{atom_or_default, is_set, is_true, number_or, number_or_none}
 use Rattle.command_line.proofs.LeafLemmas.{HasDefault, HaveFineDefaults, NoDefault, all_have}
 use Rattle.command_line.proofs.LeafLemmas.{default_value, fine_defaults, first_value, is_taken}
 use Rattle.command_line.proofs.LeafLemmas.{is_there, none_named}
@@ -46,13 +46,17 @@ serve_has (valued name value) (plain, is) = elim is [
       (plain, record { dashes = refl; long = refl }, (true, refl, refl))
   | inr (inr (inr (inl e))) ↦ subst (λ n. HasPiece serve_built (valued n value)) (sym e)
       (plain, record { dashes = refl; long = refl }, (false, refl, refl))
-  | inr (inr (inr (inr e))) ↦ subst (λ n. HasPiece serve_built (valued n value)) (sym e)
+  | inr (inr (inr (inr (inl e)))) ↦ subst (λ n. HasPiece serve_built (valued n value)) (sym e)
+      (plain, record { dashes = refl; long = refl }, (false, refl, refl))
+  | inr (inr (inr (inr (inr e)))) ↦ subst (λ n. HasPiece serve_built (valued n value)) (sym e)
       (plain, record { dashes = refl; long = refl }, (false, refl, refl))
 ]
 serve_has (flag name) is = elim is [
   | inl e ↦ subst (λ n. HasPiece serve_built (flag n)) (sym e)
       (record { dashes = refl; long = refl }, refl)
-  | inr e ↦ subst (λ n. HasPiece serve_built (flag n)) (sym e)
+  | inr (inl e) ↦ subst (λ n. HasPiece serve_built (flag n)) (sym e)
+      (record { dashes = refl; long = refl }, refl)
+  | inr (inr e) ↦ subst (λ n. HasPiece serve_built (flag n)) (sym e)
       (record { dashes = refl; long = refl }, refl)
 ]
 
@@ -60,19 +64,22 @@ serve_other : (name : Text) → (bytes_eq (codes "disk") name ≡ false)
     × (bytes_eq (codes "atom") name ≡ false) × (bytes_eq (codes "listen") name ≡ false)
     × (bytes_eq (codes "workers") name ≡ false) × (bytes_eq (codes "sessions") name ≡ false)
     × (bytes_eq (codes "plain") name ≡ false) × (bytes_eq (codes "no-worker") name ≡ false)
-    × (bytes_eq (codes "key-file") name ≡ false) →
+    × (bytes_eq (codes "key-file") name ≡ false) × (bytes_eq (codes "idle-timeout") name ≡ false)
+    × (bytes_eq (codes "verbose") name ≡ false) →
     (piece : Piece) → IsServePiece piece → bytes_eq (name_of piece) name ≡ false
-serve_other name (a, b, c, d, e, f, g, h) (disk word) plain = a
-serve_other name (a, b, c, d, e, f, g, h) (valued named value) (plain, is) = elim is [
+serve_other name (a, b, c, d, e, f, g, h, i, j) (disk word) plain = a
+serve_other name (a, b, c, d, e, f, g, h, i, j) (valued named value) (plain, is) = elim is [
   | inl same ↦ rw same h
   | inr (inl same) ↦ rw same b
   | inr (inr (inl same)) ↦ rw same c
   | inr (inr (inr (inl same))) ↦ rw same d
-  | inr (inr (inr (inr same))) ↦ rw same e
+  | inr (inr (inr (inr (inl same)))) ↦ rw same e
+  | inr (inr (inr (inr (inr same)))) ↦ rw same i
 ]
-serve_other name (a, b, c, d, e, f, g, h) (flag named) is = elim is [
+serve_other name (a, b, c, d, e, f, g, h, i, j) (flag named) is = elim is [
   | inl same ↦ rw same f
-  | inr same ↦ rw same g
+  | inr (inl same) ↦ rw same g
+  | inr (inr same) ↦ rw same j
 ]
 
 serve_defaults : HaveFineDefaults serve_built
@@ -93,7 +100,7 @@ serve_defaults = (
               inl refl,
               (
                 inl refl,
-                (inr refl, (inl refl, tt)),
+                (inr refl, (inl refl, (inr refl, (inl refl, tt)))),
               ),
             ),
           ),
@@ -114,13 +121,15 @@ serve_command : (rows : List Row) (words : Serving) →
     atom_or_default (first_of (codes "atom") rows) ≡ Some words.atom →
     first_of (codes "listen") rows ≡ Some words.address →
     number_or 4 1 16 (first_of (codes "workers") rows) ≡ Some words.workers →
-    number_or 65535 1 65535 (first_of (codes "sessions") rows) ≡ Some words.sessions →
+    number_or 4294967295 1 4294967295 (first_of (codes "sessions") rows) ≡ Some words.sessions →
     key_file_in rows ≡ Some words.key_file →
+    number_or_none 1 86400 (first_of (codes "idle-timeout") rows) ≡ Some words.idle_timeout →
     not (is_set (codes "no-worker") rows) ≡ words.converts →
+    is_set (codes "verbose") rows ≡ words.verbose →
     command_in (codes "serve") rows ≡ Some (serves words)
 unfolding command_in serving_in
-serve_command rows words name atom address workers sessions key_file converts =
-    rw (name, atom, address, workers, sessions, key_file, converts) refl
+serve_command rows words name atom address workers sessions key_file timeout converts verbose =
+    rw (name, atom, address, workers, sessions, key_file, timeout, converts, verbose) refl
 
 -- a disk that is served plain, and one whose volume is
 no_key_file : (rows : List Row) → first_of (codes "header") rows ≡ None →
@@ -196,11 +205,49 @@ led_on_by pieces rows converts None are set on =
     ∙ default_value serve_built pieces (codes "no-worker") (codes "false") worker_default set)
     ∙ sym on
 
+-- the flag is set where it is given
+verbose_default : HasDefault (codes "verbose") (codes "false") serve_built
+unfolding HasDefault serve_rules
+verbose_default = inr (
+  inl refl,
+  inr (
+    inl refl,
+    inr (
+      inl refl,
+      inr (
+        inl refl,
+        inr (
+          inr refl,
+          inr (
+            inl refl,
+            inr (
+              inl refl,
+              inr (inl refl, inr (inr refl, inr (inl refl, inl (refl, refl)))),
+            ),
+          ),
+        ),
+      ),
+    ),
+  ),
+)
+
+verbose_by : (pieces : List Piece) (set : Option Text) →
+    value_in (codes "verbose") pieces ≡ set →
+    is_set (codes "verbose") (fold with_default (rows_for pieces) serve_built)
+    ≡ is_true (value_in (codes "verbose") pieces)
+verbose_by pieces (Some word) set =
+    ap is_true ((is_there serve_built pieces (codes "verbose") word set).first ∙ sym set)
+verbose_by pieces None set =
+    ap is_true (default_value serve_built pieces (codes "verbose") (codes "false")
+    verbose_default set)
+    ∙ ap is_true (sym set)
+
 -- options that have no default of their own
 serve_kept : (name : Text) → (bytes_eq (codes "plain") name ≡ false)
-    × (bytes_eq (codes "no-worker") name ≡ false) → NoDefault name serve_built
+    × (bytes_eq (codes "no-worker") name ≡ false) × (bytes_eq (codes "verbose") name ≡ false) →
+    NoDefault name serve_built
 unfolding NoDefault serve_rules
-serve_kept name (plain, worker) = (
+serve_kept name (plain, worker, verbose) = (
   inl refl,
   (
     inl refl,
@@ -216,7 +263,7 @@ serve_kept name (plain, worker) = (
               inl refl,
               (
                 inl refl,
-                (inr worker, (inl refl, tt)),
+                (inr worker, (inl refl, (inr verbose, (inl refl, tt)))),
               ),
             ),
           ),
@@ -232,22 +279,24 @@ serve_taken pieces words is =
     let taken = is_taken (codes "serve") serve_built pieces has is.once
     (fine_defaults serve_built serve_defaults) in
     let value : (name : Text) → (bytes_eq (codes "plain") name ≡ false)
-    × (bytes_eq (codes "no-worker") name ≡ false) →
+    × (bytes_eq (codes "no-worker") name ≡ false) × (bytes_eq (codes "verbose") name ≡ false) →
     first_of name (fold with_default (rows_for pieces) serve_built) ≡ value_in name pieces =
     λ name apart. first_value serve_built pieces name (serve_kept name apart) in
     let name = is_there serve_built pieces (codes "disk") words.disk is.disk_is in
     let address = is_there serve_built pieces (codes "listen") words.address is.address_is in
     let header = none_named IsServePiece (codes "header") pieces
-    (serve_other (codes "header") (refl, refl, refl, refl, refl, refl, refl, refl)) is.known in
+    (serve_other (codes "header") (refl, refl, refl, refl, refl, refl, refl, refl, refl, refl)) is.known in
     let rows = fold with_default (rows_for pieces) serve_built in
     let command = serve_command rows words name.first
-    (ap atom_or_default (value (codes "atom") (refl, refl)) ∙ is.atom_is) address.first
-    (ap (number_or 4 1 16) (value (codes "workers") (refl, refl)) ∙ is.workers_are)
-    (ap (number_or 65535 1 65535) (value (codes "sessions") (refl, refl)) ∙ is.sessions_are)
+    (ap atom_or_default (value (codes "atom") (refl, refl, refl)) ∙ is.atom_is) address.first
+    (ap (number_or 4 1 16) (value (codes "workers") (refl, refl, refl)) ∙ is.workers_are)
+    (ap (number_or 4294967295 1 4294967295) (value (codes "sessions") (refl, refl, refl)) ∙ is.sessions_are)
     (served_by pieces rows words.key_file _ _ refl
-    (value (codes "header") (refl, refl) ∙ header) (value (codes "key-file") (refl, refl)) refl
+    (value (codes "header") (refl, refl, refl) ∙ header) (value (codes "key-file") (refl, refl, refl)) refl
     refl is.served_is)
-    (led_on_by pieces rows words.converts _ refl refl is.led_on_is) in
+    (ap (number_or_none 1 86400) (value (codes "idle-timeout") (refl, refl, refl)) ∙ is.timeout_is)
+    (led_on_by pieces rows words.converts _ refl refl is.led_on_is)
+    (verbose_by pieces _ refl ∙ is.verbose_is) in
     asks (codes "serve") serve_built (all_spelt pieces) (serves words) serve_named
     (taken.fine (serve_checked rows name.given address.given))
     (ap (command_in (codes "serve")) taken.rows ∙ command)

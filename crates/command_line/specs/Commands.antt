@@ -11,7 +11,7 @@ use Rattle.command_line.specs.Product.{product}
 use Rattle.command_line.specs.Resumes.{Resuming, resuming, resuming_in}
 use Rattle.command_line.specs.Starts.{IsStarting, Starting, starting, starting_in}
 use Rattle.command_line.specs.Values.{◌>>=◌, IsAtomSize, atom_or_default, is_given, is_set}
-use Rattle.command_line.specs.Values.{number_or}
+use Rattle.command_line.specs.Values.{number_or, number_or_none}
 use Rattle.command_line.specs.declared.command.Serve.{Serve}
 use Rattle.command_line.specs.declared.command.Status.{Status}
 use Rattle.command_line.specs.declared.command.Command.{Command}
@@ -19,7 +19,9 @@ use Rattle.command_line.specs.declared.command.Command.TheVariants as commands
 
 -- sessions over a disk, in atoms of so many bytes, that are dealt to so many links to the clients
 -- of an address: over the volume that a key file's passphrase opens there, or, where there is none,
--- over the plain disk as it is; and whether a conversion that is under way is led on meanwhile
+-- over the plain disk as it is; whether a conversion that is under way is led on meanwhile; after
+-- how many seconds a client that sends nothing is dropped, if ever; and whether each session's begin
+-- and end is said
 pub record Serving : Type 0 where
   pub disk : Text
   pub key_file : Option Text
@@ -28,6 +30,8 @@ pub record Serving : Type 0 where
   pub workers : ℕ
   pub sessions : ℕ
   pub converts : Bool
+  pub idle_timeout : Option ℕ
+  pub verbose : Bool
 
 -- what the header of a disk says, which is read in atoms of so many bytes
 pub record Showing : Type 0 where
@@ -50,6 +54,8 @@ serving words = record {
   workers = words.workers;
   sessions = words.sessions;
   converts = words.converts;
+  idle_timeout = words.idle_timeout;
+  verbose = words.verbose;
 }
 
 abbrev pub showing : Status → Showing
@@ -68,7 +74,7 @@ pub record IsServing (words : Serving) : Type 0 where
   pub some_worker : 0 < words.workers
   pub workers : words.workers ≤ 16
   pub some_session : 0 < words.sessions
-  pub sessions : words.sessions ≤ 65535
+  pub sessions : words.sessions ≤ 4294967295
 
 abbrev pub IsBounded : Asked → Type 0
 IsBounded (formats words) = IsFormatting words
@@ -91,8 +97,9 @@ serving_in rows = do
   atom ← atom_or_default (first_of (codes "atom") rows)
   address ← first_of (codes "listen") rows
   workers ← number_or 4 1 16 (first_of (codes "workers") rows)
-  sessions ← number_or 65535 1 65535 (first_of (codes "sessions") rows)
+  sessions ← number_or 4294967295 1 4294967295 (first_of (codes "sessions") rows)
   key_file ← key_file_in rows
+  idle_timeout ← number_or_none 1 86400 (first_of (codes "idle-timeout") rows)
   Some (record {
     disk = disk;
     key_file = key_file;
@@ -101,6 +108,8 @@ serving_in rows = do
     workers = workers;
     sessions = sessions;
     converts = not (is_set (codes "no-worker") rows);
+    idle_timeout = idle_timeout;
+    verbose = is_set (codes "verbose") rows;
   })
 
 unfoldable pub showing_in : List Row → Option Showing

@@ -1,10 +1,10 @@
 -- The words of a command as the arguments of `clap` that they are.
-use Rattle.std.specs.Prelude.{Bool, true, List, [], Some, codes}
+use Rattle.std.specs.Prelude.{Bool, true, false, List, [], Some, codes}
 use Rattle.clap.specs.Walk.{Rule, Text}
 use Rattle.clap.specs.Simple.{App, Shape, new_rule, new_shape}
 use Rattle.clap.specs.declared.builder.action.ArgAction.TheVariants.{Set, SetTrue}
 use Rattle.command_line.specs.declared.item.Item.{Item}
-use Rattle.command_line.specs.declared.item.Item.TheVariants.{Disk, Valued, Flag}
+use Rattle.command_line.specs.declared.item.Item.TheVariants.{Disk, Valued, Flag, Unbuilt, UnbuiltFlag}
 
 -- the disk, which stands by itself and must be there
 abbrev pub disk_rule : Rule
@@ -31,6 +31,8 @@ abbrev pub rule_for : Item → Rule
 rule_for Disk = disk_rule
 rule_for (Valued name value help required) = option_rule name.now required
 rule_for (Flag name help) = flag_rule name.now
+rule_for (Unbuilt name value) = option_rule name.now false
+rule_for (UnbuiltFlag name) = flag_rule name.now
 
 -- a command with these arguments and no subcommands
 abbrev pub leaf_shape : Text → List Rule → Shape

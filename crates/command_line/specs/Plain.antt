@@ -9,7 +9,7 @@ use Rattle.command_line.specs.Commands.{starts}
 use Rattle.command_line.specs.Formats.{Formatting, formatting_by}
 use Rattle.command_line.specs.Resumes.{Resuming}
 use Rattle.command_line.specs.Starts.{Starting, starting_by}
-use Rattle.command_line.specs.Values.{atom_or_default, number_or}
+use Rattle.command_line.specs.Values.{atom_or_default, is_true, number_or, number_or_none}
 
 -- a word that can be no option: it isn't empty, and doesn't begin with a hyphen (45)
 abbrev pub IsPlain : Text → Type 0
@@ -69,14 +69,15 @@ IsInitPiece (valued name value) = IsPlain value × ((name ≡ codes "key-file")
     ⊎ (name ≡ codes "atom") ⊎ (name ≡ codes "cipher") ⊎ (name ≡ codes "key-size")
     ⊎ (name ≡ codes "sector-size") ⊎ (name ≡ codes "iterations") ⊎ (name ≡ codes "resilience")
     ⊎ (name ≡ codes "direction") ⊎ (name ≡ codes "hotzone-size"))
-IsInitPiece (flag name) = ⊥
+IsInitPiece (flag name) = name ≡ codes "drop-keyslots"
 
 abbrev pub IsServePiece : Piece → Type 0
 IsServePiece (disk word) = IsPlain word
 IsServePiece (valued name value) = IsPlain value × ((name ≡ codes "key-file")
     ⊎ (name ≡ codes "atom") ⊎ (name ≡ codes "listen") ⊎ (name ≡ codes "workers")
-    ⊎ (name ≡ codes "sessions"))
-IsServePiece (flag name) = (name ≡ codes "plain") ⊎ (name ≡ codes "no-worker")
+    ⊎ (name ≡ codes "sessions") ⊎ (name ≡ codes "idle-timeout"))
+IsServePiece (flag name) =
+    (name ≡ codes "plain") ⊎ (name ≡ codes "no-worker") ⊎ (name ≡ codes "verbose")
 
 abbrev pub IsResumePiece : Piece → Type 0
 IsResumePiece (disk word) = IsPlain word
@@ -119,8 +120,9 @@ IsLedOn (Some word) converts = (word ≡ codes "true") × (converts ≡ false)
 IsLedOn None converts = converts ≡ true
 
 -- The pieces of a `serve`, in any order: DISK, `--listen`, and `--plain` or `--key-file` are there,
--- `--no-worker` may be, and no piece is twice. The atom is 512 or 4096, or left out; the workers are
--- 1 to 16, and the sessions 1 to 65535, or left out.
+-- `--no-worker` and `--verbose` may be, and no piece is twice. The atom is 512 or 4096, or left out;
+-- the workers are 1 to 16, the sessions 1 to 4294967295, and the seconds of `--idle-timeout` 1 to
+-- 86400, or left out.
 pub record IsServe (pieces : List Piece) (words : Serving) : Type 0 where
   pub known : AllPieces IsServePiece pieces
   pub once : AreOnce pieces
@@ -132,8 +134,11 @@ pub record IsServe (pieces : List Piece) (words : Serving) : Type 0 where
   pub atom_is : atom_or_default (value_in (codes "atom") pieces) ≡ Some words.atom
   pub workers_are : number_or 4 1 16 (value_in (codes "workers") pieces) ≡ Some words.workers
   pub sessions_are :
-      number_or 65535 1 65535 (value_in (codes "sessions") pieces) ≡ Some words.sessions
+      number_or 4294967295 1 4294967295 (value_in (codes "sessions") pieces) ≡ Some words.sessions
   pub led_on_is : IsLedOn (value_in (codes "no-worker") pieces) words.converts
+  pub timeout_is :
+      number_or_none 1 86400 (value_in (codes "idle-timeout") pieces) ≡ Some words.idle_timeout
+  pub verbose_is : is_true (value_in (codes "verbose") pieces) ≡ words.verbose
 
 -- The pieces of a `resume`, in any order: DISK and `--key-file` are there, and no piece is twice.
 -- The atom is 512 or 4096, or left out.

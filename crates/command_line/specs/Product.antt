@@ -23,13 +23,15 @@ unfoldable pub init_rules : List Rule
 init_rules = on_volume (of_segment
     (option_rule (codes "resilience") false ∷ option_rule (codes "direction") false
     ∷ option_rule (codes "hotzone-size") false ∷ option_rule (codes "shift") false
-    ∷ flag_rule (codes "encrypt") ∷ flag_rule (codes "decrypt") ∷ []))
+    ∷ flag_rule (codes "encrypt") ∷ flag_rule (codes "decrypt")
+    ∷ flag_rule (codes "drop-keyslots") ∷ []))
 
 unfoldable pub serve_rules : List Rule
 serve_rules = on_volume
     (option_rule (codes "key-file") false ∷ flag_rule (codes "plain")
     ∷ option_rule (codes "listen") true ∷ option_rule (codes "workers") false
-    ∷ option_rule (codes "sessions") false ∷ flag_rule (codes "no-worker") ∷ [])
+    ∷ option_rule (codes "sessions") false ∷ flag_rule (codes "no-worker")
+    ∷ option_rule (codes "idle-timeout") false ∷ flag_rule (codes "verbose") ∷ [])
 
 unfoldable pub resume_rules : List Rule
 resume_rules = on_volume (option_rule (codes "key-file") true ∷ [])

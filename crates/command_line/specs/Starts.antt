@@ -7,7 +7,7 @@ use Rattle.luks_json.specs.Reencrypts.{direction_named}
 use Rattle.luks_json.specs.declared.reencrypt.Direction.{Direction}
 use Rattle.luks_json.specs.declared.reencrypt.Direction.TheVariants.{Forward}
 use Rattle.command_line.specs.Segments.{IsNewSegment, segment_by}
-use Rattle.command_line.specs.Values.{◌>>=◌, IsAtomSize, atom_or_default, is_given, is_set}
+use Rattle.command_line.specs.Values.{◌>>=◌, IsAtomSize, atom_or_default, is_given, is_set, is_true}
 use Rattle.command_line.specs.Values.{number_or}
 use Rattle.command_line.specs.declared.segment.NewSegment.{NewSegment}
 use Rattle.command_line.specs.declared.starting.Guard.{Guard}
@@ -15,7 +15,8 @@ use Rattle.command_line.specs.declared.starting.Guard.TheVariants.{Journal, Chec
 use Rattle.command_line.specs.declared.starting.Init.{Init}
 
 -- a conversion of the volume on a disk, in atoms of so many bytes, to the new segment that is
--- described; a key file's passphrase opens the volume, and is to open the new key
+-- described; a key file's passphrase opens the volume, and is to open the new key; and whether
+-- keyslots that hold the old key for other passphrases may go
 pub record Starting : Type 0 where
   pub disk : Text
   pub key_file : Text
@@ -24,6 +25,7 @@ pub record Starting : Type 0 where
   pub resilience : Guard
   pub direction : Direction
   pub hotzone_size : ℕ
+  pub drop_keyslots : Bool
 
 abbrev pub starting : Init → Starting
 starting words = record {
@@ -34,6 +36,7 @@ starting words = record {
   resilience = words.resilience;
   direction = words.direction;
   hotzone_size = words.hotzone_size;
+  drop_keyslots = words.drop_keyslots;
 }
 
 -- ---- the values
@@ -81,6 +84,7 @@ starting_by value = do
     resilience = resilience;
     direction = direction;
     hotzone_size = hotzone_size;
+    drop_keyslots = is_true (value (codes "drop-keyslots"));
   })
 
 -- whether an option of `init` is given that isn't built yet

@@ -2,7 +2,7 @@
 use Rattle.std.specs.Prelude.{ℕ, ◌≡◌, ◌⊎◌, ◌+◌, ◌-◌, ◌*◌, ◌&&◌, ◌==◌, nat_lt, nat_le, Bool}
 use Rattle.std.specs.Prelude.{fold, false, not}
 use Rattle.std.specs.Prelude.{List, length, codes, Option, Some, None, if◌then◌else◌}
-use Rattle.std.specs.Prelude.{Result, Ok, Err, option_and_then, is_some}
+use Rattle.std.specs.Prelude.{Result, Ok, Err, option_and_then, option_map, is_some}
 use Rattle.std.specs.List.{list_all}
 use Rattle.std.specs.Option.{option_map_or}
 use Rattle.std.specs.Char.{is_ascii_digit}
@@ -38,6 +38,11 @@ unfoldable pub number_or : ℕ → ℕ → ℕ → Option Text → Option ℕ
 number_or default least most None = Some default
 number_or default least most (Some word) = number_within least most word
 
+-- the value of an option that is a number, where it is there
+unfoldable pub number_or_none : ℕ → ℕ → Option Text → Option (Option ℕ)
+number_or_none least most None = Some None
+number_or_none least most (Some word) = option_map Some (number_within least most word)
+
 -- the bytes of an atom
 abbrev pub IsAtomSize : ℕ → Type 0
 IsAtomSize atom = (atom ≡ 512) ⊎ (atom ≡ 4096)
@@ -55,5 +60,8 @@ atom_or_default (Some word) = atom_named word
 abbrev pub is_given : Text → List Row → Bool
 is_given name rows = is_some (first_of name rows)
 
+abbrev pub is_true : Option Text → Bool
+is_true value = option_map_or (λ word. bytes_eq word (codes "true")) value false
+
 abbrev pub is_set : Text → List Row → Bool
-is_set name rows = option_map_or (λ word. bytes_eq word (codes "true")) (first_of name rows) false
+is_set name rows = is_true (first_of name rows)

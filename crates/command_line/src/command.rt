@@ -1,10 +1,10 @@
 ghost use Rattle.std.specs.Prelude.{◌≡◌, ◌≢◌, map, string_bytes, IfOk, IfErr, MatchResult};
-ghost use Rattle.std.specs.Prelude.{None, Some, [], is_none, is_some, option_map};
-ghost use Rattle.clap.specs.Words.{fault_of, found_of, kind_of, rows_of, subcommand_of};
+ghost use Rattle.std.specs.Prelude.{None, Some, [], codes, option_map};
+ghost use Rattle.clap.specs.Words.{fault_of, first_of, found_of, kind_of, rows_of, subcommand_of};
 ghost use Rattle.clap.specs.Words.{subcommand_rows_of};
 ghost use Rattle.clap.specs.declared.error.kind.ErrorKind.TheVariants.{OutOfMemory};
 ghost use Rattle.command_line.specs.Product.{product};
-ghost use Rattle.command_line.specs.Values.{IsAtomSize, Reads};
+ghost use Rattle.command_line.specs.Values.{IsAtomSize, Reads, number_or_none};
 ghost use Rattle.command_line.specs.Commands.{
   IsBounded,
   IsServing,
@@ -22,13 +22,15 @@ use crate::formatting::{Format, read_format};
 use crate::product::product;
 use crate::resuming::{Resume, read_resume};
 use crate::starting::{Init, read_init};
-use crate::values::{Refused, atom_or_default, is_given, is_set, number_or, required, text_of};
+use crate::values::{
+    Refused, atom_or_default, is_given, is_set, number_or, number_or_none, required, text_of,
+};
 use clap::error::ErrorKind;
 use clap::{ArgMatches, Error};
-use std::alloc::{AllocError, Global};
+use std::alloc::Global;
 
 /// `serve` on a disk.
-#[derive(Clone, Copy, Debug)]
+#[derive(Clone, Copy)]
 pub struct Serve<'a> {
     pub disk: &'a str,
     /// The file of the passphrase that opens the volume on the disk. None where the disk is served
@@ -39,14 +41,19 @@ pub struct Serve<'a> {
     pub address: &'a str,
     /// How many links the sessions are dealt to: 1 to 16.
     pub workers: u32,
-    /// How many sessions are served at most: 1 to 65535.
+    /// How many sessions are served at most: 1 to 4294967295.
     pub sessions: u32,
     /// Whether a conversion that is under way is led on meanwhile.
     pub converts: bool,
+    /// After how many seconds a client that sends nothing is dropped: 1 to 86400. None where it
+    /// never is.
+    pub idle_timeout: Option<u32>,
+    /// Whether it is said when a session begins and ends.
+    pub verbose: bool,
 }
 
 /// `status`: what the header of a disk says.
-#[derive(Clone, Copy, Debug)]
+#[derive(Clone, Copy)]
 pub struct Status<'a> {
     pub disk: &'a str,
     /// The bytes of an atom: 512 or 4096.
@@ -54,7 +61,7 @@ pub struct Status<'a> {
 }
 
 /// What the words of a command line ask for.
-#[derive(Clone, Copy, Debug)]
+#[derive(Clone, Copy)]
 pub enum Command<'a> {
     Format(Format<'a>),
     Init(Init<'a>),
@@ -64,7 +71,7 @@ pub enum Command<'a> {
 }
 
 /// Why no command was read.
-#[derive(Clone, Copy, Debug, PartialEq, Eq)]
+#[derive(Clone, Copy, PartialEq, Eq)]
 pub enum Refusal {
     /// The words ask for nothing, or for what isn't built yet.
     Usage,
@@ -106,6 +113,19 @@ fn read_key_file<'a>(matches: &ArgMatches<'a>) -> Result<Option<&'a str>, Refuse
     }
 }
 
+/// The value of `--idle-timeout`, where it is there.
+fn timeout_or_none(matches: &ArgMatches<'_>) -> Result<Option<u32>, Refused>
+    ensures { Reads (λ seconds. seconds) result
+        (number_or_none 1 86400 (first_of (codes "idle-timeout") (rows_of (found_of matches.now)))) }
+{
+    let refused = Refused("--idle-timeout takes seconds: a number from 1 to 86400");
+    match number_or_none(matches, "idle-timeout", 1, 86_400, refused) {
+        Ok(Some(seconds)) => Ok(Some(seconds as u32)),
+        Ok(None) => Ok(None),
+        Err(refused) => Err(refused),
+    }
+}
+
 #[tactic(auto, unfolding(crate::specs::Commands::serving_in))]
 fn read_serve<'a>(matches: &ArgMatches<'a>) -> Result<Serve<'a>, Refused>
     ensures reads { Reads serving result (serving_in (rows_of (found_of matches.now))) }
@@ -116,9 +136,11 @@ fn read_serve<'a>(matches: &ArgMatches<'a>) -> Result<Serve<'a>, Refused>
     let address = required(matches, "listen")?;
     let count = Refused("--workers takes a number from 1 to 16");
     let workers = number_or(matches, "workers", 4, 1, 16, count)?;
-    let count = Refused("--sessions takes a number from 1 to 65535");
-    let sessions = number_or(matches, "sessions", 65535, 1, 65535, count)?;
+    let count = Refused("--sessions takes a number from 1 to 4294967295");
+    let most = u64::from(u32::MAX);
+    let sessions = number_or(matches, "sessions", most, 1, most, count)?;
     let key_file = read_key_file(matches)?;
+    let idle_timeout = timeout_or_none(matches)?;
     Ok(Serve {
         disk,
         key_file,
@@ -127,6 +149,8 @@ fn read_serve<'a>(matches: &ArgMatches<'a>) -> Result<Serve<'a>, Refused>
         workers: workers as u32,
         sessions: sessions as u32,
         converts: !is_set(matches, "no-worker"),
+        idle_timeout,
+        verbose: is_set(matches, "verbose"),
     })
 }
 
@@ -178,7 +202,7 @@ fn read_command<'a>(name: &str, matches: &ArgMatches<'a>) -> Result<Command<'a>,
 
 /// Why no command was read, with what a person is told.
 #[derive(Drop)]
-enum Reason {
+pub(crate) enum Reason {
     Memory,
     /// What `clap` found wrong, or the help that was asked for.
     Words(Error),
@@ -188,7 +212,7 @@ enum Reason {
 
 /// What the words of a command line ask for, or why they ask for nothing.
 #[tactic(auto, unfolding(crate::specs::Commands::asked))]
-fn read<'a>(alloc: Global, words: &'a [String]) -> Result<Command<'a>, Reason>
+pub(crate) fn read<'a>(alloc: Global, words: &'a [String]) -> Result<Command<'a>, Reason>
     ensures asked { MatchResult result
         (λ command. asked (map string_bytes words.now) ≡ Some (asked_by command))
         (λ reason. reason ≢ Reason.Memory → asked (map string_bytes words.now) ≡ None) }
@@ -223,27 +247,5 @@ pub fn read_words(alloc: Global, words: &[String]) -> Result<Command<'_>, Refusa
         Ok(command) => Ok(command),
         Err(Reason::Memory) => Err(Refusal::Memory),
         Err(_) => Err(Refusal::Usage),
-    }
-}
-
-/// What to tell a person whose words were refused: help that they asked for, or what is wrong with
-/// them, in the texts of `clap`. There is a text exactly where the words ask for nothing. They are
-/// read once more for it, so that a command that is run carries no text.
-///
-/// # Errors
-///
-/// Memory was wanted.
-pub fn explain_words(alloc: Global, words: &[String]) -> Result<Option<String>, AllocError>
-    ensures { IfOk result
-        (λ text. is_none text ≡ is_some (asked (map string_bytes words.now))) }
-{
-    match read(alloc, words) {
-        Ok(_) => Ok(None),
-        Err(Reason::Memory) => Err(AllocError),
-        Err(Reason::Words(error)) => Ok(Some(error.to_string(alloc)?)),
-        Err(Reason::Values(reason)) => {
-            let error = product(alloc)?.error(ErrorKind::ValueValidation, reason)?;
-            Ok(Some(error.to_string(alloc)?))
-        }
     }
 }

@@ -21,7 +21,7 @@ use luks_bin::is_header_size;
 use uuid::Uuid;
 
 /// `format`: a new volume on a disk.
-#[derive(Clone, Copy, Debug)]
+#[derive(Clone, Copy)]
 pub struct Format<'a> {
     pub disk: &'a str,
     /// The disk that is to have its header. None where that lies on `disk`, in front of the data.
@@ -53,7 +53,7 @@ fn data_offset_or_default(matches: &ArgMatches<'_>, detached: bool) -> Result<u6
         (first_of (codes "data-offset") (rows_of (found_of matches.now)))) }
     ensures page { IfOk result (λ offset. offset % 4096 ≡ 0) }
 {
-    let refused = Refused("--data-offset takes a multiple of 4096");
+    let refused = Refused("--data-offset takes bytes: a multiple of 4096");
     let default = default_data_offset(detached);
     let offset = number_or(matches, "data-offset", default, 0, u64::MAX, refused)?;
     if offset % 4096 != 0 {
@@ -68,7 +68,9 @@ fn metadata_size_or_default(matches: &ArgMatches<'_>) -> Result<u64, Refused>
         (first_of (codes "metadata-size") (rows_of (found_of matches.now)))) }
     ensures known { IfOk result (λ size. is_size size ≡ true) }
 {
-    let refused = Refused("--metadata-size takes 16384, doubled any number of times up to 4194304");
+    let refused = Refused(
+        "--metadata-size takes bytes: 16384, doubled any number of times up to 4194304",
+    );
     let size = number_or(matches, "metadata-size", 16384, 16384, 4_194_304, refused)?;
     if !is_header_size(size) {
         return Err(refused);

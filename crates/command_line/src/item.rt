@@ -7,7 +7,7 @@ use clap::{Arg, ArgAction, Command};
 use std::alloc::{AllocError, Global};
 
 /// A word of a command, behind the command's name.
-#[derive(Clone, Copy, Debug)]
+#[derive(Clone, Copy)]
 pub enum Item {
     /// The disk, by its name.
     Disk,
@@ -22,6 +22,16 @@ pub enum Item {
     Flag {
         name: &'static str,
         help: &'static str,
+    },
+    /// An option with a value that isn't built yet. It is refused where it is given, and help
+    /// doesn't show it.
+    Unbuilt {
+        name: &'static str,
+        value: &'static str,
+    },
+    /// The same without a value.
+    UnbuiltFlag {
+        name: &'static str,
     },
 }
 
@@ -51,20 +61,31 @@ fn argument<'a>(alloc: Global, item: &Item) -> Arg<'a>
             .long(name)
             .help(help)
             .action(ArgAction::SetTrue),
+        Item::Unbuilt { name, value } => Arg::new(alloc, name)
+            .long(name)
+            .value_name(value)
+            .hide(true)
+            .action(ArgAction::Set),
+        Item::UnbuiltFlag { name } => Arg::new(alloc, name)
+            .long(name)
+            .hide(true)
+            .action(ArgAction::SetTrue),
     }
 }
 
-/// The command of `clap` of that name, with these words behind it.
+/// The command of `clap` of that name, with these words behind it. Its help begins with what it is
+/// about, and ends with an example.
 pub fn leaf<'a>(
     alloc: Global,
     name: &'static str,
     about: &'static str,
+    example: &'static str,
     items: &[Item],
 ) -> Result<Command<'a>, AllocError>
     ensures shape { IfOk result (λ c. app_of c ≡ leaf_app name.now (map rule_for items.now)) }
     ensures local { IfOk result (λ c. (out-Command c).has_globals ≡ false) }
 {
-    let mut command = Command::new(alloc, name).about(about);
+    let mut command = Command::new(alloc, name).about(about).after_help(example);
     for item in items {
         command = command.arg(argument(alloc, item))?;
     }

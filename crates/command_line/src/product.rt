@@ -16,17 +16,15 @@ use crate::item::{Item, leaf};
 use clap::Command;
 use std::alloc::{AllocError, Global};
 
-const HEADER: Item = Item::Valued {
+const HEADER: Item = Item::Unbuilt {
     name: "header",
     value: "DISK",
-    help: "The disk of a detached header (not built yet)",
-    required: false,
 };
 
 const ATOM: Item = Item::Valued {
     name: "atom",
     value: "BYTES",
-    help: "The size of an atom: 512 or 4096 [default: 4096]",
+    help: "The bytes that are read and written as one: 512 or 4096 [default: 4096]",
     required: false,
 };
 
@@ -51,14 +49,14 @@ const CIPHER: Item = Item::Valued {
 const KEY_SIZE: Item = Item::Valued {
     name: "key-size",
     value: "BYTES",
-    help: "The bytes of the key [default: 64 for xts, 32 for cbc]",
+    help: "The bytes (not bits) of the key: xts 32 or 64 [default: 64], cbc 16 or 32 [default: 32]",
     required: false,
 };
 
 const SECTOR_SIZE: Item = Item::Valued {
     name: "sector-size",
     value: "BYTES",
-    help: "The bytes that are encrypted as one: 512, 1024, 2048 or 4096 [default: 512]",
+    help: "The bytes of a sector: 512, 1024, 2048 or 4096, no more than --atom [default: 512]",
     required: false,
 };
 
@@ -75,6 +73,19 @@ const METADATA_SIZE: Item = Item::Valued {
     help: "The bytes of one copy of the header: 16384, doubled up to 4194304 [default: 16384]",
     required: false,
 };
+
+// At the end of each command's help.
+const FORMAT_EXAMPLE: &str = "Example: reencd format disk.img --key-file key";
+
+const INIT_EXAMPLE: &str =
+    "Example: reencd init disk.img --key-file key --key-size 64 --sector-size 4096";
+
+const SERVE_EXAMPLE: &str =
+    "Example: reencd serve disk.img --key-file key --listen 127.0.0.1:10809";
+
+const RESUME_EXAMPLE: &str = "Example: reencd resume disk.img --key-file key";
+
+const STATUS_EXAMPLE: &str = "Example: reencd status disk.img";
 
 #[tactic(auto, unfolding(crate::specs::Product::format_rules))]
 fn format<'a>(alloc: Global) -> Result<Command<'a>, AllocError>
@@ -99,7 +110,7 @@ fn format<'a>(alloc: Global) -> Result<Command<'a>, AllocError>
         Item::Valued {
             name: "data-offset",
             value: "BYTES",
-            help: "Where the data begins [default: 16777216, with --header 0]",
+            help: "The byte where the data begins, a multiple of 4096 [default: 16777216, with --header 0]",
             required: false,
         },
         Item::Valued {
@@ -109,7 +120,7 @@ fn format<'a>(alloc: Global) -> Result<Command<'a>, AllocError>
             required: false,
         },
     ];
-    leaf(alloc, "format", "Make a new volume", &items)
+    leaf(alloc, "format", "Make a new volume", FORMAT_EXAMPLE, &items)
 }
 
 #[tactic(auto, unfolding(crate::specs::Product::init_rules))]
@@ -126,44 +137,44 @@ fn init<'a>(alloc: Global) -> Result<Command<'a>, AllocError>
         KEY_SIZE,
         SECTOR_SIZE,
         ITERATIONS,
-        METADATA_SIZE,
+        Item::Unbuilt {
+            name: "metadata-size",
+            value: "BYTES",
+        },
         Item::Valued {
             name: "resilience",
             value: "NAME",
-            help: "journal or checksum; datashift is not built yet [default: journal]",
+            help: "What keeps a zone safe: journal or checksum [default: journal]",
             required: false,
         },
         Item::Valued {
             name: "direction",
             value: "NAME",
-            help: "forward or backward [default: forward]",
+            help: "In which order blocks are converted: forward or backward [default: forward]",
             required: false,
         },
         Item::Valued {
             name: "hotzone-size",
             value: "BYTES",
-            help: "The most that is converted at once, in whole atoms [default: 1048576]",
+            help: "The most bytes that are converted at once, a multiple of --atom [default: 1048576]",
             required: false,
         },
-        Item::Valued {
+        Item::Unbuilt {
             name: "shift",
             value: "BYTES",
-            help: "How far a datashift moves the data (not built yet)",
-            required: false,
         },
+        Item::UnbuiltFlag { name: "encrypt" },
+        Item::UnbuiltFlag { name: "decrypt" },
         Item::Flag {
-            name: "encrypt",
-            help: "Convert a plain disk to a volume (not built yet)",
-        },
-        Item::Flag {
-            name: "decrypt",
-            help: "Convert a volume to a plain disk (not built yet)",
+            name: "drop-keyslots",
+            help: "Drop keyslots of other passphrases: the new key gets one keyslot, for this passphrase",
         },
     ];
     leaf(
         alloc,
         "init",
-        "Begin to convert a volume to a new key",
+        "Begin to convert a volume to a new key, which one keyslot holds, for the passphrase that is given",
+        INIT_EXAMPLE,
         &items,
     )
 }
@@ -196,21 +207,37 @@ fn serve<'a>(alloc: Global) -> Result<Command<'a>, AllocError>
         Item::Valued {
             name: "workers",
             value: "N",
-            help: "The links that sessions are dealt to: 1 to 16 [default: 4]",
+            help: "The sessions that are served at once: 1 to 16 [default: 4]",
             required: false,
         },
         Item::Valued {
             name: "sessions",
             value: "N",
-            help: "The sessions that are served: 1 to 65535 [default: 65535]",
+            help: "The sessions behind which the service ends: 1 to 4294967295 [default: 4294967295]",
             required: false,
         },
         Item::Flag {
             name: "no-worker",
             help: "Don't convert meanwhile",
         },
+        Item::Valued {
+            name: "idle-timeout",
+            value: "SECONDS",
+            help: "Drop a client that sends nothing for so long: 1 to 86400 [default: never]",
+            required: false,
+        },
+        Item::Flag {
+            name: "verbose",
+            help: "Say when a session begins and ends",
+        },
     ];
-    leaf(alloc, "serve", "Serve a disk to NBD clients", &items)
+    leaf(
+        alloc,
+        "serve",
+        "Serve a disk to NBD clients",
+        SERVE_EXAMPLE,
+        &items,
+    )
 }
 
 #[tactic(auto, unfolding(crate::specs::Product::resume_rules))]
@@ -223,6 +250,7 @@ fn resume<'a>(alloc: Global) -> Result<Command<'a>, AllocError>
         alloc,
         "resume",
         "Convert a volume to the end of its conversion",
+        RESUME_EXAMPLE,
         &items,
     )
 }
@@ -233,7 +261,13 @@ fn status<'a>(alloc: Global) -> Result<Command<'a>, AllocError>
     ensures local { IfOk result (λ c. (out-Command c).has_globals ≡ false) }
 {
     let items = [Item::Disk, HEADER, ATOM];
-    leaf(alloc, "status", "Show what a volume's header says", &items)
+    leaf(
+        alloc,
+        "status",
+        "Show what a volume's header says",
+        STATUS_EXAMPLE,
+        &items,
+    )
 }
 
 #[tactic(auto, unfolding(crate::specs::Product::demo_rules))]
@@ -261,19 +295,34 @@ fn demo<'a>(alloc: Global) -> Result<Command<'a>, AllocError>
             required: true,
         },
     ];
-    leaf(
-        alloc,
-        "demo",
-        "Convert a volume in memory (not built yet)",
-        &items,
-    )
+    let demo = leaf(alloc, "demo", "Convert a volume in memory", "", &items)?;
+    Ok(demo.hide(true))
+}
+
+/// The command of this name, as a person's texts show it; the whole command line where there is
+/// none.
+pub fn command_named<'a>(alloc: Global, name: &str) -> Result<Command<'a>, AllocError> {
+    if name == "format" {
+        format(alloc)?.bin_name("reencd format")
+    } else if name == "init" {
+        init(alloc)?.bin_name("reencd init")
+    } else if name == "serve" {
+        serve(alloc)?.bin_name("reencd serve")
+    } else if name == "resume" {
+        resume(alloc)?.bin_name("reencd resume")
+    } else if name == "status" {
+        status(alloc)?.bin_name("reencd status")
+    } else {
+        product(alloc)
+    }
 }
 
 /// The whole command line, as `clap` reads it.
 pub fn product<'a>(alloc: Global) -> Result<Command<'a>, AllocError>
     ensures { IfOk result (λ c. app_of c ≡ product) }
 {
-    Command::new(alloc, "reencd")
+    let command = Command::new(alloc, "reencd").bin_name("reencd")?;
+    command
         .about("Serves LUKS2 volumes over NBD while it converts them")
         .no_binary_name(true)
         .subcommand_required(true)

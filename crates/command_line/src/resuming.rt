@@ -9,7 +9,7 @@ use crate::values::{Refused, atom_or_default, is_given, required};
 use clap::ArgMatches;
 
 /// `resume`: the conversion that is under way of the volume on a disk is led to its end.
-#[derive(Clone, Copy, Debug)]
+#[derive(Clone, Copy)]
 pub struct Resume<'a> {
     pub disk: &'a str,
     /// The file of the passphrase that opens the old key and the new one.

@@ -19,7 +19,7 @@ use clap::ArgMatches;
 use luks_json::Cipher;
 
 /// How the data of a new segment are encrypted, and how the passphrase opens their key.
-#[derive(Clone, Copy, Debug)]
+#[derive(Clone, Copy)]
 pub struct NewSegment {
     /// The cipher of its data.
     pub cipher: Cipher,
@@ -74,7 +74,7 @@ fn key_size_or_default(matches: &ArgMatches<'_>, cipher: Cipher) -> Result<u32, 
         (first_of (codes "key-size") (rows_of (found_of matches.now)))) }
     ensures known { IfOk result (λ size. has_key_size cipher size ≡ true) }
 {
-    let refused = Refused("--key-size takes 32 or 64 for xts, 16 or 32 for cbc");
+    let refused = Refused("--key-size takes bytes, not bits: 32 or 64 for xts, 16 or 32 for cbc");
     let size = number_or(
         matches,
         "key-size",
@@ -104,7 +104,9 @@ fn sector_size_or_default(matches: &ArgMatches<'_>, atom: u32) -> Result<u32, Re
     ensures known { IfOk result (λ size. is_sector_size size ≡ true) }
     ensures whole { IfOk result (λ size. atom % size ≡ 0) }
 {
-    let refused = Refused("--sector-size takes 512, 1024, 2048 or 4096, no more than --atom");
+    let refused = Refused(
+        "--sector-size takes bytes: 512, 1024, 2048 or 4096, no more than --atom",
+    );
     let size = number_or(matches, "sector-size", 512, 512, 4096, refused)?;
     if !is_sector_size(size) {
         return Err(refused);

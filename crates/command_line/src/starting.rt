@@ -22,7 +22,7 @@ use clap::ArgMatches;
 use luks_json::Direction;
 
 /// What keeps the open zone of a conversion safe.
-#[derive(Clone, Copy, Debug, PartialEq, Eq)]
+#[derive(Clone, Copy, PartialEq, Eq)]
 pub enum Guard {
     /// `journal`: copies of its old blocks.
     Journal,
@@ -56,7 +56,7 @@ impl Guard {
 }
 
 /// `init`: a conversion of the volume on a disk to a new key is begun.
-#[derive(Clone, Copy, Debug)]
+#[derive(Clone, Copy)]
 pub struct Init<'a> {
     pub disk: &'a str,
     /// The file of the passphrase that opens the volume, and is to open the new key.
@@ -72,6 +72,8 @@ pub struct Init<'a> {
     /// The bytes of the largest zone that is to have room: whole atoms, at least one, and at most
     /// 67108864 bytes.
     pub hotzone_size: u64,
+    /// Whether keyslots that hold the old key for other passphrases may go.
+    pub drop_keyslots: bool,
 }
 
 /// Refuses the options of `init` that aren't built yet.
@@ -108,7 +110,7 @@ fn guard_or_default(matches: &ArgMatches<'_>) -> Result<Guard, Refused>
     };
     match Guard::of_name(word) {
         Some(guard) => Ok(guard),
-        None => Err(Refused("--resilience takes journal or checksum; datashift is not built yet")),
+        None => Err(Refused("--resilience takes journal or checksum")),
     }
 }
 
@@ -148,7 +150,9 @@ fn hotzone_size_or_default(matches: &ArgMatches<'_>, atom: u32) -> Result<u64, R
     ensures most { IfOk result (λ size. size ≤ 67108864) }
     ensures whole { IfOk result (λ size. size % atom ≡ 0) }
 {
-    let refused = Refused("--hotzone-size takes a multiple of the atom, at most 67108864, not 0");
+    let refused = Refused(
+        "--hotzone-size takes bytes: a multiple of --atom, at most 67108864, not 0",
+    );
     let size = number_or(matches, "hotzone-size", 1_048_576, 1, 67_108_864, refused)?;
     if size % atom as u64 != 0 {
         return Err(refused);
@@ -177,5 +181,6 @@ pub fn read_init<'a>(matches: &ArgMatches<'a>) -> Result<Init<'a>, Refused>
         resilience,
         direction,
         hotzone_size,
+        drop_keyslots: is_set(matches, "drop-keyslots"),
     })
 }

@@ -11,13 +11,14 @@ ghost use Rattle.command_line.specs.Values.{
   is_number,
   is_set,
   number_or,
+  number_or_none,
   number_within,
 };
 
 use clap::ArgMatches;
 
 /// Why the values of words are refused, for a person.
-#[derive(Clone, Copy, Debug)]
+#[derive(Clone, Copy)]
 pub struct Refused(pub &'static str);
 
 /// The value of an option, or the word of the disk, where there is one.
@@ -115,6 +116,28 @@ pub fn number_or(
     };
     match number_within(word, least, most) {
         Some(number) => Ok(number),
+        None => Err(refused),
+    }
+}
+
+/// The value of an option that is a number within these bounds, where it is there.
+#[tactic(auto, unfolding(crate::specs::Values::number_or_none))]
+pub fn number_or_none(
+    matches: &ArgMatches<'_>,
+    name: &str,
+    least: u64,
+    most: u64,
+    refused: Refused,
+) -> Result<Option<u64>, Refused>
+    ensures reads { Reads (λ number. number) result
+        (number_or_none least most (first_of name.now (rows_of (found_of matches.now)))) }
+    ensures within { IfOk result (λ number. IfSome number (λ n. n ≤ most)) }
+{
+    let Some(word) = text_of(matches, name) else {
+        return Ok(None);
+    };
+    match number_within(word, least, most) {
+        Some(number) => Ok(Some(number)),
         None => Err(refused),
     }
 }

@@ -8,12 +8,12 @@ use Rattle.conversion_opening.specs.Openings.{IsNotLedOn, unarmed, unmended, unr
 use Rattle.conversion_opening.specs.Sides.{IsNoSide}
 use Rattle.conversion_opening.specs.declared.fault.ConversionCause.{ConversionCause}
 use Rattle.conversion_opening.specs.declared.fault.ConversionCause.TheVariants as causes
-use Rattle.disk_sizes.specs.declared.Sizes.{Sizes}
-use Rattle.luks_copies.specs.Steps.{CopyCall}
-use Rattle.luks_copies.specs.declared.commit.Stage.{Stage}
-use Rattle.luks_copies.specs.declared.commit.Stage.TheVariants.{Begun, FirstWritten, FirstKept}
-use Rattle.luks_copies.specs.declared.commit.Stage.TheVariants.{SecondWritten, Ended}
-use Rattle.luks_copies.specs.declared.repair.Repair.{Repair}
+use Rattle.base_terms.specs.declared.disk_sizes.Sizes.{Sizes}
+use Rattle.luks_store.specs.Copying.Steps.{CopyCall}
+use Rattle.luks_store.specs.declared.header_copies.commit.Stage.{Stage}
+use Rattle.luks_store.specs.declared.header_copies.commit.Stage.TheVariants.{Begun, FirstWritten, FirstKept}
+use Rattle.luks_store.specs.declared.header_copies.commit.Stage.TheVariants.{SecondWritten, Ended}
+use Rattle.luks_store.specs.declared.header_copies.repair.Repair.{Repair}
 use Rattle.luks_json.specs.declared.meta.Parts.{Parts}
 use Rattle.luks_rules.specs.declared.shape.Progress.{Progress}
 use Rattle.luks_store.specs.Devices.{front_of}
@@ -32,7 +32,7 @@ use Rattle.reenc_recovery.specs.declared.keys.SideKeys.{SideKeys}
 use Rattle.sector_disk.specs.Devices.{Device, SyncCall, failed_call, succeeded}
 use Rattle.volume_machine.specs.Seals.{Seals}
 use Rattle.volume_machine.specs.declared.keys.Keys.{Keys}
-use Rattle.zone_images.specs.Runs.{MendRun, none, one_more}
+use Rattle.image_laws.specs.Led.Runs.{MendRun, none, one_more}
 use Rattle.zone_mending.specs.Promises.{seals_in}
 use Rattle.zone_mending.specs.Steps.{Fails, Goes, Steps}
 use Rattle.zone_mending.specs.Steps.{reads, lays, finds, writes, settles, moves, ends, read_fails}

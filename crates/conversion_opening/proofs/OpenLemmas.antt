@@ -10,15 +10,15 @@ use Rattle.conversion_opening.specs.Openings.{unrepaired}
 use Rattle.conversion_opening.specs.Runs.{FitsVolume, LeadsTo}
 use Rattle.conversion_opening.specs.Sides.{IsConversion}
 use Rattle.conversion_opening.specs.declared.fault.ConversionCause.{ConversionCause}
-use Rattle.disk_sizes.specs.declared.Sizes.{Sizes}
+use Rattle.base_terms.specs.declared.disk_sizes.Sizes.{Sizes}
 use Rattle.hotzone.proofs.CommitLemmas.{has-as}
 use Rattle.hotzone.specs.Sites.{IsSaved}
 use Rattle.hotzone.specs.Workers.{MayGoOn}
-use Rattle.joined_disk.specs.Counts.{HasSizes}
-use Rattle.joined_disk.specs.Joined.{Joint, joined_disk}
-use Rattle.luks_copies.specs.Held.{repair_stage_in}
-use Rattle.luks_copies.specs.declared.repair.Repair.{Repair}
-use Rattle.luks_copies.specs.declared.repair.RepairStage.TheVariants.{Broken}
+use Rattle.sector_disk.specs.JoinedDisks.Counts.{HasSizes}
+use Rattle.sector_disk.specs.JoinedDisks.Joined.{Joint, joined_disk}
+use Rattle.luks_store.specs.Copying.Held.{repair_stage_in}
+use Rattle.luks_store.specs.declared.header_copies.repair.Repair.{Repair}
+use Rattle.luks_store.specs.declared.header_copies.repair.RepairStage.TheVariants.{Broken}
 use Rattle.luks_rules.specs.Areas.{header_bytes}
 use Rattle.luks_rules.specs.Shapes.{progress_of}
 use Rattle.luks_rules.specs.States.{IsSound}
@@ -39,7 +39,7 @@ use Rattle.sector_disk.specs.Devices.{Device, SyncCall, succeeded}
 use Rattle.sector_disk.specs.Geometry.{IsAtom, IsDisk}
 use Rattle.volume_machine.specs.States.{State}
 use Rattle.volume_machine.specs.declared.keys.Keys.{Keys}
-use Rattle.zone_images.specs.Holding.{TellsLawfully}
+use Rattle.image_laws.specs.Led.Holding.{TellsLawfully}
 use Rattle.zone_mending.specs.Menders.{IsNew}
 use Rattle.zone_mending.specs.OpenZones.{HasZone, IsNotMade}
 use Rattle.zone_mending.specs.declared.mender.MendFault.{MendFault}

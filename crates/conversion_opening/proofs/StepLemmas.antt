@@ -13,11 +13,11 @@ use Rattle.hotzone.proofs.LawLemmas.{most-atoms}
 use Rattle.hotzone.specs.Workers.{HasKeys, MapsFit}
 use Rattle.hotzone.specs.Sites.{count_of, part_at}
 use Rattle.hotzone.specs.declared.site.Site.{Site}
-use Rattle.joined_disk.specs.Counts.{HasSizes}
-use Rattle.luks_copies.specs.Steps.{next_of}
-use Rattle.luks_copies.specs.declared.commit.Stage.{Stage}
-use Rattle.luks_copies.specs.declared.commit.Stage.TheVariants.{Begun, FirstWritten, FirstKept}
-use Rattle.luks_copies.specs.declared.commit.Stage.TheVariants.{SecondWritten, Ended}
+use Rattle.sector_disk.specs.JoinedDisks.Counts.{HasSizes}
+use Rattle.luks_store.specs.Copying.Steps.{next_of}
+use Rattle.luks_store.specs.declared.header_copies.commit.Stage.{Stage}
+use Rattle.luks_store.specs.declared.header_copies.commit.Stage.TheVariants.{Begun, FirstWritten, FirstKept}
+use Rattle.luks_store.specs.declared.header_copies.commit.Stage.TheVariants.{SecondWritten, Ended}
 use Rattle.luks_store.specs.declared.loaded.Stored.{Stored}
 use Rattle.reenc_recovery.specs.Calls.{TellsSized}
 use Rattle.sector_disk.specs.Cells.{content, currents}
@@ -25,8 +25,8 @@ use Rattle.sector_disk.specs.Devices.{Device, succeeded}
 use Rattle.sector_disk.specs.Steps.{Told}
 use Rattle.volume_machine.specs.Seals.{Seals}
 use Rattle.volume_machine.specs.declared.keys.Keys.{Keys}
-use Rattle.zone_images.specs.Holding.{TellsLawfully}
-use Rattle.zone_images.specs.Runs.{MendRun, none, one_more}
+use Rattle.image_laws.specs.Led.Holding.{TellsLawfully}
+use Rattle.image_laws.specs.Led.Runs.{MendRun, none, one_more}
 use Rattle.zone_mending.proofs.OpenZoneLemmas.{zone-known}
 use Rattle.zone_mending.specs.Menders.{IsMending, IsNew, IsUnderWay, LeavesNext, Needs}
 use Rattle.zone_mending.specs.Menders.{after_write}

@@ -9,7 +9,7 @@ use Rattle.std.proofs.lemmas.Nat.{div-add-mod'}
 use Rattle.std.specs.Option.{IfSome}
 use Rattle.conversion_opening.specs.Runs.{FitsVolume}
 use Rattle.conversion_opening.specs.Sides.{AreSides}
-use Rattle.disk_sizes.specs.declared.Sizes.{Sizes}
+use Rattle.base_terms.specs.declared.disk_sizes.Sizes.{Sizes}
 use Rattle.hotzone.specs.Sites.{IsSaved}
 use Rattle.hotzone.specs.Workers.{HasKeys, MapsFit}
 use Rattle.luks_json.specs.declared.reencrypt.Direction.{Direction}

@@ -5,9 +5,9 @@ use Rattle.conversion_opening.specs.Causes.{device_failed, no_memory}
 use Rattle.conversion_opening.specs.Runs.{LeadsTo, MendsZone}
 use Rattle.conversion_opening.specs.Sides.{IsConversion}
 use Rattle.conversion_opening.specs.declared.fault.ConversionCause.{ConversionCause}
-use Rattle.disk_sizes.specs.declared.Sizes.{Sizes}
-use Rattle.joined_disk.specs.Joined.{Joint, joined_disk}
-use Rattle.luks_copies.specs.declared.repair.Repair.{Repair}
+use Rattle.base_terms.specs.declared.disk_sizes.Sizes.{Sizes}
+use Rattle.sector_disk.specs.JoinedDisks.Joined.{Joint, joined_disk}
+use Rattle.luks_store.specs.declared.header_copies.repair.Repair.{Repair}
 use Rattle.luks_rules.specs.Areas.{areas_begin, header_bytes}
 use Rattle.luks_rules.specs.States.{IsSound}
 use Rattle.luks_store.specs.Devices.{front_of}
@@ -23,7 +23,7 @@ use Rattle.volume_machine.specs.Works.{converting, resting}
 use Rattle.volume_machine.specs.declared.keys.Keys.{Keys}
 use Rattle.zone_events.specs.Heads.{header_on}
 use Rattle.zone_events.specs.Works.{layout_for}
-use Rattle.zone_images.specs.Holding.{TellsLawfully}
+use Rattle.image_laws.specs.Led.Holding.{TellsLawfully}
 
 -- ---- a header that passed all checks
 -- It breaks no rule for disks of these sizes, on which both its copies have room in front of its

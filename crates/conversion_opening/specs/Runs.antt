@@ -7,8 +7,8 @@ use Rattle.hotzone.specs.Workers.{HasKeys, MapsFit, MayGoOn}
 use Rattle.luks_store.specs.declared.loaded.Stored.{Stored}
 use Rattle.sector_disk.specs.Devices.{Device, succeeded}
 use Rattle.volume_machine.specs.declared.keys.Keys.{Keys}
-use Rattle.zone_images.specs.Holding.{TellsLawfully}
-use Rattle.zone_images.specs.Runs.{MendRun}
+use Rattle.image_laws.specs.Led.Holding.{TellsLawfully}
+use Rattle.image_laws.specs.Led.Runs.{MendRun}
 use Rattle.zone_mending.specs.Menders.{IsMending, IsNew}
 use Rattle.zone_mending.specs.OpenZones.{IsMoved}
 use Rattle.zone_mending.specs.declared.mender.Mender.{Mender}

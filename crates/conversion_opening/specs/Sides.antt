@@ -1,6 +1,6 @@
 -- The keys of the sides of a volume that is being converted.
 use Rattle.std.specs.Prelude.{◌≡◌, ◌⊎◌, ℕ, List, Some}
-use Rattle.disk_sizes.specs.declared.Sizes.{Sizes}
+use Rattle.base_terms.specs.declared.disk_sizes.Sizes.{Sizes}
 use Rattle.hotzone.specs.Sites.{IsSaved}
 use Rattle.luks_json.specs.declared.meta.Parts.{Parts}
 use Rattle.luks_rules.specs.Shapes.{progress_of}
@@ -10,7 +10,7 @@ use Rattle.reenc_recovery.specs.declared.fault.OpenCause.{OpenCause}
 use Rattle.reenc_recovery.specs.declared.fault.OpenCause.TheVariants as causes
 use Rattle.reenc_recovery.specs.declared.keys.SideKeys.{SideKeys}
 use Rattle.volume_machine.specs.declared.keys.Keys.{Keys}
-use Rattle.zone_images.specs.Keys.{AreCiphersOf}
+use Rattle.image_laws.specs.Led.Keys.{AreCiphersOf}
 
 -- The keys are the ciphers of the whole segments under those that were handed in for their sides,
 -- each of which is that of its segment's digest. `sector`, `sealed` and `opened` are those of the

@@ -4,7 +4,7 @@ ghost use Rattle.std.specs.Prelude.{◌≡◌, IfErr, IfOk};
 ghost use Rattle.conversion_opening.specs.Openings.{armed_volume};
 ghost use Rattle.conversion_opening.specs.Runs.{FitsVolume};
 ghost use Rattle.hotzone.specs.Workers.{MayGoOn};
-ghost use Rattle.joined_disk.specs.Counts.{HasSizes};
+ghost use Rattle.sector_disk.specs.JoinedDisks.Counts.{HasSizes};
 ghost use Rattle.reenc_meta.specs.ConversionMaps.{IsMapOf};
 ghost use Rattle.reenc_meta.specs.Placements.{all_atoms};
 ghost use Rattle.sector_disk.specs.Geometry.{IsDisk};

@@ -1,13 +1,12 @@
 // Why a volume that is being converted isn't opened.
 
-use joined_disk::JoinedDisk;
 use reenc_recovery::OpenCause;
-use sector_disk::Disk;
+use sector_disk::{Disk, JoinedDisk};
 use zone_mending::MendFault;
 
 /// Why a volume that is being converted isn't opened: the first of the causes that the disks and the
 /// keys give, unless memory was wanted or a device call failed before.
-#[derive(Debug, Drop)]
+#[derive(Drop)]
 pub enum ConversionCause {
     /// No header is read, a key isn't the one of its segment's digest, memory ran out, or a device
     /// call failed. That a conversion is under way is no cause.

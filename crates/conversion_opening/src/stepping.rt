@@ -4,10 +4,10 @@ ghost use Rattle.std.specs.Prelude.{◌≡◌, IfErr, IfOk};
 ghost use Rattle.conversion_opening.specs.Runs.{BeginsBy, FitsVolume, LeadsTo, MendsZone};
 ghost use Rattle.conversion_opening.specs.Runs.{header_in, last_of};
 ghost use Rattle.hotzone.specs.Workers.{MayGoOn};
-ghost use Rattle.joined_disk.specs.Counts.{HasSizes};
+ghost use Rattle.sector_disk.specs.JoinedDisks.Counts.{HasSizes};
 ghost use Rattle.sector_disk.specs.Devices.{failed_call};
 ghost use Rattle.volume_machine.specs.declared.keys.Keys.{Keys as keys_type};
-ghost use Rattle.zone_images.specs.Runs.{MendRun};
+ghost use Rattle.image_laws.specs.Led.Runs.{MendRun};
 ghost use Rattle.zone_mending.specs.Menders.{IsNew, IsUnderWay};
 ghost use Rattle.zone_mending.specs.declared.mender.MendCall.TheVariants as calls;
 

@@ -7,10 +7,14 @@ use Rattle.sector_disk.specs.Geometry.{is_atom, is_atom-true, IsDisk}
 abbrev pub whole_atoms : ℕ → ℕ → ℕ
 whole_atoms atom len = min len (2 ^ 63 - 1) / atom
 
+-- how many bytes of such a file lie behind them
+abbrev pub tail_behind : ℕ → ℕ → ℕ
+tail_behind atom len = len - whole_atoms atom len * atom
+
 -- a disk that tells nothing of content
-abbrev pub untold_disk : ℕ → ℕ → ℕ → Device
-untold_disk atom atoms faults =
-    record { size = atom; atoms = atoms; values = None; told = None; faults = faults }
+abbrev pub untold_disk : ℕ → ℕ → ℕ → ℕ → Device
+untold_disk atom atoms tail faults =
+    record { size = atom; atoms = atoms; tail = tail; values = None; told = None; faults = faults }
 
 -- an atom that passed its test, and the bound of a disk
 pub tested_disk : (atom atoms : ℕ) → IsTrue (is_atom atom) → atoms * atom < 2 ^ 63 →

@@ -1,7 +1,7 @@
 ghost use Rattle.std.specs.Prelude.{◌≡◌, ◌*◌, ◌^◌, ◌<◌, ◌≤◌, ℕ, length, Ok, Err, MatchResult};
 ghost use Rattle.std.specs.Prelude.{is_ok, IsTrue};
 ghost use Rattle.file_disk.specs.Opening.{OpensLocked};
-ghost use Rattle.file_disk.specs.Sizes.{untold_disk, whole_atoms};
+ghost use Rattle.file_disk.specs.Sizes.{tail_behind, untold_disk, whole_atoms};
 ghost use Rattle.io_edge.specs.Faults.{Counts};
 ghost use Rattle.sector_disk.specs.Devices.{ReadCall, WriteCall, SyncCall};
 ghost use Rattle.sector_disk.specs.Geometry.{is_atom, IsAtom, IsInDisk};
@@ -24,6 +24,7 @@ pub struct FileDisk<F: PositionedFile = File> {
     file: F,
     atom: u32,
     atoms: u64,
+    tail: u64,
     faults: u64,
     ghost known: { IsTrue (is_atom atom) },
     ghost fits: { atoms * atom < 2 ^ 63 },
@@ -45,9 +46,12 @@ impl<F: LockableFile> FileDisk<F> {
         requires { IsAtom atom }
         ensures { MatchResult result
             (λ disk. (len : ℕ)
-            × OpensLocked (S.opens system.now path.now) F.locks F.measures (Ok (disk.file, len))
-            × (⟦<FileDisk<F> as Disk>⟧.device disk ≡ untold_disk atom (whole_atoms atom len) 0))
-            (λ error. OpensLocked (S.opens system.now path.now) F.locks F.measures (Err error)) }
+            × OpensLocked (S.opens system.now path.now) F.locks (S.checks system.now)
+            F.measures (Ok (disk.file, len))
+            × (⟦<FileDisk<F> as Disk>⟧.device disk
+            ≡ untold_disk atom (whole_atoms atom len) (tail_behind atom len) 0))
+            (λ error. OpensLocked (S.opens system.now path.now) F.locks (S.checks system.now)
+            F.measures (Err error)) }
     {
         match open_locked(system, path) {
             Ok((file, len)) => Ok(FileDisk::new(file, len, atom)),
@@ -58,19 +62,21 @@ impl<F: LockableFile> FileDisk<F> {
 
 impl<F: PositionedFile> FileDisk<F> {
     /// A disk on an open file of `len` bytes, as [`FileDisk::open`] makes it once it has the file:
-    /// its whole atoms that lie below `2^63` bytes.
+    /// its whole atoms that lie below `2^63` bytes. The bytes behind them are its tail.
     /// Nobody else is to write there while it lives.
     pub fn new(file: F, len: u64, atom: u32) -> FileDisk<F>
         requires { IsAtom atom }
         ensures device { ⟦<FileDisk<F> as Disk>⟧.device result
-            ≡ untold_disk atom (whole_atoms atom len) 0 }
+            ≡ untold_disk atom (whole_atoms atom len) (tail_behind atom len) 0 }
         ensures file { result.file ≡ file }
     {
         let used = len.min(i64::MAX as u64);
+        let atoms = used / u64::from(atom);
         FileDisk {
             file,
             atom,
-            atoms: used / u64::from(atom),
+            atoms,
+            tail: len - atoms * u64::from(atom),
             faults: 0,
         }
     }
@@ -87,7 +93,7 @@ impl<F: PositionedFile> FileDisk<F> {
 impl<F: PositionedFile> Disk for FileDisk<F> {
     ghost use Rattle.file_disk.specs.Sizes.{tested_disk};
 
-    ghost device = { λ d. untold_disk d.atom d.atoms d.faults };
+    ghost device = { λ d. untold_disk d.atom d.atoms d.tail d.faults };
 
     ghost geometry = { λ d. tested_disk d.atom d.atoms d.known d.fits };
 
@@ -111,11 +117,15 @@ impl<F: PositionedFile> Disk for FileDisk<F> {
         self.atoms
     }
 
+    fn tail(&self) -> u64 {
+        self.tail
+    }
+
     fn read(&mut self, at: u64, buf: &mut [u8]) -> Result<(), Failed>
         requires { IsInDisk self.old.atom self.old.atoms at (length buf.old) }
         ensures call { ReadCall self.old.atom at buf.new
-            (untold_disk self.old.atom self.old.atoms self.old.faults)
-            (untold_disk self.new.atom self.new.atoms self.new.faults) result }
+            (untold_disk self.old.atom self.old.atoms self.old.tail self.old.faults)
+            (untold_disk self.new.atom self.new.atoms self.new.tail self.new.faults) result }
         ensures counts { Counts self.old.faults self.new.faults result }
         ensures reads { F.reads self.old.file (at * self.old.atom) buf.new
             (is_ok result) self.new.file }
@@ -127,8 +137,8 @@ impl<F: PositionedFile> Disk for FileDisk<F> {
     fn write(&mut self, at: u64, bytes: &[u8]) -> Result<(), Failed>
         requires { IsInDisk self.old.atom self.old.atoms at (length bytes.now) }
         ensures call { WriteCall self.old.atom at bytes.now
-            (untold_disk self.old.atom self.old.atoms self.old.faults)
-            (untold_disk self.new.atom self.new.atoms self.new.faults) result }
+            (untold_disk self.old.atom self.old.atoms self.old.tail self.old.faults)
+            (untold_disk self.new.atom self.new.atoms self.new.tail self.new.faults) result }
         ensures counts { Counts self.old.faults self.new.faults result }
         ensures writes { F.writes self.old.file (at * self.old.atom) bytes.now
             (is_ok result) self.new.file }
@@ -138,8 +148,8 @@ impl<F: PositionedFile> Disk for FileDisk<F> {
     }
 
     fn sync(&mut self) -> Result<(), Failed>
-        ensures call { SyncCall (untold_disk self.old.atom self.old.atoms self.old.faults)
-            (untold_disk self.new.atom self.new.atoms self.new.faults) result }
+        ensures call { SyncCall (untold_disk self.old.atom self.old.atoms self.old.tail self.old.faults)
+            (untold_disk self.new.atom self.new.atoms self.new.tail self.new.faults) result }
         ensures counts { Counts self.old.faults self.new.faults result }
         ensures syncs { F.syncs self.old.file (is_ok result) self.new.file }
     {

@@ -3,9 +3,10 @@ ghost use Rattle.std.specs.declared.io.Error.{Error};
 ghost use Rattle.file_disk.specs.Opening.{OpensLocked, OpensToRead};
 
 use crate::PositionedFile;
+use crate::claims::{check_claims, check_kind};
 use base_terms::Bytes;
 use std::alloc::Global;
-use std::fs::{File, TryLockError};
+use std::fs::{self, File, TryLockError};
 use std::io::{self, ErrorKind, Read, Seek, SeekFrom};
 
 /// A file that can be locked and measured. What its calls do is a matter of the file.
@@ -46,6 +47,18 @@ pub trait FileSystem {
     fn open_to_read(&self, path: &str) -> io::Result<Self::Opened>
         ensures { opens_to_read self.now path.now result };
 
+    /// What looking whether a file is in use gives.
+    ghost checks: { Self → Self.Opened → Result (Unit {0}) Error → Type 0 };
+
+    /// Refuses an open file that no disk is made of, or that is in use: neither a regular file nor a
+    /// block device, or a block device that is mounted or held otherwise. An error of the kind
+    /// `ResourceBusy` where it is in use.
+    fn check_unused(&self, file: &Self::Opened) -> io::Result<()>
+        ensures { checks self.now file.now result };
+
+    /// How many bytes the file of that name has, 0 where that isn't told, as of a pipe.
+    fn length(&self, path: &str) -> io::Result<u64>;
+
     /// What reading the front of the file of a name gives, of at most so many bytes.
     ghost reads_front: { Self → List ℕ → ℕ → Result (List ℕ) Error → Type 0 };
 
@@ -84,13 +97,25 @@ impl FileSystem for HostRuntime {
     ghost opens = { λ _ _ _. Unit {0} };
 
     fn open_file(&self, path: &str) -> io::Result<File> {
+        check_kind(self, path)?;
         File::options().read(true).write(true).open(self, path)
     }
 
     ghost opens_to_read = { λ _ _ _. Unit {0} };
 
     fn open_to_read(&self, path: &str) -> io::Result<File> {
+        check_kind(self, path)?;
         File::open(self, path)
+    }
+
+    ghost checks = { λ _ _ _. Unit {0} };
+
+    fn check_unused(&self, file: &File) -> io::Result<()> {
+        check_claims(self, file)
+    }
+
+    fn length(&self, path: &str) -> io::Result<u64> {
+        Ok(fs::metadata(self, path)?.len())
     }
 
     ghost reads_front = { λ _ _ _ _. Unit {0} };
@@ -105,15 +130,16 @@ impl FileSystem for HostRuntime {
 }
 
 /// Opens the file or block device of that name for reading and writing, takes its exclusive
-/// advisory lock, which the open file keeps, and measures it in bytes.
+/// advisory lock, which the open file keeps, sees that it isn't in use, and measures it in bytes.
 ///
 /// # Errors
 ///
 /// What the system said where it doesn't open, lock or measure the file, as `NotFound`; of the kind
-/// `WouldBlock` where another open of the file holds a lock. Of the kind `OutOfMemory` where the
-/// system wants memory; the call itself takes none. Nothing stays open or locked.
+/// `WouldBlock` where another open of the file holds a lock, and `ResourceBusy` where it is in use.
+/// Of the kind `OutOfMemory` where memory is wanted. Nothing stays open or locked.
 pub fn open_locked<S: FileSystem>(system: &S, path: &str) -> io::Result<(S::Opened, u64)>
-    ensures { OpensLocked (S.opens system.now path.now) S.Opened.locks S.Opened.measures result }
+    ensures { OpensLocked (S.opens system.now path.now) S.Opened.locks (S.checks system.now)
+        S.Opened.measures result }
 {
     let mut file = match system.open_file(path) {
         Ok(file) => file,
@@ -123,6 +149,9 @@ pub fn open_locked<S: FileSystem>(system: &S, path: &str) -> io::Result<(S::Open
         Ok(()) => {}
         Err(error) => return Err(error),
     }
+    if let Err(error) = system.check_unused(&file) {
+        return Err(error);
+    }
     match file.measure() {
         Ok(len) => Ok((file, len)),
         Err(error) => Err(error),
@@ -130,7 +159,7 @@ pub fn open_locked<S: FileSystem>(system: &S, path: &str) -> io::Result<(S::Open
 }
 
 /// Opens the file or block device of that name for reading alone, and measures it in bytes. It asks
-/// for no lock, so that it is had also while another program has it locked.
+/// for no lock, so that it is had also while another program has it locked, or in use.
 ///
 /// # Errors
 ///

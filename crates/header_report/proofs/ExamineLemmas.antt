@@ -4,12 +4,12 @@ use Rattle.std.proofs.Common.{length, take}
 use Rattle.std.proofs.Common.{Bool, false, Option, Some, Result, Ok, Err, ap}
 use Rattle.std.proofs.Common.{sym, subst}
 use Rattle.std.proofs.Common.{inl, inr, arith, if◌then◌else◌, IfErr, IfOk, take_all}
-use Rattle.disk_sizes.specs.declared.Sizes.{Sizes}
-use Rattle.joined_disk.specs.Counts.{has_head, joint_in, sizes_of}
-use Rattle.joined_disk.specs.Joined.{Joint, begun_joint, both_faults, both_values, joined_disk}
-use Rattle.joined_disk.specs.Joined.{nothing}
-use Rattle.joined_disk.specs.Joined.{used_atoms}
-use Rattle.joined_disk.specs.declared.joined.JoinedDisk.{JoinedDisk}
+use Rattle.base_terms.specs.declared.disk_sizes.Sizes.{Sizes}
+use Rattle.sector_disk.specs.JoinedDisks.Counts.{has_head, joint_in, sizes_of}
+use Rattle.sector_disk.specs.JoinedDisks.Joined.{Joint, begun_joint, both_faults, both_values, joined_disk}
+use Rattle.sector_disk.specs.JoinedDisks.Joined.{nothing}
+use Rattle.sector_disk.specs.JoinedDisks.Joined.{used_atoms}
+use Rattle.sector_disk.specs.declared.joined.joined.JoinedDisk.{JoinedDisk}
 use Rattle.luks_store.specs.Devices.{front_of}
 use Rattle.luks_store.specs.Loads.{Answers, HasCause, Says, stored_in}
 use Rattle.luks_store.specs.declared.fault.StoreFault.{StoreFault}

@@ -1,7 +1,7 @@
 -- What reading the header of a disk tells, and what it leaves of the disk.
 use Rattle.std.specs.Prelude.{ℕ, ◌≡◌, ◌≤◌, false, List, Some, Result, Ok, Err}
 use Rattle.std.specs.Prelude.{string_bytes}
-use Rattle.disk_sizes.specs.declared.Sizes.{Sizes}
+use Rattle.base_terms.specs.declared.disk_sizes.Sizes.{Sizes}
 use Rattle.sector_disk.specs.Devices.{Device}
 use Rattle.std.specs.declared.string.String.{String}
 use Rattle.luks_store.specs.Devices.{KeepsBytes}

@@ -1,9 +1,11 @@
+use json_members::JsonFaultKind;
 use luks_bin::BinFault;
+use luks_rules::RuleFault;
 use luks_store::StoreFault;
 use std::fmt;
 
 /// Why a header isn't read, as it is told to people: one line, without its line feed.
-#[derive(Clone, Copy, Debug)]
+#[derive(Clone, Copy)]
 pub struct FaultText<'a>(pub &'a StoreFault);
 
 impl fmt::Display for FaultText<'_> {
@@ -22,9 +24,30 @@ impl fmt::Display for FaultText<'_> {
                     "CopiesDiffer: both have seqid {seqid}, and differ at byte {place}"
                 )
             }
-            StoreFault::Json(fault) => write!(f, "{fault}"),
-            StoreFault::Rule(fault) => write!(f, "{fault}"),
+            StoreFault::Json(fault) => {
+                write!(f, "{fault}")?;
+                match fault.kind {
+                    JsonFaultKind::Unsupported => write!(f, "{SUPPORTED}"),
+                    _ => Ok(()),
+                }
+            }
+            StoreFault::Rule(fault) => write!(f, "{fault}{}", cure_of(fault)),
         }
+    }
+}
+
+/// What is read where a name may be another one.
+const SUPPORTED: &str =
+    ": ciphers aes-xts-plain64 and aes-cbc-essiv:sha256 and digests by sha256 and sha512 are";
+
+/// What may be behind a rule that is broken, and what helps.
+fn cure_of(fault: &RuleFault) -> &'static str {
+    match fault {
+        RuleFault::AreaBounds | RuleFault::SegmentGap => {
+            " (a detached header, a header backup, or a disk that was cut short?)"
+        }
+        RuleFault::SectorSize | RuleFault::NotAtomMultiple => " (another --atom may help)",
+        _ => "",
     }
 }
 
@@ -36,6 +59,10 @@ impl fmt::Display for CopyFault<'_> {
     fn fmt<W: fmt::Write>(&self, f: &mut fmt::Formatter<W>) -> fmt::Result {
         match self.0 {
             BinFault::Magic => write!(f, "Magic"),
+            BinFault::Version(1) => write!(
+                f,
+                "Version 1: LUKS1 isn't supported, and `cryptsetup convert --type luks2` makes it LUKS2"
+            ),
             BinFault::Version(version) => write!(f, "Version {version}"),
             BinFault::Size(size) => write!(f, "Size {size}"),
             BinFault::Place(place) => write!(f, "Place {place}"),

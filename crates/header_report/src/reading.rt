@@ -1,20 +1,22 @@
 ghost use Rattle.std.specs.Prelude.{◌≡◌, ℕ, List, Some, IfOk, IfErr};
-ghost use Rattle.joined_disk.specs.Counts.{joint_in, sizes_of};
+ghost use Rattle.sector_disk.specs.JoinedDisks.Counts.{joint_in, sizes_of};
 ghost use Rattle.luks_store.specs.Devices.{device_of, front_of, IsUnwritten};
 ghost use Rattle.luks_store.specs.Loads.{Answers, HasCause, stored_in};
 ghost use Rattle.header_report.specs.Examinations.{Explains, IsReadAlone, Tells, seen};
 
+use crate::copies::copy_notice;
 use crate::text::report;
-use joined_disk::JoinedDisk;
 use luks_store::{Loaded, StoreFault, load};
-use sector_disk::Disk;
+use sector_disk::{Disk, JoinedDisk};
 use std::alloc::Global;
 
-/// A disk whose header was read: the disk, and what the header says, or why none is told.
+/// A disk whose header was read: the disk, what the header says, or why none is told, and what is
+/// said of a copy that isn't as the other one.
 #[derive(Drop)]
 pub struct Examined<D> {
     pub disk: D,
     pub told: Result<String, StoreFault>,
+    pub notice: Option<&'static str>,
 }
 
 /// Whether another look may find a header: where no copy is valid, or both differ, a commit of
@@ -56,6 +58,14 @@ fn told(alloc: Global, loaded: Result<Loaded, StoreFault>) -> Result<String, Sto
     }
 }
 
+/// What is said of a copy of the header that was read.
+fn notice_of(loaded: &Result<Loaded, StoreFault>) -> Option<&'static str> {
+    match loaded {
+        Ok(loaded) => copy_notice(loaded),
+        Err(_) => None,
+    }
+}
+
 /// Reads the header on a disk, and tells what it says or why there is none. Nothing is written, and
 /// the disk is handed back.
 pub fn examine<D: Disk>(alloc: Global, disk: D) -> Examined<D>
@@ -69,8 +79,10 @@ pub fn examine<D: Disk>(alloc: Global, disk: D) -> Examined<D>
     let loaded = load_settled(alloc, &mut joined);
     let (head, disk) = joined.parts();
     let None = head else { unreachable!() };
+    let notice = notice_of(&loaded);
     Examined {
         disk,
         told: told(alloc, loaded),
+        notice,
     }
 }

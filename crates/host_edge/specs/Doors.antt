@@ -29,6 +29,11 @@ abbrev pub HaveDoors : {L K : Type 0} → (L → Result L Error → Type 0) → 
 HaveDoors shares door_of door workers links = (k : ℕ) (link : _) → k < workers →
     SharesDoor shares door (Ok (door_of (slice_index_or links k link)))
 
+-- each link deals with its clients in this manner
+abbrev pub HaveManner : {L M : Type 0} → (L → M) → M → ℕ → List L → Type 0
+HaveManner manner_of manner workers links = (k : ℕ) (link : _) → k < workers →
+    manner_of (slice_index_or links k link) ≡ manner
+
 -- why there are no links to the clients of an address: it can't be listened at, or another handle
 -- of its listener can't be had
 abbrev pub Listens : {L : Type 0} → (Result L Error → Type 0) → (L → Result L Error → Type 0) →

@@ -4,9 +4,9 @@ ghost use Rattle.std.specs.IoError.{error_kind};
 ghost use Rattle.std.specs.declared.io.Error.{Error};
 ghost use Rattle.bays.specs.Bays.{AreBounded, FaultCounts, HasBayCause};
 ghost use Rattle.file_disk.specs.Opening.{OpensLocked, OpensToRead};
-ghost use Rattle.file_disk.specs.Sizes.{whole_atoms};
+ghost use Rattle.file_disk.specs.Sizes.{tail_behind, whole_atoms};
 ghost use Rattle.sector_disk.specs.Geometry.{IsAtom};
-ghost use Rattle.host_edge.specs.Doors.{HaveDoors, Listens, SharesDoor};
+ghost use Rattle.host_edge.specs.Doors.{HaveDoors, HaveManner, Listens, SharesDoor};
 ghost use Rattle.host_edge.specs.Shares.{AreShared, share_of};
 ghost use Rattle.host_edge.specs.Untold.{CountsOne, FaultIs, untold_bay, untold_link};
 ghost use Rattle.host_edge.specs.declared.door.Door.{Door};
@@ -17,20 +17,21 @@ use crate::host_link::HostLink;
 use crate::network::Network;
 use crate::notices::{announce, complain};
 use base_terms::Bytes;
-use bays::{Bay, BayFault};
+use bays::{Bay, BayFault, Manner};
 use file_disk::{FileDisk, FileSystem, open_for_reading, open_locked};
 use std::alloc::Global;
 use std::io::{self, ErrorKind, Stderr, Stdin, Stdout};
+use std::time::Clock;
 
 /// The most bytes that are taken of a key file.
 const MAX_KEY: u32 = 513;
 
-/// The machine as a bay. A disk is the file or block device of its name, locked while it is open; a
-/// key is the file of its name. An address is `HOST:PORT`, where clients connect by TCP (port 0 is
+/// The machine as a bay. A disk is the file or block device of its name, which nobody else uses,
+/// locked while it is open; a key is the file of its name. An address is `HOST:PORT`, where clients connect by TCP (port 0 is
 /// any that is free), or `stdio`, where standard input and output are the one client. What the
 /// system refuses is said on standard error, and so is where clients may connect.
 #[derive(Drop)]
-pub struct HostBay<R: FileSystem + Network + Drop> {
+pub struct HostBay<R: FileSystem + Network + Clock + Copy + Drop> {
     machine: R,
     input: Stdin,
     output: Stdout,
@@ -38,7 +39,7 @@ pub struct HostBay<R: FileSystem + Network + Drop> {
     faults: u64,
 }
 
-impl<R: FileSystem + Network + Drop> HostBay<R> {
+impl<R: FileSystem + Network + Clock + Copy + Drop> HostBay<R> {
     /// A bay of this machine, with these standard streams.
     pub fn new(machine: R, input: Stdin, output: Stdout, errors: Stderr) -> HostBay<R>
         ensures machine { result.machine ≡ machine }
@@ -70,6 +71,24 @@ impl<R: FileSystem + Network + Drop> HostBay<R> {
         BayFault::Failed
     }
 
+    /// Says how long a key file is of which not all was read.
+    fn tell_length(&self, name: &str, read: &io::Result<Bytes>) {
+        let Ok(key) = read else {
+            return;
+        };
+        if key.as_slice().len() < MAX_KEY as usize {
+            return;
+        }
+        let _ = match self.machine.length(name) {
+            Ok(bytes) if bytes > 0 => {
+                eprintln!(self.errors;
+                    "reencd: {name}: {bytes} bytes, and a passphrase has 512 at most"
+                )
+            }
+            _ => eprintln!(self.errors; "reencd: {name}: a passphrase has 512 bytes at most"),
+        };
+    }
+
     /// What opening a file gave, which is told of by its name.
     fn named(
         &self,
@@ -99,6 +118,7 @@ impl<R: FileSystem + Network + Drop> HostBay<R> {
         address: &str,
         workers: u32,
         sessions: u32,
+        manner: Manner,
     ) -> io::Result<Vec<HostLink<R>>>
         requires { 0 < workers }
         ensures count { IfOk result (λ links. length links.items ≡ workers) }
@@ -113,6 +133,8 @@ impl<R: FileSystem + Network + Drop> HostBay<R> {
             × R.listens self.now.machine address.now (Ok listener)
             × HaveDoors R.Listener.shares (λ link. link.door) (Door.Listening listener)
             workers links.items) }
+        ensures manner { IfOk result
+            (λ links. HaveManner (λ link. link.manner) manner workers links.items) }
         ensures bound { IfOk result (λ links. AreBounded
             (λ link. untold_link link.left link.lent link.faults) workers sessions links.items) }
         ensures refused { IfErr result (λ error. (error_kind error ≡ ErrorKind.OutOfMemory)
@@ -120,13 +142,18 @@ impl<R: FileSystem + Network + Drop> HostBay<R> {
     {
         if address == "stdio" {
             let door = Door::Standard(self.input, self.output);
-            return self.share_door(alloc, address, &door, workers, sessions.min(1));
+            return self.share_door(alloc, address, &door, workers, sessions.min(1), manner);
         }
         match self.machine.listen(address) {
             Ok(listener) => {
-                announce(self.errors, &listener);
                 let door = Door::Listening(listener);
-                self.share_door(alloc, address, &door, workers, sessions)
+                match self.share_door(alloc, address, &door, workers, sessions, manner) {
+                    Ok(links) => {
+                        announce(self.errors, &door);
+                        Ok(links)
+                    }
+                    Err(error) => Err(error),
+                }
             }
             Err(error) => Err(error),
         }
@@ -140,6 +167,7 @@ impl<R: FileSystem + Network + Drop> HostBay<R> {
         door: &Door<R::Listener>,
         workers: u32,
         sessions: u32,
+        manner: Manner,
     ) -> io::Result<Vec<HostLink<R>>>
         requires { 0 < workers }
         ensures count { IfOk result (λ links. length links.items ≡ workers) }
@@ -147,6 +175,8 @@ impl<R: FileSystem + Network + Drop> HostBay<R> {
             (λ links. AreShared (λ link. link.left) workers sessions links.items) }
         ensures doors { IfOk result (λ links. HaveDoors
             R.Listener.shares (λ link. link.door) door.now workers links.items) }
+        ensures manner { IfOk result
+            (λ links. HaveManner (λ link. link.manner) manner workers links.items) }
         ensures refused { IfErr result (λ error. (error_kind error ≡ ErrorKind.OutOfMemory)
             ⊎ SharesDoor R.Listener.shares door.now (Err error)) }
     {
@@ -158,7 +188,16 @@ impl<R: FileSystem + Network + Drop> HostBay<R> {
                 Ok(own) => own,
                 Err(error) => return Err(error),
             };
-            links.push(HostLink::new(alloc, self.errors, address, own, share))?;
+            let link = HostLink::new(
+                alloc,
+                self.machine,
+                self.errors,
+                address,
+                own,
+                share,
+                manner,
+            );
+            links.push(link)?;
         }
         Ok(links)
     }
@@ -176,7 +215,7 @@ fn share_for(workers: u32, sessions: u32, k: u32) -> u32
     }
 }
 
-impl<R: FileSystem + Network + Drop> Bay for HostBay<R> {
+impl<R: FileSystem + Network + Clock + Copy + Drop> Bay for HostBay<R> {
     type Disk = FileDisk<HostFile<R::Opened>>;
 
     type Link = HostLink<R>;
@@ -189,18 +228,19 @@ impl<R: FileSystem + Network + Drop> Bay for HostBay<R> {
 
     ghost asks_key = { λ _ _ _ _. Unit {0} };
 
-    ghost asks_links = { λ _ _ _ _ _ _. Unit {0} };
+    ghost asks_links = { λ _ _ _ _ _ _ _. Unit {0} };
 
     fn disk(&mut self, alloc: Global, name: &str, atom: u32) -> Result<Self::Disk, BayFault>
         requires { IsAtom atom }
         ensures atom { IfOk result (λ disk. disk.atom ≡ atom) }
         ensures opened { IfOk result (λ disk. (len : ℕ)
             × OpensLocked (R.opens self.old.machine name.now) R.Opened.locks
-            R.Opened.measures (Ok (disk.file.file, len))
-            × (disk.atoms ≡ whole_atoms atom len)) }
+            (R.checks self.old.machine) R.Opened.measures (Ok (disk.file.file, len))
+            × (disk.atoms ≡ whole_atoms atom len)
+            × (disk.tail ≡ tail_behind atom len)) }
         ensures refused { IfErr result (λ fault. fault ≡ BayFault.Failed → (error : Error)
             × OpensLocked (R.opens self.old.machine name.now) R.Opened.locks
-            R.Opened.measures (Err error)) }
+            (R.checks self.old.machine) R.Opened.measures (Err error)) }
         ensures one { IfErr result (λ fault. CountsOne fault self.old.faults self.new.faults) }
         ensures cause { HasBayCause self.old.faults self.new.faults result }
     {
@@ -217,7 +257,8 @@ impl<R: FileSystem + Network + Drop> Bay for HostBay<R> {
         ensures opened { IfOk result (λ disk. (len : ℕ)
             × OpensToRead (R.opens_to_read self.old.machine name.now)
             R.Opened.measures (Ok (disk.file.file, len))
-            × (disk.atoms ≡ whole_atoms atom len)) }
+            × (disk.atoms ≡ whole_atoms atom len)
+            × (disk.tail ≡ tail_behind atom len)) }
         ensures refused { IfErr result (λ fault. fault ≡ BayFault.Failed → (error : Error)
             × OpensToRead (R.opens_to_read self.old.machine name.now)
             R.Opened.measures (Err error)) }
@@ -239,7 +280,9 @@ impl<R: FileSystem + Network + Drop> Bay for HostBay<R> {
         ensures one { IfErr result (λ fault. CountsOne fault self.old.faults self.new.faults) }
         ensures cause { HasBayCause self.old.faults self.new.faults result }
     {
-        match self.machine.read_front(alloc, name, MAX_KEY) {
+        let read = self.machine.read_front(alloc, name, MAX_KEY);
+        self.tell_length(name, &read);
+        match read {
             Ok(key) => Ok(key),
             Err(error) => Err(self.refused(alloc, name, &error)),
         }
@@ -251,6 +294,7 @@ impl<R: FileSystem + Network + Drop> Bay for HostBay<R> {
         address: &str,
         workers: u32,
         sessions: u32,
+        manner: Manner,
     ) -> Result<Vec<HostLink<R>>, BayFault>
         requires { 0 < workers }
         ensures count { IfOk result (λ links. length links.items ≡ workers) }
@@ -267,12 +311,14 @@ impl<R: FileSystem + Network + Drop> Bay for HostBay<R> {
             workers links.items) }
         ensures refused { IfErr result (λ fault. fault ≡ BayFault.Failed → (error : Error)
             × Listens (R.listens self.old.machine address.now) R.Listener.shares error) }
+        ensures manner { IfOk result
+            (λ links. HaveManner (λ link. link.manner) manner workers links.items) }
         ensures bound { IfOk result (λ links. AreBounded
             (λ link. untold_link link.left link.lent link.faults) workers sessions links.items) }
         ensures one { IfErr result (λ fault. CountsOne fault self.old.faults self.new.faults) }
         ensures cause { HasBayCause self.old.faults self.new.faults result }
     {
-        match self.open_links(alloc, address, workers, sessions) {
+        match self.open_links(alloc, address, workers, sessions, manner) {
             Ok(links) => Ok(links),
             Err(error) => Err(self.refused(alloc, address, &error)),
         }

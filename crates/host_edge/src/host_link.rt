@@ -9,110 +9,185 @@ ghost use Rattle.io_edge.specs.Faults.{Counts};
 ghost use Rattle.host_edge.specs.Doors.{MeetsAt};
 ghost use Rattle.host_edge.specs.Untold.{untold_link};
 
+use crate::client_stream::{ClientStream, Watch};
 use crate::door::Door;
-use crate::network::{Listener, Network};
+use crate::network::{Listener, Network, passes};
 use crate::notices::complain;
 use crate::streams::{HostReader, HostWriter};
 use base_terms::Failed;
-use bays::Link;
+use bays::{Link, Manner};
 use io_edge::{GatheringWriter, StdSink, StdSource};
 use std::alloc::Global;
 use std::io::{self, BufReader, ErrorKind, Stderr};
+use std::net::SocketAddr;
+use std::thread::sleep;
+use std::time::{Clock, Duration};
 
 /// How many bytes a connection reads ahead and holds back at most.
 const ROOM: usize = 8192;
 
 /// The source of a connection. It reads ahead, so that a request and the beginning of its data come
 /// by one call of the system.
-pub type HostSource = StdSource<BufReader<HostReader>>;
+pub type HostSource<C> = StdSource<ClientStream<C>>;
 
 /// The sink of a connection. It holds short pieces back until they are pushed out or a long one
 /// follows, so that the head of a reply and its data leave together: a short piece is copied, a
 /// long one is not.
 pub type HostSink = StdSink<GatheringWriter<HostWriter>>;
 
+/// How many milliseconds are waited at first, where the system wants descriptors or memory for a
+/// client, and at most.
+const FIRST_PAUSE: u64 = 100;
+
+const LONGEST_PAUSE: u64 = 5_000;
+
 /// A source and a sink over the two ends of a connection, of which nothing was read or written.
-fn connection(
+fn connection<C: Clock + Copy + Drop>(
     alloc: Global,
     reader: HostReader,
     writer: HostWriter,
-) -> io::Result<(HostSource, HostSink)>
-    ensures reader { IfOk result (λ c. reader_inner c.0.inner ≡ reader) }
+    watch: Option<Watch<C>>,
+) -> io::Result<(HostSource<C>, HostSink)>
+    ensures reader { IfOk result (λ c. reader_inner c.0.inner.reader ≡ reader) }
     ensures writer { IfOk result (λ c. c.1.inner.writer ≡ writer) }
-    ensures unread { IfOk result (λ c. reader_buffer c.0.inner ≡ []) }
+    ensures unread { IfOk result (λ c. reader_buffer c.0.inner.reader ≡ []) }
     ensures holds_nothing { IfOk result (λ c. c.1.inner.held.items ≡ []) }
     ensures err { IfErr result (λ e. error_kind e ≡ ErrorKind.OutOfMemory) }
 {
-    let source = StdSource::new(BufReader::with_capacity(alloc, ROOM, reader)?);
+    let reader = BufReader::with_capacity(alloc, ROOM, reader)?;
+    let source = StdSource::new(ClientStream::new(reader, watch));
     let sink = StdSink::new(GatheringWriter::new(alloc, ROOM, writer)?);
     Ok((source, sink))
 }
 
-/// The connection of the next client at a door.
-fn admit<L: Listener>(alloc: Global, door: &Door<L>) -> io::Result<(HostSource, HostSink)>
-    ensures met { IfOk result (λ c. MeetsAt L.meets door.now
-        (Ok (reader_inner c.0.inner, c.1.inner.writer))) }
-    ensures unread { IfOk result (λ c. reader_buffer c.0.inner ≡ []) }
-    ensures holds_nothing { IfOk result (λ c. c.1.inner.held.items ≡ []) }
-    ensures err { IfErr result (λ e. (error_kind e ≡ ErrorKind.OutOfMemory)
-        ⊎ MeetsAt L.meets door.now (Err e)) }
-{
-    match door.meet() {
-        Ok((reader, writer)) => connection(alloc, reader, writer),
-        Err(error) => Err(error),
-    }
-}
-
 /// A link of the machine. It gives as many connections as its sessions are, one after the other,
-/// and then none. Where the system refuses one, that is said on standard error.
+/// and then none. Where the system refuses one, that is said on standard error; a want of
+/// descriptors or memory is waited out.
 #[derive(Drop)]
-pub struct HostLink<R: Network> {
+pub struct HostLink<R: Network + Clock + Copy + Drop> {
+    machine: R,
     door: Door<R::Listener>,
     address: String,
     alloc: Global,
     errors: Stderr,
+    manner: Manner,
+    peer: Option<SocketAddr>,
     left: u32,
     lent: u64,
     faults: u64,
     ghost few: { lent + left < 2 ^ 32 },
 }
 
-impl<R: Network> HostLink<R> {
+impl<R: Network + Clock + Copy + Drop> HostLink<R> {
     /// A link whose clients come in by this door, `sessions` of them. The address is what is told
     /// of it on standard error.
     pub fn new(
         alloc: Global,
+        machine: R,
         errors: Stderr,
         address: String,
         door: Door<R::Listener>,
         sessions: u32,
+        manner: Manner,
     ) -> HostLink<R>
         ensures door { result.door ≡ door }
+        ensures manner { result.manner ≡ manner }
         ensures bound { result.left ≡ sessions }
         ensures lent { result.lent ≡ 0 }
         ensures faults { result.faults ≡ 0 }
     {
         HostLink {
+            machine,
             door,
             address,
             alloc,
             errors,
+            manner,
+            peer: None,
             left: sessions,
             lent: 0,
             faults: 0,
         }
     }
+
+    /// The connection of the next client at the door.
+    fn admit(&self) -> io::Result<(Option<SocketAddr>, (HostSource<R>, HostSink))>
+        ensures met { IfOk result (λ given. MeetsAt R.Listener.meets self.now.door
+            (Ok (reader_inner given.1.0.inner.reader, given.1.1.inner.writer))) }
+        ensures unread { IfOk result (λ given. reader_buffer given.1.0.inner.reader ≡ []) }
+        ensures holds_nothing { IfOk result (λ given. given.1.1.inner.held.items ≡ []) }
+        ensures err { IfErr result (λ e. (error_kind e ≡ ErrorKind.OutOfMemory)
+            ⊎ MeetsAt R.Listener.meets self.now.door (Err e)) }
+    {
+        let (reader, writer) = match self.door.meet() {
+            Ok(ends) => ends,
+            Err(error) => return Err(error),
+        };
+        let peer = reader.peer();
+        let watch = self.watch(peer);
+        match connection(self.alloc, reader, writer, watch) {
+            Ok(connection) => Ok((peer, connection)),
+            Err(error) => Err(error),
+        }
+    }
+
+    /// A watch on a client of this address, where the clock can be read.
+    fn watch(&self, peer: Option<SocketAddr>) -> Option<Watch<R>> {
+        let Some(peer) = peer else {
+            return None;
+        };
+        Watch::new(self.machine, self.errors, peer, self.manner.idle_timeout).ok()
+    }
+
+    /// The connection of the next client at the door, waited for as long as the system wants
+    /// descriptors or memory for it. That is said once.
+    fn wait_for_client(&self) -> io::Result<(Option<SocketAddr>, (HostSource<R>, HostSink))>
+        ensures met { IfOk result (λ given. MeetsAt R.Listener.meets self.now.door
+            (Ok (reader_inner given.1.0.inner.reader, given.1.1.inner.writer))) }
+        ensures unread { IfOk result (λ given. reader_buffer given.1.0.inner.reader ≡ []) }
+        ensures holds_nothing { IfOk result (λ given. given.1.1.inner.held.items ≡ []) }
+        ensures err { IfErr result (λ e. (error_kind e ≡ ErrorKind.OutOfMemory)
+            ⊎ MeetsAt R.Listener.meets self.now.door (Err e)) }
+    {
+        let mut pause = FIRST_PAUSE;
+        for turn in 0..u64::MAX {
+            match self.admit() {
+                Ok(given) => return Ok(given),
+                Err(error) => {
+                    if !passes(&error) {
+                        return Err(error);
+                    }
+                    if turn == 0 {
+                        complain(self.alloc, self.errors, self.address.as_str(), &error);
+                    }
+                }
+            }
+            sleep(&self.machine, Duration::from_millis(pause));
+            pause = pause.saturating_mul(2).min(LONGEST_PAUSE);
+        }
+        self.admit()
+    }
+
+    /// Says what came of a client, where that is wanted.
+    fn tell(&self, what: &str) {
+        if self.manner.verbose {
+            let _ = match self.peer {
+                Some(peer) => eprintln!(self.errors; "reencd: {peer}: {what}"),
+                None => eprintln!(self.errors; "reencd: {}: {what}", self.address.as_str()),
+            };
+        }
+    }
 }
 
-impl<R: Network> Link for HostLink<R> {
-    type In = HostSource;
+impl<R: Network + Clock + Copy + Drop> Link for HostLink<R> {
+    type In = HostSource<R>;
 
     type Out = HostSink;
 
     ghost state = { λ link. untold_link link.left link.lent link.faults };
 
-    /// The next client at the link's door. It fails only where that can't be had, or memory is
-    /// wanted for the connection.
+    /// The next client at the link's door. It fails only where that can't be had; where the system
+    /// wants descriptors or memory for it, it is waited for.
     fn next(&mut self) -> Result<Option<(Self::In, Self::Out)>, Failed>
         ensures ends { self.old.left ≡ 0 → result ≡ Ok None }
         ensures at_end { IfOk result (λ given. IfNone given
@@ -124,9 +199,9 @@ impl<R: Network> Link for HostLink<R> {
         ensures door { self.new.door ≡ self.old.door }
         ensures met { IfOk result (λ given. IfSome given
             (λ c. MeetsAt R.Listener.meets self.old.door
-            (Ok (reader_inner c.0.inner, c.1.inner.writer)))) }
+            (Ok (reader_inner c.0.inner.reader, c.1.inner.writer)))) }
         ensures unread { IfOk result (λ given. IfSome given
-            (λ c. reader_buffer c.0.inner ≡ [])) }
+            (λ c. reader_buffer c.0.inner.reader ≡ [])) }
         ensures holds_nothing { IfOk result (λ given. IfSome given
             (λ c. c.1.inner.held.items ≡ [])) }
         ensures refused { IsErr result → (error : Error)
@@ -136,10 +211,12 @@ impl<R: Network> Link for HostLink<R> {
         if self.left == 0 {
             return Ok(None);
         }
-        match admit(self.alloc, &self.door) {
-            Ok(connection) => {
+        match self.wait_for_client() {
+            Ok((peer, connection)) => {
                 self.left -= 1;
                 self.lent += 1;
+                self.peer = peer;
+                self.tell("connected");
                 Ok(Some(connection))
             }
             Err(error) => {
@@ -157,6 +234,7 @@ impl<R: Network> Link for HostLink<R> {
         ensures faults { self.new.faults ≡ self.old.faults }
         ensures door { self.new.door ≡ self.old.door }
     {
+        self.tell("gone");
         self.lent -= 1;
     }
 

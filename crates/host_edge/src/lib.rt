@@ -6,6 +6,8 @@
 //! refuses, where clients may connect, and how far a conversion is, is said on standard error.
 #![tactic(auto)]
 
+mod client_stream;
+mod descriptors;
 mod door;
 mod host_bay;
 mod host_file;
@@ -14,13 +16,13 @@ mod network;
 mod notices;
 mod progress;
 mod streams;
-#[cfg(test)]
-mod tests;
 
+pub use client_stream::{ClientStream, Watch};
+pub use descriptors::keep_standard_streams;
 pub use door::Door;
 pub use host_bay::HostBay;
 pub use host_file::HostFile;
 pub use host_link::{HostLink, HostSink, HostSource};
 pub use network::{Listener, Network, accept};
-pub use progress::ProgressGate;
+pub use progress::{Course, ProgressGate, Told};
 pub use streams::{HostReader, HostWriter};

@@ -44,8 +44,12 @@ impl Listener for TcpListener {
 
     ghost shares = { λ _ _. Unit {0} };
 
+    /// A descriptor is kept for the second end while the client is waited for, so that one that was
+    /// met isn't turned away for want of it.
     fn meet(&self) -> io::Result<(HostReader, HostWriter)> {
+        let kept = self.try_clone()?;
         let stream = accept(self)?;
+        drop(kept);
         let _ = stream.set_nodelay(true);
         let reader = HostReader::Socket(stream.try_clone()?);
         Ok((reader, HostWriter::Socket(stream)))
@@ -75,6 +79,18 @@ pub fn accept<L: OpenListener>(listener: &L) -> io::Result<L::Stream> {
     Err(io::Error::from(ErrorKind::ConnectionAborted))
 }
 
+/// The numbers of the errors by which the system says that it wants memory, or descriptors, in all
+/// or for this program, or room for a socket (errno(3), Linux).
+const PASSING: [i32; 4] = [12, 23, 24, 105];
+
+/// Whether the system wants what it may have again later: memory, descriptors or room.
+pub(crate) fn passes(error: &io::Error) -> bool {
+    match error.raw_os_error() {
+        Some(number) => PASSING.contains(&number),
+        None => error.kind() == ErrorKind::OutOfMemory,
+    }
+}
+
 /// The network of the machine.
 impl Network for HostRuntime {
     type Listener = TcpListener;
@@ -82,6 +98,12 @@ impl Network for HostRuntime {
     ghost listens = { λ _ _ _. Unit {0} };
 
     fn listen(&self, address: &str) -> io::Result<TcpListener> {
-        TcpListener::bind(self, address)
+        match TcpListener::bind(self, address) {
+            Err(error) if error.kind() == ErrorKind::InvalidInput => {
+                let message = "no address: HOST:PORT, as 127.0.0.1:10809, or stdio";
+                Err(io::Error::new(ErrorKind::InvalidInput, message))
+            }
+            bound => bound,
+        }
     }
 }

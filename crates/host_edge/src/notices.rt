@@ -1,3 +1,4 @@
+use crate::door::Door;
 use crate::network::Listener;
 use std::alloc::Global;
 use std::io::{self, Stderr};
@@ -20,8 +21,10 @@ fn without_number(text: &str) -> &str {
 }
 
 /// Says in one line on standard error where clients may connect from now on.
-pub fn announce(errors: Stderr, listener: &impl Listener) {
-    if let Ok(address) = listener.address() {
+pub fn announce<L: Listener>(errors: Stderr, door: &Door<L>) {
+    if let Door::Listening(listener) = door
+        && let Ok(address) = listener.address()
+    {
         let _ = eprintln!(errors; "reencd: listening on {address}");
     }
 }

@@ -1,6 +1,6 @@
 // What people are told of a conversion on its way.
 
-use io_edge::{Converted, Gate, Place};
+use gates::{Converted, Gate, Place};
 use std::fmt::{self, Display, Formatter, Write};
 use std::io::{IsTerminal, Stderr};
 use std::sync::Mutex;
@@ -91,6 +91,10 @@ impl<R: Clock + Drop> Gate for ProgressGate<R> {
             *told = Some(self.heard(*told, now, converted));
         }
     }
+
+    fn notify(&self, line: &str) {
+        let _ = eprintln!(self.errors; "reencd: {line}");
+    }
 }
 
 impl Told {
@@ -115,7 +119,7 @@ impl Told {
 }
 
 /// How far a conversion is, and how long it took to convert so many blocks.
-#[derive(Clone, Copy, Debug)]
+#[derive(Clone, Copy)]
 pub struct Course {
     pub converted: Converted,
     pub moved: u64,

@@ -1,12 +1,31 @@
 use io_edge::WritePair;
 use std::io::{self, IoSlice, Read, Stdin, Stdout, Write};
-use std::net::TcpStream;
+use std::net::{SocketAddr, TcpStream};
+use std::time::Duration;
 
 /// What a connection is read from.
 #[derive(Drop)]
 pub enum HostReader {
     Standard(Stdin),
     Socket(TcpStream),
+}
+
+impl HostReader {
+    /// The address of the client, where it has one.
+    pub fn peer(&self) -> Option<SocketAddr> {
+        match self {
+            HostReader::Standard(_) => None,
+            HostReader::Socket(stream) => stream.peer_addr().ok(),
+        }
+    }
+
+    /// Has each read of a socket wait so long at most, or without an end. Where the system refuses
+    /// that, it waits as before.
+    pub fn set_patience(&self, patience: Option<Duration>) {
+        if let HostReader::Socket(stream) = self {
+            let _ = stream.set_read_timeout(patience);
+        }
+    }
 }
 
 impl Read for HostReader {

@@ -6,7 +6,7 @@ use Rattle.std.proofs.Math.Nat.{mul-le-mul_right}
 use Rattle.std.proofs.lemmas.List.Elements.{All-filter}
 use Rattle.std.specs.List.{All}
 use Rattle.std.specs.Option.{IsSomeAnd}
-use Rattle.disk_sizes.specs.declared.Sizes.{Sizes}
+use Rattle.base_terms.specs.declared.disk_sizes.Sizes.{Sizes}
 use Rattle.hotzone.proofs.BehindLemmas.{closed-behind, left-at, left_in}
 use Rattle.hotzone.proofs.GuardLemmas.{saved-fits}
 use Rattle.hotzone.proofs.HeadingLemmas.{behind-known, between-sizes, moved-sizes}
@@ -27,7 +27,7 @@ use Rattle.hotzone.specs.declared.worker.NextCall.TheVariants.{Over}
 use Rattle.hotzone.specs.declared.worker.NextHeader.{NextHeader}
 use Rattle.hotzone.specs.declared.worker.Wipes.{Wipes}
 use Rattle.hotzone.specs.declared.worker.Worker.{Worker}
-use Rattle.joined_disk.specs.Counts.{HasSizes}
+use Rattle.sector_disk.specs.JoinedDisks.Counts.{HasSizes}
 use Rattle.luks_json.specs.declared.reencrypt.Resilience.{Resilience}
 use Rattle.luks_json.specs.declared.reencrypt.Resilience.TheVariants.{Journal, Checksum, Datashift}
 use Rattle.luks_json.specs.declared.meta.Parts.{Parts}

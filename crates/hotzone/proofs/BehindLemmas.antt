@@ -1,7 +1,7 @@
 -- The volume behind a zone: as before, with the boundary moved over the zone's blocks.
 use Rattle.std.proofs.Common.{◌≡◌, ◌∙◌, ℕ, ◌+◌, ◌≤◌}
 use Rattle.std.proofs.Common.{refl, sym, ap, arith}
-use Rattle.disk_sizes.specs.declared.Sizes.{Sizes}
+use Rattle.base_terms.specs.declared.disk_sizes.Sizes.{Sizes}
 use Rattle.hotzone.proofs.HeadingLemmas.{progress_behind}
 use Rattle.luks_json.specs.declared.reencrypt.Direction.{Direction as order}
 use Rattle.luks_json.specs.declared.reencrypt.Direction.TheVariants as orders

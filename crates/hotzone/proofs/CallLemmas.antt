@@ -7,17 +7,17 @@ use Rattle.std.proofs.lemmas.List.{length-map, length-replicate}
 use Rattle.std.proofs.Math.Nat.{mul-div_cancel}
 use Rattle.base_terms.specs.Blocks.{lengths, blocks_of, changed}
 use Rattle.cipher_laws.specs.Bytes.{AreBytes}
-use Rattle.disk_views.proofs.Blockwise.{bytes-drop, bytes-take}
-use Rattle.disk_views.proofs.DeviceViews.{TurnsTable, block-read, places_of_atoms, table-read}
-use Rattle.disk_views.proofs.DeviceViews.{table-synced, table-thinned, table-written}
-use Rattle.disk_views.proofs.DeviceViews.{text-read}
-use Rattle.disk_views.proofs.Entries.{blocks_of-at}
-use Rattle.disk_views.proofs.TableEntries.{tried_view, untried_view, wrote_view}
-use Rattle.disk_views.specs.Parts.{block_at, cell_in, AreBlocks}
-use Rattle.disk_views.specs.Views.{View, IsSynced, IsThinned, IsTried, IsUnchanged, IsWritten}
-use Rattle.disk_views.specs.Views.{view_of_cells}
+use Rattle.sector_disk.proofs.DiskViews.Blockwise.{bytes-drop, bytes-take}
+use Rattle.sector_disk.proofs.DiskViews.DeviceViews.{TurnsTable, block-read, places_of_atoms, table-read}
+use Rattle.sector_disk.proofs.DiskViews.DeviceViews.{table-synced, table-thinned, table-written}
+use Rattle.sector_disk.proofs.DiskViews.DeviceViews.{text-read}
+use Rattle.sector_disk.proofs.DiskViews.Entries.{blocks_of-at}
+use Rattle.sector_disk.proofs.DiskViews.TableEntries.{tried_view, untried_view, wrote_view}
+use Rattle.sector_disk.specs.DiskViews.Parts.{block_at, cell_in, AreBlocks}
+use Rattle.sector_disk.specs.DiskViews.Views.{View, IsSynced, IsThinned, IsTried, IsUnchanged, IsWritten}
+use Rattle.sector_disk.specs.DiskViews.Views.{view_of_cells}
 use Rattle.hotzone.specs.Promises.{Leads, TellsAlike}
-use Rattle.sector_disk.proofs.ImageLemmas.{blocks_of-joined}
+use Rattle.base_terms.proofs.BlockLemmas.{blocks_of-joined}
 use Rattle.sector_disk.specs.Cells.{Cell, content, currents, wrote}
 use Rattle.sector_disk.specs.Cells as disk_cells
 use Rattle.sector_disk.specs.Devices.{Device, ReadCall, SyncCall, WriteCall, failed_call, succeeded}

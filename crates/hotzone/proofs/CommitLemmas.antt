@@ -1,15 +1,15 @@
 -- A commit goes on by a call: it is of the same copies, on disks of the same sizes.
 use Rattle.std.proofs.Common.{◌≡◌, ◌≢◌, ◌∙◌, ℕ, ◌≤◌, List, Result, true, false, refl, sym, subst}
 use Rattle.base_terms.specs.declared.failed.Failed.{Failed}
-use Rattle.disk_sizes.specs.declared.Sizes.{Sizes}
+use Rattle.base_terms.specs.declared.disk_sizes.Sizes.{Sizes}
 use Rattle.hotzone.specs.Headings.{IsSame}
 use Rattle.hotzone.specs.Steps.{Commits, IsBroken, IsCommitted}
-use Rattle.joined_disk.specs.Counts.{HasSizes}
-use Rattle.luks_copies.specs.Held.{primary_of, secondary_of, stage_in}
-use Rattle.luks_copies.specs.Steps.{CopyCall, is_last, next_of}
-use Rattle.luks_copies.specs.declared.commit.Stage.{Stage}
-use Rattle.luks_copies.specs.declared.commit.Stage.TheVariants.{Begun, FirstWritten, FirstKept}
-use Rattle.luks_copies.specs.declared.commit.Stage.TheVariants.{SecondWritten, Ended}
+use Rattle.sector_disk.specs.JoinedDisks.Counts.{HasSizes}
+use Rattle.luks_store.specs.Copying.Held.{primary_of, secondary_of, stage_in}
+use Rattle.luks_store.specs.Copying.Steps.{CopyCall, is_last, next_of}
+use Rattle.luks_store.specs.declared.header_copies.commit.Stage.{Stage}
+use Rattle.luks_store.specs.declared.header_copies.commit.Stage.TheVariants.{Begun, FirstWritten, FirstKept}
+use Rattle.luks_store.specs.declared.header_copies.commit.Stage.TheVariants.{SecondWritten, Ended}
 use Rattle.luks_store.specs.Commits.{committed}
 use Rattle.luks_store.specs.declared.commit.Prepared.{Prepared}
 use Rattle.sector_disk.specs.Devices.{Device, failed_call, succeeded}

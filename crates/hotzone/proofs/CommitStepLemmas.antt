@@ -10,8 +10,8 @@ use Rattle.hotzone.specs.declared.worker.NextCall.{NextCall}
 use Rattle.hotzone.specs.declared.worker.NextCall.TheVariants.{Move, Open}
 use Rattle.hotzone.specs.declared.worker.Stepped.TheVariants.{Went}
 use Rattle.hotzone.specs.declared.worker.Worker.{Worker}
-use Rattle.luks_copies.specs.Held.{stage_in}
-use Rattle.luks_copies.specs.Steps.{is_last}
+use Rattle.luks_store.specs.Copying.Held.{stage_in}
+use Rattle.luks_store.specs.Copying.Steps.{is_last}
 use Rattle.luks_store.specs.declared.commit.Prepared.{Prepared}
 use Rattle.sector_disk.specs.Devices.{Device, succeeded}
 use Rattle.volume_machine.specs.Seals.{Seals}

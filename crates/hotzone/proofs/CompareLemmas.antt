@@ -4,8 +4,8 @@ use Rattle.std.proofs.Common.{refl, sym, ap, subst, arith, mul-le-mul_right}
 use Rattle.std.proofs.Math.Nat.{mul-div_cancel, mul-mod_left}
 use Rattle.std.proofs.lemmas.List.{length-take-le}
 use Rattle.base_terms.specs.declared.failed.Failed.{Failed}
-use Rattle.disk_views.proofs.Blockwise.{block_end, blocks_end}
-use Rattle.disk_views.specs.Parts.{block_at}
+use Rattle.sector_disk.proofs.DiskViews.Blockwise.{block_end, blocks_end}
+use Rattle.sector_disk.specs.DiskViews.Parts.{block_at}
 use Rattle.hotzone.proofs.GuardLemmas.{ceil-fewer, saved-within, saved_part}
 use Rattle.hotzone.specs.Sites.{IsPartStart, bytes_at, count_of, kind_of, part_at, saved_at, saved_count}
 use Rattle.hotzone.proofs.PartLemmas.{atoms-few, part-front}

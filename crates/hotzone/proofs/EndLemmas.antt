@@ -4,8 +4,8 @@ use Rattle.hotzone.proofs.GoneLemmas.{known-here}
 use Rattle.hotzone.proofs.MadeLemmas.{config-behind}
 use Rattle.hotzone.specs.Endings.{HasZeros, IsEnding, IsFinishing, wiped}
 use Rattle.hotzone.specs.declared.worker.Wipes.{Wipes}
-use Rattle.luks_copies.specs.Held.{stage_in}
-use Rattle.luks_copies.specs.declared.commit.Stage.TheVariants.{Begun}
+use Rattle.luks_store.specs.Copying.Held.{stage_in}
+use Rattle.luks_store.specs.declared.header_copies.commit.Stage.TheVariants.{Begun}
 use Rattle.luks_json.specs.declared.meta.Parts.{Parts}
 use Rattle.luks_rules.specs.Shapes.{progress_of}
 use Rattle.luks_rules.specs.declared.shape.Progress.{Progress}

@@ -1,15 +1,15 @@
 -- Each step of a zone leads from what is known of it to what is known; the last one leaves it done.
 use Rattle.std.proofs.Common.{Some, refl, sym, ap, subst, arith}
 use Rattle.std.proofs.Common.{◌≡◌, ◌∙◌, ℕ, ◌+◌, false, List}
-use Rattle.disk_areas.specs.Commits.{CommitCall}
-use Rattle.disk_areas.specs.Commits.{begun, second_written, ShowsCommit}
-use Rattle.disk_areas.specs.Headers.{Header, Layout}
-use Rattle.disk_views.specs.Views.{View}
-use Rattle.disk_zones.specs.Calls as calls
-use Rattle.disk_zones.specs.Calls.{ShowsMoved}
-use Rattle.disk_zones.specs.Promises.{ZoneBegins, ZoneEnds}
-use Rattle.disk_zones.specs.Zones.{Texts, IsApart, ShowsZone, saving, opening}
-use Rattle.disk_zones.specs.Zones.{moving}
+use Rattle.crash_laws.specs.HeaderAreas.Commits.{CommitCall}
+use Rattle.crash_laws.specs.HeaderAreas.Commits.{begun, second_written, ShowsCommit}
+use Rattle.crash_laws.specs.HeaderAreas.Headers.{Header, Layout}
+use Rattle.sector_disk.specs.DiskViews.Views.{View}
+use Rattle.crash_laws.specs.HotZones.Calls as calls
+use Rattle.crash_laws.specs.HotZones.Calls.{ShowsMoved}
+use Rattle.crash_laws.specs.HotZones.Promises.{ZoneBegins, ZoneEnds}
+use Rattle.crash_laws.specs.HotZones.Zones.{Texts, IsApart, ShowsZone, saving, opening}
+use Rattle.crash_laws.specs.HotZones.Zones.{moving}
 use Rattle.hotzone.proofs.CallLemmas.{Led, led-on, leads-by, synced-leads}
 use Rattle.hotzone.proofs.KnownLemmas.{phase-opened}
 use Rattle.hotzone.proofs.KnownLemmas.{phase-saved, phase-written}
@@ -37,9 +37,9 @@ use Rattle.hotzone.specs.declared.worker.NextCall.{NextCall}
 use Rattle.hotzone.specs.declared.worker.Stepped.TheVariants.{Went, ZoneDone}
 use Rattle.hotzone.specs.declared.worker.Stepped.{Stepped}
 use Rattle.hotzone.specs.declared.worker.Worker.{Worker}
-use Rattle.luks_copies.specs.Held.{stage_in}
-use Rattle.luks_copies.specs.Meanings.{meaning_of}
-use Rattle.luks_copies.specs.Seen.{stage_of}
+use Rattle.luks_store.specs.Copying.Held.{stage_in}
+use Rattle.luks_store.specs.Copying.Meanings.{meaning_of}
+use Rattle.luks_store.specs.Copying.Seen.{stage_of}
 use Rattle.luks_store.specs.declared.copies.Copies.{Copies}
 use Rattle.luks_store.specs.declared.loaded.Stored.{Stored}
 use Rattle.sector_disk.specs.Devices.{Device, SyncCall, succeeded}

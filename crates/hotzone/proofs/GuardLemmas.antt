@@ -6,9 +6,9 @@ use Rattle.std.proofs.lemmas.Bool.{cases_lt}
 use Rattle.std.proofs.lemmas.Grind.{div_ceil_times}
 use Rattle.std.proofs.lemmas.Nat.{div-add-mod'}
 use Rattle.std.specs.Int.{div_ceil}
-use Rattle.disk_views.proofs.Blockwise.{block_end}
-use Rattle.disk_views.specs.Parts.{block_at}
-use Rattle.disk_zones.specs.Zones.{Texts}
+use Rattle.sector_disk.proofs.DiskViews.Blockwise.{block_end}
+use Rattle.sector_disk.specs.DiskViews.Parts.{block_at}
+use Rattle.crash_laws.specs.HotZones.Zones.{Texts}
 use Rattle.hotzone.proofs.SavedLemmas.{atom-of-part, in-atoms, saved-digests}
 use Rattle.hotzone.specs.Known.{TellBy}
 use Rattle.hotzone.specs.Making.{IsNoLonger}

@@ -1,15 +1,15 @@
 -- A step that isn't made, or has failed, leaves what a stop may leave of the zone.
 use Rattle.std.proofs.Common.{Some, refl, sym, ap, subst, arith}
 use Rattle.std.proofs.Common.{◌≡◌, ◌∙◌, ℕ, ◌+◌, ◌*◌, ◌<◌, ◌≤◌, true, false, List}
-use Rattle.disk_areas.specs.Commits.{CommitFails}
-use Rattle.disk_areas.specs.Commits.{Stage as CommitStage}
-use Rattle.disk_areas.specs.Headers.{Header, Layout}
-use Rattle.disk_views.specs.Views.{View, IsTried, view_of_cells}
-use Rattle.disk_zones.specs.Calls as calls
-use Rattle.disk_zones.specs.Calls.{ZoneFault}
-use Rattle.disk_zones.specs.Promises.{ZoneGoes}
-use Rattle.disk_zones.specs.Zones.{Phase, Texts, ShowsZone, saving}
-use Rattle.disk_zones.specs.Zones.{writing}
+use Rattle.crash_laws.specs.HeaderAreas.Commits.{CommitFails}
+use Rattle.crash_laws.specs.HeaderAreas.Commits.{Stage as CommitStage}
+use Rattle.crash_laws.specs.HeaderAreas.Headers.{Header, Layout}
+use Rattle.sector_disk.specs.DiskViews.Views.{View, IsTried, view_of_cells}
+use Rattle.crash_laws.specs.HotZones.Calls as calls
+use Rattle.crash_laws.specs.HotZones.Calls.{ZoneFault}
+use Rattle.crash_laws.specs.HotZones.Promises.{ZoneGoes}
+use Rattle.crash_laws.specs.HotZones.Zones.{Phase, Texts, ShowsZone, saving}
+use Rattle.crash_laws.specs.HotZones.Zones.{writing}
 use Rattle.hotzone.proofs.CallLemmas.{Led, led-on, leads-by}
 use Rattle.hotzone.proofs.CallLemmas.{thinned-leads, tried-if, unread-leads}
 use Rattle.hotzone.proofs.KnownLemmas.{SealRuns}
@@ -39,8 +39,8 @@ use Rattle.hotzone.specs.declared.worker.NextCall.TheVariants.{Settle, Move}
 use Rattle.hotzone.specs.declared.worker.NextCall.{NextCall}
 use Rattle.hotzone.specs.declared.worker.Worker.{Worker}
 use Rattle.hotzone.specs.declared.worker.ZoneFault.{ZoneFault as ZoneFailure}
-use Rattle.luks_copies.specs.Held.{primary_of, secondary_of, stage_in}
-use Rattle.luks_copies.specs.Seen.{CallsAreSeen, HasRoomFor, stage_of}
+use Rattle.luks_store.specs.Copying.Held.{primary_of, secondary_of, stage_in}
+use Rattle.luks_store.specs.Copying.Seen.{CallsAreSeen, HasRoomFor, stage_of}
 use Rattle.luks_store.specs.declared.commit.Prepared.{Prepared}
 use Rattle.sector_disk.specs.Devices.{Device, SyncCall, failed_call}
 use Rattle.sector_disk.specs.Steps.{Told}

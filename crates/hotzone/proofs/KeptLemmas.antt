@@ -1,10 +1,10 @@
 -- Once all is saved of a zone it has what its guard needs.
 use Rattle.std.proofs.Common.{◌≡◌, ◌∙◌, ℕ, ◌*◌, ◌≤◌, List, refl, sym, ap, subst, arith}
 use Rattle.std.proofs.lemmas.Grind.{div_ceil_times}
-use Rattle.disk_areas.specs.Headers.{Header, Layout}
-use Rattle.disk_views.specs.Views.{View}
-use Rattle.disk_zones.specs.Standing.{IsKept}
-use Rattle.disk_zones.specs.Zones.{Texts}
+use Rattle.crash_laws.specs.HeaderAreas.Headers.{Header, Layout}
+use Rattle.sector_disk.specs.DiskViews.Views.{View}
+use Rattle.crash_laws.specs.HotZones.Standing.{IsKept}
+use Rattle.crash_laws.specs.HotZones.Zones.{Texts}
 use Rattle.hotzone.proofs.CompareLemmas.{saved-atoms-all}
 use Rattle.hotzone.proofs.LawLemmas.{some-atom}
 use Rattle.hotzone.specs.Known.{IsKnown, TellBy, told_count, zone_by}

@@ -4,13 +4,13 @@ use Rattle.std.proofs.Common.{None, refl, sym, ap, subst, arith, cond}
 use Rattle.std.proofs.lemmas.Bool.{eqb-false, eqb-true}
 use Rattle.cipher_laws.specs.Bytes.{AreSectors}
 use Rattle.cipher_laws.specs.Laws.{GivesBytes, KeepsLengths, UndoesSectors}
-use Rattle.disk_areas.specs.Headers.{Header, Layout}
-use Rattle.disk_views.proofs.Blockwise.{one_block}
-use Rattle.disk_views.specs.Parts.{block_at, AreBlocks}
-use Rattle.disk_views.specs.Views.{View, IsTried, IsWritten}
-use Rattle.disk_zones.specs.Calls.{TriesPart, ZoneCall}
-use Rattle.disk_zones.specs.Calls as calls
-use Rattle.disk_zones.specs.Zones.{Texts, saving, writing}
+use Rattle.crash_laws.specs.HeaderAreas.Headers.{Header, Layout}
+use Rattle.sector_disk.proofs.DiskViews.Blockwise.{one_block}
+use Rattle.sector_disk.specs.DiskViews.Parts.{block_at, AreBlocks}
+use Rattle.sector_disk.specs.DiskViews.Views.{View, IsTried, IsWritten}
+use Rattle.crash_laws.specs.HotZones.Calls.{TriesPart, ZoneCall}
+use Rattle.crash_laws.specs.HotZones.Calls as calls
+use Rattle.crash_laws.specs.HotZones.Zones.{Texts, saving, writing}
 use Rattle.hotzone.proofs.GuardLemmas.{saved-each, saved-last, saved-on, saved-some, saved-within}
 use Rattle.hotzone.proofs.GuardLemmas.{saved_part, tell-on}
 use Rattle.hotzone.specs.Known.{AreTexts, AreTold, HoldsPart, TellBy}

@@ -5,13 +5,13 @@ use Rattle.std.proofs.Common.{◌≡◌, ◌≢◌, ◌∙◌, ℕ, ◌+◌, ◌
 use Rattle.std.proofs.Math.Nat.{mul-le-mul_right}
 use Rattle.std.proofs.lemmas.List.{length-take-le}
 use Rattle.cipher_laws.specs.Laws.{GivesBytes, KeepsLengths, UndoesSectors}
-use Rattle.disk_areas.specs.Commits.{next_stage}
-use Rattle.disk_areas.specs.Commits.{second_written}
-use Rattle.disk_areas.specs.Headers.{primary, secondary, Header, IsLaidOut, Layout}
-use Rattle.disk_views.specs.Views.{View}
-use Rattle.disk_zones.specs.Calls.{CallBeside}
-use Rattle.disk_zones.specs.Promises.{ZoneStays}
-use Rattle.disk_zones.specs.Zones.{Hotzone, Texts, IsApart, ShowsZone, saving}
+use Rattle.crash_laws.specs.HeaderAreas.Commits.{next_stage}
+use Rattle.crash_laws.specs.HeaderAreas.Commits.{second_written}
+use Rattle.crash_laws.specs.HeaderAreas.Headers.{primary, secondary, Header, IsLaidOut, Layout}
+use Rattle.sector_disk.specs.DiskViews.Views.{View}
+use Rattle.crash_laws.specs.HotZones.Calls.{CallBeside}
+use Rattle.crash_laws.specs.HotZones.Promises.{ZoneStays}
+use Rattle.crash_laws.specs.HotZones.Zones.{Hotzone, Texts, IsApart, ShowsZone, saving}
 use Rattle.hotzone.proofs.CallLemmas.{table-long}
 use Rattle.hotzone.proofs.GuardLemmas.{saved-long, saved-within, saved_part}
 use Rattle.hotzone.proofs.KnownLemmas.{SealRuns, part-fits, part-some, phase-runs}
@@ -29,12 +29,12 @@ use Rattle.hotzone.specs.declared.site.Site.{Site}
 use Rattle.hotzone.specs.declared.worker.NextCall.{NextCall}
 use Rattle.hotzone.specs.declared.worker.Worker.{Worker}
 use Rattle.luks_bin.specs.declared.header.BinHeader.{BinHeader}
-use Rattle.luks_copies.specs.Held.{primary_of, secondary_of}
-use Rattle.luks_copies.specs.Seen.{HasRoomFor, stage_of}
-use Rattle.luks_copies.specs.Steps.{next_of}
-use Rattle.luks_copies.specs.declared.commit.Stage.TheVariants.{Begun, FirstWritten, FirstKept}
-use Rattle.luks_copies.specs.declared.commit.Stage.TheVariants.{SecondWritten, Ended}
-use Rattle.luks_copies.specs.declared.commit.Stage.{Stage}
+use Rattle.luks_store.specs.Copying.Held.{primary_of, secondary_of}
+use Rattle.luks_store.specs.Copying.Seen.{HasRoomFor, stage_of}
+use Rattle.luks_store.specs.Copying.Steps.{next_of}
+use Rattle.luks_store.specs.declared.header_copies.commit.Stage.TheVariants.{Begun, FirstWritten, FirstKept}
+use Rattle.luks_store.specs.declared.header_copies.commit.Stage.TheVariants.{SecondWritten, Ended}
+use Rattle.luks_store.specs.declared.header_copies.commit.Stage.{Stage}
 use Rattle.luks_json.specs.declared.meta.Parts.{Parts}
 use Rattle.luks_store.proofs.GivenLemmas.{sized-by}
 use Rattle.luks_store.specs.Commits.{IsNext}

@@ -4,7 +4,7 @@ use Rattle.std.proofs.Common.{◌≡◌, ◌∙◌, ℕ, ◌+◌, ◌<◌, ◌�
 use Rattle.std.proofs.Common.{None, Ok, Err, cond, false, inl, inr, refl, sym, ap, subst, arith}
 use Rattle.std.proofs.lemmas.Bool.{eqb-true}
 use Rattle.std.specs.Option.{IsSomeAnd, option_and_then}
-use Rattle.disk_sizes.specs.declared.Sizes.{Sizes}
+use Rattle.base_terms.specs.declared.disk_sizes.Sizes.{Sizes}
 use Rattle.hotzone.proofs.HeadingLemmas.{same-self}
 use Rattle.hotzone.specs.Headings.{AreMade, Follows, IsOpening, IsToCome, IsTurning, IsUnmade}
 use Rattle.hotzone.specs.Headings.{MayOpenFrom, MayTurn, Opens, Turns}
@@ -14,9 +14,9 @@ use Rattle.hotzone.specs.declared.worker.ZoneFault.TheVariants as faults
 use Rattle.json_members.specs.declared.faults.JsonFault.{JsonFault}
 use Rattle.luks_bin.specs.Copies.{text_of}
 use Rattle.luks_bin.specs.declared.header.BinHeader.{BinHeader}
-use Rattle.luks_copies.specs.Held.{primary_of, secondary_of, stage_in}
-use Rattle.luks_copies.specs.Steps.{last_seqid}
-use Rattle.luks_copies.specs.declared.commit.Stage.TheVariants.{Begun}
+use Rattle.luks_store.specs.Copying.Held.{primary_of, secondary_of, stage_in}
+use Rattle.luks_store.specs.Copying.Steps.{last_seqid}
+use Rattle.luks_store.specs.declared.header_copies.commit.Stage.TheVariants.{Begun}
 use Rattle.luks_json.specs.Metas.{meta_from}
 use Rattle.luks_json.specs.declared.meta.Parts.{Parts}
 use Rattle.luks_json.specs.declared.reencrypt.Direction.{Direction}

@@ -1,7 +1,7 @@
 -- The next zone of a volume: its places fit 64 bits.
 use Rattle.std.proofs.Common.{◌≡◌, ◌∙◌, ◌+◌, ◌^◌, ◌<◌, Some, ap, arith, subst, sym}
 use Rattle.std.proofs.Math.Nat.{le-mul_of_pos_right}
-use Rattle.disk_sizes.specs.declared.Sizes.{Sizes}
+use Rattle.base_terms.specs.declared.disk_sizes.Sizes.{Sizes}
 use Rattle.hotzone.proofs.SiteLemmas.{store-within}
 use Rattle.hotzone.specs.Workers.{IsNextZone}
 use Rattle.hotzone.specs.declared.site.Site.{Site}

@@ -5,7 +5,7 @@ use Rattle.std.proofs.lemmas.List.{length-take-le, take_at}
 use Rattle.base_terms.specs.Blocks.{rewritten}
 use Rattle.std.proofs.Common.{mul-le-mul_right}
 use Rattle.std.proofs.Math.Nat.{mul-mod_left}
-use Rattle.disk_views.proofs.Blockwise.{blocks_end}
+use Rattle.sector_disk.proofs.DiskViews.Blockwise.{blocks_end}
 use Rattle.hotzone.proofs.KnownLemmas.{part-fits}
 use Rattle.hotzone.specs.Sites.{bytes_at, count_of, part_at}
 use Rattle.hotzone.specs.Workers.{FitsDisk}

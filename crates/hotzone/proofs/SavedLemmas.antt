@@ -9,9 +9,9 @@ use Rattle.std.proofs.lemmas.Grind.{div_ceil_times}
 use Rattle.std.proofs.lemmas.List.{drop-drop, drop-take, nil_from_length}
 use Rattle.std.proofs.lemmas.List.{take-append-drop, take-replicate}
 use Rattle.std.specs.Int.{div_ceil}
-use Rattle.disk_views.proofs.Blockwise.{block_at-first, block_at-next, block_at-part, block_end}
-use Rattle.disk_views.proofs.Blockwise.{blocks_end, length-block_at}
-use Rattle.disk_views.specs.Parts.{block_at}
+use Rattle.sector_disk.proofs.DiskViews.Blockwise.{block_at-first, block_at-next, block_at-part, block_end}
+use Rattle.sector_disk.proofs.DiskViews.Blockwise.{blocks_end, length-block_at}
+use Rattle.sector_disk.specs.DiskViews.Parts.{block_at}
 use Rattle.sector_disk.specs.Geometry.{IsAtom}
 use Rattle.segment_map.specs.Maps.{most_bytes}
 use Rattle.resil_checksum.specs.Digests.{AreSaved, saved_len}

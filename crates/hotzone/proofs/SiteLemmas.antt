@@ -4,7 +4,7 @@ use Rattle.std.proofs.Common.{Option, Some, None, List, [], ◌∷◌}
 use Rattle.std.proofs.Common.{subst, arith}
 use Rattle.std.proofs.Math.Nat.{le_of_mul-le-mul_right}
 use Rattle.std.proofs.lemmas.Nat.{div-add-mod'}
-use Rattle.disk_views.proofs.Blockwise.{blocks_end}
+use Rattle.sector_disk.proofs.DiskViews.Blockwise.{blocks_end}
 use Rattle.std.specs.List.{All, cons_option}
 use Rattle.hotzone.specs.Sites.{count_of, next_count, next_start, site_by, start_by}
 use Rattle.hotzone.specs.declared.site.Guard.{Guard}

@@ -2,15 +2,15 @@
 use Rattle.std.proofs.Common.{Some, refl, sym, ap, subst, arith, cond}
 use Rattle.std.proofs.Common.{◌≡◌, ◌∙◌, ℕ, ◌+◌, ◌*◌, ◌<◌, ◌≤◌, ◌==◌, Bool, true, false, List, length}
 use Rattle.std.proofs.lemmas.Bool.{eqb-false, eqb-true}
-use Rattle.disk_areas.specs.Commits.{CommitCall}
-use Rattle.disk_areas.specs.Commits.{Stage as CommitStage}
-use Rattle.disk_areas.specs.Headers.{Header, IsLaidOut, Layout}
-use Rattle.disk_views.specs.Views.{View, IsUnchanged, IsWritten}
-use Rattle.disk_zones.specs.Calls as calls
-use Rattle.disk_zones.specs.Calls.{ZoneCall}
-use Rattle.disk_zones.specs.Promises.{ZoneGoes, ZoneStays}
-use Rattle.disk_zones.specs.Zones.{Hotzone, Phase, Texts, ShowsZone, saving}
-use Rattle.disk_zones.specs.Zones.{writing}
+use Rattle.crash_laws.specs.HeaderAreas.Commits.{CommitCall}
+use Rattle.crash_laws.specs.HeaderAreas.Commits.{Stage as CommitStage}
+use Rattle.crash_laws.specs.HeaderAreas.Headers.{Header, IsLaidOut, Layout}
+use Rattle.sector_disk.specs.DiskViews.Views.{View, IsUnchanged, IsWritten}
+use Rattle.crash_laws.specs.HotZones.Calls as calls
+use Rattle.crash_laws.specs.HotZones.Calls.{ZoneCall}
+use Rattle.crash_laws.specs.HotZones.Promises.{ZoneGoes, ZoneStays}
+use Rattle.crash_laws.specs.HotZones.Zones.{Hotzone, Phase, Texts, ShowsZone, saving}
+use Rattle.crash_laws.specs.HotZones.Zones.{writing}
 use Rattle.hotzone.proofs.CallLemmas.{HasGot, Led, led-on, read-leads}
 use Rattle.hotzone.proofs.CallLemmas.{written-if, written-leads}
 use Rattle.hotzone.proofs.KnownLemmas.{SealRuns, got-part, phase-runs}
@@ -35,9 +35,9 @@ use Rattle.hotzone.specs.declared.worker.NextCall.TheVariants.{Settle}
 use Rattle.hotzone.specs.declared.worker.NextCall.{NextCall}
 use Rattle.hotzone.specs.declared.worker.Worker.{Worker}
 use Rattle.luks_bin.specs.declared.header.BinHeader.{BinHeader}
-use Rattle.luks_copies.specs.Held.{primary_of, secondary_of, stage_in}
-use Rattle.luks_copies.specs.Meanings.{header_of}
-use Rattle.luks_copies.specs.Seen.{CallsAreSeen, HasRoomFor, stage_of}
+use Rattle.luks_store.specs.Copying.Held.{primary_of, secondary_of, stage_in}
+use Rattle.luks_store.specs.Copying.Meanings.{header_of}
+use Rattle.luks_store.specs.Copying.Seen.{CallsAreSeen, HasRoomFor, stage_of}
 use Rattle.luks_store.specs.declared.commit.Prepared.{Prepared}
 use Rattle.luks_store.specs.declared.copies.Copies.{Copies}
 use Rattle.sector_disk.specs.Devices.{Device, succeeded}

@@ -3,7 +3,7 @@
 use Rattle.std.proofs.Common.{◌≡◌, ◌∙◌, ℕ, ◌+◌, ◌==◌, nat_lt, Bool, true, false, length, None}
 use Rattle.std.proofs.Common.{Result, Ok, Err, refl, sym, ap, subst, cond}
 use Rattle.base_terms.specs.declared.failed.Failed.{Failed}
-use Rattle.disk_sizes.specs.declared.Sizes.{Sizes}
+use Rattle.base_terms.specs.declared.disk_sizes.Sizes.{Sizes}
 use Rattle.hotzone.proofs.CommitLemmas.{call-atoms, call-size, has-as}
 use Rattle.hotzone.proofs.HeadingLemmas.{moved-sizes}
 use Rattle.hotzone.proofs.WorkingLemmas.{no-longer, same-site}
@@ -32,8 +32,8 @@ use Rattle.hotzone.specs.declared.worker.Stepped.{Stepped}
 use Rattle.hotzone.specs.declared.worker.Stepped.TheVariants.{Went, ZoneDone, AllDone}
 use Rattle.hotzone.specs.declared.worker.Worker.{Worker}
 use Rattle.hotzone.specs.declared.worker.ZoneFault.{ZoneFault}
-use Rattle.joined_disk.specs.Counts.{HasSizes}
-use Rattle.luks_copies.specs.Held.{stage_in}
+use Rattle.sector_disk.specs.JoinedDisks.Counts.{HasSizes}
+use Rattle.luks_store.specs.Copying.Held.{stage_in}
 use Rattle.luks_store.specs.declared.commit.Prepared.{Prepared}
 use Rattle.luks_store.specs.declared.loaded.Stored.{Stored}
 use Rattle.sector_disk.specs.Devices.{Device}

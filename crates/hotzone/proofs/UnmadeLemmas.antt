@@ -1,9 +1,9 @@
 -- Why a header to come isn't made: what its commit is refused for.
 use Rattle.std.proofs.Common.{◌≡◌, ℕ, ◌≢◌, ◌+◌, ◌≤◌, refl, arith}
 use Rattle.hotzone.specs.Headings.{IsUnmade, fault_of}
-use Rattle.luks_copies.specs.Steps.{last_seqid}
-use Rattle.luks_copies.specs.declared.commit.CommitError.{CommitError}
-use Rattle.luks_copies.specs.declared.commit.CommitError.TheVariants as errors
+use Rattle.luks_store.specs.Copying.Steps.{last_seqid}
+use Rattle.luks_store.specs.declared.header_copies.commit.CommitError.{CommitError}
+use Rattle.luks_store.specs.declared.header_copies.commit.CommitError.TheVariants as errors
 use Rattle.luks_json.specs.declared.meta.Parts.{Parts}
 use Rattle.luks_store.specs.Commits.{IsRefused, text_for}
 use Rattle.luks_store.specs.declared.loaded.Stored.{Stored}

@@ -4,7 +4,7 @@ use Rattle.std.proofs.Common.{List, length, Option, Some, true, false, Bool}
 use Rattle.std.proofs.Common.{refl, sym, ap, subst, arith, cond}
 use Rattle.std.proofs.Math.Nat.{mul-le-mul_right}
 use Rattle.std.proofs.lemmas.Bool.{eqb-false, eqb-true, ltb-true}
-use Rattle.disk_sizes.specs.declared.Sizes.{Sizes}
+use Rattle.base_terms.specs.declared.disk_sizes.Sizes.{Sizes}
 use Rattle.hotzone.specs.Endings.{after_wipe}
 use Rattle.hotzone.specs.Headings.{AreOf, IsSame}
 use Rattle.hotzone.specs.Making.{IsNoLonger}
@@ -33,12 +33,12 @@ use Rattle.hotzone.proofs.GuardLemmas.{saved-fewer, start-on}
 use Rattle.hotzone.proofs.HeadingLemmas.{behind-known, moved-sizes}
 use Rattle.hotzone.proofs.HeadingLemmas.{progress_behind, same-on}
 use Rattle.hotzone.proofs.SiteLemmas.{own-within, site-count, site-within}
-use Rattle.joined_disk.specs.Counts.{HasSizes}
-use Rattle.luks_copies.specs.Held.{stage_in}
-use Rattle.luks_copies.specs.Steps.{next_of}
-use Rattle.luks_copies.specs.declared.commit.Stage.{Stage}
-use Rattle.luks_copies.specs.declared.commit.Stage.TheVariants.{Begun, FirstWritten, FirstKept}
-use Rattle.luks_copies.specs.declared.commit.Stage.TheVariants.{SecondWritten, Ended}
+use Rattle.sector_disk.specs.JoinedDisks.Counts.{HasSizes}
+use Rattle.luks_store.specs.Copying.Held.{stage_in}
+use Rattle.luks_store.specs.Copying.Steps.{next_of}
+use Rattle.luks_store.specs.declared.header_copies.commit.Stage.{Stage}
+use Rattle.luks_store.specs.declared.header_copies.commit.Stage.TheVariants.{Begun, FirstWritten, FirstKept}
+use Rattle.luks_store.specs.declared.header_copies.commit.Stage.TheVariants.{SecondWritten, Ended}
 use Rattle.luks_rules.specs.Rooms.{capacity}
 use Rattle.luks_rules.specs.Shapes.{progress_of}
 use Rattle.luks_rules.specs.declared.shape.Progress.{Progress}

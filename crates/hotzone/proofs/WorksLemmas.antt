@@ -26,9 +26,9 @@ use Rattle.hotzone.proofs.HeadingLemmas.{moved-on, open-on}
 use Rattle.hotzone.proofs.WorkingLemmas.{ending-on, halted-as, known-atom, needs-open, needs-save}
 use Rattle.hotzone.proofs.WorkingLemmas.{needs-wipe, needs-write, not-ended, works-behind, works-next}
 use Rattle.hotzone.proofs.WorkingLemmas.{works-read, works-stopped}
-use Rattle.luks_copies.specs.Steps.{next_of}
-use Rattle.luks_copies.specs.declared.commit.Stage.{Stage}
-use Rattle.luks_copies.specs.declared.commit.Stage.TheVariants.{Ended}
+use Rattle.luks_store.specs.Copying.Steps.{next_of}
+use Rattle.luks_store.specs.declared.header_copies.commit.Stage.{Stage}
+use Rattle.luks_store.specs.declared.header_copies.commit.Stage.TheVariants.{Ended}
 use Rattle.sector_disk.specs.Devices.{Device}
 use Rattle.volume_machine.specs.Seals.{Seals}
 

@@ -8,8 +8,8 @@ use Rattle.hotzone.specs.declared.worker.Ending.{Ending}
 use Rattle.hotzone.specs.declared.worker.NextCall.{NextCall}
 use Rattle.hotzone.specs.declared.worker.NextCall.TheVariants.{Wipe, Rest}
 use Rattle.hotzone.specs.declared.worker.Wipes.{Wipes}
-use Rattle.luks_copies.specs.Held.{stage_in}
-use Rattle.luks_copies.specs.declared.commit.Stage.TheVariants.{Begun}
+use Rattle.luks_store.specs.Copying.Held.{stage_in}
+use Rattle.luks_store.specs.declared.header_copies.commit.Stage.TheVariants.{Begun}
 use Rattle.luks_json.specs.declared.keyslot.Keyslot.{Keyslot}
 use Rattle.luks_json.specs.declared.meta.Parts.{Parts}
 use Rattle.luks_rules.specs.Areas.{areas_of}

@@ -4,12 +4,12 @@ use Rattle.hotzone.specs.declared.worker.Headers.{Headers}
 use Rattle.hotzone.specs.declared.worker.NextHeader.{NextHeader}
 use Rattle.hotzone.specs.declared.worker.ZoneFault.{ZoneFault}
 use Rattle.hotzone.specs.declared.worker.ZoneFault.TheVariants as faults
-use Rattle.joined_disk.specs.Counts.{HasSizes}
-use Rattle.luks_copies.specs.Held.{primary_of, secondary_of, stage_in}
-use Rattle.luks_copies.specs.Steps.{last_seqid, longest_text}
-use Rattle.luks_copies.specs.declared.commit.CommitError.{CommitError}
-use Rattle.luks_copies.specs.declared.commit.CommitError.TheVariants as errors
-use Rattle.luks_copies.specs.declared.commit.Stage.TheVariants.{Begun}
+use Rattle.sector_disk.specs.JoinedDisks.Counts.{HasSizes}
+use Rattle.luks_store.specs.Copying.Held.{primary_of, secondary_of, stage_in}
+use Rattle.luks_store.specs.Copying.Steps.{last_seqid, longest_text}
+use Rattle.luks_store.specs.declared.header_copies.commit.CommitError.{CommitError}
+use Rattle.luks_store.specs.declared.header_copies.commit.CommitError.TheVariants as errors
+use Rattle.luks_store.specs.declared.header_copies.commit.Stage.TheVariants.{Begun}
 use Rattle.luks_json.specs.declared.meta.Parts.{Parts}
 use Rattle.luks_rules.specs.Shapes.{progress_of}
 use Rattle.luks_rules.specs.declared.shape.Progress.{Progress}

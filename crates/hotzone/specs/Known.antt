@@ -1,12 +1,12 @@
 -- What is known of a zone between its steps: what the disk shows of it, and which of its old atoms
 -- are in the buffer.
 use Rattle.std.specs.Prelude.{ℕ, ◌≡◌, ◌≢◌, ◌+◌, ◌<◌, false, List, take, Option, Some}
-use Rattle.disk_areas.specs.Commits.{failed_stage}
-use Rattle.disk_areas.specs.Headers.{Header, Layout}
-use Rattle.disk_views.specs.Parts.{block_at, AreBlocks}
-use Rattle.disk_views.specs.Views.{View}
-use Rattle.disk_zones.specs.Zones.{Hotzone, Texts, Phase, IsApart, ShowsZone, moving}
-use Rattle.disk_zones.specs.Zones.{opening, saving, writing}
+use Rattle.crash_laws.specs.HeaderAreas.Commits.{failed_stage}
+use Rattle.crash_laws.specs.HeaderAreas.Headers.{Header, Layout}
+use Rattle.sector_disk.specs.DiskViews.Parts.{block_at, AreBlocks}
+use Rattle.sector_disk.specs.DiskViews.Views.{View}
+use Rattle.crash_laws.specs.HotZones.Zones.{Hotzone, Texts, Phase, IsApart, ShowsZone, moving}
+use Rattle.crash_laws.specs.HotZones.Zones.{opening, saving, writing}
 use Rattle.hotzone.specs.Sites.{bytes_at, count_of, kind_of, part_at, saved_at, saved_count}
 use Rattle.hotzone.specs.Steps.{resealed}
 use Rattle.hotzone.specs.declared.site.Guard.{Guard}
@@ -21,9 +21,9 @@ use Rattle.hotzone.specs.declared.worker.Halt.{Halt}
 use Rattle.hotzone.specs.declared.worker.Halt.TheVariants.{InCommit}
 use Rattle.hotzone.specs.declared.worker.Headers.{Headers}
 use Rattle.hotzone.specs.declared.worker.Worker.{Worker}
-use Rattle.luks_copies.specs.Held.{primary_of, secondary_of, stage_in}
-use Rattle.luks_copies.specs.Meanings.{header_of, meaning_of}
-use Rattle.luks_copies.specs.Seen.{stage_of}
+use Rattle.luks_store.specs.Copying.Held.{primary_of, secondary_of, stage_in}
+use Rattle.luks_store.specs.Copying.Meanings.{header_of, meaning_of}
+use Rattle.luks_store.specs.Copying.Seen.{stage_of}
 use Rattle.luks_store.specs.declared.commit.Prepared.{Prepared}
 use Rattle.sha2.specs.Sha256.{sha256}
 use Rattle.volume_machine.specs.Saved.{saved_of}

@@ -2,12 +2,12 @@
 use Rattle.std.specs.Prelude.{ℕ, ◌≡◌, false, true, List, replicate, Some, None}
 use Rattle.base_terms.specs.Blocks.{lengths}
 use Rattle.cipher_laws.specs.Bytes.{AreBytes}
-use Rattle.disk_areas.specs.Commits.{ShowsCommit, begun}
-use Rattle.disk_areas.specs.Headers.{Header, IsLaidOut, Layout}
-use Rattle.disk_views.specs.Views.{View, view_of_cells}
-use Rattle.disk_zones.specs.Calls.{CallBeside, ShowsMoved}
-use Rattle.disk_zones.specs.Standing.{IsKept}
-use Rattle.disk_zones.specs.Zones.{Texts, IsApart, ShowsZone}
+use Rattle.crash_laws.specs.HeaderAreas.Commits.{ShowsCommit, begun}
+use Rattle.crash_laws.specs.HeaderAreas.Headers.{Header, IsLaidOut, Layout}
+use Rattle.sector_disk.specs.DiskViews.Views.{View, view_of_cells}
+use Rattle.crash_laws.specs.HotZones.Calls.{CallBeside, ShowsMoved}
+use Rattle.crash_laws.specs.HotZones.Standing.{IsKept}
+use Rattle.crash_laws.specs.HotZones.Zones.{Texts, IsApart, ShowsZone}
 use Rattle.hotzone.specs.Known.{IsAtHand, IsKnown, NamesHeaders, phase_of, zone_by}
 use Rattle.hotzone.specs.Sites.{kind_of}
 use Rattle.hotzone.specs.Steps.{Goes, Stops}
@@ -19,8 +19,8 @@ use Rattle.hotzone.specs.declared.worker.Stepped.{Stepped}
 use Rattle.hotzone.specs.declared.worker.Stepped.TheVariants.{Went, ZoneDone}
 use Rattle.hotzone.specs.declared.worker.Worker.{Worker}
 use Rattle.hotzone.specs.declared.worker.ZoneFault.{ZoneFault}
-use Rattle.joined_disk.specs.Counts.{HasSizes}
-use Rattle.luks_copies.specs.Meanings.{meaning_of}
+use Rattle.sector_disk.specs.JoinedDisks.Counts.{HasSizes}
+use Rattle.luks_store.specs.Copying.Meanings.{meaning_of}
 use Rattle.luks_store.specs.Loads.{IsStored}
 use Rattle.sector_disk.specs.Cells.{content, currents}
 use Rattle.sector_disk.specs.Devices.{Device}

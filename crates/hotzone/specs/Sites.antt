@@ -1,7 +1,7 @@
 -- Where the blocks of a zone lie, and its parts.
 use Rattle.std.specs.Prelude.{ℕ, ◌≡◌, ◌+◌, ◌-◌, ◌*◌, ◌/◌, ◌%◌, min}
-use Rattle.block_range.specs.Blocks.{len_of}
-use Rattle.disk_zones.specs.Zones.{Resilience as Kind, journal, checksum}
+use Rattle.base_terms.specs.Ranges.Blocks.{len_of}
+use Rattle.crash_laws.specs.HotZones.Zones.{Resilience as Kind, journal, checksum}
 use Rattle.hotzone.specs.declared.site.Guard.{Guard}
 use Rattle.hotzone.specs.declared.site.Guard.TheVariants as guards
 use Rattle.hotzone.specs.declared.site.Site.{Site}

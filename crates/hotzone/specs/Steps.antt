@@ -2,7 +2,7 @@
 use Rattle.std.specs.Prelude.{ℕ, ◌≡◌, ◌≢◌, ◌+◌, ◌==◌, List, length, take, Result, Ok, Err, Some}
 use Rattle.std.specs.Prelude.{if◌then◌else◌}
 use Rattle.base_terms.specs.declared.failed.Failed.{Failed as CallFailed}
-use Rattle.disk_views.specs.Parts.{block_at}
+use Rattle.sector_disk.specs.DiskViews.Parts.{block_at}
 use Rattle.hotzone.specs.Endings.{IsEnding, IsFinishing, WipesArea, after_wipe}
 use Rattle.hotzone.specs.Headings.{AreOf, IsSame, IsToCome, IsUnmade}
 use Rattle.hotzone.specs.Sites.{bytes_at, count_of, part_at, saved_at}
@@ -23,9 +23,9 @@ use Rattle.hotzone.specs.declared.worker.Stepped.TheVariants.{Went, ZoneDone, Al
 use Rattle.hotzone.specs.declared.worker.Worker.{Worker}
 use Rattle.hotzone.specs.declared.worker.ZoneFault.{ZoneFault}
 use Rattle.hotzone.specs.declared.worker.ZoneFault.TheVariants as faults
-use Rattle.luks_copies.specs.Held.{primary_of, secondary_of, stage_in}
-use Rattle.luks_copies.specs.Steps.{CopyCall, next_of}
-use Rattle.luks_copies.specs.declared.commit.Stage.TheVariants.{Begun, SecondWritten, Ended}
+use Rattle.luks_store.specs.Copying.Held.{primary_of, secondary_of, stage_in}
+use Rattle.luks_store.specs.Copying.Steps.{CopyCall, next_of}
+use Rattle.luks_store.specs.declared.header_copies.commit.Stage.TheVariants.{Begun, SecondWritten, Ended}
 use Rattle.luks_store.specs.declared.commit.Prepared.{Prepared}
 use Rattle.luks_store.specs.declared.loaded.Stored.{Stored}
 use Rattle.resil_checksum.specs.Clashes.{AllDiffer, IsLowestClash}

@@ -8,7 +8,7 @@ ghost use Rattle.hotzone.specs.declared.site.Guard.TheVariants as guards;
 ghost use Rattle.resil_checksum.specs.Digests.{AreSaved, saved_len};
 ghost use Rattle.sector_disk.specs.Geometry.{IsAtom};
 ghost use Rattle.sha2.specs.Sha256.{sha256};
-ghost use Rattle.disk_views.specs.Parts.{block_at};
+ghost use Rattle.sector_disk.specs.DiskViews.Parts.{block_at};
 ghost use Rattle.volume_machine.specs.Seals.{KeysFit, seals_of};
 
 use crate::parts::{count_parts, reseal};

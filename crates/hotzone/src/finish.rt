@@ -7,7 +7,7 @@ ghost use Rattle.hotzone.specs.Making.{Makes};
 ghost use Rattle.hotzone.specs.Workers.{MayCommit};
 ghost use Rattle.hotzone.specs.declared.worker.NextCall.TheVariants.{End, Finish, Rest, Wipe};
 ghost use Rattle.reenc_meta.specs.Placements.{all_atoms};
-ghost use Rattle.joined_disk.specs.Counts.{HasSizes};
+ghost use Rattle.sector_disk.specs.JoinedDisks.Counts.{HasSizes};
 ghost use Rattle.sector_disk.specs.Geometry.{IsDisk};
 ghost use Rattle.volume_machine.specs.Seals.{seals_of};
 

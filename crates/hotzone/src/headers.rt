@@ -3,7 +3,7 @@
 ghost use Rattle.std.specs.Prelude.{◌≡◌, ◌<◌, ◌+◌, None, Some, IfErr, IfOk};
 ghost use Rattle.hotzone.specs.Headings.{AreMade, Follows, IsUnmade, Opens, Turns};
 ghost use Rattle.hotzone.specs.Headings.{IsOpening, IsToCome, IsTurning, MayOpenFrom, MayTurn};
-ghost use Rattle.luks_copies.specs.Steps.{last_seqid};
+ghost use Rattle.luks_store.specs.Copying.Steps.{last_seqid};
 ghost use Rattle.luks_rules.specs.Rules.{first_fault};
 ghost use Rattle.reenc_meta.specs.Placements.{all_atoms};
 ghost use Rattle.sector_disk.specs.Geometry.{IsDisk};

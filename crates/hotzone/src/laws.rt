@@ -4,8 +4,8 @@ ghost use Rattle.hotzone.specs.Promises.{StepBegins, StepEnds, StepGoes, StepKee
 ghost use Rattle.hotzone.specs.Promises.{StepStays, StepStops};
 
 use cipher_laws::SectorCipher;
-use disk_zones::{zones_go_by_calls, zones_stay};
-use luks_copies::calls_are_seen;
+use crash_laws::{zones_go_by_calls, zones_stay};
+use luks_store::header_copies::calls_are_seen;
 use volume_laws::keys_seal_lawfully;
 
 /// Each step of a zone is the device call of the laws of zones, on each disk that tells its tables:

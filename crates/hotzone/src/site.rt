@@ -5,7 +5,7 @@ ghost use Rattle.hotzone.specs.Sites.{IsSaved, count_of, guard_of, part_at, save
 ghost use Rattle.sector_disk.specs.Geometry.{IsAtom};
 ghost use Rattle.luks_rules.specs.Rooms.{capacity_by};
 
-use block_range::BlockRange;
+use base_terms::BlockRange;
 use luks_json::Resilience;
 use luks_rules::Conversion;
 use segment_map::{Direction, Map};
@@ -17,7 +17,7 @@ const MOST_BYTES: u32 = 1_048_576;
 const DIGEST: u32 = 32;
 
 /// What is saved of a zone's blocks before they are written anew.
-#[derive(Clone, Copy, Debug, PartialEq, Eq)]
+#[derive(Clone, Copy, PartialEq, Eq)]
 pub enum Guard {
     /// Their old atoms.
     Journal,
@@ -27,7 +27,7 @@ pub enum Guard {
 }
 
 /// The blocks of a zone, and where its calls lie on the disk.
-#[derive(Clone, Copy, Debug, PartialEq, Eq)]
+#[derive(Clone, Copy, PartialEq, Eq)]
 pub struct Site {
     /// Its blocks; it has none where no old block is left.
     pub blocks: BlockRange,
@@ -42,7 +42,7 @@ pub struct Site {
 }
 
 impl Site {
-    ghost use Rattle.block_range.specs.Blocks.{len_of};
+    ghost use Rattle.base_terms.specs.Ranges.Blocks.{len_of};
 
     /// How many atoms of the zone the part has that begins behind the first `done` of them: those
     /// that are left, or as many as 1 MiB has.

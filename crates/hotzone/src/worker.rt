@@ -9,7 +9,7 @@ use segment_map::Map;
 use volume_machine::Keys;
 
 /// What a step was.
-#[derive(Clone, Copy, Debug, PartialEq, Eq)]
+#[derive(Clone, Copy, PartialEq, Eq)]
 pub enum Stepped {
     /// Another one follows.
     Went,
@@ -21,7 +21,7 @@ pub enum Stepped {
 }
 
 /// Why a step isn't made, or has failed.
-#[derive(Clone, Copy, Debug, PartialEq, Eq)]
+#[derive(Clone, Copy, PartialEq, Eq)]
 pub enum ZoneFault {
     /// The device call failed.
     Device,
@@ -39,7 +39,7 @@ pub enum ZoneFault {
 }
 
 /// How a step that isn't made, or has failed, leaves a conversion. None follows it.
-#[derive(Clone, Copy, Debug, PartialEq, Eq)]
+#[derive(Clone, Copy, PartialEq, Eq)]
 pub enum Halt {
     /// The zone, or the finish, is given up. Nothing of it is written but what was saved, and the
     /// volume goes on as it is.
@@ -120,7 +120,6 @@ pub enum NextCall {
 }
 
 /// A conversion that goes on, by the zone that is at hand or comes next.
-#[derive(Drop)]
 pub struct Worker<C> {
     /// The keys of the volume's sides.
     pub keys: Keys<C>,
@@ -136,4 +135,23 @@ pub struct Worker<C> {
     pub next: NextCall,
     /// How it was halted, if it was.
     pub halted: Option<Halt>,
+}
+
+// By hand, so that a value that is dropped in place is one call to the prover.
+impl<C: Drop> Drop for Worker<C> {
+    fn drop(self) {
+        let Worker {
+            keys,
+            loaded,
+            map: _,
+            site: _,
+            buffer,
+            next,
+            halted: _,
+        } = self;
+        drop(keys);
+        drop(loaded);
+        drop(buffer);
+        drop(next);
+    }
 }

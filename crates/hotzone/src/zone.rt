@@ -7,7 +7,7 @@ ghost use Rattle.hotzone.specs.Workers.{HasKeys, HasRoom, IsAsLong, IsDone, IsNe
 ghost use Rattle.hotzone.specs.Workers.{IsMapNow, MapsFit, MayGoOn, first_call, range_in};
 ghost use Rattle.hotzone.specs.declared.worker.Halt.TheVariants.{GivenUp};
 ghost use Rattle.hotzone.specs.declared.worker.Stepped.TheVariants.{AllDone};
-ghost use Rattle.joined_disk.specs.Counts.{HasSizes};
+ghost use Rattle.sector_disk.specs.JoinedDisks.Counts.{HasSizes};
 ghost use Rattle.luks_rules.specs.States.{IsSound};
 ghost use Rattle.luks_store.specs.Loads.{IsStored};
 ghost use Rattle.reenc_meta.specs.Placements.{all_atoms};
@@ -17,8 +17,7 @@ ghost use Rattle.volume_machine.specs.Seals.{seals_of};
 use crate::scratch::{Scratch, new_scratch};
 use crate::steps::{Made, Stop, begin_with, lay_next};
 use crate::worker::{Halt, NextCall, Stepped, Worker, ZoneFault};
-use base_terms::{Buffer, bytes_are_below_256, zeros};
-use block_range::BlockRange;
+use base_terms::{BlockRange, Buffer, bytes_are_below_256, zeros};
 use cipher_laws::SectorCipher;
 use luks_store::Loaded;
 use sector_disk::Disk;
@@ -30,10 +29,18 @@ use std::thread::Threads;
 use volume_machine::Keys;
 
 /// A conversion that goes on, zone by zone, one device call a step.
-#[derive(Drop)]
 pub struct Zone<C: SectorCipher + Copy> {
     worker: Worker<C>,
     scratch: Scratch,
+}
+
+// By hand, so that a value that is dropped in place is one call to the prover.
+impl<C: SectorCipher + Copy> Drop for Zone<C> {
+    fn drop(self) {
+        let Zone { worker, scratch } = self;
+        drop(worker);
+        drop(scratch);
+    }
 }
 
 impl<C: SectorCipher + Copy> Model for Zone<C> {

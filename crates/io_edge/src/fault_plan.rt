@@ -6,7 +6,7 @@ use std::marker::Model;
 
 /// Which calls of an object in memory are to fail, by their numbers from 0, and how many calls and
 /// faults there were. Both counts stand still at `2^64 - 1`.
-#[derive(Debug, Drop)]
+#[derive(Drop)]
 pub struct FaultPlan {
     fails: Vec<u64>,
     calls: u64,

@@ -21,6 +21,9 @@ pub trait InputStream: Drop {
     fn read_some(&mut self, buf: &mut [u8]) -> io::Result<usize>
         ensures within { IfOk result (λ n. n ≤ length buf.new) }
         ensures reads { reads self.old buf.new result self.new };
+
+    /// Hears that both sides have agreed on what follows.
+    fn settle(&mut self) {}
 }
 
 /// One of std's readers, of which std says what a read does.
@@ -51,6 +54,12 @@ impl<R: InputStream> Source for Counted<R> {
             × ReadsOn R.reads self.old.inner buf.new (Err error) self.new.inner) }
     {
         answered(read_uninterrupted(&mut self.inner, buf), &mut self.faults)
+    }
+
+    fn settle(&mut self)
+        ensures { self.new.faults ≡ self.old.faults }
+    {
+        self.inner.settle();
     }
 
     fn faults(&self) -> u64 {

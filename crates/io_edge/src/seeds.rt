@@ -27,7 +27,7 @@ pub trait Seeds {
 }
 
 /// Bytes in memory, given in order again and again.
-#[derive(Debug, Drop)]
+#[derive(Drop)]
 pub struct FixedSeeds {
     bytes: Vec<u8>,
     at: usize,

@@ -39,7 +39,7 @@ pub trait Sink: Drop {
 
 /// A text in memory, which has room for so many bytes. What it is put it holds back until it is
 /// pushed out.
-#[derive(Debug, Drop)]
+#[derive(Drop)]
 pub struct ListSink {
     bytes: Vec<u8>,
     out: usize,
@@ -151,7 +151,7 @@ impl Sink for ListSink {
 }
 
 /// A sink that drops what it gets. It never fails, holds nothing back and tells nothing.
-#[derive(Clone, Copy, Debug)]
+#[derive(Clone, Copy)]
 pub struct VoidSink;
 
 impl Sink for VoidSink {

@@ -23,13 +23,19 @@ pub trait Source: Drop {
         ensures given { GaveMore (intake self.old) (intake self.new) buf.new result }
         ensures cause { HasCause (intake self.old).faults (intake self.new).faults result };
 
+    /// Hears that both sides have agreed on what follows. One that waits for a peer may then wait
+    /// longer, or less long, than before; none gives or loses a byte by it.
+    fn settle(&mut self)
+        ensures { intake self.new ≡ intake self.old }
+    {}
+
     /// How many calls failed.
     fn faults(&self) -> u64
         ensures { result ≡ (intake self.now).faults };
 }
 
 /// A text in memory, given in pieces.
-#[derive(Debug, Drop)]
+#[derive(Drop)]
 pub struct ListSource {
     bytes: Vec<u8>,
     at: usize,

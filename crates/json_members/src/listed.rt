@@ -3,9 +3,16 @@ ghost use Rattle.std.specs.Prelude.{◌≡◌, length};
 use std::marker::Model;
 
 /// A list of values, which contracts see as a list.
-#[derive(Debug, Drop)]
 pub struct Listed<T> {
     items: Vec<T>,
+}
+
+// By hand, so that a value that is dropped in place is one call to the prover.
+impl<T: Drop> Drop for Listed<T> {
+    fn drop(self) {
+        let Listed { items } = self;
+        drop(items);
+    }
 }
 
 impl<T> Model for Listed<T> {

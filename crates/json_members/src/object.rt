@@ -9,9 +9,16 @@ use std::alloc::{AllocError, Global};
 use std::marker::Model;
 
 /// The members of a JSON object, each name once, which contracts see as the data that they are.
-#[derive(Drop)]
 pub struct Object {
     map: Map<String, Value>,
+}
+
+// By hand, so that a value that is dropped in place is one call to the prover.
+impl Drop for Object {
+    fn drop(self) {
+        let Object { map } = self;
+        drop(map);
+    }
 }
 
 impl Model for Object {

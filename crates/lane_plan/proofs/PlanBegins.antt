@@ -1,10 +1,16 @@
 -- Plans before their grant, and what a grant makes of them.
-use Rattle.volume_machine.proofs.Common.{List, None, Some, [], ap, arith, false, length, max, refl}
-use Rattle.volume_machine.proofs.Common.{replicate, subst, true}
-use Rattle.volume_machine.proofs.Common.{sym, take, ℕ, ◌*◌, ◌+◌, ◌-◌, ◌<◌, ◌∙◌, ◌≡◌, ◌≤◌}
-use Rattle.volume_machine.proofs.Common.{le-max_right, take-take, Map, Op, Alone, alone_after}
-use Rattle.volume_machine.proofs.Common.{answered_alone, Answered, range_of, wrong_ask, Seals}
-use Rattle.volume_machine.proofs.Common.{begun, CanRead, CanWrite, MeetsAlone}
+use Rattle.std.proofs.Common.{List, None, Some, [], ap, arith, false, length, max, refl, replicate}
+use Rattle.std.proofs.Common.{subst, true, sym, take, ℕ, ◌*◌, ◌+◌, ◌-◌, ◌<◌, ◌∙◌, ◌≡◌, ◌≤◌}
+use Rattle.std.proofs.Math.Nat.{le-max_right}
+use Rattle.std.proofs.lemmas.List.{take-take}
+use Rattle.plain_disk.specs.declared.operation.Op.{Op}
+use Rattle.segment_map.specs.declared.map.Map.{Map}
+use Rattle.volume_machine.specs.Alone.{Alone, alone_after, answered_alone, MeetsAlone}
+use Rattle.volume_machine.specs.Answers.{Answered}
+use Rattle.volume_machine.specs.Asks.{range_of, wrong_ask}
+use Rattle.volume_machine.specs.Seals.{Seals}
+use Rattle.volume_machine.specs.States.{begun}
+use Rattle.volume_machine.specs.Steps.{CanRead, CanWrite}
 use Rattle.volume_machine.specs.declared.{ask.Ask.Ask, grant.Grant.Grant, open.Open.Open}
 use Rattle.volume_machine.proofs.Soundness.{ordered, proper-inside}
 use Rattle.lane_plan.specs.Calls.{ask_of, event_of, outcome_of}

@@ -1,12 +1,21 @@
 -- The next call of an operation all of whose pieces so far were made.
-use Rattle.volume_machine.proofs.Common
-use Common.{List, None, [], ap, arith, drop, false, if◌then◌else◌, inl, inr, length}
-use Common.{either, length-append, length-drop, length-replicate, min, mul-le-mul_right, nat_lt}
-use Common.{replicate, wrong_ask, le-min, take-take}
-use Common.{length-take-le, refl, subst, sym, take, true, ℕ, ◌*◌, ◌++◌, ◌+◌, ◌-◌, ◌<◌, ◌∙◌, ◌≡◌}
-use Common.{◌≤◌, ◌⊎◌, cases_lt, drop-append-le, nil_from_length, take-append-drop, take-append-le}
-use Common.{AreBytes, Map, Piece, Op, Alone, IsForced, IsRead, IsWrite, has_lock, IsPieceOf}
-use Common.{KeysFit, Seals, key_of, number_of, seals_of, CanSettle}
+use Rattle.std.proofs.Common.{List, None, [], ap, arith, drop, false, if◌then◌else◌, inl, inr}
+use Rattle.std.proofs.Common.{length, length-append, length-drop, min, mul-le-mul_right, nat_lt}
+use Rattle.std.proofs.Common.{replicate, length-take-le, refl, subst, sym, take, true, ℕ, ◌*◌, ◌++◌}
+use Rattle.std.proofs.Common.{◌+◌, ◌-◌, ◌<◌, ◌∙◌, ◌≡◌, ◌≤◌, ◌⊎◌}
+use Rattle.std.proofs.Math.Nat.{le-min}
+use Rattle.std.proofs.lemmas.Bool.{cases_Bool as either, cases_lt}
+use Rattle.std.proofs.lemmas.List.{length-replicate, take-take, drop-append-le, nil_from_length}
+use Rattle.std.proofs.lemmas.List.{take-append-drop, take-append-le}
+use Rattle.cipher_laws.specs.Bytes.{AreBytes}
+use Rattle.plain_disk.specs.declared.operation.Op.{Op}
+use Rattle.segment_map.specs.declared.map.Map.{Map}
+use Rattle.segment_map.specs.declared.map.Piece.{Piece}
+use Rattle.volume_machine.specs.Alone.{Alone}
+use Rattle.volume_machine.specs.Asks.{wrong_ask, IsForced, IsRead, IsWrite, has_lock}
+use Rattle.volume_machine.specs.Pieces.{IsPieceOf}
+use Rattle.volume_machine.specs.Seals.{KeysFit, Seals, key_of, number_of, seals_of}
+use Rattle.volume_machine.specs.Steps.{CanSettle}
 use Rattle.std.proofs.Math.{Nat.mul-lt-mul_of_pos_right, Seq.take-add}
 use Rattle.std.proofs.lemmas.List.{drop-replicate, take-replicate}
 use Rattle.cipher_laws.specs.Laws.{UndoesSectors}

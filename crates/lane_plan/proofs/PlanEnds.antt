@@ -1,11 +1,20 @@
 -- Plans whose operation is refused, has failed, is settled, or has finished.
-use Rattle.volume_machine.proofs.Common
-use Common.{Bool, List, None, Option, Some, [], ap, arith, false, if◌then◌else◌, inl, inr, length}
-use Common.{length-replicate, replicate, ◌*◌, ◌^◌, either}
-use Common.{refl, subst, sym, take, true, ℕ, ◌<◌, ◌∙◌, ◌∷◌, ◌≡◌, ◌≤◌, ◌⊎◌, Map, Op, Content, Done}
-use Common.{Errno, Alone, after_sync, settled_as, Answered, Asked, by_finish, by_settle}
-use Common.{flush_reply, full_reply, tried_by, IsRead, has_lock, Outcome}
-use Common.{CanSettle, broken, device, done, failing, settling, Seals, after_settle}
+use Rattle.std.proofs.Common.{Bool, List, None, Option, Some, [], ap, arith, false, if◌then◌else◌}
+use Rattle.std.proofs.Common.{inl, inr, length, replicate, ◌*◌, ◌^◌, refl, subst, sym, take, true}
+use Rattle.std.proofs.Common.{ℕ, ◌<◌, ◌∙◌, ◌∷◌, ◌≡◌, ◌≤◌, ◌⊎◌}
+use Rattle.std.proofs.lemmas.Bool.{cases_Bool as either}
+use Rattle.std.proofs.lemmas.List.{length-replicate}
+use Rattle.plain_disk.specs.declared.operation.Op.{Op}
+use Rattle.plain_disk.specs.declared.operation.Reply.TheVariants.{Content, Done, Errno}
+use Rattle.segment_map.specs.declared.map.Map.{Map}
+use Rattle.volume_machine.specs.Alone.{Alone, after_sync, settled_as}
+use Rattle.volume_machine.specs.Answers.{Answered, Asked, by_finish, by_settle, flush_reply}
+use Rattle.volume_machine.specs.Answers.{full_reply, tried_by}
+use Rattle.volume_machine.specs.Asks.{IsRead, has_lock}
+use Rattle.volume_machine.specs.Events.{Outcome, broken, device, done}
+use Rattle.volume_machine.specs.Pieces.{failing, settling}
+use Rattle.volume_machine.specs.Seals.{Seals}
+use Rattle.volume_machine.specs.Steps.{CanSettle, after_settle}
 use Rattle.plain_disk.specs.Outcomes.{IsReplyTo}
 use Rattle.plain_disk.specs.declared.operation.{Reply.Reply, Reply.TheVariants.ErrnoAt}
 use Rattle.volume_machine.specs.Answers.{failed_at, failed_reply}

@@ -1,9 +1,17 @@
 -- What a plan is told of its pieces.
-use Rattle.volume_machine.proofs.Common
-use Common.{List, Option, Some, ap, arith, inl, inr, length, length-append, length-take-le}
-use Common.{mul-le-mul_right, option_map, refl, subst, sym, take, ℕ, ◌*◌, ◌++◌, ◌+◌, ◌-◌, ◌/◌, ◌<◌}
-use Common.{◌^◌, ◌∙◌, ◌≡◌, ◌≤◌, mul-div_left, IsAtom, Side, Map, Piece, Op, Alone, opened_by}
-use Common.{passed, with_piece, IsRead, IsPieceOf, known_side, moved, KeysFit, Seals}
+use Rattle.std.proofs.Common.{List, Option, Some, ap, arith, inl, inr, length, length-append}
+use Rattle.std.proofs.Common.{length-take-le, mul-le-mul_right, option_map, refl, subst, sym, take}
+use Rattle.std.proofs.Common.{ℕ, ◌*◌, ◌++◌, ◌+◌, ◌-◌, ◌/◌, ◌<◌, ◌^◌, ◌∙◌, ◌≡◌, ◌≤◌}
+use Rattle.std.proofs.Math.Nat.{mul-div_left}
+use Rattle.plain_disk.specs.declared.operation.Op.{Op}
+use Rattle.sector_disk.specs.Geometry.{IsAtom}
+use Rattle.segment_map.specs.declared.Side.{Side}
+use Rattle.segment_map.specs.declared.map.Map.{Map}
+use Rattle.segment_map.specs.declared.map.Piece.{Piece}
+use Rattle.volume_machine.specs.Alone.{Alone, opened_by, passed, with_piece}
+use Rattle.volume_machine.specs.Asks.{IsRead}
+use Rattle.volume_machine.specs.Pieces.{IsPieceOf, known_side, moved}
+use Rattle.volume_machine.specs.Seals.{KeysFit, Seals}
 use Rattle.volume_machine.specs.declared.{keys.Keys.Keys, open.Open.Open}
 use Rattle.volume_machine.proofs.KeyLemmas.{fewer-blocks}
 use Rattle.lane_plan.specs.Calls.{ask_of}

@@ -1,9 +1,16 @@
 -- The sizes of operations, of their pieces, and of the buffers for them.
-use Rattle.volume_machine.proofs.Common.{List, None, ap, arith, inl, inr, length, length-take, min}
-use Rattle.volume_machine.proofs.Common.{mul-le-mul_right, refl, replicate, suc, take, ℕ, ◌*◌, ◌+◌}
-use Rattle.volume_machine.proofs.Common.{if◌then◌else◌, ◌-◌, ◌/◌, ◌<◌, ◌^◌, ◌≡◌, ◌≤◌, le-min}
-use Rattle.volume_machine.proofs.Common.{length-replicate, cases_lt, IsAtom, Map, Piece, Op, IsRead}
-use Rattle.volume_machine.proofs.Common.{IsWrite, range_of, wrong_ask, IsPieceOf}
+use Rattle.std.proofs.Common.{List, None, ap, arith, inl, inr, length, length-take, min}
+use Rattle.std.proofs.Common.{mul-le-mul_right, refl, replicate, suc, take, ℕ, ◌*◌, ◌+◌}
+use Rattle.std.proofs.Common.{if◌then◌else◌, ◌-◌, ◌/◌, ◌<◌, ◌^◌, ◌≡◌, ◌≤◌}
+use Rattle.std.proofs.Math.Nat.{le-min}
+use Rattle.std.proofs.lemmas.Bool.{cases_lt}
+use Rattle.std.proofs.lemmas.List.{length-replicate}
+use Rattle.plain_disk.specs.declared.operation.Op.{Op}
+use Rattle.sector_disk.specs.Geometry.{IsAtom}
+use Rattle.segment_map.specs.declared.map.Map.{Map}
+use Rattle.segment_map.specs.declared.map.Piece.{Piece}
+use Rattle.volume_machine.specs.Asks.{IsRead, IsWrite, range_of, wrong_ask}
+use Rattle.volume_machine.specs.Pieces.{IsPieceOf}
 use Rattle.std.proofs.lemmas.Grind.{common_steps}
 use Rattle.plain_disk.proofs.RangeLemmas.{range_of_proper, whole_blocks}
 use Rattle.volume_machine.specs.declared.ask.Ask.TheVariants.{Flush, Read, Write}

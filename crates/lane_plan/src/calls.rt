@@ -5,7 +5,7 @@ use plain_disk::Reply;
 use volume_machine::{Ask, Grant, Prepared};
 
 /// A call of a lane on its volume.
-#[derive(Debug, Drop)]
+#[derive(Drop)]
 pub enum Call {
     /// Begins the operation of a session.
     Admit { session: u64, ask: Ask },
@@ -22,7 +22,7 @@ pub enum Call {
 }
 
 /// What a call answered.
-#[derive(Debug, Drop)]
+#[derive(Drop)]
 pub enum Answer {
     /// The operation has its blocks.
     Held(Grant),
@@ -44,7 +44,7 @@ pub enum Answer {
 }
 
 /// What comes next of a plan.
-#[derive(Debug, Drop)]
+#[derive(Drop)]
 pub enum Next {
     Call(Call),
     /// The operation has ended: its reply, and a buffer for another use.

@@ -10,8 +10,7 @@ mod pieces;
 
 use crate::buffers::{grown, with_zeros};
 use crate::{Answer, Call, Next};
-use base_terms::{Buffer, Bytes};
-use block_range::BlockRange;
+use base_terms::{BlockRange, Buffer, Bytes};
 use cipher_laws::SectorCipher;
 use plain_disk::{Op, Reply};
 use segment_map::{Map, Piece};
@@ -22,14 +21,14 @@ use volume_machine::{Ask, Keys, Open};
 const MOST_BYTES: usize = 1_048_576;
 
 /// What of a volume never changes: the bytes of a block, and how many blocks there are.
-#[derive(Clone, Copy, Debug, PartialEq, Eq)]
+#[derive(Clone, Copy, PartialEq, Eq)]
 pub struct Shape {
     pub atom: u32,
     pub blocks: u64,
 }
 
 /// Which call's answer a plan awaits.
-#[derive(Clone, Copy, Debug)]
+#[derive(Clone, Copy)]
 enum Stage {
     /// Its admit's, which will be refused.
     Refusing,
@@ -46,7 +45,7 @@ enum Stage {
 }
 
 /// The plan of one operation of a session.
-#[derive(Debug, Drop)]
+#[derive(Drop)]
 pub struct Plan {
     alloc: Global,
     shape: Shape,

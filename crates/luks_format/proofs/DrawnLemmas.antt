@@ -2,7 +2,7 @@
 use Rattle.std.proofs.Common.{◌≡◌, ℕ, ◌+◌, List, length, drop, sym, ◌∙◌, arith}
 use Rattle.std.proofs.Common.{length-drop}
 use Rattle.std.proofs.lemmas.List.{take_all}
-use Rattle.luks_keys.specs.Drawings.{piece}
+use Rattle.luks_slots.specs.KeyMaking.Drawings.{piece}
 
 -- the last piece, where no more is left
 pub dealt-last : (from count : ℕ) (bytes rest : List ℕ) → rest ≡ drop from bytes

@@ -4,3 +4,4 @@ pub mod MetaLemmas
 pub mod PlaceLemmas
 pub mod RulesLemmas
 pub mod SizeLemmas
+pub mod DiskFormat

@@ -4,7 +4,7 @@ use Rattle.std.proofs.Common.{◌∙◌, Bool, true, false, None, refl, sym, ap�
 use Rattle.std.proofs.lemmas.Bool.{eq-eqb, le-ltb, ne_eqb}
 use Rattle.std.specs.List.{list_any}
 use Rattle.std.specs.Prelude.{◌||◌, if◌then◌else◌}
-use Rattle.disk_sizes.specs.declared.Sizes.{Sizes}
+use Rattle.base_terms.specs.declared.disk_sizes.Sizes.{Sizes}
 use Rattle.luks_bin.proofs.FieldLemmas.{size-least}
 use Rattle.luks_format.proofs.SizeLemmas.{area-page, area-some, block-left, copies-page}
 use Rattle.luks_format.proofs.SizeLemmas.{data-behind, pages-whole, sector-some}

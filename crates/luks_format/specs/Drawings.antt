@@ -2,10 +2,10 @@
 use Rattle.std.specs.Prelude.{ℕ, ◌≡◌, ◌+◌, List, ◌++◌, length, replicate, Option, Some, None}
 use Rattle.luks_format.specs.declared.drawn.Drawn.{Drawn}
 use Rattle.luks_format.specs.declared.wish.Wish.{Wish}
-use Rattle.luks_keys.specs.Drawings.{Draw as KeyDraw, drawn_by as drawn_by_key}
-use Rattle.luks_keys.specs.Drawings.{drawn_len as key_drawn_len, piece, spent as spent_by_key}
+use Rattle.luks_slots.specs.KeyMaking.Drawings.{Draw as KeyDraw, drawn_by as drawn_by_key}
+use Rattle.luks_slots.specs.KeyMaking.Drawings.{drawn_len as key_drawn_len, piece, spent as spent_by_key}
 use Rattle.luks_slots.specs.NewSlots.{drawn_len as slot_len}
-pub use Rattle.luks_keys.specs.Drawings.{salt_len}
+pub use Rattle.luks_slots.specs.KeyMaking.Drawings.{salt_len}
 use Rattle.uuid.specs.Parts.{with_variant, with_version}
 use Rattle.uuid.specs.Text.{hyphenated_text, lower}
 use Rattle.uuid.specs.declared.Variant.TheVariants.{RFC4122}

@@ -10,7 +10,7 @@ use Rattle.luks_json.specs.declared.keyslot.Luks2.{Luks2}
 use Rattle.luks_json.specs.declared.meta.Parts.{Parts}
 use Rattle.luks_json.specs.declared.segment.Segment.{Segment}
 use Rattle.luks_json.specs.declared.segment.SegmentSize.TheVariants.{Dynamic}
-use Rattle.luks_keys.specs.Digests.{digest_for as new_digest}
+use Rattle.luks_slots.specs.KeyMaking.Digests.{digest_for as new_digest}
 use Rattle.luks_slots.specs.NewSlots.{slot_for}
 use Rattle.serde_json.specs.Data.{no_members}
 

@@ -1,6 +1,6 @@
 -- Where a new volume's keyslot and data lie.
 use Rattle.std.specs.Prelude.{ℕ, ◌≡◌, ◌*◌, ◌/◌, ◌<◌, ◌≤◌, true, [], None}
-use Rattle.disk_sizes.specs.declared.Sizes.{Sizes}
+use Rattle.base_terms.specs.declared.disk_sizes.Sizes.{Sizes}
 use Rattle.luks_format.specs.Drawings.{Draw}
 use Rattle.luks_format.specs.Metadata.{parts_for}
 use Rattle.luks_format.specs.Wishes.{FitsDisk, IsWish, areas_end_for, keyslots_size_for}

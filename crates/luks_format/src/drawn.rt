@@ -44,7 +44,7 @@ pub fn drawn_len(wish: &Wish) -> usize
     requires { IsWish wish.now }
     ensures { result ≡ drawn_len wish.now }
 {
-    luks_keys::drawn_len(wish.key_size as usize) + identifier_len(wish) + 2 * COPY_SALT
+    luks_slots::drawn_len(wish.key_size as usize) + identifier_len(wish) + 2 * COPY_SALT
 }
 
 /// Deals the drawn bytes out, in their order, each byte once.
@@ -56,7 +56,7 @@ pub fn split_drawn<'a>(wish: &Wish, bytes: &'a [u8]) -> Drawn<'a>
     ensures once { spent (draw result) ≡ bytes.now }
     ensures lengths { AreDrawn wish.now (draw result) }
 {
-    let (new_key, rest) = luks_keys::split_drawn(wish.key_size as usize, bytes);
+    let (new_key, rest) = luks_slots::split_drawn(wish.key_size as usize, bytes);
     let (identifier, rest) = rest.split_at(identifier_len(wish));
     let (first_salt, second_salt) = rest.split_at(COPY_SALT);
     Drawn {

@@ -11,8 +11,7 @@ use crate::drawn::Drawn;
 use crate::wish::Wish;
 use json_members::{Listed, Object};
 use luks_json::{Config, Digest, Encryption, Keyslot, Luks2, Meta, Parts, Segment, SegmentSize};
-use luks_keys::make_digest;
-use luks_slots::slot_object;
+use luks_slots::{make_digest, slot_object};
 use std::alloc::{AllocError, Global};
 
 /// The bytes of a keyslot's salt.

@@ -13,7 +13,7 @@ const MOST_KEYSLOTS: u64 = 134_217_728;
 const DETACHED_END: u64 = 16_777_216;
 
 /// What a new volume is to be.
-#[derive(Clone, Copy, Debug)]
+#[derive(Clone, Copy)]
 pub struct Wish {
     /// The cipher of its data.
     pub cipher: Cipher,

@@ -4,7 +4,7 @@ use Rattle.std.proofs.Common.{Option, Some, None, Result, Ok, Err, refl, subst, 
 use Rattle.std.specs.Option.{IsSomeAnd, is_some}
 use Rattle.std.specs.Prelude.{nat_lt, not}
 use Rattle.std.specs.Result.{IfOk}
-use Rattle.disk_sizes.specs.declared.Sizes.{Sizes}
+use Rattle.base_terms.specs.declared.disk_sizes.Sizes.{Sizes}
 use Rattle.luks_init.proofs.StartLemmas.{may-start}
 use Rattle.luks_init.specs.Begins.{MayBegin, first_unready, unready_by}
 use Rattle.luks_init.specs.Faults.{IsTooLong, IsUnbegun}
@@ -16,8 +16,8 @@ use Rattle.luks_init.specs.declared.fault.InitFault.TheVariants as faults
 use Rattle.luks_init.specs.declared.places.Places.{Places}
 use Rattle.luks_init.specs.declared.wish.Wish.{Wish}
 use Rattle.luks_json.specs.declared.meta.Parts.{Parts}
-use Rattle.luks_keys.specs.Digests.{digest_for}
-use Rattle.luks_keys.specs.Drawings.{Draw}
+use Rattle.luks_slots.specs.KeyMaking.Digests.{digest_for}
+use Rattle.luks_slots.specs.KeyMaking.Drawings.{Draw}
 use Rattle.luks_rules.specs.Idles.{idle_of}
 use Rattle.luks_rules.specs.States.{IsSound}
 use Rattle.luks_rules.specs.declared.idle.Idle.{Idle}

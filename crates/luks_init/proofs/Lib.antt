@@ -3,3 +3,4 @@ pub mod SizeLemmas
 pub mod StartLemmas
 pub mod WishLemmas
 pub mod BeginLemmas
+pub mod DiskInit

@@ -4,7 +4,7 @@ use Rattle.std.proofs.Common.{append-nil, [], ◌∷◌, Some, None, refl, sym, 
 use Rattle.std.proofs.lemmas.List.Elements.{All-cons, All-nil, All-weaker}
 use Rattle.std.specs.List.{All}
 use Rattle.std.specs.Option.{IsSome, is_some}
-use Rattle.disk_sizes.specs.declared.Sizes.{Sizes}
+use Rattle.base_terms.specs.declared.disk_sizes.Sizes.{Sizes}
 use Rattle.luks_init.proofs.ApartLemmas.{two-apart}
 use Rattle.luks_init.proofs.SizeLemmas.{guard-room, guard-whole, slot-whole}
 use Rattle.luks_init.specs.Metadata.{wish_for, wish_with}
@@ -16,7 +16,7 @@ use Rattle.luks_init.specs.declared.wish.Guard.TheVariants.{Journal, Checksum}
 use Rattle.luks_init.specs.declared.wish.Wish.{Wish}
 use Rattle.luks_json.specs.declared.meta.Parts.{Parts}
 use Rattle.luks_json.specs.declared.reencrypt.Direction.{Direction}
-use Rattle.luks_keys.specs.Drawings.{Draw}
+use Rattle.luks_slots.specs.KeyMaking.Drawings.{Draw}
 use Rattle.luks_rules.specs.Areas.{areas_begin, areas_end, areas_of, main_bytes}
 use Rattle.luks_rules.specs.Idles.{idle_of}
 use Rattle.luks_rules.specs.Overlaps.{TwoShare}

@@ -1,7 +1,7 @@
 -- What a conversion begins with.
 use Rattle.std.specs.Prelude.{ℕ, ◌≡◌, ◌-◌, ◌≤◌, ◌||◌, nat_lt, not, List, length, Option, Some, None}
 use Rattle.std.specs.Prelude.{is_some, IsSome, IsSomeAnd, if◌then◌else◌}
-use Rattle.disk_sizes.specs.declared.Sizes.{Sizes}
+use Rattle.base_terms.specs.declared.disk_sizes.Sizes.{Sizes}
 use Rattle.luks_init.specs.Metadata.{HasBegun, text_len}
 use Rattle.luks_init.specs.Places.{AreLowest}
 use Rattle.luks_init.specs.declared.beginning.Begun.{Begun}
@@ -9,7 +9,7 @@ use Rattle.luks_init.specs.declared.fault.InitFault.{InitFault}
 use Rattle.luks_init.specs.declared.fault.InitFault.TheVariants as faults
 use Rattle.luks_init.specs.declared.wish.Wish.{Wish}
 use Rattle.luks_json.specs.declared.meta.Parts.{Parts}
-use Rattle.luks_keys.specs.Drawings.{Draw}
+use Rattle.luks_slots.specs.KeyMaking.Drawings.{Draw}
 use Rattle.luks_rules.specs.Idles.{idle_of}
 use Rattle.luks_rules.specs.declared.idle.Idle.{Idle}
 use Rattle.luks_slots.specs.NewSlots.{IsSlotAt}

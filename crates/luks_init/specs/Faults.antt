@@ -1,6 +1,6 @@
 -- Why no conversion begins.
 use Rattle.std.specs.Prelude.{ℕ, ◌≡◌, ◌-◌, ◌<◌, List, Some, None, IsSomeAnd}
-use Rattle.disk_sizes.specs.declared.Sizes.{Sizes}
+use Rattle.base_terms.specs.declared.disk_sizes.Sizes.{Sizes}
 use Rattle.luks_init.specs.Begins.{first_unready}
 use Rattle.luks_init.specs.Metadata.{text_len, wish_for}
 use Rattle.luks_init.specs.Places.{AreLowest, IsNoRoom}
@@ -9,7 +9,7 @@ use Rattle.luks_init.specs.declared.fault.InitFault.TheVariants as faults
 use Rattle.luks_init.specs.declared.places.Places.{Places}
 use Rattle.luks_init.specs.declared.wish.Wish.{Wish}
 use Rattle.luks_json.specs.declared.meta.Parts.{Parts}
-use Rattle.luks_keys.specs.Drawings.{Draw}
+use Rattle.luks_slots.specs.KeyMaking.Drawings.{Draw}
 use Rattle.luks_rules.specs.Idles.{idle_of}
 use Rattle.luks_rules.specs.declared.idle.Idle.{Idle}
 use Rattle.reenc_meta.specs.Starts.{started}

@@ -1,13 +1,13 @@
 -- What follows for the areas of a conversion.
 use Rattle.std.specs.Prelude.{◌≡◌, Some, IsSome}
-use Rattle.disk_sizes.specs.declared.Sizes.{Sizes}
+use Rattle.base_terms.specs.declared.disk_sizes.Sizes.{Sizes}
 use Rattle.luks_init.specs.Metadata.{wish_for}
 use Rattle.luks_init.specs.Places.{AreLowest}
 use Rattle.luks_init.specs.Wishes.{IsWish}
 use Rattle.luks_init.specs.declared.places.Places.{Places}
 use Rattle.luks_init.specs.declared.wish.Wish.{Wish}
 use Rattle.luks_json.specs.declared.meta.Parts.{Parts}
-use Rattle.luks_keys.specs.Drawings.{Draw}
+use Rattle.luks_slots.specs.KeyMaking.Drawings.{Draw}
 use Rattle.luks_rules.specs.Idles.{idle_of}
 use Rattle.luks_rules.specs.States.{IsSound}
 use Rattle.luks_rules.specs.declared.idle.Idle.{Idle}

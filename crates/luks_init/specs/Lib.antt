@@ -4,3 +4,4 @@ pub mod Metadata
 pub mod Begins
 pub mod Faults
 pub mod Laws
+pub mod DiskInit

@@ -1,6 +1,6 @@
 -- The metadata with which a conversion begins.
 use Rattle.std.specs.Prelude.{ℕ, ◌≡◌, ◌+◌, List, [], length, take, Some, None, IsSomeAnd, true}
-use Rattle.disk_sizes.specs.declared.Sizes.{Sizes}
+use Rattle.base_terms.specs.declared.disk_sizes.Sizes.{Sizes}
 use Rattle.luks_init.specs.Wishes.{guard_len, resilience_for}
 use Rattle.luks_init.specs.declared.places.Places.{Places}
 use Rattle.luks_init.specs.declared.wish.Wish.{Wish}
@@ -10,8 +10,8 @@ use Rattle.luks_json.specs.declared.digest.Digest.{Digest}
 use Rattle.luks_json.specs.declared.keyslot.Luks2.{Luks2}
 use Rattle.luks_json.specs.declared.meta.Parts.{Parts}
 use Rattle.luks_json.specs.declared.reencrypt.Mode.TheVariants.{Reencrypt}
-use Rattle.luks_keys.specs.Digests.{digest_for}
-use Rattle.luks_keys.specs.Drawings.{Draw}
+use Rattle.luks_slots.specs.KeyMaking.Digests.{digest_for}
+use Rattle.luks_slots.specs.KeyMaking.Drawings.{Draw}
 use Rattle.luks_rules.specs.Idles.{idle_of}
 use Rattle.luks_rules.specs.Rules.{first_fault}
 use Rattle.luks_rules.specs.Shapes.{progress_of}

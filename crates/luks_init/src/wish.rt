@@ -13,7 +13,7 @@ const PAGE: u64 = 4096;
 const DIGEST: u64 = 32;
 
 /// What keeps the open zone of a conversion safe.
-#[derive(Clone, Copy, Debug, PartialEq, Eq)]
+#[derive(Clone, Copy, PartialEq, Eq)]
 pub enum Guard {
     /// Copies of its old blocks.
     Journal,
@@ -22,7 +22,7 @@ pub enum Guard {
 }
 
 /// What a volume is to be converted into, and how.
-#[derive(Clone, Copy, Debug)]
+#[derive(Clone, Copy)]
 pub struct Wish {
     /// The cipher of the new segment.
     pub cipher: Cipher,
@@ -39,6 +39,8 @@ pub struct Wish {
     /// The bytes of the largest zone that is to have room: whole atoms, at least one, and at most
     /// 67108864 bytes.
     pub hotzone_size: u64,
+    /// Whether keyslots that hold the old key for other passphrases may go.
+    pub drop_keyslots: bool,
 }
 
 impl Wish {

@@ -15,7 +15,6 @@ use json_members::{
 use std::alloc::{AllocError, Global};
 
 /// A digest of a key by PBKDF2 (RFC 8018): the type `pbkdf2`.
-#[derive(Drop)]
 pub struct Digest {
     /// The numbers of the keyslots that hold the key, as they were read.
     pub keyslots: Listed<u64>,
@@ -28,6 +27,26 @@ pub struct Digest {
     pub digest: Bytes,
     /// The members that have no name here, as they were read.
     pub rest: Object,
+}
+
+// By hand, so that a value that is dropped in place is one call to the prover.
+impl Drop for Digest {
+    fn drop(self) {
+        let Digest {
+            keyslots,
+            segments,
+            hash: _,
+            iterations: _,
+            salt,
+            digest,
+            rest,
+        } = self;
+        drop(keyslots);
+        drop(segments);
+        drop(salt);
+        drop(digest);
+        drop(rest);
+    }
 }
 
 #[tactic(auto, unfolding(json_members::specs::Fields::meant_in))]

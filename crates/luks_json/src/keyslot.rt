@@ -25,7 +25,6 @@ use json_members::{
 use std::alloc::{AllocError, Global};
 
 /// Where the stripes of a key lie, and how they are encrypted: an area of the type `raw`.
-#[derive(Drop)]
 pub struct SlotArea {
     /// The cipher's name.
     pub encryption: Text,
@@ -37,6 +36,21 @@ pub struct SlotArea {
     pub size: u64,
     /// The members that have no name here, as they were read.
     pub rest: Object,
+}
+
+// By hand, so that a value that is dropped in place is one call to the prover.
+impl Drop for SlotArea {
+    fn drop(self) {
+        let SlotArea {
+            encryption,
+            key_size: _,
+            offset: _,
+            size: _,
+            rest,
+        } = self;
+        drop(encryption);
+        drop(rest);
+    }
 }
 
 /// How PBKDF2 (RFC 8018) derives a key.
@@ -59,11 +73,18 @@ pub enum Derivation {
 }
 
 /// How a passphrase becomes a key.
-#[derive(Drop)]
 pub struct Kdf {
     pub derivation: Derivation,
     /// The members that have no name here, as they were read.
     pub rest: Object,
+}
+
+impl Drop for Kdf {
+    fn drop(self) {
+        let Kdf { derivation, rest } = self;
+        drop(derivation);
+        drop(rest);
+    }
 }
 
 /// How a key is split: an anti-forensic splitter of the type `luks1`.
@@ -77,7 +98,7 @@ pub struct Splitter {
 }
 
 /// In which order keyslots are tried.
-#[derive(Clone, Copy, Debug, PartialEq, Eq)]
+#[derive(Clone, Copy, PartialEq, Eq)]
 pub enum Priority {
     /// 0: only when it is asked for.
     Ignore,
@@ -88,7 +109,6 @@ pub enum Priority {
 }
 
 /// A keyslot that a passphrase opens: the type `luks2`.
-#[derive(Drop)]
 pub struct Luks2 {
     /// How long the key is, in bytes.
     pub key_size: u64,
@@ -98,6 +118,23 @@ pub struct Luks2 {
     pub priority: Option<Priority>,
     /// The members that have no name here, as they were read.
     pub rest: Object,
+}
+
+impl Drop for Luks2 {
+    fn drop(self) {
+        let Luks2 {
+            key_size: _,
+            area,
+            kdf,
+            af,
+            priority: _,
+            rest,
+        } = self;
+        drop(area);
+        drop(kdf);
+        drop(af);
+        drop(rest);
+    }
 }
 
 /// The area of a keyslot of another type.
@@ -112,7 +149,6 @@ pub struct OtherArea {
 }
 
 /// A keyslot of another type, which is kept.
-#[derive(Drop)]
 pub struct OtherSlot {
     /// The type.
     pub kind: Text,
@@ -121,16 +157,34 @@ pub struct OtherSlot {
     pub rest: Object,
 }
 
+impl Drop for OtherSlot {
+    fn drop(self) {
+        let OtherSlot { kind, area, rest } = self;
+        drop(kind);
+        drop(area);
+        drop(rest);
+    }
+}
+
 /// A keyslot, by its type.
-#[derive(Drop)]
 pub enum Keyslot {
     Luks2(Luks2),
     Reencrypt(Reencrypt),
     Unknown(OtherSlot),
 }
 
+impl Drop for Keyslot {
+    fn drop(self) {
+        match self {
+            Keyslot::Luks2(slot) => drop(slot),
+            Keyslot::Reencrypt(slot) => drop(slot),
+            Keyslot::Unknown(slot) => drop(slot),
+        }
+    }
+}
+
 /// Whose header it is, by its mandatory requirements.
-#[derive(Clone, Copy, Debug, PartialEq, Eq)]
+#[derive(Clone, Copy, PartialEq, Eq)]
 pub enum Origin {
     /// None asks for anything but this program's conversion.
     Own,
@@ -139,7 +193,7 @@ pub enum Origin {
 }
 
 /// By which table a keyslot is read.
-#[derive(Clone, Copy, Debug, PartialEq, Eq)]
+#[derive(Clone, Copy, PartialEq, Eq)]
 pub enum SlotType {
     Luks2,
     Reencrypt,

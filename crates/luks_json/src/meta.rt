@@ -24,7 +24,6 @@ use std::alloc::{AllocError, Global};
 use std::marker::Model;
 
 /// The objects of a header, each list by rising number.
-#[derive(Drop)]
 pub struct Parts {
     pub keyslots: Listed<(u64, Keyslot)>,
     pub tokens: Listed<(u64, Token)>,
@@ -35,10 +34,36 @@ pub struct Parts {
     pub rest: Object,
 }
 
+// By hand, so that a value that is dropped in place is one call to the prover.
+impl Drop for Parts {
+    fn drop(self) {
+        let Parts {
+            keyslots,
+            tokens,
+            segments,
+            digests,
+            config,
+            rest,
+        } = self;
+        drop(keyslots);
+        drop(tokens);
+        drop(segments);
+        drop(digests);
+        drop(config);
+        drop(rest);
+    }
+}
+
 /// The metadata of a header, which contracts see as its parts. They have a text.
-#[derive(Drop)]
 pub struct Meta {
     parts: Parts,
+}
+
+impl Drop for Meta {
+    fn drop(self) {
+        let Meta { parts } = self;
+        drop(parts);
+    }
 }
 
 impl Model for Meta {

@@ -9,7 +9,7 @@ use json_members::{JsonFaultKind, Object, ReadError, fault_at, number_at};
 use std::alloc::Global;
 
 /// A cipher of segments and of keyslots' areas.
-#[derive(Clone, Copy, Debug, PartialEq, Eq)]
+#[derive(Clone, Copy, PartialEq, Eq)]
 pub enum Cipher {
     /// `aes-xts-plain64`
     AesXtsPlain64,
@@ -18,7 +18,7 @@ pub enum Cipher {
 }
 
 /// A hash by which keys are derived.
-#[derive(Clone, Copy, Debug, PartialEq, Eq)]
+#[derive(Clone, Copy, PartialEq, Eq)]
 pub enum Hash {
     /// `sha256`
     Sha256,

@@ -28,7 +28,7 @@ use json_members::{
 use std::alloc::{AllocError, Global};
 
 /// What is converted into what.
-#[derive(Clone, Copy, Debug, PartialEq, Eq)]
+#[derive(Clone, Copy, PartialEq, Eq)]
 pub enum Mode {
     /// `reencrypt`: a crypt segment into another.
     Reencrypt,
@@ -39,7 +39,7 @@ pub enum Mode {
 }
 
 /// In which order blocks are converted.
-#[derive(Clone, Copy, Debug, PartialEq, Eq)]
+#[derive(Clone, Copy, PartialEq, Eq)]
 pub enum Direction {
     /// `forward`: from the first block up.
     Forward,
@@ -48,7 +48,7 @@ pub enum Direction {
 }
 
 /// How an open zone is kept safe, which is the area's type.
-#[derive(Clone, Copy, Debug, PartialEq, Eq)]
+#[derive(Clone, Copy, PartialEq, Eq)]
 pub enum Resilience {
     /// `journal`: the area holds the zone's old content.
     Journal,
@@ -71,7 +71,6 @@ pub struct ReencryptArea {
 }
 
 /// The state of a conversion: a keyslot of the type `reencrypt`, whose key_size is 1.
-#[derive(Drop)]
 pub struct Reencrypt {
     pub mode: Mode,
     pub direction: Direction,
@@ -80,8 +79,22 @@ pub struct Reencrypt {
     pub rest: Object,
 }
 
+// By hand, so that a value that is dropped in place is one call to the prover.
+impl Drop for Reencrypt {
+    fn drop(self) {
+        let Reencrypt {
+            mode: _,
+            direction: _,
+            area,
+            rest,
+        } = self;
+        drop(area);
+        drop(rest);
+    }
+}
+
 /// The type of a conversion's area.
-#[derive(Clone, Copy, Debug, PartialEq, Eq)]
+#[derive(Clone, Copy, PartialEq, Eq)]
 pub enum AreaType {
     Journal,
     Checksum,

@@ -28,7 +28,7 @@ use json_members::{
 use std::alloc::{AllocError, Global};
 
 /// How long a segment is.
-#[derive(Clone, Copy, Debug, PartialEq, Eq)]
+#[derive(Clone, Copy, PartialEq, Eq)]
 pub enum SegmentSize {
     /// `dynamic`: up to the disk's end.
     Dynamic,
@@ -37,7 +37,7 @@ pub enum SegmentSize {
 }
 
 /// How a crypt segment is encrypted.
-#[derive(Clone, Copy, Debug, PartialEq, Eq)]
+#[derive(Clone, Copy, PartialEq, Eq)]
 pub struct Encryption {
     /// The number of the segment's first sector, in units of 512 bytes.
     pub iv_tweak: u64,
@@ -48,7 +48,6 @@ pub struct Encryption {
 
 /// A segment, in the order of its members in the format. One with an encryption has the type
 /// `crypt`, one without has the type `linear`.
-#[derive(Drop)]
 pub struct Segment {
     /// Where it begins, in bytes.
     pub offset: u64,
@@ -59,8 +58,23 @@ pub struct Segment {
     pub rest: Object,
 }
 
+// By hand, so that a value that is dropped in place is one call to the prover.
+impl Drop for Segment {
+    fn drop(self) {
+        let Segment {
+            offset: _,
+            size: _,
+            encryption: _,
+            flags,
+            rest,
+        } = self;
+        drop(flags);
+        drop(rest);
+    }
+}
+
 /// The type of a segment.
-#[derive(Clone, Copy, Debug, PartialEq, Eq)]
+#[derive(Clone, Copy, PartialEq, Eq)]
 pub enum SegmentType {
     /// `crypt`
     Crypt,

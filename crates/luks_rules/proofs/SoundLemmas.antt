@@ -4,7 +4,7 @@ use Rattle.std.proofs.Common.{Some, None, Bool, true, false, cond, refl, sym, ap
 use Rattle.std.proofs.lemmas.Bool.{ltb-false, or_parts, not-false, both_ways}
 use Rattle.std.specs.List.{All, AllByRecursion, list_any}
 use Rattle.std.specs.Option.{is_some, option_map, option_and_then}
-use Rattle.disk_sizes.specs.declared.Sizes.{Sizes}
+use Rattle.base_terms.specs.declared.disk_sizes.Sizes.{Sizes}
 use Rattle.json_members.specs.Entries.{IsRising}
 use Rattle.luks_json.specs.Configs.{is_foreign, mandatory}
 use Rattle.luks_json.specs.declared.digest.Digest.{Digest}

@@ -8,7 +8,7 @@ use Rattle.luks_json.specs.declared.keyslot.Keyslot.TheVariants as keyslots
 use Rattle.luks_json.specs.declared.keyslot.OtherArea.{OtherArea}
 use Rattle.luks_json.specs.declared.meta.Parts.{Parts}
 use Rattle.luks_rules.specs.declared.areas.Area.{Area}
-use Rattle.disk_sizes.specs.declared.Sizes.{Sizes}
+use Rattle.base_terms.specs.declared.disk_sizes.Sizes.{Sizes}
 
 abbrev pub other_area : OtherArea → Area
 other_area a = record { offset = a.offset; size = a.size }

@@ -10,7 +10,7 @@ use Rattle.luks_json.specs.declared.segment.SegmentSize.TheVariants.{Dynamic, Si
 use Rattle.luks_rules.specs.Areas.{areas_of}
 use Rattle.luks_rules.specs.Segments.{bytes_of}
 use Rattle.luks_rules.specs.declared.areas.Area.{Area}
-use Rattle.disk_sizes.specs.declared.Sizes.{Sizes}
+use Rattle.base_terms.specs.declared.disk_sizes.Sizes.{Sizes}
 
 -- ---- a sector that doesn't divide the atom
 abbrev pub cuts_atom : ℕ → Option Encryption → Bool

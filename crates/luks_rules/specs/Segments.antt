@@ -10,7 +10,7 @@ use Rattle.luks_json.specs.declared.segment.Segment.{Segment}
 use Rattle.luks_json.specs.declared.segment.SegmentSize.{SegmentSize}
 use Rattle.luks_json.specs.declared.segment.SegmentSize.TheVariants.{Dynamic, Sized}
 use Rattle.luks_rules.specs.Areas.{main_bytes}
-use Rattle.disk_sizes.specs.declared.Sizes.{Sizes}
+use Rattle.base_terms.specs.declared.disk_sizes.Sizes.{Sizes}
 
 -- whether a conversion is under way: the profile's string is mandatory
 unfoldable pub in_progress : Config → Bool
@@ -27,6 +27,15 @@ is_backup s = flag_in (codes "backup-previous") s.flags || flag_in (codes "backu
 abbrev pub is_dynamic : SegmentSize → Bool
 is_dynamic Dynamic = true
 is_dynamic (Sized n) = false
+
+-- Whether a volume goes to the main disk's end: a segment has no size of its own. What lies there
+-- behind the last whole atom belongs to it then too.
+abbrev pub goes_to_end : List (ℕ × Segment) → Bool
+goes_to_end segments = list_any (λ s. is_dynamic s.1.size) segments
+
+-- whether bytes of a volume lie behind the last whole atom of a main disk that has so many there
+abbrev pub has_tail : List (ℕ × Segment) → ℕ → Bool
+has_tail segments tail = goes_to_end segments && nat_lt 0 tail
 
 -- the bytes of a segment: a dynamic one goes to the last whole atom of the disk
 abbrev pub bytes_by : ℕ → ℕ → SegmentSize → ℕ

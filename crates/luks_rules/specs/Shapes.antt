@@ -13,7 +13,7 @@ use Rattle.luks_json.specs.declared.segment.Encryption.{Encryption}
 use Rattle.luks_json.specs.declared.segment.Segment.{Segment}
 use Rattle.luks_json.specs.declared.segment.SegmentSize.{SegmentSize}
 use Rattle.luks_json.specs.declared.segment.SegmentSize.TheVariants.{Dynamic, Sized}
-use Rattle.disk_sizes.specs.declared.Sizes.{Sizes}
+use Rattle.base_terms.specs.declared.disk_sizes.Sizes.{Sizes}
 use Rattle.luks_rules.specs.Conversions.{conversions_of, only}
 use Rattle.luks_rules.specs.Extents.{blocks_of, extent_of}
 use Rattle.luks_rules.specs.Plans.{blocks_in, is_sized, laid_out, parts_of}

@@ -3,12 +3,12 @@ ghost use Rattle.std.specs.List.{list_any};
 ghost use Rattle.luks_rules.specs.Areas.{area_of, areas_of, end_of, areas_begin, areas_end};
 ghost use Rattle.luks_rules.specs.Areas.{is_outside, passes_limit, breaks_bounds};
 
-use disk_sizes::Sizes;
+use base_terms::Sizes;
 use luks_json::{Config, Keyslot, Parts, Segment};
 use std::alloc::{AllocError, Global};
 
 /// A run of bytes of the header's disk that a keyslot holds.
-#[derive(Clone, Copy, Debug, PartialEq, Eq)]
+#[derive(Clone, Copy, PartialEq, Eq)]
 pub struct Area {
     /// Its first byte.
     pub offset: u64,

@@ -6,7 +6,7 @@ use luks_json::{Direction, Keyslot, Mode, Resilience};
 use std::alloc::{AllocError, Global};
 
 /// How a conversion goes on: what its keyslot says.
-#[derive(Clone, Copy, Debug, PartialEq, Eq)]
+#[derive(Clone, Copy, PartialEq, Eq)]
 pub struct Conversion {
     /// The number of its keyslot.
     pub keyslot: u64,

@@ -7,7 +7,7 @@ use json_members::{Listed, Text};
 use luks_json::{Digest, Encryption, Segment, SegmentSize};
 
 /// What the flags of a segment say.
-#[derive(Clone, Copy, Debug, PartialEq, Eq)]
+#[derive(Clone, Copy, PartialEq, Eq)]
 pub enum Mark {
     /// No flag: a part of a segment, or a whole one.
     Plain,
@@ -22,7 +22,7 @@ pub enum Mark {
 }
 
 /// A segment: its place, how it is encrypted, and under which digest's key.
-#[derive(Clone, Copy, Debug, PartialEq, Eq)]
+#[derive(Clone, Copy, PartialEq, Eq)]
 pub struct Extent {
     /// The segment's number.
     pub number: u64,

@@ -3,11 +3,11 @@ ghost use Rattle.luks_rules.specs.Idles.{idle_from, idle_of};
 
 use crate::extents::{Extent, make_extent};
 use crate::segments::{is_in_progress, segment_blocks};
-use disk_sizes::Sizes;
+use base_terms::Sizes;
 use luks_json::{Digest, Parts, Segment};
 
 /// A volume of which nothing is being converted.
-#[derive(Clone, Copy, Debug, PartialEq, Eq)]
+#[derive(Clone, Copy, PartialEq, Eq)]
 pub struct Idle {
     /// Its one segment. Whether it is encrypted is told by its `encryption` alone: also a linear
     /// segment may be listed by a digest, which then says nothing of it.

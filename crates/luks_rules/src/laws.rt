@@ -2,7 +2,7 @@
 
 ghost use Rattle.std.specs.Prelude.{◌≡◌, ◌↔◌, ◌<◌, ℕ, Bool, false, true, List, length, is_some};
 ghost use Rattle.std.specs.Prelude.{Some, None};
-ghost use Rattle.disk_sizes.specs.declared.Sizes.{Sizes as sizes_type};
+ghost use Rattle.base_terms.specs.declared.disk_sizes.Sizes.{Sizes as sizes_type};
 ghost use Rattle.luks_json.specs.declared.meta.Parts.{Parts as parts_type};
 ghost use Rattle.luks_rules.specs.Areas.{breaks_bounds};
 ghost use Rattle.luks_rules.specs.Multiples.{breaks_multiples, breaks_sectors, breaks_tweaks};

@@ -30,8 +30,8 @@ mod shape;
 mod valid;
 
 pub use areas::{Area, list_areas};
+pub use base_terms::Sizes;
 pub use conversions::Conversion;
-pub use disk_sizes::Sizes;
 pub use extents::{Extent, Mark};
 pub use fault::{CheckError, RuleFault};
 pub use idle::Idle;

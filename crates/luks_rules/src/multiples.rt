@@ -8,7 +8,7 @@ ghost use Rattle.luks_rules.specs.Segments.{bytes_of};
 
 use crate::areas::Area;
 use crate::segments::segment_bytes;
-use disk_sizes::Sizes;
+use base_terms::Sizes;
 use luks_json::{Encryption, Parts, Segment, SegmentSize};
 
 /// Whether sectors of this encryption don't divide the atom.

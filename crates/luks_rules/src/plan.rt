@@ -8,7 +8,7 @@ use crate::extents::{Extent, Mark};
 use luks_json::{Cipher, Direction, Encryption, SegmentSize};
 
 /// Of how many blocks each part of a volume is while it is converted, in logical order.
-#[derive(Clone, Copy, Debug, PartialEq, Eq)]
+#[derive(Clone, Copy, PartialEq, Eq)]
 pub struct Plan {
     /// Forward those that are new, backward those that are old.
     pub first: u64,
@@ -19,7 +19,7 @@ pub struct Plan {
 }
 
 /// So many blocks of a whole segment from one of them on.
-#[derive(Clone, Copy, Debug, PartialEq, Eq)]
+#[derive(Clone, Copy, PartialEq, Eq)]
 pub(crate) struct Part {
     pub(crate) whole: Extent,
     /// Whether these blocks are the open zone.

@@ -15,7 +15,7 @@ use crate::references::break_references;
 use crate::room::{has_no_capacity, has_no_shift};
 use crate::segments::hold_no_volume;
 use crate::shape::{Progress, find_progress, has_no_shape};
-use disk_sizes::Sizes;
+use base_terms::Sizes;
 use luks_json::Parts;
 use std::alloc::{AllocError, Global};
 

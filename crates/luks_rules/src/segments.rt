@@ -4,10 +4,10 @@ ghost use Rattle.std.specs.Str.{bytes_eq};
 ghost use Rattle.luks_json.specs.Configs.{profile};
 ghost use Rattle.luks_rules.specs.Areas.{main_bytes};
 ghost use Rattle.luks_rules.specs.Segments.{breaks_count, breaks_segments, bytes_of, flag_in};
-ghost use Rattle.luks_rules.specs.Segments.{holds_none, in_progress, is_backup, is_dynamic};
+ghost use Rattle.luks_rules.specs.Segments.{goes_to_end, holds_none, in_progress, is_backup, is_dynamic};
 ghost use Rattle.luks_rules.specs.Segments.{is_live, live_bytes, passes_end, whole_blocks};
 
-use disk_sizes::Sizes;
+use base_terms::Sizes;
 use json_members::{Listed, Text};
 use luks_json::{Config, PROFILE, Parts, Segment, SegmentSize};
 
@@ -100,6 +100,13 @@ pub(crate) fn is_dynamic_size(size: &SegmentSize) -> bool
     ensures { result ≡ is_dynamic size.now }
 {
     matches!(size, SegmentSize::Dynamic)
+}
+
+/// Whether a segment has no size of its own, and goes to the main disk's end.
+pub(crate) fn any_goes_to_end(segments: &[(u64, Segment)]) -> bool
+    ensures { result ≡ goes_to_end segments.now }
+{
+    segments.iter().any(|s| is_dynamic_size(&s.1.size))
 }
 
 fn any_live_is_dynamic(segments: &[(u64, Segment)]) -> bool

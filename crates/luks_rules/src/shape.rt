@@ -13,11 +13,11 @@ use crate::extents::{Extent, Mark, blocks, make_extent};
 use crate::plan::{Plan, are_laid_out, blocks_of_volume, has_size, parts};
 use crate::references::lists_number;
 use crate::segments::{is_dynamic_size, is_in_progress};
-use disk_sizes::Sizes;
+use base_terms::Sizes;
 use luks_json::{Digest, Encryption, Mode, Parts, Resilience, Segment, SegmentSize};
 
 /// How far a conversion is.
-#[derive(Clone, Copy, Debug, PartialEq, Eq)]
+#[derive(Clone, Copy, PartialEq, Eq)]
 pub struct Progress {
     pub conversion: Conversion,
     /// The whole segment that is converted.

@@ -3,29 +3,47 @@ ghost use Rattle.luks_json.specs.Digests.{IsDigest};
 ghost use Rattle.luks_rules.specs.Idles.{idle_of};
 ghost use Rattle.luks_rules.specs.References.{value_at};
 ghost use Rattle.luks_rules.specs.Rules.{IsCause, first_fault};
+ghost use Rattle.luks_rules.specs.Segments.{has_tail};
 ghost use Rattle.luks_rules.specs.Shapes.{progress_of};
 
 use crate::fault::CheckError;
 use crate::idle::{Idle, find_idle};
 use crate::rules::judge;
+use crate::segments::any_goes_to_end;
 use crate::shape::Progress;
-use disk_sizes::Sizes;
+use base_terms::Sizes;
 use luks_json::{Digest, Meta};
 use std::alloc::Global;
 use std::marker::Model;
 
 /// Metadata, and the sizes of the disks that they speak of.
-#[derive(Drop)]
 pub struct Checked {
     pub meta: Meta,
     pub sizes: Sizes,
 }
 
+// By hand, so that a value that is dropped in place is one call to the prover.
+impl Drop for Checked {
+    fn drop(self) {
+        let Checked { meta, sizes: _ } = self;
+        drop(meta);
+    }
+}
+
 /// Metadata that break no rule, with the sizes of their disks.
-#[derive(Drop)]
 pub struct Valid {
     checked: Checked,
     progress: Option<Progress>,
+}
+
+impl Drop for Valid {
+    fn drop(self) {
+        let Valid {
+            checked,
+            progress: _,
+        } = self;
+        drop(checked);
+    }
 }
 
 impl Model for Valid {
@@ -117,6 +135,14 @@ impl Valid {
         ensures right { IfSome result (λ digest. IsDigest digest.now) }
     {
         find_digest(self.checked.meta.parts().digests.as_slice(), number)
+    }
+
+    /// Whether bytes of the volume lie behind the last whole atom of a main disk that has so many
+    /// there: it goes to the disk's end.
+    pub fn has_tail(&self, tail: u64) -> bool
+        ensures { result ≡ has_tail self.now.meta.segments tail }
+    {
+        any_goes_to_end(self.checked.meta.parts().segments.as_slice()) && 0 < tail
     }
 
     /// The volume, where nothing of it is being converted.

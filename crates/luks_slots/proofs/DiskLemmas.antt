@@ -67,6 +67,7 @@ unwritten-none d =
     record {
       size = refl;
       atoms = refl;
+      tail = refl;
       values = refl;
       told =
           λ now is. (now, is, read-none now);
@@ -79,6 +80,7 @@ pub unwritten-call : (atom at : ℕ) (bytes : List ℕ) (old new : disk_type)
 unwritten-call atom at bytes old new result call = record {
   size = call.size;
   atoms = call.atoms;
+  tail = call.tail;
   values = call.values;
   told = told-since old.told new.told result call.told;
   later = call.cause.later;
@@ -88,6 +90,7 @@ pub unwritten-joined : (a b c : disk_type) → IsUnwritten a b → IsUnwritten b
 unwritten-joined a b c first later = record {
   size = later.size ∙ first.size;
   atoms = later.atoms ∙ first.atoms;
+  tail = later.tail ∙ first.tail;
   values = later.values ∙ first.values;
   told = λ now is.
       (let (mid, of_mid, reads) = later.told now is in let (before, was, earlier) =

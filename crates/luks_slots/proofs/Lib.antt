@@ -7,3 +7,4 @@ pub mod GapLemmas
 pub mod GapSteps
 pub mod AreaLemmas
 pub mod NewSlotLemmas
+pub mod KeyMaking

@@ -4,8 +4,8 @@ use Rattle.std.proofs.Common.{Option, Some, None, All, sum_by, refl, subst, arit
 use Rattle.std.specs.List.{AllByRecursion, cons_option, filter_map}
 use Rattle.std.proofs.lemmas.List.Elements.{All-head, All-tail}
 use Rattle.std.proofs.Math.Nat.{mul-le-mul_right}
-use Rattle.disk_sizes.specs.declared.Sizes.{Sizes}
-use Rattle.joined_disk.specs.Counts.{HasSizes}
+use Rattle.base_terms.specs.declared.disk_sizes.Sizes.{Sizes}
+use Rattle.sector_disk.specs.JoinedDisks.Counts.{HasSizes}
 use Rattle.luks_json.specs.Configs.{origin_of}
 use Rattle.luks_json.specs.Keyslots.{IsDerivation, IsKeyslot}
 use Rattle.luks_json.specs.Metas.{IsMeta}

@@ -17,6 +17,7 @@ pub record IsRead (before now : Told) : Type 0 where
 pub record IsUnwritten (old new : Device) : Type 0 where
   pub size : new.size ≡ old.size
   pub atoms : new.atoms ≡ old.atoms
+  pub tail : new.tail ≡ old.tail
   pub values : new.values ≡ old.values
   pub told : (now : Told) → new.told ≡ Some now
       → (before : Told) × (old.told ≡ Some before) × IsRead before now

@@ -1,6 +1,6 @@
 -- What follows for the key of a passphrase.
 use Rattle.std.specs.Prelude.{ℕ, ◌≡◌, List, take, drop}
-use Rattle.disk_sizes.specs.declared.Sizes.{Sizes}
+use Rattle.base_terms.specs.declared.disk_sizes.Sizes.{Sizes}
 use Rattle.luks_json.specs.declared.digest.Digest.{Digest}
 use Rattle.luks_json.specs.declared.meta.Parts.{Parts}
 use Rattle.luks_rules.specs.Areas.{areas_begin}

@@ -1,8 +1,10 @@
 pub mod Devices
 pub mod Functions
 pub mod Stripes
+pub mod Kinds
 pub mod Slots
 pub mod Unlocks
 pub mod Laws
 pub mod Gaps
 pub mod NewSlots
+pub mod KeyMaking

@@ -15,6 +15,7 @@ use Rattle.luks_json.specs.declared.segment.Encryption.{Encryption}
 use Rattle.luks_json.specs.Names.{is_iterations}
 use Rattle.luks_rules.specs.References.{lists}
 use Rattle.luks_slots.specs.Functions.{functions_of, has_key_length, named_cipher}
+use Rattle.luks_slots.specs.Kinds.{kind_by}
 use Rattle.luks_slots.specs.Stripes.{split_len}
 use Rattle.luks_slots.specs.declared.fault.Refusal.{Refusal}
 use Rattle.luks_slots.specs.declared.fault.Refusal.TheVariants.{NotAssigned, Priority, Unsupported}
@@ -73,7 +74,8 @@ unfoldable pub refusal_of : Parts → Digest → ℕ → Luks2 → Option Refusa
 refusal_of m d n slot =
     if not (lists d.keyslots n) then Some NotAssigned
     else (if is_ignored slot.priority then Some Priority
-    else (if is_none (functions_for m d slot) then Some Unsupported else None))
+    else (if is_none (functions_for m d slot) then Some (Unsupported (kind_by slot.kdf.derivation))
+    else None))
 
 -- ---- what is known of a keyslot of a header that breaks no rule
 -- its rounds are so many as PBKDF2 may have

@@ -9,7 +9,7 @@ use pbkdf2_hmac::Hash;
 use sector_cipher::Spec;
 
 /// By which functions a passphrase opens a keyslot.
-#[derive(Clone, Copy, Debug, PartialEq, Eq)]
+#[derive(Clone, Copy, PartialEq, Eq)]
 pub struct Functions {
     /// The hash of PBKDF2, by which the area's key is derived.
     pub kdf: Hash,

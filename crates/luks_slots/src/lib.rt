@@ -10,6 +10,8 @@
 //! gives. Both draw nothing and write nothing.
 //!
 //! Argon2 isn't known here: such a keyslot is kept, and never opened.
+//!
+//! `new_keys` says which of the drawn bytes are spent for a new key, and makes its digest.
 #![tactic(auto)]
 
 mod fault;
@@ -17,7 +19,9 @@ mod functions;
 mod gap;
 mod key;
 mod key_digest;
+mod kinds;
 mod laws;
+mod new_keys;
 mod new_slot;
 mod passphrase;
 mod slots;
@@ -28,6 +32,8 @@ pub use functions::cipher_spec;
 pub use gap::find_gap;
 pub use key::Key;
 pub use key_digest::{FEWEST_DIGEST_BYTES, MOST_DIGEST_BYTES, derive_digest, is_key_of};
+pub use kinds::{SlotKind, holders};
 pub use laws::{keys_are_behind_headers, keys_are_in_areas};
+pub use new_keys::{Drawn, drawn_len, make_digest, split_drawn};
 pub use new_slot::{NewSlot, add, area_size, slot_at, slot_object};
 pub use passphrase::unlock;

@@ -6,7 +6,7 @@ ghost use Rattle.base_terms.specs.Causes.{Rose};
 ghost use Rattle.luks_json.specs.Names.{is_iterations};
 ghost use Rattle.luks_json.specs.declared.digest.Digest.{Digest as digest_type};
 ghost use Rattle.luks_rules.specs.References.{value_at};
-ghost use Rattle.joined_disk.specs.Counts.{HasSizes};
+ghost use Rattle.sector_disk.specs.JoinedDisks.Counts.{HasSizes};
 ghost use Rattle.luks_slots.specs.Devices.{IsUnwritten};
 ghost use Rattle.luks_slots.specs.Unlocks.{IsRight, IsUnlocked};
 

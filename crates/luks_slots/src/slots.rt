@@ -10,6 +10,7 @@ ghost use Rattle.luks_slots.specs.Unlocks.{refusals, refused};
 
 use crate::fault::Refusal;
 use crate::functions::{Functions, cipher_spec, named_functions};
+use crate::kinds::kind_by;
 use luks_json::{Derivation, Digest, Encryption, Keyslot, Luks2, Parts, Priority, Segment};
 use luks_rules::lists_number;
 use sector_cipher::Spec;
@@ -129,7 +130,7 @@ fn refuse(parts: &Parts, digest: &Digest, number: u64, slot: &Luks2) -> Option<R
     }
     match opening_functions(parts, digest, slot) {
         Some(_) => None,
-        None => Some(Refusal::Unsupported),
+        None => Some(Refusal::Unsupported(kind_by(&slot.kdf.derivation))),
     }
 }
 

@@ -2,10 +2,10 @@
 use Rattle.std.proofs.Common.{◌≡◌, ℕ, ◌+◌, ◌*◌, ◌≤◌, false, List, length, take, drop, Some, Result}
 use Rattle.std.proofs.Common.{Ok, Err, refl, sym, ◌∙◌, ap, subst, arith}
 use Rattle.std.proofs.Math.Nat.{mul-le-mul_right}
-use Rattle.disk_areas.specs.Headers.{Copy, Header, IsHeader, IsLaidOut, IsReader, Layout, byte_of}
-use Rattle.disk_areas.specs.Headers.{primary, secondary, text_of}
+use Rattle.crash_laws.specs.HeaderAreas.Headers.{Copy, Header, IsHeader, IsLaidOut, IsReader, Layout, byte_of}
+use Rattle.crash_laws.specs.HeaderAreas.Headers.{primary, secondary, text_of}
 use Rattle.luks_bin.specs.declared.header.BinFault.{BinFault}
-use Rattle.luks_copies.specs.Meanings.{header_of, header_reader, meaning_at, meaning_of, size_in}
+use Rattle.luks_store.specs.Copying.Meanings.{header_of, header_reader, meaning_at, meaning_of, size_in}
 use Rattle.luks_rules.specs.Areas.{header_bytes}
 use Rattle.luks_store.proofs.CopyLemmas.{Spelt, front-part}
 use Rattle.luks_store.proofs.GivenLemmas.{Newer, is_first, is_second, are_same, are_other}

@@ -6,17 +6,17 @@ use Rattle.std.proofs.Common.{ap, subst}
 use Rattle.std.proofs.Common.{arith, length-append}
 use Rattle.std.proofs.Math.Nat.{mul-le-mul_right}
 use Rattle.std.proofs.lemmas.List.{append-nil, take_all, take_at, drop_at}
-use Rattle.disk_sizes.specs.declared.Sizes.{Sizes}
-use Rattle.joined_disk.specs.Counts.{HasSizes}
+use Rattle.base_terms.specs.declared.disk_sizes.Sizes.{Sizes}
+use Rattle.sector_disk.specs.JoinedDisks.Counts.{HasSizes}
 use Rattle.luks_bin.specs.Copies.{copy_of, text_of, BeginsWithCopy, IsCopy}
 use Rattle.luks_bin.specs.declared.header.BinHeader.{BinHeader}
-use Rattle.disk_areas.specs.Headers.{secondary, IsHeader}
-use Rattle.luks_copies.specs.Meanings.{header_of, header_reader, meaning_at, meaning_of, seqid_in}
-use Rattle.luks_copies.specs.Meanings.{size_in}
+use Rattle.crash_laws.specs.HeaderAreas.Headers.{secondary, IsHeader}
+use Rattle.luks_store.specs.Copying.Meanings.{header_of, header_reader, meaning_at, meaning_of, seqid_in}
+use Rattle.luks_store.specs.Copying.Meanings.{size_in}
 use Rattle.luks_bin.specs.Writing.{IsWritable}
-use Rattle.luks_copies.specs.Held.{primary_of, secondary_of}
-use Rattle.luks_copies.specs.Steps.{FitDisk}
-use Rattle.luks_copies.specs.declared.commit.CommitError.{CommitError}
+use Rattle.luks_store.specs.Copying.Held.{primary_of, secondary_of}
+use Rattle.luks_store.specs.Copying.Steps.{FitDisk}
+use Rattle.luks_store.specs.declared.header_copies.commit.CommitError.{CommitError}
 use Rattle.luks_store.specs.declared.commit.Prepared.{Prepared}
 use Rattle.luks_rules.specs.Areas.{header_bytes, main_bytes}
 use Rattle.luks_store.proofs.CopyLemmas.{Spelt}

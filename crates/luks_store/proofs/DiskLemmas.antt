@@ -8,8 +8,8 @@ use Rattle.std.specs.List.{All}
 use Rattle.std.proofs.lemmas.List.{append-nil}
 use Rattle.std.proofs.lemmas.List.Elements.{All-nil, All-cons, All-append}
 use Rattle.base_terms.specs.declared.failed.Failed.{Failed}
-use Rattle.joined_disk.specs.Joined.{Joint, joined_disk}
-use Rattle.joined_disk.specs.JoinedCalls.{JointRead}
+use Rattle.sector_disk.specs.JoinedDisks.Joined.{Joint, joined_disk}
+use Rattle.sector_disk.specs.JoinedDisks.JoinedCalls.{JointRead}
 use Rattle.luks_store.specs.Devices.{IsRead, IsUnwritten, KeepsBytes}
 use Rattle.luks_store.proofs.PageLemmas.{page-place}
 use Rattle.luks_store.specs.Loads.{HasCause, IsNoRead, Says}
@@ -103,6 +103,7 @@ keeps-none : (d : disk_type) → KeepsBytes d d
 keeps-none d = record {
   size = refl;
   atoms = refl;
+  tail = refl;
   values = refl;
   told = λ now is. (now, is, read-none now);
   later = omega arith;
@@ -117,6 +118,7 @@ keeps-marked : (size at number : ℕ) (bytes : List ℕ) (old new : disk_type)
 keeps-marked size at number bytes old new result call = record {
   size = call.size;
   atoms = call.atoms;
+  tail = call.tail;
   values = call.values;
   later = call.cause.later;
   told = marked-since number old.told new.told
@@ -127,6 +129,7 @@ keeps-joined : (a b c : disk_type) → KeepsBytes a b → KeepsBytes b c → Kee
 keeps-joined a b c first later = record {
   size = later.size ∙ first.size;
   atoms = later.atoms ∙ first.atoms;
+  tail = later.tail ∙ first.tail;
   values = later.values ∙ first.values;
   later = (let one = first.later in let two = later.later in omega (arith, one, two));
   told = λ now is.
@@ -164,6 +167,7 @@ unwritten-call atom at bytes old new result call each =
     record {
       size = call.size;
       atoms = call.atoms;
+      tail = call.tail;
       values = call.values;
       told = told-since (joined_disk old).told (joined_disk new).told result call.told;
       later = call.cause.later;
@@ -175,6 +179,7 @@ pub unwritten-joined : (a b c : Joint) → IsUnwritten a b → IsUnwritten b c �
 unwritten-joined a b c first later = record {
   size = later.size ∙ first.size;
   atoms = later.atoms ∙ first.atoms;
+  tail = later.tail ∙ first.tail;
   values = later.values ∙ first.values;
   told = λ now is.
       (let (mid, of_mid, reads) = later.told now is in let (before, was, earlier) =

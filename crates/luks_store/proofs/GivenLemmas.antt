@@ -5,14 +5,14 @@ use Rattle.std.proofs.Common.{subst, arith}
 use Rattle.std.specs.Str.{bytes_eq}
 use Rattle.std.proofs.lemmas.Bool.{ltb-true, ltb-false}
 use Rattle.std.proofs.lemmas.Slice.Eq.{bytes_eq-Decides}
-use Rattle.disk_areas.specs.Headers.{found, Gives}
+use Rattle.crash_laws.specs.HeaderAreas.Headers.{found, Gives}
 use Rattle.luks_bin.proofs.FieldLemmas.{size-least}
 use Rattle.luks_bin.specs.Copies.{copy_of, ◌>>=◌}
 use Rattle.luks_bin.specs.declared.header.BinFault.{BinFault}
 use Rattle.luks_bin.specs.declared.header.BinHeader.{BinHeader}
-use Rattle.luks_copies.proofs.MeaningLemmas.{seqid_is, size_is}
-use Rattle.luks_copies.specs.Meanings.{header_reader, meaning_at, meaning_if, meaning_of, seqid_in}
-use Rattle.luks_copies.specs.Meanings.{size_in}
+use Rattle.luks_store.proofs.Copying.MeaningLemmas.{seqid_is, size_is}
+use Rattle.luks_store.specs.Copying.Meanings.{header_reader, meaning_at, meaning_if, meaning_of, seqid_in}
+use Rattle.luks_store.specs.Copying.Meanings.{size_in}
 use Rattle.luks_store.proofs.CopyLemmas.{Spelt, whole-from}
 use Rattle.luks_store.specs.Found.{copy_at, copy_from, IsWholeAt}
 use Rattle.luks_store.specs.Used.{beside, differ, kept, newer_of, Refusal}

@@ -1,6 +1,6 @@
 -- Lemmas on the metadata of the copy that is used, as they are judged.
 use Rattle.std.proofs.Common.{◌≡◌, None, Ok, refl}
-use Rattle.disk_sizes.specs.declared.Sizes.{Sizes}
+use Rattle.base_terms.specs.declared.disk_sizes.Sizes.{Sizes}
 use Rattle.luks_bin.specs.Copies.{text_of}
 use Rattle.luks_json.specs.Metas.{meta_from}
 use Rattle.luks_json.specs.declared.meta.Parts.{Parts}

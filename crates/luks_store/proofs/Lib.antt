@@ -16,3 +16,5 @@ pub mod JudgeLemmas
 pub mod SettledLemmas
 pub mod BegunLemmas
 pub mod FrontLemmas
+pub mod Copying
+pub mod SlotCommits

@@ -2,10 +2,10 @@
 use Rattle.std.proofs.Common.{◌≡◌, ℕ, List, take, drop, Option, Some, None, Result, Ok, Err, refl}
 use Rattle.std.proofs.Common.{sym}
 use Rattle.std.proofs.Common.{◌∙◌, ap, subst}
-use Rattle.disk_sizes.specs.declared.Sizes.{Sizes}
+use Rattle.base_terms.specs.declared.disk_sizes.Sizes.{Sizes}
 use Rattle.luks_bin.specs.declared.header.BinFault.{BinFault}
-use Rattle.luks_copies.specs.Meanings.{meaning_of}
-use Rattle.luks_copies.specs.Promises.{MeanTheSame}
+use Rattle.luks_store.specs.Copying.Meanings.{meaning_of}
+use Rattle.luks_store.specs.Copying.Promises.{MeanTheSame}
 use Rattle.luks_json.specs.declared.meta.Parts.{Parts}
 use Rattle.luks_rules.specs.Rules.{first_fault}
 use Rattle.luks_rules.specs.declared.fault.RuleFault.{RuleFault}

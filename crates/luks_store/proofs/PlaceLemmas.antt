@@ -5,11 +5,11 @@ use Rattle.std.proofs.Common.{drop, Option, Some, None, Bool, true, Result, Ok, 
 use Rattle.std.proofs.Common.{ap, subst, arith}
 use Rattle.std.specs.List.{list_all, list_any}
 use Rattle.std.proofs.lemmas.Bool.{eqb-true, ltb-true, or_cases, and_parts}
-use Rattle.disk_areas.specs.Headers.{found, Gives}
+use Rattle.crash_laws.specs.HeaderAreas.Headers.{found, Gives}
 use Rattle.luks_bin.specs.Copies.{copy_of}
 use Rattle.luks_bin.specs.Fields.{is_size}
 use Rattle.luks_bin.specs.declared.header.BinFault.{BinFault}
-use Rattle.luks_copies.specs.Meanings.{header_reader, meaning_of}
+use Rattle.luks_store.specs.Copying.Meanings.{header_reader, meaning_of}
 use Rattle.luks_store.proofs.CopyLemmas.{Spelt, found-here, found-later, whole-behind}
 use Rattle.luks_store.proofs.GivenLemmas.{Newer, is_first, is_second, are_same, are_other, newer}
 use Rattle.luks_store.proofs.GivenLemmas.{copy-found, copy-whole, fault-of, given-beside}

@@ -2,17 +2,17 @@
 use Rattle.std.proofs.Common.{ap, ◌≡◌, ◌≢◌, ◌⊎◌, inl, inr, ℕ, length, Ok, refl, sym, ◌∙◌, subst}
 use Rattle.std.proofs.Common.{arith, ◌*◌, ◌/◌, ◌≤◌}
 use Rattle.std.proofs.lemmas.List.{take_all}
-use Rattle.disk_areas.specs.Headers.{IsHeader}
+use Rattle.crash_laws.specs.HeaderAreas.Headers.{IsHeader}
 use Rattle.luks_bin.specs.Copies.{copy_of, IsCopy}
 use Rattle.luks_bin.specs.Hidden.{hides_copy}
 use Rattle.luks_bin.specs.Shares.{Agree}
 use Rattle.luks_bin.specs.declared.header.BinHeader.{BinHeader}
-use Rattle.luks_copies.specs.Held.{copy_in, place_in, repair_stage_in}
-use Rattle.luks_copies.specs.Meanings.{header_of, header_reader}
-use Rattle.luks_copies.specs.declared.repair.Repair.{Repair}
-use Rattle.luks_copies.specs.declared.repair.RepairStage.TheVariants.{Broken}
+use Rattle.luks_store.specs.Copying.Held.{copy_in, place_in, repair_stage_in}
+use Rattle.luks_store.specs.Copying.Meanings.{header_of, header_reader}
+use Rattle.luks_store.specs.declared.header_copies.repair.Repair.{Repair}
+use Rattle.luks_store.specs.declared.header_copies.repair.RepairStage.TheVariants.{Broken}
 use Rattle.luks_store.proofs.CopyLemmas.{Spelt}
-use Rattle.disk_sizes.specs.declared.Sizes.{Sizes}
+use Rattle.base_terms.specs.declared.disk_sizes.Sizes.{Sizes}
 use Rattle.luks_store.proofs.CommitLemmas.{fits-disk}
 use Rattle.luks_store.proofs.PageLemmas.{size-pages}
 use Rattle.luks_store.specs.Commits.{FitsDisks, Repairs}

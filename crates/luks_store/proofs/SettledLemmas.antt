@@ -4,12 +4,12 @@ use Rattle.std.proofs.Common.{◌≡◌, ℕ, zero, suc, ◌+◌, ◌*◌, ◌<�
 use Rattle.std.proofs.Common.{take, drop, replicate, refl, sym, ◌∙◌, ap, arith}
 use Rattle.std.proofs.lemmas.List.{drop_at, take_at}
 use Rattle.base_terms.specs.Blocks.{joined, lengths}
-use Rattle.disk_areas.specs.Areas.{IsOf, Shows}
-use Rattle.disk_areas.specs.Headers.{Copy, IsLaidOut, Layout, byte_of, place_of, primary, secondary}
-use Rattle.disk_sizes.specs.declared.Sizes.{Sizes}
-use Rattle.disk_views.proofs.Blockwise.{block_at-first, block_at-next, block_at-part}
-use Rattle.disk_views.specs.Parts.{block_at, cell_in, value_in}
-use Rattle.disk_views.specs.Views.{view_of_cells}
+use Rattle.crash_laws.specs.HeaderAreas.Areas.{IsOf, Shows}
+use Rattle.crash_laws.specs.HeaderAreas.Headers.{Copy, IsLaidOut, Layout, byte_of, place_of, primary, secondary}
+use Rattle.base_terms.specs.declared.disk_sizes.Sizes.{Sizes}
+use Rattle.sector_disk.proofs.DiskViews.Blockwise.{block_at-first, block_at-next, block_at-part}
+use Rattle.sector_disk.specs.DiskViews.Parts.{block_at, cell_in, value_in}
+use Rattle.sector_disk.specs.DiskViews.Views.{view_of_cells}
 use Rattle.luks_store.specs.Devices.{IsCertain}
 use Rattle.sector_disk.specs.Cells.{Cell, currents}
 use Rattle.std.proofs.Common.{Bool}

@@ -13,7 +13,7 @@ use Rattle.luks_json.specs.Keyslots.{keyslot_of}
 use Rattle.luks_json.specs.Segments.{segment_of}
 use Rattle.luks_json.specs.Tokens.{token_of}
 use Rattle.serde_json.specs.Find.{as_object}
-use Rattle.disk_sizes.specs.declared.Sizes.{Sizes}
+use Rattle.base_terms.specs.declared.disk_sizes.Sizes.{Sizes}
 use Rattle.json_members.proofs.ReadLemmas.{Right, then}
 use Rattle.json_members.specs.declared.faults.JsonFault.{JsonFault}
 use Rattle.luks_bin.proofs.FieldLemmas.{size-least}

@@ -6,8 +6,8 @@ use Rattle.std.proofs.lemmas.List.{ext_get_or, get_or-drop}
 use Rattle.luks_bin.proofs.FieldLemmas.{size-least}
 use Rattle.luks_bin.specs.Copies.{text_of, up_to_nul}
 use Rattle.luks_bin.specs.Shares.{Agree}
-use Rattle.luks_copies.specs.Meanings.{size_in}
-use Rattle.luks_copies.specs.Promises.{MeanTheSame}
+use Rattle.luks_store.specs.Copying.Meanings.{size_in}
+use Rattle.luks_store.specs.Copying.Promises.{MeanTheSame}
 use Rattle.json_members.specs.declared.faults.JsonFault.{JsonFault}
 use Rattle.luks_json.specs.Metas.{meta_from}
 use Rattle.luks_json.specs.declared.meta.Parts.{Parts}

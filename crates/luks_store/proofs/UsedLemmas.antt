@@ -6,8 +6,8 @@ use Rattle.std.proofs.lemmas.Bool.{le-ltb}
 use Rattle.std.proofs.lemmas.Slice.Eq.{bytes_eq-Decides}
 use Rattle.luks_bin.proofs.FieldLemmas.{size-least}
 use Rattle.luks_bin.specs.Shares.{Agree, DifferFirst}
-use Rattle.luks_copies.specs.Meanings.{meaning_of}
-use Rattle.luks_copies.specs.Promises.{MeanTheSame}
+use Rattle.luks_store.specs.Copying.Meanings.{meaning_of}
+use Rattle.luks_store.specs.Copying.Promises.{MeanTheSame}
 use Rattle.luks_store.specs.Found.{IsWholeAt, IsWholeBehind}
 use Rattle.luks_store.specs.Used.{differ, kept, newer_of, AreCopies}
 use Rattle.luks_store.specs.declared.copies.Copies.{Copies}

@@ -3,10 +3,10 @@ use Rattle.std.proofs.Common.{◌≡◌, inl, inr, ℕ, ◌<◌, ◌==◌, nat_l
 use Rattle.std.proofs.Common.{true, Result, Ok, Err, refl, sym, ◌∙◌, ap, subst, arith}
 use Rattle.std.specs.List.{list_all}
 use Rattle.std.proofs.lemmas.Bool.{eqb-true, ltb-true, or_cases, and_parts}
-use Rattle.disk_areas.specs.Headers.{found, HasNoneBelow, IsNotNewer}
+use Rattle.crash_laws.specs.HeaderAreas.Headers.{found, HasNoneBelow, IsNotNewer}
 use Rattle.luks_bin.specs.Fields.{is_size}
 use Rattle.luks_bin.specs.declared.header.BinFault.{BinFault}
-use Rattle.luks_copies.specs.Meanings.{header_reader, meaning_of, seqid_in, size_in}
+use Rattle.luks_store.specs.Copying.Meanings.{header_reader, meaning_of, seqid_in, size_in}
 use Rattle.luks_store.proofs.CopyLemmas.{Spelt, found-here, found-later}
 use Rattle.luks_store.proofs.GivenLemmas.{Newer, is_first, is_second, are_same, are_other, Both}
 use Rattle.luks_store.proofs.GivenLemmas.{both, copy-found, copy-whole, inside, newer, none-found}

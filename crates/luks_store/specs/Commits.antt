@@ -1,22 +1,22 @@
 -- Commits and repairs of a header that was loaded.
 use Rattle.std.specs.Prelude.{◌≡◌, ◌≢◌, ℕ, ◌+◌, ◌*◌, ◌/◌, ◌<◌, ◌≤◌, List, ◌++◌, length}
 use Rattle.std.specs.Prelude.{replicate, false, Ok, IsOk}
-use Rattle.disk_areas.specs.Commits.{Follows}
-use Rattle.disk_areas.specs.Headers.{Header, IsHeader}
-use Rattle.disk_sizes.specs.declared.Sizes.{Sizes}
-use Rattle.joined_disk.specs.Counts.{HasSizes}
+use Rattle.crash_laws.specs.HeaderAreas.Commits.{Follows}
+use Rattle.crash_laws.specs.HeaderAreas.Headers.{Header, IsHeader}
+use Rattle.base_terms.specs.declared.disk_sizes.Sizes.{Sizes}
+use Rattle.sector_disk.specs.JoinedDisks.Counts.{HasSizes}
 use Rattle.luks_bin.specs.Copies.{copy_of, text_of}
 use Rattle.luks_bin.specs.Hidden.{hides_copy}
 use Rattle.luks_bin.specs.Shares.{Agree}
 use Rattle.luks_bin.specs.declared.header.BinHeader.{BinHeader}
-use Rattle.luks_copies.specs.Meanings.{header_of, header_reader, meaning_of}
-use Rattle.luks_copies.specs.Steps.{FitDisk, IsRefusal}
-use Rattle.luks_copies.specs.Held.{primary_of, secondary_of, size_in_bytes, copy_in, place_in}
-use Rattle.luks_copies.specs.Held.{repair_stage_in}
-use Rattle.luks_copies.specs.declared.commit.CommitError.{CommitError}
-use Rattle.luks_copies.specs.declared.commit.CommitError.TheVariants.{Memory}
-use Rattle.luks_copies.specs.declared.repair.Repair.{Repair}
-use Rattle.luks_copies.specs.declared.repair.RepairStage.TheVariants.{Broken}
+use Rattle.luks_store.specs.Copying.Meanings.{header_of, header_reader, meaning_of}
+use Rattle.luks_store.specs.Copying.Steps.{FitDisk, IsRefusal}
+use Rattle.luks_store.specs.Copying.Held.{primary_of, secondary_of, size_in_bytes, copy_in, place_in}
+use Rattle.luks_store.specs.Copying.Held.{repair_stage_in}
+use Rattle.luks_store.specs.declared.header_copies.commit.CommitError.{CommitError}
+use Rattle.luks_store.specs.declared.header_copies.commit.CommitError.TheVariants.{Memory}
+use Rattle.luks_store.specs.declared.header_copies.repair.Repair.{Repair}
+use Rattle.luks_store.specs.declared.header_copies.repair.RepairStage.TheVariants.{Broken}
 use Rattle.luks_json.specs.Metas.{data_of, meta_from}
 use Rattle.luks_json.specs.declared.meta.Parts.{Parts}
 use Rattle.luks_bin.specs.Writing.{written}

@@ -4,11 +4,11 @@ use Rattle.std.specs.Prelude.{Some, if◌then◌else◌, length, replicate, Cont
 use Rattle.std.specs.List.{All, list_all}
 use Rattle.base_terms.specs.Blocks.{joined, lengths}
 use Rattle.base_terms.specs.Causes.{Rose}
-use Rattle.disk_sizes.specs.declared.Sizes.{Sizes}
-use Rattle.disk_views.specs.Parts.{cell_in}
-use Rattle.joined_disk.specs.Counts.{joint_in}
-use Rattle.joined_disk.specs.Joined.{Joint, joined_disk}
-use Rattle.joined_disk.specs.declared.joined.JoinedDisk.{JoinedDisk}
+use Rattle.base_terms.specs.declared.disk_sizes.Sizes.{Sizes}
+use Rattle.sector_disk.specs.DiskViews.Parts.{cell_in}
+use Rattle.sector_disk.specs.JoinedDisks.Counts.{joint_in}
+use Rattle.sector_disk.specs.JoinedDisks.Joined.{Joint, joined_disk}
+use Rattle.sector_disk.specs.declared.joined.joined.JoinedDisk.{JoinedDisk}
 use Rattle.luks_rules.specs.Areas.{header_bytes, main_bytes}
 use Rattle.luks_store.specs.declared.fault.ReadFault.{ReadFault}
 use Rattle.luks_store.specs.declared.fault.ReadFault.TheVariants.{Memory, Device}
@@ -44,6 +44,7 @@ pub record IsRead (before now : Told) : Type 0 where
 pub record KeepsBytes (old new : disk_type) : Type 0 where
   pub size : new.size ≡ old.size
   pub atoms : new.atoms ≡ old.atoms
+  pub tail : new.tail ≡ old.tail
   pub values : new.values ≡ old.values
   pub later : old.faults ≤ new.faults
   pub told : (now : Told) → new.told ≡ Some now
@@ -54,6 +55,7 @@ pub record KeepsBytes (old new : disk_type) : Type 0 where
 pub record IsUnwritten (old new : Joint) : Type 0 where
   pub size : (joined_disk new).size ≡ (joined_disk old).size
   pub atoms : (joined_disk new).atoms ≡ (joined_disk old).atoms
+  pub tail : (joined_disk new).tail ≡ (joined_disk old).tail
   pub values : (joined_disk new).values ≡ (joined_disk old).values
   pub told : (now : Told) → (joined_disk new).told ≡ Some now
       → (before : Told) × ((joined_disk old).told ≡ Some before) × IsRead before now

@@ -4,3 +4,5 @@ pub mod Used
 pub mod Loads
 pub mod Promises
 pub mod Commits
+pub mod Copying
+pub mod SlotCommits

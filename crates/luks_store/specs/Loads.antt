@@ -1,7 +1,7 @@
 -- The header that a disk holds: the copy that is used, and the metadata in it.
 use Rattle.std.specs.Prelude.{◌≡◌, ◌<◌, ℕ, List, Option, Some, None, Result, Ok, Err}
 use Rattle.base_terms.specs.Causes.{Rose}
-use Rattle.disk_sizes.specs.declared.Sizes.{Sizes}
+use Rattle.base_terms.specs.declared.disk_sizes.Sizes.{Sizes}
 use Rattle.luks_bin.specs.Copies.{text_of}
 use Rattle.luks_bin.specs.Shares.{DifferFirst}
 use Rattle.luks_json.specs.Metas.{meta_from}

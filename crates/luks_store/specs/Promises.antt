@@ -1,13 +1,13 @@
 -- What is promised of the copies that are used.
 use Rattle.std.specs.Prelude.{◌≡◌, ◌≢◌, ℕ, ◌*◌, false, List, take, drop, Some, None}
 use Rattle.std.specs.Prelude.{Ok, Err}
-use Rattle.disk_areas.specs.Commits.{begun, ShowsCommit}
-use Rattle.disk_areas.specs.Headers.{found, Gives, Header, IsHeader, IsLaidOut, Layout}
-use Rattle.disk_sizes.specs.declared.Sizes.{Sizes}
-use Rattle.disk_views.specs.Views.{view_of_cells}
+use Rattle.crash_laws.specs.HeaderAreas.Commits.{begun, ShowsCommit}
+use Rattle.crash_laws.specs.HeaderAreas.Headers.{found, Gives, Header, IsHeader, IsLaidOut, Layout}
+use Rattle.base_terms.specs.declared.disk_sizes.Sizes.{Sizes}
+use Rattle.sector_disk.specs.DiskViews.Views.{view_of_cells}
 use Rattle.luks_bin.specs.Copies.{copy_of}
 use Rattle.luks_bin.specs.declared.header.BinFault.{BinFault}
-use Rattle.luks_copies.specs.Meanings.{header_reader, meaning_of}
+use Rattle.luks_store.specs.Copying.Meanings.{header_reader, meaning_of}
 use Rattle.luks_rules.specs.Areas.{areas_begin}
 use Rattle.luks_store.specs.Commits.{AreGood}
 use Rattle.luks_store.specs.Devices.{front_of, IsCertain}

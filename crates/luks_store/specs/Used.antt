@@ -4,7 +4,7 @@ use Rattle.std.specs.Prelude.{Ok, Err, if◌then◌else◌}
 use Rattle.std.specs.Str.{bytes_eq}
 use Rattle.luks_bin.specs.Copies.{IsCopy}
 use Rattle.luks_bin.specs.declared.header.BinFault.{BinFault}
-use Rattle.luks_copies.specs.Meanings.{meaning_of}
+use Rattle.luks_store.specs.Copying.Meanings.{meaning_of}
 use Rattle.json_members.specs.declared.faults.JsonFault.{JsonFault}
 use Rattle.luks_rules.specs.declared.fault.RuleFault.{RuleFault}
 use Rattle.luks_store.specs.Found.{copy_at, first_at}

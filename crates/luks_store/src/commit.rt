@@ -2,17 +2,17 @@
 
 ghost use Rattle.std.specs.Prelude.{◌≡◌, ◌≢◌, ◌+◌, ◌++◌, ◌<◌, ◌↔◌, ℕ, List, None, Ok, true, IfOk};
 ghost use Rattle.std.specs.Prelude.{IsTrue, MatchResult};
-ghost use Rattle.disk_areas.specs.Headers.{IsHeader};
-ghost use Rattle.joined_disk.specs.Counts.{HasSizes};
+ghost use Rattle.crash_laws.specs.HeaderAreas.Headers.{IsHeader};
+ghost use Rattle.sector_disk.specs.JoinedDisks.Counts.{HasSizes};
 ghost use Rattle.luks_bin.specs.Copies.{holds_nul, text_of};
 ghost use Rattle.luks_bin.specs.Fields.{is_size};
 ghost use Rattle.luks_bin.specs.Writing.{IsWritable};
-ghost use Rattle.luks_copies.specs.Meanings.{header_of, header_reader, meaning_of, seqid_in};
-ghost use Rattle.luks_copies.specs.Meanings.{size_in};
-ghost use Rattle.luks_copies.specs.Steps.{CopyCall, FitDisk, HasNext, done_of, is_last};
-ghost use Rattle.luks_copies.specs.Steps.{stage_after};
-ghost use Rattle.luks_copies.specs.Held.{primary_of, secondary_of, size_in_bytes, stage_in};
-ghost use Rattle.luks_copies.specs.declared.commit.Stage.TheVariants.{Begun, Ended};
+ghost use Rattle.luks_store.specs.Copying.Meanings.{header_of, header_reader, meaning_of, seqid_in};
+ghost use Rattle.luks_store.specs.Copying.Meanings.{size_in};
+ghost use Rattle.luks_store.specs.Copying.Steps.{CopyCall, FitDisk, HasNext, done_of, is_last};
+ghost use Rattle.luks_store.specs.Copying.Steps.{stage_after};
+ghost use Rattle.luks_store.specs.Copying.Held.{primary_of, secondary_of, size_in_bytes, stage_in};
+ghost use Rattle.luks_store.specs.declared.header_copies.commit.Stage.TheVariants.{Begun, Ended};
 ghost use Rattle.luks_json.specs.Metas.{meta_from};
 ghost use Rattle.luks_rules.specs.Rules.{first_fault};
 ghost use Rattle.luks_store.specs.Commits.{committed, header_before, text_for};
@@ -21,11 +21,10 @@ ghost use Rattle.luks_store.specs.Loads.{stored_in};
 
 use crate::copies::{Copies, CopyPlace, CopyState, HeaderCopy};
 use crate::fault::memory_of;
+use crate::header_copies::{CommitError, Stage};
 use crate::loaded::{Loaded, judge};
-use base_terms::{Bytes, Failed};
-use disk_sizes::Sizes;
+use base_terms::{Bytes, Failed, Sizes};
 use luks_bin::{BinHeader, copies_are_spelt};
-use luks_copies::{CommitError, Stage};
 use luks_json::Meta;
 use sector_disk::Disk;
 use std::alloc::{AllocError, Global};
@@ -34,7 +33,7 @@ use std::marker::Model;
 /// Both copies of the next header, how far their writing is, and what they hold.
 #[derive(Drop)]
 pub struct Prepared {
-    pub copies: luks_copies::Commit,
+    pub copies: crate::header_copies::Commit,
     /// The binary header of the primary.
     pub header: BinHeader,
     pub second_salt: [u8; 64],
@@ -43,9 +42,16 @@ pub struct Prepared {
 
 /// A commit of a header: both copies, which hold metadata that break no rule, and how far their
 /// writing is. It is four device calls: write the primary, sync, write the secondary, sync.
-#[derive(Drop)]
 pub struct Commit {
     prepared: Prepared,
+}
+
+// By hand, so that a value that is dropped in place is one call to the prover.
+impl Drop for Commit {
+    fn drop(self) {
+        let Commit { prepared } = self;
+        drop(prepared);
+    }
 }
 
 impl Model for Commit {
@@ -104,7 +110,13 @@ fn prepare(
         Ok(text) => text,
         Err(AllocError) => return Err(CommitError::Memory),
     };
-    match luks_copies::Commit::new(alloc, header, first_salt, second_salt, text.as_slice()) {
+    match crate::header_copies::Commit::new(
+        alloc,
+        header,
+        first_salt,
+        second_salt,
+        text.as_slice(),
+    ) {
         Ok(copies) => Ok(Commit {
             prepared: Prepared {
                 copies,

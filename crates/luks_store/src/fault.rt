@@ -9,7 +9,7 @@ use luks_rules::RuleFault;
 use std::alloc::AllocError;
 
 /// Why bytes of a disk aren't read.
-#[derive(Clone, Copy, Debug, PartialEq, Eq)]
+#[derive(Clone, Copy, PartialEq, Eq)]
 pub enum ReadFault {
     /// Memory ran out.
     Memory,
@@ -29,7 +29,7 @@ impl From<AllocError> for ReadFault {
 }
 
 /// Why no header is loaded, in the order in which it is tested.
-#[derive(Debug, Drop)]
+#[derive(Drop)]
 pub enum StoreFault {
     /// Memory ran out.
     Memory,

@@ -5,10 +5,10 @@ ghost use Rattle.luks_store.specs.Promises.{FrontsAreLoaded, GivenIsUsed};
 ghost use Rattle.luks_store.specs.Promises.{LoadsByMeaning, MetaByMeaning, NoneStands, UsedIsGiven};
 ghost use Rattle.luks_store.specs.Promises.{UsedStands};
 
+use crate::header_copies::{copies_are_read, copies_mean_what_they_share};
 use luks_bin::copies_are_spelt;
-use luks_copies::{copies_are_read, copies_mean_what_they_share};
 
-/// The copy that is used means the header that the disk's bytes have, as `disk_areas` speaks of it,
+/// The copy that is used means the header that the disk's bytes have, as `crash_laws` speaks of it,
 /// and where they have one it is used; it stands on the disk as it was read; and where both copies
 /// of a header stand both are good. So its laws on commits, repairs and stops hold of what is
 /// loaded.
@@ -44,7 +44,7 @@ pub fn headers_stand_in_front()
 }
 
 /// A disk that holds for certain both copies of the header that its bytes have shows the beginning
-/// of a commit, as `disk_areas` speaks of it: so its laws hold of each image that a stop leaves
+/// of a commit, as `crash_laws` speaks of it: so its laws hold of each image that a stop leaves
 /// during a [`crate::Commit`] on a disk that was synced, and loaded with both copies good.
 pub fn commits_begin()
     ensures { CommitsBegin }

@@ -1,8 +1,8 @@
 // A header as it was loaded.
 
 ghost use Rattle.std.specs.Prelude.{◌≡◌, ◌<◌, ℕ, List, Some, IfErr, IfOk};
-ghost use Rattle.disk_sizes.specs.declared.Sizes.{Sizes as sizes_type};
-ghost use Rattle.joined_disk.specs.Counts.{joint_in, sizes_of};
+ghost use Rattle.base_terms.specs.declared.disk_sizes.Sizes.{Sizes as sizes_type};
+ghost use Rattle.sector_disk.specs.JoinedDisks.Counts.{joint_in, sizes_of};
 ghost use Rattle.luks_store.specs.Devices.{device_of, front_of, IsUnwritten};
 ghost use Rattle.luks_store.specs.Loads.{judged, stored_in, Answers, HasCause, IsNoRead};
 ghost use Rattle.luks_store.specs.Used.{AreCopies};
@@ -11,13 +11,12 @@ use crate::copies::{Copies, CopyPlace};
 use crate::fault::{ReadFault, StoreFault};
 use crate::reading::read_bytes;
 use crate::used::read_copies;
-use disk_sizes::Sizes;
-use joined_disk::JoinedDisk;
+use base_terms::Sizes;
 use json_members::ReadError;
 use luks_bin::{BinHeader, json_text};
 use luks_json::Meta;
 use luks_rules::{CheckError, Valid, check};
-use sector_disk::Disk;
+use sector_disk::{Disk, JoinedDisk};
 use std::alloc::Global;
 use std::marker::Model;
 

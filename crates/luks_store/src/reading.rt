@@ -2,7 +2,7 @@
 
 ghost use Rattle.std.specs.Prelude.{◌≡◌, ◌+◌, ◌%◌, ◌≤◌, ℕ, List, length, take, drop, Some, IfErr};
 ghost use Rattle.std.specs.Prelude.{IfOk, IfSome, IsTrue};
-ghost use Rattle.joined_disk.specs.Counts.{joint_in, sizes_of};
+ghost use Rattle.sector_disk.specs.JoinedDisks.Counts.{joint_in, sizes_of};
 ghost use Rattle.luks_rules.specs.Areas.{header_bytes};
 ghost use Rattle.luks_store.specs.Devices.{are_pages, device_of, front_of, IsCauseOf, IsUnwritten};
 ghost use Rattle.luks_store.specs.Found.{copy_at, copy_from, first_at, IsWholeAt, IsWholeBehind};
@@ -10,12 +10,11 @@ ghost use Rattle.luks_store.specs.Found.{copy_at, copy_from, first_at, IsWholeAt
 use crate::copies::HeaderCopy;
 use crate::fault::ReadFault;
 use base_terms::{Bytes, Failed, zeros};
-use joined_disk::JoinedDisk;
 use luks_bin::{
     BinFault, copies_are_spelt, copies_are_their_fronts, read_copy, read_size,
     sizes_are_told_by_heads,
 };
-use sector_disk::Disk;
+use sector_disk::{Disk, JoinedDisk};
 use std::alloc::Global;
 
 /// So many bytes of a disk from a place on. Both are whole pages of 4096 bytes, and thus whole

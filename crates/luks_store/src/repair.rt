@@ -5,9 +5,9 @@ ghost use Rattle.luks_store.specs.Commits.{AreGood, FitsDisks, Repairs};
 ghost use Rattle.luks_store.specs.declared.copies.CopyState.TheVariants.{Good};
 
 use crate::copies::{CopyPlace, CopyState};
+use crate::header_copies::Repair;
 use crate::loaded::Loaded;
 use luks_bin::copies_are_spelt;
-use luks_copies::Repair;
 use std::alloc::{AllocError, Global};
 
 impl CopyPlace {

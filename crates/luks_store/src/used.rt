@@ -1,7 +1,7 @@
 // Which of the two copies is used.
 
 ghost use Rattle.std.specs.Prelude.{◌≡◌, ℕ, List, Some, IfErr, IfOk};
-ghost use Rattle.joined_disk.specs.Counts.{joint_in, sizes_of};
+ghost use Rattle.sector_disk.specs.JoinedDisks.Counts.{joint_in, sizes_of};
 ghost use Rattle.luks_store.specs.Devices.{device_of, front_of, IsUnwritten};
 ghost use Rattle.luks_store.specs.Found.{copy_at, IsWholeAt, IsWholeBehind};
 ghost use Rattle.luks_store.specs.Loads.{Answers, HasCause, IsNoRead};
@@ -10,11 +10,10 @@ ghost use Rattle.luks_store.specs.Used.{primary_alone, secondary_alone, AreCopie
 
 use crate::copies::{Copies, CopyPlace, CopyState, HeaderCopy};
 use crate::fault::StoreFault;
+use crate::header_copies::copies_mean_what_they_share;
 use crate::reading::{read_at, read_first};
-use joined_disk::JoinedDisk;
 use luks_bin::{BinFault, HEADER_SIZES, first_difference};
-use luks_copies::copies_mean_what_they_share;
-use sector_disk::Disk;
+use sector_disk::{Disk, JoinedDisk};
 use std::alloc::Global;
 
 /// A place with a copy.

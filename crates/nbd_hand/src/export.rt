@@ -8,7 +8,7 @@ use plain_disk::MAX_READ;
 const PREFERRED_BLOCK: u32 = 4096;
 
 /// What a session serves: the session's number, and the volume's bytes in blocks of `atom` bytes.
-#[derive(Clone, Copy, Debug)]
+#[derive(Clone, Copy)]
 pub struct Export {
     pub number: u64,
     pub size: u64,

@@ -29,7 +29,7 @@ use std::alloc::Global;
 const MAX_OPTIONS: u64 = 65536;
 
 /// What a client and the server agreed on.
-#[derive(Clone, Copy, Debug, PartialEq, Eq)]
+#[derive(Clone, Copy, PartialEq, Eq)]
 pub struct Agreed {
     /// The zeros behind the answer to EXPORT_NAME were to be left out.
     pub no_zeroes: bool,

@@ -24,14 +24,14 @@ pub const NAME: &[u8; 6] = b"volume";
 const HEAD: usize = 16;
 
 /// An option that a client sent whole.
-#[derive(Debug, Drop)]
+#[derive(Drop)]
 pub struct ClientOption {
     pub option: OptionType,
     pub body: Bytes,
 }
 
 /// What becomes of an option.
-#[derive(Clone, Copy, Debug, PartialEq, Eq)]
+#[derive(Clone, Copy, PartialEq, Eq)]
 pub enum Verdict {
     /// EXPORT_NAME: the export is told.
     Tell,
@@ -52,7 +52,7 @@ pub enum Verdict {
 }
 
 /// What comes after an option: the next one, the requests, or the end.
-#[derive(Clone, Copy, Debug, PartialEq, Eq)]
+#[derive(Clone, Copy, PartialEq, Eq)]
 pub enum Course {
     GoesOn,
     Begins,

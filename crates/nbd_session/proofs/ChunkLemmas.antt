@@ -5,7 +5,7 @@ use Rattle.std.proofs.lemmas.List.{nil_from_length}
 use Rattle.base_terms.specs.declared.failed.Failed.{Failed}
 use Rattle.base_terms.specs.Causes.{HasCause}
 use Rattle.io_edge.specs.Outlet.{Outlet}
-use Rattle.nbd_chunks.specs.Parts.{Part, part_text, parts_text}
+use Rattle.nbd_wire.specs.ReadReplying.Parts.{Part, part_text, parts_text}
 use Rattle.nbd_stream.specs.Putting.{Puts}
 use Rattle.nbd_stream.proofs.TrafficLemmas.{rose_earlier}
 

@@ -7,7 +7,7 @@ use Rattle.plain_disk.specs.declared.operation.Op.TheVariants as Ops
 use Rattle.plain_disk.specs.declared.operation.Reply.{Reply}
 use Rattle.plain_disk.specs.declared.operation.Reply.TheVariants.{Content, Done, Errno, ErrnoAt}
 use Rattle.plain_disk.specs.Outcomes.{IsErrorNumber, IsReplyTo}
-use Rattle.nbd_chunks.specs.Replies.{IsAnswer}
+use Rattle.nbd_wire.specs.ReadReplying.Replies.{IsAnswer}
 use Rattle.nbd_session.specs.declared.forms.Form.{Form}
 use Rattle.nbd_session.specs.declared.forms.Form.TheVariants.{Simple, Chunks}
 use Rattle.nbd_session.specs.Forms.{form_by, form_of}

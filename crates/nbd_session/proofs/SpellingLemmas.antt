@@ -6,8 +6,8 @@ use Rattle.plain_disk.specs.declared.operation.Op.{Op}
 use Rattle.plain_disk.specs.declared.operation.Op.TheVariants as Ops
 use Rattle.plain_disk.specs.declared.operation.Reply.TheVariants.{Content}
 use Rattle.nbd_stream.specs.declared.ending.Ending.{Ending}
-use Rattle.nbd_chunks.specs.Parts.{Part, AreHeld, parts_text}
-use Rattle.nbd_chunks.specs.Replies.{Answer, IsAnswer, IsDoneOnce, Spell, chunks_of}
+use Rattle.nbd_wire.specs.ReadReplying.Parts.{Part, AreHeld, parts_text}
+use Rattle.nbd_wire.specs.ReadReplying.Replies.{Answer, IsAnswer, IsDoneOnce, Spell, chunks_of}
 use Rattle.nbd_hand.specs.Handshakes.{Stage, greeted, negotiating, served}
 use Rattle.nbd_session.specs.declared.forms.Form.{Form}
 use Rattle.nbd_session.specs.declared.forms.Form.TheVariants.{Chunks}

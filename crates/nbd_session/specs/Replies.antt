@@ -7,8 +7,8 @@ use Rattle.nbd_stream.specs.declared.ending.Ending.TheVariants.{WriteFault}
 use Rattle.nbd_stream.specs.Putting.{Puts}
 use Rattle.plain_disk.specs.declared.operation.Reply.{Reply}
 use Rattle.plain_disk.specs.declared.operation.Reply.TheVariants.{Content, Done, Errno, ErrnoAt}
-use Rattle.nbd_chunks.specs.Parts.{parts_text}
-use Rattle.nbd_chunks.specs.Replies.{Answer, IsAnswer, chunks_of, content, error, error_at}
+use Rattle.nbd_wire.specs.ReadReplying.Parts.{parts_text}
+use Rattle.nbd_wire.specs.ReadReplying.Replies.{Answer, IsAnswer, chunks_of, content, error, error_at}
 use Rattle.nbd_session.specs.declared.forms.Form.{Form}
 use Rattle.nbd_session.specs.declared.forms.Form.TheVariants.{Simple, Chunks}
 use Rattle.nbd_wire.specs.Replies.{simple_reply_text}

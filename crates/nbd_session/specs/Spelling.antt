@@ -5,8 +5,8 @@ use Rattle.plain_disk.specs.declared.operation.Op.{Op}
 use Rattle.plain_disk.specs.declared.operation.Op.TheVariants.{Read}
 use Rattle.plain_disk.specs.declared.operation.Reply.TheVariants.{Content}
 use Rattle.nbd_stream.specs.declared.ending.Ending.{Ending}
-use Rattle.nbd_chunks.specs.Parts.{Part, AreHeld, parts_text}
-use Rattle.nbd_chunks.specs.Replies.{Answer, Spell, chunks_of}
+use Rattle.nbd_wire.specs.ReadReplying.Parts.{Part, AreHeld, parts_text}
+use Rattle.nbd_wire.specs.ReadReplying.Replies.{Answer, Spell, chunks_of}
 use Rattle.nbd_session.specs.declared.forms.Form.TheVariants.{Chunks}
 use Rattle.nbd_session.specs.Replies.{answer_in, reply_text}
 use Rattle.nbd_session.specs.Session.{Log, IsInput}

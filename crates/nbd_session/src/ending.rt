@@ -2,7 +2,7 @@ use nbd_stream::Ending;
 
 /// A session that ended: its number, how, how many bytes were taken from its source, and how many
 /// bytes of pieces went to its sink whole.
-#[derive(Clone, Copy, Debug, PartialEq, Eq)]
+#[derive(Clone, Copy, PartialEq, Eq)]
 pub struct SessionEnd {
     pub number: u64,
     pub ending: Ending,

@@ -8,7 +8,7 @@ use std::alloc::{AllocError, Global};
 
 /// What came of an operation that was submitted: its reply, or nothing, since the port takes none
 /// any more.
-#[derive(Debug, Drop)]
+#[derive(Drop)]
 pub enum Submitted {
     /// The reply, and a buffer that the port has no more use for: that of a write's body, say. What
     /// is in it isn't to be used.

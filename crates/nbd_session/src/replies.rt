@@ -1,8 +1,8 @@
 ghost use Rattle.std.specs.Prelude.{◌≡◌, ℕ, List, OnOk};
-ghost use Rattle.nbd_chunks.specs.Outcomes.{answer_by};
-ghost use Rattle.nbd_chunks.specs.Parts.{part_text, parts_text};
-ghost use Rattle.nbd_chunks.specs.Replies.{IsAnswer};
-ghost use Rattle.nbd_chunks.specs.Views.{chunks_left, part_by};
+ghost use Rattle.nbd_wire.specs.ReadReplying.Outcomes.{answer_by};
+ghost use Rattle.nbd_wire.specs.ReadReplying.Parts.{part_text, parts_text};
+ghost use Rattle.nbd_wire.specs.ReadReplying.Replies.{IsAnswer};
+ghost use Rattle.nbd_wire.specs.ReadReplying.Views.{chunks_left, part_by};
 ghost use Rattle.nbd_stream.specs.Putting.{IsOut, Puts};
 ghost use Rattle.nbd_session.specs.Replies.{IsAnswerIn, answer_in, data_of};
 ghost use Rattle.nbd_session.specs.Replies.{errno_of, reply_text, simple_text};
@@ -10,9 +10,8 @@ ghost use Rattle.nbd_session.specs.Replies.{errno_of, reply_text, simple_text};
 use crate::forms::Form;
 use base_terms::Failed;
 use io_edge::Sink;
-use nbd_chunks::{Chunk, Outcome, ReadChunks, ReadReply};
 use nbd_stream::{put_message, put_piece};
-use nbd_wire::{ErrorAt, SimpleReplyHead};
+use nbd_wire::{Chunk, ErrorAt, Outcome, ReadChunks, ReadReply, SimpleReplyHead};
 use plain_disk::Reply;
 
 /// Puts a reply in its form, and lets it go out.

@@ -21,7 +21,7 @@ const MAX_WRITE: u32 = MAX_READ;
 
 /// What comes next from a client: a request with its operation, one that the session itself answers
 /// with the number of an error, or the end.
-#[derive(Debug, Drop)]
+#[derive(Drop)]
 pub enum Next {
     Ask {
         cookie: u64,

@@ -37,7 +37,8 @@ const MAX_REQUESTS: u64 = 1 << 32;
 /// missing. With `TooMany` it ends exactly after the answer to the 65536th option that goes on, or
 /// the reply to the 2^32nd request; with `PortSpent` only where the port is spent. Each message has
 /// gone out before the next one of the client is asked for, and all have at the end, unless the
-/// sink failed.
+/// sink failed. Once the negotiation is over, and before a request is taken, the source hears it by
+/// `settle`.
 ///
 /// It keeps one buffer, of at most 32 MiB, for the bodies of writes and the contents of reads, one
 /// after the other.
@@ -60,7 +61,10 @@ pub fn serve_session<S: Source, K: Sink, P: Port>(
 {
     let mut tally = Tally { taken: 0, put: 0 };
     let ending = match negotiate(alloc, source, sink, export, &mut tally) {
-        Ok(agreed) => { serve_requests(alloc, source, sink, port, agreed.structured, &mut tally) }
+        Ok(agreed) => {
+            source.settle();
+            serve_requests(alloc, source, sink, port, agreed.structured, &mut tally)
+        }
         Err(ending) => ending,
     };
     end_of(export, ending, tally)

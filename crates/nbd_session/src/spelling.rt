@@ -1,6 +1,6 @@
 ghost use Rattle.nbd_session.specs.Spelling.{ReadsAreSpelt};
 
-use nbd_chunks::{chunks_spell_the_reply, replies_are_told_apart};
+use nbd_wire::{chunks_spell_the_reply, replies_are_told_apart};
 
 /// A law, with nothing to run: the chunks by which a session answers a READ spell what the READ
 /// came to, from its own offset on and with "done" on the last alone: the content that the port

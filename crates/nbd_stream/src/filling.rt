@@ -5,7 +5,7 @@ use io_edge::Source;
 
 /// How a buffer was filled: whole, with so many bytes to the end of the input, or with so many
 /// bytes before the source failed.
-#[derive(Clone, Copy, Debug)]
+#[derive(Clone, Copy)]
 pub enum Filled {
     Whole,
     Ended(usize),

@@ -12,7 +12,7 @@ use std::mem;
 
 /// The data behind a head: whole, not taken for want of memory, or cut short after so many bytes by
 /// the end of the input, or by a fault of the source.
-#[derive(Debug, Drop)]
+#[derive(Drop)]
 pub enum Data {
     Whole(Bytes),
     NoMemory,

@@ -9,3 +9,4 @@ mod OptionReplyLemmas
 mod PartLemmas
 pub mod RequestLemmas
 mod SimpleReplyLemmas
+pub mod ReadReplying

@@ -11,3 +11,4 @@ pub mod Options
 pub mod Replies
 pub mod Requests
 pub mod Spelling
+pub mod ReadReplying

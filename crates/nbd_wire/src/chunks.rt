@@ -12,7 +12,7 @@ use crate::{BadMagic, CHUNK_MAGIC};
 
 /// What a chunk of a structured reply holds ("Structured reply types"). A type without a name here
 /// is `Other`, with its number; those from 2^15 on are errors.
-#[derive(Clone, Copy, Debug, PartialEq, Eq)]
+#[derive(Clone, Copy, PartialEq, Eq)]
 pub enum ChunkType {
     /// Nothing ("NBD_REPLY_TYPE_NONE").
     Nothing,
@@ -55,7 +55,7 @@ impl ChunkType {
 }
 
 /// The set of a chunk's flags ("Structured reply flags").
-#[derive(Clone, Copy, Debug, PartialEq, Eq)]
+#[derive(Clone, Copy, PartialEq, Eq)]
 pub struct ChunkFlags {
     pub bits: u16,
 }
@@ -76,7 +76,7 @@ impl ChunkFlags {
 }
 
 /// The head of a chunk, behind which come `length` bytes of data.
-#[derive(Clone, Copy, Debug, PartialEq, Eq)]
+#[derive(Clone, Copy, PartialEq, Eq)]
 pub struct ChunkHead {
     pub flags: ChunkFlags,
     pub chunk: ChunkType,
@@ -173,7 +173,7 @@ pub fn error_number(bytes: &[u8; 6]) -> Option<u32>
 
 /// The data of an error, whose number isn't 0, at an offset in the export, without a text for
 /// people ("NBD_REPLY_TYPE_ERROR_OFFSET").
-#[derive(Clone, Copy, Debug, PartialEq, Eq)]
+#[derive(Clone, Copy, PartialEq, Eq)]
 pub struct ErrorAt {
     pub error: u32,
     pub offset: u64,

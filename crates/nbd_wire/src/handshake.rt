@@ -79,7 +79,7 @@ impl Greeting {
 }
 
 /// The set of the flags with which a client answers the greeting ("Client flags").
-#[derive(Clone, Copy, Debug, PartialEq, Eq)]
+#[derive(Clone, Copy, PartialEq, Eq)]
 pub struct ClientFlags {
     pub bits: u32,
 }

@@ -6,7 +6,7 @@ use crate::parts::put;
 
 /// The data of INFO and GO ("NBD_OPT_INFO and NBD_OPT_GO"): the name of an export, and the types of
 /// information that the client asks for, of two bytes each.
-#[derive(Clone, Copy, Debug)]
+#[derive(Clone, Copy)]
 pub struct InfoData<'a> {
     pub name: &'a [u8],
     pub types: &'a [u8],

@@ -7,7 +7,7 @@ use crate::{BlockSizes, ExportData, OptionReplyHead, OptionType, ReplyType};
 
 /// The answer to INFO or GO where the export is there: a reply that tells the export, one that
 /// tells the sizes of its blocks, and the acknowledgement.
-#[derive(Clone, Copy, Debug, PartialEq, Eq)]
+#[derive(Clone, Copy, PartialEq, Eq)]
 pub struct InfoReplies {
     /// INFO or GO, as it was asked.
     pub option: OptionType,

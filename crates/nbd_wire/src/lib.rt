@@ -7,6 +7,8 @@
 //! of a chunk, or a flag that has no name here is still a value, with its number: the layer above
 //! answers it. That layer may rely on one definition a message, its text: a writer gives the text,
 //! and a reader takes exactly the texts, each for the one message that it spells.
+//!
+//! `read_replies` has the reply to a READ as chunks ("Structured replies"), and what they spell.
 #![tactic(auto)]
 
 mod chunks;
@@ -20,6 +22,7 @@ mod magic;
 mod option_replies;
 mod options;
 mod parts;
+mod read_replies;
 mod replies;
 mod requests;
 mod spelling;
@@ -38,6 +41,10 @@ pub use magic::{
 };
 pub use option_replies::{OptionReplyHead, ReplyType};
 pub use options::{OptionHead, OptionType};
+pub use read_replies::{
+    Chunk, Front, Outcome, Payload, ReadChunks, ReadReply, chunks_spell_the_reply,
+    replies_are_told_apart,
+};
 pub use replies::SimpleReplyHead;
 pub use requests::{CommandFlags, CommandType, RequestHead};
 pub use spelling::texts_are_unique;

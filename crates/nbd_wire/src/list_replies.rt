@@ -9,7 +9,7 @@ use crate::{OptionReplyHead, OptionType, ReplyType};
 
 /// The answer to LIST where there is one export ("NBD_OPT_LIST"): a reply that names it, and the
 /// acknowledgement.
-#[derive(Clone, Copy, Debug)]
+#[derive(Clone, Copy)]
 pub struct ListReplies<'a> {
     /// The name of the export.
     pub name: &'a [u8],

@@ -31,7 +31,7 @@ pub const MOST_ROUNDS: u32 = 268_435_456;
 pub const MOST_BYTES: usize = 512;
 
 /// A hash function of FIPS 180-4.
-#[derive(Clone, Copy, Debug, PartialEq, Eq)]
+#[derive(Clone, Copy, PartialEq, Eq)]
 pub enum Hash {
     /// SHA-256: digests of 32 bytes, blocks of 64.
     Sha256,

@@ -8,7 +8,7 @@ pub const MAX_READ: u32 = 33_554_432;
 
 /// What a client asks of a disk. Offsets and lengths are in bytes. `Zeroes` is the write of so many
 /// zero bytes. With `fua` ("force unit access") a write is answered once it is certain to be kept.
-#[derive(Debug, Drop)]
+#[derive(Drop)]
 pub enum Op {
     Read { offset: u64, length: u32 },
     Write { offset: u64, body: Bytes, fua: bool },
@@ -20,7 +20,7 @@ pub enum Op {
 /// an error (5 an error of the device, 12 want of memory, 22 an invalid argument, 28 no space).
 /// `ErrnoAt` is a read's, by a piece that failed: the number, and the offset in bytes at which that
 /// piece begins.
-#[derive(Debug, Drop)]
+#[derive(Drop)]
 pub enum Reply {
     Content(Bytes),
     Done,

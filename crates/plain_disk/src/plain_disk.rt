@@ -16,7 +16,7 @@ use std::marker::Model;
 ///
 /// It keeps the newest value of each block alone. What a block held before bears on no reply, so
 /// the contracts speak of all blocks whose newest values are these.
-#[derive(Debug, Drop)]
+#[derive(Drop)]
 pub struct PlainDisk {
     atom: u32,
     blocks: u64,

@@ -2,7 +2,7 @@
 use Rattle.std.specs.Prelude.{◌≡◌, ℕ, Bool, ◌⊎◌, List, ◌++◌, All, Contains, find, MatchOption}
 use Rattle.std.specs.Prelude.{nat_eq}
 use Rattle.std.specs.List.{list_any, before_first, after_first}
-use Rattle.block_range.specs.Blocks.{SharesBlock}
+use Rattle.base_terms.specs.Ranges.Blocks.{SharesBlock}
 use Rattle.range_lock.specs.declared.Entry.{Entry}
 use Rattle.range_lock.specs.declared.Kind.TheVariants.{Alone}
 use Rattle.range_lock.specs.declared.Standing.{Standing}

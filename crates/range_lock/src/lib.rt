@@ -8,14 +8,14 @@
 //! Memory is taken when a table is made, and never after.
 #![tactic(auto)]
 
-use block_range::BlockRange;
+use base_terms::BlockRange;
 
 mod table;
 
 pub use table::Table;
 
 /// How an entry has its range.
-#[derive(Clone, Copy, Debug, PartialEq, Eq)]
+#[derive(Clone, Copy, PartialEq, Eq)]
 pub enum Kind {
     /// With other shared entries, as a read.
     Shared,
@@ -24,7 +24,7 @@ pub enum Kind {
 }
 
 /// A lane's lock.
-#[derive(Clone, Copy, Debug, PartialEq, Eq)]
+#[derive(Clone, Copy, PartialEq, Eq)]
 pub struct Entry {
     /// The lane, which has no other entry.
     pub lane: u32,

@@ -7,7 +7,7 @@ ghost use Rattle.range_lock.specs.Locks.{Conflicts, IsStanding, is_of, has_entry
 ghost use Rattle.range_lock.specs.Locks.{without, Locks};
 
 use crate::{Entry, Kind, Standing};
-use block_range::BlockRange;
+use base_terms::BlockRange;
 use std::alloc::{AllocError, Global};
 use std::marker::Model;
 

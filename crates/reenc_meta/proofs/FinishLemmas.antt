@@ -11,7 +11,7 @@ use Rattle.std.proofs.lemmas.List.Sums.{sum_by-cons}
 use Rattle.std.specs.List.{All, AllByRecursion, filter, list_any, sum_by}
 use Rattle.std.specs.Option.{IfSome, IsSome, IsSomeAnd, option_and_then}
 use Rattle.std.specs.Str.{bytes_eq}
-use Rattle.disk_sizes.specs.declared.Sizes.{Sizes}
+use Rattle.base_terms.specs.declared.disk_sizes.Sizes.{Sizes}
 use Rattle.json_members.specs.Entries.{AreEntries, IsRising}
 use Rattle.luks_json.specs.Configs.{IsRequirements, any_foreign, is_foreign, mandatory}
 use Rattle.luks_json.specs.Configs.{origin_by, origin_of, profile}

@@ -5,7 +5,7 @@ use Rattle.std.proofs.Common.{Option, Some, None, Bool, false, refl, ap, subst, 
 use Rattle.std.proofs.Math.Nat.{mul-le-mul_right}
 use Rattle.std.specs.List.{AllByRecursion}
 use Rattle.std.specs.Option.{IfSome}
-use Rattle.disk_sizes.specs.declared.Sizes.{Sizes}
+use Rattle.base_terms.specs.declared.disk_sizes.Sizes.{Sizes}
 use Rattle.luks_json.specs.Metas.{IsMeta}
 use Rattle.luks_json.specs.Segments.{IsEncryption, IsSegment}
 use Rattle.luks_json.specs.declared.digest.Digest.{Digest}

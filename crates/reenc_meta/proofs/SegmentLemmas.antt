@@ -6,7 +6,7 @@ use Rattle.std.proofs.Math.Nat.{add-mul-mod_self_right, mul-mod_left}
 use Rattle.std.proofs.lemmas.List.Sums.{sum_by-cons}
 use Rattle.std.specs.List.{AllByRecursion, enumerate_from, sum_by}
 use Rattle.std.specs.Option.{IfSome, IsSome}
-use Rattle.disk_sizes.specs.declared.Sizes.{Sizes}
+use Rattle.base_terms.specs.declared.disk_sizes.Sizes.{Sizes}
 use Rattle.json_members.specs.Members.{Lacks}
 use Rattle.luks_json.specs.Metas.{IsMeta}
 use Rattle.luks_json.specs.Segments.{IsEncryption, IsSegment, segment_names}

@@ -6,7 +6,7 @@ use Rattle.std.proofs.Common.{sym, ap, subst, arith}
 use Rattle.std.proofs.lemmas.Bool.{and_from, or_from}
 use Rattle.std.specs.List.{All, AllByRecursion}
 use Rattle.std.specs.Option.{IfSome}
-use Rattle.disk_sizes.specs.declared.Sizes.{Sizes}
+use Rattle.base_terms.specs.declared.disk_sizes.Sizes.{Sizes}
 use Rattle.luks_json.specs.Digests.{IsDigest}
 use Rattle.luks_json.specs.Keyslots.{IsKeyslot, IsLuks2}
 use Rattle.luks_json.specs.Metas.{IsMeta}

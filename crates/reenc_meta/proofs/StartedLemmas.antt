@@ -2,7 +2,7 @@
 use Rattle.std.proofs.Common.{◌≡◌, ◌∙◌, ℕ, List, [], ◌∷◌, map, Some, sym, ap}
 use Rattle.std.proofs.Common.{subst, length, get_or}
 use Rattle.std.specs.List.{All}
-use Rattle.disk_sizes.specs.declared.Sizes.{Sizes}
+use Rattle.base_terms.specs.declared.disk_sizes.Sizes.{Sizes}
 use Rattle.luks_json.specs.Metas.{IsMeta}
 use Rattle.luks_json.specs.declared.meta.Parts.{Parts}
 use Rattle.luks_json.specs.declared.segment.Segment.{Segment}

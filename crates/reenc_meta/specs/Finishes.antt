@@ -3,7 +3,7 @@ use Rattle.std.specs.Prelude.{ℕ, ◌≡◌, ◌+◌, ◌*◌, ◌==◌, ◌&&�
 use Rattle.std.specs.Prelude.{List, [], ◌∷◌, map, codes, Option, Some, None, IsSomeAnd}
 use Rattle.std.specs.Prelude.{option_and_then, if◌then◌else◌}
 use Rattle.std.specs.List.{filter, list_any}
-use Rattle.disk_sizes.specs.declared.Sizes.{Sizes}
+use Rattle.base_terms.specs.declared.disk_sizes.Sizes.{Sizes}
 use Rattle.json_members.specs.Decimals.{number_of}
 use Rattle.luks_json.specs.Configs.{is_foreign}
 use Rattle.luks_json.specs.declared.config.Requirements.{Requirements}

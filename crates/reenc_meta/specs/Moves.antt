@@ -1,6 +1,6 @@
 -- How far a conversion goes: a zone is opened, and the boundary moves over it.
 use Rattle.std.specs.Prelude.{ℕ, ◌≡◌, ◌+◌, ◌-◌, ◌<◌, ◌≤◌, true, Some, None}
-use Rattle.disk_sizes.specs.declared.Sizes.{Sizes}
+use Rattle.base_terms.specs.declared.disk_sizes.Sizes.{Sizes}
 use Rattle.luks_json.specs.declared.meta.Parts.{Parts}
 use Rattle.luks_json.specs.declared.reencrypt.Direction.{Direction}
 use Rattle.luks_json.specs.declared.reencrypt.Direction.TheVariants.{Forward, Backward}

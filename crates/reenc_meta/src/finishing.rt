@@ -12,7 +12,7 @@ ghost use Rattle.reenc_meta.specs.Finishes.{other_lists, requirements_after, unl
 use crate::layout::is_number;
 use crate::reenc::Reenc;
 use crate::token::keep_token;
-use disk_sizes::Sizes;
+use base_terms::Sizes;
 use json_members::{Entry, Listed, Object, Text};
 use luks_json::{
     Config, Digest, Keyslot, Meta, PROFILE, Parts, Requirements, Resilience, Segment, SegmentSize,

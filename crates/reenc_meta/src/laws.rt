@@ -1,6 +1,6 @@
 // Laws of placements, with nothing to run.
 
-ghost use Rattle.disk_sizes.specs.declared.Sizes.{Sizes};
+ghost use Rattle.base_terms.specs.declared.disk_sizes.Sizes.{Sizes};
 ghost use Rattle.luks_json.specs.declared.meta.Parts.{Parts};
 ghost use Rattle.reenc_meta.specs.Placements.{IsPlacementOf};
 ghost use Rattle.reenc_meta.specs.Places.{AreOne};

@@ -7,12 +7,12 @@ ghost use Rattle.reenc_meta.specs.Placements.{all_atoms, base_of, IsIdlePlacemen
 ghost use Rattle.reenc_meta.specs.Places.{IsRightFor};
 ghost use Rattle.sector_disk.specs.Geometry.{IsDisk};
 
-use disk_sizes::Sizes;
+use base_terms::Sizes;
 use luks_rules::{Extent, Idle, Valid};
 use segment_map::{Direction, Map};
 
 /// Where the blocks of a volume lie, and the segment of each of its sides.
-#[derive(Clone, Copy, Debug, PartialEq, Eq)]
+#[derive(Clone, Copy, PartialEq, Eq)]
 pub struct Placement {
     pub map: Map,
     /// The segment of the blocks that are old or in an open zone.

@@ -9,7 +9,7 @@ use segment_map::Side;
 use std::alloc::{AllocError, Global};
 
 /// Blocks in a row that are on one side.
-#[derive(Clone, Copy, Debug, PartialEq, Eq)]
+#[derive(Clone, Copy, PartialEq, Eq)]
 pub(crate) struct Run {
     pub(crate) side: Side,
     /// The first of them.

@@ -23,7 +23,7 @@ use crate::layout::{list_digests, list_numbers, list_segments, only_text};
 use crate::reenc::Reenc;
 use crate::runs::{list_runs, list_sides};
 use crate::wish::Wish;
-use disk_sizes::Sizes;
+use base_terms::Sizes;
 use json_members::{Entry, Listed, Object, Text, copy_entries};
 use luks_json::{
     Config, Digest, Direction, Encryption, Keyslot, Luks2, Meta, Mode, PROFILE, Parts, Reencrypt,

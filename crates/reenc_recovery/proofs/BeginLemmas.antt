@@ -1,8 +1,8 @@
 -- A disk that holds its bytes for certain shows the beginning of a repair.
 use Rattle.std.proofs.Common.{◌≡◌, ℕ, false, List, length, take, drop, sym, ◌∙◌, ap}
-use Rattle.disk_areas.specs.Commits.{other}
-use Rattle.disk_areas.specs.Headers.{Copy, Header, IsLaidOut, Layout, byte_of, text_of}
-use Rattle.disk_sizes.specs.declared.Sizes.{Sizes}
+use Rattle.crash_laws.specs.HeaderAreas.Commits.{other}
+use Rattle.crash_laws.specs.HeaderAreas.Headers.{Copy, Header, IsLaidOut, Layout, byte_of, text_of}
+use Rattle.base_terms.specs.declared.disk_sizes.Sizes.{Sizes}
 use Rattle.luks_store.proofs.SettledLemmas.{current_is, shows_copy}
 use Rattle.luks_store.specs.Devices.{IsCertain}
 use Rattle.reenc_recovery.specs.Repairing.{ShowsRepairOf}

@@ -1,9 +1,9 @@
 -- The laws of openings of a header by which nothing is being converted are those of any header; and
 -- those of joined disks are those of one.
 use Rattle.std.proofs.Common.{Option}
-use Rattle.disk_sizes.specs.declared.Sizes.{Sizes}
-use Rattle.joined_disk.specs.Joined.{joined_disk}
-use Rattle.luks_copies.specs.declared.repair.Repair.{Repair}
+use Rattle.base_terms.specs.declared.disk_sizes.Sizes.{Sizes}
+use Rattle.sector_disk.specs.JoinedDisks.Joined.{joined_disk}
+use Rattle.luks_store.specs.declared.header_copies.repair.Repair.{Repair}
 use Rattle.luks_store.specs.declared.loaded.Stored.{Stored}
 use Rattle.reenc_meta.specs.declared.placement.Placement.{Placement}
 use Rattle.reenc_recovery.specs.Headers.{DiskOpeningsKeepHeaders, FrontsKeep, IsFoundHeader}

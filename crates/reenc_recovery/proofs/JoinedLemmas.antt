@@ -5,10 +5,10 @@ use Rattle.std.proofs.Common.{take, drop, replicate, refl, sym, ◌∙◌, ap, a
 use Rattle.std.proofs.Common.{length-drop}
 use Rattle.std.proofs.Math.Seq.{take-append-add}
 use Rattle.base_terms.specs.Blocks.{joined, lengths}
-use Rattle.disk_areas.specs.Areas.{Image, text_from}
-use Rattle.disk_views.proofs.Blockwise.{block_at-drop, block_end}
-use Rattle.disk_views.proofs.Blockwise.{same_blocks}
-use Rattle.disk_views.specs.Parts.{block_at}
+use Rattle.crash_laws.specs.HeaderAreas.Areas.{Image, text_from}
+use Rattle.sector_disk.proofs.DiskViews.Blockwise.{block_at-drop, block_end}
+use Rattle.sector_disk.proofs.DiskViews.Blockwise.{same_blocks}
+use Rattle.sector_disk.specs.DiskViews.Parts.{block_at}
 use Rattle.luks_store.proofs.SettledLemmas.{even_head, even_tail, none_even}
 use Rattle.sector_disk.specs.Cells.{AreSized, Cell, IsImage}
 

@@ -1,8 +1,8 @@
 -- The calls of an opening of joined disks are those of the disk that they are as one.
 use Rattle.std.proofs.Common.{refl, Option, Result}
 use Rattle.base_terms.specs.declared.failed.Failed.{Failed}
-use Rattle.joined_disk.specs.Joined.{Joint, joined_disk}
-use Rattle.luks_copies.specs.declared.repair.Repair.{Repair}
+use Rattle.sector_disk.specs.JoinedDisks.Joined.{Joint, joined_disk}
+use Rattle.luks_store.specs.declared.header_copies.repair.Repair.{Repair}
 use Rattle.luks_store.specs.Devices.{IsUnwritten, KeepsBytes}
 use Rattle.reenc_recovery.specs.Calls.{DiskOpeningRun, DiskSyncsAndReads, OpeningRun, SyncsAndReads}
 use Rattle.sector_disk.specs.Devices.{Device}
@@ -12,6 +12,7 @@ keeps_bytes : (old new : Joint) → IsUnwritten old new
 keeps_bytes old new unwritten = record {
   size = unwritten.size;
   atoms = unwritten.atoms;
+  tail = unwritten.tail;
   values = unwritten.values;
   later = unwritten.later;
   told = λ now is.

@@ -2,11 +2,11 @@
 use Rattle.std.proofs.Common.{◌≡◌, inl, inr, Option, Some, Result, sym, subst}
 use Rattle.std.specs.Option.{IfSome}
 use Rattle.base_terms.specs.declared.failed.Failed.{Failed}
-use Rattle.luks_copies.specs.Held.{copy_in, place_in, repair_stage_in}
-use Rattle.luks_copies.specs.Steps.{RepairCall, repair_next}
-use Rattle.luks_copies.specs.declared.repair.Repair.{Repair}
-use Rattle.luks_copies.specs.declared.repair.RepairStage.{RepairStage}
-use Rattle.luks_copies.specs.declared.repair.RepairStage.TheVariants.{Broken}
+use Rattle.luks_store.specs.Copying.Held.{copy_in, place_in, repair_stage_in}
+use Rattle.luks_store.specs.Copying.Steps.{RepairCall, repair_next}
+use Rattle.luks_store.specs.declared.header_copies.repair.Repair.{Repair}
+use Rattle.luks_store.specs.declared.header_copies.repair.RepairStage.{RepairStage}
+use Rattle.luks_store.specs.declared.header_copies.repair.RepairStage.TheVariants.{Broken}
 use Rattle.reenc_recovery.specs.Calls.{RepairRun, SyncsRepair, TellsSized, WritesRepair}
 use Rattle.sector_disk.specs.Devices.{Device, failed_call, succeeded}
 

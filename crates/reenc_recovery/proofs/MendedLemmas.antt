@@ -1,11 +1,11 @@
 -- What the disk holds once all calls of an opening were done.
 use Rattle.std.proofs.Common.{◌≡◌, ℕ, List, Option, Some, sym, ◌∙◌, subst}
-use Rattle.disk_areas.specs.Headers.{IsReader}
-use Rattle.disk_sizes.specs.declared.Sizes.{Sizes}
-use Rattle.joined_disk.specs.Joined.{joined_disk}
-use Rattle.luks_copies.specs.Meanings.{header_reader}
-use Rattle.luks_copies.specs.Promises.{MeanTheSame}
-use Rattle.luks_copies.specs.declared.repair.Repair.{Repair}
+use Rattle.crash_laws.specs.HeaderAreas.Headers.{IsReader}
+use Rattle.base_terms.specs.declared.disk_sizes.Sizes.{Sizes}
+use Rattle.sector_disk.specs.JoinedDisks.Joined.{joined_disk}
+use Rattle.luks_store.specs.Copying.Meanings.{header_reader}
+use Rattle.luks_store.specs.Copying.Promises.{MeanTheSame}
+use Rattle.luks_store.specs.declared.header_copies.repair.Repair.{Repair}
 use Rattle.luks_store.specs.Devices.{IsCertain}
 use Rattle.luks_store.specs.Promises.{BothAreGood, GivenIsUsed, LoadsByMeaning, UsedStands}
 use Rattle.reenc_recovery.specs.Calls.{DiskOpeningRun}

@@ -2,8 +2,8 @@
 use Rattle.std.proofs.Common.{◌≡◌, inl, inr, ℕ, ◌≤◌, List, Option, Some, None, Ok, Result, refl}
 use Rattle.std.proofs.Common.{arith}
 use Rattle.base_terms.specs.Causes.{Rose}
-use Rattle.disk_sizes.specs.declared.Sizes.{Sizes}
-use Rattle.luks_copies.specs.declared.repair.Repair.{Repair}
+use Rattle.base_terms.specs.declared.disk_sizes.Sizes.{Sizes}
+use Rattle.luks_store.specs.declared.header_copies.repair.Repair.{Repair}
 use Rattle.luks_json.specs.declared.meta.Parts.{Parts}
 use Rattle.luks_store.specs.Loads.{HasCause, Says}
 use Rattle.luks_store.specs.Used.{Refusal}

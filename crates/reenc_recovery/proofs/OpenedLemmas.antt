@@ -4,8 +4,8 @@ use Rattle.std.proofs.Common.{Some}
 use Rattle.std.proofs.Common.{Option, refl, sym, ◌∙◌, ap, subst}
 use Rattle.std.proofs.lemmas.List.{length-map}
 use Rattle.cipher_laws.specs.Bytes.{AreBytes}
-use Rattle.disk_sizes.specs.declared.Sizes.{Sizes}
-use Rattle.disk_views.specs.Parts.{block_at, value_in}
+use Rattle.base_terms.specs.declared.disk_sizes.Sizes.{Sizes}
+use Rattle.sector_disk.specs.DiskViews.Parts.{block_at, value_in}
 use Rattle.plain_disk.specs.Plain.{Block}
 use Rattle.reenc_recovery.specs.Images.{HoldsBlock, seals_in}
 use Rattle.reenc_recovery.specs.Keys.{used_by}

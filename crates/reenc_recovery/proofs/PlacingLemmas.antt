@@ -1,7 +1,7 @@
 -- A header says one thing of a volume, whether it is being converted or not.
 use Rattle.std.proofs.Common.{◌≡◌, inl, inr, ℕ, ◌+◌, Bool, true, false, List, Option, Some, None}
 use Rattle.std.proofs.Common.{Ok, refl, sym, ◌∙◌, ap, subst, slice_get, if◌then◌else◌}
-use Rattle.disk_sizes.specs.declared.Sizes.{Sizes}
+use Rattle.base_terms.specs.declared.disk_sizes.Sizes.{Sizes}
 use Rattle.luks_json.specs.declared.meta.Parts.{Parts}
 use Rattle.luks_rules.specs.Idles.{idle_from, idle_of}
 use Rattle.luks_rules.specs.Segments.{in_progress}

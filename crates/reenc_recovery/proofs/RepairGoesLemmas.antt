@@ -2,12 +2,12 @@
 use Rattle.std.proofs.Common.{◌≡◌, inl, inr, ℕ, ◌+◌, ◌≤◌, true, false, List, length}
 use Rattle.std.proofs.Common.{refl}
 use Rattle.std.proofs.Common.{◌∙◌, arith}
-use Rattle.disk_areas.specs.Areas.{AreApart}
-use Rattle.disk_areas.specs.Commits.{ShowsCommit, ShowsRepair, TriesCopy, WritesCopy, begun}
-use Rattle.disk_areas.specs.Headers.{Copy, Header, IsLaidOut, Layout, place_of, primary, secondary}
-use Rattle.disk_areas.specs.Promises.{RepairGoes}
-use Rattle.disk_sizes.specs.declared.Sizes.{Sizes}
-use Rattle.disk_views.specs.Views.{IsOutside, IsSynced, IsThinned, View, view_of_cells}
+use Rattle.crash_laws.specs.HeaderAreas.Areas.{AreApart}
+use Rattle.crash_laws.specs.HeaderAreas.Commits.{ShowsCommit, ShowsRepair, TriesCopy, WritesCopy, begun}
+use Rattle.crash_laws.specs.HeaderAreas.Headers.{Copy, Header, IsLaidOut, Layout, place_of, primary, secondary}
+use Rattle.crash_laws.specs.HeaderAreas.Promises.{RepairGoes}
+use Rattle.base_terms.specs.declared.disk_sizes.Sizes.{Sizes}
+use Rattle.sector_disk.specs.DiskViews.Views.{IsOutside, IsSynced, IsThinned, View, view_of_cells}
 use Rattle.reenc_recovery.specs.Promises.{RepairGoesOn}
 use Rattle.reenc_recovery.specs.Repairing.{ShowsRepairOf}
 use Rattle.sector_disk.specs.Cells.{Cell}

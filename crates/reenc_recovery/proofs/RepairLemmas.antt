@@ -4,15 +4,15 @@ use Rattle.std.proofs.Common.{◌≡◌, ℕ, ◌+◌, ◌-◌, ◌*◌, ◌≤�
 use Rattle.std.proofs.Common.{replicate}
 use Rattle.std.proofs.Common.{sym, ◌∙◌, ap, subst, arith}
 use Rattle.base_terms.specs.Blocks.{joined, lengths}
-use Rattle.disk_areas.specs.Areas.{content_of}
-use Rattle.disk_areas.specs.Headers.{Copy, Gives, Handed, Header, IsGenuine, IsLaidOut, IsReader}
-use Rattle.disk_areas.specs.Headers.{Layout}
-use Rattle.disk_areas.specs.Promises.{ImageTaken, IsImageOf, RepairGives}
-use Rattle.disk_sizes.specs.declared.Sizes.{Sizes}
-use Rattle.disk_views.proofs.Entries.{image_in}
-use Rattle.disk_views.specs.Parts.{value_in}
-use Rattle.disk_views.specs.Views.{view_of_cells}
-use Rattle.luks_copies.specs.Meanings.{header_reader, meaning_of}
+use Rattle.crash_laws.specs.HeaderAreas.Areas.{content_of}
+use Rattle.crash_laws.specs.HeaderAreas.Headers.{Copy, Gives, Handed, Header, IsGenuine, IsLaidOut, IsReader}
+use Rattle.crash_laws.specs.HeaderAreas.Headers.{Layout}
+use Rattle.crash_laws.specs.HeaderAreas.Promises.{ImageTaken, IsImageOf, RepairGives}
+use Rattle.base_terms.specs.declared.disk_sizes.Sizes.{Sizes}
+use Rattle.sector_disk.proofs.DiskViews.Entries.{image_in}
+use Rattle.sector_disk.specs.DiskViews.Parts.{value_in}
+use Rattle.sector_disk.specs.DiskViews.Views.{view_of_cells}
+use Rattle.luks_store.specs.Copying.Meanings.{header_reader, meaning_of}
 use Rattle.luks_rules.specs.Areas.{areas_begin}
 use Rattle.luks_store.specs.Devices.{front_of}
 use Rattle.luks_store.specs.Loads.{stored_in, IsStored}

@@ -7,21 +7,21 @@ use Rattle.std.proofs.Math.Nat.{le_of_mul-le-mul_right}
 use Rattle.std.proofs.lemmas.List.{length-map, length-replicate}
 use Rattle.base_terms.specs.Blocks.{joined, lengths}
 use Rattle.base_terms.specs.declared.failed.Failed.{Failed}
-use Rattle.disk_areas.specs.Commits.{HasPast, TriesCopy, WritesCopy}
-use Rattle.disk_areas.specs.Headers.{Copy, Handed, Header, IsGenuine, IsLaidOut, Layout}
-use Rattle.disk_areas.specs.Headers.{byte_of, primary, text_of}
-use Rattle.disk_sizes.specs.declared.Sizes.{Sizes}
-use Rattle.disk_views.proofs.Blockwise.{blocks_end}
-use Rattle.disk_views.proofs.Entries.{length-changed}
-use Rattle.disk_views.proofs.TableEntries.{length-thinned, length-tried, synced_view}
-use Rattle.disk_views.specs.Views.{IsThinned, view_of_cells}
-use Rattle.luks_copies.specs.Held.{copy_in, place_in}
-use Rattle.luks_copies.specs.Meanings.{header_of, header_reader}
-use Rattle.luks_copies.specs.Promises.{MeanTheSame}
-use Rattle.luks_copies.specs.Seen.{HasRoomFor, RepairsAreSeen}
-use Rattle.luks_copies.specs.Steps.{RepairCall}
-use Rattle.luks_copies.specs.declared.repair.Repair.{Repair}
-use Rattle.luks_copies.specs.declared.repair.RepairStage.TheVariants.{Broken, Written}
+use Rattle.crash_laws.specs.HeaderAreas.Commits.{HasPast, TriesCopy, WritesCopy}
+use Rattle.crash_laws.specs.HeaderAreas.Headers.{Copy, Handed, Header, IsGenuine, IsLaidOut, Layout}
+use Rattle.crash_laws.specs.HeaderAreas.Headers.{byte_of, primary, text_of}
+use Rattle.base_terms.specs.declared.disk_sizes.Sizes.{Sizes}
+use Rattle.sector_disk.proofs.DiskViews.Blockwise.{blocks_end}
+use Rattle.sector_disk.proofs.DiskViews.Entries.{length-changed}
+use Rattle.sector_disk.proofs.DiskViews.TableEntries.{length-thinned, length-tried, synced_view}
+use Rattle.sector_disk.specs.DiskViews.Views.{IsThinned, view_of_cells}
+use Rattle.luks_store.specs.Copying.Held.{copy_in, place_in}
+use Rattle.luks_store.specs.Copying.Meanings.{header_of, header_reader}
+use Rattle.luks_store.specs.Copying.Promises.{MeanTheSame}
+use Rattle.luks_store.specs.Copying.Seen.{HasRoomFor, RepairsAreSeen}
+use Rattle.luks_store.specs.Copying.Steps.{RepairCall}
+use Rattle.luks_store.specs.declared.header_copies.repair.Repair.{Repair}
+use Rattle.luks_store.specs.declared.header_copies.repair.RepairStage.TheVariants.{Broken, Written}
 use Rattle.luks_rules.specs.Areas.{areas_begin}
 use Rattle.luks_store.proofs.PageLemmas.{page-place, size-pages}
 use Rattle.luks_store.specs.Devices.{front_of, IsCertain}

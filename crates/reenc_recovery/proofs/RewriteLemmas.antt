@@ -5,13 +5,13 @@ use Rattle.std.proofs.Common.{arith}
 use Rattle.std.proofs.lemmas.List.{drop_at, length-take-le, take-append-drop, take-append-le}
 use Rattle.std.proofs.lemmas.List.{take-take, take_at}
 use Rattle.base_terms.specs.Blocks.{pasted}
-use Rattle.disk_areas.specs.Headers.{Copy, Gives, Header, IsHeader, IsReader, byte_of, found}
-use Rattle.disk_areas.specs.Headers.{primary, secondary, text_of}
-use Rattle.disk_sizes.specs.declared.Sizes.{Sizes}
-use Rattle.luks_copies.specs.Held.{copy_in, place_in}
-use Rattle.luks_copies.specs.Meanings.{header_of, header_reader, meaning_of}
-use Rattle.luks_copies.specs.Promises.{MeanTheSame}
-use Rattle.luks_copies.specs.declared.repair.Repair.{Repair}
+use Rattle.crash_laws.specs.HeaderAreas.Headers.{Copy, Gives, Header, IsHeader, IsReader, byte_of, found}
+use Rattle.crash_laws.specs.HeaderAreas.Headers.{primary, secondary, text_of}
+use Rattle.base_terms.specs.declared.disk_sizes.Sizes.{Sizes}
+use Rattle.luks_store.specs.Copying.Held.{copy_in, place_in}
+use Rattle.luks_store.specs.Copying.Meanings.{header_of, header_reader, meaning_of}
+use Rattle.luks_store.specs.Copying.Promises.{MeanTheSame}
+use Rattle.luks_store.specs.declared.header_copies.repair.Repair.{Repair}
 use Rattle.luks_rules.specs.Areas.{areas_begin, header_bytes}
 use Rattle.luks_store.proofs.CopyLemmas.{front-part}
 use Rattle.luks_store.proofs.LoadLemmas.{copies-stored}

@@ -1,6 +1,6 @@
 -- The copy that is used stands where it says, on the header's disk and on both disks as one.
 use Rattle.std.proofs.Common.{◌≡◌, ℕ, ◌+◌, ◌≤◌, List, take, drop, Ok, sym, ◌∙◌, ap}
-use Rattle.disk_sizes.specs.declared.Sizes.{Sizes}
+use Rattle.base_terms.specs.declared.disk_sizes.Sizes.{Sizes}
 use Rattle.luks_rules.specs.Areas.{header_bytes}
 use Rattle.luks_store.proofs.CopyLemmas.{front-part}
 use Rattle.luks_store.proofs.LoadLemmas.{copies-stored}

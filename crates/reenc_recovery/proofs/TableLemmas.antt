@@ -7,8 +7,8 @@ use Rattle.std.proofs.lemmas.List.Elements.{All-append, All-cons, All-nil, Conta
 use Rattle.std.specs.List.{All}
 use Rattle.std.specs.Prelude.{Contains}
 use Rattle.base_terms.specs.Blocks.{joined}
-use Rattle.joined_disk.specs.Joined.{Joint, joined_disk}
-use Rattle.disk_sizes.specs.declared.Sizes.{Sizes}
+use Rattle.sector_disk.specs.JoinedDisks.Joined.{Joint, joined_disk}
+use Rattle.base_terms.specs.declared.disk_sizes.Sizes.{Sizes}
 use Rattle.reenc_recovery.specs.Calls.{DiskSyncsAndReads, SyncsAndReads}
 use Rattle.reenc_recovery.specs.Images.{StandsAs}
 use Rattle.reenc_recovery.specs.Tables.{StandsSince, StandsStill, TellsSince}

@@ -4,13 +4,13 @@ use Rattle.std.proofs.Common.{None}
 use Rattle.std.proofs.Common.{Ok, refl, sym, ◌∙◌, ap, subst}
 use Rattle.base_terms.specs.Blocks.{lengths, pasted}
 use Rattle.cipher_laws.specs.Bytes.{AreBytes}
-use Rattle.disk_areas.specs.Headers.{IsReader}
-use Rattle.disk_sizes.specs.declared.Sizes.{Sizes}
-use Rattle.joined_disk.specs.Joined.{Joint, joined_disk}
-use Rattle.luks_copies.specs.Held.{copy_in, place_in}
-use Rattle.luks_copies.specs.Meanings.{header_reader}
-use Rattle.luks_copies.specs.Promises.{MeanTheSame}
-use Rattle.luks_copies.specs.declared.repair.Repair.{Repair}
+use Rattle.crash_laws.specs.HeaderAreas.Headers.{IsReader}
+use Rattle.base_terms.specs.declared.disk_sizes.Sizes.{Sizes}
+use Rattle.sector_disk.specs.JoinedDisks.Joined.{Joint, joined_disk}
+use Rattle.luks_store.specs.Copying.Held.{copy_in, place_in}
+use Rattle.luks_store.specs.Copying.Meanings.{header_reader}
+use Rattle.luks_store.specs.Copying.Promises.{MeanTheSame}
+use Rattle.luks_store.specs.declared.header_copies.repair.Repair.{Repair}
 use Rattle.luks_json.specs.declared.meta.Parts.{Parts}
 use Rattle.luks_rules.specs.Areas.{areas_begin, header_bytes}
 use Rattle.luks_rules.specs.declared.valid.Checked.{Checked}

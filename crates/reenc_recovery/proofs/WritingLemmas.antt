@@ -1,14 +1,14 @@
 -- The repair that a header asks for, as the laws of repairs speak of it.
 use Rattle.std.proofs.Common.{◌≡◌, inl, inr, ℕ, ◌*◌, ◌/◌, ◌%◌, ◌≤◌, List, length, take, drop, Ok}
 use Rattle.std.proofs.Common.{refl, sym, ◌∙◌, ap, arith}
-use Rattle.disk_areas.specs.Commits.{other}
-use Rattle.disk_areas.specs.Headers.{Copy, IsHeader, byte_of, primary, secondary, text_of}
-use Rattle.disk_sizes.specs.declared.Sizes.{Sizes}
-use Rattle.luks_copies.specs.Held.{copy_in, place_in, repair_stage_in}
-use Rattle.luks_copies.specs.Meanings.{header_of, header_reader, meaning_of}
-use Rattle.luks_copies.specs.Promises.{MeanTheSame}
-use Rattle.luks_copies.specs.declared.repair.Repair.{Repair}
-use Rattle.luks_copies.specs.declared.repair.RepairStage.TheVariants.{Broken}
+use Rattle.crash_laws.specs.HeaderAreas.Commits.{other}
+use Rattle.crash_laws.specs.HeaderAreas.Headers.{Copy, IsHeader, byte_of, primary, secondary, text_of}
+use Rattle.base_terms.specs.declared.disk_sizes.Sizes.{Sizes}
+use Rattle.luks_store.specs.Copying.Held.{copy_in, place_in, repair_stage_in}
+use Rattle.luks_store.specs.Copying.Meanings.{header_of, header_reader, meaning_of}
+use Rattle.luks_store.specs.Copying.Promises.{MeanTheSame}
+use Rattle.luks_store.specs.declared.header_copies.repair.Repair.{Repair}
+use Rattle.luks_store.specs.declared.header_copies.repair.RepairStage.TheVariants.{Broken}
 use Rattle.luks_rules.specs.Areas.{areas_begin, header_bytes}
 use Rattle.luks_store.proofs.PageLemmas.{page-place, size-pages}
 use Rattle.luks_store.specs.Commits.{Repairs}

@@ -1,11 +1,11 @@
 -- The device calls of an opening, in their order.
 use Rattle.std.specs.Prelude.{◌≡◌, ◌⊎◌, ◌/◌, length, Option, Some, None, Result, Ok, Err}
 use Rattle.base_terms.specs.declared.failed.Failed.{Failed}
-use Rattle.joined_disk.specs.Joined.{Joint, joined_disk}
-use Rattle.luks_copies.specs.Held.{copy_in, place_in}
-use Rattle.luks_copies.specs.Steps.{RepairCall}
-use Rattle.luks_copies.specs.declared.repair.Repair.{Repair}
-use Rattle.luks_copies.specs.declared.repair.RepairStage.TheVariants.{Broken, Written}
+use Rattle.sector_disk.specs.JoinedDisks.Joined.{Joint, joined_disk}
+use Rattle.luks_store.specs.Copying.Held.{copy_in, place_in}
+use Rattle.luks_store.specs.Copying.Steps.{RepairCall}
+use Rattle.luks_store.specs.declared.header_copies.repair.Repair.{Repair}
+use Rattle.luks_store.specs.declared.header_copies.repair.RepairStage.TheVariants.{Broken, Written}
 use Rattle.luks_store.specs.Commits.{AreGood, Repairs}
 use Rattle.luks_store.specs.Devices.{IsUnwritten, KeepsBytes}
 use Rattle.luks_store.specs.declared.copies.Copies.{Copies}

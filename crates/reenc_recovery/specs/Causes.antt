@@ -1,7 +1,7 @@
 -- Why a volume isn't opened.
 use Rattle.std.specs.Prelude.{◌≡◌, ℕ, List, Option, true, Result, Ok, Err}
 use Rattle.base_terms.specs.Causes.{Rose}
-use Rattle.disk_sizes.specs.declared.Sizes.{Sizes}
+use Rattle.base_terms.specs.declared.disk_sizes.Sizes.{Sizes}
 use Rattle.luks_json.specs.declared.digest.Digest.{Digest}
 use Rattle.luks_json.specs.declared.meta.Parts.{Parts}
 use Rattle.luks_rules.specs.Segments.{in_progress}

@@ -2,9 +2,9 @@
 -- leave, and what the disk holds once all were done.
 use Rattle.std.specs.Prelude.{ℕ, ◌≡◌, ◌*◌, ◌≤◌, List, Option, Some, Ok, Result}
 use Rattle.base_terms.specs.declared.failed.Failed.{Failed}
-use Rattle.disk_sizes.specs.declared.Sizes.{Sizes}
-use Rattle.joined_disk.specs.Joined.{Joint, joined_disk}
-use Rattle.luks_copies.specs.declared.repair.Repair.{Repair}
+use Rattle.base_terms.specs.declared.disk_sizes.Sizes.{Sizes}
+use Rattle.sector_disk.specs.JoinedDisks.Joined.{Joint, joined_disk}
+use Rattle.luks_store.specs.declared.header_copies.repair.Repair.{Repair}
 use Rattle.luks_rules.specs.Areas.{areas_begin, header_bytes}
 use Rattle.luks_store.specs.Devices.{front_of}
 use Rattle.luks_store.specs.Loads.{IsStored, stored_in}

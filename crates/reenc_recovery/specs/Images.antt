@@ -1,8 +1,8 @@
 -- What an image of a volume's disks stands for: a content, block by block. The image is the bytes
 -- of both disks, the header's in front where it has one of its own. No code computes this.
 use Rattle.std.specs.Prelude.{ℕ, ◌≡◌, ◌<◌, ◌↔◌, List, length, drop, Some, Ok}
-use Rattle.disk_sizes.specs.declared.Sizes.{Sizes}
-use Rattle.disk_views.specs.Parts.{block_at, value_in}
+use Rattle.base_terms.specs.declared.disk_sizes.Sizes.{Sizes}
+use Rattle.sector_disk.specs.DiskViews.Parts.{block_at, value_in}
 use Rattle.luks_rules.specs.Areas.{areas_begin}
 use Rattle.luks_store.specs.Devices.{front_of}
 use Rattle.luks_store.specs.Loads.{stored_in}

@@ -1,7 +1,7 @@
 -- What is known of a volume whose header and keys passed all checks.
 use Rattle.std.specs.Prelude.{ℕ, ◌≡◌, ◌*◌, ◌<◌, ◌≤◌, List, Option, Ok}
-use Rattle.disk_sizes.specs.declared.Sizes.{Sizes}
-use Rattle.disk_views.specs.Parts.{value_in}
+use Rattle.base_terms.specs.declared.disk_sizes.Sizes.{Sizes}
+use Rattle.sector_disk.specs.DiskViews.Parts.{value_in}
 use Rattle.luks_json.specs.declared.meta.Parts.{Parts}
 use Rattle.luks_rules.specs.Areas.{areas_begin, header_bytes}
 use Rattle.luks_rules.specs.States.{IsSound}

@@ -1,10 +1,10 @@
 -- What is promised of images, and of what a repair leaves.
 use Rattle.std.specs.Prelude.{ℕ, ◌≡◌, ◌↔◌, Bool, true, false, List, length, take, drop, Ok}
 use Rattle.base_terms.specs.Blocks.{joined}
-use Rattle.disk_areas.specs.Commits.{TriesCopy, WritesCopy, other}
-use Rattle.disk_areas.specs.Headers.{Copy, Handed, Header, IsLaidOut, Layout, byte_of, text_of}
-use Rattle.disk_sizes.specs.declared.Sizes.{Sizes}
-use Rattle.disk_views.specs.Views.{IsSynced, IsThinned, view_of_cells}
+use Rattle.crash_laws.specs.HeaderAreas.Commits.{TriesCopy, WritesCopy, other}
+use Rattle.crash_laws.specs.HeaderAreas.Headers.{Copy, Handed, Header, IsLaidOut, Layout, byte_of, text_of}
+use Rattle.base_terms.specs.declared.disk_sizes.Sizes.{Sizes}
+use Rattle.sector_disk.specs.DiskViews.Views.{IsSynced, IsThinned, view_of_cells}
 use Rattle.luks_rules.specs.States.{IsSound}
 use Rattle.luks_store.specs.Devices.{front_of, IsCertain}
 use Rattle.luks_store.specs.Loads.{IsStored, stored_in}

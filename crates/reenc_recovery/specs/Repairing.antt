@@ -1,12 +1,12 @@
 -- What a disk shows while a copy of its header is written anew.
 use Rattle.std.specs.Prelude.{ℕ, ◌≡◌, ◌+◌, ◌*◌, ◌<◌, ◌≤◌, Bool, false, List, length, Contains}
 use Rattle.base_terms.specs.Blocks.{joined}
-use Rattle.disk_areas.specs.Commits.{HasPast, ShowsRepair}
-use Rattle.disk_areas.specs.Headers.{Copy, Handed, Header, IsGenuine, IsHeader, IsLaidOut, Layout}
-use Rattle.disk_sizes.specs.declared.Sizes.{Sizes}
-use Rattle.disk_views.specs.Parts.{block_at, cell_in}
-use Rattle.disk_views.specs.Views.{view_of_cells}
-use Rattle.luks_copies.specs.Meanings.{header_reader, meaning_of}
+use Rattle.crash_laws.specs.HeaderAreas.Commits.{HasPast, ShowsRepair}
+use Rattle.crash_laws.specs.HeaderAreas.Headers.{Copy, Handed, Header, IsGenuine, IsHeader, IsLaidOut, Layout}
+use Rattle.base_terms.specs.declared.disk_sizes.Sizes.{Sizes}
+use Rattle.sector_disk.specs.DiskViews.Parts.{block_at, cell_in}
+use Rattle.sector_disk.specs.DiskViews.Views.{view_of_cells}
+use Rattle.luks_store.specs.Copying.Meanings.{header_reader, meaning_of}
 use Rattle.luks_rules.specs.Areas.{areas_begin}
 use Rattle.luks_store.specs.Devices.{front_of}
 use Rattle.luks_store.specs.declared.loaded.Stored.{Stored}

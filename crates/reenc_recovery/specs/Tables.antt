@@ -5,12 +5,12 @@ use Rattle.std.specs.Prelude.{Ok, Result}
 use Rattle.std.specs.List.{All}
 use Rattle.base_terms.specs.Blocks.{joined, lengths}
 use Rattle.base_terms.specs.declared.failed.Failed.{Failed}
-use Rattle.disk_areas.specs.Commits.{HasPast}
-use Rattle.disk_areas.specs.Headers.{Handed, Header, IsGenuine}
-use Rattle.disk_sizes.specs.declared.Sizes.{Sizes}
-use Rattle.joined_disk.specs.Joined.{Joint, joined_disk}
-use Rattle.luks_copies.specs.Meanings.{header_of, header_reader}
-use Rattle.luks_copies.specs.declared.repair.Repair.{Repair}
+use Rattle.crash_laws.specs.HeaderAreas.Commits.{HasPast}
+use Rattle.crash_laws.specs.HeaderAreas.Headers.{Handed, Header, IsGenuine}
+use Rattle.base_terms.specs.declared.disk_sizes.Sizes.{Sizes}
+use Rattle.sector_disk.specs.JoinedDisks.Joined.{Joint, joined_disk}
+use Rattle.luks_store.specs.Copying.Meanings.{header_of, header_reader}
+use Rattle.luks_store.specs.declared.header_copies.repair.Repair.{Repair}
 use Rattle.luks_rules.specs.Areas.{areas_begin, header_bytes}
 use Rattle.luks_rules.specs.States.{IsSound}
 use Rattle.luks_store.specs.Devices.{front_of}

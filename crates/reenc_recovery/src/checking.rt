@@ -1,7 +1,7 @@
 // The reads and all checks of an opening.
 
 ghost use Rattle.std.specs.Prelude.{◌≡◌, List, ℕ, Some, Ok, IfErr, IfOk, IfSome};
-ghost use Rattle.joined_disk.specs.Counts.{joint_in, sizes_of};
+ghost use Rattle.sector_disk.specs.JoinedDisks.Counts.{joint_in, sizes_of};
 ghost use Rattle.luks_store.specs.Commits.{FitsDisks};
 ghost use Rattle.luks_store.specs.Devices.{IsUnwritten, device_of, front_of};
 ghost use Rattle.luks_store.specs.Loads.{stored_in};
@@ -13,11 +13,10 @@ use crate::fault::OpenCause;
 use crate::judging::{Opening, judge_volume};
 use crate::keys::SideKeys;
 use cipher_laws::SectorCipher;
-use joined_disk::JoinedDisk;
-use luks_copies::Repair;
+use luks_store::header_copies::Repair;
 use luks_store::{Loaded, load};
 use sector_cipher::Context;
-use sector_disk::Disk;
+use sector_disk::{Disk, JoinedDisk};
 use std::alloc::Global;
 
 /// A header that passed all checks, the volume that it places, and the repair that it asks for.

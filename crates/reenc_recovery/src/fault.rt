@@ -3,17 +3,15 @@
 ghost use Rattle.std.specs.Prelude.{◌≡◌};
 
 use base_terms::Bytes;
-use joined_disk::JoinedDisk;
 use json_members::JsonFault;
 use luks_bin::BinFault;
 use luks_rules::RuleFault;
 use luks_store::StoreFault;
-use sector_disk::Disk;
+use sector_disk::{Disk, JoinedDisk};
 use std::alloc::AllocError;
 
 /// Why a volume isn't opened: the first of the causes from `NoHeader` on that the disks and the key
 /// give, unless memory was wanted or a device call failed before.
-#[derive(Debug, Drop)]
 pub enum OpenCause {
     /// Memory ran out.
     Memory,
@@ -43,6 +41,27 @@ pub enum OpenCause {
         computed: Bytes,
         stored: Bytes,
     },
+}
+
+// By hand, so that a value that is dropped in place is one call to the prover.
+impl Drop for OpenCause {
+    fn drop(self) {
+        match self {
+            OpenCause::Memory | OpenCause::Device => (),
+            OpenCause::NoHeader {
+                primary: _,
+                secondary: _,
+            } => (),
+            OpenCause::CopiesDiffer { seqid: _, place: _ } => (),
+            OpenCause::Json(fault) => drop(fault),
+            OpenCause::Rule(fault) => drop(fault),
+            OpenCause::InProgress => (),
+            OpenCause::KeyDiffers { computed, stored } => {
+                drop(computed);
+                drop(stored);
+            }
+        }
+    }
 }
 
 /// A volume wasn't opened: the disks are handed back.

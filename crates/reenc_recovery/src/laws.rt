@@ -2,7 +2,7 @@
 
 ghost use Rattle.std.specs.Prelude.{◌≡◌, ◌*◌, ℕ, List, Option, Some, length};
 ghost use Rattle.cipher_laws.specs.Bytes.{AreBytes};
-ghost use Rattle.disk_sizes.specs.declared.Sizes.{Sizes};
+ghost use Rattle.base_terms.specs.declared.disk_sizes.Sizes.{Sizes};
 ghost use Rattle.luks_store.specs.declared.loaded.Stored.{Stored};
 ghost use Rattle.reenc_recovery.specs.Headers.{AnyDiskOpeningsMend, AnyOpeningsMend};
 ghost use Rattle.reenc_recovery.specs.Headers.{DiskOpeningsKeepHeaders, OpeningsKeepHeaders};
@@ -20,9 +20,9 @@ ghost use Rattle.volume_machine.specs.States.{State};
 ghost use Rattle.volume_machine.specs.declared.keys.Keys.{Keys};
 
 use cipher_laws::SectorCipher;
-use disk_areas::{images_are_taken, repairs_keep_headers};
-use luks_copies::{calls_are_seen, copies_are_read, copies_mean_what_they_share};
+use crash_laws::{images_are_taken, repairs_keep_headers};
 use luks_slots::keys_are_behind_headers;
+use luks_store::header_copies::{calls_are_seen, copies_are_read, copies_mean_what_they_share};
 use luks_store::{metadata_go_by_meaning, used_copies_are_headers};
 use reenc_meta::placements_are_one;
 use volume_laws::{keys_seal_lawfully, volumes_start};

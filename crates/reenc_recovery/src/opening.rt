@@ -1,7 +1,7 @@
 // An opening in one call.
 
 ghost use Rattle.std.specs.Prelude.{◌≡◌, ◌<◌, ℕ, List, Some, IfErr, IfOk};
-ghost use Rattle.joined_disk.specs.Counts.{joint_in, sizes_of};
+ghost use Rattle.sector_disk.specs.JoinedDisks.Counts.{joint_in, sizes_of};
 ghost use Rattle.luks_store.specs.Devices.{device_of, front_of};
 ghost use Rattle.luks_store.specs.Loads.{stored_in};
 ghost use Rattle.reenc_recovery.specs.Causes.{HasCauseIn, IsCauseIn};
@@ -18,11 +18,10 @@ use crate::repairing::mend;
 use crate::telling::disks_tell_lawfully;
 use base_terms::Failed;
 use cipher_laws::SectorCipher;
-use joined_disk::JoinedDisk;
-use luks_copies::{copies_are_read, copies_mean_what_they_share};
+use luks_store::header_copies::{copies_are_read, copies_mean_what_they_share};
 use luks_store::{metadata_go_by_meaning, used_copies_are_headers};
 use sector_cipher::Context;
-use sector_disk::Disk;
+use sector_disk::{Disk, JoinedDisk};
 use std::alloc::{AllocError, Global};
 use volume_core::{Lanes, Volume};
 

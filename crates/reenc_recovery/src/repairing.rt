@@ -1,13 +1,13 @@
 // The repair of a header, as the opening of its volume makes it.
 
 ghost use Rattle.std.specs.Prelude.{◌≡◌, IfSome};
-ghost use Rattle.luks_copies.specs.Held.{copy_in, place_in, repair_stage_in};
-ghost use Rattle.luks_copies.specs.declared.repair.RepairStage.TheVariants.{Broken};
+ghost use Rattle.luks_store.specs.Copying.Held.{copy_in, place_in, repair_stage_in};
+ghost use Rattle.luks_store.specs.declared.header_copies.repair.RepairStage.TheVariants.{Broken};
 ghost use Rattle.reenc_recovery.specs.Calls.{RepairFits, RepairRun};
 
 use crate::telling::disks_tell_lawfully;
 use base_terms::Failed;
-use luks_copies::Repair;
+use luks_store::header_copies::Repair;
 use sector_disk::Disk;
 
 /// Writes the copy of the header that lacks or is older, where there is one, and syncs. The disk is

@@ -2,22 +2,22 @@
 use Rattle.std.proofs.Common.{◌≡◌, inr, ℕ, List, [], Some, sym}
 use Rattle.std.proofs.lemmas.List.{append-nil}
 use Rattle.base_terms.specs.Blocks.{joined}
-use Rattle.served_conversions.specs.Ends.{EndsStandForNewest}
+use Rattle.recovery_laws.specs.Served.Ends.{EndsStandForNewest}
 use Rattle.header_report.specs.Examinations.{sizes_alone}
-use Rattle.open_zones.specs.Images.{ImageStandsFor}
+use Rattle.image_laws.specs.Opened.Images.{ImageStandsFor}
 use Rattle.plain_disk.specs.Plain.{Exchange}
 use Rattle.resume_disk.specs.Resuming.{IsOpenedMidway}
-use Rattle.resumed_volumes.specs.Openings.{IsKnownBehind}
-use Rattle.resumed_volumes.specs.Passphrases.{IsTakenUpFor, TakenUpConversionsBeginFor}
-use Rattle.resumed_volumes.specs.Resuming.{both_of}
-use Rattle.resumed_volumes.specs.Starts.{volume_seals}
+use Rattle.recovery_laws.specs.Resumed.Openings.{IsKnownBehind}
+use Rattle.recovery_laws.specs.Resumed.Passphrases.{IsTakenUpFor, TakenUpConversionsBeginFor}
+use Rattle.recovery_laws.specs.Resumed.Resuming.{both_of}
+use Rattle.recovery_laws.specs.Resumed.Starts.{volume_seals}
 use Rattle.sector_disk.specs.Devices.{Device}
 use Rattle.sector_disk.specs.Geometry.{IsDisk}
 use Rattle.sector_disk.specs.Steps.{Told}
-use Rattle.served_conversions.specs.Clients.{StoodFor}
-use Rattle.served_conversions.specs.Serving.{FoundKeysStand}
-use Rattle.served_conversions.specs.Again.{StandsBeside}
-use Rattle.served_conversions.specs.Passphrases.{DeedsStandAgainFor}
+use Rattle.recovery_laws.specs.Served.Clients.{StoodFor}
+use Rattle.recovery_laws.specs.Served.Serving.{FoundKeysStand}
+use Rattle.recovery_laws.specs.Served.Again.{StandsBeside}
+use Rattle.recovery_laws.specs.Served.Passphrases.{DeedsStandAgainFor}
 use Rattle.volume_laws.specs.Handing.{handed_over}
 use Rattle.volume_laws.specs.Imaging.{IsTaken}
 use Rattle.volume_machine.specs.Answers.{AreExchanges}

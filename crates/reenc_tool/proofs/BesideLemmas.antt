@@ -6,11 +6,11 @@ use Rattle.base_terms.specs.Causes.{Rose}
 use Rattle.bays.specs.Stories.{LinkState}
 use Rattle.block_server.specs.Serving.{HasServedBeside as IsServedBeside, KnowsDeeds}
 use Rattle.block_server.specs.declared.link.Standing.{Standing}
-use Rattle.conversions_beside.specs.Ends.{IsConvertedBeside, MayConvertBeside}
-use Rattle.disk_areas.specs.Headers.{Header, IsReader, Layout}
-use Rattle.disk_sizes.specs.declared.Sizes.{Sizes}
-use Rattle.lanes_beside.specs.Executing.{ExecutesBeside}
-use Rattle.lanes_beside.specs.Lanes.{works_over}
+use Rattle.volume_laws.specs.BesideConversions.Ends.{IsConvertedBeside, MayConvertBeside}
+use Rattle.crash_laws.specs.HeaderAreas.Headers.{Header, IsReader, Layout}
+use Rattle.base_terms.specs.declared.disk_sizes.Sizes.{Sizes}
+use Rattle.volume_laws.specs.BesideLanes.Executing.{ExecutesBeside}
+use Rattle.volume_laws.specs.BesideLanes.Lanes.{works_over}
 use Rattle.reenc_tool.proofs.PlayedLemmas.{no_link_failed}
 use Rattle.reenc_tool.proofs.ServedLemmas.{AreFound, none-spent}
 use Rattle.reenc_tool.proofs.TextLemmas.{not_rose}
@@ -31,10 +31,10 @@ use Rattle.reenc_worker.specs.declared.ends.WorkerEnd.{WorkerEnd}
 use Rattle.reenc_worker.specs.declared.ends.WorkerEnd.TheVariants as ends
 use Rattle.sector_disk.specs.Devices.{Device}
 use Rattle.sector_disk.specs.Steps.{Told}
-use Rattle.served_beside.specs.Failing.{AreBreaking, BreaksByFaults, FaultsRaise, GoesByDeeds}
-use Rattle.served_beside.specs.Replies.{DeviceErrorsAreExact, PlacesAreExact, ServesWithoutFaults}
-use Rattle.served_beside.specs.Stops.{DeedsStopAnywhere}
-use Rattle.served_beside.specs.Tables.{TellsDeeds}
+use Rattle.volume_laws.specs.BesideServing.Failing.{AreBreaking, BreaksByFaults, FaultsRaise, GoesByDeeds}
+use Rattle.volume_laws.specs.BesideServing.Replies.{DeviceErrorsAreExact, PlacesAreExact, ServesWithoutFaults}
+use Rattle.volume_laws.specs.BesideServing.Stops.{DeedsStopAnywhere}
+use Rattle.volume_laws.specs.BesideServing.Tables.{TellsDeeds}
 use Rattle.shared_volume.specs.Ciphers.{Context}
 use Rattle.shared_volume.specs.Lanes.{Knowing}
 use Rattle.shared_volume.specs.Serving.{EndsBy, WentOn}
@@ -49,8 +49,8 @@ use Rattle.volume_machine.specs.States.{State}
 use Rattle.volume_machine.specs.WorkSteps.{Hindrance, WorkStep, Worked, awaits, clashes, faulted}
 use Rattle.volume_machine.specs.WorkSteps.{finished, hindered, leaves_broken, no_memory, no_number}
 use Rattle.volume_machine.specs.WorkSteps.{no_room, stepped, was_broken}
-use Rattle.worker_laws.specs.Conversions.{IsFaultless}
-use Rattle.worker_laws.specs.Steps.{end_by, told_by}
+use Rattle.volume_laws.specs.WorkerRuns.Conversions.{IsFaultless}
+use Rattle.volume_laws.specs.WorkerRuns.Steps.{end_by, told_by}
 use Rattle.zone_events.specs.Readings.{reading_of}
 
 -- ---- the step that brought an end

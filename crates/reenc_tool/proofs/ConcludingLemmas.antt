@@ -7,12 +7,12 @@ use Rattle.bays.specs.Stories.{LinkState}
 use Rattle.block_server.specs.Serving.{HasServedBeside as IsServedBeside}
 use Rattle.block_server.specs.declared.link.Standing.{Standing}
 use Rattle.block_server.specs.declared.link.Standing.TheVariants.{Live}
-use Rattle.conversions_beside.specs.Ends.{IsConvertedBeside, MayConvertBeside}
-use Rattle.disk_areas.specs.Headers.{Header, IsReader, Layout}
-use Rattle.disk_sizes.specs.declared.Sizes.{Sizes}
-use Rattle.lanes_beside.specs.Executing.{ExecutesBeside}
-use Rattle.lanes_beside.specs.Lanes.{BeginsBeside, works_over}
-use Rattle.lanes_beside.specs.Runs.{IsRunOf}
+use Rattle.volume_laws.specs.BesideConversions.Ends.{IsConvertedBeside, MayConvertBeside}
+use Rattle.crash_laws.specs.HeaderAreas.Headers.{Header, IsReader, Layout}
+use Rattle.base_terms.specs.declared.disk_sizes.Sizes.{Sizes}
+use Rattle.volume_laws.specs.BesideLanes.Executing.{ExecutesBeside}
+use Rattle.volume_laws.specs.BesideLanes.Lanes.{BeginsBeside, works_over}
+use Rattle.volume_laws.specs.BesideLanes.Runs.{IsRunOf}
 use Rattle.nbd_session.specs.declared.ending.SessionEnd.{SessionEnd}
 use Rattle.reenc_tool.proofs.BesideLemmas.{DeedLaws, served_converting}
 use Rattle.reenc_tool.proofs.QuietLemmas.{IsQuiet, quiet}
@@ -28,12 +28,12 @@ use Rattle.reenc_worker.specs.declared.ends.WorkerEnd.{WorkerEnd}
 use Rattle.sector_cipher.specs.declared.disk.DiskCipher.{DiskCipher}
 use Rattle.sector_disk.specs.Devices.{Device}
 use Rattle.sector_disk.specs.Steps.{Told}
-use Rattle.served_beside.specs.Failing.{BreaksByFaults, FaultsRaise, GoesByDeeds}
-use Rattle.served_beside.specs.Replies.{DeviceErrorsAreExact, PlacesAreExact, ServesWithoutFaults}
-use Rattle.served_beside.specs.Stops.{DeedsStopAnywhere}
-use Rattle.served_beside.specs.Tables.{TellsDeeds}
-use Rattle.served_conversions.specs.Clients.{without_work}
-use Rattle.served_conversions.specs.Serving.{ClientsLeaveWork}
+use Rattle.volume_laws.specs.BesideServing.Failing.{BreaksByFaults, FaultsRaise, GoesByDeeds}
+use Rattle.volume_laws.specs.BesideServing.Replies.{DeviceErrorsAreExact, PlacesAreExact, ServesWithoutFaults}
+use Rattle.volume_laws.specs.BesideServing.Stops.{DeedsStopAnywhere}
+use Rattle.volume_laws.specs.BesideServing.Tables.{TellsDeeds}
+use Rattle.recovery_laws.specs.Served.Clients.{without_work}
+use Rattle.recovery_laws.specs.Served.Serving.{ClientsLeaveWork}
 use Rattle.shared_volume.specs.Ciphers.{Context}
 use Rattle.shared_volume.specs.Histories.{IsReadSo, MayBeShared}
 use Rattle.shared_volume.specs.Lanes.{Knowing}

@@ -4,8 +4,8 @@ use Rattle.std.proofs.Common.{◌≡◌, ◌∙◌, ◌<◌, ⊎_elim, Bool, tru
 use Rattle.std.proofs.Common.{subst, sym}
 use Rattle.aes_core.specs.declared.cipher.Aes.{Aes}
 use Rattle.bays.specs.Stories.{LinkState}
-use Rattle.disk_sizes.specs.declared.Sizes.{Sizes}
-use Rattle.served_conversions.specs.Ends.{StandsForNewest}
+use Rattle.base_terms.specs.declared.disk_sizes.Sizes.{Sizes}
+use Rattle.recovery_laws.specs.Served.Ends.{StandsForNewest}
 use Rattle.header_report.specs.Examinations.{sizes_alone}
 use Rattle.hotzone.specs.Sites.{IsSaved}
 use Rattle.luks_store.specs.declared.loaded.Stored.{Stored}
@@ -22,8 +22,8 @@ use Rattle.reenc_tool.specs.TakenUp.{IsLedToEnd, RanMidway}
 use Rattle.reenc_tool.specs.Volumes.{RanAs}
 use Rattle.reenc_tool.specs.declared.ended.Cause.TheVariants.{Fine}
 use Rattle.resume_disk.specs.Resuming.{IsOpenedMidway}
-use Rattle.resumed_volumes.specs.Chaining.{IsOneDisk}
-use Rattle.resumed_volumes.specs.Starts.{BeginsBehind, volume_seals}
+use Rattle.recovery_laws.specs.Resumed.Chaining.{IsOneDisk}
+use Rattle.recovery_laws.specs.Resumed.Starts.{BeginsBehind, volume_seals}
 use Rattle.sector_cipher.specs.declared.disk.DiskCipher.{DiskCipher}
 use Rattle.sector_disk.specs.Devices.{Device}
 use Rattle.sector_disk.specs.Geometry.{IsDisk}

@@ -6,11 +6,11 @@ use Rattle.aes_core.specs.declared.cipher.Aes.{Aes}
 use Rattle.base_terms.proofs.BlockLemmas.{joined-blocks_of}
 use Rattle.base_terms.specs.Blocks.{blocks_of, joined}
 use Rattle.bays.specs.Stories.{LinkState}
-use Rattle.disk_views.proofs.Entries.{blocks_of-at, length-blocks_of}
-use Rattle.disk_views.specs.Parts.{block_at}
+use Rattle.sector_disk.proofs.DiskViews.Entries.{blocks_of-at, length-blocks_of}
+use Rattle.sector_disk.specs.DiskViews.Parts.{block_at}
 use Rattle.header_report.specs.Examinations.{sizes_alone}
 use Rattle.plain_disk.specs.Plain.{Block, newest_bytes, settled, settled_blocks}
-use Rattle.served_conversions.proofs.CountLemmas.{legal-count}
+use Rattle.recovery_laws.proofs.Served.CountLemmas.{legal-count}
 use Rattle.reenc_tool.proofs.MidwayLemmas.{none-open}
 use Rattle.reenc_tool.proofs.RestAtoms.{newest-at, run-leaves}
 use Rattle.reenc_tool.proofs.RestLemmas.{RestLaws, stands-at-rest}
@@ -26,7 +26,7 @@ use Rattle.reenc_worker.specs.declared.ends.WorkerEnd.{WorkerEnd}
 use Rattle.sector_cipher.specs.declared.disk.DiskCipher.{DiskCipher}
 use Rattle.sector_disk.specs.Devices.{Device}
 use Rattle.sector_disk.specs.Geometry.{IsDisk}
-use Rattle.served_conversions.specs.Ends.{StandsForNewest}
+use Rattle.recovery_laws.specs.Served.Ends.{StandsForNewest}
 use Rattle.volume_laws.specs.Contents.{block_in, plain_blocks}
 use Rattle.volume_laws.specs.Executing.{Executes}
 use Rattle.volume_laws.specs.Promises.{GoesByEvents, IsServed, ServesEachRun, Starts}

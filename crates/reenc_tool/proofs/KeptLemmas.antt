@@ -2,40 +2,40 @@
 use Rattle.std.proofs.Common.{◌≡◌, ◌∙◌, ◌++◌, inl, inr, ℕ, true, List, Option, Some, Ok, ap, arith}
 use Rattle.std.proofs.Common.{refl, subst, sym}
 use Rattle.base_terms.specs.Blocks.{joined}
-use Rattle.disk_areas.specs.Headers.{Layout}
-use Rattle.disk_sizes.specs.declared.Sizes.{Sizes}
+use Rattle.crash_laws.specs.HeaderAreas.Headers.{Layout}
+use Rattle.base_terms.specs.declared.disk_sizes.Sizes.{Sizes}
 use Rattle.header_report.specs.Examinations.{sizes_alone}
-use Rattle.joined_disk.specs.Joined.{joined_disk}
+use Rattle.sector_disk.specs.JoinedDisks.Joined.{joined_disk}
 use Rattle.luks_rules.specs.Segments.{in_progress}
 use Rattle.luks_store.specs.declared.loaded.Stored.{Stored}
-use Rattle.open_zones.specs.Images.{ImageStandsFor}
+use Rattle.image_laws.specs.Opened.Images.{ImageStandsFor}
 use Rattle.reenc_recovery.specs.Images.{StandsFor}
 use Rattle.reenc_recovery.specs.Placings.{RestsIn}
 use Rattle.reenc_worker.specs.declared.ends.WorkerEnd.{WorkerEnd}
 use Rattle.reenc_worker.specs.declared.ends.WorkerEnd.TheVariants.{Finished}
 use Rattle.resume_disk.specs.Resuming.{HasRun}
-use Rattle.resumed_volumes.proofs.ResumeLemmas.{told-first}
-use Rattle.resumed_volumes.specs.Chaining.{GoesOnIn, IsOneDisk, StopsStandAgain}
-use Rattle.resumed_volumes.specs.Openings.{IsKnownBehind, OpeningsKeepContent, OpensOn}
-use Rattle.resumed_volumes.specs.Passphrases.{AreGiven, FinishedConversionsStandFor, IsTakenUpFor}
-use Rattle.resumed_volumes.specs.Passphrases.{StandsAgainFor, StopsStandForPassphrases}
-use Rattle.resumed_volumes.specs.Repeating.{Tells, at_work}
-use Rattle.resumed_volumes.specs.Resuming.{IsTakenUp, ResumedConversionsKeepContent, both_of}
-use Rattle.resumed_volumes.specs.Resuming.{ResumedConversionsStand, TakenUpConversionsBegin}
-use Rattle.resumed_volumes.specs.Runs.{HoldsNew}
-use Rattle.resumed_volumes.specs.Starts.{layout_on, volume_seals}
+use Rattle.recovery_laws.proofs.Resumed.ResumeLemmas.{told-first}
+use Rattle.recovery_laws.specs.Resumed.Chaining.{GoesOnIn, IsOneDisk, StopsStandAgain}
+use Rattle.recovery_laws.specs.Resumed.Openings.{IsKnownBehind, OpeningsKeepContent, OpensOn}
+use Rattle.recovery_laws.specs.Resumed.Passphrases.{AreGiven, FinishedConversionsStandFor, IsTakenUpFor}
+use Rattle.recovery_laws.specs.Resumed.Passphrases.{StandsAgainFor, StopsStandForPassphrases}
+use Rattle.recovery_laws.specs.Resumed.Repeating.{Tells, at_work}
+use Rattle.recovery_laws.specs.Resumed.Resuming.{IsTakenUp, ResumedConversionsKeepContent, both_of}
+use Rattle.recovery_laws.specs.Resumed.Resuming.{ResumedConversionsStand, TakenUpConversionsBegin}
+use Rattle.recovery_laws.specs.Resumed.Runs.{HoldsNew}
+use Rattle.recovery_laws.specs.Resumed.Starts.{layout_on, volume_seals}
 use Rattle.sector_disk.specs.Devices.{Device as DiskState}
 use Rattle.sector_disk.specs.Geometry.{IsDisk}
 use Rattle.sector_disk.specs.Steps.{Told}
-use Rattle.served_conversions.specs.Clients.{StoodFor}
-use Rattle.served_conversions.specs.Serving.{FoundKeysStand, PassphrasesGiveKeys}
+use Rattle.recovery_laws.specs.Served.Clients.{StoodFor}
+use Rattle.recovery_laws.specs.Served.Serving.{FoundKeysStand, PassphrasesGiveKeys}
 use Rattle.volume_laws.specs.Handing.{handed_over}
 use Rattle.volume_laws.specs.Imaging.{IsTaken}
 use Rattle.volume_machine.specs.Deeds.{Deed, state_after}
 use Rattle.volume_machine.specs.States.{State}
 use Rattle.volume_machine.specs.declared.keys.Keys.{Keys}
 use Rattle.volume_opening.specs.Openings.{alone}
-use Rattle.worker_laws.specs.Conversions.{HasConverted}
+use Rattle.volume_laws.specs.WorkerRuns.Conversions.{HasConverted}
 use Rattle.zone_events.proofs.GroundLemmas.{busy-of}
 use Rattle.zone_events.specs.Heads.{header_on}
 use Rattle.zone_events.specs.Readings.{reading_of}

@@ -8,22 +8,22 @@ use Rattle.cipher_laws.specs.Bytes.{AreBytes}
 use Rattle.base_terms.specs.declared.failed.Failed.{Failed}
 use Rattle.command_line.specs.Formats.{Formatting, IsFormatting}
 use Rattle.command_line.specs.Segments.{has_key_size}
-use Rattle.disk_sizes.specs.declared.Sizes.{Sizes}
-use Rattle.format_disk.specs.Calls.{FitsNew, WritesVolume}
-use Rattle.format_disk.specs.Rests.{LeaveTheRest}
-use Rattle.format_disk.specs.Volumes.{IsNewVolume}
-use Rattle.format_disk.specs.Written.{FitTheirDisk}
-use Rattle.joined_disk.specs.Counts.{HasSizes, has_head, joint_in, sizes_of}
-use Rattle.joined_disk.specs.Joined.{Joint, begun_joint, joined_disk}
-use Rattle.joined_disk.specs.declared.joined.JoinedDisk.{JoinedDisk}
+use Rattle.base_terms.specs.declared.disk_sizes.Sizes.{Sizes}
+use Rattle.luks_format.specs.DiskFormat.Calls.{FitsNew, WritesVolume}
+use Rattle.luks_format.specs.DiskFormat.Rests.{LeaveTheRest}
+use Rattle.luks_format.specs.DiskFormat.Volumes.{IsNewVolume}
+use Rattle.luks_format.specs.DiskFormat.Written.{FitTheirDisk}
+use Rattle.sector_disk.specs.JoinedDisks.Counts.{HasSizes, has_head, joint_in, sizes_of}
+use Rattle.sector_disk.specs.JoinedDisks.Joined.{Joint, begun_joint, joined_disk}
+use Rattle.sector_disk.specs.declared.joined.joined.JoinedDisk.{JoinedDisk}
 use Rattle.sector_disk.specs.declared.device.Disk.{Ghosts}
-use Rattle.format_disk.specs.declared.volume.NewVolume.{NewVolume}
+use Rattle.luks_format.specs.declared.format_disk.volume.NewVolume.{NewVolume}
 use Rattle.luks_format.specs.Wishes.{FitsDisk, IsWish}
 use Rattle.luks_format.specs.declared.wish.Wish.{Wish}
 use Rattle.luks_json.specs.declared.names.Cipher.{Cipher}
 use Rattle.luks_json.specs.declared.names.Cipher.TheVariants.{AesXtsPlain64, AesCbcEssivSha256}
 use Rattle.luks_slots.specs.Functions.{named_cipher}
-use Rattle.new_volumes.specs.Standing.{NewVolumesStand}
+use Rattle.image_laws.specs.Made.Standing.{NewVolumesStand}
 use Rattle.sector_cipher.specs.Names.{IsKeyLength}
 use Rattle.sector_disk.specs.Devices.{Device as DiskState}
 use Rattle.volume_opening.specs.Refusals.{AreOf}

@@ -2,12 +2,12 @@
 use Rattle.std.proofs.Common.{◌≡◌, ◌∙◌, ◌<◌, ⊎_elim, false, ℕ, List, [], ◌∷◌}
 use Rattle.std.proofs.Common.{◌++◌, length, Option, None, Some, ap, arith, inl, inr, refl, subst, sym}
 use Rattle.bays.specs.Stories.{LinkState}
-use Rattle.converted_beside.specs.Ends.{ConvertedVolumesHoldNewest, HoldsNewest}
-use Rattle.conversions_beside.specs.Ends.{MayConvertBeside}
-use Rattle.disk_areas.specs.Headers.{IsReader, Layout}
-use Rattle.disk_sizes.specs.declared.Sizes.{Sizes}
+use Rattle.volume_laws.specs.BesideConverted.Ends.{ConvertedVolumesHoldNewest, HoldsNewest}
+use Rattle.volume_laws.specs.BesideConversions.Ends.{MayConvertBeside}
+use Rattle.crash_laws.specs.HeaderAreas.Headers.{IsReader, Layout}
+use Rattle.base_terms.specs.declared.disk_sizes.Sizes.{Sizes}
 use Rattle.header_report.specs.Examinations.{sizes_alone}
-use Rattle.lanes_beside.specs.Executing.{ExecutesBeside}
+use Rattle.volume_laws.specs.BesideLanes.Executing.{ExecutesBeside}
 use Rattle.luks_store.specs.declared.loaded.Stored.{Stored}
 use Rattle.plain_disk.specs.Plain.{Block, Legal, settled_blocks}
 use Rattle.reenc_tool.specs.Beside.{HasServedConverting}
@@ -18,19 +18,19 @@ use Rattle.reenc_tool.specs.Outcomes.{Outcome}
 use Rattle.reenc_tool.specs.TakenUp.{IsLedToEnd}
 use Rattle.reenc_tool.specs.declared.ended.Cause.TheVariants.{Fine}
 use Rattle.resume_disk.specs.Resuming.{IsOpenedMidway}
-use Rattle.resumed_volumes.proofs.ResumeLemmas.{both-dated}
-use Rattle.resumed_volumes.specs.Chaining.{IsOneDisk}
-use Rattle.resumed_volumes.specs.Openings.{IsKnownBehind, OpeningsKeepContent, OpensOn}
-use Rattle.resumed_volumes.specs.Resuming.{IsTakenUp, TakenUpConversionsBegin}
-use Rattle.resumed_volumes.specs.Starts.{BegunConversionsStart, layout_on, volume_seals}
+use Rattle.recovery_laws.proofs.Resumed.ResumeLemmas.{both-dated}
+use Rattle.recovery_laws.specs.Resumed.Chaining.{IsOneDisk}
+use Rattle.recovery_laws.specs.Resumed.Openings.{IsKnownBehind, OpeningsKeepContent, OpensOn}
+use Rattle.recovery_laws.specs.Resumed.Resuming.{IsTakenUp, TakenUpConversionsBegin}
+use Rattle.recovery_laws.specs.Resumed.Starts.{BegunConversionsStart, layout_on, volume_seals}
 use Rattle.sector_cipher.specs.declared.disk.DiskCipher.{DiskCipher}
 use Rattle.aes_core.specs.declared.cipher.Aes.{Aes}
 use Rattle.sector_disk.specs.Devices.{Device}
 use Rattle.sector_disk.specs.Geometry.{IsDisk}
 use Rattle.sector_disk.specs.Steps.{Told}
-use Rattle.served_beside.specs.Tables.{TellsDeeds}
-use Rattle.served_conversions.specs.Clients.{StoodFor}
-use Rattle.served_conversions.specs.Again.{DeedsStandAgain}
+use Rattle.volume_laws.specs.BesideServing.Tables.{TellsDeeds}
+use Rattle.recovery_laws.specs.Served.Clients.{StoodFor}
+use Rattle.recovery_laws.specs.Served.Again.{DeedsStandAgain}
 use Rattle.volume_machine.specs.Answers.{AreExchanges, Tagged, untagged}
 use Rattle.volume_machine.specs.Deeds.{AreDeeds, Deed, answered_over, state_after}
 use Rattle.volume_machine.specs.Readings.{Reading}

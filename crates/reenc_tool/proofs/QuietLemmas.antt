@@ -1,10 +1,10 @@
 -- Deeds among which is no step of the worker, as the run of events that they are, and the history that
 -- tells them.
 use Rattle.std.proofs.Common.{◌≡◌, ◌∙◌, ℕ, suc, List, [], ◌∷◌, ◌++◌, length, map, ap, refl, subst, sym}
-use Rattle.lanes_beside.specs.Executing.{ExecutesBeside}
-use Rattle.lanes_beside.specs.Lanes.{deed_of, deeds_of}
-use Rattle.lanes_beside.specs.Runs.{IsRunOf}
-use Rattle.served_conversions.specs.Clients.{happening_without_work}
+use Rattle.volume_laws.specs.BesideLanes.Executing.{ExecutesBeside}
+use Rattle.volume_laws.specs.BesideLanes.Lanes.{deed_of, deeds_of}
+use Rattle.volume_laws.specs.BesideLanes.Runs.{IsRunOf}
+use Rattle.recovery_laws.specs.Served.Clients.{happening_without_work}
 use Rattle.shared_volume.specs.Histories.{IsDeedOf, Tells}
 use Rattle.shared_volume.specs.declared.asking.SharedEvent.{SharedEvent}
 use Rattle.shared_volume.specs.declared.asking.SharedEvent.TheVariants as Events

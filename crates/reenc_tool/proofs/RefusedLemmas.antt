@@ -3,7 +3,7 @@ use Rattle.std.proofs.Common.{◌≡◌, ◌≢◌, ℕ, List, Option, Some, ref
 use Rattle.aes_core.specs.declared.cipher.Aes.{Aes}
 use Rattle.conversion_opening.specs.declared.fault.ConversionCause.{ConversionCause}
 use Rattle.header_report.specs.Examinations.{sizes_alone}
-use Rattle.joined_disk.specs.Joined.{Joint}
+use Rattle.sector_disk.specs.JoinedDisks.Joined.{Joint}
 use Rattle.reenc_recovery.specs.declared.keys.SideKeys.{SideKeys}
 use Rattle.resume_disk.specs.Complete.{ConversionsEnd}
 use Rattle.resume_disk.specs.Refusals.{IsRefusedBy, IsUnopenedUnder}
@@ -11,10 +11,10 @@ use Rattle.resume_disk.specs.Resuming.{AreUnderKeys, BeginsWith}
 use Rattle.resume_disk.specs.declared.refusal.Refusal.{Refusal}
 use Rattle.resume_disk.specs.declared.refusal.Refusal.TheVariants as refusals
 use Rattle.resume_disk.specs.declared.refusal.Unfinished.TheVariants.{Refused as refused_run}
-use Rattle.resumed_volumes.specs.Openings.{UnopenedKeepContent}
+use Rattle.recovery_laws.specs.Resumed.Openings.{UnopenedKeepContent}
 use Rattle.sector_cipher.specs.declared.disk.DiskCipher.{DiskCipher}
 use Rattle.sector_disk.specs.Devices.{Device as DiskState}
-use Rattle.served_conversions.specs.Serving.{FoundKeysStand}
+use Rattle.recovery_laws.specs.Served.Serving.{FoundKeysStand}
 use Rattle.volume_opening.specs.Openings.{alone}
 use Rattle.reenc_tool.specs.Kept.{KeepsRefused, KeepsVain, KnowsKeys, KnowsRefused}
 use Rattle.reenc_tool.specs.Outcomes.{Outcome}
@@ -44,6 +44,7 @@ module _ {C D : Type 0} {sector : C → ℕ} {sealed opened : C → ℕ → List
   knows-refused refusals.Idle refused = tt
   knows-refused (refusals.Passphrase count) refused = tt
   knows-refused (refusals.Slots side fault) refused = tt
+  knows-refused (refusals.Tail bytes) refused = tt
   knows-refused (refusals.Unopened cause) refused =
       knows-found refused.2.keys refused.2.read refused.2.under refused.2.begins
 
@@ -68,6 +69,7 @@ module _ {C D : Type 0} {sector : C → ℕ} {sealed opened : C → ℕ → List
   keeps-refused refusals.Idle refused = tt
   keeps-refused (refusals.Passphrase count) refused = tt
   keeps-refused (refusals.Slots side fault) refused = tt
+  keeps-refused (refusals.Tail bytes) refused = tt
   keeps-refused (refusals.Unopened cause) refused = keeps-vain cause refused.0 refused.2
 
 -- ---- so `serve` says

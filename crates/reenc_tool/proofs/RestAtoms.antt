@@ -1,13 +1,24 @@
 -- What a run of clients' events leaves of the bytes of a disk, as long as no write or sync failed: each atom that
 -- is no block's as it was; and where no operation is under way, of each block its newest value.
-use Rattle.volume_machine.proofs.Common
-use Common.{Bool, List, MatchBool, MatchBool-at_false, MatchBool-at_true, MatchOption, None, Option, Some, []}
-use Common.{ap, arith, either, false, inl, inr, length, mul-le-mul_right, refl, subst, sym, true, ℕ, ◌*◌}
-use Common.{◌+◌, ◌<◌, ◌∙◌, ◌∷◌, ◌≡◌, ◌≢◌, ◌≤◌, ◌||◌, block_at, IsOutside, Map, Piece, Event, Outcome, admits, asks}
-use Common.{broken, device, done, finishes, got, reads, refused, settles, writes, IsPieceOf, place_in, place_of}
-use Common.{Happening, IsRun, last_of, IsSound, State, IsAdmitted, ReadStep, SettleStep, WriteStep, Step}
-use Common.{Block, Exchange, IsGoverned, IsLive, IsSomeAnd, Seals, Work, no_plain, open_at, plain_in}
-use Rattle.disk_views.proofs.DeviceViews.{bytes-written}
+use Rattle.std.proofs.Common.{Bool, List, MatchBool, MatchOption, None, Option, Some, [], ap, arith}
+use Rattle.std.proofs.Common.{false, inl, inr, length, mul-le-mul_right, refl, subst, sym, true, ℕ}
+use Rattle.std.proofs.Common.{◌*◌, ◌+◌, ◌<◌, ◌∙◌, ◌∷◌, ◌≡◌, ◌≢◌, ◌≤◌, ◌||◌, IsSomeAnd}
+use Rattle.std.proofs.lemmas.Bool.{MatchBool-at_false, MatchBool-at_true, cases_Bool as either}
+use Rattle.plain_disk.specs.Plain.{Block, Exchange}
+use Rattle.sector_disk.specs.DiskViews.Parts.{block_at}
+use Rattle.sector_disk.specs.DiskViews.Views.{IsOutside}
+use Rattle.segment_map.specs.declared.map.Map.{Map}
+use Rattle.segment_map.specs.declared.map.Piece.{Piece}
+use Rattle.volume_machine.specs.Events.{Event, Outcome, admits, asks, broken, device, done}
+use Rattle.volume_machine.specs.Events.{finishes, got, reads, refused, settles, writes}
+use Rattle.volume_machine.specs.Pieces.{IsPieceOf, place_in, place_of}
+use Rattle.volume_machine.specs.Runs.{Happening, IsRun, last_of, no_plain, plain_in}
+use Rattle.volume_machine.specs.Seals.{Seals}
+use Rattle.volume_machine.specs.Sound.{IsSound}
+use Rattle.volume_machine.specs.States.{State, IsGoverned, IsLive, open_at}
+use Rattle.volume_machine.specs.Steps.{IsAdmitted, ReadStep, SettleStep, WriteStep, Step}
+use Rattle.volume_machine.specs.Works.{Work}
+use Rattle.sector_disk.proofs.DiskViews.DeviceViews.{bytes-written}
 use Rattle.sector_disk.specs.Devices.{Device}
 use Rattle.volume_laws.proofs.{Reading.piece_place, Writing.in_piece}
 use Rattle.volume_laws.specs.Contents.{IsNow, IsSealed, block_in}

@@ -6,13 +6,13 @@ use Rattle.std.proofs.Common.{length-drop, mul-le-mul_right}
 use Rattle.std.proofs.lemmas.List.{ext_get_or, get_or-map, length-map}
 use Rattle.base_terms.proofs.BlockLemmas.{joined-blocks_of, lengths-blocks_of}
 use Rattle.base_terms.specs.Blocks.{blocks_of, joined, lengths}
-use Rattle.disk_sizes.specs.declared.Sizes.{Sizes}
-use Rattle.disk_views.proofs.Blockwise.{block_end, place_of_whole}
-use Rattle.disk_views.specs.Parts.{block_at, cell_in, value_in}
+use Rattle.base_terms.specs.declared.disk_sizes.Sizes.{Sizes}
+use Rattle.sector_disk.proofs.DiskViews.Blockwise.{block_end, place_of_whole}
+use Rattle.sector_disk.specs.DiskViews.Parts.{block_at, cell_in, value_in}
 use Rattle.header_report.proofs.ExamineLemmas.{all_used}
 use Rattle.header_report.specs.Examinations.{sizes_alone}
-use Rattle.joined_disk.specs.Joined.{joined_disk, used_atoms}
-use Rattle.luks_copies.specs.declared.repair.Repair.{Repair}
+use Rattle.sector_disk.specs.JoinedDisks.Joined.{joined_disk, used_atoms}
+use Rattle.luks_store.specs.declared.header_copies.repair.Repair.{Repair}
 use Rattle.luks_json.specs.declared.digest.Digest.{Digest}
 use Rattle.luks_json.specs.declared.meta.Parts.{Parts}
 use Rattle.luks_rules.specs.Areas.{areas_begin, areas_end}
@@ -37,16 +37,16 @@ use Rattle.reenc_recovery.specs.Images.{StandsFor}
 use Rattle.reenc_recovery.specs.Keys.{key_for, used_by}
 use Rattle.reenc_recovery.specs.Placings.{RestsIn}
 use Rattle.reenc_recovery.specs.Volumes.{IsVolumeOf}
-use Rattle.served_conversions.proofs.CountLemmas.{legal-count}
+use Rattle.recovery_laws.proofs.Served.CountLemmas.{legal-count}
 use Rattle.reenc_tool.proofs.RestAtoms.{IsNoBlock, LeavesAtoms, newest-at, run-leaves}
-use Rattle.resumed_volumes.proofs.ShowLemmas.{current-in}
-use Rattle.resumed_volumes.proofs.StopLemmas.{atom-at}
+use Rattle.recovery_laws.proofs.Resumed.ShowLemmas.{current-in}
+use Rattle.recovery_laws.proofs.Resumed.StopLemmas.{atom-at}
 use Rattle.sector_disk.proofs.CellLemmas.{currents_sures}
 use Rattle.sector_disk.specs.Cells.{Cell, currents, sures}
 use Rattle.sector_disk.specs.Devices.{Device, succeeded}
 use Rattle.sector_disk.specs.Geometry.{IsAtom, IsDisk}
 use Rattle.segment_map.specs.declared.map.Map.{Map}
-use Rattle.served_conversions.specs.Ends.{StandsForNewest, newest_values}
+use Rattle.recovery_laws.specs.Served.Ends.{StandsForNewest, newest_values}
 use Rattle.volume_laws.specs.Contents.{IsSealed, block_in}
 use Rattle.volume_laws.specs.Promises.{GoesByEvents, IsServed}
 use Rattle.volume_machine.proofs.NextPieces.{on_disk}

@@ -21,7 +21,7 @@ use Rattle.volume_machine.specs.Sound.{IsSound, AreApart}
 use Rattle.sector_disk.specs.Devices.{Device}
 use Rattle.volume_machine.specs.States.{State}
 use Rattle.volume_machine.specs.Works.{Work}
-use Rattle.served_conversions.specs.Clients.{without_work}
+use Rattle.recovery_laws.specs.Served.Clients.{without_work}
 use Rattle.reenc_tool.specs.declared.ended.Cause.{Cause}
 use Rattle.reenc_tool.specs.Outcomes.{Coming, Outcome, unserved}
 use Rattle.reenc_tool.specs.Plain.{IsPlainVolume}
@@ -127,8 +127,8 @@ share_few workers sessions k (suc n) some below =
 -- links that a bay gave for so many sessions have no more of them each
 pub links_few : {L : Type 0} (state : L → LinkState) (workers sessions : ℕ) (links : List L) →
     AreBounded state workers sessions links → 0 < workers → length links ≡ workers →
-    sessions ≤ 65535 →
-    (k : ℕ) (link : L) → k < length links → (state (slice_index_or links k link)).bound ≤ 65535
+    sessions ≤ 4294967295 →
+    (k : ℕ) (link : L) → k < length links → (state (slice_index_or links k link)).bound ≤ 4294967295
 links_few state workers sessions links bounded some count few k link inside =
     le_trans (share_few workers sessions k _ some (bounded k link (omega (arith, count)))) few
 

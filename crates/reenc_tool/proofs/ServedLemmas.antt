@@ -20,8 +20,8 @@ use Rattle.reenc_worker.specs.declared.ends.WorkerEnd.{WorkerEnd}
 use Rattle.sector_cipher.specs.declared.disk.DiskCipher.{DiskCipher}
 use Rattle.sector_disk.specs.Devices.{Device}
 use Rattle.sector_disk.specs.Steps.{Told}
-use Rattle.served_conversions.specs.Clients.{happening_without_work, without_work}
-use Rattle.served_conversions.specs.Serving.{ClientsLeaveWork}
+use Rattle.recovery_laws.specs.Served.Clients.{happening_without_work, without_work}
+use Rattle.recovery_laws.specs.Served.Serving.{ClientsLeaveWork}
 use Rattle.shared_volume.specs.Ciphers.{Context}
 use Rattle.shared_volume.specs.Histories.{Tells}
 use Rattle.shared_volume.specs.Lanes.{Knowing}

@@ -2,8 +2,8 @@
 use Rattle.std.proofs.Common.{◌≡◌, ◌≤◌, ℕ, List, Some, None, [], ap, arith, inl, inr}
 use Rattle.std.proofs.Common.{refl, subst}
 use Rattle.command_line.specs.Starts.{IsStarting, Starting}
-use Rattle.init_disk.specs.Answers.{IsStartedBy, IsUnstartedBy}
-use Rattle.init_disk.specs.declared.refusal.Refusal.{Refusal}
+use Rattle.luks_init.specs.DiskInit.Answers.{IsStartedBy, IsUnstartedBy}
+use Rattle.luks_init.specs.declared.init_disk.refusal.Refusal.{Refusal}
 use Rattle.luks_init.specs.Wishes.{IsWish}
 use Rattle.luks_init.specs.declared.wish.Wish.{Wish}
 use Rattle.sector_disk.specs.Devices.{Device as DiskState}

@@ -5,11 +5,11 @@ use Rattle.std.proofs.lemmas.List.{length-replicate}
 use Rattle.conversion_opening.specs.Causes.{IsCauseIn}
 use Rattle.conversion_opening.specs.Openings.{IsOpenedOf, IsUnopened}
 use Rattle.conversion_opening.specs.declared.fault.ConversionCause.{ConversionCause}
-use Rattle.disk_sizes.specs.declared.Sizes.{Sizes}
+use Rattle.base_terms.specs.declared.disk_sizes.Sizes.{Sizes}
 use Rattle.header_report.proofs.ExamineLemmas.{cause-later}
 use Rattle.header_report.specs.Examinations.{TellsFault, sizes_alone}
-use Rattle.joined_disk.specs.Counts.{HasSizes}
-use Rattle.joined_disk.specs.Joined.{Joint, joined_disk}
+use Rattle.sector_disk.specs.JoinedDisks.Counts.{HasSizes}
+use Rattle.sector_disk.specs.JoinedDisks.Joined.{Joint, joined_disk}
 use Rattle.luks_rules.specs.Segments.{in_progress}
 use Rattle.luks_store.specs.Devices.{KeepsBytes}
 use Rattle.luks_store.specs.Loads.{Says, stored_in}
@@ -20,13 +20,14 @@ use Rattle.reenc_recovery.specs.declared.keys.SideKeys.{SideKeys}
 use Rattle.reenc_tool.proofs.RunLemmas.{fresh_as_it_is, shared_as_it_is, sound_as_it_is}
 use Rattle.reenc_tool.specs.Volumes.{IsAnyVolume}
 use Rattle.resume_disk.specs.Keys.{AreKeysFound}
-use Rattle.resume_disk.specs.Refusals.{IsRefusedBy, IsRefusedKeys, IsUnopenedUnder}
+use Rattle.luks_rules.specs.Segments.{has_tail}
+use Rattle.resume_disk.specs.Refusals.{HasTailOn, IsRefusedBy, IsRefusedKeys, IsUnopenedUnder}
 use Rattle.resume_disk.specs.Resuming.{AreUnderKeys, BeginsWith, IsOpenedMidway}
 use Rattle.resume_disk.specs.declared.refusal.Refusal.{Refusal}
 use Rattle.resume_disk.specs.declared.refusal.Refusal.TheVariants as refusals
 use Rattle.sector_disk.specs.Devices.{Device}
-use Rattle.served_conversions.specs.Clients.{without_work}
-use Rattle.served_conversions.specs.Serving.{TakenVolumesLieIdle}
+use Rattle.recovery_laws.specs.Served.Clients.{without_work}
+use Rattle.recovery_laws.specs.Served.Serving.{TakenVolumesLieIdle}
 use Rattle.shared_volume.specs.Histories.{MayBeShared}
 use Rattle.volume_core.specs.Zones.{IsReadBy}
 use Rattle.volume_laws.specs.Converting.{IsInOrder}
@@ -66,6 +67,7 @@ module _ (device read : Device) (kept : KeepsBytes device read) where
     are = subst (λ (held : Option (List ℕ)).
         AreKeysFound under.stored.valid.meta under.stored.valid.sizes pass held keys) kept.values
         under.are;
+    whole = subst (λ n. has_tail under.stored.valid.meta.segments n ≡ false) kept.tail under.whole;
   }
 
   begins-then : (later : Device) → BeginsWith read later → BeginsWith device later
@@ -143,6 +145,20 @@ module _ (device read : Device) (kept : KeepsBytes device read) where
         none = is.none;
       }
 
+      tail-then : (bytes : ℕ) (new : Device) → HasTailOn read pass bytes new
+          → HasTailOn device pass bytes new
+      tail-then bytes new is = record {
+        unwritten = keeps_on device read new kept is.unwritten;
+        stored = is.stored;
+        found = found-then is.stored is.found;
+        keys = is.keys;
+        are = subst (λ (held : Option (List ℕ)).
+            AreKeysFound is.stored.valid.meta is.stored.valid.sizes pass held is.keys) kept.values
+            is.are;
+        bytes_are = is.bytes_are ∙ kept.tail;
+        has = subst (λ n. has_tail is.stored.valid.meta.segments n ≡ true) kept.tail is.has;
+      }
+
       header-then : (fault : StoreFault) → TellsFault read fault → TellsFault device fault
       header-then fault tells bytes told =
           subst (λ (s : Sizes). Says fault (stored_in s bytes)) same (tells bytes (told-then told))
@@ -181,6 +197,10 @@ module _ {C D : Type 0} (sector : C → ℕ) (sealed opened : C → ℕ → List
     none,
     keys-then (device disk) (device read) kept sector sealed opened pass
         (refusals.Slots side fault) (device back) is,
+  )
+  refused-then (refusals.Tail bytes) header back (none, is) = (
+    none,
+    tail-then (device disk) (device read) kept sector sealed opened pass bytes (device back) is,
   )
 
   -- it isn't refused since nothing is being converted, where the disk told that something is

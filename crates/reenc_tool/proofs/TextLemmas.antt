@@ -9,7 +9,7 @@ use Rattle.reenc_tool.specs.declared.ended.Cause.{Cause}
 use Rattle.reenc_tool.specs.declared.ended.Cause.TheVariants.{Fine, Usage, Device, NoHeader}
 use Rattle.reenc_tool.specs.declared.ended.Cause.TheVariants.{Header, NoKey, WrongState, Foreign}
 use Rattle.reenc_tool.specs.declared.ended.Cause.TheVariants.{NoFit, Clash, Link}
-use Rattle.reenc_tool.specs.declared.ended.Cause.TheVariants.{Output, Seeds, Memory}
+use Rattle.reenc_tool.specs.declared.ended.Cause.TheVariants.{Output, Seeds, Memory, Keyslots}
 use Rattle.reenc_tool.specs.Texts.{Prints, fault_line, text_of}
 
 -- a count that stood still below its last value didn't rise
@@ -64,3 +64,4 @@ text_of-fault (Link failed faults) after text other = refl
 text_of-fault (Output faults) after text other = refl
 text_of-fault (Seeds faults) after text other = refl
 text_of-fault Memory after text other = refl
+text_of-fault Keyslots after text other = refl

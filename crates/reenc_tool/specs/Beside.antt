@@ -5,11 +5,11 @@ use Rattle.std.specs.Prelude.{◌++◌, length, Some, IsSomeAnd}
 use Rattle.base_terms.specs.Causes.{Rose}
 use Rattle.bays.specs.Stories.{LinkState}
 use Rattle.block_server.specs.Serving.{KnowsDeeds}
-use Rattle.conversions_beside.specs.Ends.{IsConvertedBeside, MayConvertBeside}
-use Rattle.disk_areas.specs.Headers.{Handed, Header, Layout}
-use Rattle.disk_sizes.specs.declared.Sizes.{Sizes}
-use Rattle.lanes_beside.specs.Executing.{ExecutesBeside}
-use Rattle.lanes_beside.specs.Lanes.{works_over}
+use Rattle.volume_laws.specs.BesideConversions.Ends.{IsConvertedBeside, MayConvertBeside}
+use Rattle.crash_laws.specs.HeaderAreas.Headers.{Handed, Header, Layout}
+use Rattle.base_terms.specs.declared.disk_sizes.Sizes.{Sizes}
+use Rattle.volume_laws.specs.BesideLanes.Executing.{ExecutesBeside}
+use Rattle.volume_laws.specs.BesideLanes.Lanes.{works_over}
 use Rattle.plain_disk.specs.Outcomes.{AreServed}
 use Rattle.plain_disk.specs.Plain.{Block, Exchange, Legal}
 use Rattle.reenc_tool.specs.Outcomes.{Coming}
@@ -20,10 +20,10 @@ use Rattle.reenc_worker.specs.declared.ends.WorkerEnd.{WorkerEnd}
 use Rattle.reenc_worker.specs.declared.ends.WorkerEnd.TheVariants.{Broken, Device, Finished, Spent}
 use Rattle.sector_disk.specs.Devices.{Device as DiskState}
 use Rattle.sector_disk.specs.Steps.{Told}
-use Rattle.served_beside.specs.Failing.{GoesByDeeds}
-use Rattle.served_beside.specs.Replies.{DeviceErrorsAreExact, PlacesAreExact}
-use Rattle.served_beside.specs.Stops.{StopsAfter}
-use Rattle.served_beside.specs.Tables.{TellsDeeds}
+use Rattle.volume_laws.specs.BesideServing.Failing.{GoesByDeeds}
+use Rattle.volume_laws.specs.BesideServing.Replies.{DeviceErrorsAreExact, PlacesAreExact}
+use Rattle.volume_laws.specs.BesideServing.Stops.{StopsAfter}
+use Rattle.volume_laws.specs.BesideServing.Tables.{TellsDeeds}
 use Rattle.shared_volume.specs.Serving.{EndsBy, WentOn}
 use Rattle.volume_laws.specs.Converting.{StartsCertain, StartsUnder}
 use Rattle.volume_laws.specs.Imaging.{AreDated}
@@ -34,7 +34,7 @@ use Rattle.volume_machine.specs.Seals.{Seals, AreLawful}
 use Rattle.volume_machine.specs.States.{State, size_of}
 use Rattle.volume_machine.specs.WorkSteps.{WorkStep}
 use Rattle.volume_machine.specs.Works.{Progress}
-use Rattle.worker_laws.specs.Conversions.{IsFaultless}
+use Rattle.volume_laws.specs.WorkerRuns.Conversions.{IsFaultless}
 use Rattle.zone_events.specs.Readings.{reading_of}
 
 -- ---- stops

@@ -7,10 +7,10 @@ use Rattle.bays.specs.declared.bay.BayFault.{BayFault}
 use Rattle.bays.specs.Stories.{LinkState}
 use Rattle.command_line.specs.Commands.{Serving}
 use Rattle.header_report.specs.Examinations.{sizes_alone}
-use Rattle.joined_disk.specs.Joined.{Joint, joined_disk}
+use Rattle.sector_disk.specs.JoinedDisks.Joined.{Joint, joined_disk}
 use Rattle.sector_cipher.specs.declared.disk.DiskCipher.{DiskCipher}
 use Rattle.sector_disk.specs.Devices.{Device as DiskState}
-use Rattle.served_conversions.specs.Ends.{StandsForNewest}
+use Rattle.recovery_laws.specs.Served.Ends.{StandsForNewest}
 use Rattle.volume_machine.specs.Answers.{untagged}
 use Rattle.volume_machine.specs.Runs.{Happening, IsRun}
 use Rattle.volume_machine.specs.Seals.{Seals, seals_of}

@@ -3,11 +3,11 @@ use Rattle.std.specs.Prelude.{ℕ, ◌≡◌, ◌++◌, List, Option, Some, Ok}
 use Rattle.base_terms.specs.Blocks.{joined}
 use Rattle.conversion_opening.specs.declared.fault.ConversionCause.{ConversionCause}
 use Rattle.header_report.specs.Examinations.{sizes_alone}
-use Rattle.joined_disk.specs.Joined.{Joint, joined_disk}
+use Rattle.sector_disk.specs.JoinedDisks.Joined.{Joint, joined_disk}
 use Rattle.luks_store.specs.Devices.{front_of}
 use Rattle.luks_store.specs.Loads.{stored_in}
 use Rattle.luks_store.specs.declared.loaded.Stored.{Stored}
-use Rattle.open_zones.specs.Images.{ImageStandsFor}
+use Rattle.image_laws.specs.Opened.Images.{ImageStandsFor}
 use Rattle.reenc_recovery.specs.declared.keys.SideKeys.{SideKeys}
 use Rattle.reenc_recovery.specs.Images.{StandsFor}
 use Rattle.reenc_recovery.specs.Placings.{RestsIn}
@@ -19,16 +19,16 @@ use Rattle.resume_disk.specs.Resuming.{HasRun}
 use Rattle.resume_disk.specs.Standing.{ConvertsIn}
 use Rattle.resume_disk.specs.declared.refusal.Refusal.{Refusal}
 use Rattle.resume_disk.specs.declared.refusal.Refusal.TheVariants as refusals
-use Rattle.resumed_volumes.specs.Chaining.{StandsAgain}
-use Rattle.resumed_volumes.specs.Keeping.{KeepsContent}
-use Rattle.resumed_volumes.specs.Openings.{IsKnownBehind, KeepsUnopened}
-use Rattle.resumed_volumes.specs.Passphrases.{StandsAgainFor}
-use Rattle.resumed_volumes.specs.Resuming.{both_of}
-use Rattle.resumed_volumes.specs.Runs.{StandsAlone}
-use Rattle.resumed_volumes.specs.Starts.{volume_seals}
+use Rattle.recovery_laws.specs.Resumed.Chaining.{StandsAgain}
+use Rattle.recovery_laws.specs.Resumed.Keeping.{KeepsContent}
+use Rattle.recovery_laws.specs.Resumed.Openings.{IsKnownBehind, KeepsUnopened}
+use Rattle.recovery_laws.specs.Resumed.Passphrases.{StandsAgainFor}
+use Rattle.recovery_laws.specs.Resumed.Resuming.{both_of}
+use Rattle.recovery_laws.specs.Resumed.Runs.{StandsAlone}
+use Rattle.recovery_laws.specs.Resumed.Starts.{volume_seals}
 use Rattle.sector_disk.specs.Devices.{Device as DiskState}
 use Rattle.sector_disk.specs.Steps.{Told}
-use Rattle.served_conversions.specs.Clients.{StoodFor}
+use Rattle.recovery_laws.specs.Served.Clients.{StoodFor}
 use Rattle.volume_laws.specs.Handing.{handed_over}
 use Rattle.volume_laws.specs.Imaging.{IsTaken}
 use Rattle.volume_machine.specs.Deeds.{Deed, state_after}

@@ -1,24 +1,24 @@
 -- What is kept of a disk's content while the conversion of its volume is led on beside clients.
 use Rattle.std.specs.Prelude.{ℕ, ◌≡◌, ◌++◌, List, Some}
 use Rattle.base_terms.specs.Blocks.{joined}
-use Rattle.disk_sizes.specs.declared.Sizes.{Sizes}
-use Rattle.served_conversions.specs.Ends.{StandsForNewest}
-use Rattle.joined_disk.specs.Joined.{joined_disk}
+use Rattle.base_terms.specs.declared.disk_sizes.Sizes.{Sizes}
+use Rattle.recovery_laws.specs.Served.Ends.{StandsForNewest}
+use Rattle.sector_disk.specs.JoinedDisks.Joined.{joined_disk}
 use Rattle.luks_store.specs.declared.loaded.Stored.{Stored}
 use Rattle.header_report.specs.Examinations.{sizes_alone}
-use Rattle.open_zones.specs.Images.{ImageStandsFor}
+use Rattle.image_laws.specs.Opened.Images.{ImageStandsFor}
 use Rattle.plain_disk.specs.Plain.{Block, Exchange, Legal, settled_blocks}
 use Rattle.reenc_recovery.specs.Images.{StandsUnder}
 use Rattle.resume_disk.specs.Resuming.{IsOpenedMidway}
-use Rattle.resumed_volumes.specs.Keeping.{KeepsContent}
-use Rattle.resumed_volumes.specs.Openings.{IsKnownBehind}
-use Rattle.resumed_volumes.specs.Passphrases.{StandsAgainFor}
-use Rattle.resumed_volumes.specs.Resuming.{both_of}
-use Rattle.resumed_volumes.specs.Starts.{layout_on, volume_seals}
+use Rattle.recovery_laws.specs.Resumed.Keeping.{KeepsContent}
+use Rattle.recovery_laws.specs.Resumed.Openings.{IsKnownBehind}
+use Rattle.recovery_laws.specs.Resumed.Passphrases.{StandsAgainFor}
+use Rattle.recovery_laws.specs.Resumed.Resuming.{both_of}
+use Rattle.recovery_laws.specs.Resumed.Starts.{layout_on, volume_seals}
 use Rattle.sector_disk.specs.Devices.{Device}
 use Rattle.sector_disk.specs.Steps.{Told}
-use Rattle.served_conversions.specs.Again.{StandsBeside}
-use Rattle.served_conversions.specs.Passphrases.{IsAllowed}
+use Rattle.recovery_laws.specs.Served.Again.{StandsBeside}
+use Rattle.recovery_laws.specs.Served.Passphrases.{IsAllowed}
 use Rattle.volume_laws.specs.Converting.{StartsCertain, StartsUnder}
 use Rattle.volume_laws.specs.Handing.{handed_over}
 use Rattle.volume_laws.specs.Imaging.{AreDated, IsTaken}

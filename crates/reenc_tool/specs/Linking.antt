@@ -1,6 +1,7 @@
 -- How a command asks its bay for links, and what comes of that.
 use Rattle.std.specs.Prelude.{ℕ, ◌≡◌, ◌⊎◌, List, [], length, Option, Result, Ok, Err}
 use Rattle.bays.specs.declared.bay.BayFault.{BayFault}
+use Rattle.bays.specs.declared.bay.Manner.{Manner}
 use Rattle.bays.specs.Bays.{AreBounded, AreFresh, FaultCounts, Holdings}
 use Rattle.bays.specs.Stories.{LinkState, Script}
 use Rattle.command_line.specs.Commands.{Serving}
@@ -20,14 +21,19 @@ pub record AreGiven {L : Type 0} (state : L → LinkState) (inputs : Option (Lis
 -- what asking a bay for links does: from the bay before by what was asked for and answered to the
 -- bay after
 abbrev pub AsksLinks : Type 0 → Type 0 → Type 1
-AsksLinks B L = B → List ℕ → ℕ → ℕ → Result (List L) BayFault → B → Type 0
+AsksLinks B L = B → List ℕ → ℕ → ℕ → Manner → Result (List L) BayFault → B → Type 0
+
+-- how the words want clients to be dealt with
+abbrev pub manner_of : Serving → Manner
+manner_of serve = record { idle_timeout = serve.idle_timeout; verbose = serve.verbose }
 
 -- The bay was asked once for links and gave none, and the command ended so. Its count of faults
 -- rose where it failed, which the cause keeps, and stands where memory was wanted.
 pub record HasNoLinks {B D L : Type 0} (holdings : B → Holdings D) (asks_links : AsksLinks B L)
     (serve : Serving) (between new : B) (Ends : Cause → List L → Type 0) : Type 0 where
   pub fault : BayFault
-  pub asked : asks_links between serve.address serve.workers serve.sessions (Err fault) new
+  pub asked : asks_links between serve.address serve.workers serve.sessions (manner_of serve)
+      (Err fault) new
   pub count : FaultCounts fault (holdings between).faults (holdings new).faults
   pub ended : Ends (cause_of_fault Listening fault (holdings new).faults) []
 
@@ -36,7 +42,8 @@ pub record HasLinks {B D L : Type 0} (state : L → LinkState) (holdings : B →
     (asks_links : AsksLinks B L) (serve : Serving) (between new : B) (Came : List L → Type 0) :
     Type 0 where
   pub begun : List L
-  pub asked : asks_links between serve.address serve.workers serve.sessions (Ok begun) new
+  pub asked : asks_links between serve.address serve.workers serve.sessions (manner_of serve)
+      (Ok begun) new
   pub stood : (holdings new).faults ≡ (holdings between).faults
   pub given : AreGiven state ((holdings between).inputs serve.address) serve.workers serve.sessions
       begun

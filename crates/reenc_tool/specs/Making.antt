@@ -7,19 +7,19 @@ use Rattle.bays.specs.Bays.{Holdings, LeavesAll, LeavesOtherDisks}
 use Rattle.command_line.specs.Commands.{asked, formats, starts}
 use Rattle.command_line.specs.Formats.{Formatting}
 use Rattle.command_line.specs.Starts.{Starting}
-use Rattle.format_disk.specs.Calls.{WritesVolume}
-use Rattle.format_disk.specs.Fitting.{IsUnfit, draw_of}
-use Rattle.format_disk.specs.Rests.{KeepsFrom, end_of_front, front_room}
-use Rattle.format_disk.specs.Volumes.{IsNewVolume}
-use Rattle.format_disk.specs.Written.{written_over}
-use Rattle.format_disk.specs.declared.fault.FormatFault.{FormatFault}
-use Rattle.format_disk.specs.declared.volume.NewVolume.{NewVolume}
+use Rattle.luks_format.specs.DiskFormat.Calls.{WritesVolume}
+use Rattle.luks_format.specs.DiskFormat.Fitting.{IsUnfit, draw_of}
+use Rattle.luks_format.specs.DiskFormat.Rests.{KeepsFrom, end_of_front, front_room}
+use Rattle.luks_format.specs.DiskFormat.Volumes.{IsNewVolume}
+use Rattle.luks_format.specs.DiskFormat.Written.{written_over}
+use Rattle.luks_format.specs.declared.format_disk.fault.FormatFault.{FormatFault}
+use Rattle.luks_format.specs.declared.format_disk.volume.NewVolume.{NewVolume}
 use Rattle.header_report.specs.Examinations.{sizes_alone}
-use Rattle.disk_sizes.specs.declared.Sizes.{Sizes}
+use Rattle.base_terms.specs.declared.disk_sizes.Sizes.{Sizes}
 use Rattle.io_edge.specs.Supply.{Draws, Supply}
-use Rattle.joined_disk.specs.Joined.{Joint, begun_joint, joined_disk, used_atoms}
+use Rattle.sector_disk.specs.JoinedDisks.Joined.{Joint, begun_joint, joined_disk, used_atoms}
 use Rattle.luks_format.specs.declared.wish.Wish.{Wish}
-use Rattle.new_volumes.specs.Standing.{content_of}
+use Rattle.image_laws.specs.Made.Standing.{content_of}
 use Rattle.reenc_recovery.specs.Images.{StandsFor}
 use Rattle.reenc_recovery.specs.Placings.{RestsIn}
 use Rattle.sector_disk.specs.Devices.{Device as DiskState, failed_call, succeeded}

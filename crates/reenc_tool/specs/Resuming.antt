@@ -6,19 +6,19 @@ use Rattle.aes_core.specs.declared.cipher.Aes.{Aes}
 use Rattle.bays.specs.Bays.{Holdings, LeavesAll}
 use Rattle.command_line.specs.Resumes.{Resuming as Words}
 use Rattle.header_report.specs.Examinations.{sizes_alone}
-use Rattle.joined_disk.specs.Joined.{joined_disk}
+use Rattle.sector_disk.specs.JoinedDisks.Joined.{joined_disk}
 use Rattle.resume_disk.specs.Complete.{WantsAtWork, WantsBefore}
 use Rattle.resume_disk.specs.Refusals.{IsRefusedBy}
 use Rattle.resume_disk.specs.Resuming.{IsFinishedBy, IsHaltedBy}
 use Rattle.resume_disk.specs.declared.refusal.Refusal.{Refusal}
 use Rattle.reenc_worker.specs.declared.ends.WorkerEnd.{WorkerEnd}
 use Rattle.reenc_worker.specs.declared.ends.WorkerEnd.TheVariants.{Finished}
-use Rattle.resumed_volumes.specs.Openings.{IsKnownBehind}
-use Rattle.resumed_volumes.specs.Runs.{HoldsNew}
-use Rattle.resumed_volumes.specs.Starts.{volume_seals}
+use Rattle.recovery_laws.specs.Resumed.Openings.{IsKnownBehind}
+use Rattle.recovery_laws.specs.Resumed.Runs.{HoldsNew}
+use Rattle.recovery_laws.specs.Resumed.Starts.{volume_seals}
 use Rattle.sector_cipher.specs.declared.disk.DiskCipher.{DiskCipher}
 use Rattle.sector_disk.specs.Devices.{Device as DiskState}
-use Rattle.served_conversions.specs.Clients.{StoodFor}
+use Rattle.recovery_laws.specs.Served.Clients.{StoodFor}
 use Rattle.zone_events.specs.Readings.{reading_of}
 use Rattle.reenc_tool.specs.declared.ended.Cause.TheVariants.{Fine, Memory}
 use Rattle.reenc_tool.specs.declared.volume_refusal.VolumeRefusal.TheVariants.{Resuming}

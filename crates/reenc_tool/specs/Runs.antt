@@ -4,14 +4,14 @@ use Rattle.std.specs.Prelude.{ℕ, ◌≡◌, ◌-◌, ◌^◌, ◌<◌, true, i
 use Rattle.std.specs.Prelude.{◌++◌, length, None, Some, IsSomeAnd, option_map, slice_index_or}
 use Rattle.base_terms.specs.Causes.{Rose}
 use Rattle.bays.specs.Stories.{LinkState}
-use Rattle.lanes_beside.specs.Lanes.{deeds_of}
+use Rattle.volume_laws.specs.BesideLanes.Lanes.{deeds_of}
 use Rattle.plain_disk.specs.Outcomes.{AreServed}
 use Rattle.plain_disk.specs.Plain.{Block, Exchange, Legal}
 use Rattle.aes_core.specs.declared.cipher.Aes.{Aes}
 use Rattle.sector_cipher.specs.declared.disk.DiskCipher.{DiskCipher}
 use Rattle.sector_disk.specs.Devices.{Device as DiskState}
 use Rattle.sector_disk.specs.Steps.{Told}
-use Rattle.served_conversions.specs.Clients.{without_work}
+use Rattle.recovery_laws.specs.Served.Clients.{without_work}
 use Rattle.shared_volume.specs.Ciphers.{Context}
 use Rattle.shared_volume.specs.Histories.{Tells}
 use Rattle.shared_volume.specs.Lanes.{Knowing}

@@ -5,9 +5,9 @@ use Rattle.bays.specs.Bays.{Holdings, LeavesAll}
 use Rattle.command_line.specs.Starts.{Starting, guard_name}
 use Rattle.command_line.specs.declared.starting.Guard.{Guard as NamedGuard}
 use Rattle.command_line.specs.declared.starting.Guard.TheVariants as named
-use Rattle.init_disk.specs.Answers.{IsStartedBy, IsUnstartedBy}
-use Rattle.init_disk.specs.declared.refusal.Refusal.{Refusal}
-use Rattle.init_disk.specs.declared.refusal.Refusal.TheVariants.{Unopened}
+use Rattle.luks_init.specs.DiskInit.Answers.{IsStartedBy, IsUnstartedBy}
+use Rattle.luks_init.specs.declared.init_disk.refusal.Refusal.{Refusal}
+use Rattle.luks_init.specs.declared.init_disk.refusal.Refusal.TheVariants as starts
 use Rattle.io_edge.specs.Supply.{Supply}
 use Rattle.luks_init.specs.declared.wish.Guard.{Guard}
 use Rattle.luks_init.specs.declared.wish.Guard.TheVariants.{Journal, Checksum}
@@ -16,7 +16,7 @@ use Rattle.luks_json.specs.Reencrypts.{direction_name}
 use Rattle.sector_disk.specs.Devices.{Device as DiskState}
 use Rattle.reenc_tool.specs.declared.ended.Cause.TheVariants.{Fine, Memory}
 use Rattle.reenc_tool.specs.declared.volume_refusal.VolumeRefusal.{VolumeRefusal}
-use Rattle.reenc_tool.specs.declared.volume_refusal.VolumeRefusal.TheVariants.{Opening}
+use Rattle.reenc_tool.specs.declared.volume_refusal.VolumeRefusal.TheVariants.{Opening, Keyslots}
 use Rattle.reenc_tool.specs.Encrypted.{AsksKey, HasNoKeyFile}
 use Rattle.reenc_tool.specs.Making.{HasGiven, HasNoSeed, HasSeed}
 use Rattle.reenc_tool.specs.Outcomes.{AsksDisk, HasNoDisk, Outcome, ended_by, none_came, unserved}
@@ -37,6 +37,7 @@ wish_of words = record {
   direction = words.direction;
   resilience = guard_of words.resilience;
   hotzone_size = words.hotzone_size;
+  drop_keyslots = words.drop_keyslots;
 }
 
 -- the line of a conversion that was begun
@@ -57,9 +58,10 @@ pub record IsStarted {D L : Type 0} (device : D → DiskState) (words : Starting
     pub outcome_is : outcome ≡ ended_by (none_came Fine []) (Some back) None
     pub report_is : report ≡ Some (started_line words)
 
--- why no volume was opened, where that is why no conversion was begun
+-- why no volume was opened, or which keyslots would go, where that is why no conversion was begun
 abbrev pub opening_refusal : Refusal → Option VolumeRefusal
-opening_refusal (Unopened refusal) = Some (Opening refusal)
+opening_refusal (starts.Unopened refusal) = Some (Opening refusal)
+opening_refusal (starts.Keyslots list) = Some (Keyslots list)
 opening_refusal _ = None
 
 -- what a command hands back that began no conversion, of whose disk so many calls failed

@@ -4,19 +4,19 @@ use Rattle.reenc_tool.specs.declared.ended.Cause.{Cause}
 use Rattle.reenc_tool.specs.declared.ended.Cause.TheVariants.{Fine, Usage, Device, NoHeader}
 use Rattle.reenc_tool.specs.declared.ended.Cause.TheVariants.{Header, NoKey, WrongState, Foreign}
 use Rattle.reenc_tool.specs.declared.ended.Cause.TheVariants.{NoFit, Clash, Link, Output, Seeds}
-use Rattle.reenc_tool.specs.declared.ended.Cause.TheVariants.{Memory}
+use Rattle.reenc_tool.specs.declared.ended.Cause.TheVariants.{Memory, Keyslots}
 use Rattle.reenc_tool.specs.declared.ended.Failing.TheVariants.{Reading, Starting, Writing}
 use Rattle.reenc_tool.specs.declared.ended.Failing.TheVariants.{Converting}
 use Rattle.reenc_tool.specs.declared.ended.Fit.TheVariants.{Area, Blocks, Json, Passphrase, Seqid}
-use Rattle.reenc_tool.specs.declared.ended.Fit.TheVariants.{Events, Numbers}
+use Rattle.reenc_tool.specs.declared.ended.Fit.TheVariants.{Events, Numbers, Tail}
 use Rattle.conversion_opening.specs.declared.fault.ConversionCause.{ConversionCause}
 use Rattle.conversion_opening.specs.declared.fault.ConversionCause.TheVariants as conversions
-use Rattle.format_disk.specs.declared.fault.FormatFault.{FormatFault}
-use Rattle.format_disk.specs.declared.fault.FormatFault.TheVariants as formats
-use Rattle.init_disk.specs.declared.making.MakeFault.{MakeFault}
-use Rattle.init_disk.specs.declared.making.MakeFault.TheVariants as makings
-use Rattle.init_disk.specs.declared.refusal.Refusal.{Refusal as StartRefusal}
-use Rattle.init_disk.specs.declared.refusal.Refusal.TheVariants as starts
+use Rattle.luks_format.specs.declared.format_disk.fault.FormatFault.{FormatFault}
+use Rattle.luks_format.specs.declared.format_disk.fault.FormatFault.TheVariants as formats
+use Rattle.luks_init.specs.declared.init_disk.making.MakeFault.{MakeFault}
+use Rattle.luks_init.specs.declared.init_disk.making.MakeFault.TheVariants as makings
+use Rattle.luks_init.specs.declared.init_disk.refusal.Refusal.{Refusal as StartRefusal}
+use Rattle.luks_init.specs.declared.init_disk.refusal.Refusal.TheVariants as starts
 use Rattle.luks_init.specs.declared.fault.InitFault.{InitFault}
 use Rattle.luks_init.specs.declared.fault.InitFault.TheVariants as inits
 use Rattle.reenc_recovery.specs.declared.fault.OpenCause.{OpenCause}
@@ -51,6 +51,7 @@ status_of (Link failed faults) = 10
 status_of (Output faults) = 11
 status_of (Seeds faults) = 12
 status_of Memory = 13
+status_of Keyslots = 15
 
 -- the cause of a command whose header wasn't read: another program's header has one of its own
 abbrev pub cause_of_rule : RuleFault → Cause
@@ -124,6 +125,9 @@ cause_of_making (makings.SeqEnd number) = NoFit Seqid number (2 ^ 64 - 2)
 abbrev pub cause_of_start : StartRefusal → ℕ → Cause
 cause_of_start (starts.Unopened refusal) count = cause_of_refusal refusal count
 cause_of_start starts.Linear count = WrongState
+cause_of_start starts.Memory count = Memory
+cause_of_start (starts.Keyslots list) count = Keyslots
+cause_of_start (starts.Tail bytes) count = NoFit Tail bytes 0
 cause_of_start (starts.Unmade fault) count = cause_of_making fault
 cause_of_start starts.Writing count = Device Writing count
 
@@ -144,6 +148,7 @@ cause_of_resume resumes.Idle count = WrongState
 cause_of_resume (resumes.Passphrase length) count =
     NoFit Passphrase length (passphrase_limit length)
 cause_of_resume (resumes.Slots side fault) count = cause_of_slots fault count
+cause_of_resume (resumes.Tail bytes) count = NoFit Tail bytes 0
 cause_of_resume (resumes.Unopened cause) count = cause_of_conversion cause count
 
 -- what a zone needs, or the end of a conversion, and doesn't have: numbers for the headers that are

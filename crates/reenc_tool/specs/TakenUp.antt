@@ -4,24 +4,24 @@ use Rattle.aes_core.specs.declared.cipher.Aes.{Aes}
 use Rattle.bays.specs.Bays.{Holdings}
 use Rattle.bays.specs.Stories.{LinkState}
 use Rattle.command_line.specs.Commands.{Serving}
-use Rattle.conversions_beside.specs.Ends.{IsConvertedBeside}
-use Rattle.disk_sizes.specs.declared.Sizes.{Sizes}
+use Rattle.volume_laws.specs.BesideConversions.Ends.{IsConvertedBeside}
+use Rattle.base_terms.specs.declared.disk_sizes.Sizes.{Sizes}
 use Rattle.header_report.specs.Examinations.{sizes_alone}
 use Rattle.luks_store.specs.declared.loaded.Stored.{Stored}
-use Rattle.open_zones.specs.Images.{ImageStandsFor}
+use Rattle.image_laws.specs.Opened.Images.{ImageStandsFor}
 use Rattle.plain_disk.specs.Plain.{Block, Legal, settled_blocks}
 use Rattle.resume_disk.specs.Complete.{WantsBefore}
 use Rattle.resume_disk.specs.Refusals.{IsRefusedBy}
 use Rattle.resume_disk.specs.Resuming.{IsOpenedMidway}
 use Rattle.resume_disk.specs.declared.refusal.Refusal.{Refusal}
 use Rattle.resume_disk.specs.declared.refusal.Refusal.TheVariants.{Idle}
-use Rattle.resumed_volumes.specs.Openings.{IsKnownBehind}
-use Rattle.resumed_volumes.specs.Starts.{layout_on, volume_seals}
+use Rattle.recovery_laws.specs.Resumed.Openings.{IsKnownBehind}
+use Rattle.recovery_laws.specs.Resumed.Starts.{layout_on, volume_seals}
 use Rattle.sector_cipher.specs.declared.disk.DiskCipher.{DiskCipher}
 use Rattle.sector_disk.specs.Devices.{Device as DiskState}
-use Rattle.served_conversions.specs.Clients.{StoodFor, without_work}
-use Rattle.served_conversions.specs.Serving.{KeepsFor}
-use Rattle.converted_beside.specs.Ends.{HoldsNewest}
+use Rattle.recovery_laws.specs.Served.Clients.{StoodFor, without_work}
+use Rattle.recovery_laws.specs.Served.Serving.{KeepsFor}
+use Rattle.volume_laws.specs.BesideConverted.Ends.{HoldsNewest}
 use Rattle.volume_machine.specs.Answers.{untagged}
 use Rattle.volume_machine.specs.Deeds.{AreDeeds, Deed, state_after}
 use Rattle.volume_machine.specs.Runs.{Happening, IsRun, last_of}

@@ -7,7 +7,7 @@ use Rattle.reenc_tool.specs.declared.ended.Cause.{Cause}
 use Rattle.reenc_tool.specs.declared.ended.Cause.TheVariants.{Fine, Usage, Device, NoHeader}
 use Rattle.reenc_tool.specs.declared.ended.Cause.TheVariants.{Header, NoKey, WrongState, Foreign}
 use Rattle.reenc_tool.specs.declared.ended.Cause.TheVariants.{NoFit, Clash, Link, Output, Seeds}
-use Rattle.reenc_tool.specs.declared.ended.Cause.TheVariants.{Memory}
+use Rattle.reenc_tool.specs.declared.ended.Cause.TheVariants.{Memory, Keyslots}
 
 -- how many sessions lists hold, up to the last value of 64 bits
 abbrev pub sessions_in : {E : Type 0} → (E → ℕ) → List E → ℕ
@@ -32,6 +32,7 @@ fault_line (Link failed faults) = codes "fault 10 Link" ++ 10 ∷ []
 fault_line (Output faults) = []
 fault_line (Seeds faults) = codes "fault 12 Seeds" ++ 10 ∷ []
 fault_line Memory = codes "fault 13 Memory" ++ 10 ∷ []
+fault_line Keyslots = codes "fault 15 Keyslots" ++ 10 ∷ []
 
 -- what a command says that did what it was asked: a report of its own, or how many sessions it
 -- served

@@ -1,7 +1,7 @@
 -- The volume on a disk under a passphrase, whether it is being converted or not.
 use Rattle.std.specs.Prelude.{ℕ, ◌≡◌, ◌≢◌, ◌⊎◌, Bool, true, false, List, None, Some, IsSome}
 use Rattle.bays.specs.Stories.{LinkState}
-use Rattle.disk_sizes.specs.declared.Sizes.{Sizes}
+use Rattle.base_terms.specs.declared.disk_sizes.Sizes.{Sizes}
 use Rattle.reenc_tool.specs.Beside.{HasServedConverting}
 use Rattle.reenc_tool.specs.Encrypted.{HandsBack}
 use Rattle.reenc_tool.specs.Outcomes.{Coming, Outcome}
@@ -12,7 +12,7 @@ use Rattle.resume_disk.specs.Refusals.{IsRefusedBy}
 use Rattle.resume_disk.specs.Resuming.{IsOpenedMidway}
 use Rattle.resume_disk.specs.declared.refusal.Refusal.TheVariants.{Idle}
 use Rattle.sector_disk.specs.Devices.{Device}
-use Rattle.served_conversions.specs.Clients.{without_work}
+use Rattle.recovery_laws.specs.Served.Clients.{without_work}
 use Rattle.volume_core.specs.Zones.{IsReadBy}
 use Rattle.volume_laws.specs.Converting.{IsInOrder}
 use Rattle.volume_machine.specs.Seals.{Seals}

@@ -14,15 +14,17 @@ ghost use Rattle.reenc_tool.specs.declared.ended.Cause.{Cause};
 
 use crate::ended::{Cause, Ended, Failing, Fit, Sessions};
 use crate::making::make;
+use crate::notices::note_tail;
 use crate::opening::serve_encrypted;
 use crate::resuming::resume;
 use crate::sessions::{lanes_for, serve_volume};
 use crate::showing::show;
 use crate::starting::start;
 use crate::text::{count_sessions, print};
-use bays::{Bay, BayFault, Link};
+use bays::{Bay, BayFault, Link, Manner};
 use command_line::{Command, Refusal, Serve, read_words};
-use io_edge::{Gate, Seeds, Sink};
+use gates::Gate;
+use io_edge::{Seeds, Sink};
 use sector_cipher::Context;
 use sector_disk::Disk;
 use std::alloc::Global;
@@ -48,7 +50,7 @@ where
     requires some { 0 < length links.items }
     requires few { length links.items ≤ 16 }
     requires bound { (k : ℕ) (link : L) → k < length links.items →
-        (L.state (slice_index_or links.items k link)).bound ≤ 65535 }
+        (L.state (slice_index_or links.items k link)).bound ≤ 4294967295 }
     ensures status { result.status ≡ status_of result.cause }
     ensures ended { Ran D.device L.state disk links.items (outcome_of result)
         ⊎ IsUnserved D.device disk links.items (outcome_of result)
@@ -118,7 +120,11 @@ where
         };
         return unserved(alloc, cause, Some(disk), Vec::new(alloc));
     }
-    match bay.links(alloc, words.address, words.workers, words.sessions) {
+    let manner = Manner {
+        idle_timeout: words.idle_timeout,
+        verbose: words.verbose,
+    };
+    match bay.links(alloc, words.address, words.workers, words.sessions, manner) {
         Ok(links) => serve_disk(rt, alloc, disk, links, lanes_for(words.workers), gate),
         Err(fault) => {
             let cause = cause_by(Failing::Listening, fault, bay.faults());
@@ -146,10 +152,13 @@ where
         B.asks_links (serving words.now) bay.old bay.new (outcome_of result) None }
 {
     match bay.disk(alloc, words.disk, words.atom) {
-        Ok(disk) => match words.key_file {
-            None => serve_plain(rt, alloc, bay, disk, words, gate),
-            Some(key_file) => serve_encrypted(rt, alloc, bay, disk, key_file, words, gate),
-        },
+        Ok(disk) => {
+            note_tail(alloc, gate, words.disk, &disk);
+            match words.key_file {
+                None => serve_plain(rt, alloc, bay, disk, words, gate),
+                Some(key_file) => serve_encrypted(rt, alloc, bay, disk, key_file, words, gate),
+            }
+        }
         Err(fault) => {
             let cause = cause_by(Failing::Opening, fault, bay.faults());
             unserved(alloc, cause, None, Vec::new(alloc))
@@ -190,11 +199,11 @@ where
         }
     };
     match command {
-        Command::Format(words) => make(alloc, bay, seeds, &words),
-        Command::Init(words) => start(alloc, bay, seeds, &words),
+        Command::Format(words) => make(alloc, bay, seeds, &words, gate),
+        Command::Init(words) => start(alloc, bay, seeds, &words, gate),
         Command::Serve(words) => (serve(rt, alloc, bay, &words, gate), None),
         Command::Resume(words) => resume(rt, alloc, bay, &words, gate),
-        Command::Status(words) => show(alloc, bay, &words),
+        Command::Status(words) => show(alloc, bay, &words, gate),
     }
 }
 
@@ -226,7 +235,9 @@ where
 /// header that converts nothing. Where the disk told its bytes, and they stood for a content under the
 /// passphrase, each image that a stop leaves of the opening or of the worker stands for that content,
 /// whatever the conversion ended with, and at its end each block holds it. Each cause has its reason.
-/// The bay is asked once for the disk, once for the header's and once for a key file, each where the
+/// No conversion is begun, led on or served of a volume of which bytes lie behind the last whole atom
+/// of its disk, and none is begun by which keyslots of other passphrases go unasked: these are refused
+/// before anything is written. The bay is asked once for the disk, once for the header's and once for a key file, each where the
 /// words name one, and for clients once for the links, and for nothing else. The text changes the cause
 /// only where all was fine: to `Output` where it can't be put and pushed out, to `Memory` where memory
 /// is wanted for it. Words that ask for nothing leave the bay as it was, and those of other commands

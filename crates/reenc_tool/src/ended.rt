@@ -7,7 +7,7 @@ ghost use Rattle.reenc_tool.specs.Texts.{fault_line};
 use crate::history::Pass;
 use crate::volume_refusal::VolumeRefusal;
 use block_server::VolumePass;
-use format_disk::FormatFault;
+use luks_format::FormatFault;
 use luks_rules::RuleFault;
 use luks_slots::SlotFault;
 use luks_store::StoreFault;
@@ -22,7 +22,7 @@ const MOST_PASSPHRASE_BYTES: u64 = 512;
 
 /// Why a command ended as it did. Where several causes hold, it is the first in the order of the
 /// command's steps; `Output` comes only in place of `Fine`.
-#[derive(Clone, Copy, Debug, PartialEq, Eq)]
+#[derive(Clone, Copy, PartialEq, Eq)]
 pub enum Cause<'w> {
     /// It did what it was asked: status 0. A session that failed, or a client's failed read,
     /// changes nothing in that.
@@ -58,10 +58,13 @@ pub enum Cause<'w> {
     Seeds { faults: u64 },
     /// Memory was wanted: status 13.
     Memory,
+    /// Besides the keyslot that the passphrase opens others hold the volume's key, which a conversion
+    /// would drop, and it isn't asked for: status 15. The refusal has them.
+    Keyslots,
 }
 
 /// What failed of the outside.
-#[derive(Clone, Copy, Debug, PartialEq, Eq)]
+#[derive(Clone, Copy, PartialEq, Eq)]
 pub enum Failing {
     /// The bay gave no disk.
     Opening,
@@ -83,7 +86,7 @@ pub enum Failing {
 }
 
 /// What doesn't fit.
-#[derive(Clone, Copy, Debug, PartialEq, Eq)]
+#[derive(Clone, Copy, PartialEq, Eq)]
 pub enum Fit {
     /// The keyslot's area has more bytes than the keyslots area; or that ends at a byte which the
     /// disk of a detached header doesn't have; or an area of a conversion has more bytes than are
@@ -102,6 +105,8 @@ pub enum Fit {
     Numbers,
     /// A conversion has more steps than are counted, or the history of `serve` is full.
     Events,
+    /// So many bytes of a volume lie behind the last whole atom of its disk, and there are to be none.
+    Tail,
 }
 
 impl<'w> Cause<'w> {
@@ -156,6 +161,18 @@ impl<'w> Cause<'w> {
             } else {
                 MOST_PASSPHRASE_BYTES
             },
+        }
+    }
+
+    /// The cause of a command by which so many bytes of a volume would be lost, which lie behind the
+    /// last whole atom of its disk.
+    pub(crate) fn of_tail(bytes: u64) -> Cause<'w>
+        ensures { result ≡ Cause.NoFit Fit.Tail bytes 0 }
+    {
+        Cause::NoFit {
+            what: Fit::Tail,
+            number: bytes,
+            limit: 0,
         }
     }
 
@@ -237,6 +254,7 @@ impl<'w> Cause<'w> {
             Cause::Output { .. } => 11,
             Cause::Seeds { .. } => 12,
             Cause::Memory => 13,
+            Cause::Keyslots => 15,
         }
     }
 
@@ -258,6 +276,7 @@ impl<'w> Cause<'w> {
             Cause::Link { .. } => "fault 10 Link\n",
             Cause::Seeds { .. } => "fault 12 Seeds\n",
             Cause::Memory => "fault 13 Memory\n",
+            Cause::Keyslots => "fault 15 Keyslots\n",
         }
     }
 }

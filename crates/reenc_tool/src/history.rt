@@ -3,17 +3,25 @@
 ghost use Rattle.std.specs.Prelude.{◌≡◌, option_map};
 
 use block_server::VolumePass;
-use joined_disk::JoinedDisk;
-use sector_disk::Disk;
+use sector_disk::{Disk, JoinedDisk};
 
 /// The pass of a volume whose sessions were served, by which its whole history is known: to clauses,
 /// since no event is stored.
-#[derive(Drop)]
 pub enum Pass<D: Disk> {
     /// That of a disk as it is.
     Plain(VolumePass<D>),
     /// That of an encrypted volume on a disk, in front of which the one of its header may lie.
     Encrypted(VolumePass<JoinedDisk<D>>),
+}
+
+// By hand, so that a value that is dropped in place is one call to the prover.
+impl<D: Disk + Drop> Drop for Pass<D> {
+    fn drop(self) {
+        match self {
+            Pass::Plain(pass) => drop(pass),
+            Pass::Encrypted(pass) => drop(pass),
+        }
+    }
 }
 
 impl<D: Disk> Pass<D> {

@@ -11,6 +11,7 @@ mod commands;
 mod ended;
 mod history;
 mod making;
+mod notices;
 mod opening;
 mod refusal_text;
 mod resuming;
@@ -22,7 +23,7 @@ mod trouble;
 mod volume_refusal;
 
 pub use bays::{Bay, BayFault, Link};
-pub use command_line::explain_words;
+pub use command_line::{asked_help, explain_words};
 pub use commands::run;
 pub use ended::{Cause, Ended, Failing, Fit};
 pub use header_report::FaultText;

@@ -4,8 +4,8 @@ ghost use Rattle.std.specs.Prelude.{◌≡◌, ◌*◌, ◌^◌, ◌<◌, true, 
 ghost use Rattle.std.specs.Prelude.{string_bytes};
 ghost use Rattle.command_line.specs.Formats.{IsFormatting, formatting};
 ghost use Rattle.header_report.specs.Examinations.{sizes_alone};
-ghost use Rattle.joined_disk.specs.Counts.{HasSizes};
-ghost use Rattle.joined_disk.specs.Joined.{in_front};
+ghost use Rattle.sector_disk.specs.JoinedDisks.Counts.{HasSizes};
+ghost use Rattle.sector_disk.specs.JoinedDisks.Joined.{in_front};
 ghost use Rattle.luks_format.specs.Wishes.{FitsDisk, IsWish};
 ghost use Rattle.reenc_tool.specs.Making.{AsksForHeader, AsksForKey, ComesTo, HasMade, IsOn};
 ghost use Rattle.reenc_tool.specs.Making.{IsOnOne, IsOnTwo, formatted_line, wish_of};
@@ -14,17 +14,17 @@ ghost use Rattle.reenc_tool.specs.Status.{status_of};
 
 use crate::commands::{cause_by, unserved};
 use crate::ended::{Cause, Ended, Failing, Sessions};
+use crate::notices::note_tail;
+use base_terms::Sizes;
 use bays::Bay;
 use command_line::Format;
-use disk_sizes::Sizes;
-use format_disk::{
-    make_volume, new_volumes_fit_their_disk, new_volumes_leave_the_rest, write_volume,
-};
+use gates::Gate;
+use image_laws::new_volumes_stand;
 use io_edge::Seeds;
-use joined_disk::JoinedDisk;
-use luks_format::Wish;
-use new_volumes::new_volumes_stand;
-use sector_disk::Disk;
+use luks_format::{
+    Wish, make_volume, new_volumes_fit_their_disk, new_volumes_leave_the_rest, write_volume,
+};
+use sector_disk::{Disk, JoinedDisk};
 use std::alloc::{AllocError, Global};
 use uuid::Uuid;
 
@@ -214,12 +214,13 @@ fn make_behind<'w, B: Bay>(
 
 /// Draws 32 bytes from the seeds, asks the bay for a disk, for another one of the header where the
 /// words name it, and for a passphrase, and makes a new volume there. All that is random of the
-/// volume is stretched from those bytes.
-pub fn make<'w, B: Bay, R: Seeds>(
+/// volume is stretched from those bytes. The gate is told of bytes of the disk that no volume reaches.
+pub fn make<'w, B: Bay, R: Seeds, G: Gate>(
     alloc: Global,
     bay: &mut B,
     seeds: &mut R,
     words: &Format<'_>,
+    gate: &G,
 ) -> (Ended<'w, B::Disk, B::Link>, Option<String>)
     requires { IsFormatting (formatting words.now) }
     ensures status { result.0.status ≡ status_of result.0.cause }
@@ -238,7 +239,10 @@ pub fn make<'w, B: Bay, R: Seeds>(
         }
     }
     match bay.disk(alloc, words.disk, words.atom) {
-        Ok(disk) => make_behind(alloc, bay, disk, words, &seed),
+        Ok(disk) => {
+            note_tail(alloc, gate, words.disk, &disk);
+            make_behind(alloc, bay, disk, words, &seed)
+        }
         Err(fault) => {
             let cause = cause_by(Failing::Opening, fault, bay.faults());
             (unserved(alloc, cause, None, Vec::new(alloc)), None)

@@ -6,7 +6,7 @@ ghost use Rattle.command_line.specs.Commands.{IsServing, serving};
 ghost use Rattle.reenc_tool.specs.Encrypted.{HandsBack, ended_unopened};
 ghost use Rattle.reenc_tool.specs.KeyFiles.{ServesUnder, ServesVolume};
 ghost use Rattle.reenc_tool.specs.Volumes.{IsAnyVolume, IsNoVolume, RanAs};
-ghost use Rattle.served_conversions.specs.Clients.{without_work};
+ghost use Rattle.recovery_laws.specs.Served.Clients.{without_work};
 ghost use Rattle.luks_store.specs.Devices.{device_of};
 ghost use Rattle.reenc_tool.specs.Linking.{IsLinked};
 ghost use Rattle.reenc_tool.specs.Outcomes.{came_of, none_came, outcome_of};
@@ -23,34 +23,31 @@ use crate::history::Pass;
 use crate::resuming::ended_unresumed;
 use crate::sessions::{lanes_for, serve_volume};
 use crate::volume_refusal::VolumeRefusal;
-use bays::{Bay, Link};
+use bays::{Bay, Link, Manner};
 use cipher_laws::SectorCipher;
 use command_line::Serve;
-use converted_beside::conversions_end_beside_clients;
-use io_edge::Gate;
-use joined_disk::JoinedDisk;
-use lanes_beside::executions_join_beside;
-use luks_copies::copies_are_read;
+use gates::Gate;
 use luks_slots::keys_are_in_areas;
+use luks_store::header_copies::copies_are_read;
 use luks_store::headers_stand_in_front;
-use resume_disk::{Refused, standing_conversions_end, take_up_conversion};
-use resumed_volumes::{
+use recovery_laws::{
     begun_conversions_start, conversions_go_on_under_their_passphrase,
-    openings_of_conversions_keep_content, resumed_conversions_keep_content,
-};
-use sector_cipher::Context;
-use sector_disk::Disk;
-use served_beside::tables_are_of_deeds;
-use served_conversions::{
-    ends_beside_clients_stand_under_passphrases, found_keys_are_given, passphrases_give_keys,
+    ends_beside_clients_stand_under_passphrases, found_keys_are_given,
+    openings_of_conversions_keep_content, passphrases_give_keys, resumed_conversions_keep_content,
     stops_beside_clients_stand_again, stops_beside_clients_stand_under_passphrases,
     taken_volumes_keep_content,
 };
+use resume_disk::{Refused, standing_conversions_end, take_up_conversion};
+use sector_cipher::Context;
+use sector_disk::{Disk, JoinedDisk};
 use std::alloc::Global;
 use std::sync::Wait;
 use std::thread::Threads;
 use volume_core::Volume;
-use volume_laws::{every_run_is_served, executions_join};
+use volume_laws::served_beside::tables_are_of_deeds;
+use volume_laws::{
+    conversions_end_beside_clients, every_run_is_served, executions_join, executions_join_beside,
+};
 use volume_opening::{Refusal, Unopened, open_by_passphrase, opened_volumes_stand_along};
 
 /// Why no volume was opened, of which nothing is being converted, or of which something is.
@@ -110,12 +107,13 @@ fn only_disk<D: Disk>(unopened: Unopened<D>) -> D
 
 /// Opens the volume on a disk under a passphrase, with so many lanes. Where a conversion of it is under
 /// way that is taken up.
-fn open_volume<R: Threads + Sync, D: Disk>(
+fn open_volume<R: Threads + Sync, D: Disk, G: Gate>(
     rt: &R,
     alloc: Global,
     disk: D,
     pass: &[u8],
     lanes: u32,
+    gate: &G,
 ) -> Result<Volume<JoinedDisk<D>, Context>, NoVolume<D>>
     requires { 0 < lanes }
     ensures opened { IfOk result (IsAnyVolume ⟦<Context as SectorCipher>⟧.sector
@@ -125,12 +123,12 @@ fn open_volume<R: Threads + Sync, D: Disk>(
         ⟦<Context as SectorCipher>⟧.sealed ⟦<Context as SectorCipher>⟧.opened D.device disk
         pass.now) }
 {
-    match open_by_passphrase(alloc, disk, pass, lanes) {
+    match open_by_passphrase(alloc, disk, pass, lanes, gate) {
         Ok(volume) => Ok(volume),
         Err(unopened) => match &unopened.refusal {
             Refusal::InProgress => {
                 let disk = only_disk(unopened);
-                match take_up_conversion(rt, alloc, disk, pass, lanes) {
+                match take_up_conversion(rt, alloc, disk, pass, lanes, gate) {
                     Ok(volume) => Ok(volume),
                     Err(refused) => Err(NoVolume::Midway(refused)),
                 }
@@ -183,7 +181,7 @@ where
     stops_beside_clients_stand_under_passphrases::<Context>();
     conversions_end_beside_clients::<Context>();
     ends_beside_clients_stand_under_passphrases::<Context>();
-    match open_volume(rt, alloc, disk, pass, lanes_for(words.workers)) {
+    match open_volume(rt, alloc, disk, pass, lanes_for(words.workers), gate) {
         Ok(volume) => serve_opened(rt, alloc, bay, volume, words, gate),
         Err(NoVolume::Idle(unopened)) => ended_unopened(alloc, unopened),
         Err(NoVolume::Midway(refused)) => ended_unresumed(alloc, refused),
@@ -220,7 +218,11 @@ where
         ⟦<Context as SectorCipher>⟧.sealed ⟦<Context as SectorCipher>⟧.opened volume.map.atom
         volume.keys) begun (outcome_of result)) }
 {
-    match bay.links(alloc, words.address, words.workers, words.sessions) {
+    let manner = Manner {
+        idle_timeout: words.idle_timeout,
+        verbose: words.verbose,
+    };
+    match bay.links(alloc, words.address, words.workers, words.sessions, manner) {
         Ok(links) => serve_joined(rt, alloc, volume, links, gate, words.converts),
         Err(fault) => {
             let cause = cause_by(Failing::Listening, fault, bay.faults());
@@ -257,7 +259,7 @@ where
     requires some { 0 < length links.items }
     requires few { length links.items ≤ 16 }
     requires bound { (k : ℕ) (link : L) → k < length links.items →
-        (L.state (slice_index_or links.items k link)).bound ≤ 65535 }
+        (L.state (slice_index_or links.items k link)).bound ≤ 4294967295 }
     ensures status { result.status ≡ status_of result.cause }
     ensures ended { RanAs D.device L.state converts volume (seals_of
         ⟦<Context as SectorCipher>⟧.sealed ⟦<Context as SectorCipher>⟧.opened volume.map.atom

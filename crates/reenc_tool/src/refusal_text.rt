@@ -3,7 +3,7 @@
 use crate::volume_refusal::VolumeRefusal;
 use conversion_opening::ConversionCause;
 use header_report::FaultText;
-use luks_slots::{Refusal as SlotRefusal, SlotFault};
+use luks_slots::{Refusal as SlotRefusal, SlotFault, SlotKind};
 use reenc_recovery::OpenCause;
 use resume_disk::Refusal as ResumeRefusal;
 use segment_map::Side;
@@ -12,7 +12,7 @@ use volume_opening::Refusal as OpeningRefusal;
 
 /// Why a volume isn't opened by a passphrase, as it is told to people: one line, without its line
 /// feed.
-#[derive(Clone, Copy, Debug)]
+#[derive(Clone, Copy)]
 pub struct RefusalText<'a>(pub &'a VolumeRefusal);
 
 impl fmt::Display for RefusalText<'_> {
@@ -20,6 +20,7 @@ impl fmt::Display for RefusalText<'_> {
         match self.0 {
             VolumeRefusal::Opening(refusal) => write!(f, "{}", UnopenedText(refusal)),
             VolumeRefusal::Resuming(refusal) => write!(f, "{}", UnresumedText(refusal)),
+            VolumeRefusal::Keyslots(slots) => write!(f, "{}", HoldersText(slots.as_slice())),
         }
     }
 }
@@ -56,6 +57,12 @@ impl fmt::Display for UnresumedText<'_> {
             ResumeRefusal::Passphrase(length) => write!(f, "{}", LengthText(*length)),
             ResumeRefusal::Slots(side, fault) => {
                 write!(f, "{}: {}", key_of(*side), SlotsText(fault, "its digest"))
+            }
+            ResumeRefusal::Tail(bytes) => {
+                write!(
+                    f,
+                    "the last {bytes} bytes of the volume are in no whole atom"
+                )
             }
             ResumeRefusal::Unopened(cause) => write!(f, "{}", ConversionText(cause)),
         }
@@ -148,11 +155,67 @@ impl fmt::Display for SlotText {
         match self.0 {
             SlotRefusal::NotAssigned => write!(f, "it isn't one of {}", self.1),
             SlotRefusal::Priority => write!(f, "it is to be ignored"),
-            SlotRefusal::Unsupported => write!(f, "it isn't supported"),
+            SlotRefusal::Unsupported(kind) => write!(f, "{}", UnsupportedText(kind)),
             SlotRefusal::DigestDiffers => {
                 write!(f, "it holds no key of the volume under this passphrase")
             }
         }
+    }
+}
+
+/// Why a keyslot of a kind isn't opened here.
+#[derive(Clone, Copy)]
+struct UnsupportedText(SlotKind);
+
+impl fmt::Display for UnsupportedText {
+    fn fmt<W: fmt::Write>(&self, f: &mut fmt::Formatter<W>) -> fmt::Result {
+        match self.0 {
+            SlotKind::Argon2i | SlotKind::Argon2id => write!(
+                f,
+                "{} isn't supported: `cryptsetup luksConvertKey --pbkdf pbkdf2` makes it PBKDF2",
+                kind_name(self.0)
+            ),
+            SlotKind::Pbkdf2 => write!(
+                f,
+                "its hash, its cipher, its key size or its stripes aren't supported"
+            ),
+            SlotKind::OtherDerivation | SlotKind::Reencrypt | SlotKind::Other => {
+                write!(f, "it isn't supported")
+            }
+        }
+    }
+}
+
+/// What a kind of keyslots is called.
+fn kind_name(kind: SlotKind) -> &'static str {
+    match kind {
+        SlotKind::Pbkdf2 => "pbkdf2",
+        SlotKind::Argon2i => "argon2i",
+        SlotKind::Argon2id => "argon2id",
+        SlotKind::OtherDerivation => "of another derivation",
+        SlotKind::Reencrypt => "reencrypt",
+        SlotKind::Other => "of another type",
+    }
+}
+
+/// Which keyslots hold a volume's key, of which all but one would go.
+#[derive(Clone, Copy)]
+struct HoldersText<'a>(&'a [(u64, SlotKind)]);
+
+impl fmt::Display for HoldersText<'_> {
+    fn fmt<W: fmt::Write>(&self, f: &mut fmt::Formatter<W>) -> fmt::Result {
+        write!(
+            f,
+            "more keyslots than this passphrase's hold the volume's key:"
+        )?;
+        for (number, kind) in self.0 {
+            write!(f, " slot {number} {};", kind_name(*kind))?;
+        }
+        write!(
+            f,
+            " the conversion keeps one, for this passphrase, and drops the others: \
+            --drop-keyslots allows it"
+        )
     }
 }
 

@@ -22,19 +22,19 @@ use crate::volume_refusal::VolumeRefusal;
 use bays::Bay;
 use command_line::Resume;
 use conversion_opening::ConversionCause;
-use io_edge::Gate;
+use gates::Gate;
 use itoa::Buffer;
+use recovery_laws::{
+    conversions_go_on_under_their_passphrase, found_keys_are_given,
+    openings_of_conversions_keep_content, passphrases_give_keys, resumed_conversions_keep_content,
+    stopped_conversions_may_be_resumed,
+};
 use reenc_worker::{NoFit, WorkerEnd};
 use resume_disk::{
     Finished, Halted, Refusal, Refused, Unfinished, resume_conversion, standing_conversions_end,
 };
-use resumed_volumes::{
-    conversions_go_on_under_their_passphrase, openings_of_conversions_keep_content,
-    resumed_conversions_keep_content, stopped_conversions_may_be_resumed,
-};
 use sector_cipher::Context;
 use sector_disk::Disk;
-use served_conversions::{found_keys_are_given, passphrases_give_keys};
 use std::alloc::Global;
 use std::thread::Threads;
 
@@ -73,6 +73,7 @@ impl<'w> Cause<'w> {
             Refusal::Idle => Cause::WrongState,
             Refusal::Passphrase(length) => Cause::of_passphrase(*length as u64),
             Refusal::Slots(_, fault) => Cause::of_slots(fault, faults),
+            Refusal::Tail(bytes) => Cause::of_tail(*bytes),
             Refusal::Unopened(cause) => Cause::of_conversion(cause, faults),
         }
     }

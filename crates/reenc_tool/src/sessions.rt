@@ -8,7 +8,7 @@ ghost use Rattle.reenc_tool.specs.Sessions.{cause_of, has_spent};
 ghost use Rattle.reenc_tool.specs.Standings.{AreFaultsOfFirst, HasLive, failed_in};
 ghost use Rattle.reenc_tool.specs.Volumes.{IsServedAs};
 ghost use Rattle.reenc_tool.specs.declared.ended.Cause.TheVariants.{Memory};
-ghost use Rattle.served_conversions.specs.Clients.{without_work};
+ghost use Rattle.recovery_laws.specs.Served.Clients.{without_work};
 ghost use Rattle.shared_volume.specs.Histories.{MayBeShared};
 ghost use Rattle.volume_cell.specs.Passes.{known};
 ghost use Rattle.volume_machine.specs.Beginnings.{IsFresh};
@@ -20,24 +20,23 @@ use crate::trouble::{MOST_EVENTS, cause, trouble_of};
 use bays::Link;
 use block_server::{Served, Unserved, serve};
 use cipher_laws::SectorCipher;
-use conversions_beside::conversions_end_beside;
-use io_edge::Gate;
-use lanes_beside::{executions_join_beside, runs_are_deeds};
-use luks_copies::copies_are_read;
+use gates::Gate;
+use luks_store::header_copies::copies_are_read;
+use recovery_laws::clients_leave_work_alone;
 use sector_cipher::Context;
 use sector_disk::Disk;
-use served_beside::{
-    deeds_fail_by_faults, deeds_stop_anywhere, device_errors_are_exact as deeds_errors_are_exact,
-    failures_go_by_deeds, tables_are_of_deeds,
-};
-use served_conversions::clients_leave_work_alone;
 use std::alloc::Global;
 use std::sync::Wait;
 use std::thread::Threads;
 use volume_core::Volume;
+use volume_laws::served_beside::{
+    deeds_fail_by_faults, deeds_stop_anywhere, device_errors_are_exact as deeds_errors_are_exact,
+    failures_go_by_deeds, tables_are_of_deeds,
+};
 use volume_laws::{
-    device_errors_are_exact, every_conversion_is_served, every_run_is_served, executions_join,
-    failures_go_by_events, keys_seal_lawfully, runs_fail_by_faults, runs_stop_anywhere,
+    conversions_end_beside, device_errors_are_exact, every_conversion_is_served,
+    every_run_is_served, executions_join, executions_join_beside, failures_go_by_events,
+    keys_seal_lawfully, runs_are_deeds, runs_fail_by_faults, runs_stop_anywhere,
     settled_volumes_are_covered, tables_are_of_events,
 };
 
@@ -77,7 +76,7 @@ where
     requires some { 0 < length links.items }
     requires few { length links.items ≤ 16 }
     requires bound { (k : ℕ) (link : L) → k < length links.items →
-        (L.state (slice_index_or links.items k link)).bound ≤ 65535 }
+        (L.state (slice_index_or links.items k link)).bound ≤ 4294967295 }
     ensures served { IsServedAs L.state converts volume (seals_of ⟦<Context as SectorCipher>⟧.sealed
         ⟦<Context as SectorCipher>⟧.opened volume.map.atom volume.keys) (D.device result.0)
         links.items (came_of result.1)

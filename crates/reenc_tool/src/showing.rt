@@ -8,8 +8,10 @@ ghost use Rattle.reenc_tool.specs.Status.{status_of};
 
 use crate::commands::{cause_by, unserved};
 use crate::ended::{Cause, Ended, Failing};
+use crate::notices::note_copy;
 use bays::Bay;
 use command_line::Status;
+use gates::Gate;
 use header_report::{Examined, examine};
 use luks_store::StoreFault;
 use sector_disk::Disk;
@@ -44,11 +46,13 @@ fn shown<'w, D: Disk, L>(
     (ended, report)
 }
 
-/// Asks the bay for a disk to be read alone, and gives what its header says.
-pub fn show<'w, B: Bay>(
+/// Asks the bay for a disk to be read alone, and gives what its header says. The gate is told of a copy
+/// of the header that isn't as the other one.
+pub fn show<'w, B: Bay, G: Gate>(
     alloc: Global,
     bay: &mut B,
     words: &Status<'_>,
+    gate: &G,
 ) -> (Ended<'w, B::Disk, B::Link>, Option<String>)
     requires { IsAtomSize words.now.atom }
     ensures status { result.0.status ≡ status_of result.0.cause }
@@ -57,7 +61,8 @@ pub fn show<'w, B: Bay>(
 {
     match bay.disk_to_read(alloc, words.disk, words.atom) {
         Ok(opened) => {
-            let Examined { disk, told } = examine(alloc, opened);
+            let Examined { disk, told, notice } = examine(alloc, opened);
+            note_copy(alloc, gate, notice);
             shown(alloc, disk, told)
         }
         Err(fault) => {

@@ -22,9 +22,9 @@ use crate::ended::{Cause, Ended, Failing, Fit, Sessions};
 use crate::volume_refusal::VolumeRefusal;
 use bays::Bay;
 use command_line::{Guard as NamedGuard, Init};
-use init_disk::{MakeFault, Refusal, Unstarted, begin_conversion};
+use gates::Gate;
 use io_edge::Seeds;
-use luks_init::{Guard, InitFault, Wish};
+use luks_init::{Guard, InitFault, MakeFault, Refusal, Unstarted, Wish, begin_conversion};
 use sector_disk::Disk;
 use std::alloc::{AllocError, Global};
 
@@ -74,6 +74,9 @@ impl<'w> Cause<'w> {
         match refusal {
             Refusal::Unopened(refusal) => Cause::of_opening(refusal, faults),
             Refusal::Linear => Cause::WrongState,
+            Refusal::Memory => Cause::Memory,
+            Refusal::Keyslots(_) => Cause::Keyslots,
+            Refusal::Tail(bytes) => Cause::of_tail(*bytes),
             Refusal::Unmade(fault) => Cause::of_making(*fault),
             Refusal::Writing => Cause::Device {
                 failing: Failing::Writing,
@@ -107,6 +110,7 @@ fn wish_of(words: &Init<'_>) -> Wish
         direction: words.direction,
         resilience: guard_of(words.resilience),
         hotzone_size: words.hotzone_size,
+        drop_keyslots: words.drop_keyslots,
     }
 }
 
@@ -119,13 +123,18 @@ fn started_line(alloc: Global, words: &Init<'_>) -> Result<String, AllocError>
     format!(in alloc; "started reencrypt {direction} {resilience}\n")
 }
 
-/// Why no volume was opened, where that is why no conversion was begun.
+/// Why no volume was opened, or which keyslots would go, where that is why no conversion was begun.
 fn opening_refusal(refusal: Refusal) -> Option<VolumeRefusal>
     ensures { result ≡ opening_refusal refusal }
 {
     match refusal {
         Refusal::Unopened(refusal) => Some(VolumeRefusal::Opening(refusal)),
-        Refusal::Linear | Refusal::Unmade(_) | Refusal::Writing => None,
+        Refusal::Keyslots(list) => Some(VolumeRefusal::Keyslots(list)),
+        Refusal::Linear
+        | Refusal::Memory
+        | Refusal::Tail(_)
+        | Refusal::Unmade(_)
+        | Refusal::Writing => None,
     }
 }
 
@@ -154,12 +163,13 @@ fn ended_unstarted<'w, D: Disk, L>(alloc: Global, unstarted: Unstarted<D>) -> En
 /// Begins the conversion of a disk's volume under a passphrase; and what is said of it, which is
 /// made before the first device call, since memory may be wanted for it.
 #[tactic(auto, using(crate::proofs::StartingLemmas::is_started, crate::proofs::StartingLemmas::is_unstarted))]
-fn start_on<'w, D: Disk, L>(
+fn start_on<'w, D: Disk, L, G: Gate>(
     alloc: Global,
     disk: D,
     words: &Init<'_>,
     pass: &[u8],
     seed: &[u8; 32],
+    gate: &G,
 ) -> (Ended<'w, D, L>, Option<String>)
     requires words { IsStarting (starting words.now) }
     requires atom { (D.device disk).size ≡ (starting words.now).atom }
@@ -174,7 +184,7 @@ fn start_on<'w, D: Disk, L>(
         );
     };
     let wish = wish_of(words);
-    match begin_conversion(alloc, disk, &wish, pass, seed) {
+    match begin_conversion(alloc, disk, &wish, pass, seed, gate) {
         Ok(started) => {
             let sessions = Sessions::none(alloc, Cause::Fine, Vec::new(alloc));
             (sessions.ended(Some(started.disk), None), Some(line))
@@ -185,12 +195,13 @@ fn start_on<'w, D: Disk, L>(
 
 /// Asks the bay for the passphrase, and begins the conversion of the volume on the disk that it
 /// gave.
-fn start_in<'w, B: Bay>(
+fn start_in<'w, B: Bay, G: Gate>(
     alloc: Global,
     bay: &mut B,
     disk: B::Disk,
     words: &Init<'_>,
     seed: &[u8; 32],
+    gate: &G,
 ) -> (Ended<'w, B::Disk, B::Link>, Option<String>)
     requires words { IsStarting (starting words.now) }
     requires atom { (B.Disk.device disk).size ≡ (starting words.now).atom }
@@ -200,7 +211,7 @@ fn start_in<'w, B: Bay>(
         (option_map (λ text. string_bytes text) result.1) }
 {
     match bay.key(alloc, words.key_file) {
-        Ok(pass) => start_on(alloc, disk, words, pass.as_slice(), seed),
+        Ok(pass) => start_on(alloc, disk, words, pass.as_slice(), seed, gate),
         Err(fault) => {
             let cause = cause_by(Failing::Keying, fault, bay.faults());
             (unserved(alloc, cause, Some(disk), Vec::new(alloc)), None)
@@ -210,12 +221,13 @@ fn start_in<'w, B: Bay>(
 
 /// Draws 32 bytes from the seeds, asks the bay for a disk and for a passphrase, and begins to
 /// convert the volume there to a new key. All that is random of that key is stretched from those
-/// bytes.
-pub fn start<'w, B: Bay, R: Seeds>(
+/// bytes. The gate is told before anything is written what changes besides the key.
+pub fn start<'w, B: Bay, R: Seeds, G: Gate>(
     alloc: Global,
     bay: &mut B,
     seeds: &mut R,
     words: &Init<'_>,
+    gate: &G,
 ) -> (Ended<'w, B::Disk, B::Link>, Option<String>)
     requires { IsStarting (starting words.now) }
     ensures status { result.0.status ≡ status_of result.0.cause }
@@ -234,7 +246,7 @@ pub fn start<'w, B: Bay, R: Seeds>(
         }
     }
     match bay.disk(alloc, words.disk, words.atom) {
-        Ok(disk) => start_in(alloc, bay, disk, words, &seed),
+        Ok(disk) => start_in(alloc, bay, disk, words, &seed, gate),
         Err(fault) => {
             let cause = cause_by(Failing::Opening, fault, bay.faults());
             (unserved(alloc, cause, None, Vec::new(alloc)), None)

@@ -18,7 +18,7 @@ pub const MOST_EVENTS: u64 = (1 << 63) - 2;
 
 /// What was found of sessions and links: whether a session found the history full, how many links
 /// failed, and how many calls of the first of them, and whether memory was wanted for a session's end.
-#[derive(Clone, Copy, Debug)]
+#[derive(Clone, Copy)]
 pub struct Trouble {
     pub spent: bool,
     pub failed: u32,

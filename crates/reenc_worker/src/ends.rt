@@ -1,7 +1,7 @@
 // What a worker's calls answer, and how it ends.
 
 /// What a call for the next step of a conversion came to.
-#[derive(Clone, Copy, Debug, PartialEq, Eq)]
+#[derive(Clone, Copy, PartialEq, Eq)]
 pub enum WorkAnswer {
     /// A step was made, and another one follows.
     Stepped,

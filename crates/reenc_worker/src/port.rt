@@ -1,11 +1,11 @@
 // Where a worker's steps are made.
 
 ghost use Rattle.std.specs.Prelude.{◌≡◌, List, [], ◌∷◌, ◌++◌};
-ghost use Rattle.io_edge.specs.declared.gate.Converted.{Converted};
+ghost use Rattle.gates.specs.declared.gate.Converted.{Converted};
 ghost use Rattle.reenc_worker.specs.declared.ends.WorkAnswer.{WorkAnswer};
 
 use crate::ends::WorkAnswer;
-use io_edge::Converted;
+use gates::Converted;
 use std::sync::Wait;
 use std::thread::Threads;
 

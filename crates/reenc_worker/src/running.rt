@@ -6,7 +6,7 @@ ghost use Rattle.reenc_worker.specs.declared.ends.WorkAnswer.{WorkAnswer};
 
 use crate::ends::{WorkAnswer, WorkerEnd};
 use crate::port::WorkerPort;
-use io_edge::{Gate, Place};
+use gates::{Gate, Place};
 use std::sync::Wait;
 use std::thread::Threads;
 

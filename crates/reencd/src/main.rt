@@ -1,22 +1,28 @@
 //! The program: it gives the words of its command line, the machine's bay and standard output to
-//! `reenc_tool::run`, and ends with the status. Everything that matters is in the libraries.
+//! `reenc_tool::run`, and ends with the status. Words that ask for help or for the version it answers
+//! itself. Everything that matters is in the libraries.
 #![tactic(auto)]
 
 mod notices;
 
 use file_disk::FileSystem;
-use host_edge::{HostBay, Network, ProgressGate};
-use io_edge::{Gate, OsSeeds, Seeds, Sink, StdSink};
+use gates::Gate;
+use host_edge::{HostBay, Network, ProgressGate, keep_standard_streams};
+use io_edge::{OsSeeds, Seeds, Sink, StdSink};
 use notices::{Reason, explain};
-use reenc_tool::{Cause, Ended, run};
+use reenc_tool::{Cause, Ended, Failing, asked_help, run};
 use std::alloc::Global;
 use std::env;
 use std::io::{ErrorKind, Stderr};
 use std::process::ExitCode;
 use std::sync::Wait;
 use std::thread::Threads;
+use std::time::Clock;
 
 fn main(rt: HostRuntime) -> ExitCode {
+    if let Err(error) = keep_standard_streams(&rt) {
+        return ended_unheard(&rt, rt.stderr(), error.kind());
+    }
     let mut out = StdSink::new(rt.stdout());
     let words = match env::args(&rt) {
         Ok(words) => words,
@@ -25,6 +31,11 @@ fn main(rt: HostRuntime) -> ExitCode {
     let Ok(words) = words.skip(1).collect::<Vec<String>>(rt.alloc()) else {
         return ended_early(&rt, rt.stderr(), ErrorKind::OutOfMemory);
     };
+    match asked_help(rt.alloc(), words.as_slice()) {
+        Ok(None) => {}
+        Ok(Some(text)) => return helped(text.as_str(), &mut out),
+        Err(_) => return ended_early(&rt, rt.stderr(), ErrorKind::OutOfMemory),
+    }
     let mut bay = HostBay::new(rt, rt.stdin(), rt.stdout(), rt.stderr());
     let mut seeds = OsSeeds::new(rt);
     let gate = ProgressGate::new(rt, rt.stderr());
@@ -45,7 +56,7 @@ fn main(rt: HostRuntime) -> ExitCode {
 fn command<
     'w,
     W: Threads + Wait + Sync,
-    R: FileSystem + Network + Drop + Send + Sync,
+    R: FileSystem + Network + Clock + Copy + Drop + Send + Sync,
     S: Seeds,
     O: Sink,
     G: Gate + Sync,
@@ -73,6 +84,28 @@ where
         fault,
         refusal,
     }
+}
+
+/// Prints the help, or the version, that the words ask for. That is all that was asked.
+fn helped(text: &str, out: &mut impl Sink) -> ExitCode {
+    if out.put(text.as_bytes()).is_ok() && out.push_out().is_ok() {
+        return ExitCode::SUCCESS;
+    }
+    let cause = Cause::Output {
+        faults: out.faults(),
+    };
+    ExitCode::from(cause.status())
+}
+
+/// Ends where a standard stream is closed and can't be kept from what is opened next.
+fn ended_unheard(rt: &impl Print, errors: Stderr, kind: ErrorKind) -> ExitCode {
+    let cause = Cause::Device {
+        failing: Failing::Opening,
+        faults: 1,
+    };
+    let _ = rt.print(cause.line());
+    let _ = eprintln!(errors; "reencd: a standard stream is closed, and /dev/null: {kind}");
+    ExitCode::from(cause.status())
 }
 
 /// Ends before any word was seen: a word that isn't text is a faulty command line.

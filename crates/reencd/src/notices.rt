@@ -23,8 +23,12 @@ pub fn explain(alloc: Global, errors: Stderr, reason: &Reason<'_>) {
             number,
             limit,
         } => explain_fit(errors, what, number, limit),
-        Cause::NoHeader | Cause::Header | Cause::Foreign | Cause::NoKey | Cause::WrongState =>
-            explain_volume(errors, reason),
+        Cause::NoHeader
+        | Cause::Header
+        | Cause::Foreign
+        | Cause::NoKey
+        | Cause::WrongState
+        | Cause::Keyslots => explain_volume(errors, reason),
         Cause::Device {
             failing: Failing::Reading | Failing::Starting | Failing::Writing | Failing::Converting,
             faults,
@@ -58,7 +62,8 @@ fn explain_usage(alloc: Global, errors: Stderr, words: &[String]) {
 fn explain_fit(errors: Stderr, what: Fit, number: u64, limit: u64) {
     let _ = match what {
         Fit::Area => eprintln!(errors;
-            "reencd: no room for keyslots: {number} bytes are wanted, and there are {limit}"
+            "reencd: no room in the header's keyslots area: {number} bytes are wanted at one place, \
+            and there are {limit} (less --hotzone-size, or a volume with a larger --data-offset)"
         ),
         Fit::Json => eprintln!(errors;
             "reencd: a header's text of {number} bytes, for which there are {limit}"
@@ -72,11 +77,38 @@ fn explain_fit(errors: Stderr, what: Fit, number: u64, limit: u64) {
         Fit::Events => eprintln!(errors;
             "reencd: more events of clients and steps of the conversion than {limit}"
         ),
-        Fit::Blocks => eprintln!(errors; "reencd: the disk has no room for a block"),
+        Fit::Blocks => eprintln!(errors;
+            "reencd: the disk has no room for a block (format begins the data at --data-offset, \
+            by default byte 16777216)"
+        ),
+        Fit::Tail => eprintln!(errors;
+            "reencd: tail: the last {number} bytes of the volume are in no whole atom of the disk, \
+            and a conversion wouldn't reach them{}",
+            tail_cure(number)
+        ),
         Fit::Passphrase => eprintln!(errors;
-            "reencd: a passphrase of {number} bytes, which are to be 1 to 512"
+            "reencd: the key file has {}, and a passphrase has 1 to 512",
+            passphrase_length(number)
         ),
     };
+}
+
+/// What helps where so many bytes lie behind the last whole atom.
+fn tail_cure(bytes: u64) -> &'static str {
+    if bytes % 512 == 0 {
+        ": --atom 512 does"
+    } else {
+        ""
+    }
+}
+
+/// How long a passphrase is that has no byte, or too many: no more than 513 bytes are read of it.
+fn passphrase_length(bytes: u64) -> &'static str {
+    if bytes == 0 {
+        "no byte"
+    } else {
+        "more than 512 bytes"
+    }
 }
 
 /// Says in one line which block has an old atom and a new one of which digest both.

@@ -6,9 +6,9 @@ use Rattle.std.proofs.Math.Nat.{mod-add-div', mod-lt, mul-le-mul_right, mul_asso
 use Rattle.std.proofs.lemmas.Bool.{cases_lt}
 use Rattle.std.proofs.lemmas.List.{drop_at, length-take-le, length-replicate, nil_from_length}
 use borrow.Rule.Slice.PartMut.{put_mid, post_of}
-use Rattle.disk_views.proofs.Blockwise.{block_at-front, block_at-behind, block_at-one}
-use Rattle.disk_views.proofs.Blockwise.{block_at-drop, block_at-part, block_at-take, blocks_end}
-use Rattle.disk_views.specs.Parts.{block_at}
+use Rattle.sector_disk.proofs.DiskViews.Blockwise.{block_at-front, block_at-behind, block_at-one}
+use Rattle.sector_disk.proofs.DiskViews.Blockwise.{block_at-drop, block_at-part, block_at-take, blocks_end}
+use Rattle.sector_disk.specs.DiskViews.Parts.{block_at}
 use Rattle.resil_checksum.specs.Digests.{AreDigests, AreSaved}
 use Rattle.std.specs.Fork.{IsChunk, slice_chunk}
 use Rattle.sha2.proofs.Facts256.{length-sha256}

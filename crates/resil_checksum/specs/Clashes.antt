@@ -1,6 +1,6 @@
 -- When a digest tells a block's old atom from its new one.
 use Rattle.std.specs.Prelude.{ℕ, ◌≡◌, ◌≢◌, ◌*◌, ◌<◌, ◌≤◌, min, List}
-use Rattle.disk_views.specs.Parts.{block_at}
+use Rattle.sector_disk.specs.DiskViews.Parts.{block_at}
 use Rattle.sha2.specs.Sha256.{sha256}
 
 -- of so many blocks each has an old atom and a new one of different digests

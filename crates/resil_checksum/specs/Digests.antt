@@ -1,7 +1,7 @@
 -- What is saved of the blocks of a zone by checksum.
 use Rattle.std.specs.Prelude.{ℕ, ◌≡◌, ◌-◌, ◌*◌, ◌<◌, List, length, drop, replicate}
 use Rattle.std.specs.Int.{div_ceil}
-use Rattle.disk_views.specs.Parts.{block_at}
+use Rattle.sector_disk.specs.DiskViews.Parts.{block_at}
 use Rattle.sha2.specs.Sha256.{sha256}
 
 -- how many bytes are saved of so many blocks: a digest of 32 bytes for each, in whole atoms

@@ -1,6 +1,6 @@
 -- What is promised of saved digests.
 use Rattle.std.specs.Prelude.{ℕ, ◌≡◌, ◌≢◌, ◌<◌, ◌⊎◌, ◌↔◌, List}
-use Rattle.disk_views.specs.Parts.{block_at}
+use Rattle.sector_disk.specs.DiskViews.Parts.{block_at}
 use Rattle.resil_checksum.specs.Clashes.{AllDiffer}
 use Rattle.resil_checksum.specs.Digests.{AreDigests}
 use Rattle.sha2.specs.Sha256.{sha256}

@@ -8,7 +8,7 @@ ghost use Rattle.resil_checksum.specs.Clashes.{IsLowestClash, part_start};
 ghost use Rattle.resil_checksum.specs.Promises.{AtomsTold};
 
 use crate::parts::part_of;
-use resil_terms::Judged;
+use base_terms::Judged;
 use sha2::{Digest, Sha256};
 use std::thread;
 use std::thread::Threads;

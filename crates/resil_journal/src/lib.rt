@@ -10,7 +10,7 @@
 
 ghost use Rattle.std.specs.Prelude.{◌≡◌, ◌*◌, ◌/◌, ◌<◌, ◌≤◌, ◌^◌, ◌↔◌, length};
 
-use resil_terms::Judged;
+use base_terms::Judged;
 
 /// How many blocks a zone may have whose atoms are saved in an area of so many bytes, where an atom
 /// has so many: one for each whole atom of the area.

@@ -7,7 +7,7 @@ use Rattle.conversion_opening.specs.Causes.{HasCauseIn}
 use Rattle.conversion_opening.specs.declared.fault.ConversionCause.{ConversionCause}
 use Rattle.conversion_opening.specs.declared.fault.ConversionCause.TheVariants as causes
 use Rattle.header_report.specs.Examinations.{sizes_alone}
-use Rattle.joined_disk.specs.Joined.{Joint, in_front, joined_disk}
+use Rattle.sector_disk.specs.JoinedDisks.Joined.{Joint, in_front, joined_disk}
 use Rattle.luks_json.specs.declared.meta.Parts.{Parts}
 use Rattle.luks_rules.specs.declared.shape.Progress.{Progress}
 use Rattle.luks_slots.specs.Unlocks.{IsCutShort}
@@ -128,6 +128,7 @@ module _ {D : Type 0} (device : D → Device) (disk back : D) (header : Option D
       (λ is. slots_device by.stored.valid.meta pass by.none.now by.read side by.header_read
       (subst (λ f. LacksKey by.stored.valid.meta pass by.none.now by.read (device back) side f) is
       by.none.lacks))
+  wants_locked (refusals.Tail bytes) pass by cut = tt
   wants_locked (refusals.Unopened cause) pass by cut = absurd by.none
 
   wants_unopened : {C : Type 0} (sector : C → ℕ) (sealed opened : C → ℕ → List ℕ → List ℕ)
@@ -151,6 +152,7 @@ module _ {D : Type 0} (device : D → Device) (disk back : D) (header : Option D
       absurd cut
   wants_refused sector sealed opened pass (refusals.Slots side fault) (none, locked) cut =
       wants_locked (refusals.Slots side fault) pass locked cut
+  wants_refused sector sealed opened pass (refusals.Tail bytes) (none, locked) cut = tt
   wants_refused sector sealed opened pass (refusals.Unopened cause) (joint, are, under) cut =
       wants_unopened sector sealed opened pass cause joint are under cut
 

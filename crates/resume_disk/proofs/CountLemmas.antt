@@ -4,14 +4,14 @@ use Rattle.std.proofs.Common.{ap, arith}
 use Rattle.base_terms.specs.declared.failed.Failed.{Failed}
 use Rattle.conversion_opening.specs.Openings.{IsOpenedOf}
 use Rattle.conversion_opening.specs.Runs.{LeadsTo, last_of, mends, rests}
-use Rattle.disk_sizes.specs.declared.Sizes.{Sizes}
-use Rattle.joined_disk.specs.Joined.{Joint, joined_disk}
-use Rattle.luks_copies.specs.Steps.{CopyCall}
-use Rattle.luks_copies.specs.declared.commit.Stage.{Stage}
-use Rattle.luks_copies.specs.declared.commit.Stage.TheVariants.{Begun, Ended, FirstKept}
-use Rattle.luks_copies.specs.declared.commit.Stage.TheVariants.{FirstWritten, SecondWritten}
-use Rattle.luks_copies.specs.Held.{primary_of, secondary_of, stage_in}
-use Rattle.luks_copies.specs.declared.repair.Repair.{Repair}
+use Rattle.base_terms.specs.declared.disk_sizes.Sizes.{Sizes}
+use Rattle.sector_disk.specs.JoinedDisks.Joined.{Joint, joined_disk}
+use Rattle.luks_store.specs.Copying.Steps.{CopyCall}
+use Rattle.luks_store.specs.declared.header_copies.commit.Stage.{Stage}
+use Rattle.luks_store.specs.declared.header_copies.commit.Stage.TheVariants.{Begun, Ended, FirstKept}
+use Rattle.luks_store.specs.declared.header_copies.commit.Stage.TheVariants.{FirstWritten, SecondWritten}
+use Rattle.luks_store.specs.Copying.Held.{primary_of, secondary_of, stage_in}
+use Rattle.luks_store.specs.declared.header_copies.repair.Repair.{Repair}
 use Rattle.luks_store.specs.declared.commit.Prepared.{Prepared}
 use Rattle.luks_store.specs.declared.loaded.Stored.{Stored}
 use Rattle.reenc_recovery.specs.Calls.{RepairRun}
@@ -20,7 +20,7 @@ use Rattle.sector_disk.specs.Devices.{Device, succeeded}
 use Rattle.volume_machine.specs.Seals.{Seals}
 use Rattle.volume_machine.specs.States.{State}
 use Rattle.volume_machine.specs.declared.keys.Keys.{Keys}
-use Rattle.zone_images.specs.Runs.{MendRun, none, one_more}
+use Rattle.image_laws.specs.Led.Runs.{MendRun, none, one_more}
 use Rattle.zone_mending.specs.Steps.{Fails, Goes, Steps, ends, find_fails, finds, lay_fails, lays}
 use Rattle.zone_mending.specs.Steps.{move_fails, moves, read_fails, reads, settle_fails, settles}
 use Rattle.zone_mending.specs.Steps.{write_fails, writes}

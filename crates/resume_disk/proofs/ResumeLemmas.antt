@@ -1,14 +1,14 @@
 -- What was opened on a disk, or wasn't, under the keys that were found there.
 use Rattle.std.proofs.Common.{◌≡◌, ◌∙◌, ℕ, ◌*◌, List, length, ap, ap₂, sym, subst, refl, Option}
-use Rattle.std.proofs.Common.{Some, None}
+use Rattle.std.proofs.Common.{Some, None, true, false}
 use Rattle.conversion_opening.specs.Causes.{HasCauseIn, IsCauseIn}
 use Rattle.conversion_opening.specs.Openings.{IsOpenedOf, IsUnopened}
 use Rattle.conversion_opening.specs.declared.fault.ConversionCause.{ConversionCause}
-use Rattle.disk_sizes.specs.declared.Sizes.{Sizes}
+use Rattle.base_terms.specs.declared.disk_sizes.Sizes.{Sizes}
 use Rattle.header_report.proofs.ExamineLemmas.{alone_values, whole_front}
 use Rattle.header_report.specs.Examinations.{sizes_alone}
-use Rattle.joined_disk.specs.Counts.{HasSizes}
-use Rattle.joined_disk.specs.Joined.{Joint, joined_disk}
+use Rattle.sector_disk.specs.JoinedDisks.Counts.{HasSizes}
+use Rattle.sector_disk.specs.JoinedDisks.Joined.{Joint, joined_disk}
 use Rattle.luks_store.specs.Devices.{KeepsBytes, front_of}
 use Rattle.luks_store.specs.Loads.{stored_in}
 use Rattle.luks_store.specs.declared.loaded.Stored.{Stored}
@@ -16,7 +16,9 @@ use Rattle.reenc_recovery.specs.Tables.{ShowsSizes}
 use Rattle.reenc_recovery.specs.declared.keys.SideKeys.{SideKeys}
 use Rattle.resume_disk.proofs.ShortLemmas.{short_under}
 use Rattle.resume_disk.specs.Keys.{AreKeysFound, IsNoKeysFound}
-use Rattle.resume_disk.specs.Refusals.{IsLockedBy, IsRefusedBy, IsRefusedKeys, IsUnopenedUnder}
+use Rattle.resume_disk.specs.Refusals.{HasTailOn, IsLockedBy, IsRefusedBy, IsRefusedKeys}
+use Rattle.resume_disk.specs.Refusals.{IsUnopenedUnder}
+use Rattle.luks_rules.specs.Segments.{has_tail}
 use Rattle.resume_disk.specs.Resuming.{AreUnderKeys, BeginsWith, IsOpenedMidway}
 use Rattle.resume_disk.specs.declared.refusal.Refusal.{Refusal}
 use Rattle.resume_disk.specs.declared.refusal.Refusal.TheVariants as refusals
@@ -31,20 +33,41 @@ use Rattle.volume_opening.proofs.OpenedLemmas.{same_sizes, same_stored}
 use Rattle.volume_opening.proofs.ReadLemmas.{keeps_on}
 use Rattle.volume_opening.specs.Openings.{IsFound, alone}
 use Rattle.zone_events.specs.Readings.{reading_of}
-use Rattle.zone_images.specs.Holding.{TellsLawfully}
+use Rattle.image_laws.specs.Led.Holding.{TellsLawfully}
 
 -- ---- header and keys
 pub under_keys : (device read new : Device) (pass : List ℕ) (stored : Stored) (keys : SideKeys)
     → KeepsBytes device read → IsFound device stored → KeepsBytes read new
     → AreKeysFound stored.valid.meta stored.valid.sizes pass read.values keys
+    → has_tail stored.valid.meta.segments new.tail ≡ false
     → AreUnderKeys device pass keys new
-under_keys device read new pass stored keys header_read found slots_read are = record {
+under_keys device read new pass stored keys header_read found slots_read are whole = record {
   unwritten = keeps_on device read new header_read slots_read;
   stored = stored;
   found = found;
   are = subst (λ (held : Option (List ℕ)).
       AreKeysFound stored.valid.meta stored.valid.sizes pass held keys) header_read.values are;
+  whole = subst (λ n. has_tail stored.valid.meta.segments n ≡ false)
+      (slots_read.tail ∙ header_read.tail) whole;
 }
+
+pub tail_on : (device read new : Device) (pass : List ℕ) (stored : Stored) (keys : SideKeys)
+    → KeepsBytes device read → IsFound device stored → KeepsBytes read new
+    → AreKeysFound stored.valid.meta stored.valid.sizes pass read.values keys → (bytes : ℕ)
+    → bytes ≡ new.tail → has_tail stored.valid.meta.segments new.tail ≡ true
+    → HasTailOn device pass bytes new
+tail_on device read new pass stored keys header_read found slots_read are bytes bytes_are has =
+    record {
+      unwritten = keeps_on device read new header_read slots_read;
+      stored = stored;
+      found = found;
+      keys = keys;
+      are = subst (λ (held : Option (List ℕ)).
+          AreKeysFound stored.valid.meta stored.valid.sizes pass held keys) header_read.values are;
+      bytes_are = bytes_are ∙ slots_read.tail ∙ header_read.tail;
+      has = subst (λ n. has_tail stored.valid.meta.segments n ≡ true)
+          (slots_read.tail ∙ header_read.tail) has;
+    }
 
 pub locked_by : (device read new : Device) (pass : List ℕ) (stored : Stored) (refusal : Refusal)
     → KeepsBytes device read → IsFound device stored → KeepsBytes read new
@@ -70,6 +93,7 @@ locked_by device read new pass stored refusal header_read found slots_read none 
     by refusals.Idle is = keys_refused refusals.Idle is
     by (refusals.Passphrase count) is = keys_refused (refusals.Passphrase count) is
     by (refusals.Slots side fault) is = keys_refused (refusals.Slots side fault) is
+    by (refusals.Tail bytes) is = absurd is
     by (refusals.Unopened cause) is = absurd is
 
 -- no header and no keys, as they are answered
@@ -81,6 +105,7 @@ refused_so sector sealed opened device disk back pass (refusals.Header fault) is
 refused_so sector sealed opened device disk back pass refusals.Idle is = (refl, is)
 refused_so sector sealed opened device disk back pass (refusals.Passphrase count) is = (refl, is)
 refused_so sector sealed opened device disk back pass (refusals.Slots side fault) is = (refl, is)
+refused_so sector sealed opened device disk back pass (refusals.Tail bytes) is = (refl, is)
 refused_so sector sealed opened device disk back pass (refusals.Unopened cause) is =
     absurd (is.none)
 

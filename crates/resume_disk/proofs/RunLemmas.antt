@@ -2,10 +2,10 @@
 use Rattle.std.proofs.Common.{◌≡◌, ◌≢◌, ◌∙◌, ℕ, zero, suc, List, replicate, ap, sym, subst, refl}
 use Rattle.std.proofs.Common.{true, false, Option, Some, None, Result, Ok, Err, IsSome, IfOk, IfErr}
 use Rattle.conversion_opening.specs.Openings.{IsOpenedOf}
-use Rattle.disk_areas.specs.Headers.{Header, Layout}
-use Rattle.disk_sizes.specs.declared.Sizes.{Sizes}
+use Rattle.crash_laws.specs.HeaderAreas.Headers.{Header, Layout}
+use Rattle.base_terms.specs.declared.disk_sizes.Sizes.{Sizes}
 use Rattle.header_report.specs.Examinations.{sizes_alone}
-use Rattle.joined_disk.specs.Joined.{Joint, joined_disk}
+use Rattle.sector_disk.specs.JoinedDisks.Joined.{Joint, joined_disk}
 use Rattle.luks_store.specs.declared.loaded.Stored.{Stored}
 use Rattle.reenc_recovery.specs.declared.keys.SideKeys.{SideKeys}
 use Rattle.reenc_worker.specs.declared.ends.WorkerEnd.{WorkerEnd}
@@ -25,7 +25,7 @@ use Rattle.volume_machine.specs.Works.{Work, converting, resting}
 use Rattle.volume_machine.specs.declared.keys.Keys.{Keys}
 use Rattle.volume_machine.specs.declared.open.Open.{Open}
 use Rattle.volume_opening.specs.Refusals.{AreOf}
-use Rattle.worker_laws.specs.Conversions.{HasConverted, MayConvert}
+use Rattle.volume_laws.specs.WorkerRuns.Conversions.{HasConverted, MayConvert}
 use Rattle.zone_events.specs.Heads.{header_on}
 use Rattle.zone_events.specs.Readings.{reading_of}
 use Rattle.zone_events.specs.Works.{layout_for}

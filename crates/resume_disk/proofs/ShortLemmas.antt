@@ -5,7 +5,7 @@ use Rattle.std.proofs.Common.{subst, append_assoc, Option, Some, Result, Ok}
 use Rattle.conversion_opening.specs.Causes.{IsCauseIn}
 use Rattle.conversion_opening.specs.declared.fault.ConversionCause.{ConversionCause}
 use Rattle.conversion_opening.specs.declared.fault.ConversionCause.TheVariants as causes
-use Rattle.disk_sizes.specs.declared.Sizes.{Sizes}
+use Rattle.base_terms.specs.declared.disk_sizes.Sizes.{Sizes}
 use Rattle.header_report.specs.Examinations.{sizes_alone}
 use Rattle.luks_json.specs.declared.meta.Parts.{Parts}
 use Rattle.luks_rules.specs.Segments.{in_progress}

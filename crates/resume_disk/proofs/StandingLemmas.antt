@@ -5,7 +5,7 @@ use Rattle.std.specs.Prelude.{option_and_then}
 use Rattle.conversion_opening.specs.Causes.{IsCauseIn}
 use Rattle.conversion_opening.specs.declared.fault.ConversionCause.{ConversionCause}
 use Rattle.conversion_opening.specs.declared.fault.ConversionCause.TheVariants as causes
-use Rattle.disk_sizes.specs.declared.Sizes.{Sizes}
+use Rattle.base_terms.specs.declared.disk_sizes.Sizes.{Sizes}
 use Rattle.header_report.proofs.ExamineLemmas.{whole_front}
 use Rattle.header_report.specs.Examinations.{sizes_alone}
 use Rattle.hotzone.specs.Sites.{IsSaved}
@@ -24,7 +24,7 @@ use Rattle.luks_store.specs.Loads.{Says, stored_in}
 use Rattle.luks_store.specs.declared.fault.StoreFault.{StoreFault}
 use Rattle.luks_store.specs.declared.fault.StoreFault.TheVariants as faults
 use Rattle.luks_store.specs.declared.loaded.Stored.{Stored}
-use Rattle.open_zones.specs.Images.{ImageStandsFor, OpenStandsFor}
+use Rattle.image_laws.specs.Opened.Images.{ImageStandsFor, OpenStandsFor}
 use Rattle.reenc_recovery.proofs.PlacingLemmas.{is_idle}
 use Rattle.reenc_recovery.specs.Images.{StandsFor}
 use Rattle.reenc_recovery.specs.Keys.{key_by, key_for}
@@ -40,8 +40,8 @@ use Rattle.resume_disk.specs.declared.refusal.Unfinished.TheVariants as unfinish
 use Rattle.sector_disk.specs.Devices.{Device}
 use Rattle.segment_map.specs.declared.Side.{Side}
 use Rattle.segment_map.specs.declared.Side.TheVariants.{New, Old, Zone}
-use Rattle.started_volumes.proofs.BlockLemmas.{progress-busy}
-use Rattle.started_volumes.proofs.GapLemmas.{one-header}
+use Rattle.image_laws.proofs.Started.BlockLemmas.{progress-busy}
+use Rattle.image_laws.proofs.Started.GapLemmas.{one-header}
 use Rattle.volume_opening.specs.Openings.{IsFound, IsTried}
 use Rattle.volume_opening.specs.Refusals.{IsNotTried}
 use Rattle.volume_opening.specs.Shorts.{IsUnread}
@@ -199,6 +199,7 @@ module _ {D : Type 0} (device : D → Device) (disk back : D) (pass first : List
         slots_short none.now
         (subst (λ (z : Sizes). progress_of stored.valid.meta z ≡ Some none.now) found.sizes none.known)
         read new side fault (kept.values ∙ told) none.lacks
+    keys_short read new (refusals.Tail bytes) kept none = absurd none
     keys_short read new (refusals.Unopened cause) kept none = absurd none
 
   -- ---- by the bytes' header the volume may be led on
@@ -226,6 +227,7 @@ module _ {D : Type 0} (device : D → Device) (disk back : D) (pass first : List
   locked_short (refusals.Slots side fault) by =
       keys_short by.stored by.found by.read (device back) (refusals.Slots side fault) by.header_read
       by.none
+  locked_short (refusals.Tail bytes) by = tt
   locked_short (refusals.Unopened cause) by =
       keys_short by.stored by.found by.read (device back) (refusals.Unopened cause) by.header_read
       by.none
@@ -241,6 +243,7 @@ module _ {D : Type 0} (device : D → Device) (disk back : D) (pass first : List
       locked_short (refusals.Passphrase count) locked
   refused_cut sector sealed opened (refusals.Slots side fault) header (none, locked) =
       locked_short (refusals.Slots side fault) locked
+  refused_cut sector sealed opened (refusals.Tail bytes) header (none, locked) = tt
   refused_cut sector sealed opened (refusals.Unopened cause) header (joint, are, under) =
       may_lead cause under.keys (under.refused first told) (under.short first told)
 

@@ -7,7 +7,7 @@ use Rattle.luks_slots.specs.declared.fault.SlotFault.{SlotFault}
 use Rattle.luks_slots.specs.declared.fault.SlotFault.TheVariants as slots
 use Rattle.luks_store.specs.declared.fault.StoreFault.{StoreFault}
 use Rattle.luks_store.specs.declared.fault.StoreFault.TheVariants as faults
-use Rattle.open_zones.specs.Images.{ImageStandsFor}
+use Rattle.image_laws.specs.Opened.Images.{ImageStandsFor}
 use Rattle.reenc_recovery.specs.declared.fault.OpenCause.{OpenCause}
 use Rattle.reenc_recovery.specs.declared.fault.OpenCause.TheVariants as openings
 use Rattle.reenc_worker.specs.declared.ends.WorkerEnd.{WorkerEnd}
@@ -60,6 +60,7 @@ WantsBefore (refusals.Header fault) = WantsForHeader fault
 WantsBefore refusals.Idle = ⊥
 WantsBefore (refusals.Passphrase count) = ⊥
 WantsBefore (refusals.Slots side fault) = WantsForSlots fault
+WantsBefore (refusals.Tail bytes) = Unit {0}
 WantsBefore (refusals.Unopened cause) = WantsForOpening cause
 
 -- Memory, numbers, or room for a text, of the worker; or two atoms of one block, an old one and a new one,

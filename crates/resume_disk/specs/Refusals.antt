@@ -1,17 +1,18 @@
 -- Why a conversion on a disk isn't at its end, and what that leaves.
-use Rattle.std.specs.Prelude.{ℕ, ◌≡◌, List, Option, Some, None}
+use Rattle.std.specs.Prelude.{ℕ, ◌≡◌, List, Option, Some, None, true}
 use Rattle.conversion_opening.specs.Causes.{HasCauseIn, IsCauseIn}
 use Rattle.conversion_opening.specs.Openings.{IsUnopened}
 use Rattle.conversion_opening.specs.declared.fault.ConversionCause.{ConversionCause}
 use Rattle.conversion_opening.specs.declared.fault.ConversionCause.TheVariants as causes
-use Rattle.disk_sizes.specs.declared.Sizes.{Sizes}
+use Rattle.base_terms.specs.declared.disk_sizes.Sizes.{Sizes}
 use Rattle.header_report.specs.Examinations.{TellsFault, sizes_alone}
-use Rattle.joined_disk.specs.Joined.{Joint, joined_disk}
+use Rattle.sector_disk.specs.JoinedDisks.Joined.{Joint, joined_disk}
 use Rattle.luks_store.specs.Devices.{KeepsBytes}
 use Rattle.luks_store.specs.Loads.{HasCause, stored_in}
 use Rattle.luks_store.specs.declared.loaded.Stored.{Stored}
 use Rattle.reenc_recovery.specs.declared.keys.SideKeys.{SideKeys}
-use Rattle.resume_disk.specs.Keys.{IsNoKeysFound}
+use Rattle.luks_rules.specs.Segments.{has_tail}
+use Rattle.resume_disk.specs.Keys.{AreKeysFound, IsNoKeysFound}
 use Rattle.resume_disk.specs.Resuming.{AreUnderKeys, BeginsWith, IsHaltedBy}
 use Rattle.resume_disk.specs.declared.refusal.Refusal.{Refusal}
 use Rattle.resume_disk.specs.declared.refusal.Refusal.TheVariants as refusals
@@ -21,7 +22,7 @@ use Rattle.sector_disk.specs.Devices.{Device}
 use Rattle.volume_opening.specs.Openings.{IsFound, alone}
 use Rattle.volume_opening.specs.Refusals.{AreOf}
 use Rattle.volume_opening.specs.Shorts.{IsShort as IsOpeningShort}
-use Rattle.zone_images.specs.Holding.{TellsLawfully}
+use Rattle.image_laws.specs.Led.Holding.{TellsLawfully}
 
 -- ---- no keys
 -- No keys were found under the header of a disk, which was only read.
@@ -34,10 +35,22 @@ pub record IsRefusedKeys (device : Device) (pass : List ℕ) (new : Device) (ref
   pub slots_read : KeepsBytes read new
   pub none : IsNoKeysFound stored.valid.meta stored.valid.sizes pass read new refusal
 
--- why there are no keys of both sides on a disk, which was only read
+-- The keys were found, and bytes of the volume lie behind the last whole atom of the disk, which has
+-- so many there; it was only read.
+pub record HasTailOn (device : Device) (pass : List ℕ) (bytes : ℕ) (new : Device) : Type 0 where
+  pub unwritten : KeepsBytes device new
+  pub stored : Stored
+  pub found : IsFound device stored
+  pub keys : SideKeys
+  pub are : AreKeysFound stored.valid.meta stored.valid.sizes pass device.values keys
+  pub bytes_are : bytes ≡ device.tail
+  pub has : has_tail stored.valid.meta.segments device.tail ≡ true
+
+-- why there are no keys of both sides on a disk, or none that may be used, which was only read
 abbrev pub IsLockedBy : Device → List ℕ → Refusal → Device → Type 0
 IsLockedBy device pass (refusals.Header fault) new =
     KeepsBytes device new × TellsFault device fault × HasCause device new fault
+IsLockedBy device pass (refusals.Tail bytes) new = HasTailOn device pass bytes new
 IsLockedBy device pass refusal new = IsRefusedKeys device pass new refusal
 
 -- ---- not opened

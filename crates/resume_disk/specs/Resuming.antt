@@ -1,9 +1,10 @@
 -- What a conversion is that was opened on a disk and led on from there, up to an end.
-use Rattle.std.specs.Prelude.{ℕ, ◌≡◌, ◌≢◌, ◌*◌, List, length, Option, Some}
+use Rattle.std.specs.Prelude.{ℕ, ◌≡◌, ◌≢◌, ◌*◌, List, length, Option, Some, false}
 use Rattle.conversion_opening.specs.Openings.{IsOpenedOf}
 use Rattle.header_report.specs.Examinations.{sizes_alone}
-use Rattle.joined_disk.specs.Counts.{HasSizes}
-use Rattle.joined_disk.specs.Joined.{Joint, joined_disk}
+use Rattle.sector_disk.specs.JoinedDisks.Counts.{HasSizes}
+use Rattle.sector_disk.specs.JoinedDisks.Joined.{Joint, joined_disk}
+use Rattle.luks_rules.specs.Segments.{has_tail}
 use Rattle.luks_store.specs.Devices.{KeepsBytes}
 use Rattle.luks_store.specs.declared.loaded.Stored.{Stored}
 use Rattle.reenc_recovery.specs.Tables.{ShowsSizes}
@@ -20,20 +21,22 @@ use Rattle.volume_machine.specs.States.{State}
 use Rattle.volume_machine.specs.declared.keys.Keys.{Keys}
 use Rattle.volume_opening.specs.Openings.{IsFound, alone}
 use Rattle.volume_opening.specs.Refusals.{AreOf}
-use Rattle.worker_laws.specs.Conversions.{HasConverted, MayConvert}
+use Rattle.volume_laws.specs.WorkerRuns.Conversions.{HasConverted, MayConvert}
 use Rattle.zone_events.specs.Heads.{header_on}
 use Rattle.zone_events.specs.Readings.{reading_of}
 use Rattle.zone_events.specs.Works.{layout_for}
 
 -- ---- header and keys
 -- The header of a disk was read, by which a conversion is under way, and its keyslots gave the keys
--- of both sides to the passphrase; nothing was written meanwhile.
+-- of both sides to the passphrase; nothing was written meanwhile. No byte of the volume lies behind the
+-- last whole atom of the disk.
 pub record AreUnderKeys (device : Device) (pass : List ℕ) (keys : SideKeys) (read : Device) : Type 0
   where
     pub unwritten : KeepsBytes device read
     pub stored : Stored
     pub found : IsFound device stored
     pub are : AreKeysFound stored.valid.meta stored.valid.sizes pass device.values keys
+    pub whole : has_tail stored.valid.meta.segments device.tail ≡ false
 
 -- ---- opened
 -- What an opening begins with behind them: a disk of the sizes of the one that was handed in, which

@@ -2,7 +2,7 @@
 use Rattle.std.specs.Prelude.{ℕ, ◌≡◌, List, Some, Ok, Err}
 use Rattle.conversion_opening.specs.declared.fault.ConversionCause.{ConversionCause}
 use Rattle.conversion_opening.specs.declared.fault.ConversionCause.TheVariants as causes
-use Rattle.disk_sizes.specs.declared.Sizes.{Sizes}
+use Rattle.base_terms.specs.declared.disk_sizes.Sizes.{Sizes}
 use Rattle.header_report.specs.Examinations.{sizes_alone}
 use Rattle.hotzone.specs.Sites.{IsSaved}
 use Rattle.luks_rules.specs.Shapes.{progress_of}
@@ -11,7 +11,7 @@ use Rattle.luks_slots.specs.Unlocks.{IsCutShort}
 use Rattle.luks_store.specs.Devices.{front_of}
 use Rattle.luks_store.specs.Loads.{stored_in}
 use Rattle.luks_store.specs.declared.loaded.Stored.{Stored}
-use Rattle.open_zones.specs.Images.{ImageStandsFor}
+use Rattle.image_laws.specs.Opened.Images.{ImageStandsFor}
 use Rattle.resume_disk.specs.Refusals.{IsUnfinishedBy}
 use Rattle.resume_disk.specs.declared.refusal.Refusal.{Refusal}
 use Rattle.resume_disk.specs.declared.refusal.Refusal.TheVariants as refusals
@@ -40,12 +40,14 @@ CutsOpening causes.NotBuilt = ⊥
 CutsOpening (causes.SeqEnd left wanted) = Unit {0}
 CutsOpening (causes.JsonFull length limit) = Unit {0}
 
--- memory or a device call, also while the header was read, or the keyslots
+-- memory or a device call, also while the header was read, or the keyslots; or bytes of the volume lie
+-- behind the last whole atom of its disk, as its refusal says exactly
 abbrev pub IsCutBy : Refusal → Type 0
 IsCutBy (refusals.Header fault) = IsUnread fault
 IsCutBy refusals.Idle = ⊥
 IsCutBy (refusals.Passphrase count) = ⊥
 IsCutBy (refusals.Slots side fault) = IsCutShort (Err fault)
+IsCutBy (refusals.Tail bytes) = Unit {0}
 IsCutBy (refusals.Unopened cause) = CutsOpening cause
 
 -- or it was led on, and its worker ended so as it says

@@ -3,7 +3,7 @@
 //!
 //! The layer above may rely on [`resume_conversion`]. The header is read, and the keyslots give the
 //! keys of both sides to the passphrase; then `conversion_opening` opens the volume, by which a zone
-//! that a stop left open is written again, and `volume_worker` leads the conversion on. By
+//! that a stop left open is written again, and `volume_core` leads the conversion on. By
 //! `IsFinishedBy` every block is new once it is at its end, by a header that converts nothing, and
 //! each call that was made since is one of the opening or of a step of the volume's worker. Else it
 //! says why it isn't at its end: what was refused, or how the worker ended. The disk is handed back,

@@ -8,7 +8,6 @@ use sector_disk::Disk;
 use segment_map::Side;
 
 /// Why a conversion isn't led on, in the order in which it is tested.
-#[derive(Debug, Drop)]
 pub enum Refusal {
     /// No header was read.
     Header(StoreFault),
@@ -19,10 +18,26 @@ pub enum Refusal {
     /// No keyslot gave the key of this side's segment: of the old one, which is tried first, or of
     /// the new one.
     Slots(Side, SlotFault),
+    /// The volume goes to the end of the disk, and so many bytes of it lie there behind the last
+    /// whole atom, which the conversion wouldn't reach.
+    Tail(u64),
     /// The header and the keys opened no volume: memory was wanted, or a device call failed; blocks
     /// are shifted, or the header with the boundary moved over the open zone can't be made; or the
     /// disk, which doesn't tell what it holds, held another header by then.
     Unopened(ConversionCause),
+}
+
+// By hand, so that a value that is dropped in place is one call to the prover.
+impl Drop for Refusal {
+    fn drop(self) {
+        match self {
+            Refusal::Header(fault) => drop(fault),
+            Refusal::Idle => (),
+            Refusal::Passphrase(_) => (),
+            Refusal::Slots(_, fault) => drop(fault),
+            Refusal::Unopened(cause) => drop(cause),
+        }
+    }
 }
 
 /// A conversion is at its end, and the volume has so many blocks. The disk is handed back, as the

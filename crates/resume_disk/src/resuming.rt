@@ -9,13 +9,13 @@ ghost use Rattle.resume_disk.specs.declared.refusal.Unfinished.TheVariants.{Halt
 use crate::refusal::{Finished, Halted, Unfinished};
 use crate::taking::take_up_conversion;
 use cipher_laws::SectorCipher;
-use io_edge::Gate;
+use gates::Gate;
 use reenc_worker::WorkerEnd;
 use sector_cipher::Context;
 use sector_disk::Disk;
 use std::alloc::Global;
 use std::thread::Threads;
-use volume_worker::finish_conversion;
+use volume_core::finish_conversion;
 
 /// What a run is answered by its worker's end, with the disk.
 fn conclude<D: Disk>(
@@ -54,7 +54,8 @@ fn conclude<D: Disk>(
 ///
 /// # Errors
 ///
-/// Why the conversion isn't at its end, with the disk. It wasn't led on: then nothing was written,
+/// Why the conversion isn't at its end, with the disk. It wasn't led on, as where bytes of the volume
+/// lie behind the disk's last whole atom: then nothing was written,
 /// unless a device call failed, or memory was wanted once all was written by which the volume is
 /// opened. Or its worker ended so: with `Clash`, `NoFit` or `Memory` the volume stays in use as far
 /// as it is converted by its header, and the call may be made again; with `Device` a device call
@@ -73,7 +74,7 @@ pub fn resume_conversion<R: Threads + Sync, D: Disk, G: Gate>(
         ⟦<Context as SectorCipher>⟧.sealed ⟦<Context as SectorCipher>⟧.opened D.device disk
         pass.now) }
 {
-    match take_up_conversion(rt, alloc, disk, pass, 1) {
+    match take_up_conversion(rt, alloc, disk, pass, 1, gate) {
         Ok(volume) => {
             let mut volume = volume;
             let end = finish_conversion(rt, alloc, &mut volume, gate);

@@ -8,10 +8,10 @@ use crate::refusal::{Refusal, Refused};
 use crate::unlocking::unlock_sides;
 use cipher_laws::SectorCipher;
 use conversion_opening::{ConversionFault, open_conversion};
-use joined_disk::JoinedDisk;
+use gates::Gate;
 use reenc_recovery::disks_tell_lawfully;
 use sector_cipher::Context;
-use sector_disk::Disk;
+use sector_disk::{Disk, JoinedDisk};
 use std::alloc::Global;
 use std::thread::Threads;
 use volume_core::Volume;
@@ -19,8 +19,8 @@ use volume_core::Volume;
 /// Opens the volume of which a conversion is under way on a disk, which a passphrase of 1 to 512
 /// bytes opens on both sides, with so many lanes, of which the last one is the conversion's own. The
 /// header is read, and the keyslots, by which nothing is written; then the disk is synced, the header
-/// is read and checked once more, a copy of it that lacks or is older is written anew, and a zone that
-/// a stop left open is written again. The volume has what its conversion takes: the next zone begins
+/// is read and checked once more, a copy of it that lacks or is older is written anew, which the gate
+/// is told, and a zone that a stop left open is written again. The volume has what its conversion takes: the next zone begins
 /// with its worker's first step, and without one nothing more is converted. Nothing is written before
 /// all checks have passed.
 ///
@@ -29,12 +29,13 @@ use volume_core::Volume;
 /// Why no volume is opened, with the disk. Then nothing was written, unless a device call failed, or
 /// memory was wanted once all was written by which the volume is opened; by the header that stands
 /// then the call may be made again.
-pub fn take_up_conversion<R: Threads + Sync, D: Disk>(
+pub fn take_up_conversion<R: Threads + Sync, D: Disk, G: Gate>(
     rt: &R,
     alloc: Global,
     disk: D,
     pass: &[u8],
     lanes: u32,
+    gate: &G,
 ) -> Result<Volume<JoinedDisk<D>, Context>, Refused<D>>
     requires { 0 < lanes }
     ensures taken { IfOk result (IsOpenedMidway ⟦<Context as SectorCipher>⟧.sector
@@ -44,7 +45,7 @@ pub fn take_up_conversion<R: Threads + Sync, D: Disk>(
         ⟦<Context as SectorCipher>⟧.sealed ⟦<Context as SectorCipher>⟧.opened D.device disk
         pass.now refused.refusal refused.header refused.disk) }
 {
-    let (disk, found) = unlock_sides(alloc, disk, pass);
+    let (disk, found) = unlock_sides(alloc, disk, pass, gate);
     let keys = match found {
         Ok(keys) => keys,
         Err(refusal) => {

@@ -1,7 +1,7 @@
 // The keys of a volume that is being converted.
 
 ghost use Rattle.std.specs.Prelude.{ℕ, IfErr, IfOk, IsSome};
-ghost use Rattle.joined_disk.specs.Counts.{HasSizes};
+ghost use Rattle.sector_disk.specs.JoinedDisks.Counts.{HasSizes};
 ghost use Rattle.luks_json.specs.declared.digest.Digest.{Digest as digest_type};
 ghost use Rattle.luks_rules.specs.States.{IsUnder};
 ghost use Rattle.luks_store.specs.Devices.{KeepsBytes};
@@ -10,13 +10,14 @@ ghost use Rattle.resume_disk.specs.Refusals.{IsLockedBy};
 ghost use Rattle.resume_disk.specs.Resuming.{AreUnderKeys};
 
 use crate::refusal::Refusal;
+use gates::Gate;
 use luks_rules::{Extent, Valid};
 use luks_slots::{Key, SlotFault, unlock};
 use reenc_recovery::SideKeys;
 use sector_disk::Disk;
 use segment_map::Side;
 use std::alloc::Global;
-use volume_opening::read_header;
+use volume_opening::{note_repair, read_header};
 
 /// The most bytes of a passphrase.
 const MOST_BYTES: usize = 512;
@@ -91,16 +92,18 @@ pub fn find_side_keys<D: Disk>(
 }
 
 /// Reads the header of a disk and tries its keyslots, by which nothing is written, and hands the
-/// disk back, with the keys of both sides that they gave to the passphrase.
+/// disk back, with the keys of both sides that they gave to the passphrase. The gate is told of a copy
+/// of the header that is to be written anew.
 ///
 /// # Errors
 ///
-/// No header was read, nothing is being converted, the passphrase doesn't have 1 to 512 bytes, or no
-/// keyslot gave the key of a side.
-pub(crate) fn unlock_sides<D: Disk>(
+/// No header was read, nothing is being converted, the passphrase doesn't have 1 to 512 bytes, no
+/// keyslot gave the key of a side, or bytes of the volume lie behind the disk's last whole atom.
+pub(crate) fn unlock_sides<D: Disk, G: Gate>(
     alloc: Global,
     disk: D,
     pass: &[u8],
+    gate: &G,
 ) -> (D, Result<SideKeys, Refusal>)
     ensures unlocked { IfOk result.1
         (λ keys. AreUnderKeys (D.device disk) pass.now keys (D.device result.0)) }
@@ -114,7 +117,14 @@ pub(crate) fn unlock_sides<D: Disk>(
         Err(fault) => return (disk, Err(Refusal::Header(fault))),
     };
     match find_side_keys(alloc, loaded.valid(), &mut disk, pass) {
-        Ok(keys) => (disk, Ok(keys)),
+        Ok(keys) => {
+            let tail = disk.tail();
+            if loaded.valid().has_tail(tail) {
+                return (disk, Err(Refusal::Tail(tail)));
+            }
+            note_repair(alloc, gate, &loaded);
+            (disk, Ok(keys))
+        }
         Err(refusal) => (disk, Err(refusal)),
     }
 }

@@ -1,2 +1,1 @@
 pub mod ContextLemmas
-pub mod ManyLemmas

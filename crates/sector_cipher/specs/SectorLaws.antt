@@ -7,9 +7,9 @@ use Rattle.std.proofs.Math.Nat.{mul-div_cancel, mul_assoc}
 use Rattle.cipher_laws.specs.Bytes.{AreBytes, AreSectors}
 use Rattle.cipher_laws.specs.Laws.{KeepsLengths, GivesBytes, UndoesSectors, JoinsSectors}
 use Rattle.cipher_laws.specs.Pieces.{worked}
-use Rattle.cipher_blocks.specs.RowLaws.{whole_sectors}
-use Rattle.cipher_blocks.specs.PieceLaws.{KeepsPieces, UndoesPieces, other_pieces, length-worked}
-use Rattle.cipher_blocks.specs.PieceLaws.{bytes-worked, worked_undone}
+use Rattle.cipher_laws.specs.CipherBlocks.RowLaws.{whole_sectors}
+use Rattle.cipher_laws.specs.CipherBlocks.PieceLaws.{KeepsPieces, UndoesPieces, other_pieces, length-worked}
+use Rattle.cipher_laws.specs.CipherBlocks.PieceLaws.{bytes-worked, worked_undone}
 use Rattle.cipher_laws.specs.Sectors.{by_sectors}
 
 -- a size that sectors can have: a multiple of 512, and not 0

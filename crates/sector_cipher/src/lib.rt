@@ -15,11 +15,9 @@
 pub use aes_core::KeyLength;
 pub use context::Context;
 pub use disk::DiskCipher;
-pub use many::{seal_many, unseal_many};
 pub use spec::{Spec, UnknownCipher};
 
 mod context;
 mod disk;
 mod keys;
-mod many;
 mod spec;

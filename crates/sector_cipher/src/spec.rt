@@ -5,7 +5,7 @@ ghost use Rattle.std.specs.Prelude.{◌≡◌, ◌≢◌, ◌↔◌, IsTrue, IfO
 use thiserror::Error;
 
 /// A cipher of LUKS2 segments.
-#[derive(Clone, Copy, Debug, PartialEq, Eq)]
+#[derive(Clone, Copy, PartialEq, Eq)]
 pub enum Spec {
     /// AES in XTS mode, `aes-xts-plain64`: the IV is the sector's number.
     AesXtsPlain64,

@@ -1,6 +1,4 @@
 pub mod CellLemmas
-pub mod CallLemmas
-pub mod TableLemmas
 pub mod StepLemmas
-pub mod ImageLemmas
-pub mod ReplayLemmas
+pub mod DiskViews
+pub mod JoinedDisks

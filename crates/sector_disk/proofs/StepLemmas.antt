@@ -29,13 +29,14 @@ IsTried-tried (cell ∷ cells) (suc at) (value ∷ values) =
 
 -- a failed write that changes no current value and adds all candidates
 pub tried_call : (at : ℕ) (body : List ℕ) (old new : Device) (before : Told) (failed : Failed)
-    → new.size ≡ old.size → new.atoms ≡ old.atoms → new.values ≡ old.values
+    → new.size ≡ old.size → new.atoms ≡ old.atoms → new.tail ≡ old.tail → new.values ≡ old.values
     → old.told ≡ Some before → new.told ≡ Some (then_tried old.size before at body)
     → old.faults ≤ new.faults → Rose old.faults new.faults
     → WriteCall old.size at body old new (Err failed)
-tried_call at body old new before failed size atoms values was is later rose = record {
+tried_call at body old new before failed size atoms tail values was is later rose = record {
   size = size;
   atoms = atoms;
+  tail = tail;
   values = λ bytes told. (bytes, values ∙ told, record { before = refl; behind = refl });
   told = inr (rw (was, is) (moves _ before _ _ refl (IsTried-tried _ _ _)));
   goes_on = λ _ _. inl (rw is refl);

@@ -6,11 +6,13 @@ use Rattle.base_terms.specs.Causes.{HasCause}
 use Rattle.sector_disk.specs.Steps.{Told, remarked, TellsRead, TellsWrite, TellsSync}
 use Rattle.sector_disk.specs.Values.{Reads, Writes}
 
--- how many bytes an atom has and how many atoms there are; the current bytes and the tables after
--- each device call, where they are told; and how many calls failed
+-- how many bytes an atom has, how many atoms there are, and how many bytes lie behind the last whole
+-- one, which no call reaches; the current bytes and the tables after each device call, where they are
+-- told; and how many calls failed
 pub record Device : Type 0 where
   pub size : ℕ
   pub atoms : ℕ
+  pub tail : ℕ
   pub values : Option (List ℕ)
   pub told : Option Told
   pub faults : ℕ
@@ -34,6 +36,7 @@ pub record ReadCall (atom at : ℕ) (bytes : List ℕ) (old new : Device)
     (result : Result (Unit {0}) Failed) : Type 0 where
   pub size : new.size ≡ old.size
   pub atoms : new.atoms ≡ old.atoms
+  pub tail : new.tail ≡ old.tail
   pub values : new.values ≡ old.values
   pub content : Reads atom at old.values bytes result
   pub told : TellsRead old.told new.told result
@@ -45,6 +48,7 @@ pub record WriteCall (atom at : ℕ) (bytes : List ℕ) (old new : Device)
     (result : Result (Unit {0}) Failed) : Type 0 where
   pub size : new.size ≡ old.size
   pub atoms : new.atoms ≡ old.atoms
+  pub tail : new.tail ≡ old.tail
   pub values : Writes atom at bytes old.values new.values result
   pub told : TellsWrite atom at bytes old.told new.told result
   pub goes_on : GoesOn old new
@@ -54,6 +58,7 @@ pub record WriteCall (atom at : ℕ) (bytes : List ℕ) (old new : Device)
 pub record SyncCall (old new : Device) (result : Result (Unit {0}) Failed) : Type 0 where
   pub size : new.size ≡ old.size
   pub atoms : new.atoms ≡ old.atoms
+  pub tail : new.tail ≡ old.tail
   pub values : new.values ≡ old.values
   pub told : TellsSync old.told new.told result
   pub goes_on : GoesOn old new

@@ -1,13 +1,7 @@
-pub mod Calls
 pub mod Cells
 pub mod Devices
-pub mod EachCell
-pub mod Faults
 pub mod Geometry
-pub mod Images
-pub mod Mem
-pub mod MemLaws
-pub mod Notes
-pub mod RamLaws
 pub mod Steps
 pub mod Values
+pub mod DiskViews
+pub mod JoinedDisks

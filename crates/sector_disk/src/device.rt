@@ -11,8 +11,9 @@ use base_terms::Failed;
 /// A disk of atoms, which are read and written whole. Its device calls are `read`, `write` and
 /// `sync`. What it holds is told where it can be: a disk of a real file tells nothing.
 pub trait Disk {
-    /// What it shows: how many bytes an atom has and how many atoms there are; the current bytes
-    /// and the tables after each device call, where they are told; and how many calls failed.
+    /// What it shows: how many bytes an atom has, how many atoms there are, and how many bytes lie
+    /// behind the last whole one; the current bytes and the tables after each device call, where
+    /// they are told; and how many calls failed.
     ghost device: { Self → Device };
 
     /// How many bytes an atom has, 512 or 4096.
@@ -24,6 +25,10 @@ pub trait Disk {
     fn atoms(&self) -> u64
         ensures is { result ≡ (device self.now).atoms }
         ensures fits { result * (device self.now).size < 2 ^ 63 };
+
+    /// How many bytes lie behind the last whole atom. No call reaches them.
+    fn tail(&self) -> u64
+        ensures is { result ≡ (device self.now).tail };
 
     /// Reads whole atoms from atom `at` on. After a failure the buffer's content isn't to be used.
     fn read(&mut self, at: u64, buf: &mut [u8]) -> Result<(), Failed>

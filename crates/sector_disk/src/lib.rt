@@ -5,17 +5,15 @@
 //! what a real device may leave. A disk in memory tells these tables after each of its calls, so
 //! that the layers above can promise what stands after a stop at any moment; a disk of a real file
 //! tells nothing.
+//!
+//! `joined` makes one disk of a header's own disk and the main one. `views` says of runs of device
+//! calls what each atom holds, and what a stop may leave there.
 #![tactic(auto)]
 
-mod atom_values;
-mod call_record;
 mod device;
-mod images;
-mod mem_disk;
-mod ram_disk;
-mod replay;
+mod joined;
+mod views;
 
 pub use device::Disk;
-pub use images::Choice;
-pub use mem_disk::MemDisk;
-pub use ram_disk::RamDisk;
+pub use joined::JoinedDisk;
+pub use views::read_into;

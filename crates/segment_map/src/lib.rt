@@ -12,7 +12,7 @@ mod map;
 pub use map::{Map, Piece};
 
 /// The order in which blocks are converted.
-#[derive(Clone, Copy, Debug, PartialEq, Eq)]
+#[derive(Clone, Copy, PartialEq, Eq)]
 pub enum Direction {
     /// From the first block up: what is below the boundary is new.
     Forward,

@@ -4,13 +4,13 @@ ghost use Rattle.std.specs.Prelude.{◌+◌, ◌^◌, ◌<◌, ◌≤◌};
 ghost use Rattle.segment_map.specs.Sides.{left_of};
 
 use crate::{Direction, Side};
-use block_range::BlockRange;
+use base_terms::BlockRange;
 
 /// The bytes of the longest piece: 1 MiB.
 const MOST_BYTES: u32 = 1_048_576;
 
 /// Where the blocks of a volume lie. A block has the size of the disk's atom.
-#[derive(Clone, Copy, Debug, PartialEq, Eq)]
+#[derive(Clone, Copy, PartialEq, Eq)]
 pub struct Map {
     /// The bytes of a block, 1 MiB at most.
     pub atom: u32,
@@ -36,7 +36,7 @@ pub struct Map {
 }
 
 /// A run of blocks on one side.
-#[derive(Clone, Copy, Debug, PartialEq, Eq)]
+#[derive(Clone, Copy, PartialEq, Eq)]
 pub struct Piece {
     /// The first block.
     pub first: u64,

@@ -1,7 +1,7 @@
 -- Volumes that threads may share, by the sizes by which their headers are read.
 use Rattle.std.proofs.Common.{◌≡◌, IsSome, None, Option, Some, refl, subst, sym, false}
-use Rattle.disk_sizes.specs.declared.Sizes.{Sizes}
-use Rattle.lanes_beside.specs.Lanes.{BeginsBeside}
+use Rattle.base_terms.specs.declared.disk_sizes.Sizes.{Sizes}
+use Rattle.volume_laws.specs.BesideLanes.Lanes.{BeginsBeside}
 use Rattle.shared_volume.specs.Histories.{IsReadSo, MayBeShared}
 use Rattle.volume_machine.specs.States.{State}
 use Rattle.volume_machine.specs.Works.{Work}

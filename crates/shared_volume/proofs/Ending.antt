@@ -2,11 +2,11 @@
 use Rattle.std.proofs.Common.{All, subst, sym}
 use Rattle.std.proofs.Common.{◌≡◌, ◌≢◌, ℕ, suc, List, [], ◌∷◌, ◌++◌, length, refl, ap, ◌∙◌}
 use Rattle.std.proofs.lemmas.List.Elements.{All-cons, All-head, All-nil, All-tail}
-use Rattle.conversions_beside.proofs.Ending.{converted_now}
-use Rattle.conversions_beside.specs.Ends.{IsConvertedBeside, MayConvertBeside}
-use Rattle.disk_areas.specs.Headers.{Header, Layout}
-use Rattle.disk_sizes.specs.declared.Sizes.{Sizes}
-use Rattle.lanes_beside.specs.Lanes.{works_over}
+use Rattle.volume_laws.proofs.BesideConversions.Ending.{converted_now}
+use Rattle.volume_laws.specs.BesideConversions.Ends.{IsConvertedBeside, MayConvertBeside}
+use Rattle.crash_laws.specs.HeaderAreas.Headers.{Header, Layout}
+use Rattle.base_terms.specs.declared.disk_sizes.Sizes.{Sizes}
+use Rattle.volume_laws.specs.BesideLanes.Lanes.{works_over}
 use Rattle.reenc_worker.specs.Answers.{AreAnswers, GoesOn, ended, exhausted}
 use Rattle.reenc_worker.specs.declared.ends.WorkAnswer.{WorkAnswer}
 use Rattle.reenc_worker.specs.declared.ends.WorkAnswer.TheVariants.{Ended}
@@ -27,7 +27,7 @@ use Rattle.volume_machine.specs.States.{State}
 use Rattle.volume_machine.specs.WorkSteps.{Worked, awaits, clashes, faulted, finished, hindered}
 use Rattle.volume_machine.specs.WorkSteps.{no_memory, no_number, no_room, stepped, was_broken}
 use Rattle.volume_machine.specs.declared.keys.Keys.{Keys}
-use Rattle.worker_laws.specs.Steps.{told_by}
+use Rattle.volume_laws.specs.WorkerRuns.Steps.{told_by}
 use Rattle.zone_events.specs.Readings.{reading_of}
 
 -- the last of these calls was answered so, and all before it went on

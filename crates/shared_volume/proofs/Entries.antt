@@ -5,7 +5,7 @@ use Rattle.std.proofs.lemmas.Slice.Eq.{bytes_eq-Decides}
 use Rattle.lane_plan.specs.Calls.{event_of}
 use Rattle.lane_plan.specs.declared.calls.Call as Plans
 use Rattle.lane_plan.specs.declared.calls.Call.TheVariants as Calls
-use Rattle.lanes_beside.specs.Lanes.{call_in, calls_over, work_in, works_over}
+use Rattle.volume_laws.specs.BesideLanes.Lanes.{call_in, calls_over, work_in, works_over}
 use Rattle.shared_volume.specs.Histories.{IsDeedOf, IsEntryOf, Tells, event_by, lane_by, own_by}
 use Rattle.shared_volume.specs.Histories.{own_calls}
 use Rattle.shared_volume.specs.Serving.{work_by, works_in}

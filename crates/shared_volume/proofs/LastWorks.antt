@@ -1,6 +1,6 @@
 -- The worker's last step as one of the deeds.
 use Rattle.std.proofs.Common.{◌≡◌, ◌∙◌, ◌++◌, ◌∷◌, [], List, ap, refl}
-use Rattle.lanes_beside.specs.Lanes.{work_in, works_over}
+use Rattle.volume_laws.specs.BesideLanes.Lanes.{work_in, works_over}
 use Rattle.shared_volume.specs.Serving.{IsLastWork}
 use Rattle.volume_machine.specs.Deeds.{Act, Deed, client, worker}
 use Rattle.volume_machine.specs.WorkSteps.{Worked}

@@ -12,3 +12,4 @@ pub mod Serving
 pub mod WorkerTurns
 pub mod LastWorks
 pub mod Ending
+pub mod Sending

@@ -2,9 +2,9 @@
 use Rattle.std.proofs.Common.{◌≡◌, ◌≤◌, ℕ, suc, List, None, [], ◌∷◌, arith, inl, inr, length}
 use Rattle.std.proofs.Common.{sym, ap, ◌∙◌, subst, refl}
 use Rattle.std.proofs.lemmas.Bool.{cases_lt}
-use Rattle.lanes_beside.proofs.Beside.{are_alone_beside, no_calls}
-use Rattle.lanes_beside.proofs.RunsOf.{runs-of}
-use Rattle.lanes_beside.specs.Lanes.{AreOfClients, IsKept, answered_on, calls_over, deeds_of}
+use Rattle.volume_laws.proofs.BesideLanes.Beside.{are_alone_beside, no_calls}
+use Rattle.volume_laws.proofs.BesideLanes.RunsOf.{runs-of}
+use Rattle.volume_laws.specs.BesideLanes.Lanes.{AreOfClients, IsKept, answered_on, calls_over, deeds_of}
 use Rattle.shared_volume.specs.Histories.{StandsFor, Tells, own_calls}
 use Rattle.shared_volume.specs.Serving.{HasServedBeside, HasServedLanes, calls_on, works_in}
 use Rattle.shared_volume.specs.declared.asking.SharedEvent.{SharedEvent}

@@ -2,11 +2,11 @@
 use Rattle.std.proofs.Common.{◌≡◌, ◌<◌, ◌≤◌, ℕ, suc, List, [], ◌∷◌, ◌++◌, IsSome, length, refl, sym}
 use Rattle.std.proofs.Common.{ap}
 use Rattle.std.proofs.Common.{◌∙◌, subst}
-use Rattle.disk_sizes.specs.declared.Sizes.{Sizes}
+use Rattle.base_terms.specs.declared.disk_sizes.Sizes.{Sizes}
 use Rattle.lane_plan.specs.Calls.{outcome_of}
 use Rattle.lane_plan.specs.declared.calls.Answer.{Answer}
-use Rattle.lanes_beside.proofs.Beside.{are_alone_beside, event_more, next_meets_beside, work_more}
-use Rattle.lanes_beside.specs.Lanes.{AreAloneBeside, AreMade, Makes, alone_over, calls_over}
+use Rattle.volume_laws.proofs.BesideLanes.Beside.{are_alone_beside, event_more, next_meets_beside, work_more}
+use Rattle.volume_laws.specs.BesideLanes.Lanes.{AreAloneBeside, AreMade, Makes, alone_over, calls_over}
 use Rattle.shared_volume.specs.Calling.{IsAnswerOf}
 use Rattle.shared_volume.specs.Histories.{FitsLane, FitsWorker, IsReadSo, MayBeShared, StandsFor}
 use Rattle.shared_volume.specs.Histories.{Tells, alone_by, event_by, own_calls}
@@ -20,7 +20,7 @@ use Rattle.shared_volume.proofs.Beginning.{begins-so, some-reading}
 use Rattle.shared_volume.proofs.Entries.{lane-of, own-calls, tells-more}
 use Rattle.volume_cell.specs.declared.history.Entry.{Entry}
 use Rattle.volume_cell.specs.Histories.{calls_of, entry}
-use Rattle.joined_disk.specs.Counts.{HasSizes}
+use Rattle.sector_disk.specs.JoinedDisks.Counts.{HasSizes}
 use Rattle.sector_disk.specs.Devices.{Device}
 use Rattle.volume_core.specs.Zones.{IsReadBy, worked_of}
 use Rattle.volume_laws.proofs.CoursesKept.{course_same}
@@ -34,7 +34,7 @@ use Rattle.volume_machine.specs.Seals.{Seals}
 use Rattle.volume_machine.specs.States.{IsClient, State}
 use Rattle.volume_machine.specs.Steps.{Meets, Step}
 use Rattle.volume_machine.specs.WorkSteps.{WorkStep}
-use Rattle.volume_worker.specs.Telling.{converted_in}
+use Rattle.volume_core.specs.WorkerLoop.Telling.{converted_in}
 use Rattle.zone_events.specs.Readings.{reading_of}
 
 -- ---- one deed more
@@ -188,7 +188,7 @@ module _ {K : Type 0} (seals_now seals : Seals) (start now new : State K)
 -- a volume that threads may share stands for the empty history
 pub stands-first : {K : Type 0} (seals : Seals) (start : State K) → MayBeShared start
     → StandsFor seals start start []
-unfolding Tells AreMade state_after Rattle.lanes_beside.specs.Lanes.AreOfClients
+unfolding Tells AreMade state_after Rattle.volume_laws.specs.BesideLanes.Lanes.AreOfClients
     Rattle.volume_machine.specs.Alone.AreMet calls_over
 stands-first seals start shared = record {
   shared = shared;

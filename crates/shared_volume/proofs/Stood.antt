@@ -4,9 +4,9 @@ use Rattle.std.proofs.Common.{subst, arith, append-nil, append_assoc, ap₂}
 use Rattle.lane_plan.specs.Calls.{outcome_of}
 use Rattle.lane_plan.specs.declared.calls.Answer.{Answer}
 use Rattle.lane_plan.specs.declared.calls.Call as Plans
-use Rattle.lanes_beside.proofs.Beside.{are_alone_beside}
-use Rattle.lanes_beside.specs.Lanes.{AreMade, AreMetBeside, AreOfClients, Makes, alone_over}
-use Rattle.lanes_beside.specs.Lanes.{call_in, calls_over}
+use Rattle.volume_laws.proofs.BesideLanes.Beside.{are_alone_beside}
+use Rattle.volume_laws.specs.BesideLanes.Lanes.{AreMade, AreMetBeside, AreOfClients, Makes, alone_over}
+use Rattle.volume_laws.specs.BesideLanes.Lanes.{call_in, calls_over}
 use Rattle.shared_volume.specs.Histories.{IsDeedOf, IsEntryOf, StandsFor, Tells, alone_by, event_by}
 use Rattle.shared_volume.specs.Lanes.{MayBeAnswered, lane_call}
 use Rattle.shared_volume.specs.declared.asking.SharedEvent.{SharedEvent}

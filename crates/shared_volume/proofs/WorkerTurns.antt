@@ -3,7 +3,7 @@ use Rattle.std.proofs.Common.{◌≡◌, ℕ, suc, [], ◌∷◌, ◌++◌, Cont
 use Rattle.std.proofs.Common.{Some, append-nil, append_assoc, arith, length, refl, sym, ap, zero}
 use Rattle.std.proofs.Common.{◌∙◌, subst}
 use Rattle.hotzone.specs.declared.worker.ZoneFault.TheVariants as faults
-use Rattle.io_edge.specs.declared.gate.Converted.{Converted}
+use Rattle.gates.specs.declared.gate.Converted.{Converted}
 use Rattle.reenc_worker.specs.declared.ends.WorkAnswer.TheVariants.{Ended}
 use Rattle.reenc_worker.specs.declared.ends.WorkerEnd.TheVariants.{Spent}
 use Rattle.shared_volume.specs.Histories.{FitsWorker}
@@ -24,7 +24,7 @@ use Rattle.volume_core.specs.declared.answers.Worked.{Worked}
 use Rattle.volume_core.specs.declared.answers.Worked.TheVariants as answers
 use Rattle.volume_machine.specs.States.{State}
 use Rattle.volume_machine.specs.declared.keys.Keys.{Keys}
-use Rattle.worker_laws.specs.Steps.{told_by}
+use Rattle.volume_laws.specs.WorkerRuns.Steps.{told_by}
 
 -- ---- the pass of the worker
 -- the last lane's number is that of the worker of the volume with which a cell was made

@@ -1,9 +1,9 @@
 -- The history of a volume that threads share: who asked what, and the deeds that it is.
 use Rattle.std.specs.Prelude.{ℕ, suc, ◌≡◌, ◌<◌, List, [], ◌∷◌, ◌++◌, length, IsSome}
-use Rattle.disk_sizes.specs.declared.Sizes.{Sizes}
+use Rattle.base_terms.specs.declared.disk_sizes.Sizes.{Sizes}
 use Rattle.lane_plan.specs.Calls.{event_of, outcome_of}
 use Rattle.lane_plan.specs.declared.calls.Answer.{Answer}
-use Rattle.lanes_beside.specs.Lanes.{AreMade, AreMetBeside}
+use Rattle.volume_laws.specs.BesideLanes.Lanes.{AreMade, AreMetBeside}
 use Rattle.shared_volume.specs.Calling.{HasFront, IsAnswerOf}
 use Rattle.shared_volume.specs.declared.asking.SharedEvent.{SharedEvent}
 use Rattle.shared_volume.specs.declared.asking.SharedEvent.TheVariants as Events
@@ -22,7 +22,7 @@ use Rattle.volume_machine.specs.Events.{Event}
 use Rattle.volume_machine.specs.Seals.{Seals}
 use Rattle.volume_machine.specs.Sound.{IsSound}
 use Rattle.volume_machine.specs.States.{IsIdle, State}
-use Rattle.volume_worker.specs.Telling.{converted_in}
+use Rattle.volume_core.specs.WorkerLoop.Telling.{converted_in}
 use Rattle.zone_events.specs.Readings.{reading_of}
 
 -- ---- volumes that threads may share

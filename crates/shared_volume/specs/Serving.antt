@@ -1,7 +1,7 @@
 -- What a volume that threads share has answered in all: what is known once its cell is closed.
 use Rattle.std.specs.Prelude.{ℕ, suc, ◌≡◌, ◌++◌, List, [], ◌∷◌, All, length, IsSome}
-use Rattle.disk_sizes.specs.declared.Sizes.{Sizes}
-use Rattle.lanes_beside.specs.Lanes.{IsKept, answered_on, deeds_of, works_over}
+use Rattle.base_terms.specs.declared.disk_sizes.Sizes.{Sizes}
+use Rattle.volume_laws.specs.BesideLanes.Lanes.{IsKept, answered_on, deeds_of, works_over}
 use Rattle.reenc_worker.specs.Answers.{GoesOn}
 use Rattle.reenc_worker.specs.declared.ends.WorkAnswer.TheVariants.{Ended}
 use Rattle.reenc_worker.specs.declared.ends.WorkerEnd.{WorkerEnd}
@@ -24,7 +24,7 @@ use Rattle.volume_machine.specs.Runs.{Happening, IsRun, last_of, no_plain}
 use Rattle.volume_machine.specs.Seals.{Seals}
 use Rattle.volume_machine.specs.States.{IsClient, State, open_at}
 use Rattle.volume_machine.specs.WorkSteps.{Worked}
-use Rattle.worker_laws.specs.Steps.{told_by}
+use Rattle.volume_laws.specs.WorkerRuns.Steps.{told_by}
 use Rattle.zone_events.specs.Readings.{reading_of}
 
 -- the calls that were made on a lane, by the account under its number

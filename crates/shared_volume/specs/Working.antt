@@ -1,7 +1,7 @@
 -- The worker of a volume that threads share, by what its pass knows.
 use Rattle.std.specs.Prelude.{ℕ, suc, ◌≡◌, ◌≤◌, List, [], ◌∷◌, ◌++◌, Contains, length, IsSome}
 use Rattle.std.specs.Prelude.{IsSomeAnd}
-use Rattle.io_edge.specs.declared.gate.Converted.{Converted}
+use Rattle.gates.specs.declared.gate.Converted.{Converted}
 use Rattle.reenc_worker.specs.declared.ends.WorkAnswer.{WorkAnswer}
 use Rattle.reenc_worker.specs.declared.ends.WorkAnswer.TheVariants.{Ended}
 use Rattle.reenc_worker.specs.declared.ends.WorkerEnd.TheVariants.{Spent}
@@ -16,7 +16,7 @@ use Rattle.volume_cell.specs.Passes.{IsSamePass}
 use Rattle.volume_cell.specs.declared.history.Call.{Call}
 use Rattle.volume_core.specs.Zones.{worked_of}
 use Rattle.volume_machine.specs.States.{State}
-use Rattle.worker_laws.specs.Steps.{told_by}
+use Rattle.volume_laws.specs.WorkerRuns.Steps.{told_by}
 
 -- the last lane is of this number, on a volume that has its conversion's work
 pub record HasWorker {K : Type 0} (number : ℕ) (start : State K) : Type 0 where

@@ -3,7 +3,7 @@ use Rattle.std.specs.Prelude.{ℕ, ◌≡◌, ◌≤◌, List, [], ◌++◌, len
 use Rattle.std.proofs.Common.{append-nil, append_assoc, ap, inl, inr, length-append, refl, subst}
 use Rattle.std.proofs.Common.{sym, ◌∙◌, ◌∷◌, arith}
 use Rattle.std.proofs.lemmas.List.Elements.{Contains-append_cases}
-use Rattle.io_edge.specs.declared.gate.Converted.{Converted}
+use Rattle.gates.specs.declared.gate.Converted.{Converted}
 use Rattle.reenc_worker.specs.declared.ends.WorkAnswer.{WorkAnswer}
 use Rattle.reenc_worker.specs.declared.ends.WorkAnswer.TheVariants.{Ended}
 use Rattle.reenc_worker.specs.declared.ends.WorkerEnd.TheVariants.{Spent}

@@ -10,14 +10,14 @@ use sector_disk::Disk;
 use volume_core::{Admitted, Asked, PieceRead, PieceWritten, Settled, Volume};
 
 /// A call of a lane of clients, by the lane's number.
-#[derive(Debug, Drop)]
+#[derive(Drop)]
 pub struct LaneCall {
     pub lane: u32,
     pub call: Call,
 }
 
 /// What came of a call.
-#[derive(Debug, Drop)]
+#[derive(Drop)]
 pub enum Called {
     Answered(Answer),
     /// The history has as many entries as the cell can take: the call wasn't made.

@@ -10,7 +10,7 @@ use crate::lane::Lane;
 use crate::machine::SharedVolume;
 use crate::sharing::SharedCell;
 use base_terms::{Buffer, Bytes};
-use io_edge::{Gate, Place};
+use gates::{Gate, Place};
 use lane_plan::{Call, Next, Plan};
 use plain_disk::{Op, Reply};
 use sector_disk::Disk;
@@ -21,7 +21,7 @@ use std::thread::Threads;
 use volume_cell::Cell;
 
 /// What came of an operation.
-#[derive(Debug, Drop)]
+#[derive(Drop)]
 pub enum Executed {
     /// Its reply, and a buffer for another use.
     Replied(Reply, Bytes),

@@ -2,10 +2,10 @@
 //! nothing. A proof above cites it by its call.
 
 ghost use Rattle.std.specs.Prelude.{◌≡◌, ◌≢◌, ◌++◌, ℕ, suc, length, List, None};
-ghost use Rattle.conversions_beside.specs.Ends.{IsConvertedBeside, MayConvertBeside};
-ghost use Rattle.disk_areas.specs.Headers.{Header, Layout};
-ghost use Rattle.disk_sizes.specs.declared.Sizes.{Sizes};
-ghost use Rattle.lanes_beside.specs.Lanes.{works_over};
+ghost use Rattle.volume_laws.specs.BesideConversions.Ends.{IsConvertedBeside, MayConvertBeside};
+ghost use Rattle.crash_laws.specs.HeaderAreas.Headers.{Header, Layout};
+ghost use Rattle.base_terms.specs.declared.disk_sizes.Sizes.{Sizes};
+ghost use Rattle.volume_laws.specs.BesideLanes.Lanes.{works_over};
 ghost use Rattle.reenc_worker.specs.Answers.{AreAnswers};
 ghost use Rattle.reenc_worker.specs.declared.ends.WorkAnswer.{WorkAnswer};
 ghost use Rattle.reenc_worker.specs.declared.ends.WorkerEnd.{WorkerEnd};

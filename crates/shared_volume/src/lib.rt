@@ -18,6 +18,8 @@
 //!
 //! A lane that waits for blocks, and the worker where it does, sleeps outside the cell until blocks
 //! were left. That it wakes, and that it ever gets its blocks, is no promise.
+//!
+//! `sent_volumes` shows that volumes, zones and loaded headers may go to other threads.
 #![tactic(auto)]
 
 mod asking;
@@ -27,6 +29,7 @@ mod executing;
 mod lane;
 mod laws;
 mod machine;
+mod sent_volumes;
 mod sharing;
 mod worker;
 
@@ -39,5 +42,6 @@ pub use laws::{
     answers_join, shared_conversions_end, shared_volumes_serve_their_lanes, worker_ends_are_deeds,
 };
 pub use machine::SharedVolume;
+pub use sent_volumes::{headers_may_go, volumes_may_go, zones_may_go};
 pub use sharing::{SharedCell, Sharing, share};
 pub use worker::SharedWorker;

@@ -1,13 +1,13 @@
 // A volume as the machine of a cell.
 
 ghost use Rattle.std.specs.Prelude.{◌≡◌, [], IsSome};
-ghost use Rattle.disk_sizes.specs.declared.Sizes.{Sizes};
+ghost use Rattle.base_terms.specs.declared.disk_sizes.Sizes.{Sizes};
 ghost use Rattle.shared_volume.specs.Ciphers.{opened, sealed};
 ghost use Rattle.shared_volume.specs.Histories.{MayBeShared, StandsFor};
 ghost use Rattle.volume_core.specs.Zones.{IsReadBy, worked_of};
 ghost use Rattle.volume_machine.specs.Seals.{seals_of};
 ghost use Rattle.volume_machine.specs.WorkSteps.{WorkStep};
-ghost use Rattle.volume_worker.specs.Telling.{converted_in};
+ghost use Rattle.volume_core.specs.WorkerLoop.Telling.{converted_in};
 ghost use Rattle.zone_events.specs.Readings.{reading_of};
 
 use crate::asking::{SharedEvent, SharedOutcome, WorkDone};
@@ -19,16 +19,27 @@ use std::snapshot::Snapshot;
 use std::sync::Wait;
 use std::thread::Threads;
 use volume_cell::Machine;
-use volume_core::Volume;
-use volume_worker::converted_of;
+use volume_core::{Volume, converted_of};
 
 /// A volume, and for the proofs alone what it was when it was handed in. The steps of its worker
 /// take memory where this says.
-#[derive(Drop)]
 pub struct SharedVolume<D: Disk> {
     volume: Volume<D, Context>,
     opening: Snapshot<Volume<D, Context>>,
     alloc: Global,
+}
+
+// By hand, so that a value that is dropped in place is one call to the prover.
+impl<D: Disk + Drop> Drop for SharedVolume<D> {
+    fn drop(self) {
+        let SharedVolume {
+            volume,
+            opening,
+            alloc: _,
+        } = self;
+        drop(volume);
+        drop(opening);
+    }
 }
 
 impl<D: Disk> SharedVolume<D> {

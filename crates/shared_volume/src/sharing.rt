@@ -8,20 +8,19 @@ ghost use Rattle.shared_volume.specs.Lanes.{IsOn};
 ghost use Rattle.shared_volume.specs.Working.{HasWorker};
 ghost use Rattle.volume_cell.specs.Knowing.{beginning};
 ghost use Rattle.volume_cell.specs.Passes.{IsPassOf, known};
-ghost use Rattle.volume_worker.specs.Telling.{converted_in};
+ghost use Rattle.volume_core.specs.WorkerLoop.Telling.{converted_in};
 
 use crate::departures::Departures;
 use crate::machine::SharedVolume;
-use io_edge::Converted;
+use gates::Converted;
 use lane_plan::Shape;
 use sector_cipher::Context;
 use sector_disk::Disk;
 use segment_map::Map;
 use std::alloc::{AllocFailed, Global};
 use volume_cell::{Cell, Pass};
-use volume_core::Volume;
+use volume_core::{Volume, converted_of};
 use volume_machine::Keys;
-use volume_worker::converted_of;
 
 /// A volume in its cell, and where lanes and the worker wait for its blocks. All threads have it.
 #[derive(Drop)]

@@ -8,13 +8,13 @@ ghost use Rattle.volume_cell.specs.Passes.{IsPassOf, known};
 use crate::asking::{SharedEvent, SharedOutcome};
 use crate::machine::SharedVolume;
 use crate::sharing::SharedCell;
-use io_edge::Converted;
+use gates::Converted;
 use reenc_worker::{WorkAnswer, WorkerEnd, WorkerPort};
 use sector_disk::Disk;
 use std::sync::Wait;
 use std::thread::Threads;
 use volume_cell::Pass;
-use volume_worker::told;
+use volume_core::told;
 
 /// The worker of a volume that threads share: the pass by which it asks, whose name is the number
 /// of the last lane, and what its last call told. Each call makes one step of the conversion, an
@@ -22,7 +22,6 @@ use volume_worker::told;
 ///
 /// Where the last call had to wait for blocks, the next one sleeps first until some were left on a
 /// lane; it may wake for nothing, and asks then too. Where it leaves blocks it tells that they were.
-#[derive(Drop)]
 pub struct SharedWorker<'c, R: Threads + Wait + Sync, D: Disk> {
     pub rt: &'c R,
     pub shared: &'c SharedCell<D>,
@@ -32,6 +31,21 @@ pub struct SharedWorker<'c, R: Threads + Wait + Sync, D: Disk> {
     pub converted: Converted,
     /// Where the last call had to wait: how often blocks had been left before it.
     pub waits: Option<u64>,
+}
+
+// By hand, so that a value that is dropped in place is one call to the prover.
+impl<'c, R: Threads + Wait + Sync, D: Disk> Drop for SharedWorker<'c, R, D> {
+    fn drop(self) {
+        let SharedWorker {
+            rt: _,
+            shared: _,
+            pass,
+            number: _,
+            converted: _,
+            waits: _,
+        } = self;
+        drop(pass);
+    }
 }
 
 impl<'c, R: Threads + Wait + Sync, D: Disk> SharedWorker<'c, R, D> {
@@ -77,7 +91,14 @@ impl<'c, R: Threads + Wait + Sync, D: Disk> SharedWorker<'c, R, D> {
     pub fn into_pass(self) -> Pass<SharedVolume<D>>
         ensures { result ≡ self.entry.pass }
     {
-        let SharedWorker { pass, .. } = self;
+        let SharedWorker {
+            rt: _,
+            shared: _,
+            pass,
+            number: _,
+            converted: _,
+            waits: _,
+        } = self;
         pass
     }
 

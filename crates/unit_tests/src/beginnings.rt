@@ -4,12 +4,11 @@ ghost use Rattle.std.specs.Prelude.{◌≡◌};
 ghost use Rattle.luks_init.specs.Wishes.{IsWish};
 
 use crate::same::same;
-use base_terms::zeros;
-use disk_sizes::Sizes;
+use base_terms::{Sizes, zeros};
 use luks_init::{Begun, Guard, InitFault, Places, Wish, begin};
 use luks_json::{Cipher, Direction, Meta};
-use luks_keys::{drawn_len, split_drawn};
 use luks_rules::check;
+use luks_slots::{drawn_len, split_drawn};
 use std::alloc::{AllocError, Global};
 
 /// A volume whose segment begins at 16 MiB and goes to the disk's end, with a keyslot of another
@@ -48,6 +47,7 @@ fn wish(resilience: Guard) -> Wish
         direction: Direction::Forward,
         resilience,
         hotzone_size: 65536,
+        drop_keyslots: false,
     }
 }
 

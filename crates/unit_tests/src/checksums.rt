@@ -1,6 +1,6 @@
 use crate::same::same;
+use base_terms::Judged;
 use resil_checksum::{capacity, clash, judge, save, saved_len};
-use resil_terms::Judged;
 use sha2::{Digest, Sha256};
 use std::alloc::AllocError;
 

@@ -1,13 +1,14 @@
 ghost use Rattle.std.specs.Prelude.{◌≡◌, ◌+◌, ◌≤◌, length, IfSome};
 ghost use Rattle.luks_bin.specs.Copies.{holds_nul};
-ghost use Rattle.sector_disk.specs.Mem.{atom_of, atoms_of};
+ghost use Rattle.memory_disks.specs.Mem.{atom_of, atoms_of};
 
 use crate::headers::header;
 use crate::same::same;
 use base_terms::{Failed, zeros};
 use luks_bin::read_copy;
-use luks_copies::{Commit, CommitError, Repair};
-use sector_disk::{Disk, MemDisk};
+use luks_store::header_copies::{Commit, CommitError, Repair};
+use memory_disks::MemDisk;
+use sector_disk::Disk;
 use std::alloc::{AllocError, Global};
 use std::test::Fail;
 

@@ -1,10 +1,9 @@
 ghost use Rattle.std.specs.Prelude.{◌≡◌, IsTrue};
 
 use crate::same::same;
-use base_terms::Failed;
-use disk_sizes::Sizes;
-use joined_disk::JoinedDisk;
-use sector_disk::{Disk, MemDisk};
+use base_terms::{Failed, Sizes};
+use memory_disks::MemDisk;
+use sector_disk::{Disk, JoinedDisk};
 use std::alloc::{AllocError, Global};
 use std::test::Fail;
 

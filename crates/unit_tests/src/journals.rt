@@ -1,6 +1,6 @@
 use crate::same::same;
+use base_terms::Judged;
 use resil_journal::{capacity, judge, save, saved_len};
-use resil_terms::Judged;
 
 #[test]
 fn a_zone_has_a_block_for_each_whole_atom(rt: HostRuntime) {

@@ -7,7 +7,10 @@
 //! - `bytes`: base_terms, bytes that are made, put in place and used again.
 //! - `cells`: volume_cell, turns of one thread, of two passes and of many threads.
 //! - `checksums`: resil_checksum, digests beside another implementation's.
+//! - `ciphers`: aes_core, the vectors and the S-box of the cipher's standard.
 //! - `copies`: luks_copies, commits and repairs on a disk, each call failing in turn.
+//! - `edges`: file_disk and host_edge, over a file and a network that refuse.
+//! - `courses`: host_edge, what people are told of a conversion on its way, and when.
 //! - `formats`: luks_format, a new volume's header beside another implementation's.
 //! - `headers`: luks_bin, copies that are written, changed and read, also one by cryptsetup.
 //! - `joining`: joined_disk, calls over the seam, each of either disk's failing in turn.
@@ -21,6 +24,7 @@
 //! - `seeds`: seed_stream, the test vectors of the cipher's standard.
 //! - `serving`: block_server, one session over one link.
 //! - `sessions`: nbd_session, whole sessions by a table, in `sessions/`, and one cut at each byte.
+//! - `streams`: io_edge, streams of the system that fail in mid-stream.
 //! - `workers`: reenc_worker, each end of a conversion behind calls that went on.
 //!
 //! What a file keeps to itself is tested in its own crate. `same` has what all of them assert.
@@ -35,7 +39,13 @@ mod cells;
 #[cfg(test)]
 mod checksums;
 #[cfg(test)]
+mod ciphers;
+#[cfg(test)]
 mod copies;
+#[cfg(test)]
+mod courses;
+#[cfg(test)]
+mod edges;
 #[cfg(test)]
 mod formats;
 #[cfg(test)]
@@ -64,5 +74,7 @@ mod seeds;
 mod serving;
 #[cfg(test)]
 mod sessions;
+#[cfg(test)]
+mod streams;
 #[cfg(test)]
 mod workers;

@@ -1,5 +1,5 @@
 use crate::same::same;
-use block_range::BlockRange;
+use base_terms::BlockRange;
 use range_lock::{Kind, Standing, Table};
 use std::test::Fail;
 

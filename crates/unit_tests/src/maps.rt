@@ -1,7 +1,7 @@
 ghost use Rattle.std.specs.Prelude.{◌<◌, ◌≤◌};
 
 use crate::same::same;
-use block_range::BlockRange;
+use base_terms::BlockRange;
 use segment_map::{Direction, Map, Piece, Side};
 
 // Eight blocks of 512 bytes, of which the last four are the zone or old, or the first four are:

@@ -2,7 +2,7 @@ ghost use Rattle.reenc_meta.specs.Placements.{all_atoms};
 ghost use Rattle.sector_disk.specs.Geometry.{IsDisk};
 
 use crate::same::same;
-use disk_sizes::Sizes;
+use base_terms::Sizes;
 use luks_json::Meta;
 use luks_rules::check;
 use reenc_meta::place_idle;

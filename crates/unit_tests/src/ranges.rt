@@ -1,5 +1,5 @@
 use crate::same::same;
-use block_range::BlockRange;
+use base_terms::BlockRange;
 
 fn blocks(start: u64, end: u64) -> BlockRange {
     BlockRange { start, end }

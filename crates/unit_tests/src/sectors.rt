@@ -1,5 +1,5 @@
 use crate::same::same;
-use cipher_blocks::{block_at, number_block, put_block, xor};
+use cipher_laws::{block_at, number_block, put_block, xor};
 
 #[test]
 fn a_block_goes_out_and_back(rt: HostRuntime) {

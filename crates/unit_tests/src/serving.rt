@@ -1,9 +1,10 @@
 use crate::same::same;
-use bays::{Bay, MemBay, MemLink};
+use bays::{Bay, Manner, MemBay, MemLink};
 use block_server::{Served, Standing, serve};
-use io_edge::{ListSink, ListSource, OpenGate};
+use gates::OpenGate;
+use io_edge::{ListSink, ListSource};
+use memory_disks::RamDisk;
 use nbd_session::{Ending, SessionEnd};
-use sector_disk::RamDisk;
 use std::alloc::{AllocError, Global};
 use std::sync::Wait;
 use std::test::Fail;
@@ -58,7 +59,7 @@ fn serve_one<R: AllocGlobal + Threads + Wait + Sync>(
 ) -> Result<Served<RamDisk, MemLink>, Fail> {
     let alloc = rt.alloc();
     let mut bay = make_bay(alloc)?;
-    let Ok(links) = bay.links(alloc, "a", 1, 1) else {
+    let Ok(links) = bay.links(alloc, "a", 1, 1, Manner::QUIET) else {
         return Err(Fail::new("no links"));
     };
     let Ok(volume) = Volume::plain(alloc, RamDisk::new(alloc, 512, 8)?, 2) else {

@@ -1,5 +1,5 @@
 use crate::same::same;
-use io_edge::{Converted, OpenGate};
+use gates::{Converted, OpenGate};
 use reenc_worker::{NoFit, WorkAnswer, WorkerEnd, WorkerPort, work_loop};
 use std::sync::Wait;
 use std::test::Fail;

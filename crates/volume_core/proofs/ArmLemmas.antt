@@ -1,14 +1,15 @@
 -- A volume that gets what its conversion needs: the map of its header is its own, and the zone that
 -- begins then leads it.
-use Rattle.volume_machine.proofs.Common
-use Common.{Bool, List, None, Option, Some, ap, arith, false, if◌then◌else◌, inl, length, refl, subst}
-use Common.{suc, sym, true, zero, ℕ, ◌*◌, ◌<◌, ◌∙◌, ◌≡◌, ◌≤◌, IsSound, Map, State}
-use Common.{open_at}
-use Rattle.disk_sizes.specs.declared.Sizes.{Sizes}
+use Rattle.std.proofs.Common.{Bool, List, None, Option, Some, ap, arith, false, if◌then◌else◌, inl}
+use Rattle.std.proofs.Common.{length, refl, subst, suc, sym, true, zero, ℕ, ◌*◌, ◌<◌, ◌∙◌, ◌≡◌, ◌≤◌}
+use Rattle.segment_map.specs.declared.map.Map.{Map}
+use Rattle.volume_machine.specs.Sound.{IsSound}
+use Rattle.volume_machine.specs.States.{State, open_at}
+use Rattle.base_terms.specs.declared.disk_sizes.Sizes.{Sizes}
 use Rattle.hotzone.specs.Promises.{seals_in}
 use Rattle.hotzone.specs.Workers.{HasKeys, IsNew, MapsFit, first_call}
 use Rattle.hotzone.specs.declared.worker.Worker.{Worker}
-use Rattle.joined_disk.specs.Counts.{HasSizes}
+use Rattle.sector_disk.specs.JoinedDisks.Counts.{HasSizes}
 use Rattle.luks_json.specs.declared.meta.Parts.{Parts}
 use Rattle.luks_rules.specs.declared.shape.Progress.{Progress}
 use Rattle.luks_store.specs.Devices.{header_room}

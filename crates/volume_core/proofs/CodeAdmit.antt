@@ -1,8 +1,13 @@
 -- The steps of an admit.
-use Rattle.volume_machine.proofs.Common
-use Common.{Bool, MatchBool, None, Option, Some, ap, false, refl, sym, true, ℕ, ◌∙◌, ◌≡◌}
-use Common.{IsStanding, Standing, Held, entry_of, has_lock, range_of, wrong_ask, Outcome, admits}
-use Common.{refused, State, begun, size_of, Goes, IsAdmitted, IsReadyFor, TellsStanding, Step}
+use Rattle.std.proofs.Common.{Bool, MatchBool, None, Option, Some, ap, false, refl, sym, true, ℕ}
+use Rattle.std.proofs.Common.{◌∙◌, ◌≡◌}
+use Rattle.range_lock.specs.Locks.{IsStanding}
+use Rattle.range_lock.specs.declared.Standing.{Standing}
+use Rattle.range_lock.specs.declared.Standing.TheVariants.{Held}
+use Rattle.volume_machine.specs.Asks.{entry_of, has_lock, range_of, wrong_ask}
+use Rattle.volume_machine.specs.Events.{Outcome, admits, refused}
+use Rattle.volume_machine.specs.States.{State, begun, size_of}
+use Rattle.volume_machine.specs.Steps.{Goes, IsAdmitted, IsReadyFor, TellsStanding, Step}
 use Rattle.volume_machine.specs.declared.{ask.Ask.Ask, open.Open.Open}
 use Rattle.volume_core.specs.Calls.{Locks}
 use Rattle.volume_core.proofs.CodeSteps.{goes-to}

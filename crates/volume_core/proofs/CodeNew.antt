@@ -1,9 +1,15 @@
 -- A volume that has begun is sound.
-use Rattle.volume_machine.proofs.Common
-use Common.{List, None, Option, [], ap, false, length, refl, replicate, slice_get, subst, suc, sym}
-use Common.{zero, ℕ, ◌^◌}
-use Common.{◌++◌, ◌-◌, ◌<◌, ◌∙◌, ◌≡◌, ◌≢◌, length-replicate, sides, Side, New, Old, Zone, Map}
-use Common.{known_side, side_in, KeysFit, IsSound, MapFits, open_at, count_locks}
+use Rattle.std.proofs.Common.{List, None, Option, [], ap, false, length, refl, replicate, slice_get}
+use Rattle.std.proofs.Common.{subst, suc, sym, zero, ℕ, ◌^◌, ◌++◌, ◌-◌, ◌<◌, ◌∙◌, ◌≡◌, ◌≢◌}
+use Rattle.std.proofs.lemmas.List.{length-replicate}
+use Rattle.segment_map.specs.Sides.{sides}
+use Rattle.segment_map.specs.declared.Side.{Side}
+use Rattle.segment_map.specs.declared.Side.TheVariants.{New, Old, Zone}
+use Rattle.segment_map.specs.declared.map.Map.{Map}
+use Rattle.volume_machine.specs.Pieces.{known_side, side_in}
+use Rattle.volume_machine.specs.Seals.{KeysFit}
+use Rattle.volume_machine.specs.Sound.{IsSound, MapFits, count_locks}
+use Rattle.volume_machine.specs.States.{open_at}
 use Rattle.sector_disk.specs.Devices.{Device}
 use Rattle.range_lock.specs.Locks.{Locks}
 use Rattle.segment_map.specs.declared.Direction.{Direction}

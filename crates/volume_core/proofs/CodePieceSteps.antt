@@ -1,9 +1,14 @@
 -- What the calls on a piece find, and the steps that they are.
-use Rattle.volume_machine.proofs.Common
-use Common.{List, Some, ap, arith, length, length-take-le, subst, take, ℕ, ◌||◌, ◌≡◌, ◌≤◌, Map}
-use Common.{Piece, is_fault, Outcome, broken, device, done, got, reads, settles, writes}
-use Common.{ArePieceBytes, IsPieceOf, rest_of, size_of_piece, State, open_at, CanRead, CanWrite}
-use Common.{Goes, Meets, ReadStep, SettleStep, WriteStep, after_settle, Can, Step}
+use Rattle.std.proofs.Common.{List, Some, ap, arith, length, length-take-le, subst, take, ℕ, ◌||◌}
+use Rattle.std.proofs.Common.{◌≡◌, ◌≤◌}
+use Rattle.segment_map.specs.declared.map.Map.{Map}
+use Rattle.segment_map.specs.declared.map.Piece.{Piece}
+use Rattle.volume_machine.specs.Effects.{is_fault}
+use Rattle.volume_machine.specs.Events.{Outcome, broken, device, done, got, reads, settles, writes}
+use Rattle.volume_machine.specs.Pieces.{ArePieceBytes, IsPieceOf, rest_of, size_of_piece}
+use Rattle.volume_machine.specs.States.{State, open_at}
+use Rattle.volume_machine.specs.Steps.{CanRead, CanWrite, Goes, Meets, ReadStep, SettleStep}
+use Rattle.volume_machine.specs.Steps.{WriteStep, after_settle, Can, Step}
 use Rattle.volume_machine.specs.declared.open.Open.{Open}
 use Rattle.volume_machine.proofs.NextPieces.{next_is_one}
 use Rattle.volume_core.specs.Calls.{Reads, Syncs, Writes}

@@ -1,18 +1,24 @@
 -- What the calls on a volume find before they do a step, and what a step leaves.
-use Rattle.volume_machine.proofs.Common.{before_first, Bool, List, None, Option, Some, [], arith}
-use Rattle.volume_machine.proofs.Common.{false, length, refl, subst, suc, sym, true, zero, ℕ}
-use Rattle.volume_machine.proofs.Common.{◌<◌, ◌∙◌, ◌∷◌, ◌||◌}
-use Rattle.volume_machine.proofs.Common.{◌≡◌, ◌≤◌, All-contains, Conflicts, IsStandingOf, has_entry}
-use Rattle.volume_machine.proofs.Common.{is_of, Entry, Held, entry_of, has_lock, Event, Outcome}
-use Rattle.volume_machine.proofs.Common.{IsSound, State, open_at, Goes, Meets, Step}
+use Rattle.std.proofs.Common.{Bool, List, None, Option, Some, [], arith, false, length, refl, subst}
+use Rattle.std.proofs.Common.{suc, sym, true, zero, ℕ, ◌<◌, ◌∙◌, ◌∷◌, ◌||◌, ◌≡◌, ◌≤◌}
+use Rattle.std.proofs.lemmas.List.Elements.{All-contains}
+use Rattle.std.specs.List.{before_first}
+use Rattle.range_lock.specs.Locks.{Conflicts, IsStandingOf, has_entry, is_of}
+use Rattle.range_lock.specs.declared.Entry.{Entry}
+use Rattle.range_lock.specs.declared.Standing.TheVariants.{Held}
+use Rattle.volume_machine.specs.Asks.{entry_of, has_lock}
+use Rattle.volume_machine.specs.Events.{Event, Outcome}
+use Rattle.volume_machine.specs.Sound.{IsSound}
+use Rattle.volume_machine.specs.States.{State, open_at}
+use Rattle.volume_machine.specs.Steps.{Goes, Meets, Step}
 use Rattle.range_lock.specs.declared.Standing.TheVariants.{Waiting}
 use Rattle.volume_machine.specs.declared.{keys.Keys.Keys, open.Open.Open}
 use Rattle.volume_machine.proofs.Soundness.{free-room, has-entry, lacks-entry, sound_kept}
 use Rattle.volume_machine.proofs.{EventEffects.event_effects, Locking.holds-by}
 use Rattle.std.specs.Prelude.{IfSome}
-use Rattle.disk_sizes.specs.declared.Sizes.{Sizes}
+use Rattle.base_terms.specs.declared.disk_sizes.Sizes.{Sizes}
 use Rattle.hotzone.specs.declared.worker.Worker.{Worker}
-use Rattle.joined_disk.specs.Counts.{HasSizes}
+use Rattle.sector_disk.specs.JoinedDisks.Counts.{HasSizes}
 use Rattle.sector_disk.specs.Devices.{Device}
 use Rattle.volume_core.specs.Volumes.{IsVolume}
 use Rattle.volume_core.specs.Zones.{FitsZone, IsLed}

@@ -10,3 +10,4 @@ pub mod ZoneLeaves
 pub mod ZoneGoes
 pub mod ZoneWorks
 pub mod ArmLemmas
+pub mod WorkerLoop

@@ -1,10 +1,15 @@
 -- What the worker asks for, and what its lane has and leaves.
-use Rattle.volume_machine.proofs.Common
-use Common.{Bool, List, MatchBool, None, Option, Some, ap, arith, false, length, refl, subst}
-use Common.{sym, true, ℕ, ◌*◌, ◌+◌, ◌<◌, ◌∙◌, ◌≡◌, ◌≤◌}
-use Common.{mul-div_cancel, mul-le-mul_right, mul-mod_left, BlockRange, Entry, has_entry}
-use Common.{inl, inr, ◌⊎◌, range_of, without, wrong_ask, IsSound, State, open_at}
-use Rattle.block_range.specs.Blocks.{len_of}
+use Rattle.std.proofs.Common.{Bool, List, MatchBool, None, Option, Some, ap, arith, false, length}
+use Rattle.std.proofs.Common.{refl, subst, sym, true, ℕ, ◌*◌, ◌+◌, ◌<◌, ◌∙◌, ◌≡◌, ◌≤◌}
+use Rattle.std.proofs.Common.{mul-le-mul_right, inl, inr, ◌⊎◌}
+use Rattle.std.proofs.Math.Nat.{mul-div_cancel, mul-mod_left}
+use Rattle.base_terms.specs.declared.block_range.BlockRange.{BlockRange}
+use Rattle.range_lock.specs.Locks.{has_entry, without}
+use Rattle.range_lock.specs.declared.Entry.{Entry}
+use Rattle.volume_machine.specs.Asks.{range_of, wrong_ask}
+use Rattle.volume_machine.specs.Sound.{IsSound}
+use Rattle.volume_machine.specs.States.{State, open_at}
+use Rattle.base_terms.specs.Ranges.Blocks.{len_of}
 use Rattle.std.proofs.lemmas.Bool.{le-ltb}
 use Rattle.volume_core.proofs.CodeSteps.{locked-entry}
 use Rattle.volume_core.specs.Turns.{HasLeft, taken, write_on}

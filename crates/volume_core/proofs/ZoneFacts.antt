@@ -1,13 +1,17 @@
 -- A zone and the volume that it leads, between two steps: which call comes next, and what the last
 -- lane has then.
-use Rattle.volume_machine.proofs.Common
-use Common.{Bool, List, None, Some, ap, arith, false, if◌then◌else◌, inl, inr, length, refl}
-use Common.{subst, suc, sym, true, ℕ, ◌==◌, ◌<◌, ◌∙◌, ◌≡◌, ◌≢◌, BlockRange, Map, New, State}
-use Common.{Held, IsStandingOf, open_at}
+use Rattle.std.proofs.Common.{Bool, List, None, Some, ap, arith, false, if◌then◌else◌, inl, inr}
+use Rattle.std.proofs.Common.{length, refl, subst, suc, sym, true, ℕ, ◌==◌, ◌<◌, ◌∙◌, ◌≡◌, ◌≢◌}
+use Rattle.base_terms.specs.declared.block_range.BlockRange.{BlockRange}
+use Rattle.range_lock.specs.Locks.{IsStandingOf}
+use Rattle.range_lock.specs.declared.Standing.TheVariants.{Held}
+use Rattle.segment_map.specs.declared.Side.TheVariants.{New}
+use Rattle.segment_map.specs.declared.map.Map.{Map}
+use Rattle.volume_machine.specs.States.{State, open_at}
 use Rattle.range_lock.specs.declared.Standing.TheVariants.{Waiting}
 use Rattle.std.proofs.lemmas.Bool.{eqb-false, eqb-true, ne_eqb}
 use Rattle.cipher_laws.specs.Bytes.{AreBytes}
-use Rattle.disk_areas.specs.Headers.{Layout}
+use Rattle.crash_laws.specs.HeaderAreas.Headers.{Layout}
 use Rattle.hotzone.specs.Known.{IsAtHand, header_by}
 use Rattle.hotzone.specs.Promises.{seals_in}
 use Rattle.hotzone.specs.Sites.{count_of}
@@ -21,7 +25,7 @@ use Rattle.hotzone.specs.declared.worker.NextCall.TheVariants.{Save, Keep, Open,
 use Rattle.hotzone.specs.declared.worker.NextCall.TheVariants.{Settle, Move, Finish, End, Wipe, Rest}
 use Rattle.hotzone.specs.declared.worker.NextCall.TheVariants.{Over}
 use Rattle.hotzone.specs.declared.worker.Worker.{Worker}
-use Rattle.joined_disk.specs.Counts.{HasSizes}
+use Rattle.sector_disk.specs.JoinedDisks.Counts.{HasSizes}
 use Rattle.sector_disk.specs.Devices.{Device}
 use Rattle.volume_core.proofs.CodeSteps.{waits-unheld}
 use Rattle.volume_core.proofs.WorkerLanes.{has-one}

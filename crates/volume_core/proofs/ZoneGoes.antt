@@ -1,9 +1,12 @@
 -- A step of a zone, made or not, is a step of the volume's worker, and the zone leads the volume
 -- behind it.
-use Rattle.volume_machine.proofs.Common
-use Common.{Bool, List, None, Option, Some, ap, arith, false, if◌then◌else◌, inl, inr, length, refl}
-use Common.{subst, suc, sym, true, ℕ, ◌==◌, ◌<◌, ◌∙◌, ◌≡◌, ◌≤◌, ◌⊎◌, Map, New, State}
-use Common.{open_at, side_in}
+use Rattle.std.proofs.Common.{Bool, List, None, Option, Some, ap, arith, false, if◌then◌else◌, inl}
+use Rattle.std.proofs.Common.{inr, length, refl, subst, suc, sym, true, ℕ, ◌==◌, ◌<◌, ◌∙◌, ◌≡◌, ◌≤◌}
+use Rattle.std.proofs.Common.{◌⊎◌}
+use Rattle.segment_map.specs.declared.Side.TheVariants.{New}
+use Rattle.segment_map.specs.declared.map.Map.{Map}
+use Rattle.volume_machine.specs.Pieces.{side_in}
+use Rattle.volume_machine.specs.States.{State, open_at}
 use Rattle.std.specs.Prelude.{Err, Ok}
 use Rattle.hotzone.specs.Promises.{seals_in}
 use Rattle.hotzone.specs.Sites.{count_of}
@@ -18,8 +21,8 @@ use Rattle.hotzone.specs.declared.worker.NextCall.TheVariants.{Finish, Wipe, Res
 use Rattle.hotzone.specs.declared.worker.Stepped.{Stepped}
 use Rattle.hotzone.specs.declared.worker.Worker.{Worker}
 use Rattle.hotzone.specs.declared.worker.ZoneFault.{ZoneFault}
-use Rattle.disk_sizes.specs.declared.Sizes.{Sizes}
-use Rattle.joined_disk.specs.Counts.{HasSizes}
+use Rattle.base_terms.specs.declared.disk_sizes.Sizes.{Sizes}
+use Rattle.sector_disk.specs.JoinedDisks.Counts.{HasSizes}
 use Rattle.volume_core.proofs.CodeSteps.{free-entry}
 use Rattle.volume_core.proofs.WorkerLanes.{free-left}
 use Rattle.volume_core.proofs.ZoneFacts.{IsAt, ended-lane, finish-rests, given-up-work, held-range}

@@ -1,7 +1,8 @@
 -- A volume's worker leaves blocks, or has nothing left to do.
-use Rattle.volume_machine.proofs.Common
-use Common.{Bool, List, None, Option, Some, arith, false, refl, subst, suc, sym, true, ℕ, ◌∙◌, ◌≡◌, ◌≢◌}
-use Common.{State, length, open_at, without}
+use Rattle.std.proofs.Common.{Bool, List, None, Option, Some, arith, false, refl, subst, suc, sym}
+use Rattle.std.proofs.Common.{true, ℕ, ◌∙◌, ◌≡◌, ◌≢◌, length}
+use Rattle.range_lock.specs.Locks.{without}
+use Rattle.volume_machine.specs.States.{State, open_at}
 use Rattle.hotzone.specs.Known.{header_by}
 use Rattle.hotzone.specs.Promises.{seals_in}
 use Rattle.hotzone.specs.Workers.{IsDone, range_in}

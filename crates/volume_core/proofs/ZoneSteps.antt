@@ -1,10 +1,14 @@
 -- What a volume's worker does with its lane and its zone is a step of the volume's machine, and the
 -- zone leads the volume behind it.
-use Rattle.volume_machine.proofs.Common
-use Common.{List, None, Some, [], ap, arith, false, inl, inr, length, refl, subst, suc}
-use Common.{sym, true, ℕ, ◌*◌, ◌++◌, ◌<◌, ◌^◌, mul-le-mul_right, ◌∙◌, ◌∷◌, ◌≡◌, ◌≤◌, BlockRange, Held}
-use Common.{IsStanding, IsStandingOf, Outcome, State, open_at}
-use Common.{entry_of, has_entry, range_of}
+use Rattle.std.proofs.Common.{List, None, Some, [], ap, arith, false, inl, inr, length, refl, subst}
+use Rattle.std.proofs.Common.{suc, sym, true, ℕ, ◌*◌, ◌++◌, ◌<◌, ◌^◌, mul-le-mul_right, ◌∙◌, ◌∷◌}
+use Rattle.std.proofs.Common.{◌≡◌, ◌≤◌}
+use Rattle.base_terms.specs.declared.block_range.BlockRange.{BlockRange}
+use Rattle.range_lock.specs.Locks.{IsStanding, IsStandingOf, has_entry}
+use Rattle.range_lock.specs.declared.Standing.TheVariants.{Held}
+use Rattle.volume_machine.specs.Asks.{entry_of, range_of}
+use Rattle.volume_machine.specs.Events.{Outcome}
+use Rattle.volume_machine.specs.States.{State, open_at}
 use Rattle.hotzone.specs.Promises.{seals_in}
 use Rattle.hotzone.specs.Sites.{count_of}
 use Rattle.hotzone.specs.Workers.{range_in}

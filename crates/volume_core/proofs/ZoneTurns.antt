@@ -1,7 +1,7 @@
 -- What follows a step of a zone: the next call, and how a step that isn't made, or fails, leaves it.
-use Rattle.volume_machine.proofs.Common
-use Common.{Some, ap, if◌then◌else◌, inl, inr, subst, sym, ℕ, ◌+◌, ◌==◌, ◌∙◌, ◌≡◌}
-use Common.{◌⊎◌, Map}
+use Rattle.std.proofs.Common.{Some, ap, if◌then◌else◌, inl, inr, subst, sym, ℕ, ◌+◌, ◌==◌, ◌∙◌, ◌≡◌}
+use Rattle.std.proofs.Common.{◌⊎◌}
+use Rattle.segment_map.specs.declared.map.Map.{Map}
 use Rattle.hotzone.specs.Endings.{after_wipe}
 use Rattle.hotzone.specs.Known.{IsAtHand}
 use Rattle.hotzone.specs.Sites.{count_of, part_at}

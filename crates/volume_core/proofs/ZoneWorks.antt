@@ -1,11 +1,13 @@
 -- All that a volume's worker does in one call is a step of the volume's machine, and leaves a volume
 -- that its zone leads.
-use Rattle.volume_machine.proofs.Common
-use Common.{List, None, Option, Some, ap, false, length, refl, subst, suc, sym, ℕ, ◌∙◌, ◌≡◌}
-use Common.{true, ◌≢◌, BlockRange, IsStandingOf, State, open_at}
+use Rattle.std.proofs.Common.{List, None, Option, Some, ap, false, length, refl, subst, suc, sym, ℕ}
+use Rattle.std.proofs.Common.{◌∙◌, ◌≡◌, true, ◌≢◌}
+use Rattle.base_terms.specs.declared.block_range.BlockRange.{BlockRange}
+use Rattle.range_lock.specs.Locks.{IsStandingOf}
+use Rattle.volume_machine.specs.States.{State, open_at}
 use Rattle.std.specs.Prelude.{Err, Ok}
 use Rattle.cipher_laws.specs.Bytes.{AreBytes}
-use Rattle.disk_sizes.specs.declared.Sizes.{Sizes}
+use Rattle.base_terms.specs.declared.disk_sizes.Sizes.{Sizes}
 use Rattle.hotzone.specs.Promises.{seals_in}
 use Rattle.hotzone.specs.Steps.{Goes as StepGoes, Stops}
 use Rattle.hotzone.specs.Workers.{IsDone, IsWorking, range_in}
@@ -17,7 +19,7 @@ use Rattle.luks_rules.specs.States.{IsSound as IsRuled}
 use Rattle.luks_store.specs.Loads.{IsStored}
 use Rattle.range_lock.specs.Locks.{Locks}
 use Rattle.range_lock.specs.declared.Standing.TheVariants.{Waiting}
-use Rattle.joined_disk.specs.Counts.{HasSizes}
+use Rattle.sector_disk.specs.JoinedDisks.Counts.{HasSizes}
 use Rattle.volume_core.proofs.ZoneFacts.{IsAt, at-renewed, runs-renewed}
 use Rattle.volume_core.proofs.ZoneGoes.{goes-kept, goes-step, stops-kept, stops-step}
 use Rattle.volume_core.proofs.ZoneLeaves.{broken-step, ends-step, leaves-kept, leaves-step}

@@ -3,3 +3,4 @@ pub mod Calls
 pub mod Volumes
 pub mod Zones
 pub mod Turns
+pub mod WorkerLoop

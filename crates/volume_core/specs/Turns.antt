@@ -2,8 +2,8 @@
 use Rattle.std.specs.Prelude.{ℕ, ◌≡◌, ◌≢◌, ◌*◌, ◌++◌, ◌∷◌, [], ◌⊎◌, true, false, Bool, List, Option}
 use Rattle.std.specs.Prelude.{Some, None}
 use Rattle.std.specs.Bool.{MatchBool}
-use Rattle.block_range.specs.Blocks.{len_of}
-use Rattle.block_range.specs.declared.BlockRange.{BlockRange}
+use Rattle.base_terms.specs.Ranges.Blocks.{len_of}
+use Rattle.base_terms.specs.declared.block_range.BlockRange.{BlockRange}
 use Rattle.hotzone.specs.Promises.{seals_in}
 use Rattle.hotzone.specs.Steps.{Goes as StepGoes, Stops}
 use Rattle.hotzone.specs.Workers.{IsDone, IsMapNow, first_call, range_in}
@@ -12,7 +12,7 @@ use Rattle.hotzone.specs.declared.worker.Halt.TheVariants.{GivenUp}
 use Rattle.hotzone.specs.declared.worker.Stepped.{Stepped}
 use Rattle.hotzone.specs.declared.worker.Worker.{Worker}
 use Rattle.hotzone.specs.declared.worker.ZoneFault.{ZoneFault}
-use Rattle.joined_disk.specs.Counts.{HasSizes}
+use Rattle.sector_disk.specs.JoinedDisks.Counts.{HasSizes}
 use Rattle.range_lock.specs.Locks.{IsStanding, IsStandingOf, Locks, has_entry, without}
 use Rattle.range_lock.specs.declared.Entry.{Entry}
 use Rattle.range_lock.specs.declared.Kind.TheVariants.{Alone}

@@ -2,7 +2,7 @@
 -- what holds of both between two calls.
 use Rattle.std.specs.Prelude.{ℕ, suc, ◌≡◌, ◌<◌, ◌⊎◌, false, List, length, Option, Some}
 use Rattle.std.specs.Prelude.{None, Err}
-use Rattle.disk_sizes.specs.declared.Sizes.{Sizes}
+use Rattle.base_terms.specs.declared.disk_sizes.Sizes.{Sizes}
 use Rattle.hotzone.specs.Promises.{seals_in}
 use Rattle.hotzone.specs.Sites.{count_of}
 use Rattle.hotzone.specs.declared.worker.Halt.{Halt}
@@ -10,7 +10,7 @@ use Rattle.hotzone.specs.declared.worker.Halt.TheVariants.{GivenUp}
 use Rattle.hotzone.specs.declared.worker.NextCall.{NextCall}
 use Rattle.hotzone.specs.declared.worker.NextCall.TheVariants.{Begin, Finish, End, Wipe, Rest, Over}
 use Rattle.hotzone.specs.declared.worker.Worker.{Worker}
-use Rattle.joined_disk.specs.Counts.{HasSizes}
+use Rattle.sector_disk.specs.JoinedDisks.Counts.{HasSizes}
 use Rattle.luks_store.specs.declared.loaded.Stored.{Stored}
 use Rattle.segment_map.specs.declared.Side.TheVariants.{New}
 use Rattle.segment_map.specs.declared.map.Map.{Map}

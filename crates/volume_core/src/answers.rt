@@ -5,7 +5,7 @@ use hotzone::ZoneFault;
 use volume_machine::Grant;
 
 /// How an operation begins.
-#[derive(Clone, Copy, Debug, PartialEq, Eq)]
+#[derive(Clone, Copy, PartialEq, Eq)]
 pub enum Admitted {
     /// It has its blocks.
     Held(Grant),
@@ -16,7 +16,7 @@ pub enum Admitted {
 }
 
 /// Where an operation stands that waited.
-#[derive(Clone, Copy, Debug, PartialEq, Eq)]
+#[derive(Clone, Copy, PartialEq, Eq)]
 pub enum Asked {
     /// It has its blocks.
     Held(Grant),
@@ -25,7 +25,7 @@ pub enum Asked {
 }
 
 /// A read of a piece, which gives its buffer back.
-#[derive(Debug, Drop)]
+#[derive(Drop)]
 pub enum PieceRead {
     /// The buffer has the bytes of the piece at its front, sealed as they lie on the disk.
     Got(Buffer),
@@ -36,7 +36,7 @@ pub enum PieceRead {
 }
 
 /// A write of a piece, which gives its buffer back, with the sealed bytes.
-#[derive(Debug, Drop)]
+#[derive(Drop)]
 pub enum PieceWritten {
     Done(Buffer),
     /// The disk failed, and the volume is broken.
@@ -46,7 +46,7 @@ pub enum PieceWritten {
 }
 
 /// A wait until what was written is certain to be kept.
-#[derive(Clone, Copy, Debug, PartialEq, Eq)]
+#[derive(Clone, Copy, PartialEq, Eq)]
 pub enum Settled {
     Done,
     /// The disk failed, and the volume is broken.
@@ -56,7 +56,7 @@ pub enum Settled {
 }
 
 /// What a step of the conversion comes to.
-#[derive(Clone, Copy, Debug, PartialEq, Eq)]
+#[derive(Clone, Copy, PartialEq, Eq)]
 pub enum Worked {
     /// It is made, and another one follows.
     Stepped,
@@ -73,7 +73,7 @@ pub enum Worked {
 }
 
 /// How far a volume's conversion is.
-#[derive(Clone, Copy, Debug, PartialEq, Eq)]
+#[derive(Clone, Copy, PartialEq, Eq)]
 pub struct Progress {
     /// The block that parts new from old.
     pub boundary: u64,

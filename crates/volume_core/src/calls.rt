@@ -11,8 +11,7 @@ ghost use Rattle.volume_machine.specs.Steps.{CanRead, CanWrite};
 
 use crate::answers::{PieceRead, PieceWritten, Settled};
 use base_terms::{Buffer, Failed};
-use disk_views::read_into;
-use sector_disk::Disk;
+use sector_disk::{Disk, read_into};
 use segment_map::Map;
 use volume_machine::{Open, Prepared};
 

@@ -8,12 +8,15 @@
 //!
 //! A volume whose header says that it is being converted can be armed; each call of `work` is then
 //! one step of its conversion, a `WorkStep`, between the clients' calls and in any order with them.
+//!
+//! `volume_worker` leads a conversion to its end on a volume at hand.
 #![tactic(auto)]
 
 mod answers;
 mod calls;
 mod lanes;
 mod volume;
+mod volume_worker;
 mod working;
 
 pub use answers::{Admitted, Asked, PieceRead, PieceWritten, Progress, Settled, Worked};
@@ -21,3 +24,4 @@ pub use hotzone::ZoneFault;
 pub use lanes::Lanes;
 pub use volume::Volume;
 pub use volume_machine::Grant;
+pub use volume_worker::{NoFit, WorkerEnd, converted_of, finish_conversion, told};

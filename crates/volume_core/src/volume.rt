@@ -21,8 +21,7 @@ ghost use Rattle.volume_machine.specs.Beginnings.{IsWholeDisk, new_volume};
 use crate::answers::{Admitted, Asked, PieceRead, PieceWritten, Progress, Settled};
 use crate::calls::{read_next, sync_all, write_next};
 use crate::lanes::Lanes;
-use base_terms::{Buffer, DEVICE_ERROR};
-use block_range::BlockRange;
+use base_terms::{BlockRange, Buffer, DEVICE_ERROR};
 use cipher_laws::SectorCipher;
 use hotzone::Zone;
 use range_lock::{Standing, Table};
@@ -210,14 +209,6 @@ impl<D: Disk, C: SectorCipher + Copy> Volume<D, C> {
         ensures fits { KeysFit C.sector result self.now.map.atom self.now.map.blocks }
     {
         self.keys
-    }
-
-    /// The keys, lent as long as nothing is done with the volume.
-    pub fn borrow_keys(&self) -> &Keys<C>
-        ensures is { result.now ≡ self.now.keys }
-        ensures fits { KeysFit C.sector result.now self.now.map.atom self.now.map.blocks }
-    {
-        &self.keys
     }
 
     /// Whether a lane is one of clients: the last lane is the conversion's own.

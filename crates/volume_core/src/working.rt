@@ -2,10 +2,10 @@
 
 ghost use Rattle.std.specs.Prelude.{◌≡◌, ◌*◌, ◌<◌, ◌^◌, ◌++◌, ◌∷◌, [], true, false, suc, length, IfErr, IfOk};
 ghost use Rattle.std.specs.Prelude.{IsSome, None, Some};
-ghost use Rattle.block_range.specs.declared.BlockRange.{BlockRange as blocks};
-ghost use Rattle.disk_sizes.specs.declared.Sizes.{Sizes};
+ghost use Rattle.base_terms.specs.declared.block_range.BlockRange.{BlockRange as blocks};
+ghost use Rattle.base_terms.specs.declared.disk_sizes.Sizes.{Sizes};
 ghost use Rattle.hotzone.specs.Workers.{MayGoOn, range_in};
-ghost use Rattle.joined_disk.specs.Counts.{HasSizes};
+ghost use Rattle.sector_disk.specs.JoinedDisks.Counts.{HasSizes};
 ghost use Rattle.range_lock.specs.Locks.{IsStanding, has_entry};
 ghost use Rattle.reenc_meta.specs.ConversionMaps.{IsMapOf};
 ghost use Rattle.volume_core.specs.Turns.{HasLeft, HasWorked, IsRenewed, IsTurn, MayRenew, StandsAs};
@@ -22,7 +22,7 @@ ghost use Rattle.zone_events.specs.Readings.{reading_of};
 
 use crate::answers::Worked;
 use crate::volume::{Volume, lock};
-use block_range::BlockRange;
+use base_terms::BlockRange;
 use cipher_laws::SectorCipher;
 use hotzone::{Halt, Zone};
 use luks_store::Loaded;

@@ -1,10 +1,20 @@
 -- Operations that begin, and those that wait: what holds between events goes on to hold.
-use Rattle.volume_machine.proofs.Common
-use Common.{List, None, Option, [], ap, arith, false, inl, inr, length, nat_eq, refl, suc, sym}
-use Common.{true, ℕ, ◌*◌, ◌-◌, ◌<◌, ◌∙◌, ◌≡◌, ◌≢◌, ◌≤◌, either, IsUnchanged, View, IsStanding}
-use Common.{Standing, Held, Block, by_admit, entry_of, has_lock, range_of, wrong_ask, Outcome, held}
-use Common.{waits, with_plain, Seals, IsSound, LaneBecomes, State, begun, open_at, size_of, Holds}
-use Common.{IsAdmitted, TellsStanding}
+use Rattle.std.proofs.Common.{List, None, Option, [], ap, arith, false, inl, inr, length, nat_eq}
+use Rattle.std.proofs.Common.{refl, suc, sym, true, ℕ, ◌*◌, ◌-◌, ◌<◌, ◌∙◌, ◌≡◌, ◌≢◌, ◌≤◌}
+use Rattle.std.proofs.lemmas.Bool.{cases_Bool as either}
+use Rattle.plain_disk.specs.Plain.{Block}
+use Rattle.range_lock.specs.Locks.{IsStanding}
+use Rattle.range_lock.specs.declared.Standing.{Standing}
+use Rattle.range_lock.specs.declared.Standing.TheVariants.{Held}
+use Rattle.sector_disk.specs.DiskViews.Views.{IsUnchanged, View}
+use Rattle.volume_machine.specs.Answers.{by_admit}
+use Rattle.volume_machine.specs.Asks.{entry_of, has_lock, range_of, wrong_ask}
+use Rattle.volume_machine.specs.Events.{Outcome, held, waits}
+use Rattle.volume_machine.specs.Runs.{with_plain}
+use Rattle.volume_machine.specs.Seals.{Seals}
+use Rattle.volume_machine.specs.Sound.{IsSound}
+use Rattle.volume_machine.specs.States.{LaneBecomes, State, begun, open_at, size_of}
+use Rattle.volume_machine.specs.Steps.{Holds, IsAdmitted, TellsStanding}
 use Rattle.volume_machine.specs.{declared.ask.Ask.Ask, declared.open.Open.Open}
 use Rattle.volume_machine.proofs.{Locking.holds-more, Soundness.begins}
 use Rattle.volume_laws.proofs.Invariant.{LaneKnows, Logic, Shown, TriesNothing, goes_stays}

@@ -1,12 +1,22 @@
 -- Lemmas on operations that were answered, as steps of the plain disk.
-use Rattle.volume_machine.proofs.Common
-use Common.{Bool, List, None, Option, Some, [], ap, arith, drop, if◌then◌else◌, inl, inr, length}
-use Common.{map, nat_lt, refl, sym, take, ℕ, ◌%◌, ◌*◌, ◌/◌, ◌<◌, ◌∙◌, ◌∷◌, ◌≡◌, ◌≤◌, ◌⊎◌}
-use Common.{mul-div_cancel, mul-mod_left, either, ext_get_or, blocks_of, changed, changed-nil}
-use Common.{IsAtom, block_at-take, wrong_of, wrong_range_of, Block, Exchange, flushed, tried}
-use Common.{written, written_for_good, Op, Content, Done, Errno, AreSure, Legal, ProperStep}
-use Common.{newest_bytes, Answered, Asked, IsExchange, refusal, wrong_ask, AreExchanges}
-use Rattle.disk_views.proofs.Entries.{blocks_of-at, length-blocks_of}
+use Rattle.std.proofs.Common.{Bool, List, None, Option, Some, [], ap, arith, drop, if◌then◌else◌}
+use Rattle.std.proofs.Common.{inl, inr, length, map, nat_lt, refl, sym, take, ℕ, ◌%◌, ◌*◌, ◌/◌, ◌<◌}
+use Rattle.std.proofs.Common.{◌∙◌, ◌∷◌, ◌≡◌, ◌≤◌, ◌⊎◌}
+use Rattle.std.proofs.Math.Nat.{mul-div_cancel, mul-mod_left}
+use Rattle.std.proofs.lemmas.Bool.{cases_Bool as either}
+use Rattle.std.proofs.lemmas.List.{ext_get_or}
+use Rattle.base_terms.proofs.BlockLemmas.{changed-nil}
+use Rattle.base_terms.specs.Blocks.{blocks_of, changed}
+use Rattle.plain_disk.specs.Operations.{wrong_of, wrong_range_of}
+use Rattle.plain_disk.specs.Plain.{Block, Exchange, flushed, tried, written, written_for_good}
+use Rattle.plain_disk.specs.Plain.{AreSure, Legal, ProperStep, newest_bytes}
+use Rattle.plain_disk.specs.declared.operation.Op.{Op}
+use Rattle.plain_disk.specs.declared.operation.Reply.TheVariants.{Content, Done, Errno}
+use Rattle.sector_disk.proofs.DiskViews.Blockwise.{block_at-take}
+use Rattle.sector_disk.specs.Geometry.{IsAtom}
+use Rattle.volume_machine.specs.Answers.{Answered, Asked, IsExchange, refusal, AreExchanges}
+use Rattle.volume_machine.specs.Asks.{wrong_ask}
+use Rattle.sector_disk.proofs.DiskViews.Entries.{blocks_of-at, length-blocks_of}
 use Rattle.plain_disk.specs.declared.operation.{Reply.Reply, Reply.TheVariants.ErrnoAt}
 use Rattle.plain_disk.specs.{Operations.meaning_of, Plain.Step, Plain.WriteStep}
 use Rattle.plain_disk.proofs.MeaningLemmas.{meaning_proper, meaning_wrong}

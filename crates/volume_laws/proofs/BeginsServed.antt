@@ -1,20 +1,27 @@
 -- A zone that begins: the last lane holds its blocks, so that nobody has tried them, and a sync
 -- makes certain what they hold.
-use Rattle.volume_machine.proofs.Common
-use Common.{Bool, Contains, List, Some, [], ap, arith, cases_lt, false, inl, inr, length, refl}
-use Common.{subst, suc, sym, true, ℕ, ◌*◌, ◌+◌, ◌-◌, ◌<◌, ◌∙◌, ◌≡◌, ◌≤◌, same_or_not}
-use Common.{View, BlockRange, Old, Block}
-use Common.{range_of, has_lock, place_in, Seals, IsGoverned, IsLive, State, open_at}
-use Common.{HoldsZone, Works, Work}
-use Rattle.disk_areas.specs.Areas.{Area}
-use Rattle.disk_areas.specs.Commits.{begun, ShowsCommit}
-use Rattle.disk_areas.specs.Headers.{Layout, Header, place_of}
-use Rattle.disk_zones.proofs.ZoneCalls.{zone_begins}
-use Rattle.disk_zones.specs.Calls.{IsFirst}
-use Rattle.disk_zones.specs.Standing.{side_before}
-use Rattle.disk_zones.specs.Zones.{Hotzone, Phase, Texts, saving, opening, writing, mending}
-use Rattle.disk_zones.specs.Zones.{moving}
-use Rattle.disk_zones.specs.Zones.{shifting, turning, from_of, to_of}
+use Rattle.std.proofs.Common.{Bool, Contains, List, Some, [], ap, arith, false, inl, inr, length}
+use Rattle.std.proofs.Common.{refl, subst, suc, sym, true, ℕ, ◌*◌, ◌+◌, ◌-◌, ◌<◌, ◌∙◌, ◌≡◌, ◌≤◌}
+use Rattle.std.proofs.lemmas.Bool.{cases_lt, cases_eq as same_or_not}
+use Rattle.base_terms.specs.declared.block_range.BlockRange.{BlockRange}
+use Rattle.plain_disk.specs.Plain.{Block}
+use Rattle.sector_disk.specs.DiskViews.Views.{View}
+use Rattle.segment_map.specs.declared.Side.TheVariants.{Old}
+use Rattle.volume_machine.specs.Asks.{range_of, has_lock}
+use Rattle.volume_machine.specs.Pieces.{place_in}
+use Rattle.volume_machine.specs.Seals.{Seals}
+use Rattle.volume_machine.specs.States.{IsGoverned, IsLive, State, open_at}
+use Rattle.volume_machine.specs.Working.{HoldsZone, Works}
+use Rattle.volume_machine.specs.Works.{Work}
+use Rattle.crash_laws.specs.HeaderAreas.Areas.{Area}
+use Rattle.crash_laws.specs.HeaderAreas.Commits.{begun, ShowsCommit}
+use Rattle.crash_laws.specs.HeaderAreas.Headers.{Layout, Header, place_of}
+use Rattle.crash_laws.proofs.HotZones.ZoneCalls.{zone_begins}
+use Rattle.crash_laws.specs.HotZones.Calls.{IsFirst}
+use Rattle.crash_laws.specs.HotZones.Standing.{side_before}
+use Rattle.crash_laws.specs.HotZones.Zones.{Hotzone, Phase, Texts, saving, opening, writing, mending}
+use Rattle.crash_laws.specs.HotZones.Zones.{moving}
+use Rattle.crash_laws.specs.HotZones.Zones.{shifting, turning, from_of, to_of}
 use Rattle.volume_machine.specs.Courses.{IsBeyond}
 use Rattle.volume_machine.specs.Readings.{Reading}
 use Rattle.volume_machine.specs.WorkSteps.{Begins}

@@ -1,16 +1,29 @@
 -- A run keeps each atom of the disk that is no live block's.
-use Rattle.volume_machine.proofs.Common
-use Common.{List, MatchBool, MatchOption, None, Option, Some, [], ap, arith, cases_lt, false, inl}
-use Common.{inr, length, mul-div_cancel, refl, suc, sym, zero, ℕ, ◌+◌, ◌/◌, ◌∙◌, ◌∷◌, ◌≡◌, ◌≤◌}
-use Common.{MatchBool-at_false, MatchBool-at_true, either, blocks_of, Cell, MovesOrNot, Told}
-use Common.{AreSettled, cell_in, value_in, IsOutside, Piece, Event, Outcome, admits, asks, broken}
-use Common.{device, done, finishes, got, reads, refused, settles, writes, ArePieceBytes, IsPieceOf}
-use Common.{place_of, Happening, IsSound, State, IsAdmitted, Meets, ReadStep, SettleStep, WriteStep}
-use Common.{KeepsApart, IsRun, last_of, Can, Step}
+use Rattle.std.proofs.Common.{List, MatchBool, MatchOption, None, Option, Some, [], ap, arith}
+use Rattle.std.proofs.Common.{false, inl, inr, length, refl, suc, sym, zero, ℕ, ◌+◌, ◌/◌, ◌∙◌, ◌∷◌}
+use Rattle.std.proofs.Common.{◌≡◌, ◌≤◌}
+use Rattle.std.proofs.Math.Nat.{mul-div_cancel}
+use Rattle.std.proofs.lemmas.Bool.{cases_lt, MatchBool-at_false, MatchBool-at_true}
+use Rattle.std.proofs.lemmas.Bool.{cases_Bool as either}
+use Rattle.base_terms.specs.Blocks.{blocks_of}
+use Rattle.sector_disk.specs.Cells.{Cell, AreSettled}
+use Rattle.sector_disk.specs.DiskViews.Parts.{cell_in, value_in}
+use Rattle.sector_disk.specs.DiskViews.Views.{IsOutside}
+use Rattle.sector_disk.specs.Steps.{MovesOrNot, Told}
+use Rattle.segment_map.specs.declared.map.Piece.{Piece}
+use Rattle.volume_machine.specs.Events.{Event, Outcome, admits, asks, broken, device, done}
+use Rattle.volume_machine.specs.Events.{finishes, got, reads, refused, settles, writes}
+use Rattle.volume_machine.specs.Pieces.{ArePieceBytes, IsPieceOf, place_of}
+use Rattle.volume_machine.specs.Runs.{Happening, IsRun, last_of}
+use Rattle.volume_machine.specs.Sound.{IsSound}
+use Rattle.volume_machine.specs.States.{State}
+use Rattle.volume_machine.specs.Steps.{IsAdmitted, Meets, ReadStep, SettleStep, WriteStep, Can}
+use Rattle.volume_machine.specs.Steps.{Step}
+use Rattle.volume_machine.specs.Working.{KeepsApart}
 use Rattle.std.proofs.lemmas.List.{get_or_past}
 use Rattle.sector_disk.specs.Cells.{IsImage, IsThinned, wrote}
-use Rattle.disk_views.proofs.Entries.{changed-outside, image_in, length-blocks_of, length-image}
-use Rattle.disk_views.proofs.TableEntries.{synced_view, thinned_view, tried-outside}
+use Rattle.sector_disk.proofs.DiskViews.Entries.{changed-outside, image_in, length-blocks_of, length-image}
+use Rattle.sector_disk.proofs.DiskViews.TableEntries.{synced_view, thinned_view, tried-outside}
 use Rattle.volume_machine.specs.declared.{ask.Ask.Ask, open.Open.Open}
 use Rattle.volume_machine.proofs.{EventEffects.event_effects, Soundness.sound_kept}
 use Rattle.volume_laws.specs.Rest.{IsBeside, KeepsCell, KeepsRest}

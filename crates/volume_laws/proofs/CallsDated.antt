@@ -1,17 +1,17 @@
 -- The texts that the copies' places are handed, along a zone's device calls: each means the header
 -- that the commit at hand leads from, an older one, or the next one.
-use Rattle.volume_machine.proofs.Common
-use Common.{List, inl, inr, refl, ℕ}
-use Common.{◌≢◌, Seals, Work}
-use Rattle.disk_areas.proofs.TextsHanded.{dated_failed, dated_step}
-use Rattle.disk_areas.specs.Commits.{Stage, begun, first_written, first_kept, second_written}
-use Rattle.disk_areas.specs.Commits.{Follows, IsDated, WasHanded, handed_by}
-use Rattle.disk_areas.specs.Commits.{next_stage}
-use Rattle.disk_areas.specs.Headers.{Handed, Header, IsHeader, Reader, primary}
-use Rattle.disk_areas.specs.Headers.{secondary}
-use Rattle.disk_zones.specs.Calls.{IsFirst}
-use Rattle.disk_zones.specs.Zones.{Hotzone, Phase, saving, opening, writing, mending, moving}
-use Rattle.disk_zones.specs.Zones.{shifting, turning, from_of, to_of, stage_of}
+use Rattle.std.proofs.Common.{List, inl, inr, refl, ℕ, ◌≢◌}
+use Rattle.volume_machine.specs.Seals.{Seals}
+use Rattle.volume_machine.specs.Works.{Work}
+use Rattle.crash_laws.proofs.HeaderAreas.TextsHanded.{dated_failed, dated_step}
+use Rattle.crash_laws.specs.HeaderAreas.Commits.{Stage, begun, first_written, first_kept, second_written}
+use Rattle.crash_laws.specs.HeaderAreas.Commits.{Follows, IsDated, WasHanded, handed_by}
+use Rattle.crash_laws.specs.HeaderAreas.Commits.{next_stage}
+use Rattle.crash_laws.specs.HeaderAreas.Headers.{Handed, Header, IsHeader, Reader, primary}
+use Rattle.crash_laws.specs.HeaderAreas.Headers.{secondary}
+use Rattle.crash_laws.specs.HotZones.Calls.{IsFirst}
+use Rattle.crash_laws.specs.HotZones.Zones.{Hotzone, Phase, saving, opening, writing, mending, moving}
+use Rattle.crash_laws.specs.HotZones.Zones.{shifting, turning, from_of, to_of, stage_of}
 use Rattle.sector_disk.specs.Devices.{Device}
 use Rattle.volume_machine.specs.Courses.{IsToOpen, Succeeds, last_from}
 use Rattle.volume_machine.specs.WorkCalls.{StepFails, ZoneStep, arrives, keeps, move_fails, moves}

@@ -1,13 +1,14 @@
 -- Each step of the worker keeps the conversion on its course: its map is the one of its header, and
 -- the headers to come turn the blocks of the zone alone.
-use Rattle.volume_machine.proofs.Common
-use Common.{List, Some, ap, inl, inr, refl, subst, sym, ℕ, ◌∙◌, ◌≡◌, ◌⊎◌}
-use Common.{Seals, State, Work}
-use Rattle.disk_areas.specs.Commits.{first_written}
-use Rattle.disk_areas.specs.Headers.{Header, IsHeader, IsLaidOut, Layout}
-use Rattle.disk_zones.specs.Calls.{IsFirst, IsLast}
-use Rattle.disk_zones.specs.Zones.{Hotzone, Phase, from_of, saving, opening, writing, mending}
-use Rattle.disk_zones.specs.Zones.{moving, shifting, turning}
+use Rattle.std.proofs.Common.{List, Some, ap, inl, inr, refl, subst, sym, ℕ, ◌∙◌, ◌≡◌, ◌⊎◌}
+use Rattle.volume_machine.specs.Seals.{Seals}
+use Rattle.volume_machine.specs.States.{State}
+use Rattle.volume_machine.specs.Works.{Work}
+use Rattle.crash_laws.specs.HeaderAreas.Commits.{first_written}
+use Rattle.crash_laws.specs.HeaderAreas.Headers.{Header, IsHeader, IsLaidOut, Layout}
+use Rattle.crash_laws.specs.HotZones.Calls.{IsFirst, IsLast}
+use Rattle.crash_laws.specs.HotZones.Zones.{Hotzone, Phase, from_of, saving, opening, writing, mending}
+use Rattle.crash_laws.specs.HotZones.Zones.{moving, shifting, turning}
 use Rattle.volume_machine.specs.Courses.{Courses, IsOnCourse, IsToOpen, Leads, last_from}
 use Rattle.volume_machine.specs.Readings.{Reading}
 use Rattle.volume_machine.specs.WorkSteps.{Begins, EndsZone, Faults, GivesUp}

@@ -1,13 +1,17 @@
 -- The headers that a conversion leads to, step by step: each step leaves the map that its header
 -- gives, and turns the blocks of the zone alone.
-use Rattle.volume_machine.proofs.Common
-use Common.{List, Some, ap, inl, inr, refl, subst, sym, ℕ, ◌<◌}
-use Common.{◌∙◌, ◌≡◌, ◌≤◌, ◌⊎◌, BlockRange, Side, Map, Seals, State}
-use Common.{Work}
-use Rattle.disk_areas.specs.Headers.{Header, IsHeader, IsLaidOut, Layout}
-use Rattle.disk_zones.specs.Calls.{IsFirst}
-use Rattle.disk_zones.specs.Zones.{Hotzone, Phase, from_of, to_of, saving, opening, writing, mending}
-use Rattle.disk_zones.specs.Zones.{moving, shifting, turning}
+use Rattle.std.proofs.Common.{List, Some, ap, inl, inr, refl, subst, sym, ℕ, ◌<◌, ◌∙◌, ◌≡◌, ◌≤◌}
+use Rattle.std.proofs.Common.{◌⊎◌}
+use Rattle.base_terms.specs.declared.block_range.BlockRange.{BlockRange}
+use Rattle.segment_map.specs.declared.Side.{Side}
+use Rattle.segment_map.specs.declared.map.Map.{Map}
+use Rattle.volume_machine.specs.Seals.{Seals}
+use Rattle.volume_machine.specs.States.{State}
+use Rattle.volume_machine.specs.Works.{Work}
+use Rattle.crash_laws.specs.HeaderAreas.Headers.{Header, IsHeader, IsLaidOut, Layout}
+use Rattle.crash_laws.specs.HotZones.Calls.{IsFirst}
+use Rattle.crash_laws.specs.HotZones.Zones.{Hotzone, Phase, from_of, to_of, saving, opening, writing, mending}
+use Rattle.crash_laws.specs.HotZones.Zones.{moving, shifting, turning}
 use Rattle.sector_disk.specs.Devices.{Device}
 use Rattle.volume_machine.specs.Courses.{Courses, IsOnCourse, IsToOpen, Leads, Succeeds}
 use Rattle.volume_machine.specs.Courses.{Turns, last_from}

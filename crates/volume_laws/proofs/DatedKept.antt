@@ -1,15 +1,16 @@
 -- The texts that the copies' places are handed, along the worker's steps: each means the header that
 -- the commit at hand leads from, an older one, or the next one.
-use Rattle.volume_machine.proofs.Common
-use Common.{List, Some, ap, inl, inr, refl, subst, sym, ℕ, ◌∙◌, ◌≡◌}
-use Common.{Seals, State, Work}
-use Rattle.disk_areas.proofs.TextsHanded.{dated_step}
-use Rattle.disk_areas.specs.Commits.{begun, first_written}
-use Rattle.disk_areas.specs.Commits.{IsDated, handed_by}
-use Rattle.disk_areas.specs.Headers.{Handed, Header, Layout}
-use Rattle.disk_zones.specs.Calls.{IsFirst, IsLast}
-use Rattle.disk_zones.specs.Zones.{Phase, saving, opening, writing, mending, moving}
-use Rattle.disk_zones.specs.Zones.{shifting, turning}
+use Rattle.std.proofs.Common.{List, Some, ap, inl, inr, refl, subst, sym, ℕ, ◌∙◌, ◌≡◌}
+use Rattle.volume_machine.specs.Seals.{Seals}
+use Rattle.volume_machine.specs.States.{State}
+use Rattle.volume_machine.specs.Works.{Work}
+use Rattle.crash_laws.proofs.HeaderAreas.TextsHanded.{dated_step}
+use Rattle.crash_laws.specs.HeaderAreas.Commits.{begun, first_written}
+use Rattle.crash_laws.specs.HeaderAreas.Commits.{IsDated, handed_by}
+use Rattle.crash_laws.specs.HeaderAreas.Headers.{Handed, Header, Layout}
+use Rattle.crash_laws.specs.HotZones.Calls.{IsFirst, IsLast}
+use Rattle.crash_laws.specs.HotZones.Zones.{Phase, saving, opening, writing, mending, moving}
+use Rattle.crash_laws.specs.HotZones.Zones.{shifting, turning}
 use Rattle.volume_machine.specs.Courses.{Courses, Leads, Succeeds, last_from}
 use Rattle.volume_machine.specs.Deeds.{worker}
 use Rattle.volume_machine.specs.Readings.{Reading}

@@ -1,15 +1,22 @@
 -- Runs of deeds: events of clients and steps of the worker in any order. The operations are those of
 -- one plain disk, and a stop leaves what it allows.
-use Rattle.volume_machine.proofs.Common
-use Common.{Contains, List, Some, [], ap, arith, false, inl, inr, length, refl, subst, suc, sym, ℕ}
-use Common.{◌<◌, ◌∙◌, ◌∷◌, ◌≡◌, ◌≢◌, cell_in, value_in, View, view_of_bytes, view_of_cells}
-use Common.{Block, Exchange, values_of, Legal, Event, Outcome, admits, asks, finishes, got, device}
-use Common.{done, lane_of, reads, settles, writes, place_in, no_plain, Seals, State}
-use Common.{AreExchanges, Work, block_at, plain_after}
-use Rattle.disk_areas.specs.Commits.{begun, ShowsCommit}
-use Rattle.disk_areas.specs.Headers.{Handed, Header, IsReader, Layout}
-use Rattle.disk_views.proofs.{Entries.image_in, TableEntries.none_contained}
-use Rattle.disk_views.proofs.TableEntries.{place_of_some}
+use Rattle.std.proofs.Common.{Contains, List, Some, [], ap, arith, false, inl, inr, length, refl}
+use Rattle.std.proofs.Common.{subst, suc, sym, ℕ, ◌<◌, ◌∙◌, ◌∷◌, ◌≡◌, ◌≢◌}
+use Rattle.plain_disk.specs.Plain.{Block, Exchange, values_of, Legal}
+use Rattle.sector_disk.specs.DiskViews.Parts.{cell_in, value_in, block_at}
+use Rattle.sector_disk.specs.DiskViews.Views.{View, view_of_bytes, view_of_cells}
+use Rattle.volume_machine.specs.Answers.{AreExchanges}
+use Rattle.volume_machine.specs.Events.{Event, Outcome, admits, asks, finishes, got, device, done}
+use Rattle.volume_machine.specs.Events.{lane_of, reads, settles, writes}
+use Rattle.volume_machine.specs.Pieces.{place_in}
+use Rattle.volume_machine.specs.Runs.{no_plain, plain_after}
+use Rattle.volume_machine.specs.Seals.{Seals}
+use Rattle.volume_machine.specs.States.{State}
+use Rattle.volume_machine.specs.Works.{Work}
+use Rattle.crash_laws.specs.HeaderAreas.Commits.{begun, ShowsCommit}
+use Rattle.crash_laws.specs.HeaderAreas.Headers.{Handed, Header, IsReader, Layout}
+use Rattle.sector_disk.proofs.DiskViews.{Entries.image_in, TableEntries.none_contained}
+use Rattle.sector_disk.proofs.DiskViews.TableEntries.{place_of_some}
 use Rattle.volume_machine.proofs.{EventEffects.event_effects, Soundness.sound_kept}
 use Rattle.volume_machine.specs.Courses.{Courses, IsOnCourse}
 use Rattle.volume_machine.specs.Deeds.{Act, AreDeeds, Deed, Does, answered_of, answered_over, client}

@@ -1,11 +1,18 @@
 -- Which operations are answered 5.
-use Rattle.volume_machine.proofs.Common
-use Common.{Bool, List, None, Option, Some, [], ap, false, if◌then◌else◌, inl, inr, refl, subst}
-use Common.{length, sym, true, ℕ, ◌++◌, ◌+◌, ◌↔◌, ◌∷◌, ◌≡◌, either, Done, Answered, by_admit}
-use Common.{by_finish, by_settle, flush_reply, full_reply, has_lock, wrong_ask, IsFresh, Event}
-use Common.{Outcome, admits, broken, device, done, finishes, refused, settles, Happening, no_plain}
-use Common.{Seals, State, open_at, size_of, AdmitStep, Meets, SettleStep, IsRun, answered_by}
-use Common.{last_of, plain_in, Step}
+use Rattle.std.proofs.Common.{Bool, List, None, Option, Some, [], ap, false, if◌then◌else◌, inl}
+use Rattle.std.proofs.Common.{inr, refl, subst, length, sym, true, ℕ, ◌++◌, ◌+◌, ◌↔◌, ◌∷◌, ◌≡◌}
+use Rattle.std.proofs.lemmas.Bool.{cases_Bool as either}
+use Rattle.plain_disk.specs.declared.operation.Reply.TheVariants.{Done}
+use Rattle.volume_machine.specs.Answers.{Answered, by_admit, by_finish, by_settle, flush_reply}
+use Rattle.volume_machine.specs.Answers.{full_reply}
+use Rattle.volume_machine.specs.Asks.{has_lock, wrong_ask}
+use Rattle.volume_machine.specs.Beginnings.{IsFresh}
+use Rattle.volume_machine.specs.Events.{Event, Outcome, admits, broken, device, done, finishes}
+use Rattle.volume_machine.specs.Events.{refused, settles}
+use Rattle.volume_machine.specs.Runs.{Happening, no_plain, IsRun, answered_by, last_of, plain_in}
+use Rattle.volume_machine.specs.Seals.{Seals}
+use Rattle.volume_machine.specs.States.{State, open_at, size_of}
+use Rattle.volume_machine.specs.Steps.{AdmitStep, Meets, SettleStep, Step}
 use Rattle.volume_machine.specs.Answers.{failed_reply}
 use Rattle.volume_machine.specs.declared.ask.Ask.{Ask}
 use Rattle.volume_machine.specs.declared.ask.Ask.TheVariants.{Read}

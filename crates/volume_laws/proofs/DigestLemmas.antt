@@ -1,11 +1,13 @@
 -- The digests that are saved of a zone's atoms, as they are found in the text of their area.
-use Rattle.volume_machine.proofs.Common
-use Common.{List, ap, arith, cases_lt, inl, inr, length, length-append, length-replicate, refl}
-use Common.{replicate, suc, sym, zero, ℕ, ◌*◌, ◌++◌, ◌+◌, ◌-◌, ◌<◌, ◌∙◌, ◌≡◌, ◌≤◌, block_at}
+use Rattle.std.proofs.Common.{List, ap, arith, inl, inr, length, length-append, refl, replicate}
+use Rattle.std.proofs.Common.{suc, sym, zero, ℕ, ◌*◌, ◌++◌, ◌+◌, ◌-◌, ◌<◌, ◌∙◌, ◌≡◌, ◌≤◌}
+use Rattle.std.proofs.lemmas.Bool.{cases_lt}
+use Rattle.std.proofs.lemmas.List.{length-replicate}
+use Rattle.sector_disk.specs.DiskViews.Parts.{block_at}
 use Rattle.std.proofs.Math.Nat.{le-min, min-le_left, mul_assoc}
 use Rattle.std.specs.Prelude.{◌/◌}
-use Rattle.disk_areas.specs.Areas.{text_from}
-use Rattle.disk_views.proofs.Blockwise.{block_at-behind, block_at-front, block_at-one, block_end}
+use Rattle.crash_laws.specs.HeaderAreas.Areas.{text_from}
+use Rattle.sector_disk.proofs.DiskViews.Blockwise.{block_at-behind, block_at-front, block_at-one, block_end}
 use Rattle.sector_disk.specs.Geometry.{IsAtom}
 use Rattle.sha2.proofs.Facts256.{length-sha256}
 use Rattle.sha2.specs.Sha256.{sha256}

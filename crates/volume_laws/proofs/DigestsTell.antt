@@ -1,12 +1,16 @@
 -- By checksum each step of a zone leaves the digests of its blocks, once they were saved, such that
 -- they tell the old atoms from the new ones.
-use Rattle.volume_machine.proofs.Common
-use Common.{List, ap, arith, cases_lt, inl, inr, subst, sym, ℕ, ◌*◌, ◌+◌, ◌-◌, ◌<◌, ◌∙◌, ◌≡◌, ◌≢◌}
-use Common.{◌≤◌, block_at, checksum, Seals, Work}
+use Rattle.std.proofs.Common.{List, ap, arith, inl, inr, subst, sym, ℕ, ◌*◌, ◌+◌, ◌-◌, ◌<◌, ◌∙◌}
+use Rattle.std.proofs.Common.{◌≡◌, ◌≢◌, ◌≤◌}
+use Rattle.std.proofs.lemmas.Bool.{cases_lt}
+use Rattle.crash_laws.specs.HotZones.Zones.{checksum}
+use Rattle.sector_disk.specs.DiskViews.Parts.{block_at}
+use Rattle.volume_machine.specs.Seals.{Seals}
+use Rattle.volume_machine.specs.Works.{Work}
 use Rattle.std.proofs.Math.Nat.{div-mul-le_self, le-min, lt-div-mul-add, mul_assoc}
 use Rattle.std.proofs.lemmas.Nat.{div_below}
 use Rattle.std.specs.Prelude.{◌/◌, min}
-use Rattle.disk_zones.specs.Zones.{Phase, Texts}
+use Rattle.crash_laws.specs.HotZones.Zones.{Phase, Texts}
 use Rattle.sector_disk.specs.Devices.{Device}
 use Rattle.sector_disk.specs.Geometry.{IsAtom}
 use Rattle.sha2.specs.Sha256.{sha256}

@@ -1,11 +1,18 @@
 -- Operations that end: they are answered as the plain disk answers.
-use Rattle.volume_machine.proofs.Common
-use Common.{Bool, Contains, List, None, Some, [], ap, arith, drop, false, if◌then◌else◌, inl, inr}
-use Common.{length, refl, subst, sym, take, true, ℕ, ◌*◌, ◌+◌, ◌-◌, ◌/◌, ◌<◌, ◌∙◌, ◌∷◌, ◌≡◌, ◌≤◌}
-use Common.{◌⊎◌, either, Contains-push, blocks_of, changed, Block, Exchange, tried, values_of}
-use Common.{Content, Done, Errno, AreSure, newest_bytes, Answered, IsExchange, by_finish}
-use Common.{full_reply, IsForced, IsRead, IsWrite, has_lock, range_of, wrong_ask, IsComplete, Seals}
-use Common.{State, open_at, size_of, Holds, AreExchanges}
+use Rattle.std.proofs.Common.{Bool, Contains, List, None, Some, [], ap, arith, drop, false}
+use Rattle.std.proofs.Common.{if◌then◌else◌, inl, inr, length, refl, subst, sym, take, true, ℕ, ◌*◌}
+use Rattle.std.proofs.Common.{◌+◌, ◌-◌, ◌/◌, ◌<◌, ◌∙◌, ◌∷◌, ◌≡◌, ◌≤◌, ◌⊎◌}
+use Rattle.std.proofs.lemmas.Bool.{cases_Bool as either}
+use Rattle.std.proofs.lemmas.List.Elements.{Contains-push}
+use Rattle.base_terms.specs.Blocks.{blocks_of, changed}
+use Rattle.plain_disk.specs.Plain.{Block, Exchange, tried, values_of, AreSure, newest_bytes}
+use Rattle.plain_disk.specs.declared.operation.Reply.TheVariants.{Content, Done, Errno}
+use Rattle.volume_machine.specs.Answers.{Answered, IsExchange, by_finish, full_reply, AreExchanges}
+use Rattle.volume_machine.specs.Asks.{IsForced, IsRead, IsWrite, has_lock, range_of, wrong_ask}
+use Rattle.volume_machine.specs.Pieces.{IsComplete}
+use Rattle.volume_machine.specs.Seals.{Seals}
+use Rattle.volume_machine.specs.States.{State, open_at, size_of}
+use Rattle.volume_machine.specs.Steps.{Holds}
 use Rattle.plain_disk.specs.Plain.{Step as PlainStep}
 use Rattle.plain_disk.specs.declared.operation.Reply.TheVariants.{ErrnoAt}
 use Rattle.volume_machine.specs.Answers.{failed_reply}

@@ -1,13 +1,23 @@
 -- Each event goes on from a moment of a run to another, and answers as the plain disk does.
-use Rattle.volume_machine.proofs.Common
-use Common.{Bool, List, None, Option, Some, [], ap, arith, false, inl, inr, map, refl, sym, true, ℕ}
-use Common.{◌<◌, ◌∙◌, ◌∷◌, ◌≡◌, MatchBool-at_false, MatchBool-at_true, either, IsThinned, View}
-use Common.{Piece, Block, Exchange, flushed, Done, Errno, Legal, IsExchange, by_admit, flush_reply}
-use Common.{refusal, IsForced, IsRead, IsWrite, has_lock, wrong_ask, Outcome, broken, device, done}
-use Common.{got, ArePieceBytes, IsPieceOf, failing, place_of, after_read, after_write, with_plain}
-use Common.{Seals, IsSound, IsGoverned, State, open_at, size_of, AdmitStep, Goes, HasPiece, Holds}
-use Common.{IsAdmitted, ReadStep, SettleStep, WriteStep, Works, AreExchanges}
-use Rattle.disk_views.proofs.DeviceViews.{block-read}
+use Rattle.std.proofs.Common.{Bool, List, None, Option, Some, [], ap, arith, false, inl, inr, map}
+use Rattle.std.proofs.Common.{refl, sym, true, ℕ, ◌<◌, ◌∙◌, ◌∷◌, ◌≡◌}
+use Rattle.std.proofs.lemmas.Bool.{MatchBool-at_false, MatchBool-at_true, cases_Bool as either}
+use Rattle.plain_disk.specs.Plain.{Block, Exchange, flushed, Legal}
+use Rattle.plain_disk.specs.declared.operation.Reply.TheVariants.{Done, Errno}
+use Rattle.sector_disk.specs.DiskViews.Views.{IsThinned, View}
+use Rattle.segment_map.specs.declared.map.Piece.{Piece}
+use Rattle.volume_machine.specs.Answers.{IsExchange, by_admit, flush_reply, refusal, AreExchanges}
+use Rattle.volume_machine.specs.Asks.{IsForced, IsRead, IsWrite, has_lock, wrong_ask}
+use Rattle.volume_machine.specs.Events.{Outcome, broken, device, done, got}
+use Rattle.volume_machine.specs.Pieces.{ArePieceBytes, IsPieceOf, failing, place_of}
+use Rattle.volume_machine.specs.Runs.{after_read, after_write, with_plain}
+use Rattle.volume_machine.specs.Seals.{Seals}
+use Rattle.volume_machine.specs.Sound.{IsSound}
+use Rattle.volume_machine.specs.States.{IsGoverned, State, open_at, size_of}
+use Rattle.volume_machine.specs.Steps.{AdmitStep, Goes, HasPiece, Holds, IsAdmitted, ReadStep}
+use Rattle.volume_machine.specs.Steps.{SettleStep, WriteStep}
+use Rattle.volume_machine.specs.Working.{Works}
+use Rattle.sector_disk.proofs.DiskViews.DeviceViews.{block-read}
 use Rattle.plain_disk.specs.Plain.{Step as PlainStep}
 use Rattle.volume_machine.specs.{declared.ask.Ask.Ask, declared.ask.Ask.TheVariants.Flush}
 use Rattle.volume_machine.specs.{declared.open.Open.Open}

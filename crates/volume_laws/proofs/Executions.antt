@@ -1,10 +1,17 @@
 -- Executions, one after the other, stops within them, and the tables of a disk along them: each
 -- event adds at most one, the one after it.
-use Rattle.volume_machine.proofs.Common
-use Common.{All, List, Some, [], ap, append_assoc, inl, inr, refl, subst, sym, ℕ, ◌++◌, ◌∙◌, ◌∷◌}
-use Common.{◌≡◌, append-nil, All-cons, All-nil, Cell, Told, Block, Exchange, Answered, Tagged}
-use Common.{Happening, no_plain, Seals, State, AreExchanges, AreTagged, untagged, IsRun}
-use Common.{answered_by, answered_in, last_of, plain_after, plain_in}
+use Rattle.std.proofs.Common.{All, List, Some, [], ap, append_assoc, inl, inr, refl, subst, sym, ℕ}
+use Rattle.std.proofs.Common.{◌++◌, ◌∙◌, ◌∷◌, ◌≡◌}
+use Rattle.std.proofs.lemmas.List.{append-nil}
+use Rattle.std.proofs.lemmas.List.Elements.{All-cons, All-nil}
+use Rattle.plain_disk.specs.Plain.{Block, Exchange}
+use Rattle.sector_disk.specs.Cells.{Cell}
+use Rattle.sector_disk.specs.Steps.{Told}
+use Rattle.volume_machine.specs.Answers.{Answered, Tagged, AreExchanges, AreTagged, untagged}
+use Rattle.volume_machine.specs.Runs.{Happening, no_plain, IsRun, answered_by, answered_in, last_of}
+use Rattle.volume_machine.specs.Runs.{plain_after, plain_in}
+use Rattle.volume_machine.specs.Seals.{Seals}
+use Rattle.volume_machine.specs.States.{State}
 use Rattle.volume_machine.proofs.EventEffects.{event_effects}
 use Rattle.volume_laws.specs.Executing.{Executes, StopsAlong, TellsRun, WasTold}
 use Rattle.volume_laws.specs.Promises.{Starts}

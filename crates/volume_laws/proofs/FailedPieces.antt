@@ -1,13 +1,23 @@
 -- The piece at which a read has failed: it begins behind the bytes that were read before.
-use Rattle.volume_machine.proofs.Common
-use Common.{List, None, Option, Some, [], ap, arith, false, if◌then◌else◌, inl, inr, length}
-use Common.{length-append, nat_eq, option_map, refl, subst, sym, ℕ, ◌*◌, ◌++◌, ◌+◌, ◌==◌, ◌∙◌}
-use Common.{◌∷◌, ◌≡◌, ◌≢◌, either, IsAtom, after_put, after_sync, open_after, Answered}
-use Common.{by_admit, by_finish, flush_reply, full_reply, wrong_ask, IsRead, IsFresh, Event}
-use Common.{Outcome, admits, asks, broken, device, done, finishes, got, held, lane_of, reads}
-use Common.{refused, settles, waits, writes, failing, moved, Happening, no_plain, plain_piece}
-use Common.{AreLawful, Seals, IsSound, State, begun, open_at, size_of, CanSettle, Meets, IsRun}
-use Common.{answered_by, last_of, plain_after, plain_in, side_in, with_plain, Can, Step}
+use Rattle.std.proofs.Common.{List, None, Option, Some, [], ap, arith, false, if◌then◌else◌, inl}
+use Rattle.std.proofs.Common.{inr, length, length-append, nat_eq, option_map, refl, subst, sym, ℕ}
+use Rattle.std.proofs.Common.{◌*◌, ◌++◌, ◌+◌, ◌==◌, ◌∙◌, ◌∷◌, ◌≡◌, ◌≢◌}
+use Rattle.std.proofs.lemmas.Bool.{cases_Bool as either}
+use Rattle.sector_disk.specs.Geometry.{IsAtom}
+use Rattle.volume_machine.specs.Alone.{after_put, after_sync, open_after}
+use Rattle.volume_machine.specs.Answers.{Answered, by_admit, by_finish, flush_reply, full_reply}
+use Rattle.volume_machine.specs.Asks.{wrong_ask, IsRead}
+use Rattle.volume_machine.specs.Beginnings.{IsFresh}
+use Rattle.volume_machine.specs.Events.{Event, Outcome, admits, asks, broken, device, done}
+use Rattle.volume_machine.specs.Events.{finishes, got, held, lane_of, reads, refused, settles}
+use Rattle.volume_machine.specs.Events.{waits, writes}
+use Rattle.volume_machine.specs.Pieces.{failing, moved, side_in}
+use Rattle.volume_machine.specs.Runs.{Happening, no_plain, plain_piece, IsRun, answered_by, last_of}
+use Rattle.volume_machine.specs.Runs.{plain_after, plain_in, with_plain}
+use Rattle.volume_machine.specs.Seals.{AreLawful, Seals}
+use Rattle.volume_machine.specs.Sound.{IsSound}
+use Rattle.volume_machine.specs.States.{State, begun, open_at, size_of}
+use Rattle.volume_machine.specs.Steps.{CanSettle, Meets, Can, Step}
 use Rattle.volume_machine.specs.Answers.{failed_reply}
 use Rattle.volume_machine.specs.declared.ask.Ask.TheVariants.{Read}
 use Rattle.volume_machine.specs.declared.{ask.Ask.Ask, open.Open.Open}

@@ -1,10 +1,17 @@
 -- When operations fail and volumes break, and the count of faults behind it.
-use Rattle.volume_machine.proofs.Common
-use Common.{Bool, List, None, Option, Some, [], ap, arith, false, inl, inr, nat_eq, refl, sym, true}
-use Common.{ℕ, ◌||◌, ◌∙◌, ◌∷◌, ◌≡◌, ◌≤◌, either, Rose, after_got, after_put, after_sync, open_after}
-use Common.{has_lock, IsFresh, breaks, is_fault, Event, Outcome, admits, asks, broken, device, done}
-use Common.{got, held, lane_of, reads, settles, waits, writes, Happening, State, begun, open_at}
-use Common.{Meets, after_settle, IsRun, last_of, Can, Step}
+use Rattle.std.proofs.Common.{Bool, List, None, Option, Some, [], ap, arith, false, inl, inr}
+use Rattle.std.proofs.Common.{nat_eq, refl, sym, true, ℕ, ◌||◌, ◌∙◌, ◌∷◌, ◌≡◌, ◌≤◌}
+use Rattle.std.proofs.lemmas.Bool.{cases_Bool as either}
+use Rattle.base_terms.specs.Causes.{Rose}
+use Rattle.volume_machine.specs.Alone.{after_got, after_put, after_sync, open_after}
+use Rattle.volume_machine.specs.Asks.{has_lock}
+use Rattle.volume_machine.specs.Beginnings.{IsFresh}
+use Rattle.volume_machine.specs.Effects.{breaks, is_fault}
+use Rattle.volume_machine.specs.Events.{Event, Outcome, admits, asks, broken, device, done, got}
+use Rattle.volume_machine.specs.Events.{held, lane_of, reads, settles, waits, writes}
+use Rattle.volume_machine.specs.Runs.{Happening, IsRun, last_of}
+use Rattle.volume_machine.specs.States.{State, begun, open_at}
+use Rattle.volume_machine.specs.Steps.{Meets, after_settle, Can, Step}
 use Rattle.std.proofs.Math.Bool.{or-false, or-true}
 use Rattle.volume_machine.specs.declared.open.Open.{Open}
 use Rattle.volume_machine.proofs.EventEffects.{event_effects}

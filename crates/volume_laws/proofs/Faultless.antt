@@ -1,16 +1,30 @@
 -- Runs in which no count of faults moves.
-use Rattle.volume_machine.proofs.Common
-use Common.{Bool, List, MatchBool, MatchOption, None, Option, Some, [], arith, false}
-use Common.{inl, inr, length, length-append, refl, subst, sym, true, ℕ, ◌*◌, ◌++◌, ◌+◌, ◌-◌, ◌/◌}
-use Common.{◌<◌, ◌^◌, ◌∙◌, ◌∷◌, ◌≡◌, ◌≢◌, ◌⊎◌, MatchBool-at_false, same_or_not, Rose, Entry, Piece}
-use Common.{wrong_of, Exchange, Content, Done, Errno, Answered, Asked, IsExchange, by_admit}
-use Common.{by_finish, by_settle, full_reply, refusal, has_lock, range_of, wrong_ask, IsFresh}
-use Common.{Event, Outcome, admits, asks, broken, device, done, finishes, got, reads, refused}
-use Common.{settles, writes, ArePieceBytes, IsComplete, IsPieceOf, moved, settling, side_in}
-use Common.{Happening, after_read, after_write, no_plain, plain_piece, with_plain, AreLawful, Seals}
-use Common.{IsSound, State, begun, open_at, size_of, CanSettle, FinishStep, Goes, IsAdmitted, Meets}
-use Common.{ReadStep, SettleStep, WriteStep, AreExchanges, IsRun, answered_by, answered_in, last_of}
-use Common.{plain_after, Can, Step}
+use Rattle.std.proofs.Common.{Bool, List, MatchBool, MatchOption, None, Option, Some, [], arith}
+use Rattle.std.proofs.Common.{false, inl, inr, length, length-append, refl, subst, sym, true, ℕ}
+use Rattle.std.proofs.Common.{◌*◌, ◌++◌, ◌+◌, ◌-◌, ◌/◌, ◌<◌, ◌^◌, ◌∙◌, ◌∷◌, ◌≡◌, ◌≢◌, ◌⊎◌}
+use Rattle.std.proofs.lemmas.Bool.{MatchBool-at_false, cases_eq as same_or_not}
+use Rattle.base_terms.specs.Causes.{Rose}
+use Rattle.plain_disk.specs.Operations.{wrong_of}
+use Rattle.plain_disk.specs.Plain.{Exchange}
+use Rattle.plain_disk.specs.declared.operation.Reply.TheVariants.{Content, Done, Errno}
+use Rattle.range_lock.specs.declared.Entry.{Entry}
+use Rattle.segment_map.specs.declared.map.Piece.{Piece}
+use Rattle.volume_machine.specs.Answers.{Answered, Asked, IsExchange, by_admit, by_finish}
+use Rattle.volume_machine.specs.Answers.{by_settle, full_reply, refusal, AreExchanges}
+use Rattle.volume_machine.specs.Asks.{has_lock, range_of, wrong_ask}
+use Rattle.volume_machine.specs.Beginnings.{IsFresh}
+use Rattle.volume_machine.specs.Events.{Event, Outcome, admits, asks, broken, device, done}
+use Rattle.volume_machine.specs.Events.{finishes, got, reads, refused, settles, writes}
+use Rattle.volume_machine.specs.Pieces.{ArePieceBytes, IsComplete, IsPieceOf, moved, settling}
+use Rattle.volume_machine.specs.Pieces.{side_in}
+use Rattle.volume_machine.specs.Runs.{Happening, after_read, after_write, no_plain, plain_piece}
+use Rattle.volume_machine.specs.Runs.{with_plain, IsRun, answered_by, answered_in, last_of}
+use Rattle.volume_machine.specs.Runs.{plain_after}
+use Rattle.volume_machine.specs.Seals.{AreLawful, Seals}
+use Rattle.volume_machine.specs.Sound.{IsSound}
+use Rattle.volume_machine.specs.States.{State, begun, open_at, size_of}
+use Rattle.volume_machine.specs.Steps.{CanSettle, FinishStep, Goes, IsAdmitted, Meets, ReadStep}
+use Rattle.volume_machine.specs.Steps.{SettleStep, WriteStep, Can, Step}
 use Rattle.plain_disk.specs.Outcomes.{AreServed, IsServed}
 use Rattle.plain_disk.proofs.MeaningLemmas.{meaning_served}
 use Rattle.volume_machine.specs.declared.ask.Ask.TheVariants.{Flush, Read, Write}

@@ -1,15 +1,23 @@
 -- Steps of the worker that fail: the volume is broken, and the last lane's operation ends.
-use Rattle.volume_machine.proofs.Common
-use Common.{Bool, Contains, List, Some, ap, arith, false, inl, inr, refl, subst, sym, true, ℕ}
-use Common.{◌∷◌, ◌+◌, ◌-◌, ◌<◌, ◌∙◌, ◌≡◌, block_at, IsOutside, View}
-use Common.{zone_stays, Resilience, Block, place_in, Seals, IsLive, State, open_at, Holds}
-use Common.{Works, Work}
-use Rattle.disk_areas.specs.Areas.{Area, AreApart}
-use Rattle.disk_areas.specs.Headers.{Layout, Header, place_of}
-use Rattle.disk_views.specs.Views.{HasNoMore}
-use Rattle.disk_zones.specs.Calls.{write_fails_beside}
-use Rattle.disk_zones.specs.Standing.{IsPhaseOf, side_before}
-use Rattle.disk_zones.specs.Zones.{Phase, Reaches, saving, its_header, its_own, its_store, its_target}
+use Rattle.std.proofs.Common.{Bool, Contains, List, Some, ap, arith, false, inl, inr, refl, subst}
+use Rattle.std.proofs.Common.{sym, true, ℕ, ◌∷◌, ◌+◌, ◌-◌, ◌<◌, ◌∙◌, ◌≡◌}
+use Rattle.crash_laws.proofs.HotZones.ZoneFrames.{zone_stays}
+use Rattle.crash_laws.specs.HotZones.Zones.{Resilience}
+use Rattle.plain_disk.specs.Plain.{Block}
+use Rattle.sector_disk.specs.DiskViews.Parts.{block_at}
+use Rattle.sector_disk.specs.DiskViews.Views.{IsOutside, View}
+use Rattle.volume_machine.specs.Pieces.{place_in}
+use Rattle.volume_machine.specs.Seals.{Seals}
+use Rattle.volume_machine.specs.States.{IsLive, State, open_at}
+use Rattle.volume_machine.specs.Steps.{Holds}
+use Rattle.volume_machine.specs.Working.{Works}
+use Rattle.volume_machine.specs.Works.{Work}
+use Rattle.crash_laws.specs.HeaderAreas.Areas.{Area, AreApart}
+use Rattle.crash_laws.specs.HeaderAreas.Headers.{Layout, Header, place_of}
+use Rattle.sector_disk.specs.DiskViews.Views.{HasNoMore}
+use Rattle.crash_laws.specs.HotZones.Calls.{write_fails_beside}
+use Rattle.crash_laws.specs.HotZones.Standing.{IsPhaseOf, side_before}
+use Rattle.crash_laws.specs.HotZones.Zones.{Phase, Reaches, saving, its_header, its_own, its_store, its_target}
 use Rattle.sector_disk.specs.Devices.{Device}
 use Rattle.volume_machine.specs.WorkCalls.{StepFails, move_fails, open_fails, read_fails, save_fails}
 use Rattle.volume_machine.specs.WorkCalls.{shift_fails, sync_fails, turn_fails, write_fails}

@@ -1,14 +1,19 @@
 -- Areas that are wiped, and the blocks that the worker takes: what holds at a moment goes on to
 -- hold.
-use Rattle.volume_machine.proofs.Common
-use Common.{Bool, Contains, List, Some, [], ap, arith, false, inl, refl, subst}
-use Common.{suc, sym, true, ℕ, ◌<◌, ◌∙◌, ◌∷◌, ◌≡◌}
-use Common.{journal, zone_stays, Block, place_in, Seals}
-use Common.{IsLive, State, open_at, Works, Work}
-use Rattle.disk_areas.specs.Areas.{Area}
-use Rattle.disk_areas.specs.Headers.{Layout, Header, place_of}
-use Rattle.disk_zones.specs.Calls.{syncs, writes_beside}
-use Rattle.disk_zones.specs.Zones.{saving, its_header}
+use Rattle.std.proofs.Common.{Bool, Contains, List, Some, [], ap, arith, false, inl, refl, subst}
+use Rattle.std.proofs.Common.{suc, sym, true, ℕ, ◌<◌, ◌∙◌, ◌∷◌, ◌≡◌}
+use Rattle.crash_laws.proofs.HotZones.ZoneFrames.{zone_stays}
+use Rattle.crash_laws.specs.HotZones.Zones.{journal}
+use Rattle.plain_disk.specs.Plain.{Block}
+use Rattle.volume_machine.specs.Pieces.{place_in}
+use Rattle.volume_machine.specs.Seals.{Seals}
+use Rattle.volume_machine.specs.States.{IsLive, State, open_at}
+use Rattle.volume_machine.specs.Working.{Works}
+use Rattle.volume_machine.specs.Works.{Work}
+use Rattle.crash_laws.specs.HeaderAreas.Areas.{Area}
+use Rattle.crash_laws.specs.HeaderAreas.Headers.{Layout, Header, place_of}
+use Rattle.crash_laws.specs.HotZones.Calls.{syncs, writes_beside}
+use Rattle.crash_laws.specs.HotZones.Zones.{saving, its_header}
 use Rattle.volume_machine.proofs.Soundness.{begins, sound_admitted}
 use Rattle.volume_machine.specs.Events.{Outcome}
 use Rattle.volume_machine.specs.States.{begun as begun_open}
@@ -45,7 +50,7 @@ module _ {K : Type 0} {old new : State K} {layout : Layout} {header : Header (Li
   pub works_rest : (to : Header (List ℕ)) → next.layout ≡ layout
       → next.zone ≡ Rattle.volume_machine.specs.Works.empty_zone header to
       → next.range ≡ Rattle.volume_machine.specs.Works.no_blocks
-      → Rattle.disk_zones.specs.Standing.IsPhaseOf journal next.phase
+      → Rattle.crash_laws.specs.HotZones.Standing.IsPhaseOf journal next.phase
       → new.disk.atoms ≡ old.disk.atoms
       → ((area : Area) → Contains (wiped_later next.progress) area → IsSpare old layout area)
       → Works old → Works new

@@ -1,11 +1,22 @@
 -- Operations that end: what holds between events goes on to hold.
-use Rattle.volume_machine.proofs.Common
-use Common.{Contains, List, None, Some, ap, arith, false, inl, inr, length, refl, subst, suc, sym}
-use Common.{true, ℕ, ◌*◌, ◌+◌, ◌-◌, ◌<◌, ◌∙◌, ◌≡◌, ◌≢◌, ◌≤◌, ◌⊎◌, same_or_not, blocks_of, changed}
-use Common.{AreBlocks, block_at, IsOutside, IsUnchanged, View, one_block, without, zone_kept, Block}
-use Common.{values_of, IsForced, IsRead, IsWrite, place_in, Seals, IsSound, IsGoverned, IsLive}
-use Common.{State, open_at, Goes, Holds, Works}
-use Rattle.disk_views.proofs.Entries.{length-changed}
+use Rattle.std.proofs.Common.{Contains, List, None, Some, ap, arith, false, inl, inr, length, refl}
+use Rattle.std.proofs.Common.{subst, suc, sym, true, ℕ, ◌*◌, ◌+◌, ◌-◌, ◌<◌, ◌∙◌, ◌≡◌, ◌≢◌, ◌≤◌, ◌⊎◌}
+use Rattle.std.proofs.lemmas.Bool.{cases_eq as same_or_not}
+use Rattle.base_terms.specs.Blocks.{blocks_of, changed}
+use Rattle.crash_laws.proofs.HotZones.ZoneFrames.{zone_kept}
+use Rattle.plain_disk.specs.Plain.{Block, values_of}
+use Rattle.range_lock.specs.Locks.{without}
+use Rattle.sector_disk.proofs.DiskViews.Blockwise.{one_block}
+use Rattle.sector_disk.specs.DiskViews.Parts.{AreBlocks, block_at}
+use Rattle.sector_disk.specs.DiskViews.Views.{IsOutside, IsUnchanged, View}
+use Rattle.volume_machine.specs.Asks.{IsForced, IsRead, IsWrite}
+use Rattle.volume_machine.specs.Pieces.{place_in}
+use Rattle.volume_machine.specs.Seals.{Seals}
+use Rattle.volume_machine.specs.Sound.{IsSound}
+use Rattle.volume_machine.specs.States.{IsGoverned, IsLive, State, open_at}
+use Rattle.volume_machine.specs.Steps.{Goes, Holds}
+use Rattle.volume_machine.specs.Working.{Works}
+use Rattle.sector_disk.proofs.DiskViews.Entries.{length-changed}
 use Rattle.volume_machine.specs.declared.open.Open.{Open}
 use Rattle.volume_machine.proofs.Locking.{holds-without}
 use Rattle.volume_laws.specs.Contents.{AreBlocksOf, IsAllowedAt, IsNow, IsSealed, IsTriedBy}

@@ -1,8 +1,11 @@
 -- The last lane's operation ends: what holds at a moment goes on to hold.
-use Rattle.volume_machine.proofs.Common
-use Common.{Bool, List, None, Option, Some, ap, arith, false, length, refl, subst, suc, sym}
-use Common.{ℕ, ◌*◌, ◌-◌, ◌<◌, ◌∙◌, ◌≡◌, ◌≤◌, Block, Seals}
-use Common.{IsLive, State, open_at, Works, Work}
+use Rattle.std.proofs.Common.{Bool, List, None, Option, Some, ap, arith, false, length, refl, subst}
+use Rattle.std.proofs.Common.{suc, sym, ℕ, ◌*◌, ◌-◌, ◌<◌, ◌∙◌, ◌≡◌, ◌≤◌}
+use Rattle.plain_disk.specs.Plain.{Block}
+use Rattle.volume_machine.specs.Seals.{Seals}
+use Rattle.volume_machine.specs.States.{IsLive, State, open_at}
+use Rattle.volume_machine.specs.Working.{Works}
+use Rattle.volume_machine.specs.Works.{Work}
 use Rattle.volume_machine.proofs.Soundness.{sound_freed}
 use Rattle.volume_machine.specs.WorkSteps.{Frees, LeavesBlocks, LeavesBroken}
 use Rattle.volume_machine.specs.Working.{IsWorkers}

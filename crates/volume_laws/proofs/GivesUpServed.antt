@@ -1,15 +1,21 @@
 -- A zone that is given up: nothing of it was written over, and its blocks are live again.
-use Rattle.volume_machine.proofs.Common
-use Common.{Contains, List, ap, arith, false, inl, inr, refl, subst}
-use Common.{sym, true, ℕ, ◌+◌, ◌-◌, ◌<◌, ◌∙◌, ◌≡◌, ◌≤◌, IsOutside, IsUnchanged, View}
-use Common.{Old, ShowsZone, Block, place_in}
-use Common.{Seals, State, IsWorking, Works, Work}
-use Rattle.disk_areas.proofs.AreasShown.{unchanged}
-use Rattle.disk_areas.specs.Commits.{begun, ShowsCommit}
-use Rattle.disk_areas.specs.Headers.{Copy, Layout, place_of}
-use Rattle.disk_zones.specs.Standing.{side_before}
-use Rattle.disk_zones.specs.Zones.{Hotzone, Phase, Texts, saving, opening, writing, mending, moving}
-use Rattle.disk_zones.specs.Zones.{shifting, turning, its_header}
+use Rattle.std.proofs.Common.{Contains, List, ap, arith, false, inl, inr, refl, subst, sym, true, ℕ}
+use Rattle.std.proofs.Common.{◌+◌, ◌-◌, ◌<◌, ◌∙◌, ◌≡◌, ◌≤◌}
+use Rattle.crash_laws.specs.HotZones.Zones.{ShowsZone}
+use Rattle.plain_disk.specs.Plain.{Block}
+use Rattle.sector_disk.specs.DiskViews.Views.{IsOutside, IsUnchanged, View}
+use Rattle.segment_map.specs.declared.Side.TheVariants.{Old}
+use Rattle.volume_machine.specs.Pieces.{place_in}
+use Rattle.volume_machine.specs.Seals.{Seals}
+use Rattle.volume_machine.specs.States.{State}
+use Rattle.volume_machine.specs.Working.{IsWorking, Works}
+use Rattle.volume_machine.specs.Works.{Work}
+use Rattle.crash_laws.proofs.HeaderAreas.AreasShown.{unchanged}
+use Rattle.crash_laws.specs.HeaderAreas.Commits.{begun, ShowsCommit}
+use Rattle.crash_laws.specs.HeaderAreas.Headers.{Copy, Layout, place_of}
+use Rattle.crash_laws.specs.HotZones.Standing.{side_before}
+use Rattle.crash_laws.specs.HotZones.Zones.{Hotzone, Phase, Texts, saving, opening, writing, mending, moving}
+use Rattle.crash_laws.specs.HotZones.Zones.{shifting, turning, its_header}
 use Rattle.volume_machine.specs.Readings.{Reading}
 use Rattle.volume_machine.specs.WorkSteps.{GivesUp, Hindrance, IsGivable, IsHindered, MissesPart}
 use Rattle.volume_machine.specs.WorkSteps.{Proceeds}

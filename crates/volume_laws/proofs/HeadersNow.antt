@@ -1,19 +1,22 @@
 -- The header that the disk's current bytes give while nothing has failed: both copies are known.
-use Rattle.volume_machine.proofs.Common
-use Common.{List, Some, [], ap, false, inl, inr, length, refl, subst, sym, ℕ}
-use Common.{◌+◌, ◌<◌, ◌∙◌, ◌≡◌, ◌⊎◌, View, State, Contains-push, Work}
-use Rattle.disk_areas.proofs.HeadersGiven.{certain, some_one}
-use Rattle.disk_areas.specs.Areas.{IsOf, content_of}
-use Rattle.disk_areas.specs.Commits.{Follows, IsLater, MayBe, ShowsCommit, Stage, begun}
-use Rattle.disk_areas.specs.Commits.{first_kept, first_written, second_written}
-use Rattle.disk_areas.specs.Headers.{Copy, Gives, Header, IsHeader, IsLaidOut, IsReader, Layout}
-use Rattle.disk_areas.specs.Headers.{Reader, byte_of, found, place_of, primary, secondary, text_of}
+use Rattle.std.proofs.Common.{List, Some, [], ap, false, inl, inr, length, refl, subst, sym, ℕ, ◌+◌}
+use Rattle.std.proofs.Common.{◌<◌, ◌∙◌, ◌≡◌, ◌⊎◌}
+use Rattle.std.proofs.lemmas.List.Elements.{Contains-push}
+use Rattle.sector_disk.specs.DiskViews.Views.{View}
+use Rattle.volume_machine.specs.States.{State}
+use Rattle.volume_machine.specs.Works.{Work}
+use Rattle.crash_laws.proofs.HeaderAreas.HeadersGiven.{certain, some_one}
+use Rattle.crash_laws.specs.HeaderAreas.Areas.{IsOf, content_of}
+use Rattle.crash_laws.specs.HeaderAreas.Commits.{Follows, IsLater, MayBe, ShowsCommit, Stage, begun}
+use Rattle.crash_laws.specs.HeaderAreas.Commits.{first_kept, first_written, second_written}
+use Rattle.crash_laws.specs.HeaderAreas.Headers.{Copy, Gives, Header, IsHeader, IsLaidOut, IsReader, Layout}
+use Rattle.crash_laws.specs.HeaderAreas.Headers.{Reader, byte_of, found, place_of, primary, secondary, text_of}
 use Rattle.std.proofs.lemmas.List.Elements.{Contains-push_cases}
-use Rattle.disk_views.proofs.TableEntries.{none_contained}
-use Rattle.disk_zones.specs.Promises.{sharp}
-use Rattle.disk_zones.specs.Calls.{IsFirst}
-use Rattle.disk_zones.specs.Zones.{Phase, from_of, mending, moving, opening, saving, shifting, stage_of}
-use Rattle.disk_zones.specs.Zones.{to_of, turning, writing}
+use Rattle.sector_disk.proofs.DiskViews.TableEntries.{none_contained}
+use Rattle.crash_laws.specs.HotZones.Promises.{sharp}
+use Rattle.crash_laws.specs.HotZones.Calls.{IsFirst}
+use Rattle.crash_laws.specs.HotZones.Zones.{Phase, from_of, mending, moving, opening, saving, shifting, stage_of}
+use Rattle.crash_laws.specs.HotZones.Zones.{to_of, turning, writing}
 use Rattle.volume_machine.specs.Courses.{IsOnCourse, Leads}
 use Rattle.volume_machine.specs.Readings.{Reading}
 

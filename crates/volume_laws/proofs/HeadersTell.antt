@@ -1,13 +1,15 @@
 -- The headers of a conversion tell the same of its seals, and of the zone at hand what guards it:
 -- kept by each deed.
-use Rattle.volume_machine.proofs.Common
-use Common.{List, Some, [], ap, arith, inl, inr, refl, subst, sym, ℕ}
-use Common.{◌<◌, ◌∙◌, ◌∷◌, ◌≡◌, ◌≤◌, New, Old, Seals, State}
-use Rattle.disk_areas.specs.Commits.{begun, first_written}
-use Rattle.disk_areas.specs.Headers.{Header, Layout}
-use Rattle.disk_zones.specs.Calls.{IsFirst}
-use Rattle.disk_zones.specs.Zones.{Phase, from_of, mending, moving, opening, saving}
-use Rattle.disk_zones.specs.Zones.{shifting, stage_of, to_of, turning, writing}
+use Rattle.std.proofs.Common.{List, Some, [], ap, arith, inl, inr, refl, subst, sym, ℕ, ◌<◌, ◌∙◌}
+use Rattle.std.proofs.Common.{◌∷◌, ◌≡◌, ◌≤◌}
+use Rattle.segment_map.specs.declared.Side.TheVariants.{New, Old}
+use Rattle.volume_machine.specs.Seals.{Seals}
+use Rattle.volume_machine.specs.States.{State}
+use Rattle.crash_laws.specs.HeaderAreas.Commits.{begun, first_written}
+use Rattle.crash_laws.specs.HeaderAreas.Headers.{Header, Layout}
+use Rattle.crash_laws.specs.HotZones.Calls.{IsFirst}
+use Rattle.crash_laws.specs.HotZones.Zones.{Phase, from_of, mending, moving, opening, saving}
+use Rattle.crash_laws.specs.HotZones.Zones.{shifting, stage_of, to_of, turning, writing}
 use Rattle.volume_machine.proofs.EventEffects.{event_effects}
 use Rattle.volume_machine.specs.Courses.{Continues, IsToOpen, last_from}
 use Rattle.volume_machine.specs.Deeds.{Act, AreDeeds, Deed, Does, client, state_after, worker}

@@ -1,16 +1,25 @@
 -- A moment of a run: what holds of its operations and of its disk, and how a device call moves it
 -- on.
-use Rattle.volume_machine.proofs.Common
-use Common.{Bool, List, Result, Some, ap, arith, false, inl, inr, length, refl, subst, sym, true, ℕ}
-use Common.{◌*◌, ◌+◌, ◌<◌, ◌∙◌, ◌≡◌, ◌≤◌, IsAtom, Told, IsSynced, IsThinned, IsTried, IsUnchanged}
-use Common.{IsWritten, View, view_of_bytes, view_of_cells, blocks_of_whole, Piece, Block, IsPieceOf}
-use Common.{place_in, place_of, AreLawful, Seals, AreApart, State, Works}
+use Rattle.std.proofs.Common.{Bool, List, Result, Some, ap, arith, false, inl, inr, length, refl}
+use Rattle.std.proofs.Common.{subst, sym, true, ℕ, ◌*◌, ◌+◌, ◌<◌, ◌∙◌, ◌≡◌, ◌≤◌}
+use Rattle.plain_disk.specs.Plain.{Block}
+use Rattle.sector_disk.proofs.DiskViews.Blockwise.{blocks_of_whole}
+use Rattle.sector_disk.specs.DiskViews.Views.{IsSynced, IsThinned, IsTried, IsUnchanged, IsWritten}
+use Rattle.sector_disk.specs.DiskViews.Views.{View, view_of_bytes, view_of_cells}
+use Rattle.sector_disk.specs.Geometry.{IsAtom}
+use Rattle.sector_disk.specs.Steps.{Told}
+use Rattle.segment_map.specs.declared.map.Piece.{Piece}
+use Rattle.volume_machine.specs.Pieces.{IsPieceOf, place_in, place_of}
+use Rattle.volume_machine.specs.Seals.{AreLawful, Seals}
+use Rattle.volume_machine.specs.Sound.{AreApart}
+use Rattle.volume_machine.specs.States.{State}
+use Rattle.volume_machine.specs.Working.{Works}
 use Rattle.base_terms.specs.declared.failed.Failed.{Failed}
 use Rattle.sector_disk.specs.Devices.{Device, ReadCall, SyncCall, WriteCall, failed_call, succeeded}
-use Rattle.disk_views.proofs.DeviceViews.{HasPlaces, TurnsBytes, TurnsTable, bytes-read}
-use Rattle.disk_views.proofs.DeviceViews.{bytes-synced, bytes-thinned, bytes-tried, bytes-written}
-use Rattle.disk_views.proofs.DeviceViews.{places_of_current, table-read, table-synced}
-use Rattle.disk_views.proofs.DeviceViews.{table-thinned, table-tried, table-written}
+use Rattle.sector_disk.proofs.DiskViews.DeviceViews.{HasPlaces, TurnsBytes, TurnsTable, bytes-read}
+use Rattle.sector_disk.proofs.DiskViews.DeviceViews.{bytes-synced, bytes-thinned, bytes-tried, bytes-written}
+use Rattle.sector_disk.proofs.DiskViews.DeviceViews.{places_of_current, table-read, table-synced}
+use Rattle.sector_disk.proofs.DiskViews.DeviceViews.{table-thinned, table-tried, table-written}
 use Rattle.volume_machine.specs.declared.open.Open.{Open}
 use Rattle.volume_laws.proofs.{Invariant.Logic, Invariant.Shown, Reading.AreLive}
 use Rattle.volume_laws.proofs.{Reading.piece_place, SealLemmas.length-sealed}

@@ -1,15 +1,25 @@
 -- While a client's operation holds a block, the worker leaves it on its side, at its place and under
 -- its keys; and what its steps leave of the disk and the lanes.
-use Rattle.volume_machine.proofs.Common
-use Common.{Bool, List, Option, Result, Some, ap, false, length, subst, suc, true}
-use Common.{ℕ, ◌<◌, ◌∙◌, ◌≡◌, ◌≤◌, BlockRange, Map, New, Side, Zone, has_lock, place_in, side_in}
-use Common.{Seals, IsSound, IsLive, State, open_at, Holds, Works, Work}
+use Rattle.std.proofs.Common.{Bool, List, Option, Result, Some, ap, false, length, subst, suc, true}
+use Rattle.std.proofs.Common.{ℕ, ◌<◌, ◌∙◌, ◌≡◌, ◌≤◌}
+use Rattle.base_terms.specs.declared.block_range.BlockRange.{BlockRange}
+use Rattle.segment_map.specs.declared.Side.{Side}
+use Rattle.segment_map.specs.declared.Side.TheVariants.{New, Zone}
+use Rattle.segment_map.specs.declared.map.Map.{Map}
+use Rattle.volume_machine.specs.Asks.{has_lock}
+use Rattle.volume_machine.specs.Pieces.{place_in, side_in}
+use Rattle.volume_machine.specs.Seals.{Seals}
+use Rattle.volume_machine.specs.Sound.{IsSound}
+use Rattle.volume_machine.specs.States.{IsLive, State, open_at}
+use Rattle.volume_machine.specs.Steps.{Holds}
+use Rattle.volume_machine.specs.Working.{Works}
+use Rattle.volume_machine.specs.Works.{Work}
 use Rattle.base_terms.specs.declared.failed.Failed.{Failed}
-use Rattle.disk_areas.specs.Commits.{Stage, begun, first_written, first_kept, second_written}
-use Rattle.disk_areas.specs.Headers.{Header, Layout}
-use Rattle.disk_zones.specs.Calls.{IsFirst}
-use Rattle.disk_zones.specs.Standing.{new_start}
-use Rattle.disk_zones.specs.Zones.{Phase}
+use Rattle.crash_laws.specs.HeaderAreas.Commits.{Stage, begun, first_written, first_kept, second_written}
+use Rattle.crash_laws.specs.HeaderAreas.Headers.{Header, Layout}
+use Rattle.crash_laws.specs.HotZones.Calls.{IsFirst}
+use Rattle.crash_laws.specs.HotZones.Standing.{new_start}
+use Rattle.crash_laws.specs.HotZones.Zones.{Phase}
 use Rattle.sector_disk.specs.Devices.{Device, failed_call, succeeded}
 use Rattle.volume_machine.specs.Courses.{Courses, IsBeyond, Turns}
 use Rattle.volume_machine.specs.Readings.{Reading}

@@ -1,16 +1,26 @@
 -- What holds between the events of a run: of the operations under way, and of what the disk holds.
-use Rattle.volume_machine.proofs.Common
-use Common.{Bool, Contains, List, Option, Some, false, inl, inr, length, refl, subst, sym, true, ℕ}
-use Common.{◌*◌, ◌+◌, ◌-◌, ◌<◌, ◌∙◌, ◌≡◌, ◌≢◌, ◌≤◌, either, same_or_not, AreBlocks, block_at}
-use Common.{IsThinned, View}
-use Common.{Entry, ShowsZone, zone_kept, Block, IsForced, IsRead, IsWrite, place_in, Seals, IsSound}
-use Common.{IsGoverned, IsLive, LaneBecomes, State, open_at, Goes, Holds, Work}
+use Rattle.std.proofs.Common.{Bool, Contains, List, Option, Some, false, inl, inr, length, refl}
+use Rattle.std.proofs.Common.{subst, sym, true, ℕ, ◌*◌, ◌+◌, ◌-◌, ◌<◌, ◌∙◌, ◌≡◌, ◌≢◌, ◌≤◌}
+use Rattle.std.proofs.lemmas.Bool.{cases_Bool as either, cases_eq as same_or_not}
+use Rattle.crash_laws.proofs.HotZones.ZoneFrames.{zone_kept}
+use Rattle.crash_laws.specs.HotZones.Zones.{ShowsZone}
+use Rattle.plain_disk.specs.Plain.{Block}
+use Rattle.range_lock.specs.declared.Entry.{Entry}
+use Rattle.sector_disk.specs.DiskViews.Parts.{AreBlocks, block_at}
+use Rattle.sector_disk.specs.DiskViews.Views.{IsThinned, View}
+use Rattle.volume_machine.specs.Asks.{IsForced, IsRead, IsWrite}
+use Rattle.volume_machine.specs.Pieces.{place_in}
+use Rattle.volume_machine.specs.Seals.{Seals}
+use Rattle.volume_machine.specs.Sound.{IsSound}
+use Rattle.volume_machine.specs.States.{IsGoverned, IsLive, LaneBecomes, State, open_at}
+use Rattle.volume_machine.specs.Steps.{Goes, Holds}
+use Rattle.volume_machine.specs.Works.{Work}
 use Rattle.volume_machine.specs.declared.open.Open.{Open}
 use Rattle.volume_laws.specs.Contents.{AreBlocksOf, IsAllowedAt, IsNow, IsSealed, IsTriedBy}
 use Rattle.volume_laws.specs.Contents.{block_in}
 use Rattle.volume_laws.specs.Texts.{texts_of}
 use Rattle.volume_laws.proofs.ToldApart.{TellsAtoms}
-use Rattle.disk_zones.specs.Zones.{Hotzone, Texts}
+use Rattle.crash_laws.specs.HotZones.Zones.{Hotzone, Texts}
 use Rattle.volume_machine.specs.Works.{Part, wanted, fetched}
 
 -- the value of a block that is certain

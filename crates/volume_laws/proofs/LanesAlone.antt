@@ -1,16 +1,28 @@
 -- Lanes of a run, each by its own calls.
-use Rattle.volume_machine.proofs.Common
-use Common.{List, MatchBool, MatchOption, None, Option, Some, [], ap, append_assoc, arith, false}
-use Common.{if◌then◌else◌, inl, inr, length, nat_eq, refl, subst, suc, sym, true, ℕ, ◌*◌, ◌++◌, ◌<◌}
-use Common.{◌==◌, ◌∙◌, ◌∷◌, ◌≡◌, ◌≢◌, ◌≤◌, MatchBool-at_false, MatchBool-at_true, either}
-use Common.{same_or_not, append-nil, is_of, Map, Alone, Call, after_got, after_put, after_sync}
-use Common.{alone_after, answered_alone, granted_after, idle_lane, open_after, opened_by}
-use Common.{plain_with, with_piece, entry_of, has_lock, IsFresh, Event, Outcome, admits}
-use Common.{asks, device, done, finishes, got, held, lane_of, reads, refused, settles}
-use Common.{writes, AgreeOn, rest_of, Happening, no_plain, plain_piece, with_plain, Seals, IsSound}
-use Common.{IsClient, State, begun, open_at, CanRead, CanWrite, Holds, IsAdmitted, Meets, AreMet}
-use Common.{MeetsAlone, alone_of, answers_of, IsRun, answered_by, last_of, plain_after, plain_in}
-use Common.{Can, Step}
+use Rattle.std.proofs.Common.{List, MatchBool, MatchOption, None, Option, Some, [], ap}
+use Rattle.std.proofs.Common.{append_assoc, arith, false, if◌then◌else◌, inl, inr, length, nat_eq}
+use Rattle.std.proofs.Common.{refl, subst, suc, sym, true, ℕ, ◌*◌, ◌++◌, ◌<◌, ◌==◌, ◌∙◌, ◌∷◌, ◌≡◌}
+use Rattle.std.proofs.Common.{◌≢◌, ◌≤◌}
+use Rattle.std.proofs.lemmas.Bool.{MatchBool-at_false, MatchBool-at_true, cases_Bool as either}
+use Rattle.std.proofs.lemmas.Bool.{cases_eq as same_or_not}
+use Rattle.std.proofs.lemmas.List.{append-nil}
+use Rattle.range_lock.specs.Locks.{is_of}
+use Rattle.segment_map.specs.declared.map.Map.{Map}
+use Rattle.volume_machine.specs.Alone.{Alone, Call, after_got, after_put, after_sync, alone_after}
+use Rattle.volume_machine.specs.Alone.{answered_alone, granted_after, idle_lane, open_after}
+use Rattle.volume_machine.specs.Alone.{opened_by, plain_with, with_piece, AreMet, MeetsAlone}
+use Rattle.volume_machine.specs.Alone.{alone_of, answers_of}
+use Rattle.volume_machine.specs.Asks.{entry_of, has_lock}
+use Rattle.volume_machine.specs.Beginnings.{IsFresh}
+use Rattle.volume_machine.specs.Events.{Event, Outcome, admits, asks, device, done, finishes, got}
+use Rattle.volume_machine.specs.Events.{held, lane_of, reads, refused, settles, writes}
+use Rattle.volume_machine.specs.Pieces.{AgreeOn, rest_of}
+use Rattle.volume_machine.specs.Runs.{Happening, no_plain, plain_piece, with_plain, IsRun}
+use Rattle.volume_machine.specs.Runs.{answered_by, last_of, plain_after, plain_in}
+use Rattle.volume_machine.specs.Seals.{Seals}
+use Rattle.volume_machine.specs.Sound.{IsSound}
+use Rattle.volume_machine.specs.States.{IsClient, State, begun, open_at}
+use Rattle.volume_machine.specs.Steps.{CanRead, CanWrite, Holds, IsAdmitted, Meets, Can, Step}
 use Rattle.volume_machine.specs.{declared.ask.Ask.Ask, declared.grant.Grant.Grant}
 use Rattle.volume_machine.specs.{declared.open.Open.Open}
 use Rattle.volume_machine.proofs.EventEffects.{event_effects}

@@ -54,3 +54,8 @@ mod Besides
 mod Failures
 pub mod WorkFaults
 pub mod VolumesKept
+pub mod BesideConversions
+pub mod BesideConverted
+pub mod BesideLanes
+pub mod BesideServing
+pub mod WorkerRuns

@@ -1,18 +1,24 @@
 -- A zone whose headers are named, and the finish, whose zone has no block: nothing else changes, and
 -- what holds at a moment goes on to hold.
-use Rattle.volume_machine.proofs.Common
-use Common.{List, Some, arith, false, inl, inr, refl, subst, sym, true}
-use Common.{ℕ, ◌≡◌, ◌⊎◌, same_or_not, View}
-use Common.{Reaches, Resilience, checksum, datashift, journal, ShowsZone, Block}
-use Common.{Seals, IsLive, State, IsWorking, Work}
-use Rattle.disk_areas.specs.Areas.{Area}
-use Rattle.disk_areas.specs.Commits.{begun, first_written}
-use Rattle.disk_areas.specs.Headers.{Layout, Header, place_of}
-use Rattle.disk_zones.proofs.ZoneFrames.{zone_unchanged}
-use Rattle.disk_zones.specs.Calls.{IsFirst}
-use Rattle.disk_zones.specs.Zones.{Hotzone, Phase, Texts, saving, opening, writing, mending, moving}
-use Rattle.disk_zones.specs.Zones.{shifting, turning, IsApart, its_header, its_own, its_store}
-use Rattle.disk_zones.specs.Zones.{its_target}
+use Rattle.std.proofs.Common.{List, Some, arith, false, inl, inr, refl, subst, sym, true, ℕ, ◌≡◌}
+use Rattle.std.proofs.Common.{◌⊎◌}
+use Rattle.std.proofs.lemmas.Bool.{cases_eq as same_or_not}
+use Rattle.crash_laws.specs.HotZones.Zones.{Reaches, Resilience, checksum, datashift, journal}
+use Rattle.crash_laws.specs.HotZones.Zones.{ShowsZone}
+use Rattle.plain_disk.specs.Plain.{Block}
+use Rattle.sector_disk.specs.DiskViews.Views.{View}
+use Rattle.volume_machine.specs.Seals.{Seals}
+use Rattle.volume_machine.specs.States.{IsLive, State}
+use Rattle.volume_machine.specs.Working.{IsWorking}
+use Rattle.volume_machine.specs.Works.{Work}
+use Rattle.crash_laws.specs.HeaderAreas.Areas.{Area}
+use Rattle.crash_laws.specs.HeaderAreas.Commits.{begun, first_written}
+use Rattle.crash_laws.specs.HeaderAreas.Headers.{Layout, Header, place_of}
+use Rattle.crash_laws.proofs.HotZones.ZoneFrames.{zone_unchanged}
+use Rattle.crash_laws.specs.HotZones.Calls.{IsFirst}
+use Rattle.crash_laws.specs.HotZones.Zones.{Hotzone, Phase, Texts, saving, opening, writing, mending, moving}
+use Rattle.crash_laws.specs.HotZones.Zones.{shifting, turning, IsApart, its_header, its_own, its_store}
+use Rattle.crash_laws.specs.HotZones.Zones.{its_target}
 use Rattle.volume_machine.specs.Readings.{Reading}
 use Rattle.volume_machine.specs.WorkCalls as steps
 use Rattle.volume_machine.specs.WorkSteps.{Concludes, Frees, MayConclude, MissesConclusion, Proceeds}

@@ -1,8 +1,14 @@
 -- What an event leaves of other lanes.
-use Rattle.volume_machine.proofs.Common
-use Common.{inl, inr, length, sym, ℕ, ◌≡◌, ◌≢◌, either, IsStandingOf, Held, entry_of, has_lock}
-use Common.{entered, entries_after, Event, Outcome, admits, asks, finishes, lane_of, reads, refused}
-use Common.{settles, writes, State, open_at, Holds, Meets, Can, Step}
+use Rattle.std.proofs.Common.{inl, inr, length, sym, ℕ, ◌≡◌, ◌≢◌}
+use Rattle.std.proofs.lemmas.Bool.{cases_Bool as either}
+use Rattle.range_lock.specs.Locks.{IsStandingOf}
+use Rattle.range_lock.specs.declared.Standing.TheVariants.{Held}
+use Rattle.volume_machine.specs.Asks.{entry_of, has_lock}
+use Rattle.volume_machine.specs.Effects.{entered, entries_after}
+use Rattle.volume_machine.specs.Events.{Event, Outcome, admits, asks, finishes, lane_of, reads}
+use Rattle.volume_machine.specs.Events.{refused, settles, writes}
+use Rattle.volume_machine.specs.States.{State, open_at}
+use Rattle.volume_machine.specs.Steps.{Holds, Meets, Can, Step}
 use Rattle.volume_machine.specs.declared.ask.Ask.{Ask}
 use Rattle.volume_machine.proofs.EventEffects.{event_effects}
 use Rattle.volume_machine.proofs.Locking.{holds-more, holds-without}

@@ -1,8 +1,8 @@
 -- Lemmas on parts of a zone's atoms, and on what is saved of them.
-use Rattle.volume_machine.proofs.Common
-use Common.{List, ap, ap₂, arith, refl, suc, sym, zero, ℕ, ◌*◌, ◌+◌, ◌-◌, ◌/◌, ◌<◌, ◌∙◌, ◌≡◌}
-use Common.{◌++◌, Resilience, checksum, datashift, journal, replicate}
-use Rattle.disk_zones.specs.Zones.{Hotzone}
+use Rattle.std.proofs.Common.{List, ap, ap₂, arith, refl, suc, sym, zero, ℕ, ◌*◌, ◌+◌, ◌-◌, ◌/◌}
+use Rattle.std.proofs.Common.{◌<◌, ◌∙◌, ◌≡◌, ◌++◌, replicate}
+use Rattle.crash_laws.specs.HotZones.Zones.{Resilience, checksum, datashift, journal}
+use Rattle.crash_laws.specs.HotZones.Zones.{Hotzone}
 use Rattle.sha2.specs.Sha256.{sha256}
 use Rattle.volume_machine.specs.Saved.{digest_atom, digests, digests_in, saved_of}
 use Rattle.volume_machine.specs.Working.{HasRoom}

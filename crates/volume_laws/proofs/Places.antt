@@ -1,8 +1,13 @@
 -- The places of a map's blocks, and when no two of them are the same.
-use Rattle.volume_machine.proofs.Common.{List, None, Option, Some, ap, arith, inl, inr, refl}
-use Rattle.volume_machine.proofs.Common.{replicate, slice_get, suc, zero, ℕ, ◌++◌, ◌+◌, ◌-◌, ◌<◌}
-use Rattle.volume_machine.proofs.Common.{◌∙◌, ◌≡◌, ◌≤◌, ◌⊎◌, place_on, side_at, left_of, Side, New}
-use Rattle.volume_machine.proofs.Common.{Old, Zone, Map, known_side, place_in, AreApart}
+use Rattle.std.proofs.Common.{List, None, Option, Some, ap, arith, inl, inr, refl, replicate}
+use Rattle.std.proofs.Common.{slice_get, suc, zero, ℕ, ◌++◌, ◌+◌, ◌-◌, ◌<◌, ◌∙◌, ◌≡◌, ◌≤◌, ◌⊎◌}
+use Rattle.segment_map.specs.Maps.{place_on, side_at}
+use Rattle.segment_map.specs.Sides.{left_of}
+use Rattle.segment_map.specs.declared.Side.{Side}
+use Rattle.segment_map.specs.declared.Side.TheVariants.{New, Old, Zone}
+use Rattle.segment_map.specs.declared.map.Map.{Map}
+use Rattle.volume_machine.specs.Pieces.{known_side, place_in}
+use Rattle.volume_machine.specs.Sound.{AreApart}
 use Rattle.segment_map.specs.declared.Direction.TheVariants.{Backward, Forward}
 
 -- within a run of blocks on one side, and behind it

@@ -1,13 +1,18 @@
 -- Lemmas on the blocks of a plain disk, block by block.
-use Rattle.volume_machine.proofs.Common
-use Common.{Contains, List, [], ap, arith, drop, false, le_of_suc-le-suc, length, length-take, map}
-use Common.{mul-le-mul_right, refl, replicate, slice_index_or, suc, suc-le-suc, sym, take, zero, ℕ}
-use Common.{◌*◌, ◌+◌, ◌<◌, ◌∙◌, ◌∷◌, ◌≡◌, ◌≤◌, get_or-drop, get_or-map, get_or-take}
-use Common.{Contains-append_left, Contains-push, blocks_of, changed, joined, lengths, block_at}
-use Common.{IsOutside, block_at-part, length-part, same_blocks, Block, flushed, settled, values_of}
-use Common.{written, AreSure, newest_bytes}
-use Rattle.sector_disk.proofs.ImageLemmas.{blocks_of-joined, length-joined}
-use Rattle.disk_views.proofs.Entries.{blocks_of-at, changed_blocks-inside, changed_blocks-outside}
+use Rattle.std.proofs.Common.{Contains, List, [], ap, arith, drop, false, le_of_suc-le-suc, length}
+use Rattle.std.proofs.Common.{length-take, map, mul-le-mul_right, refl, replicate, slice_index_or}
+use Rattle.std.proofs.Common.{suc, suc-le-suc, sym, take, zero, ℕ, ◌*◌, ◌+◌, ◌<◌, ◌∙◌, ◌∷◌, ◌≡◌}
+use Rattle.std.proofs.Common.{◌≤◌}
+use Rattle.std.proofs.lemmas.List.{get_or-drop, get_or-map, get_or-take}
+use Rattle.std.proofs.lemmas.List.Elements.{Contains-append_left, Contains-push}
+use Rattle.base_terms.specs.Blocks.{blocks_of, changed, joined, lengths}
+use Rattle.plain_disk.specs.Plain.{Block, flushed, settled, values_of, written, AreSure}
+use Rattle.plain_disk.specs.Plain.{newest_bytes}
+use Rattle.sector_disk.proofs.DiskViews.Blockwise.{block_at-part, length-part, same_blocks}
+use Rattle.sector_disk.specs.DiskViews.Parts.{block_at}
+use Rattle.sector_disk.specs.DiskViews.Views.{IsOutside}
+use Rattle.base_terms.proofs.BlockLemmas.{blocks_of-joined, length-joined}
+use Rattle.sector_disk.proofs.DiskViews.Entries.{blocks_of-at, changed_blocks-inside, changed_blocks-outside}
 use Rattle.volume_laws.specs.Contents.{block_in}
 
 -- blocks that are changed by the blocks of a text, and flushed ones

@@ -1,12 +1,24 @@
 -- Pieces that are read, and reads that are answered: what holds between events goes on to hold.
-use Rattle.volume_machine.proofs.Common
-use Common.{Bool, List, Option, Some, ap, arith, false, inl, inr, refl, subst, sym, true, ℕ, ◌++◌}
-use Common.{◌+◌, ◌-◌, ◌<◌, ◌∙◌, ◌≡◌, ◌≢◌, ◌≤◌, cases_lt, same_or_not, AreBlocks, block_at}
-use Common.{IsUnchanged, View, block_at-behind, block_at-front, blocks_joined, place_on, New, Old}
-use Common.{Zone, Map, Piece, Block, IsForced, IsRead, IsWrite, entry_of, has_lock, kind_of}
-use Common.{range_of, ArePieceBytes, IsPieceOf, failing, moved, place_in, place_of, side_in}
-use Common.{plain_piece, with_plain, AreLawful, Seals, IsSound, IsLive, State, open_at, GetsPiece}
-use Common.{Goes, HasPiece, Holds}
+use Rattle.std.proofs.Common.{Bool, List, Option, Some, ap, arith, false, inl, inr, refl, subst}
+use Rattle.std.proofs.Common.{sym, true, ℕ, ◌++◌, ◌+◌, ◌-◌, ◌<◌, ◌∙◌, ◌≡◌, ◌≢◌, ◌≤◌}
+use Rattle.std.proofs.lemmas.Bool.{cases_lt, cases_eq as same_or_not}
+use Rattle.plain_disk.specs.Plain.{Block}
+use Rattle.sector_disk.proofs.DiskViews.Blockwise.{block_at-behind, block_at-front, blocks_joined}
+use Rattle.sector_disk.specs.DiskViews.Parts.{AreBlocks, block_at}
+use Rattle.sector_disk.specs.DiskViews.Views.{IsUnchanged, View}
+use Rattle.segment_map.specs.Maps.{place_on}
+use Rattle.segment_map.specs.declared.Side.TheVariants.{New, Old, Zone}
+use Rattle.segment_map.specs.declared.map.Map.{Map}
+use Rattle.segment_map.specs.declared.map.Piece.{Piece}
+use Rattle.volume_machine.specs.Asks.{IsForced, IsRead, IsWrite, entry_of, has_lock, kind_of}
+use Rattle.volume_machine.specs.Asks.{range_of}
+use Rattle.volume_machine.specs.Pieces.{ArePieceBytes, IsPieceOf, failing, moved, place_in}
+use Rattle.volume_machine.specs.Pieces.{place_of, side_in}
+use Rattle.volume_machine.specs.Runs.{plain_piece, with_plain}
+use Rattle.volume_machine.specs.Seals.{AreLawful, Seals}
+use Rattle.volume_machine.specs.Sound.{IsSound}
+use Rattle.volume_machine.specs.States.{IsLive, State, open_at}
+use Rattle.volume_machine.specs.Steps.{GetsPiece, Goes, HasPiece, Holds}
 use Rattle.range_lock.specs.declared.Kind.TheVariants.{Alone}
 use Rattle.volume_machine.specs.{declared.ask.Ask.Ask, declared.ask.Ask.TheVariants.Read}
 use Rattle.volume_machine.specs.{declared.ask.Ask.TheVariants.Write, declared.open.Open.Open}

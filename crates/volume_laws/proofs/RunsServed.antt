@@ -1,13 +1,23 @@
 -- Runs of events: their operations are those of one plain disk, and a stop leaves what it allows.
-use Rattle.volume_machine.proofs.Common
-use Common.{Contains, List, Some, [], ap, arith, false, inl, inr, length, refl, subst, suc, sym, ℕ, ◌++◌, ◌<◌}
-use Common.{◌∙◌, ◌∷◌, ◌≡◌, cell_in, value_in, View, view_of_bytes, view_of_cells, Block, Exchange}
-use Common.{values_of, Legal, by_settle, IsRead, IsWrite, breaks, Event, Outcome, admits, asks}
-use Common.{finishes, reads, settles, writes, place_in, Happening, no_plain, Seals, State, open_at}
-use Common.{CanSettle, Holds, KeepsApart, Meets, SettleStep, Works, AreExchanges, IsRun, answered_by, answered_in}
-use Common.{last_of, plain_after, plain_in, Can, Step}
+use Rattle.std.proofs.Common.{Contains, List, Some, [], ap, arith, false, inl, inr, length, refl}
+use Rattle.std.proofs.Common.{subst, suc, sym, ℕ, ◌++◌, ◌<◌, ◌∙◌, ◌∷◌, ◌≡◌}
+use Rattle.plain_disk.specs.Plain.{Block, Exchange, values_of, Legal}
+use Rattle.sector_disk.specs.DiskViews.Parts.{cell_in, value_in}
+use Rattle.sector_disk.specs.DiskViews.Views.{View, view_of_bytes, view_of_cells}
+use Rattle.volume_machine.specs.Answers.{by_settle, AreExchanges}
+use Rattle.volume_machine.specs.Asks.{IsRead, IsWrite}
+use Rattle.volume_machine.specs.Effects.{breaks}
+use Rattle.volume_machine.specs.Events.{Event, Outcome, admits, asks, finishes, reads, settles}
+use Rattle.volume_machine.specs.Events.{writes}
+use Rattle.volume_machine.specs.Pieces.{place_in}
+use Rattle.volume_machine.specs.Runs.{Happening, no_plain, IsRun, answered_by, answered_in, last_of}
+use Rattle.volume_machine.specs.Runs.{plain_after, plain_in}
+use Rattle.volume_machine.specs.Seals.{Seals}
+use Rattle.volume_machine.specs.States.{State, open_at}
+use Rattle.volume_machine.specs.Steps.{CanSettle, Holds, Meets, SettleStep, Can, Step}
+use Rattle.volume_machine.specs.Working.{KeepsApart, Works}
 use Rattle.std.proofs.lemmas.Bool.{or_parts}
-use Rattle.disk_views.proofs.{Entries.image_in, TableEntries.place_of_some}
+use Rattle.sector_disk.proofs.DiskViews.{Entries.image_in, TableEntries.place_of_some}
 use Rattle.volume_machine.specs.declared.open.Open.{Open}
 use Rattle.volume_machine.proofs.{EventEffects.event_effects, Soundness.sound_kept}
 use Rattle.volume_laws.specs.Contents.{IsSealed, block_in}

@@ -1,10 +1,19 @@
 -- Keys seal lawfully: what a cipher makes of a run of blocks it makes of each block by itself.
-use Rattle.volume_machine.proofs.Common
-use Common.{List, ap, arith, drop, inl, inr, length, length-drop, length-take-le, sym, take, ℕ, ◌%◌}
-use Common.{◌*◌, ◌++◌, ◌+◌, ◌-◌, ◌/◌, ◌<◌, ◌∙◌, ◌≡◌, mul-mod_left, take-append-drop, mul-mod_second}
-use Common.{IsAtom, AreSectors, AreBlocks, block_at, block_at-behind, block_at-front, block_at-one}
-use Common.{blocks_end, bytes-drop, bytes-take, Side, New, Old, Zone, Map, side_in, AreLawful}
-use Common.{Seals, key_of, number_of, seals_of, tweak_of}
+use Rattle.std.proofs.Common.{List, ap, arith, drop, inl, inr, length, length-drop, length-take-le}
+use Rattle.std.proofs.Common.{sym, take, ℕ, ◌%◌, ◌*◌, ◌++◌, ◌+◌, ◌-◌, ◌/◌, ◌<◌, ◌∙◌, ◌≡◌}
+use Rattle.std.proofs.Math.Nat.{mul-mod_left}
+use Rattle.std.proofs.lemmas.List.{take-append-drop}
+use Rattle.std.proofs.lemmas.Nat.{mul-mod_second}
+use Rattle.cipher_laws.specs.Bytes.{AreSectors}
+use Rattle.sector_disk.proofs.DiskViews.Blockwise.{block_at-behind, block_at-front, block_at-one}
+use Rattle.sector_disk.proofs.DiskViews.Blockwise.{blocks_end, bytes-drop, bytes-take}
+use Rattle.sector_disk.specs.DiskViews.Parts.{AreBlocks, block_at}
+use Rattle.sector_disk.specs.Geometry.{IsAtom}
+use Rattle.segment_map.specs.declared.Side.{Side}
+use Rattle.segment_map.specs.declared.Side.TheVariants.{New, Old, Zone}
+use Rattle.segment_map.specs.declared.map.Map.{Map}
+use Rattle.volume_machine.specs.Pieces.{side_in}
+use Rattle.volume_machine.specs.Seals.{AreLawful, Seals, key_of, number_of, seals_of, tweak_of}
 use Rattle.cipher_laws.specs.Laws.{GivesBytes, JoinsSectors, KeepsLengths, UndoesSectors}
 use Rattle.volume_machine.specs.declared.keys.Keys.{Keys}
 use Rattle.volume_laws.specs.Contents.{IsSealed}

@@ -1,11 +1,21 @@
 -- Settles: what holds between events goes on to hold.
-use Rattle.volume_machine.proofs.Common
-use Common.{Bool, List, None, Some, ap, arith, false, inl, inr, length, map, refl, subst, suc, sym}
-use Common.{true, ℕ, ◌*◌, ◌+◌, ◌-◌, ◌<◌, ◌∙◌, ◌≡◌, ◌≤◌, same_or_not, length-map, block_at, IsSynced}
-use Common.{IsThinned, View, ShowsZone, zone_stays, zone_whole, Block, flushed, IsForced, IsRead}
-use Common.{IsWrite, has_lock, place_in, settling, Seals, IsSound, State, open_at, Goes, Holds}
-use Common.{Works}
-use Rattle.disk_zones.specs.Calls.{syncs}
+use Rattle.std.proofs.Common.{Bool, List, None, Some, ap, arith, false, inl, inr, length, map, refl}
+use Rattle.std.proofs.Common.{subst, suc, sym, true, ℕ, ◌*◌, ◌+◌, ◌-◌, ◌<◌, ◌∙◌, ◌≡◌, ◌≤◌}
+use Rattle.std.proofs.lemmas.Bool.{cases_eq as same_or_not}
+use Rattle.std.proofs.lemmas.List.{length-map}
+use Rattle.crash_laws.proofs.HotZones.ZoneFrames.{zone_stays, zone_whole}
+use Rattle.crash_laws.specs.HotZones.Zones.{ShowsZone}
+use Rattle.plain_disk.specs.Plain.{Block, flushed}
+use Rattle.sector_disk.specs.DiskViews.Parts.{block_at}
+use Rattle.sector_disk.specs.DiskViews.Views.{IsSynced, IsThinned, View}
+use Rattle.volume_machine.specs.Asks.{IsForced, IsRead, IsWrite, has_lock}
+use Rattle.volume_machine.specs.Pieces.{place_in, settling}
+use Rattle.volume_machine.specs.Seals.{Seals}
+use Rattle.volume_machine.specs.Sound.{IsSound}
+use Rattle.volume_machine.specs.States.{State, open_at}
+use Rattle.volume_machine.specs.Steps.{Goes, Holds}
+use Rattle.volume_machine.specs.Working.{Works}
+use Rattle.crash_laws.specs.HotZones.Calls.{syncs}
 use Rattle.volume_machine.specs.declared.open.Open.{Open}
 use Rattle.volume_laws.specs.Contents.{IsAllowedAt, IsNow, block_in}
 use Rattle.volume_laws.specs.Texts.{texts_of}

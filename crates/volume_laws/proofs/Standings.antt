@@ -1,12 +1,21 @@
 -- Lemmas on what images stand for: one content, and by stops an allowed one.
-use Rattle.volume_machine.proofs.Common.{List, None, Option, Some, [], ap, arith, inl, inr, refl}
-use Rattle.volume_machine.proofs.Common.{subst, sym, ℕ, ◌+◌, ◌-◌, ◌<◌, ◌∙◌, ◌≡◌, ◌≤◌, ◌⊎◌, cases_lt}
-use Rattle.volume_machine.proofs.Common.{Cell, AreBlocks, block_at, value_in, Side, New, Old, Zone}
-use Rattle.volume_machine.proofs.Common.{Map, Resilience, checksum, datashift, journal, Block}
-use Rattle.volume_machine.proofs.Common.{place_in, side_in, AreLawful, Seals, IsLive, State, Work}
-use Rattle.disk_areas.specs.{Areas.Image, Areas.content_of, Areas.text_in, Headers.IsReader}
-use Rattle.disk_areas.proofs.HeadersGiven.{header_is_one}
-use Rattle.disk_zones.specs.Standing.{Hash, Recovers, TellsDigest, digest_at}
+use Rattle.std.proofs.Common.{List, None, Option, Some, [], ap, arith, inl, inr, refl, subst, sym}
+use Rattle.std.proofs.Common.{ℕ, ◌+◌, ◌-◌, ◌<◌, ◌∙◌, ◌≡◌, ◌≤◌, ◌⊎◌}
+use Rattle.std.proofs.lemmas.Bool.{cases_lt}
+use Rattle.crash_laws.specs.HotZones.Zones.{Resilience, checksum, datashift, journal}
+use Rattle.plain_disk.specs.Plain.{Block}
+use Rattle.sector_disk.specs.Cells.{Cell}
+use Rattle.sector_disk.specs.DiskViews.Parts.{AreBlocks, block_at, value_in}
+use Rattle.segment_map.specs.declared.Side.{Side}
+use Rattle.segment_map.specs.declared.Side.TheVariants.{New, Old, Zone}
+use Rattle.segment_map.specs.declared.map.Map.{Map}
+use Rattle.volume_machine.specs.Pieces.{place_in, side_in}
+use Rattle.volume_machine.specs.Seals.{AreLawful, Seals}
+use Rattle.volume_machine.specs.States.{IsLive, State}
+use Rattle.volume_machine.specs.Works.{Work}
+use Rattle.crash_laws.specs.HeaderAreas.{Areas.Image, Areas.content_of, Areas.text_in, Headers.IsReader}
+use Rattle.crash_laws.proofs.HeaderAreas.HeadersGiven.{header_is_one}
+use Rattle.crash_laws.specs.HotZones.Standing.{Hash, Recovers, TellsDigest, digest_at}
 use Rattle.volume_laws.specs.Contents.{IsAllowedAt, IsNow, IsSealed, StandsNow, StopsAllowed}
 use Rattle.volume_laws.specs.Standing.{AtomStands, BlockStands, Content, IsInZone}
 use Rattle.volume_machine.specs.Readings.{Reading}

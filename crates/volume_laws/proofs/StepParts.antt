@@ -1,12 +1,16 @@
 -- Parts of a zone on their way: after each step of the zone what is known of its part is known of
 -- the next one.
-use Rattle.volume_machine.proofs.Common
-use Common.{Bool, List, Some, ap, arith, false, if◌then◌else◌, length, refl, sym, true}
-use Common.{replicate, zero, suc, ℕ, ◌*◌, ◌++◌, ◌+◌, ◌-◌, ◌/◌, ◌<◌, ◌==◌, ◌∙◌, ◌≡◌, ◌≤◌, block_at}
-use Common.{view_of_bytes, Resilience, ShowsZone, checksum, datashift, journal, Seals, Work}
-use Rattle.disk_views.proofs.DeviceViews.{block-read}
-use Rattle.disk_zones.specs.Zones.{Texts, Phase, saving, opening, writing, mending, moving}
-use Rattle.disk_zones.specs.Zones.{shifting, turning}
+use Rattle.std.proofs.Common.{Bool, List, Some, ap, arith, false, if◌then◌else◌, length, refl, sym}
+use Rattle.std.proofs.Common.{true, replicate, zero, suc, ℕ, ◌*◌, ◌++◌, ◌+◌, ◌-◌, ◌/◌, ◌<◌, ◌==◌}
+use Rattle.std.proofs.Common.{◌∙◌, ◌≡◌, ◌≤◌}
+use Rattle.crash_laws.specs.HotZones.Zones.{Resilience, ShowsZone, checksum, datashift, journal}
+use Rattle.sector_disk.specs.DiskViews.Parts.{block_at}
+use Rattle.sector_disk.specs.DiskViews.Views.{view_of_bytes}
+use Rattle.volume_machine.specs.Seals.{Seals}
+use Rattle.volume_machine.specs.Works.{Work}
+use Rattle.sector_disk.proofs.DiskViews.DeviceViews.{block-read}
+use Rattle.crash_laws.specs.HotZones.Zones.{Texts, Phase, saving, opening, writing, mending, moving}
+use Rattle.crash_laws.specs.HotZones.Zones.{shifting, turning}
 use Rattle.sector_disk.specs.Devices.{Device}
 use Rattle.volume_machine.specs.Saved.{IsOfPart, digests_in, saved_of}
 use Rattle.volume_machine.specs.Saved.{saved_atoms, saved_before}

@@ -1,21 +1,27 @@
 -- What a step of the zone at hand does to what the disk shows: the zone goes on, and live blocks
 -- keep what they hold.
-use Rattle.volume_machine.proofs.Common
-use Common.{Bool, Contains, List, arith, false, inl, inr, subst, true, ℕ, ◌+◌}
-use Common.{◌<◌, ◌≡◌}
-use Common.{◌≤◌, ◌⊎◌, block_at, IsOutside, IsSynced, IsTried, IsUnchanged, IsWritten}
-use Common.{View, Reaches, ShowsZone, Block, place_in, Seals, IsLive, State}
-use Common.{IsWorking, Work}
-use Rattle.disk_areas.specs.Areas.{Area}
-use Rattle.disk_areas.specs.Commits.{Stage, begun, first_written, first_kept, second_written}
-use Rattle.disk_areas.specs.Commits.{CommitCall, CommitFails}
-use Rattle.disk_areas.specs.Headers.{primary, secondary, place_of, Header, text_of}
-use Rattle.disk_views.specs.Views.{HasNoMore}
-use Rattle.disk_zones.proofs.ZoneCalls.{zone_goes}
-use Rattle.disk_zones.proofs.ZoneFaults.{zone_fails}
-use Rattle.disk_zones.proofs.ZoneFrames.{zone_kept, zone_unchanged}
-use Rattle.disk_zones.specs.Calls as calls
-use Rattle.disk_zones.specs.Zones.{Texts, Phase, its_header, its_own, its_store, its_target}
+use Rattle.std.proofs.Common.{Bool, Contains, List, arith, false, inl, inr, subst, true, ℕ, ◌+◌}
+use Rattle.std.proofs.Common.{◌<◌, ◌≡◌, ◌≤◌, ◌⊎◌}
+use Rattle.crash_laws.specs.HotZones.Zones.{Reaches, ShowsZone}
+use Rattle.plain_disk.specs.Plain.{Block}
+use Rattle.sector_disk.specs.DiskViews.Parts.{block_at}
+use Rattle.sector_disk.specs.DiskViews.Views.{IsOutside, IsSynced, IsTried, IsUnchanged, IsWritten}
+use Rattle.sector_disk.specs.DiskViews.Views.{View}
+use Rattle.volume_machine.specs.Pieces.{place_in}
+use Rattle.volume_machine.specs.Seals.{Seals}
+use Rattle.volume_machine.specs.States.{IsLive, State}
+use Rattle.volume_machine.specs.Working.{IsWorking}
+use Rattle.volume_machine.specs.Works.{Work}
+use Rattle.crash_laws.specs.HeaderAreas.Areas.{Area}
+use Rattle.crash_laws.specs.HeaderAreas.Commits.{Stage, begun, first_written, first_kept, second_written}
+use Rattle.crash_laws.specs.HeaderAreas.Commits.{CommitCall, CommitFails}
+use Rattle.crash_laws.specs.HeaderAreas.Headers.{primary, secondary, place_of, Header, text_of}
+use Rattle.sector_disk.specs.DiskViews.Views.{HasNoMore}
+use Rattle.crash_laws.proofs.HotZones.ZoneCalls.{zone_goes}
+use Rattle.crash_laws.proofs.HotZones.ZoneFaults.{zone_fails}
+use Rattle.crash_laws.proofs.HotZones.ZoneFrames.{zone_kept, zone_unchanged}
+use Rattle.crash_laws.specs.HotZones.Calls as calls
+use Rattle.crash_laws.specs.HotZones.Zones.{Texts, Phase, its_header, its_own, its_store, its_target}
 use Rattle.sector_disk.specs.Devices.{Device}
 use Rattle.volume_machine.specs.Saved.{saved_atoms, saved_before, saved_of}
 use Rattle.volume_machine.specs.WorkCalls.{IsResealed, StepFails, ZoneStep, arrives, keeps}

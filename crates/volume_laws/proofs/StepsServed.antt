@@ -1,11 +1,17 @@
 -- Steps of the zone at hand, one at a time: what holds at a moment goes on to hold.
-use Rattle.volume_machine.proofs.Common
-use Common.{Bool, List, Some, ap, arith, false, inl, refl, subst, true, ℕ, ◌+◌, ◌<◌, ◌∙◌}
-use Common.{◌≡◌, View, New, Old, Resilience, checksum, datashift}
-use Common.{journal, Block, Seals, State, IsWorking, Work}
-use Rattle.disk_zones.specs.Standing.{IsPhaseOf, side_before}
-use Rattle.disk_zones.specs.Zones.{Phase, saving, opening, writing, mending, moving, shifting}
-use Rattle.disk_zones.specs.Zones.{turning}
+use Rattle.std.proofs.Common.{Bool, List, Some, ap, arith, false, inl, refl, subst, true, ℕ, ◌+◌}
+use Rattle.std.proofs.Common.{◌<◌, ◌∙◌, ◌≡◌}
+use Rattle.crash_laws.specs.HotZones.Zones.{Resilience, checksum, datashift, journal}
+use Rattle.plain_disk.specs.Plain.{Block}
+use Rattle.sector_disk.specs.DiskViews.Views.{View}
+use Rattle.segment_map.specs.declared.Side.TheVariants.{New, Old}
+use Rattle.volume_machine.specs.Seals.{Seals}
+use Rattle.volume_machine.specs.States.{State}
+use Rattle.volume_machine.specs.Working.{IsWorking}
+use Rattle.volume_machine.specs.Works.{Work}
+use Rattle.crash_laws.specs.HotZones.Standing.{IsPhaseOf, side_before}
+use Rattle.crash_laws.specs.HotZones.Zones.{Phase, saving, opening, writing, mending, moving, shifting}
+use Rattle.crash_laws.specs.HotZones.Zones.{turning}
 use Rattle.sector_disk.specs.Devices.{Device}
 use Rattle.volume_machine.specs.WorkCalls.{ZoneStep, arrives, keeps, moves, opens, reads, resealed}
 use Rattle.volume_machine.specs.WorkCalls.{saves, settles, shifts, turns, writes}

@@ -1,12 +1,14 @@
 -- By checksum the digests of a zone's blocks tell their old atoms from the new ones, once they were
 -- saved.
-use Rattle.volume_machine.proofs.Common
-use Common.{List, arith, inl, inr, refl, subst, ℕ, ◌<◌, ◌≡◌, ◌≢◌, ◌⊎◌, checksum, Seals, Work}
+use Rattle.std.proofs.Common.{List, arith, inl, inr, refl, subst, ℕ, ◌<◌, ◌≡◌, ◌≢◌, ◌⊎◌}
+use Rattle.crash_laws.specs.HotZones.Zones.{checksum}
+use Rattle.volume_machine.specs.Seals.{Seals}
+use Rattle.volume_machine.specs.Works.{Work}
 use Rattle.std.specs.Prelude.{◌/◌}
-use Rattle.disk_zones.specs.Calls.{IsFirst}
-use Rattle.disk_zones.specs.Standing.{IsPhaseOf}
-use Rattle.disk_zones.specs.Zones.{Hotzone, Phase, Texts, mending, moving, opening, saving, shifting}
-use Rattle.disk_zones.specs.Zones.{turning, writing}
+use Rattle.crash_laws.specs.HotZones.Calls.{IsFirst}
+use Rattle.crash_laws.specs.HotZones.Standing.{IsPhaseOf}
+use Rattle.crash_laws.specs.HotZones.Zones.{Hotzone, Phase, Texts, mending, moving, opening, saving, shifting}
+use Rattle.crash_laws.specs.HotZones.Zones.{turning, writing}
 use Rattle.sector_disk.specs.Devices.{Device}
 use Rattle.sha2.specs.Sha256.{sha256}
 use Rattle.volume_machine.specs.WorkCalls.{StepFails}

@@ -1,10 +1,21 @@
 -- A sync with which the map turns the zone's blocks: what holds at a moment goes on to hold.
-use Rattle.volume_machine.proofs.Common
-use Common.{AreBlocks, Contains, List, Some, ap, arith, false, inl, inr, refl, subst, sym, ℕ}
-use Common.{◌+◌, ◌-◌, ◌<◌, ◌∙◌, ◌≡◌, ◌⊎◌, block_at, BlockRange, IsSynced, View, view_of_bytes}
-use Common.{cell_in, Side, Zone, Map, Block, place_in, side_in, AreLawful, Seals}
-use Common.{IsSound, IsGoverned, IsLive, State, open_at, Holds, Works, Work}
-use Rattle.disk_views.proofs.TableEntries.{place_of_some}
+use Rattle.std.proofs.Common.{Contains, List, Some, ap, arith, false, inl, inr, refl, subst, sym, ℕ}
+use Rattle.std.proofs.Common.{◌+◌, ◌-◌, ◌<◌, ◌∙◌, ◌≡◌, ◌⊎◌}
+use Rattle.base_terms.specs.declared.block_range.BlockRange.{BlockRange}
+use Rattle.plain_disk.specs.Plain.{Block}
+use Rattle.sector_disk.specs.DiskViews.Parts.{AreBlocks, block_at, cell_in}
+use Rattle.sector_disk.specs.DiskViews.Views.{IsSynced, View, view_of_bytes}
+use Rattle.segment_map.specs.declared.Side.{Side}
+use Rattle.segment_map.specs.declared.Side.TheVariants.{Zone}
+use Rattle.segment_map.specs.declared.map.Map.{Map}
+use Rattle.volume_machine.specs.Pieces.{place_in, side_in}
+use Rattle.volume_machine.specs.Seals.{AreLawful, Seals}
+use Rattle.volume_machine.specs.Sound.{IsSound}
+use Rattle.volume_machine.specs.States.{IsGoverned, IsLive, State, open_at}
+use Rattle.volume_machine.specs.Steps.{Holds}
+use Rattle.volume_machine.specs.Working.{Works}
+use Rattle.volume_machine.specs.Works.{Work}
+use Rattle.sector_disk.proofs.DiskViews.TableEntries.{place_of_some}
 use Rattle.sector_disk.specs.Devices.{SyncCall, succeeded}
 use Rattle.volume_machine.specs.Courses.{IsBeyond, Turns}
 use Rattle.volume_machine.specs.WorkSteps.{Proceeds}

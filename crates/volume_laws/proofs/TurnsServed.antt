@@ -1,21 +1,30 @@
 -- The last calls of the commits 'zone open' and 'boundary moved': the map is that of the next
 -- header.
-use Rattle.volume_machine.proofs.Common
-use Common.{Contains, List, Map, Side, Some, ap, arith, cases_lt, false, inl, inr, length}
-use Common.{open_at, refl, subst, suc, sym}
-use Common.{ℕ, ◌+◌, ◌<◌, ◌∙◌, ◌≡◌, ◌≤◌, ◌⊎◌, IsOutside, Reaches, Resilience}
-use Common.{checksum, datashift, journal, Zone, Block, place_in, side_in, Seals}
-use Common.{IsGoverned, IsLive, State, IsWorking, Works, Work, BlockRange}
-use Rattle.disk_areas.specs.Areas.{Area, AreApart}
-use Rattle.disk_areas.specs.Commits.{second_written}
-use Rattle.disk_areas.specs.Headers.{Copy, Layout, Header, place_of}
-use Rattle.disk_zones.proofs.ZoneCalls.{zone_goes}
-use Rattle.disk_zones.specs.Calls as calls
-use Rattle.disk_zones.specs.Calls.{IsFirst, IsLast, ShowsMoved, new_area}
-use Rattle.disk_zones.specs.Standing.{IsPhaseOf, new_start}
-use Rattle.disk_zones.specs.Zones.{Hotzone, Phase, saving, opening, writing, mending, moving}
-use Rattle.disk_zones.specs.Zones.{shifting, turning, ShowsZone, IsApart, its_header, its_own}
-use Rattle.disk_zones.specs.Zones.{its_store, its_target}
+use Rattle.std.proofs.Common.{Contains, List, Some, ap, arith, false, inl, inr, length, refl, subst}
+use Rattle.std.proofs.Common.{suc, sym, ℕ, ◌+◌, ◌<◌, ◌∙◌, ◌≡◌, ◌≤◌, ◌⊎◌}
+use Rattle.std.proofs.lemmas.Bool.{cases_lt}
+use Rattle.base_terms.specs.declared.block_range.BlockRange.{BlockRange}
+use Rattle.crash_laws.specs.HotZones.Zones.{Reaches, Resilience, checksum, datashift, journal}
+use Rattle.plain_disk.specs.Plain.{Block}
+use Rattle.sector_disk.specs.DiskViews.Views.{IsOutside}
+use Rattle.segment_map.specs.declared.Side.{Side}
+use Rattle.segment_map.specs.declared.Side.TheVariants.{Zone}
+use Rattle.segment_map.specs.declared.map.Map.{Map}
+use Rattle.volume_machine.specs.Pieces.{place_in, side_in}
+use Rattle.volume_machine.specs.Seals.{Seals}
+use Rattle.volume_machine.specs.States.{open_at, IsGoverned, IsLive, State}
+use Rattle.volume_machine.specs.Working.{IsWorking, Works}
+use Rattle.volume_machine.specs.Works.{Work}
+use Rattle.crash_laws.specs.HeaderAreas.Areas.{Area, AreApart}
+use Rattle.crash_laws.specs.HeaderAreas.Commits.{second_written}
+use Rattle.crash_laws.specs.HeaderAreas.Headers.{Copy, Layout, Header, place_of}
+use Rattle.crash_laws.proofs.HotZones.ZoneCalls.{zone_goes}
+use Rattle.crash_laws.specs.HotZones.Calls as calls
+use Rattle.crash_laws.specs.HotZones.Calls.{IsFirst, IsLast, ShowsMoved, new_area}
+use Rattle.crash_laws.specs.HotZones.Standing.{IsPhaseOf, new_start}
+use Rattle.crash_laws.specs.HotZones.Zones.{Hotzone, Phase, saving, opening, writing, mending, moving}
+use Rattle.crash_laws.specs.HotZones.Zones.{shifting, turning, ShowsZone, IsApart, its_header, its_own}
+use Rattle.crash_laws.specs.HotZones.Zones.{its_store, its_target}
 use Rattle.volume_machine.specs.Courses.{IsBeyond, IsOnCourse, Leads, Turns}
 use Rattle.volume_machine.specs.Readings.{Reading}
 use Rattle.volume_machine.specs.WorkSteps.{OpensZone}

@@ -1,13 +1,23 @@
 -- How volumes start: their bytes stand for the blocks that their keys open, and for no others; a
 -- whole disk as it is stands for its own atoms; and what settled tables stand for.
-use Rattle.volume_machine.proofs.Common
-use Common.{Contains, List, Some, [], ap, arith, length, refl, replicate, slice_index_or, subst}
-use Common.{suc, sym, zero, ℕ, ◌*◌, ◌+◌, ◌<◌, ◌∙◌, ◌∷◌, ◌≡◌, length-map, blocks_of, lengths, Cell}
-use Common.{AreSettled, content, currents, AreBytes, AreBlocks, block_at, cell_in, one_block, Map}
-use Common.{Block, settled, settled_blocks, ChangeNothing, IsFresh, IsWholeDisk, place_in, side_in}
-use Common.{AreLawful, Seals, AreApart, IsSound, MapFits, State}
-use Rattle.sector_disk.proofs.ImageLemmas.{blocks_of-joined}
-use Rattle.disk_views.proofs.Entries.{blocks_of-at, length-blocks_of}
+use Rattle.std.proofs.Common.{Contains, List, Some, [], ap, arith, length, refl, replicate}
+use Rattle.std.proofs.Common.{slice_index_or, subst, suc, sym, zero, ℕ, ◌*◌, ◌+◌, ◌<◌, ◌∙◌, ◌∷◌}
+use Rattle.std.proofs.Common.{◌≡◌}
+use Rattle.std.proofs.lemmas.List.{length-map}
+use Rattle.base_terms.specs.Blocks.{blocks_of, lengths}
+use Rattle.cipher_laws.specs.Bytes.{AreBytes}
+use Rattle.plain_disk.specs.Plain.{Block, settled, settled_blocks}
+use Rattle.sector_disk.proofs.DiskViews.Blockwise.{one_block}
+use Rattle.sector_disk.specs.Cells.{Cell, AreSettled, content, currents}
+use Rattle.sector_disk.specs.DiskViews.Parts.{AreBlocks, block_at, cell_in}
+use Rattle.segment_map.specs.declared.map.Map.{Map}
+use Rattle.volume_machine.specs.Beginnings.{ChangeNothing, IsFresh, IsWholeDisk}
+use Rattle.volume_machine.specs.Pieces.{place_in, side_in}
+use Rattle.volume_machine.specs.Seals.{AreLawful, Seals}
+use Rattle.volume_machine.specs.Sound.{AreApart, IsSound, MapFits}
+use Rattle.volume_machine.specs.States.{State}
+use Rattle.base_terms.proofs.BlockLemmas.{blocks_of-joined}
+use Rattle.sector_disk.proofs.DiskViews.Entries.{blocks_of-at, length-blocks_of}
 use Rattle.volume_machine.proofs.NextPieces.{on_disk}
 use Rattle.volume_laws.specs.Contents.{IsSealed, StandsFor, block_in, blocks_from}
 use Rattle.volume_laws.specs.Contents.{opened_block, opened_blocks, plain_blocks}

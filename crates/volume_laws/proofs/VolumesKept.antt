@@ -1,13 +1,20 @@
 -- What holds of a volume with a header between two deeds is kept by each step of the worker, and by
 -- each event of a client.
-use Rattle.volume_machine.proofs.Common
-use Common.{Bool, List, Option, Some, [], ap, arith, false, inl, inr, refl, subst, suc, sym, ℕ}
-use Common.{◌∙◌, ◌∷◌, ◌≡◌, ◌≤◌, Event, Outcome, Zone, Seals, side_in}
-use Common.{IsSound, AreApart, IsGoverned, State, open_at, Works, Work, Step, Meets}
+use Rattle.std.proofs.Common.{Bool, List, Option, Some, [], ap, arith, false, inl, inr, refl, subst}
+use Rattle.std.proofs.Common.{suc, sym, ℕ, ◌∙◌, ◌∷◌, ◌≡◌, ◌≤◌}
+use Rattle.segment_map.specs.declared.Side.TheVariants.{Zone}
+use Rattle.volume_machine.specs.Events.{Event, Outcome}
+use Rattle.volume_machine.specs.Pieces.{side_in}
+use Rattle.volume_machine.specs.Seals.{Seals}
+use Rattle.volume_machine.specs.Sound.{IsSound, AreApart}
+use Rattle.volume_machine.specs.States.{IsGoverned, State, open_at}
+use Rattle.volume_machine.specs.Steps.{Step, Meets}
+use Rattle.volume_machine.specs.Working.{Works}
+use Rattle.volume_machine.specs.Works.{Work}
 use Rattle.volume_machine.proofs.EventEffects.{event_effects}
 use Rattle.volume_machine.proofs.Soundness.{sound_admitted, sound_freed, sound_kept}
-use Rattle.disk_areas.specs.Commits.{first_written}
-use Rattle.disk_areas.specs.Headers.{Header, Layout}
+use Rattle.crash_laws.specs.HeaderAreas.Commits.{first_written}
+use Rattle.crash_laws.specs.HeaderAreas.Headers.{Header, Layout}
 use Rattle.volume_machine.specs.Courses.{Courses}
 use Rattle.volume_machine.specs.Deeds.{Act, AreDeeds, Deed, Does, client, state_after, worker}
 use Rattle.volume_machine.specs.Readings.{Reading}

@@ -1,12 +1,21 @@
 -- What holds at a moment, around a step of the worker: of the operations of all lanes, and of what
 -- the disk shows of live blocks.
-use Rattle.volume_machine.proofs.Common
-use Common.{AreBlocks, Bool, Contains, IsSomeAnd, List, Option, Some, ap, arith, false, inl, inr, refl, subst, sym}
-use Common.{true, ℕ, ◌+◌, ◌-◌, ◌<◌, ◌∙◌, ◌≡◌, ◌≤◌, ◌⊎◌, block_at, View, Zone, Block, values_of}
-use Common.{place_in, side_in, Seals, IsSound, IsGoverned, IsLive, State, open_at, Holds, Works, Work}
-use Rattle.disk_zones.specs.Standing.{IsPhaseOf, side_before}
-use Rattle.disk_areas.specs.Areas.{Area}
-use Rattle.disk_zones.specs.Zones.{Phase, Reaches}
+use Rattle.std.proofs.Common.{Bool, Contains, IsSomeAnd, List, Option, Some, ap, arith, false, inl}
+use Rattle.std.proofs.Common.{inr, refl, subst, sym, true, ℕ, ◌+◌, ◌-◌, ◌<◌, ◌∙◌, ◌≡◌, ◌≤◌, ◌⊎◌}
+use Rattle.plain_disk.specs.Plain.{Block, values_of}
+use Rattle.sector_disk.specs.DiskViews.Parts.{AreBlocks, block_at}
+use Rattle.sector_disk.specs.DiskViews.Views.{View}
+use Rattle.segment_map.specs.declared.Side.TheVariants.{Zone}
+use Rattle.volume_machine.specs.Pieces.{place_in, side_in}
+use Rattle.volume_machine.specs.Seals.{Seals}
+use Rattle.volume_machine.specs.Sound.{IsSound}
+use Rattle.volume_machine.specs.States.{IsGoverned, IsLive, State, open_at}
+use Rattle.volume_machine.specs.Steps.{Holds}
+use Rattle.volume_machine.specs.Working.{Works}
+use Rattle.volume_machine.specs.Works.{Work}
+use Rattle.crash_laws.specs.HotZones.Standing.{IsPhaseOf, side_before}
+use Rattle.crash_laws.specs.HeaderAreas.Areas.{Area}
+use Rattle.crash_laws.specs.HotZones.Zones.{Phase, Reaches}
 use Rattle.volume_machine.specs.WorkSteps.{Proceeds}
 use Rattle.volume_machine.specs.Works.{Part, advanced}
 use Rattle.volume_machine.specs.declared.open.Open.{Open}

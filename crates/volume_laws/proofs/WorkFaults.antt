@@ -1,10 +1,12 @@
 -- What the worker does to a volume where a call of it fails, or a zone can't be made.
-use Rattle.volume_machine.proofs.Common
-use Common.{Rose, ap, false, inl, inr, refl, sym, true, ℕ, ◌∙◌, ◌≡◌, ◌≢◌, ◌⊎◌}
-use Common.{List, Seals, State, Work}
-use Rattle.disk_areas.specs.Commits.{Stage, begun, first_written, first_kept, second_written}
-use Rattle.disk_areas.specs.Headers.{Header, Layout}
-use Rattle.disk_zones.specs.Zones.{Phase}
+use Rattle.std.proofs.Common.{ap, false, inl, inr, refl, sym, true, ℕ, ◌∙◌, ◌≡◌, ◌≢◌, ◌⊎◌, List}
+use Rattle.base_terms.specs.Causes.{Rose}
+use Rattle.volume_machine.specs.Seals.{Seals}
+use Rattle.volume_machine.specs.States.{State}
+use Rattle.volume_machine.specs.Works.{Work}
+use Rattle.crash_laws.specs.HeaderAreas.Commits.{Stage, begun, first_written, first_kept, second_written}
+use Rattle.crash_laws.specs.HeaderAreas.Headers.{Header, Layout}
+use Rattle.crash_laws.specs.HotZones.Zones.{Phase}
 use Rattle.sector_disk.specs.Devices.{Device, failed_call}
 use Rattle.volume_machine.specs.Readings.{Reading}
 use Rattle.volume_machine.specs.WorkCalls as calls

@@ -1,11 +1,14 @@
 -- How the worker's device calls move what the disk shows.
-use Rattle.volume_machine.proofs.Common
-use Common.{Bool, List, arith, false, length, subst, sym, true, ℕ, ◌*◌, ◌+◌, ◌≡◌}
-use Common.{◌≤◌, IsTried, IsWritten, View, Block, Seals, State}
-use Rattle.disk_areas.specs.Commits.{Stage, begun, first_written, first_kept, second_written}
-use Rattle.disk_areas.specs.Commits.{CommitCall, CommitFails}
-use Rattle.disk_areas.specs.Headers.{Copy, primary, secondary, Layout, place_of, Header}
-use Rattle.disk_views.proofs.DeviceViews.{places_of_atoms}
+use Rattle.std.proofs.Common.{Bool, List, arith, false, length, subst, sym, true, ℕ, ◌*◌, ◌+◌, ◌≡◌}
+use Rattle.std.proofs.Common.{◌≤◌}
+use Rattle.plain_disk.specs.Plain.{Block}
+use Rattle.sector_disk.specs.DiskViews.Views.{IsTried, IsWritten, View}
+use Rattle.volume_machine.specs.Seals.{Seals}
+use Rattle.volume_machine.specs.States.{State}
+use Rattle.crash_laws.specs.HeaderAreas.Commits.{Stage, begun, first_written, first_kept, second_written}
+use Rattle.crash_laws.specs.HeaderAreas.Commits.{CommitCall, CommitFails}
+use Rattle.crash_laws.specs.HeaderAreas.Headers.{Copy, primary, secondary, Layout, place_of, Header}
+use Rattle.sector_disk.proofs.DiskViews.DeviceViews.{places_of_atoms}
 use Rattle.sector_disk.specs.Devices.{Device, WriteCall, succeeded, failed_call}
 use Rattle.volume_machine.specs.WorkCalls.{Puts, PutsCopy}
 use Rattle.volume_laws.proofs.Here.{Here, Moves, moves_by_failed_sync, moves_by_sync}

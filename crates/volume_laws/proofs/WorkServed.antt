@@ -1,8 +1,9 @@
 -- Each step of the worker goes on from a moment to another; and while a client holds a block the
 -- worker leaves it where it is.
-use Rattle.volume_machine.proofs.Common
-use Common.{List, [], length, subst, suc, sym, ℕ, ◌≡◌}
-use Common.{Block, Seals, State}
+use Rattle.std.proofs.Common.{List, [], length, subst, suc, sym, ℕ, ◌≡◌}
+use Rattle.plain_disk.specs.Plain.{Block}
+use Rattle.volume_machine.specs.Seals.{Seals}
+use Rattle.volume_machine.specs.States.{State}
 use Rattle.volume_machine.specs.Courses.{Courses}
 use Rattle.volume_machine.specs.Readings.{Reading}
 use Rattle.volume_machine.specs.WorkSteps.{WorkStep, Worked, begins, concludes, ends}

@@ -1,9 +1,18 @@
 -- Lemmas on a zone at hand: client lanes keep apart from it, and their events leave it.
-use Rattle.volume_machine.proofs.Common
-use Common.{Bool, IsSomeAnd, List, None, Option, Some, ap, arith, false, length, refl, subst, suc}
-use Common.{sym, true, ℕ, ◌+◌, ◌<◌, ◌∙◌, ◌≡◌, ◌≢◌, ◌≤◌, View, New, Old, Side, Block, has_lock}
-use Common.{Seals, IsSound, IsGoverned, State, open_at, Holds, HoldsZone, IsWorking, KeepsApart, LiesApart, Works, Work}
-use Rattle.disk_zones.proofs.SameTexts.{zone_same}
+use Rattle.std.proofs.Common.{Bool, IsSomeAnd, List, None, Option, Some, ap, arith, false, length}
+use Rattle.std.proofs.Common.{refl, subst, suc, sym, true, ℕ, ◌+◌, ◌<◌, ◌∙◌, ◌≡◌, ◌≢◌, ◌≤◌}
+use Rattle.plain_disk.specs.Plain.{Block}
+use Rattle.sector_disk.specs.DiskViews.Views.{View}
+use Rattle.segment_map.specs.declared.Side.{Side}
+use Rattle.segment_map.specs.declared.Side.TheVariants.{New, Old}
+use Rattle.volume_machine.specs.Asks.{has_lock}
+use Rattle.volume_machine.specs.Seals.{Seals}
+use Rattle.volume_machine.specs.Sound.{IsSound}
+use Rattle.volume_machine.specs.States.{IsGoverned, State, open_at}
+use Rattle.volume_machine.specs.Steps.{Holds}
+use Rattle.volume_machine.specs.Working.{HoldsZone, IsWorking, KeepsApart, LiesApart, Works}
+use Rattle.volume_machine.specs.Works.{Work}
+use Rattle.crash_laws.proofs.HotZones.SameTexts.{zone_same}
 use Rattle.volume_machine.specs.declared.open.Open.{Open}
 use Rattle.sha2.specs.Sha256.{sha256}
 use Rattle.volume_laws.specs.Contents.{block_in}

@@ -1,14 +1,27 @@
 -- Pieces that are written: what holds between events goes on to hold.
-use Rattle.volume_machine.proofs.Common
-use Common.{Bool, Contains, List, Some, ap, arith, false, inl, inr, length, length-append, refl}
-use Common.{subst, suc, sym, true, ℕ, ◌*◌, ◌++◌, ◌+◌, ◌-◌, ◌<◌, ◌∙◌, ◌≡◌, ◌≤◌, ◌⊎◌, cases_lt}
-use Common.{same_or_not, AreBlocks, block_at, IsOutside, IsTried, IsWritten, View, block_at-behind}
-use Common.{block_at-front, blocks_joined, one_block, Map, Piece, Reaches, ShowsZone, zone_stays}
-use Common.{zone_whole, Block, IsForced, IsRead, IsWrite, ArePieceBytes, IsPieceOf, place_in}
-use Common.{place_of, side_in, AreLawful, Seals, AreApart, IsSound, IsLive, State, open_at, Goes}
-use Common.{HasPiece, Holds, Works, Work}
-use Rattle.disk_areas.specs.Areas.{Area}
-use Rattle.disk_zones.specs.Calls.{write_fails_beside, writes_beside}
+use Rattle.std.proofs.Common.{Bool, Contains, List, Some, ap, arith, false, inl, inr, length}
+use Rattle.std.proofs.Common.{length-append, refl, subst, suc, sym, true, ℕ, ◌*◌, ◌++◌, ◌+◌, ◌-◌}
+use Rattle.std.proofs.Common.{◌<◌, ◌∙◌, ◌≡◌, ◌≤◌, ◌⊎◌}
+use Rattle.std.proofs.lemmas.Bool.{cases_lt, cases_eq as same_or_not}
+use Rattle.crash_laws.proofs.HotZones.ZoneFrames.{zone_stays, zone_whole}
+use Rattle.crash_laws.specs.HotZones.Zones.{Reaches, ShowsZone}
+use Rattle.plain_disk.specs.Plain.{Block}
+use Rattle.sector_disk.proofs.DiskViews.Blockwise.{block_at-behind, block_at-front, blocks_joined}
+use Rattle.sector_disk.proofs.DiskViews.Blockwise.{one_block}
+use Rattle.sector_disk.specs.DiskViews.Parts.{AreBlocks, block_at}
+use Rattle.sector_disk.specs.DiskViews.Views.{IsOutside, IsTried, IsWritten, View}
+use Rattle.segment_map.specs.declared.map.Map.{Map}
+use Rattle.segment_map.specs.declared.map.Piece.{Piece}
+use Rattle.volume_machine.specs.Asks.{IsForced, IsRead, IsWrite}
+use Rattle.volume_machine.specs.Pieces.{ArePieceBytes, IsPieceOf, place_in, place_of, side_in}
+use Rattle.volume_machine.specs.Seals.{AreLawful, Seals}
+use Rattle.volume_machine.specs.Sound.{AreApart, IsSound}
+use Rattle.volume_machine.specs.States.{IsLive, State, open_at}
+use Rattle.volume_machine.specs.Steps.{Goes, HasPiece, Holds}
+use Rattle.volume_machine.specs.Working.{Works}
+use Rattle.volume_machine.specs.Works.{Work}
+use Rattle.crash_laws.specs.HeaderAreas.Areas.{Area}
+use Rattle.crash_laws.specs.HotZones.Calls.{write_fails_beside, writes_beside}
 use Rattle.volume_machine.specs.declared.open.Open.{Open}
 use Rattle.volume_laws.specs.Contents.{IsAllowedAt, IsNow, IsSealed, IsTriedBy}
 use Rattle.volume_laws.specs.Texts.{texts_of}

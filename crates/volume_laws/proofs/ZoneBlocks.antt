@@ -1,19 +1,27 @@
 -- How the blocks of the zone at hand lie under the two headers of its commit, and what they stand
 -- for there.
-use Rattle.volume_machine.proofs.Common
-use Common.{AreBlocks, List, ap, arith, inl}
-use Common.{inr, refl, subst, sym, ℕ, ◌+◌, ◌-◌, ◌<◌, ◌∙◌, ◌≡◌, ◌≢◌, ◌≤◌, ◌⊎◌}
-use Common.{place_on, Side, New, Old, Zone, Map, Resilience}
-use Common.{checksum, datashift, journal, place_in}
-use Common.{side_in, Seals, State, IsWorking, Work, BlockRange}
-use Rattle.disk_areas.specs.Areas.{Image}
-use Rattle.disk_areas.specs.Commits.{Stage, begun, first_written, first_kept, second_written, MayBe}
-use Rattle.disk_zones.specs.Calls.{IsFirst}
-use Rattle.disk_zones.specs.Standing.{Hash, IsKept, Recovers, Stands}
-use Rattle.disk_zones.specs.Standing.{new_start}
-use Rattle.disk_zones.specs.Standing.{side_after, side_before}
-use Rattle.disk_zones.specs.Zones.{Hotzone, Phase, Texts, saving, opening, writing, mending, moving}
-use Rattle.disk_zones.specs.Zones.{shifting, turning, to_of, stage_of}
+use Rattle.std.proofs.Common.{List, ap, arith, inl, inr, refl, subst, sym, ℕ, ◌+◌, ◌-◌, ◌<◌, ◌∙◌}
+use Rattle.std.proofs.Common.{◌≡◌, ◌≢◌, ◌≤◌, ◌⊎◌}
+use Rattle.base_terms.specs.declared.block_range.BlockRange.{BlockRange}
+use Rattle.crash_laws.specs.HotZones.Zones.{Resilience, checksum, datashift, journal}
+use Rattle.sector_disk.specs.DiskViews.Parts.{AreBlocks}
+use Rattle.segment_map.specs.Maps.{place_on}
+use Rattle.segment_map.specs.declared.Side.{Side}
+use Rattle.segment_map.specs.declared.Side.TheVariants.{New, Old, Zone}
+use Rattle.segment_map.specs.declared.map.Map.{Map}
+use Rattle.volume_machine.specs.Pieces.{place_in, side_in}
+use Rattle.volume_machine.specs.Seals.{Seals}
+use Rattle.volume_machine.specs.States.{State}
+use Rattle.volume_machine.specs.Working.{IsWorking}
+use Rattle.volume_machine.specs.Works.{Work}
+use Rattle.crash_laws.specs.HeaderAreas.Areas.{Image}
+use Rattle.crash_laws.specs.HeaderAreas.Commits.{Stage, begun, first_written, first_kept, second_written, MayBe}
+use Rattle.crash_laws.specs.HotZones.Calls.{IsFirst}
+use Rattle.crash_laws.specs.HotZones.Standing.{Hash, IsKept, Recovers, Stands}
+use Rattle.crash_laws.specs.HotZones.Standing.{new_start}
+use Rattle.crash_laws.specs.HotZones.Standing.{side_after, side_before}
+use Rattle.crash_laws.specs.HotZones.Zones.{Hotzone, Phase, Texts, saving, opening, writing, mending, moving}
+use Rattle.crash_laws.specs.HotZones.Zones.{shifting, turning, to_of, stage_of}
 use Rattle.volume_machine.specs.Courses.{IsBeyond, IsOnCourse, Turns}
 use Rattle.volume_machine.specs.Readings.{Reading}
 use Rattle.volume_machine.specs.Working.{HasRoom}

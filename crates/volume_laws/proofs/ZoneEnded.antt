@@ -1,14 +1,20 @@
 -- The last call of a zone: its blocks are new and live, and no zone is at hand.
-use Rattle.volume_machine.proofs.Common
-use Common.{Contains, List, ap, arith, inl, inr, refl, subst, sym, ℕ}
-use Common.{◌+◌, ◌-◌, ◌<◌, ◌∙◌, ◌≡◌, ◌≤◌, IsOutside, IsSynced, View, New, Block}
-use Common.{place_in, side_in, Seals, IsGoverned, IsLive, State, open_at, IsWorking, Works, Work}
-use Rattle.disk_areas.specs.Areas.{Area}
-use Rattle.disk_areas.specs.Headers.{Copy, place_of}
-use Rattle.disk_zones.proofs.ZoneCalls.{zone_ends}
-use Rattle.disk_zones.specs.Calls.{ShowsMoved, new_area}
-use Rattle.disk_zones.specs.Standing.{new_start}
-use Rattle.disk_zones.specs.Zones.{its_header}
+use Rattle.std.proofs.Common.{Contains, List, ap, arith, inl, inr, refl, subst, sym, ℕ, ◌+◌, ◌-◌}
+use Rattle.std.proofs.Common.{◌<◌, ◌∙◌, ◌≡◌, ◌≤◌}
+use Rattle.plain_disk.specs.Plain.{Block}
+use Rattle.sector_disk.specs.DiskViews.Views.{IsOutside, IsSynced, View}
+use Rattle.segment_map.specs.declared.Side.TheVariants.{New}
+use Rattle.volume_machine.specs.Pieces.{place_in, side_in}
+use Rattle.volume_machine.specs.Seals.{Seals}
+use Rattle.volume_machine.specs.States.{IsGoverned, IsLive, State, open_at}
+use Rattle.volume_machine.specs.Working.{IsWorking, Works}
+use Rattle.volume_machine.specs.Works.{Work}
+use Rattle.crash_laws.specs.HeaderAreas.Areas.{Area}
+use Rattle.crash_laws.specs.HeaderAreas.Headers.{Copy, place_of}
+use Rattle.crash_laws.proofs.HotZones.ZoneCalls.{zone_ends}
+use Rattle.crash_laws.specs.HotZones.Calls.{ShowsMoved, new_area}
+use Rattle.crash_laws.specs.HotZones.Standing.{new_start}
+use Rattle.crash_laws.specs.HotZones.Zones.{its_header}
 use Rattle.volume_machine.specs.Courses.{IsOnCourse, Turns}
 use Rattle.volume_machine.specs.Readings.{Reading}
 use Rattle.volume_machine.specs.WorkSteps.{EndsZone}

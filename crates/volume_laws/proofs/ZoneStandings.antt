@@ -1,24 +1,34 @@
 -- An image that a stop leaves stands, by its own header, for a content that is allowed.
-use Rattle.volume_machine.proofs.Common
-use Common.{Bool, Contains-push, List, Some, [], ap, arith, cases_lt, false, inl}
-use Common.{inr, length, refl, subst, sym, ℕ, ◌+◌, ◌-◌, ◌<◌, ◌∙◌, ◌≡◌, ◌≢◌, ◌≤◌, value_in}
-use Common.{View, view_of_bytes, view_of_cells, Side, New, Old}
-use Common.{ShowsZone, Told, Block, place_in}
-use Common.{side_in, Seals, IsLive, State, IsWorking, Work}
-use Rattle.disk_areas.proofs.HeadersGiven.{commit_gives, header_is_one}
-use Rattle.disk_areas.specs.Areas.{Image, content_of}
-use Rattle.disk_areas.specs.Commits.{MayBe, begun}
-use Rattle.disk_areas.specs.Headers.{Gives, Handed, IsGenuine, IsReader, place_of}
-use Rattle.disk_views.proofs.Blockwise.{length-block_at}
-use Rattle.disk_views.proofs.Entries.{image_in}
-use Rattle.disk_zones.proofs.Recoveries.{zone_image_taken}
-use Rattle.disk_zones.proofs.ZoneFrames.{zone_sharp}
-use Rattle.disk_zones.proofs.ZoneImages.{stands_under}
-use Rattle.disk_zones.specs.Standing.{IsZoneImage, Stands}
-use Rattle.disk_zones.specs.Standing.{side_after, side_before}
-use Rattle.disk_zones.specs.Zones.{Texts}
-use Rattle.disk_zones.specs.Zones.{saving}
-use Rattle.disk_zones.specs.Zones.{from_of, to_of, stage_of}
+use Rattle.std.proofs.Common.{Bool, List, Some, [], ap, arith, false, inl, inr, length, refl, subst}
+use Rattle.std.proofs.Common.{sym, ℕ, ◌+◌, ◌-◌, ◌<◌, ◌∙◌, ◌≡◌, ◌≢◌, ◌≤◌}
+use Rattle.std.proofs.lemmas.Bool.{cases_lt}
+use Rattle.std.proofs.lemmas.List.Elements.{Contains-push}
+use Rattle.crash_laws.specs.HotZones.Zones.{ShowsZone}
+use Rattle.plain_disk.specs.Plain.{Block}
+use Rattle.sector_disk.specs.DiskViews.Parts.{value_in}
+use Rattle.sector_disk.specs.DiskViews.Views.{View, view_of_bytes, view_of_cells}
+use Rattle.sector_disk.specs.Steps.{Told}
+use Rattle.segment_map.specs.declared.Side.{Side}
+use Rattle.segment_map.specs.declared.Side.TheVariants.{New, Old}
+use Rattle.volume_machine.specs.Pieces.{place_in, side_in}
+use Rattle.volume_machine.specs.Seals.{Seals}
+use Rattle.volume_machine.specs.States.{IsLive, State}
+use Rattle.volume_machine.specs.Working.{IsWorking}
+use Rattle.volume_machine.specs.Works.{Work}
+use Rattle.crash_laws.proofs.HeaderAreas.HeadersGiven.{commit_gives, header_is_one}
+use Rattle.crash_laws.specs.HeaderAreas.Areas.{Image, content_of}
+use Rattle.crash_laws.specs.HeaderAreas.Commits.{MayBe, begun}
+use Rattle.crash_laws.specs.HeaderAreas.Headers.{Gives, Handed, IsGenuine, IsReader, place_of}
+use Rattle.sector_disk.proofs.DiskViews.Blockwise.{length-block_at}
+use Rattle.sector_disk.proofs.DiskViews.Entries.{image_in}
+use Rattle.crash_laws.proofs.HotZones.Recoveries.{zone_image_taken}
+use Rattle.crash_laws.proofs.HotZones.ZoneFrames.{zone_sharp}
+use Rattle.crash_laws.proofs.HotZones.ZoneImages.{stands_under}
+use Rattle.crash_laws.specs.HotZones.Standing.{IsZoneImage, Stands}
+use Rattle.crash_laws.specs.HotZones.Standing.{side_after, side_before}
+use Rattle.crash_laws.specs.HotZones.Zones.{Texts}
+use Rattle.crash_laws.specs.HotZones.Zones.{saving}
+use Rattle.crash_laws.specs.HotZones.Zones.{from_of, to_of, stage_of}
 use Rattle.volume_machine.specs.Courses.{IsBeyond, IsOnCourse}
 use Rattle.volume_machine.specs.Readings.{Reading}
 use Rattle.volume_laws.specs.Contents.{IsAllowedAt, IsNow, IsSealed, block_in}

@@ -8,7 +8,7 @@ use Rattle.segment_map.specs.declared.map.Map.{Map}
 use Rattle.volume_machine.specs.Asks.{IsWrite}
 use Rattle.volume_machine.specs.Pieces.{side_in, place_in}
 use Rattle.volume_machine.specs.Seals.{Seals}
-use Rattle.disk_views.specs.Parts.{AreBlocks, block_at, cell_in, value_in}
+use Rattle.sector_disk.specs.DiskViews.Parts.{AreBlocks, block_at, cell_in, value_in}
 use Rattle.volume_machine.specs.States.{State, open_at, IsLive}
 use Rattle.volume_machine.specs.declared.open.Open.{Open}
 use Rattle.base_terms.specs.Blocks.{blocks_of}

@@ -1,8 +1,8 @@
 -- A volume that is converted while clients use it: how its runs start, and what is promised of them.
 use Rattle.std.specs.Prelude.{ℕ, ◌≡◌, ◌*◌, false, List, None, Some, length}
-use Rattle.disk_areas.specs.Commits.{begun, ShowsCommit}
-use Rattle.disk_areas.specs.Headers.{Layout, Header}
-use Rattle.disk_views.specs.Views.{view_of_bytes, view_of_cells}
+use Rattle.crash_laws.specs.HeaderAreas.Commits.{begun, ShowsCommit}
+use Rattle.crash_laws.specs.HeaderAreas.Headers.{Layout, Header}
+use Rattle.sector_disk.specs.DiskViews.Views.{view_of_bytes, view_of_cells}
 use Rattle.plain_disk.specs.Plain.{Block, Exchange, AreSure, Legal}
 use Rattle.sector_disk.specs.Steps.{Told}
 use Rattle.volume_laws.specs.Contents.{AreBlocksOf, StandsFor, StandsNow, StopsAllowed}

@@ -1,9 +1,9 @@
 -- The texts that the copies' places of a header are handed in a run of deeds: by calls of commits,
 -- whether they failed or not.
 use Rattle.std.specs.Prelude.{ℕ, List, [], ◌∷◌, Option, Some}
-use Rattle.disk_areas.specs.Commits.{begun, handed_by}
-use Rattle.disk_areas.specs.Headers.{Handed}
-use Rattle.disk_zones.specs.Zones.{Hotzone, Phase, saving, opening, moving, turning}
+use Rattle.crash_laws.specs.HeaderAreas.Commits.{begun, handed_by}
+use Rattle.crash_laws.specs.HeaderAreas.Headers.{Handed}
+use Rattle.crash_laws.specs.HotZones.Zones.{Hotzone, Phase, saving, opening, moving, turning}
 use Rattle.volume_machine.specs.Deeds.{Act, Deed, worker}
 use Rattle.volume_machine.specs.States.{State}
 use Rattle.volume_machine.specs.WorkSteps.{stepped, faulted}

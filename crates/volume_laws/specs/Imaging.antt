@@ -2,11 +2,11 @@
 -- header.
 use Rattle.std.specs.Prelude.{ℕ, ◌≡◌, ◌<◌, false, List, Some, length, replicate}
 use Rattle.base_terms.specs.Blocks.{lengths}
-use Rattle.disk_areas.specs.Areas.{Image, content_of}
-use Rattle.disk_areas.specs.Commits.{IsDated, MayBe}
-use Rattle.disk_areas.specs.Headers.{Gives, Handed, Header, IsGenuine, IsReader, Layout}
-use Rattle.disk_views.specs.Parts.{block_at, value_in}
-use Rattle.disk_zones.specs.Zones.{checksum, from_of, to_of, stage_of}
+use Rattle.crash_laws.specs.HeaderAreas.Areas.{Image, content_of}
+use Rattle.crash_laws.specs.HeaderAreas.Commits.{IsDated, MayBe}
+use Rattle.crash_laws.specs.HeaderAreas.Headers.{Gives, Handed, Header, IsGenuine, IsReader, Layout}
+use Rattle.sector_disk.specs.DiskViews.Parts.{block_at, value_in}
+use Rattle.crash_laws.specs.HotZones.Zones.{checksum, from_of, to_of, stage_of}
 use Rattle.plain_disk.specs.Plain.{Block, Exchange, Legal}
 use Rattle.sector_disk.specs.Cells.{Cell, IsImage}
 use Rattle.sector_disk.specs.Steps.{Told}

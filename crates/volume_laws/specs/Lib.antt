@@ -10,3 +10,8 @@ pub mod Texts
 pub mod Standing
 pub mod Telling
 pub mod Faulting
+pub mod BesideConversions
+pub mod BesideConverted
+pub mod BesideLanes
+pub mod BesideServing
+pub mod WorkerRuns

@@ -1,6 +1,6 @@
 -- What a run leaves of a disk besides the places of the blocks that it may write.
 use Rattle.std.specs.Prelude.{ℕ, ◌≡◌, ◌≢◌, ◌⊎◌, List, Some, Contains}
-use Rattle.disk_views.specs.Parts.{cell_in, value_in}
+use Rattle.sector_disk.specs.DiskViews.Parts.{cell_in, value_in}
 use Rattle.sector_disk.specs.Cells.{Cell, AreSettled, IsImage}
 use Rattle.sector_disk.specs.Steps.{Told}
 use Rattle.volume_machine.specs.Pieces.{place_in}

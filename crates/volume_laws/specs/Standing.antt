@@ -2,10 +2,10 @@
 -- header is read by the volume's own map, one of a volume with a header by the header that the
 -- image has.
 use Rattle.std.specs.Prelude.{ℕ, ◌≡◌, ◌+◌, ◌-◌, ◌<◌, ◌≤◌, List, Option, Some, None}
-use Rattle.disk_areas.specs.Areas.{Image, content_of}
-use Rattle.disk_areas.specs.Headers.{Gives}
-use Rattle.disk_views.specs.Parts.{AreBlocks, block_at, value_in}
-use Rattle.disk_zones.specs.Standing.{Recovers}
+use Rattle.crash_laws.specs.HeaderAreas.Areas.{Image, content_of}
+use Rattle.crash_laws.specs.HeaderAreas.Headers.{Gives}
+use Rattle.sector_disk.specs.DiskViews.Parts.{AreBlocks, block_at, value_in}
+use Rattle.crash_laws.specs.HotZones.Standing.{Recovers}
 use Rattle.plain_disk.specs.Plain.{Block}
 use Rattle.sector_disk.specs.Cells.{Cell, IsImage}
 use Rattle.segment_map.specs.Maps.{place_on}

@@ -1,9 +1,9 @@
 -- What the headers of a conversion tell: how its sides are sealed, and where and by what the zone at
 -- hand is guarded.
 use Rattle.std.specs.Prelude.{ℕ, ◌≡◌, ◌<◌, ◌≤◌, true, List, Some}
-use Rattle.disk_areas.specs.Commits.{MayBe}
-use Rattle.disk_areas.specs.Headers.{Header, Layout}
-use Rattle.disk_zones.specs.Zones.{from_of, stage_of, to_of}
+use Rattle.crash_laws.specs.HeaderAreas.Commits.{MayBe}
+use Rattle.crash_laws.specs.HeaderAreas.Headers.{Header, Layout}
+use Rattle.crash_laws.specs.HotZones.Zones.{from_of, stage_of, to_of}
 use Rattle.segment_map.specs.declared.Side.TheVariants.{New, Old}
 use Rattle.volume_machine.specs.Deeds.{AreDeeds, Deed, state_after}
 use Rattle.volume_machine.specs.Readings.{Reading}

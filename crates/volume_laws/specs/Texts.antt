@@ -1,7 +1,7 @@
 -- The atoms of the blocks of the zone at hand, on either side, by what the blocks hold in plain; and
 -- those that are saved of them.
 use Rattle.std.specs.Prelude.{◌+◌, ℕ, List}
-use Rattle.disk_zones.specs.Zones.{Texts}
+use Rattle.crash_laws.specs.HotZones.Zones.{Texts}
 use Rattle.plain_disk.specs.Plain.{Block}
 use Rattle.segment_map.specs.declared.Side.{Side}
 use Rattle.segment_map.specs.declared.Side.TheVariants.{Old, New}

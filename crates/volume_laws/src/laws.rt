@@ -4,7 +4,7 @@
 ghost use Rattle.std.specs.Prelude.{true, false};
 ghost use Rattle.std.specs.Prelude.{◌≡◌, ◌≢◌, ◌<◌, ◌≤◌, ◌⊎◌, ◌%◌, ◌+◌, ◌*◌, ◌++◌, ◌∷◌, [], ℕ, List};
 ghost use Rattle.std.specs.Prelude.{length, None, Some};
-ghost use Rattle.disk_areas.specs.Headers.{IsReader};
+ghost use Rattle.crash_laws.specs.HeaderAreas.Headers.{IsReader};
 ghost use Rattle.sector_disk.specs.Cells.{Cell};
 ghost use Rattle.volume_laws.specs.Standing.{Stands, StandsAllowed, StandsForNow};
 ghost use Rattle.volume_laws.specs.Converting.{IsInOrder, KeepsBlock, ServesBeside};
@@ -42,7 +42,7 @@ ghost use Rattle.volume_machine.specs.Working.{KeepsApart, Works};
 ghost use Rattle.volume_machine.specs.declared.open.Open.{Open};
 ghost use Rattle.volume_machine.specs.Steps.{Step, Meets, Holds};
 ghost use Rattle.volume_machine.specs.Beginnings.{IsWholeDisk};
-ghost use Rattle.disk_views.specs.Parts.{value_in};
+ghost use Rattle.sector_disk.specs.DiskViews.Parts.{value_in};
 ghost use Rattle.volume_laws.specs.Contents.{IsSealed, StandsFor, StandsNow, StopsAllowed};
 ghost use Rattle.volume_laws.specs.Contents.{block_in, opened_blocks, plain_blocks};
 ghost use Rattle.volume_machine.specs.Pieces.{place_in, side_in};

@@ -1,14 +1,28 @@
 -- What each event leaves.
-use Rattle.volume_machine.proofs.Common
-use Common.{Bool, List, MatchBool, MatchOption, None, Option, Some, [], ap, arith, false}
-use Common.{if◌then◌else◌, inl, inr, length, refl, sym, true, ℕ, ◌++◌, ◌+◌, ◌/◌, ◌||◌, ◌∙◌, ◌∷◌}
-use Common.{◌≡◌, mul-div_cancel, MatchBool-at_false, MatchBool-at_true, either, HasCause, Cell}
-use Common.{MovesOrNot, Told, IsStandingOf, Entry, Map, Piece, open_after, passed, entry_of}
-use Common.{has_lock, wrong_ask, DiskGoes, Effects, Grows, breaks, entries_after, is_fault, Event}
-use Common.{Outcome, admits, asks, broken, device, done, finishes, got, held, lane_of, reads}
-use Common.{refused, settles, waits, writes, ArePieceBytes, IsPieceOf, moved, State, open_at}
-use Common.{size_of, Goes, IsAdmitted, ReadStep, SettleStep, TellsStanding, WriteStep, Ask, Open}
-use Common.{Step}
+use Rattle.std.proofs.Common.{Bool, List, MatchBool, MatchOption, None, Option, Some, [], ap, arith}
+use Rattle.std.proofs.Common.{false, if◌then◌else◌, inl, inr, length, refl, sym, true, ℕ, ◌++◌, ◌+◌}
+use Rattle.std.proofs.Common.{◌/◌, ◌||◌, ◌∙◌, ◌∷◌, ◌≡◌}
+use Rattle.std.proofs.Math.Nat.{mul-div_cancel}
+use Rattle.std.proofs.lemmas.Bool.{MatchBool-at_false, MatchBool-at_true, cases_Bool as either}
+use Rattle.base_terms.specs.Causes.{HasCause}
+use Rattle.range_lock.specs.Locks.{IsStandingOf}
+use Rattle.range_lock.specs.declared.Entry.{Entry}
+use Rattle.sector_disk.specs.Cells.{Cell}
+use Rattle.sector_disk.specs.Steps.{MovesOrNot, Told}
+use Rattle.segment_map.specs.declared.map.Map.{Map}
+use Rattle.segment_map.specs.declared.map.Piece.{Piece}
+use Rattle.volume_machine.specs.Alone.{open_after, passed}
+use Rattle.volume_machine.specs.Asks.{entry_of, has_lock, wrong_ask}
+use Rattle.volume_machine.specs.Effects.{DiskGoes, Effects, Grows, breaks, entries_after, is_fault}
+use Rattle.volume_machine.specs.Events.{Event, Outcome, admits, asks, broken, device, done}
+use Rattle.volume_machine.specs.Events.{finishes, got, held, lane_of, reads, refused, settles}
+use Rattle.volume_machine.specs.Events.{waits, writes}
+use Rattle.volume_machine.specs.Pieces.{ArePieceBytes, IsPieceOf, moved}
+use Rattle.volume_machine.specs.States.{State, open_at, size_of}
+use Rattle.volume_machine.specs.Steps.{Goes, IsAdmitted, ReadStep, SettleStep, TellsStanding}
+use Rattle.volume_machine.specs.Steps.{WriteStep, Step}
+use Rattle.volume_machine.specs.declared.ask.Ask.{Ask}
+use Rattle.volume_machine.specs.declared.open.Open.{Open}
 use Rattle.sector_disk.specs.{Devices.Device, Devices.failed_call, Devices.succeeded, Steps.Moves}
 
 -- what the disk tells after no call, after one that succeeded, and after one that failed

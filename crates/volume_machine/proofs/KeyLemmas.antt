@@ -1,7 +1,11 @@
 -- What the bytes of a piece are to the key of its side.
-use Rattle.volume_machine.proofs.Common.{arith, mul-le-mul_right, sym, ℕ, ◌%◌, ◌*◌, ◌/◌, ◌∙◌, ◌≡◌}
-use Rattle.volume_machine.proofs.Common.{◌≤◌, mul-mod_left, mul-mod_second, Side, New, Old, Zone}
-use Rattle.volume_machine.proofs.Common.{KeysFit, key_of, Keys}
+use Rattle.std.proofs.Common.{arith, mul-le-mul_right, sym, ℕ, ◌%◌, ◌*◌, ◌/◌, ◌∙◌, ◌≡◌, ◌≤◌}
+use Rattle.std.proofs.Math.Nat.{mul-mod_left}
+use Rattle.std.proofs.lemmas.Nat.{mul-mod_second}
+use Rattle.segment_map.specs.declared.Side.{Side}
+use Rattle.segment_map.specs.declared.Side.TheVariants.{New, Old, Zone}
+use Rattle.volume_machine.specs.Seals.{KeysFit, key_of}
+use Rattle.volume_machine.specs.declared.keys.Keys.{Keys}
 
 -- blocks are whole sectors where a block is
 pub whole-blocks : (count atom sector : ℕ) → atom % sector ≡ 0 → (count * atom) % sector ≡ 0

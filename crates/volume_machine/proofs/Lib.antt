@@ -1,4 +1,3 @@
-pub mod Common
 pub mod EventEffects
 pub mod KeyLemmas
 pub mod Locking

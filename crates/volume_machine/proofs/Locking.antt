@@ -1,10 +1,13 @@
 -- Lemmas on the table of locks: who has an entry, who holds, and that holders don't conflict.
-use Rattle.volume_machine.proofs.Common
-use Common.{after_first, before_first, All, Bool, List, MatchOption, None, Option, Some, [], arith}
-use Common.{false, find, inl, inr, length, add-one, one-add, refl, suc, true, ℕ, ◌++◌, ◌∙◌}
-use Common.{◌∷◌, ◌≡◌, ◌≢◌, All-cons, All-head, All-nil, All-tail, Conflicts, IsStanding}
-use Common.{IsStandingOf, is_of, without, Entry, Held}
-pub use Common.{either, same_or_not}
+use Rattle.std.proofs.Common.{All, Bool, List, MatchOption, None, Option, Some, [], arith, false}
+use Rattle.std.proofs.Common.{find, inl, inr, length, add-one, one-add, refl, suc, true, ℕ, ◌++◌}
+use Rattle.std.proofs.Common.{◌∙◌, ◌∷◌, ◌≡◌, ◌≢◌}
+pub use Rattle.std.proofs.lemmas.Bool.{cases_Bool as either, cases_eq as same_or_not}
+use Rattle.std.proofs.lemmas.List.Elements.{All-cons, All-head, All-nil, All-tail}
+use Rattle.std.specs.List.{after_first, before_first}
+use Rattle.range_lock.specs.Locks.{Conflicts, IsStanding, IsStandingOf, is_of, without}
+use Rattle.range_lock.specs.declared.Entry.{Entry}
+use Rattle.range_lock.specs.declared.Standing.TheVariants.{Held}
 
 pub is_of-own : (lane : ℕ) (e : Entry) → e.lane ≡ lane → is_of lane e ≡ true
 is_of-own lane e is = grind (arith, is)

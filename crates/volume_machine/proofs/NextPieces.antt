@@ -1,8 +1,16 @@
 -- The next piece of an operation: there is only one, and it lies on the disk.
-use Rattle.volume_machine.proofs.Common
-use Common.{Some, ap, arith, inl, inr, mul-le-mul_right, refl, suc, sym, ℕ, ◌*◌, ◌+◌, ◌<◌, ◌∙◌, ◌≡◌}
-use Common.{◌≤◌, cases_lt, BlockRange, IsNextPiece, place_at, place_on, side_at, Side, New, Map}
-use Common.{Piece, AgreeOn, IsPieceOf, place_of, rest_of, MapFits, Open}
+use Rattle.std.proofs.Common.{Some, ap, arith, inl, inr, mul-le-mul_right, refl, suc, sym, ℕ, ◌*◌}
+use Rattle.std.proofs.Common.{◌+◌, ◌<◌, ◌∙◌, ◌≡◌, ◌≤◌}
+use Rattle.std.proofs.lemmas.Bool.{cases_lt}
+use Rattle.base_terms.specs.declared.block_range.BlockRange.{BlockRange}
+use Rattle.segment_map.specs.Maps.{IsNextPiece, place_at, place_on, side_at}
+use Rattle.segment_map.specs.declared.Side.{Side}
+use Rattle.segment_map.specs.declared.Side.TheVariants.{New}
+use Rattle.segment_map.specs.declared.map.Map.{Map}
+use Rattle.segment_map.specs.declared.map.Piece.{Piece}
+use Rattle.volume_machine.specs.Pieces.{AgreeOn, IsPieceOf, place_of, rest_of}
+use Rattle.volume_machine.specs.Sound.{MapFits}
+use Rattle.volume_machine.specs.declared.open.Open.{Open}
 
 first_side : (m : Map) (range : BlockRange) (piece : Piece) → IsNextPiece m range piece
     → side_at m range.start ≡ Some piece.side

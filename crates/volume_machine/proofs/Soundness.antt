@@ -1,14 +1,25 @@
 -- Each event keeps what holds of a volume between events.
-use Rattle.volume_machine.proofs.Common
-use Common.{after_first, Bool, List, None, Option, Some, [], ap, arith, false, find}
-use Common.{if◌then◌else◌, inl, inr, length, length-append, refl, suc, sym, true, zero, ℕ, ◌*◌}
-use Common.{◌++◌, ◌+◌, ◌<◌, ◌∙◌, ◌∷◌, ◌≡◌, ◌≢◌, ◌≤◌, MatchBool-at_false}
-use Common.{MatchBool-at_true, either, same_or_not, has_entry, is_of, without, Entry, Map}
-use Common.{wrong_range_of, entry_of, has_lock, range_of, wrong_ask, Event, Outcome, admits, asks}
-use Common.{broken, device, done, finishes, got, reads, settles, writes, failing, settling, IsSound}
-use Common.{IsUnderWay, entry_in, locks, State, begun, open_at, size_of, AdmitStep, Goes}
-use Common.{IsAdmitted, Meets, ReadStep, SettleStep, WriteStep, after_settle, Ask, Flush, Read}
-use Common.{Write, Open, count_locks, Can, Step}
+use Rattle.std.proofs.Common.{Bool, List, None, Option, Some, [], ap, arith, false, find}
+use Rattle.std.proofs.Common.{if◌then◌else◌, inl, inr, length, length-append, refl, suc, sym, true}
+use Rattle.std.proofs.Common.{zero, ℕ, ◌*◌, ◌++◌, ◌+◌, ◌<◌, ◌∙◌, ◌∷◌, ◌≡◌, ◌≢◌, ◌≤◌}
+use Rattle.std.proofs.lemmas.Bool.{MatchBool-at_false, MatchBool-at_true, cases_Bool as either}
+use Rattle.std.proofs.lemmas.Bool.{cases_eq as same_or_not}
+use Rattle.std.specs.List.{after_first}
+use Rattle.plain_disk.specs.Operations.{wrong_range_of}
+use Rattle.range_lock.specs.Locks.{has_entry, is_of, without}
+use Rattle.range_lock.specs.declared.Entry.{Entry}
+use Rattle.segment_map.specs.declared.map.Map.{Map}
+use Rattle.volume_machine.specs.Asks.{entry_of, has_lock, range_of, wrong_ask}
+use Rattle.volume_machine.specs.Events.{Event, Outcome, admits, asks, broken, device, done}
+use Rattle.volume_machine.specs.Events.{finishes, got, reads, settles, writes}
+use Rattle.volume_machine.specs.Pieces.{failing, settling}
+use Rattle.volume_machine.specs.Sound.{IsSound, IsUnderWay, entry_in, locks, count_locks}
+use Rattle.volume_machine.specs.States.{State, begun, open_at, size_of}
+use Rattle.volume_machine.specs.Steps.{AdmitStep, Goes, IsAdmitted, Meets, ReadStep, SettleStep}
+use Rattle.volume_machine.specs.Steps.{WriteStep, after_settle, Can, Step}
+use Rattle.volume_machine.specs.declared.ask.Ask.{Ask}
+use Rattle.volume_machine.specs.declared.ask.Ask.TheVariants.{Flush, Read, Write}
+use Rattle.volume_machine.specs.declared.open.Open.{Open}
 use Rattle.std.proofs.lemmas.Grind.{common_steps}
 use Rattle.plain_disk.proofs.RangeLemmas.{blocks_within, range_of_proper}
 use Rattle.volume_machine.proofs.Locking.{after-last, after-more, after-none, after-without}

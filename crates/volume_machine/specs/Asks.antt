@@ -2,7 +2,7 @@
 use Rattle.std.specs.Prelude.{ℕ, ◌≡◌, ◌+◌, ◌/◌, ◌<◌, true, Bool, false, Option, Some, None, nat_lt}
 use Rattle.std.specs.Prelude.{if◌then◌else◌}
 use Rattle.base_terms.specs.ErrorNumbers.{invalid, no_space}
-use Rattle.block_range.specs.declared.BlockRange.{BlockRange}
+use Rattle.base_terms.specs.declared.block_range.BlockRange.{BlockRange}
 use Rattle.plain_disk.specs.Operations.{wrong_range_of}
 use Rattle.range_lock.specs.declared.Kind.{Kind}
 use Rattle.range_lock.specs.declared.Kind.TheVariants.{Shared, Alone}

@@ -1,15 +1,15 @@
 -- The headers that a zone leads to, and what the maps that they give change.
 use Rattle.std.specs.Prelude.{ℕ, true, suc, ◌≡◌, ◌+◌, ◌-◌, ◌<◌, ◌≤◌, ◌⊎◌, List, Some}
-use Rattle.block_range.specs.declared.BlockRange.{BlockRange}
-use Rattle.disk_areas.specs.Commits.{Follows}
-use Rattle.disk_areas.specs.Headers.{Reader, Header, IsHeader, Layout, IsLaidOut}
-use Rattle.disk_areas.specs.Areas.{Area}
-use Rattle.disk_views.specs.Views.{IsOutside}
-use Rattle.disk_zones.specs.Calls.{IsFirst}
-use Rattle.disk_zones.specs.Standing.{IsPhaseOf, IsWithin, new_start}
-use Rattle.disk_zones.specs.Zones.{Hotzone, Phase, saving, opening, shifting, turning, from_of}
-use Rattle.disk_zones.specs.Zones.{to_of}
-use Rattle.disk_zones.specs.Zones.{IsApart, Reaches}
+use Rattle.base_terms.specs.declared.block_range.BlockRange.{BlockRange}
+use Rattle.crash_laws.specs.HeaderAreas.Commits.{Follows}
+use Rattle.crash_laws.specs.HeaderAreas.Headers.{Reader, Header, IsHeader, Layout, IsLaidOut}
+use Rattle.crash_laws.specs.HeaderAreas.Areas.{Area}
+use Rattle.sector_disk.specs.DiskViews.Views.{IsOutside}
+use Rattle.crash_laws.specs.HotZones.Calls.{IsFirst}
+use Rattle.crash_laws.specs.HotZones.Standing.{IsPhaseOf, IsWithin, new_start}
+use Rattle.crash_laws.specs.HotZones.Zones.{Hotzone, Phase, saving, opening, shifting, turning, from_of}
+use Rattle.crash_laws.specs.HotZones.Zones.{to_of}
+use Rattle.crash_laws.specs.HotZones.Zones.{IsApart, Reaches}
 use Rattle.segment_map.specs.declared.Side.{Side}
 use Rattle.segment_map.specs.declared.Side.TheVariants.{Old, New, Zone}
 use Rattle.segment_map.specs.declared.map.Map.{Map}

@@ -1,6 +1,6 @@
 -- The pieces of an operation under way: runs of blocks on one side, in order.
 use Rattle.std.specs.Prelude.{ℕ, ◌≡◌, ◌*◌, ◌+◌, ◌<◌, ◌≤◌, true, List, length, Option, Some, None}
-use Rattle.block_range.specs.declared.BlockRange.{BlockRange}
+use Rattle.base_terms.specs.declared.block_range.BlockRange.{BlockRange}
 use Rattle.cipher_laws.specs.Bytes.{AreBytes}
 use Rattle.segment_map.specs.declared.Side.{Side}
 use Rattle.segment_map.specs.declared.Side.TheVariants.{Old}

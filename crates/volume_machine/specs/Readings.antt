@@ -1,9 +1,9 @@
 -- How the header of a disk is read for its volume.
 use Rattle.std.specs.Prelude.{Bool, List, ℕ}
-use Rattle.disk_areas.specs.Areas.{Area}
-use Rattle.disk_areas.specs.Headers.{Reader}
-use Rattle.disk_zones.specs.Standing.{Hash}
-use Rattle.disk_zones.specs.Zones.{Resilience}
+use Rattle.crash_laws.specs.HeaderAreas.Areas.{Area}
+use Rattle.crash_laws.specs.HeaderAreas.Headers.{Reader}
+use Rattle.crash_laws.specs.HotZones.Standing.{Hash}
+use Rattle.crash_laws.specs.HotZones.Zones.{Resilience}
 use Rattle.segment_map.specs.declared.Side.{Side}
 use Rattle.segment_map.specs.declared.map.Map.{Map}
 

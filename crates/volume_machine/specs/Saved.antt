@@ -4,9 +4,9 @@ use Rattle.std.specs.Prelude.{ℕ, zero, suc, ◌≡◌, ◌≢◌, ◌+◌, ◌
 use Rattle.std.specs.Prelude.{◌++◌}
 use Rattle.std.specs.Prelude.{length, replicate, min}
 use Rattle.std.specs.Int.{div_ceil}
-use Rattle.disk_views.specs.Parts.{block_at}
-use Rattle.disk_zones.specs.Standing.{Hash}
-use Rattle.disk_zones.specs.Zones.{Resilience, journal, checksum, datashift}
+use Rattle.sector_disk.specs.DiskViews.Parts.{block_at}
+use Rattle.crash_laws.specs.HotZones.Standing.{Hash}
+use Rattle.crash_laws.specs.HotZones.Zones.{Resilience, journal, checksum, datashift}
 use Rattle.sha2.specs.Sha256.{sha256}
 
 -- the hash of the digests

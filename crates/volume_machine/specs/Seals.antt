@@ -3,7 +3,7 @@ use Rattle.std.specs.Prelude.{ℕ, ◌≡◌, ◌+◌, ◌*◌, ◌/◌, ◌%◌
 use Rattle.segment_map.specs.declared.Side.{Side}
 use Rattle.segment_map.specs.declared.Side.TheVariants.{Old, New, Zone}
 use Rattle.volume_machine.specs.declared.keys.Keys.{Keys}
-use Rattle.disk_views.specs.Parts.{block_at, AreBlocks}
+use Rattle.sector_disk.specs.DiskViews.Parts.{block_at, AreBlocks}
 
 -- the key of a side, and the IV number of the first 512 bytes of its segment; a zone is the old
 -- segment's

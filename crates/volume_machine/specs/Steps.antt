@@ -4,7 +4,7 @@ use Rattle.std.specs.Prelude.{Some, None, MatchOption, if◌then◌else◌, Resu
 use Rattle.std.specs.Bool.{MatchBool}
 use Rattle.base_terms.specs.ErrorNumbers.{device_error}
 use Rattle.base_terms.specs.declared.failed.Failed.{Failed}
-use Rattle.block_range.specs.declared.BlockRange.{BlockRange}
+use Rattle.base_terms.specs.declared.block_range.BlockRange.{BlockRange}
 use Rattle.range_lock.specs.declared.Entry.{Entry}
 use Rattle.range_lock.specs.declared.Standing.{Standing}
 use Rattle.range_lock.specs.declared.Standing.TheVariants.{Held, Waiting}

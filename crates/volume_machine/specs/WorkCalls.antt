@@ -2,11 +2,11 @@
 use Rattle.std.specs.Prelude.{ℕ, zero, suc, ◌≡◌, ◌≢◌, ◌+◌, ◌-◌, ◌*◌, ◌/◌, ◌<◌, ◌≤◌, ◌==◌, List}
 use Rattle.std.specs.Prelude.{length, min, if◌then◌else◌, Result}
 use Rattle.base_terms.specs.declared.failed.Failed.{Failed}
-use Rattle.disk_areas.specs.Commits.{Stage, begun, first_written, first_kept, second_written}
-use Rattle.disk_areas.specs.Commits.{next_stage, failed_stage}
-use Rattle.disk_areas.specs.Headers.{primary, secondary, Layout, place_of, Header, text_of}
-use Rattle.disk_views.specs.Parts.{block_at}
-use Rattle.disk_zones.specs.Zones.{Phase, saving, opening, writing, moving, shifting, turning}
+use Rattle.crash_laws.specs.HeaderAreas.Commits.{Stage, begun, first_written, first_kept, second_written}
+use Rattle.crash_laws.specs.HeaderAreas.Commits.{next_stage, failed_stage}
+use Rattle.crash_laws.specs.HeaderAreas.Headers.{primary, secondary, Layout, place_of, Header, text_of}
+use Rattle.sector_disk.specs.DiskViews.Parts.{block_at}
+use Rattle.crash_laws.specs.HotZones.Zones.{Phase, saving, opening, writing, moving, shifting, turning}
 use Rattle.sector_disk.specs.Devices.{Device, ReadCall, WriteCall, SyncCall, succeeded, failed_call}
 use Rattle.segment_map.specs.Maps.{most_bytes}
 use Rattle.segment_map.specs.declared.Side.TheVariants.{Old, New}

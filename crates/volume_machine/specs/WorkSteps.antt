@@ -2,12 +2,12 @@
 use Rattle.std.specs.Prelude.{ℕ, ◌↔◌, suc, ◌≡◌, ◌≢◌, ◌+◌, ◌-◌, ◌*◌, ◌^◌, ◌<◌, ◌≤◌, Bool, true, false}
 use Rattle.std.specs.Prelude.{List, [], ◌∷◌}
 use Rattle.std.specs.Prelude.{length, replicate, Contains, Option, Some, None}
-use Rattle.disk_areas.specs.Areas.{Area}
-use Rattle.disk_areas.specs.Commits.{Stage, begun, first_written, second_written}
-use Rattle.disk_areas.specs.Headers.{Layout, Header, IsHeader}
-use Rattle.disk_zones.specs.Calls.{IsFirst, IsLast}
-use Rattle.disk_views.specs.Parts.{block_at}
-use Rattle.disk_zones.specs.Zones.{Phase, saving, opening, writing, moving, shifting, checksum}
+use Rattle.crash_laws.specs.HeaderAreas.Areas.{Area}
+use Rattle.crash_laws.specs.HeaderAreas.Commits.{Stage, begun, first_written, second_written}
+use Rattle.crash_laws.specs.HeaderAreas.Headers.{Layout, Header, IsHeader}
+use Rattle.crash_laws.specs.HotZones.Calls.{IsFirst, IsLast}
+use Rattle.sector_disk.specs.DiskViews.Parts.{block_at}
+use Rattle.crash_laws.specs.HotZones.Zones.{Phase, saving, opening, writing, moving, shifting, checksum}
 use Rattle.range_lock.specs.declared.Standing.TheVariants.{Waiting}
 use Rattle.range_lock.specs.Locks.{IsStandingOf, without}
 use Rattle.sector_disk.specs.Devices.{ReadCall, SyncCall, succeeded, failed_call}

@@ -2,12 +2,12 @@
 -- apart from all other blocks.
 use Rattle.std.specs.Prelude.{ℕ, suc, ◌≡◌, ◌+◌, ◌-◌, ◌*◌, ◌<◌, ◌≤◌, false, length, List, []}
 use Rattle.std.specs.Prelude.{Contains, Some}
-use Rattle.disk_areas.specs.Areas.{Area, AreApart}
-use Rattle.disk_areas.specs.Headers.{Copy, Layout, place_of}
-use Rattle.disk_views.specs.Views.{IsOutside}
-use Rattle.disk_zones.specs.Standing.{IsPhaseOf, IsWithin, side_before}
-use Rattle.disk_zones.specs.Zones.{Hotzone, Resilience, journal, checksum, datashift}
-use Rattle.disk_zones.specs.Zones.{IsApart, Reaches}
+use Rattle.crash_laws.specs.HeaderAreas.Areas.{Area, AreApart}
+use Rattle.crash_laws.specs.HeaderAreas.Headers.{Copy, Layout, place_of}
+use Rattle.sector_disk.specs.DiskViews.Views.{IsOutside}
+use Rattle.crash_laws.specs.HotZones.Standing.{IsPhaseOf, IsWithin, side_before}
+use Rattle.crash_laws.specs.HotZones.Zones.{Hotzone, Resilience, journal, checksum, datashift}
+use Rattle.crash_laws.specs.HotZones.Zones.{IsApart, Reaches}
 use Rattle.volume_machine.specs.Asks.{IsWrite}
 use Rattle.volume_machine.specs.Pieces.{place_in, side_in}
 use Rattle.volume_machine.specs.States.{State, open_at, IsLive}

@@ -1,10 +1,10 @@
 -- The conversion's part of a volume: the zone at hand, how far it has come, the blocks that it
 -- governs, and what is left to do behind the last zone.
 use Rattle.std.specs.Prelude.{ℕ, List}
-use Rattle.block_range.specs.declared.BlockRange.{BlockRange}
-use Rattle.disk_areas.specs.Areas.{Area}
-use Rattle.disk_areas.specs.Headers.{Layout, Header}
-use Rattle.disk_zones.specs.Zones.{Hotzone, Phase, saving, journal}
+use Rattle.base_terms.specs.declared.block_range.BlockRange.{BlockRange}
+use Rattle.crash_laws.specs.HeaderAreas.Areas.{Area}
+use Rattle.crash_laws.specs.HeaderAreas.Headers.{Layout, Header}
+use Rattle.crash_laws.specs.HotZones.Zones.{Hotzone, Phase, saving, journal}
 
 -- A part of the zone's atoms on its way, at most 1 MiB of them, from this atom of the zone on: it
 -- is still to be read; it was read, as it is on the disk.

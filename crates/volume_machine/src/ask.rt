@@ -3,14 +3,13 @@
 ghost use Rattle.std.specs.Prelude.{◌≡◌, ◌+◌, ◌/◌, ◌<◌};
 ghost use Rattle.sector_disk.specs.Geometry.{IsAtom};
 
-use base_terms::{INVALID, NO_SPACE};
-use block_range::BlockRange;
+use base_terms::{BlockRange, INVALID, NO_SPACE};
 use plain_disk::{MAX_READ, wrong_range};
 use range_lock::Kind;
 
 /// What an operation asks for, without the bytes that it writes. Offsets and lengths are in bytes.
 /// With `fua` ("force unit access") a write is answered once it is certain to be kept.
-#[derive(Clone, Copy, Debug, PartialEq, Eq)]
+#[derive(Clone, Copy, PartialEq, Eq)]
 pub enum Ask {
     Read { offset: u64, length: u32 },
     Write { offset: u64, length: u64, fua: bool },

@@ -3,12 +3,12 @@
 ghost use Rattle.std.specs.Prelude.{◌≡◌, ◌≤◌, MatchOption};
 ghost use Rattle.segment_map.specs.Maps.{IsNextPiece};
 
-use block_range::BlockRange;
+use base_terms::BlockRange;
 use segment_map::{Map, Piece};
 
 /// The blocks of an operation, which lie in the volume, and the map that they have until its
 /// finish.
-#[derive(Clone, Copy, Debug, PartialEq, Eq)]
+#[derive(Clone, Copy, PartialEq, Eq)]
 pub struct Grant {
     /// The map of the volume.
     pub map: Map,

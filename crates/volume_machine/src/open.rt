@@ -3,12 +3,12 @@
 ghost use Rattle.std.specs.Prelude.{◌≡◌, ◌+◌, ◌<◌, ◌^◌, Some, false, length};
 
 use crate::Ask;
-use block_range::BlockRange;
+use base_terms::BlockRange;
 use segment_map::Piece;
 
 /// The operation of a lane under way: the session that asked for it, its blocks, the first of them
 /// that no piece has covered yet, whether it was settled, and whether one of its events failed.
-#[derive(Clone, Copy, Debug, PartialEq, Eq)]
+#[derive(Clone, Copy, PartialEq, Eq)]
 pub struct Open {
     pub session: u64,
     pub ask: Ask,

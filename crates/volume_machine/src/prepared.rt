@@ -13,7 +13,7 @@ use std::marker::Model;
 
 /// The bytes of a piece of a write, sealed, at the front of a buffer. Sealing needs no volume, so
 /// that a lane may do it while others use the volume.
-#[derive(Debug, Drop)]
+#[derive(Drop)]
 pub struct Prepared {
     buffer: Buffer,
     len: usize,

@@ -4,9 +4,9 @@ use Rattle.std.proofs.Common.{ap, sym, subst, arith, inl, inr, mul-le-mul_right,
 use Rattle.std.proofs.Common.{Ok}
 use Rattle.std.specs.Prelude.{IsSomeAnd}
 use Rattle.base_terms.specs.Blocks.{joined}
-use Rattle.disk_views.proofs.Blockwise.{block_end}
-use Rattle.disk_sizes.specs.declared.Sizes.{Sizes}
-use Rattle.disk_views.specs.Parts.{cell_in, value_in}
+use Rattle.sector_disk.proofs.DiskViews.Blockwise.{block_end}
+use Rattle.base_terms.specs.declared.disk_sizes.Sizes.{Sizes}
+use Rattle.sector_disk.specs.DiskViews.Parts.{cell_in, value_in}
 use Rattle.header_report.specs.Examinations.{sizes_alone}
 use Rattle.luks_json.specs.declared.digest.Digest.{Digest}
 use Rattle.luks_json.specs.declared.meta.Parts.{Parts}

@@ -5,9 +5,9 @@ use Rattle.std.proofs.Common.{arith, length-take-le}
 use Rattle.std.proofs.lemmas.Bool.{cases_lt}
 use Rattle.std.proofs.lemmas.List.{drop_at, take-take, take_at}
 use Rattle.base_terms.specs.Blocks.{joined, lengths}
-use Rattle.disk_views.proofs.Blockwise.{block_at-first, block_at-next, block_at-take, block_end}
-use Rattle.disk_views.proofs.Blockwise.{blocks_of_whole, same_blocks}
-use Rattle.disk_views.specs.Parts.{block_at, cell_in, value_in}
+use Rattle.sector_disk.proofs.DiskViews.Blockwise.{block_at-first, block_at-next, block_at-take, block_end}
+use Rattle.sector_disk.proofs.DiskViews.Blockwise.{blocks_of_whole, same_blocks}
+use Rattle.sector_disk.specs.DiskViews.Parts.{block_at, cell_in, value_in}
 use Rattle.luks_store.proofs.SettledLemmas.{even_head, even_tail, none_even}
 use Rattle.sector_disk.specs.Cells.{Cell, currents}
 use Rattle.segment_map.specs.declared.map.Map.{Map}

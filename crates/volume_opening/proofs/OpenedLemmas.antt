@@ -1,11 +1,11 @@
 -- A volume that was opened is that of what the disk stood for under the passphrase.
 use Rattle.std.proofs.Common.{◌≡◌, ◌∙◌, ℕ, ◌*◌, ◌<◌, zero, suc, List, [], ◌∷◌, length, ap, ap₂, sym}
 use Rattle.std.proofs.Common.{subst, refl, false, Option, Some, None, Result, Ok}
-use Rattle.disk_sizes.specs.declared.Sizes.{Sizes}
-use Rattle.disk_views.specs.Parts.{AreBlocks, block_at, value_in}
+use Rattle.base_terms.specs.declared.disk_sizes.Sizes.{Sizes}
+use Rattle.sector_disk.specs.DiskViews.Parts.{AreBlocks, block_at, value_in}
 use Rattle.header_report.proofs.ExamineLemmas.{alone_values, whole_front}
 use Rattle.header_report.specs.Examinations.{sizes_alone}
-use Rattle.joined_disk.specs.Joined.{Joint, joined_disk}
+use Rattle.sector_disk.specs.JoinedDisks.Joined.{Joint, joined_disk}
 use Rattle.luks_json.specs.declared.meta.Parts.{Parts}
 use Rattle.luks_rules.specs.Idles.{idle_of}
 use Rattle.luks_rules.specs.declared.extents.Extent.{Extent}

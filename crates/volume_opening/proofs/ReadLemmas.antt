@@ -6,7 +6,7 @@ use Rattle.std.proofs.lemmas.List.Elements.{All-append, All-nil}
 use Rattle.std.specs.List.{All}
 use Rattle.header_report.proofs.ExamineLemmas.{cause-told}
 use Rattle.header_report.specs.Examinations.{TellsFault, sizes_alone}
-use Rattle.joined_disk.specs.Joined.{both_faults}
+use Rattle.sector_disk.specs.JoinedDisks.Joined.{both_faults}
 use Rattle.luks_slots.specs.Devices.{IsUnwritten}
 use Rattle.luks_store.specs.Devices.{KeepsBytes}
 use Rattle.luks_store.specs.Loads.{Answers, HasCause, stored_in}
@@ -42,6 +42,7 @@ pub keeps_none : (d : Device) → KeepsBytes d d
 keeps_none d = record {
   size = refl;
   atoms = refl;
+  tail = refl;
   values = refl;
   later = omega arith;
   told = λ now is. (
@@ -62,6 +63,7 @@ pub keeps_on : (a b c : Device) → KeepsBytes a b → KeepsBytes b c → KeepsB
 keeps_on a b c first later = record {
   size = later.size ∙ first.size;
   atoms = later.atoms ∙ first.atoms;
+  tail = later.tail ∙ first.tail;
   values = later.values ∙ first.values;
   later = (let one = first.later in let two = later.later in omega (arith, one, two));
   told = λ now is.
@@ -88,6 +90,7 @@ pub keeps_slots : (old new : Device) → IsUnwritten old new → KeepsBytes old 
 keeps_slots old new kept = record {
   size = kept.size;
   atoms = kept.atoms;
+  tail = kept.tail;
   values = kept.values;
   later = kept.later;
   told = λ now is.

@@ -9,7 +9,7 @@ use Rattle.std.proofs.lemmas.Slice.Eq.{bytes_eq-Decides}
 use Rattle.std.specs.List.{list_all}
 use Rattle.std.specs.Prelude.{option_and_then}
 use Rattle.std.specs.Str.{bytes_eq}
-use Rattle.disk_sizes.specs.declared.Sizes.{Sizes}
+use Rattle.base_terms.specs.declared.disk_sizes.Sizes.{Sizes}
 use Rattle.header_report.proofs.ExamineLemmas.{whole_front}
 use Rattle.header_report.specs.Examinations.{sizes_alone}
 use Rattle.luks_json.specs.declared.digest.Digest.{Digest}

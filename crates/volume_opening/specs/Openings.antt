@@ -1,8 +1,8 @@
 -- What a volume is that a passphrase opened.
 use Rattle.std.specs.Prelude.{ℕ, ◌≡◌, ◌<◌, ◌≤◌, List, length, Option, Some, None, Ok}
-use Rattle.disk_sizes.specs.declared.Sizes.{Sizes}
+use Rattle.base_terms.specs.declared.disk_sizes.Sizes.{Sizes}
 use Rattle.header_report.specs.Examinations.{sizes_alone}
-use Rattle.joined_disk.specs.Joined.{Joint, begun_joint, joined_disk, nothing}
+use Rattle.sector_disk.specs.JoinedDisks.Joined.{Joint, begun_joint, joined_disk, nothing}
 use Rattle.luks_json.specs.declared.digest.Digest.{Digest}
 use Rattle.luks_rules.specs.References.{value_at}
 use Rattle.luks_rules.specs.States.{IsSound as AreSound}

@@ -2,8 +2,8 @@
 use Rattle.std.specs.Prelude.{ℕ, ◌≡◌, ◌⊎◌, ◌<◌, List, length, Option, Some, None, true, false}
 use Rattle.std.specs.Prelude.{Err, IsSome}
 use Rattle.header_report.specs.Examinations.{TellsFault, sizes_alone}
-use Rattle.joined_disk.specs.Joined.{Joint, in_front, joined_disk}
-use Rattle.disk_sizes.specs.declared.Sizes.{Sizes}
+use Rattle.sector_disk.specs.JoinedDisks.Joined.{Joint, in_front, joined_disk}
+use Rattle.base_terms.specs.declared.disk_sizes.Sizes.{Sizes}
 use Rattle.luks_json.specs.declared.digest.Digest.{Digest}
 use Rattle.luks_json.specs.declared.meta.Parts.{Parts}
 use Rattle.luks_rules.specs.Idles.{idle_of}

@@ -1,8 +1,8 @@
 -- What a stop leaves of a volume that a passphrase opened: images that stand by themselves.
 use Rattle.std.specs.Prelude.{ℕ, ◌≡◌, ◌<◌, ◌++◌, List, Some}
 use Rattle.base_terms.specs.Blocks.{joined}
-use Rattle.disk_sizes.specs.declared.Sizes.{Sizes}
-use Rattle.disk_views.specs.Parts.{value_in}
+use Rattle.base_terms.specs.declared.disk_sizes.Sizes.{Sizes}
+use Rattle.sector_disk.specs.DiskViews.Parts.{value_in}
 use Rattle.plain_disk.specs.Plain.{Block}
 use Rattle.reenc_recovery.specs.Images.{StandsFor}
 use Rattle.reenc_recovery.specs.Placings.{RestsIn}

@@ -14,11 +14,13 @@
 #![tactic(auto)]
 
 mod laws;
+mod notices;
 mod opening;
 mod refusal;
 mod standing;
 
 pub use laws::opened_volumes_stand_along;
+pub use notices::note_repair;
 pub use opening::{find_key, open_by_passphrase, read_header};
 pub use refusal::{Refusal, Unopened};
 pub use standing::standing_volumes_are_opened;

@@ -2,21 +2,22 @@
 
 ghost use Rattle.std.specs.Prelude.{◌<◌, IfErr, IfOk};
 ghost use Rattle.header_report.specs.Examinations.{TellsFault};
-ghost use Rattle.joined_disk.specs.Counts.{HasSizes};
+ghost use Rattle.sector_disk.specs.JoinedDisks.Counts.{HasSizes};
 ghost use Rattle.luks_store.specs.Devices.{KeepsBytes};
 ghost use Rattle.luks_store.specs.Loads.{HasCause};
 ghost use Rattle.volume_opening.specs.Openings.{IsFound, IsKeyFound, IsOpenedBy};
 ghost use Rattle.volume_opening.specs.Refusals.{IsNoKeyFound, IsUnopenedBy};
 
+use crate::notices::note_repair;
 use crate::refusal::{Refusal, Unopened};
 use cipher_laws::SectorCipher;
-use joined_disk::JoinedDisk;
+use gates::Gate;
 use luks_rules::Valid;
 use luks_slots::{Key, unlock};
 use luks_store::{Loaded, StoreFault, load};
 use reenc_recovery::{OpenFault, SideKeys, open_volume, opened_volumes_go_by_passphrases};
 use sector_cipher::Context;
-use sector_disk::Disk;
+use sector_disk::{Disk, JoinedDisk};
 use std::alloc::Global;
 use volume_core::Volume;
 
@@ -83,16 +84,17 @@ pub fn find_key<D: Disk>(
 /// The volume on a disk, with so many lanes, under the header that the disk has and the key that
 /// its keyslots give to a passphrase of 1 to 512 bytes. The header is read, and the keyslots; then
 /// the disk is synced, the header is read and checked once more, and a copy of it that lacks or is
-/// older is written anew. Nothing is written before all checks have passed.
+/// older is written anew, which the gate is told. Nothing is written before all checks have passed.
 ///
 /// # Errors
 ///
 /// Why no volume was opened, with the disk.
-pub fn open_by_passphrase<D: Disk>(
+pub fn open_by_passphrase<D: Disk, G: Gate>(
     alloc: Global,
     disk: D,
     pass: &[u8],
     lanes: u32,
+    gate: &G,
 ) -> Result<Volume<JoinedDisk<D>, Context>, Unopened<D>>
     requires { 0 < lanes }
     ensures opened { IfOk result (IsOpenedBy ⟦<Context as SectorCipher>⟧.sector
@@ -123,6 +125,7 @@ pub fn open_by_passphrase<D: Disk>(
             });
         }
     };
+    note_repair(alloc, gate, &header);
     let keys = SideKeys {
         old: None,
         new: key,

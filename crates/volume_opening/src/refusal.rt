@@ -6,7 +6,6 @@ use reenc_recovery::OpenCause;
 use sector_disk::Disk;
 
 /// Why a disk's volume isn't opened by a passphrase, in the order in which it is tested.
-#[derive(Debug, Drop)]
 pub enum Refusal {
     /// No header was read.
     Header(StoreFault),
@@ -19,6 +18,19 @@ pub enum Refusal {
     /// The header and the key opened no volume: memory was wanted, or a device call failed; or the
     /// disk, which doesn't tell what it holds, held another header by then.
     Opening(OpenCause),
+}
+
+// By hand, so that a value that is dropped in place is one call to the prover.
+impl Drop for Refusal {
+    fn drop(self) {
+        match self {
+            Refusal::Header(fault) => drop(fault),
+            Refusal::InProgress => (),
+            Refusal::Passphrase(_) => (),
+            Refusal::Slots(fault) => drop(fault),
+            Refusal::Opening(cause) => drop(cause),
+        }
+    }
 }
 
 /// No volume was opened. The disk is handed back, as the main one of disks that are joined: there

@@ -3,11 +3,11 @@ use Rattle.std.proofs.Common.{◌≡◌, ℕ, ◌/◌, List, length, refl, ap, s
 use Rattle.cipher_laws.specs.Bytes.{IsBlock}
 use Rattle.cipher_laws.specs.Laws.{KeepsBlocks, UndoesBlocks, KeepsLengths, GivesBytes}
 use Rattle.cipher_laws.specs.Laws.{UndoesSectors}
-use Rattle.cipher_blocks.specs.Blocks.{xored, number_block}
-use Rattle.cipher_blocks.specs.BlockLaws.{xored_twice, xored_is_block, number_block_is_block}
-use Rattle.cipher_blocks.specs.PieceLaws.{block_pieces, block_pieces_undone, whole_blocks}
-use Rattle.cipher_blocks.specs.PieceLaws.{KeepsPieces, UndoesPieces, length-worked, bytes-worked}
-use Rattle.cipher_blocks.specs.PieceLaws.{worked_undone}
+use Rattle.cipher_laws.specs.CipherBlocks.Blocks.{xored, number_block}
+use Rattle.cipher_laws.specs.CipherBlocks.BlockLaws.{xored_twice, xored_is_block, number_block_is_block}
+use Rattle.cipher_laws.specs.CipherBlocks.PieceLaws.{block_pieces, block_pieces_undone, whole_blocks}
+use Rattle.cipher_laws.specs.CipherBlocks.PieceLaws.{KeepsPieces, UndoesPieces, length-worked, bytes-worked}
+use Rattle.cipher_laws.specs.CipherBlocks.PieceLaws.{worked_undone}
 use Rattle.xts_mode.specs.Xts.{doubled, whitened, xts_from, xts}
 
 abbrev Any : ℕ → Type 0

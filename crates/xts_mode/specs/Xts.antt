@@ -4,8 +4,8 @@
 use Rattle.std.specs.Prelude.{ℕ, zero, suc, ◌-◌, ◌*◌, ◌/◌, ◌^◌, List, length, nat_lt, bit_xor}
 use Rattle.std.specs.Prelude.{if◌then◌else◌}
 use Rattle.std.specs.Int.{from_le_bytes, w128}
-use Rattle.cipher_blocks.specs.Blocks.{xored, number_block}
-use Rattle.cipher_blocks.specs.UnderWay.{IsUnderWay}
+use Rattle.cipher_laws.specs.CipherBlocks.Blocks.{xored, number_block}
+use Rattle.cipher_laws.specs.CipherBlocks.UnderWay.{IsUnderWay}
 use Rattle.cipher_laws.specs.Pieces.{worked}
 
 -- A tweak is a block, as a number whose lowest byte comes first. Times alpha (5.2): shifted left by

@@ -2,12 +2,11 @@
 
 ghost use Rattle.std.specs.Prelude.{◌≡◌};
 ghost use Rattle.std.specs.Int.{from_le_bytes, w128};
-ghost use Rattle.cipher_blocks.specs.Blocks.{number_block};
+ghost use Rattle.cipher_laws.specs.CipherBlocks.Blocks.{number_block};
 ghost use Rattle.xts_mode.specs.Xts.{xts};
 
 use crate::sector::{Whitening, whiten_blocks};
-use cipher_blocks::{change_sectors, number_block};
-use cipher_laws::{BlockCipher, Inverse, SectorMode};
+use cipher_laws::{BlockCipher, Inverse, SectorMode, change_sectors, number_block};
 
 /// XTS with its two keys, each in a block cipher of its own.
 #[derive(Clone, Copy)]

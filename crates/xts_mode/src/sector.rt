@@ -3,14 +3,14 @@
 ghost use Rattle.std.specs.Prelude.{◌≡◌, ℕ, ◌*◌, ◌/◌, ◌%◌, ◌<◌, length};
 ghost use Rattle.std.specs.Int.{from_le_bytes, w128};
 ghost use Rattle.cipher_laws.specs.Eight.{block};
-ghost use Rattle.cipher_blocks.specs.Blocks.{xored};
+ghost use Rattle.cipher_laws.specs.CipherBlocks.Blocks.{xored};
 ghost use Rattle.xts_mode.specs.Xts.{whitened, xts_from, IsWhitenedTo};
 
 use crate::tweak::{double, eight_tweaks};
-use cipher_blocks::{
-    UnderIv, block_at, eight_at, number_block, put_block, put_eight, xor, xor_eight,
+use cipher_laws::{
+    BlockCipher, EightBlocks, UnderIv, block_at, eight_at, number_block, put_block, put_eight, xor,
+    xor_eight,
 };
-use cipher_laws::{BlockCipher, EightBlocks};
 
 // XTS of a sector by a cipher of blocks, under the first tweak as a block.
 #[derive_where(Clone, Copy)]

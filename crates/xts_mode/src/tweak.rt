@@ -2,7 +2,7 @@
 
 ghost use Rattle.std.specs.Prelude.{◌≡◌, ℕ, ◌<◌};
 ghost use Rattle.cipher_laws.specs.Eight.{block};
-ghost use Rattle.cipher_blocks.specs.Blocks.{number_block};
+ghost use Rattle.cipher_laws.specs.CipherBlocks.Blocks.{number_block};
 ghost use Rattle.xts_mode.specs.Xts.{doubled, doubled_times};
 
 use cipher_laws::EightBlocks;
@@ -50,17 +50,4 @@ pub(crate) fn eight_tweaks(tweak: u128) -> (EightBlocks, u128)
         b7: mask(eighth),
     };
     (masks, double(eighth))
-}
-
-#[cfg(test)]
-mod tests {
-    use super::*;
-
-    #[test]
-    fn the_top_bit_comes_back_as_87(rt: HostRuntime) {
-        assert_eq!(rt; double(1), 2);
-        assert_eq!(rt; double(1 << 126), 1 << 127);
-        assert_eq!(rt; double(1 << 127), 0x87);
-        assert_eq!(rt; double(u128::MAX), (u128::MAX - 1) ^ 0x87);
-    }
 }

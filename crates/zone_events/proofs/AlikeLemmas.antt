@@ -1,7 +1,7 @@
 -- A map of the same blocks at the same places turns those of a range.
 use Rattle.std.proofs.Common.{◌≡◌, ◌∙◌, ℕ, ◌+◌, ◌*◌, ◌^◌, ◌<◌, ◌≤◌}
 use Rattle.std.proofs.Common.{refl, sym, ap, subst, arith}
-use Rattle.block_range.specs.declared.BlockRange.{BlockRange}
+use Rattle.base_terms.specs.declared.block_range.BlockRange.{BlockRange}
 use Rattle.sector_disk.specs.Geometry.{IsAtom}
 use Rattle.segment_map.specs.declared.Side.{Side}
 use Rattle.segment_map.specs.declared.map.Map.{Map}

@@ -5,21 +5,21 @@ use Rattle.std.proofs.Math.Nat.{mul-le-mul_right}
 use Rattle.std.proofs.lemmas.List.{length-take-le}
 use Rattle.std.proofs.lemmas.Nat.{div-mul-add}
 use Rattle.base_terms.specs.declared.failed.Failed.{Failed}
-use Rattle.disk_areas.specs.Commits.{second_written, next_stage}
-use Rattle.disk_areas.specs.Headers.{IsLaidOut, Layout, secondary}
+use Rattle.crash_laws.specs.HeaderAreas.Commits.{second_written, next_stage}
+use Rattle.crash_laws.specs.HeaderAreas.Headers.{IsLaidOut, Layout, secondary}
 use Rattle.hotzone.specs.Headings.{AreOf, IsSame}
 use Rattle.hotzone.specs.Known.{header_by}
 use Rattle.hotzone.specs.Sites.{bytes_at, count_of, part_at}
 use Rattle.hotzone.specs.Steps.{Commits}
 use Rattle.hotzone.specs.declared.site.Site.{Site}
 use Rattle.luks_bin.specs.declared.header.BinHeader.{BinHeader}
-use Rattle.luks_copies.specs.Held.{primary_of, secondary_of, stage_in}
-use Rattle.luks_copies.specs.Meanings.{header_of}
-use Rattle.luks_copies.specs.Seen.{stage_of}
-use Rattle.luks_copies.specs.Steps.{CopyCall, next_of}
-use Rattle.luks_copies.specs.declared.commit.Stage.{Stage}
-use Rattle.luks_copies.specs.declared.commit.Stage.TheVariants.{Begun, FirstWritten, FirstKept}
-use Rattle.luks_copies.specs.declared.commit.Stage.TheVariants.{SecondWritten, Ended}
+use Rattle.luks_store.specs.Copying.Held.{primary_of, secondary_of, stage_in}
+use Rattle.luks_store.specs.Copying.Meanings.{header_of}
+use Rattle.luks_store.specs.Copying.Seen.{stage_of}
+use Rattle.luks_store.specs.Copying.Steps.{CopyCall, next_of}
+use Rattle.luks_store.specs.declared.header_copies.commit.Stage.{Stage}
+use Rattle.luks_store.specs.declared.header_copies.commit.Stage.TheVariants.{Begun, FirstWritten, FirstKept}
+use Rattle.luks_store.specs.declared.header_copies.commit.Stage.TheVariants.{SecondWritten, Ended}
 use Rattle.luks_json.specs.declared.meta.Parts.{Parts}
 use Rattle.luks_store.specs.Commits.{IsNext}
 use Rattle.luks_store.specs.Loads.{IsStored}

@@ -6,16 +6,16 @@ use Rattle.std.specs.Prelude.{Contains, ◌↔◌}
 use Rattle.std.proofs.lemmas.List.Elements.{All-contains, All-filter}
 use Rattle.std.specs.List.{All}
 use Rattle.std.specs.Option.{IsSomeAnd}
-use Rattle.disk_areas.specs.Areas.{Area as DiskArea}
-use Rattle.disk_areas.specs.Headers.{IsLaidOut, Layout}
-use Rattle.disk_sizes.specs.declared.Sizes.{Sizes}
+use Rattle.crash_laws.specs.HeaderAreas.Areas.{Area as DiskArea}
+use Rattle.crash_laws.specs.HeaderAreas.Headers.{IsLaidOut, Layout}
+use Rattle.base_terms.specs.declared.disk_sizes.Sizes.{Sizes}
 use Rattle.hotzone.specs.Endings.{IsEnding, wiped}
 use Rattle.hotzone.specs.Known.{header_by}
 use Rattle.hotzone.specs.Sites.{count_of}
 use Rattle.hotzone.specs.Workers.{IsNextZone, IsWorking}
 use Rattle.hotzone.specs.declared.worker.Ending.{Ending}
 use Rattle.hotzone.specs.declared.worker.Worker.{Worker}
-use Rattle.luks_copies.specs.Meanings.{header_reader, meaning_of}
+use Rattle.luks_store.specs.Copying.Meanings.{header_reader, meaning_of}
 use Rattle.luks_json.specs.declared.meta.Parts.{Parts}
 use Rattle.luks_rules.specs.Areas.{areas_of}
 use Rattle.luks_rules.specs.Conversions.{conversions_of, only}

@@ -8,8 +8,8 @@ use Rattle.std.proofs.lemmas.List.Folds.{list_any-append}
 use Rattle.std.proofs.lemmas.Nat.{div-add-mod'}
 use Rattle.std.specs.Prelude.{Contains, ◌↔◌, ◌||◌, ◌==◌, ◌&&◌, option_and_then, option_map}
 use Rattle.std.specs.List.{All, AllByRecursion, cons_option, filter, find, list_any}
-use Rattle.disk_areas.specs.Areas.{Area as DiskArea}
-use Rattle.disk_sizes.specs.declared.Sizes.{Sizes}
+use Rattle.crash_laws.specs.HeaderAreas.Areas.{Area as DiskArea}
+use Rattle.base_terms.specs.declared.disk_sizes.Sizes.{Sizes}
 use Rattle.hotzone.specs.Endings.{is_left, wiped}
 use Rattle.luks_json.specs.declared.digest.Digest.{Digest}
 use Rattle.luks_json.specs.declared.keyslot.Keyslot.{Keyslot}

@@ -7,11 +7,11 @@ use Rattle.std.proofs.lemmas.Bool.{ltb-false}
 use Rattle.std.proofs.lemmas.List.{length-replicate}
 use Rattle.std.proofs.lemmas.Nat.{div-add-mod'}
 use Rattle.base_terms.specs.declared.failed.Failed.{Failed}
-use Rattle.disk_areas.specs.Areas.{Area as DiskArea}
-use Rattle.disk_areas.specs.Commits.{first_written, next_stage}
-use Rattle.disk_areas.specs.Headers.{Header, Layout}
-use Rattle.disk_sizes.specs.declared.Sizes.{Sizes}
-use Rattle.disk_zones.specs.Zones.{moving, saving}
+use Rattle.crash_laws.specs.HeaderAreas.Areas.{Area as DiskArea}
+use Rattle.crash_laws.specs.HeaderAreas.Commits.{first_written, next_stage}
+use Rattle.crash_laws.specs.HeaderAreas.Headers.{Header, Layout}
+use Rattle.base_terms.specs.declared.disk_sizes.Sizes.{Sizes}
+use Rattle.crash_laws.specs.HotZones.Zones.{moving, saving}
 use Rattle.hotzone.proofs.HeadingLemmas.{same-self}
 use Rattle.hotzone.specs.Endings.{IsEnding, WipesArea, after_wipe, area_at}
 use Rattle.hotzone.specs.Known.{header_by}
@@ -22,10 +22,10 @@ use Rattle.hotzone.specs.declared.worker.NextCall.{NextCall}
 use Rattle.hotzone.specs.declared.worker.NextCall.TheVariants.{Finish, End, Wipe, Rest, Over}
 use Rattle.hotzone.specs.declared.worker.Wipes.{Wipes as Areas}
 use Rattle.hotzone.specs.declared.worker.Worker.{Worker}
-use Rattle.luks_copies.specs.Held.{primary_of, secondary_of, stage_in}
-use Rattle.luks_copies.specs.Seen.{stage_of}
-use Rattle.luks_copies.specs.Steps.{CopyCall, next_of}
-use Rattle.luks_copies.specs.declared.commit.Stage.TheVariants.{SecondWritten, Ended}
+use Rattle.luks_store.specs.Copying.Held.{primary_of, secondary_of, stage_in}
+use Rattle.luks_store.specs.Copying.Seen.{stage_of}
+use Rattle.luks_store.specs.Copying.Steps.{CopyCall, next_of}
+use Rattle.luks_store.specs.declared.header_copies.commit.Stage.TheVariants.{SecondWritten, Ended}
 use Rattle.luks_rules.specs.declared.areas.Area.{Area}
 use Rattle.luks_store.specs.declared.commit.Prepared.{Prepared}
 use Rattle.sector_disk.specs.Devices.{Device, SyncCall, WriteCall, succeeded}

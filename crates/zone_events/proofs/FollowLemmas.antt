@@ -1,8 +1,8 @@
 -- The map that a zone shows is that of the header from which the commit at hand leads, or the next
 -- one.
 use Rattle.std.proofs.Common.{◌≡◌, ◌∙◌, ℕ, false, List, [], Option, Some, None, refl, sym, ap, subst}
-use Rattle.disk_areas.specs.Headers.{Header, Layout}
-use Rattle.disk_zones.specs.Zones.{from_of}
+use Rattle.crash_laws.specs.HeaderAreas.Headers.{Header, Layout}
+use Rattle.crash_laws.specs.HotZones.Zones.{from_of}
 use Rattle.hotzone.specs.Headings.{AreOf}
 use Rattle.hotzone.specs.Known.{header_by}
 use Rattle.hotzone.specs.Sites.{count_of}
@@ -17,8 +17,8 @@ use Rattle.hotzone.specs.declared.worker.NextCall.TheVariants.{Save, Keep, Open,
 use Rattle.hotzone.specs.declared.worker.NextCall.TheVariants.{Settle, Move, Finish, End, Wipe, Rest}
 use Rattle.hotzone.specs.declared.worker.NextCall.TheVariants.{Over}
 use Rattle.hotzone.specs.declared.worker.Worker.{Worker}
-use Rattle.luks_copies.specs.Meanings.{meaning_of}
-use Rattle.luks_copies.specs.declared.commit.Stage.{Stage}
+use Rattle.luks_store.specs.Copying.Meanings.{meaning_of}
+use Rattle.luks_store.specs.declared.header_copies.commit.Stage.{Stage}
 use Rattle.luks_rules.specs.States.{IsSound as IsRuled}
 use Rattle.luks_store.specs.Loads.{IsStored}
 use Rattle.reenc_meta.specs.ConversionMaps.{IsMapAt}
@@ -112,6 +112,7 @@ module _ {C : Type 0} (sector : C → ℕ) (w : Worker C) (working : IsWorking s
     disk = record {
       size = w.loaded.valid.sizes.atom;
       atoms = all_atoms w.loaded.valid.sizes;
+      tail = 0;
       values = None;
       told = None;
       faults = 0;

@@ -8,7 +8,7 @@ use Rattle.std.proofs.lemmas.Bool.{and_parts, eqb-true}
 use Rattle.std.proofs.lemmas.Nat.{div-add-mod'}
 use Rattle.std.specs.List.{All}
 use Rattle.std.specs.Option.{option_and_then}
-use Rattle.disk_sizes.specs.declared.Sizes.{Sizes}
+use Rattle.base_terms.specs.declared.disk_sizes.Sizes.{Sizes}
 use Rattle.hotzone.proofs.GuardLemmas.{saved-fits}
 use Rattle.hotzone.proofs.SiteLemmas.{area-kept, site-count, site-within}
 use Rattle.hotzone.specs.Sites.{IsSaved, count_of, guard_of, kind_of, saved_count, site_by}

@@ -10,7 +10,7 @@ use Rattle.std.proofs.lemmas.List.{take-append-le}
 use Rattle.std.specs.Int.{w64, to_be_bytes}
 use Rattle.sha2.proofs.Facts256.{length-sha256}
 use Rattle.base_terms.specs.Blocks.{pasted}
-use Rattle.disk_areas.specs.Headers.{Header}
+use Rattle.crash_laws.specs.HeaderAreas.Headers.{Header}
 use Rattle.hotzone.specs.Headings.{IsSame}
 use Rattle.hotzone.specs.Known.{header_by}
 use Rattle.luks_bin.proofs.PieceLemmas.{AreWithin, field-before, field-elsewhere}
@@ -22,8 +22,8 @@ use Rattle.luks_bin.specs.Shares.{Agree}
 use Rattle.luks_bin.specs.Writing.{Piece, common, common_pieces, moved, own_pieces, paste_all, summed}
 use Rattle.luks_bin.specs.Writing.{written}
 use Rattle.luks_bin.specs.declared.header.BinHeader.{BinHeader}
-use Rattle.luks_copies.specs.Held.{primary_of, secondary_of}
-use Rattle.luks_copies.specs.Meanings.{meaning_of}
+use Rattle.luks_store.specs.Copying.Held.{primary_of, secondary_of}
+use Rattle.luks_store.specs.Copying.Meanings.{meaning_of}
 use Rattle.luks_json.specs.declared.meta.Parts.{Parts}
 use Rattle.luks_store.specs.Commits.{IsNext, IsNextStored, committed, text_for}
 use Rattle.luks_store.specs.Loads.{IsStored}

@@ -2,8 +2,8 @@
 -- comes next.
 use Rattle.std.proofs.Common.{◌≡◌, ◌∙◌, ℕ, ◌*◌, ◌^◌, ◌<◌, Bool, true, false, Some}
 use Rattle.std.proofs.Common.{None, refl, sym, ap, subst, arith, cond}
-use Rattle.disk_areas.specs.Headers.{IsHeader, IsLaidOut, Layout}
-use Rattle.disk_zones.specs.Zones.{from_of}
+use Rattle.crash_laws.specs.HeaderAreas.Headers.{IsHeader, IsLaidOut, Layout}
+use Rattle.crash_laws.specs.HotZones.Zones.{from_of}
 use Rattle.hotzone.proofs.WorkingLemmas.{fits-disk}
 use Rattle.hotzone.specs.Headings.{AreOf}
 use Rattle.hotzone.specs.Known.{header_by}
@@ -17,7 +17,7 @@ use Rattle.hotzone.specs.declared.worker.NextCall.TheVariants.{Save, Keep, Open,
 use Rattle.hotzone.specs.declared.worker.NextCall.TheVariants.{Settle, Move, Finish, End, Wipe, Rest}
 use Rattle.hotzone.specs.declared.worker.NextCall.TheVariants.{Over}
 use Rattle.hotzone.specs.declared.worker.Worker.{Worker}
-use Rattle.luks_copies.specs.Meanings.{header_reader, meaning_of, size_in}
+use Rattle.luks_store.specs.Copying.Meanings.{header_reader, meaning_of, size_in}
 use Rattle.sector_disk.specs.Geometry.{IsAtom}
 use Rattle.segment_map.specs.declared.map.Map.{Map}
 use Rattle.volume_machine.specs.Courses.{IsOnCourse}

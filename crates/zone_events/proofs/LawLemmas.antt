@@ -2,7 +2,7 @@
 use Rattle.std.proofs.Common.{◌≡◌, ℕ, ◌+◌, ◌%◌, ◌≤◌, ◌==◌, nat_lt, Bool, true, false, List, length}
 use Rattle.std.proofs.Common.{Result, Ok, Err, cond, sym, ap, subst, arith}
 use Rattle.cipher_laws.specs.Laws.{GivesBytes, KeepsLengths, UndoesSectors}
-use Rattle.disk_areas.specs.Headers.{Layout}
+use Rattle.crash_laws.specs.HeaderAreas.Headers.{Layout}
 use Rattle.hotzone.proofs.KnownLemmas.{SealRuns, seal-runs}
 use Rattle.hotzone.proofs.WorkingLemmas.{atom-of}
 use Rattle.hotzone.specs.Endings.{IsFinishing, after_wipe}

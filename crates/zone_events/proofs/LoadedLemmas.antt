@@ -2,14 +2,14 @@
 use Rattle.std.proofs.Common.{◌≡◌, ◌∙◌, ◌⊎◌, inl, inr, ℕ, ◌≤◌, List, length, Some, Ok}
 use Rattle.std.proofs.Common.{refl, sym, ap, subst, arith}
 use Rattle.std.proofs.lemmas.List.{take_all}
-use Rattle.disk_areas.specs.Headers.{Copy, IsHeader, byte_of, primary, secondary, text_of}
+use Rattle.crash_laws.specs.HeaderAreas.Headers.{Copy, IsHeader, byte_of, primary, secondary, text_of}
 use Rattle.luks_bin.proofs.ReadLemmas.{spells}
 use Rattle.luks_bin.proofs.WriteLemmas.{agree-moved, length-moved, moved-back}
 use Rattle.luks_bin.specs.Copies.{IsCopy, copy_of}
 use Rattle.luks_bin.specs.Writing.{moved}
 use Rattle.luks_bin.specs.declared.header.BinHeader.{BinHeader}
-use Rattle.luks_copies.proofs.MeaningLemmas.{agreeing_means}
-use Rattle.luks_copies.specs.Meanings.{header_reader, meaning_at, meaning_if, meaning_of, size_in}
+use Rattle.luks_store.proofs.Copying.MeaningLemmas.{agreeing_means}
+use Rattle.luks_store.specs.Copying.Meanings.{header_reader, meaning_at, meaning_if, meaning_of, size_in}
 use Rattle.luks_store.specs.Loads.{IsStored}
 use Rattle.luks_store.specs.declared.loaded.Stored.{Stored}
 use Rattle.zone_events.proofs.TextLemmas.{size-meant, stored-long}

@@ -6,9 +6,9 @@ use Rattle.std.specs.Int.{w64, from_be_bytes, to_be_bytes}
 use Rattle.luks_bin.specs.Fields.{field, u64_in}
 use Rattle.luks_bin.specs.Writing.{common, written}
 use Rattle.luks_bin.specs.declared.header.BinHeader.{BinHeader}
-use Rattle.luks_copies.proofs.MeaningLemmas.{seqid_is}
-use Rattle.luks_copies.specs.Held.{primary_of}
-use Rattle.luks_copies.specs.Meanings.{meaning_of, seqid_in}
+use Rattle.luks_store.proofs.Copying.MeaningLemmas.{seqid_is}
+use Rattle.luks_store.specs.Copying.Held.{primary_of}
+use Rattle.luks_store.specs.Copying.Meanings.{meaning_of, seqid_in}
 use Rattle.luks_json.specs.declared.meta.Parts.{Parts}
 use Rattle.luks_store.proofs.GivenLemmas.{numbered-by}
 use Rattle.luks_store.specs.Commits.{IsNext, text_for}

@@ -3,15 +3,15 @@ use Rattle.std.proofs.Common.{◌≡◌, ◌∙◌, inl, inr, ℕ, suc, ◌+◌,
 use Rattle.std.proofs.Common.{length, Option, Some, None, refl, sym, ap, subst}
 use Rattle.std.proofs.Common.{arith}
 use Rattle.std.specs.Prelude.{IsSomeAnd}
-use Rattle.disk_areas.specs.Areas.{Area}
-use Rattle.disk_areas.specs.Headers.{Copy, IsHeader, IsLaidOut, Layout, place_of}
-use Rattle.disk_views.specs.Views.{IsOutside}
-use Rattle.disk_zones.specs.Zones.{Reaches, its_header, its_own, its_store, its_target}
+use Rattle.crash_laws.specs.HeaderAreas.Areas.{Area}
+use Rattle.crash_laws.specs.HeaderAreas.Headers.{Copy, IsHeader, IsLaidOut, Layout, place_of}
+use Rattle.sector_disk.specs.DiskViews.Views.{IsOutside}
+use Rattle.crash_laws.specs.HotZones.Zones.{Reaches, its_header, its_own, its_store, its_target}
 use Rattle.hotzone.specs.Sites.{count_of, saved_count}
 use Rattle.hotzone.specs.Workers.{IsNextZone}
 use Rattle.hotzone.specs.declared.worker.Worker.{Worker}
-use Rattle.joined_disk.specs.Counts.{HasSizes}
-use Rattle.luks_copies.specs.Meanings.{header_reader, meaning_of}
+use Rattle.sector_disk.specs.JoinedDisks.Counts.{HasSizes}
+use Rattle.luks_store.specs.Copying.Meanings.{header_reader, meaning_of}
 use Rattle.luks_rules.specs.declared.shape.Progress.{Progress}
 use Rattle.luks_store.proofs.PageLemmas.{page-place, size-pages}
 use Rattle.reenc_meta.specs.ConversionMaps.{IsMapAt, IsMapOf}

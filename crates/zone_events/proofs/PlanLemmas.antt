@@ -2,12 +2,12 @@
 use Rattle.std.proofs.Common.{◌≡◌, ◌∙◌, inl, inr, ℕ, ◌+◌, ◌*◌, ◌^◌, ◌<◌, ◌≤◌, List, Some}
 use Rattle.std.proofs.Common.{refl, sym, ap, subst, arith}
 use Rattle.std.proofs.lemmas.Grind.{div_ceil_times}
-use Rattle.disk_areas.specs.Areas.{Area}
-use Rattle.disk_areas.specs.Headers.{Copy, Header, IsLaidOut, Layout, place_of, primary, secondary}
-use Rattle.disk_views.specs.Views.{IsOutside}
-use Rattle.disk_zones.specs.Standing.{IsPhaseOf}
-use Rattle.disk_zones.specs.Zones.{Hotzone, IsApart, Reaches, its_header, its_own, its_store}
-use Rattle.disk_zones.specs.Zones.{its_target, saving}
+use Rattle.crash_laws.specs.HeaderAreas.Areas.{Area}
+use Rattle.crash_laws.specs.HeaderAreas.Headers.{Copy, Header, IsLaidOut, Layout, place_of, primary, secondary}
+use Rattle.sector_disk.specs.DiskViews.Views.{IsOutside}
+use Rattle.crash_laws.specs.HotZones.Standing.{IsPhaseOf}
+use Rattle.crash_laws.specs.HotZones.Zones.{Hotzone, IsApart, Reaches, its_header, its_own, its_store}
+use Rattle.crash_laws.specs.HotZones.Zones.{its_target, saving}
 use Rattle.hotzone.proofs.WorkingLemmas.{fits-disk}
 use Rattle.hotzone.specs.Known.{zone_by}
 use Rattle.hotzone.specs.Sites.{IsSaved, count_of, guard_of, kind_of, saved_count}
@@ -16,8 +16,8 @@ use Rattle.hotzone.specs.declared.site.Guard.TheVariants as guards
 use Rattle.hotzone.specs.declared.site.Site.{Site}
 use Rattle.hotzone.specs.Workers.{FitsDisk, IsNextZone, IsWorking}
 use Rattle.hotzone.specs.declared.worker.Worker.{Worker}
-use Rattle.joined_disk.specs.Counts.{HasSizes}
-use Rattle.luks_copies.specs.Meanings.{meaning_of}
+use Rattle.sector_disk.specs.JoinedDisks.Counts.{HasSizes}
+use Rattle.luks_store.specs.Copying.Meanings.{meaning_of}
 use Rattle.luks_json.specs.declared.reencrypt.Resilience.{Resilience}
 use Rattle.luks_json.specs.declared.reencrypt.Resilience.TheVariants as kinds
 use Rattle.luks_rules.specs.Plans.{blocks_in}

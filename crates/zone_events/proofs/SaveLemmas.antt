@@ -2,10 +2,10 @@
 use Rattle.std.proofs.Common.{◌≡◌, ◌∙◌, ℕ, ◌+◌, ◌<◌}
 use Rattle.std.proofs.Common.{◌≤◌, false, List, take}
 use Rattle.std.proofs.Common.{refl, sym, ap, subst, arith}
-use Rattle.disk_areas.specs.Commits.{begun}
-use Rattle.disk_areas.specs.Headers.{Header, Layout}
-use Rattle.disk_sizes.specs.declared.Sizes.{Sizes}
-use Rattle.disk_zones.specs.Zones.{Phase, opening, saving}
+use Rattle.crash_laws.specs.HeaderAreas.Commits.{begun}
+use Rattle.crash_laws.specs.HeaderAreas.Headers.{Header, Layout}
+use Rattle.base_terms.specs.declared.disk_sizes.Sizes.{Sizes}
+use Rattle.crash_laws.specs.HotZones.Zones.{Phase, opening, saving}
 use Rattle.hotzone.proofs.GuardLemmas.{first-place, first-start, saved-some, saved_part}
 use Rattle.hotzone.proofs.KnownLemmas.{SealRuns, part-some}
 use Rattle.hotzone.specs.Headings.{AreOf}
@@ -17,8 +17,8 @@ use Rattle.hotzone.specs.declared.worker.NextCall.{NextCall}
 use Rattle.hotzone.specs.declared.worker.NextCall.TheVariants.{Begin, ReadFirst, SaveFirst, Read}
 use Rattle.hotzone.specs.declared.worker.NextCall.TheVariants.{Save, Keep, Open}
 use Rattle.hotzone.specs.declared.worker.Worker.{Worker}
-use Rattle.luks_copies.specs.Held.{stage_in}
-use Rattle.luks_copies.specs.Seen.{stage_of}
+use Rattle.luks_store.specs.Copying.Held.{stage_in}
+use Rattle.luks_store.specs.Copying.Seen.{stage_of}
 use Rattle.sector_disk.specs.Devices.{ReadCall, SyncCall, succeeded}
 use Rattle.sector_disk.specs.Geometry.{IsAtom}
 use Rattle.volume_machine.specs.Courses.{IsAtRest}

@@ -4,10 +4,10 @@ use Rattle.std.proofs.Common.{Bool, true, false, List, length, None, Result, con
 use Rattle.std.proofs.Common.{refl, sym, ap, subst, arith, inl, inr}
 use Rattle.std.proofs.lemmas.Bool.{eqb-false, eqb-true, ne_eqb}
 use Rattle.base_terms.specs.declared.failed.Failed.{Failed}
-use Rattle.disk_areas.specs.Headers.{Header, Layout}
-use Rattle.disk_views.proofs.Blockwise.{bytes-take}
-use Rattle.disk_views.specs.Parts.{AreBlocks, block_at}
-use Rattle.disk_zones.specs.Zones.{Phase, saving}
+use Rattle.crash_laws.specs.HeaderAreas.Headers.{Header, Layout}
+use Rattle.sector_disk.proofs.DiskViews.Blockwise.{bytes-take}
+use Rattle.sector_disk.specs.DiskViews.Parts.{AreBlocks, block_at}
+use Rattle.crash_laws.specs.HotZones.Zones.{Phase, saving}
 use Rattle.hotzone.proofs.GuardLemmas.{first-start, saved-each, saved-last, saved-long}
 use Rattle.hotzone.proofs.GuardLemmas.{saved-of-part, saved-on, saved-some, saved-within, saved_part}
 use Rattle.hotzone.proofs.KnownLemmas.{SealRuns, each-resealed, part-some}

@@ -6,12 +6,12 @@ use Rattle.std.proofs.lemmas.List.Elements.{recursion_from_All}
 use Rattle.std.specs.Prelude.{codes, option_and_then, option_map, ◌||◌}
 use Rattle.std.specs.List.{AllByRecursion, filter, find}
 use Rattle.std.specs.Option.{IfSome}
-use Rattle.disk_sizes.specs.declared.Sizes.{Sizes}
+use Rattle.base_terms.specs.declared.disk_sizes.Sizes.{Sizes}
 use Rattle.json_members.specs.Entries.{AreEntries, IsRising}
 use Rattle.json_members.specs.Members.{Lacks}
 use Rattle.json_members.specs.declared.faults.JsonFault.{JsonFault}
 use Rattle.json_members.proofs.ReadLemmas.{Right}
-use Rattle.luks_copies.specs.Meanings.{size_in}
+use Rattle.luks_store.specs.Copying.Meanings.{size_in}
 use Rattle.luks_json.proofs.MetaLemmas.{data_plain, meta_back, meta_from_right}
 use Rattle.luks_json.specs.Configs.{any_foreign, is_foreign, mandatory, origin_by, origin_of}
 use Rattle.luks_json.specs.Digests.{IsDigest}

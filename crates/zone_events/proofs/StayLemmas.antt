@@ -1,8 +1,8 @@
 -- A step leaves the ground that a zone stands on; the last one leaves its blocks new.
 use Rattle.std.proofs.Common.{◌≡◌, ◌∙◌, ℕ, ◌<◌, ◌≤◌, ◌==◌, List, Option, None}
 use Rattle.std.proofs.Common.{Ok, Err, refl, sym, ap, ap₂, subst}
-use Rattle.disk_areas.specs.Headers.{Layout}
-use Rattle.disk_sizes.specs.declared.Sizes.{Sizes}
+use Rattle.crash_laws.specs.HeaderAreas.Headers.{Layout}
+use Rattle.base_terms.specs.declared.disk_sizes.Sizes.{Sizes}
 use Rattle.hotzone.proofs.HeadingLemmas.{moved-sizes}
 use Rattle.hotzone.proofs.WorkingLemmas.{atom-of}
 use Rattle.hotzone.specs.Headings.{AreOf}
@@ -22,7 +22,7 @@ use Rattle.hotzone.specs.declared.worker.Stepped.TheVariants.{ZoneDone}
 use Rattle.hotzone.specs.declared.worker.Worker.{Worker}
 use Rattle.hotzone.specs.declared.worker.ZoneFault.{ZoneFault}
 use Rattle.luks_bin.specs.declared.header.BinHeader.{BinHeader}
-use Rattle.luks_copies.specs.Meanings.{meaning_of}
+use Rattle.luks_store.specs.Copying.Meanings.{meaning_of}
 use Rattle.luks_rules.specs.States.{IsSound as IsRuled}
 use Rattle.luks_store.specs.Loads.{IsStored}
 use Rattle.luks_store.specs.declared.copies.Copies.{Copies}

@@ -2,12 +2,12 @@
 use Rattle.std.proofs.Common.{◌≡◌, ◌∙◌, ℕ, ◌+◌, ◌<◌, true}
 use Rattle.std.proofs.Common.{List, [], take, Some, refl, sym, ap, subst}
 use Rattle.std.proofs.Common.{arith}
-use Rattle.disk_areas.specs.Commits.{failed_stage, first_written}
-use Rattle.disk_areas.specs.Headers.{Header, Layout}
-use Rattle.disk_views.proofs.Blockwise.{one_block, same_blocks}
-use Rattle.disk_views.specs.Parts.{AreBlocks, block_at}
-use Rattle.disk_sizes.specs.declared.Sizes.{Sizes}
-use Rattle.disk_zones.specs.Zones.{Phase, moving, opening, saving, writing}
+use Rattle.crash_laws.specs.HeaderAreas.Commits.{failed_stage, first_written}
+use Rattle.crash_laws.specs.HeaderAreas.Headers.{Header, Layout}
+use Rattle.sector_disk.proofs.DiskViews.Blockwise.{one_block, same_blocks}
+use Rattle.sector_disk.specs.DiskViews.Parts.{AreBlocks, block_at}
+use Rattle.base_terms.specs.declared.disk_sizes.Sizes.{Sizes}
+use Rattle.crash_laws.specs.HotZones.Zones.{Phase, moving, opening, saving, writing}
 use Rattle.hotzone.proofs.GuardLemmas.{first-place, first-start}
 use Rattle.hotzone.proofs.HeadingLemmas.{same-self}
 use Rattle.hotzone.proofs.KnownLemmas.{SealRuns, part-some}
@@ -26,9 +26,9 @@ use Rattle.hotzone.specs.declared.worker.NextCall.TheVariants.{Begin, ReadFirst,
 use Rattle.hotzone.specs.declared.worker.NextCall.TheVariants.{Save, Keep, Open, ReadAgain, Write}
 use Rattle.hotzone.specs.declared.worker.NextCall.TheVariants.{Settle, Move, Finish, End, Wipe, Rest}
 use Rattle.hotzone.specs.declared.worker.Worker.{Worker}
-use Rattle.luks_copies.specs.Held.{stage_in}
-use Rattle.luks_copies.specs.Meanings.{meaning_of}
-use Rattle.luks_copies.specs.Seen.{stage_of}
+use Rattle.luks_store.specs.Copying.Held.{stage_in}
+use Rattle.luks_store.specs.Copying.Meanings.{meaning_of}
+use Rattle.luks_store.specs.Copying.Seen.{stage_of}
 use Rattle.luks_store.specs.declared.commit.Prepared.{Prepared}
 use Rattle.sector_disk.specs.Devices.{ReadCall, SyncCall, WriteCall, failed_call}
 use Rattle.segment_map.specs.declared.Side.TheVariants.{Old}

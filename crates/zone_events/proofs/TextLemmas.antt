@@ -3,13 +3,13 @@ use Rattle.std.proofs.Common.{◌≡◌, ◌∙◌, ℕ, ◌+◌, ◌≤◌, Lis
 use Rattle.std.proofs.Common.{refl, sym, ap, arith, length-drop}
 use Rattle.std.proofs.Math.Seq.{drop-append-add}
 use Rattle.std.proofs.lemmas.List.{drop-drop, length-take-le}
-use Rattle.disk_areas.specs.Headers.{primary}
+use Rattle.crash_laws.specs.HeaderAreas.Headers.{primary}
 use Rattle.luks_bin.proofs.FieldLemmas.{size-least}
 use Rattle.luks_bin.specs.Copies.{text_of, up_to_nul}
 use Rattle.luks_bin.specs.Fields.{field}
 use Rattle.luks_bin.specs.declared.header.BinHeader.{BinHeader}
-use Rattle.luks_copies.specs.Held.{primary_of}
-use Rattle.luks_copies.specs.Meanings.{meaning_of, size_in}
+use Rattle.luks_store.specs.Copying.Held.{primary_of}
+use Rattle.luks_store.specs.Copying.Meanings.{meaning_of, size_in}
 use Rattle.luks_json.specs.Metas.{meta_from}
 use Rattle.luks_json.specs.declared.meta.Parts.{Parts}
 use Rattle.luks_store.proofs.GivenLemmas.{sized-by}

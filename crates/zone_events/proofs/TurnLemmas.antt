@@ -2,10 +2,10 @@
 -- boundary moved to new ones.
 use Rattle.std.proofs.Common.{◌≡◌, ◌∙◌, ◌⊎◌, inl, inr, ℕ, ◌+◌, ◌<◌, ◌≤◌, List, Some}
 use Rattle.std.proofs.Common.{Ok, suc, length, refl, sym, ap, ap₂, subst, arith}
-use Rattle.disk_areas.specs.Commits.{Follows}
-use Rattle.disk_areas.specs.Headers.{IsHeader, Layout}
-use Rattle.disk_zones.specs.Standing.{new_start}
-use Rattle.disk_zones.specs.Zones.{Hotzone}
+use Rattle.crash_laws.specs.HeaderAreas.Commits.{Follows}
+use Rattle.crash_laws.specs.HeaderAreas.Headers.{IsHeader, Layout}
+use Rattle.crash_laws.specs.HotZones.Standing.{new_start}
+use Rattle.crash_laws.specs.HotZones.Zones.{Hotzone}
 use Rattle.hotzone.specs.Headings.{AreOf, IsSame}
 use Rattle.hotzone.specs.Known.{header_by}
 use Rattle.hotzone.specs.Sites.{count_of, kind_of, start_by}
@@ -15,8 +15,8 @@ use Rattle.hotzone.specs.declared.site.Guard.TheVariants as guards
 use Rattle.hotzone.specs.declared.worker.Headers.{Headers}
 use Rattle.hotzone.specs.declared.worker.Worker.{Worker}
 use Rattle.luks_bin.specs.declared.header.BinHeader.{BinHeader}
-use Rattle.luks_copies.specs.Held.{primary_of}
-use Rattle.luks_copies.specs.Meanings.{header_of, header_reader, meaning_of, seqid_in}
+use Rattle.luks_store.specs.Copying.Held.{primary_of}
+use Rattle.luks_store.specs.Copying.Meanings.{header_of, header_reader, meaning_of, seqid_in}
 use Rattle.luks_json.specs.declared.reencrypt.Direction.{Direction as order}
 use Rattle.luks_json.specs.declared.reencrypt.Direction.TheVariants as orders
 use Rattle.luks_rules.specs.Plans.{blocks_in}

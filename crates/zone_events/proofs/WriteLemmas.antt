@@ -3,10 +3,10 @@ use Rattle.std.proofs.Common.{◌≡◌, ◌≢◌, ◌∙◌, ℕ, ◌+◌, ◌
 use Rattle.std.proofs.Common.{◌==◌, Bool, true, false, List, length, take, None, cond}
 use Rattle.std.proofs.Common.{refl, sym, ap, ap₂, subst, arith}
 use Rattle.std.proofs.lemmas.Bool.{eqb-true}
-use Rattle.disk_areas.specs.Commits.{begun, next_stage}
-use Rattle.disk_areas.specs.Headers.{Layout}
-use Rattle.disk_sizes.specs.declared.Sizes.{Sizes}
-use Rattle.disk_zones.specs.Zones.{from_of, moving, opening, writing}
+use Rattle.crash_laws.specs.HeaderAreas.Commits.{begun, next_stage}
+use Rattle.crash_laws.specs.HeaderAreas.Headers.{Layout}
+use Rattle.base_terms.specs.declared.disk_sizes.Sizes.{Sizes}
+use Rattle.crash_laws.specs.HotZones.Zones.{from_of, moving, opening, writing}
 use Rattle.hotzone.proofs.KnownLemmas.{SealRuns, each-resealed, part-some}
 use Rattle.hotzone.proofs.HeadingLemmas.{moved-sizes}
 use Rattle.hotzone.specs.Headings.{AreOf}
@@ -19,10 +19,10 @@ use Rattle.hotzone.specs.declared.worker.NextCall.{NextCall}
 use Rattle.hotzone.specs.declared.worker.NextCall.TheVariants.{Open, ReadAgain, Write, Settle}
 use Rattle.hotzone.specs.declared.worker.NextCall.TheVariants.{Move}
 use Rattle.hotzone.specs.declared.worker.Worker.{Worker}
-use Rattle.luks_copies.specs.Held.{primary_of, secondary_of, stage_in}
-use Rattle.luks_copies.specs.Seen.{stage_of}
-use Rattle.luks_copies.specs.Steps.{CopyCall}
-use Rattle.luks_copies.specs.declared.commit.Stage.TheVariants.{SecondWritten, Ended}
+use Rattle.luks_store.specs.Copying.Held.{primary_of, secondary_of, stage_in}
+use Rattle.luks_store.specs.Copying.Seen.{stage_of}
+use Rattle.luks_store.specs.Copying.Steps.{CopyCall}
+use Rattle.luks_store.specs.declared.header_copies.commit.Stage.TheVariants.{SecondWritten, Ended}
 use Rattle.luks_store.specs.declared.commit.Prepared.{Prepared}
 use Rattle.luks_store.specs.declared.copies.Copies.{Copies}
 use Rattle.luks_store.specs.declared.loaded.Stored.{Stored}
@@ -48,8 +48,8 @@ use Rattle.zone_events.specs.Heads.{header_on}
 use Rattle.zone_events.specs.Promises.{IsOf}
 use Rattle.zone_events.specs.Readings.{map_of, reading_of}
 use Rattle.zone_events.specs.Works.{at_hand, first_part, led_by, map_in, work_by, work_of}
-use Rattle.disk_areas.specs.Headers.{IsHeader}
-use Rattle.luks_copies.specs.Meanings.{header_reader}
+use Rattle.crash_laws.specs.HeaderAreas.Headers.{IsHeader}
+use Rattle.luks_store.specs.Copying.Meanings.{header_reader}
 
 -- ---- both headers of a zone are valid
 pub both-headers : (before : Stored) (blocks : ℕ) (headers : Headers)

@@ -1,8 +1,8 @@
 -- The header that both copies of a disk hold.
 use Rattle.std.specs.Prelude.{ℕ, List}
-use Rattle.disk_areas.specs.Headers.{Header}
+use Rattle.crash_laws.specs.HeaderAreas.Headers.{Header}
 use Rattle.luks_bin.specs.Writing.{moved}
-use Rattle.luks_copies.specs.Meanings.{meaning_of}
+use Rattle.luks_store.specs.Copying.Meanings.{meaning_of}
 use Rattle.luks_store.specs.declared.loaded.Stored.{Stored}
 
 -- Both copies of a header that was loaded, once each place holds it: the bytes of the copy that is

@@ -2,12 +2,12 @@
 -- planned, its map is that of the machine, it begins in order, and its header is judged by the sizes
 -- of the volume's disk.
 use Rattle.std.specs.Prelude.{ℕ, ◌≡◌, ◌<◌, length, Some, None}
-use Rattle.disk_areas.specs.Headers.{Layout}
-use Rattle.disk_sizes.specs.declared.Sizes.{Sizes}
+use Rattle.crash_laws.specs.HeaderAreas.Headers.{Layout}
+use Rattle.base_terms.specs.declared.disk_sizes.Sizes.{Sizes}
 use Rattle.hotzone.specs.Sites.{count_of}
 use Rattle.hotzone.specs.Workers.{IsMapNow, IsNew, IsWorking}
 use Rattle.hotzone.specs.declared.worker.Worker.{Worker}
-use Rattle.joined_disk.specs.Counts.{HasSizes}
+use Rattle.sector_disk.specs.JoinedDisks.Counts.{HasSizes}
 use Rattle.luks_rules.specs.States.{IsSound as IsRuled}
 use Rattle.luks_store.specs.Loads.{IsStored}
 use Rattle.luks_store.specs.declared.loaded.Stored.{Stored}

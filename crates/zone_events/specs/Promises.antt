@@ -2,7 +2,7 @@
 use Rattle.std.specs.Prelude.{ℕ, suc, ◌≡◌, ◌<◌, ◌≤◌, Bool, true, false, List, length, Option, Some, None}
 use Rattle.std.specs.Prelude.{Result, Ok, Err}
 use Rattle.cipher_laws.specs.Bytes.{AreBytes}
-use Rattle.disk_areas.specs.Headers.{Layout}
+use Rattle.crash_laws.specs.HeaderAreas.Headers.{Layout}
 use Rattle.hotzone.specs.Promises.{seals_in}
 use Rattle.hotzone.specs.Sites.{part_at}
 use Rattle.hotzone.specs.Steps.{Goes, Steps}
@@ -17,7 +17,7 @@ use Rattle.hotzone.specs.declared.worker.Stepped.TheVariants.{ZoneDone}
 use Rattle.hotzone.specs.declared.worker.Worker.{Worker}
 use Rattle.hotzone.specs.declared.worker.ZoneFault.{ZoneFault}
 use Rattle.hotzone.specs.declared.worker.ZoneFault.TheVariants as faults
-use Rattle.joined_disk.specs.Counts.{HasSizes}
+use Rattle.sector_disk.specs.JoinedDisks.Counts.{HasSizes}
 use Rattle.luks_rules.specs.States.{IsSound as IsRuled}
 use Rattle.luks_store.specs.Loads.{IsStored}
 use Rattle.sector_disk.specs.Devices.{Device}

@@ -3,9 +3,9 @@
 use Rattle.std.specs.Prelude.{ℕ, ◌/◌, not, Bool, false, List, [], ◌∷◌, map, Option, Some, None}
 use Rattle.std.specs.Prelude.{option_and_then, option_map, Result, Ok, Err}
 use Rattle.std.specs.List.{filter}
-use Rattle.disk_areas.specs.Areas.{Area as DiskArea}
-use Rattle.disk_sizes.specs.declared.Sizes.{Sizes}
-use Rattle.disk_zones.specs.Zones.{Resilience, checksum, datashift, journal}
+use Rattle.crash_laws.specs.HeaderAreas.Areas.{Area as DiskArea}
+use Rattle.base_terms.specs.declared.disk_sizes.Sizes.{Sizes}
+use Rattle.crash_laws.specs.HotZones.Zones.{Resilience, checksum, datashift, journal}
 use Rattle.hotzone.specs.Endings.{is_left}
 use Rattle.json_members.specs.declared.faults.JsonFault.{JsonFault}
 use Rattle.luks_json.specs.Metas.{data_of}

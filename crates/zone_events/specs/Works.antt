@@ -1,10 +1,10 @@
 -- The work of a volume's worker that a zone's state is.
 use Rattle.std.specs.Prelude.{ℕ, ◌+◌, ◌/◌, ◌==◌, List, [], map, drop, Option, Some, None}
 use Rattle.std.specs.Prelude.{if◌then◌else◌}
-use Rattle.disk_areas.specs.Areas.{Area as DiskArea}
-use Rattle.disk_areas.specs.Commits.{Stage, failed_stage}
-use Rattle.disk_areas.specs.Headers.{Header, Layout}
-use Rattle.disk_zones.specs.Zones.{Phase, from_of, saving, writing}
+use Rattle.crash_laws.specs.HeaderAreas.Areas.{Area as DiskArea}
+use Rattle.crash_laws.specs.HeaderAreas.Commits.{Stage, failed_stage}
+use Rattle.crash_laws.specs.HeaderAreas.Headers.{Header, Layout}
+use Rattle.crash_laws.specs.HotZones.Zones.{Phase, from_of, saving, writing}
 use Rattle.hotzone.specs.Known.{halted_in, header_by, zone_by}
 use Rattle.hotzone.specs.Sites.{count_of, part_at, saved_at, saved_count}
 use Rattle.hotzone.specs.Steps.{part_in}
@@ -18,8 +18,8 @@ use Rattle.hotzone.specs.declared.worker.NextCall.TheVariants.{Save, Keep, Open,
 use Rattle.hotzone.specs.declared.worker.NextCall.TheVariants.{Settle, Move, Finish, End, Wipe, Rest}
 use Rattle.hotzone.specs.declared.worker.NextCall.TheVariants.{Over}
 use Rattle.hotzone.specs.declared.worker.Worker.{Worker}
-use Rattle.luks_copies.specs.Held.{stage_in}
-use Rattle.luks_copies.specs.Seen.{stage_of}
+use Rattle.luks_store.specs.Copying.Held.{stage_in}
+use Rattle.luks_store.specs.Copying.Seen.{stage_of}
 use Rattle.segment_map.specs.declared.Side.TheVariants.{Old, New}
 use Rattle.segment_map.specs.declared.map.Map.{Map}
 use Rattle.volume_machine.specs.Seals.{Seals}

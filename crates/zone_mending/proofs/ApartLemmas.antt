@@ -1,7 +1,7 @@
 -- The areas of an open zone lie apart from each other and from the header's copies.
 use Rattle.std.proofs.Common.{◌≡◌, ◌∙◌, inl, inr, ℕ, ◌+◌, ◌*◌, ◌≤◌, List, ap, arith}
-use Rattle.disk_areas.specs.Headers.{Copy, Header, IsLaidOut, Layout, place_of, primary, secondary}
-use Rattle.disk_zones.specs.Zones.{IsApart}
+use Rattle.crash_laws.specs.HeaderAreas.Headers.{Copy, Header, IsLaidOut, Layout, place_of, primary, secondary}
+use Rattle.crash_laws.specs.HotZones.Zones.{IsApart}
 use Rattle.hotzone.specs.Sites.{count_of, saved_count}
 use Rattle.hotzone.specs.declared.site.Site.{Site}
 use Rattle.luks_rules.specs.States.{IsSound}

@@ -1,11 +1,11 @@
 -- What each device call leaves alone by which a zone is written again.
 use Rattle.std.proofs.Common.{inl, inr, ℕ, ◌+◌, ◌≤◌, true, false, List, arith}
-use Rattle.disk_areas.specs.Commits.{CommitCall, CommitFails, Stage, begun, first_kept}
-use Rattle.disk_areas.specs.Commits.{first_written, second_written}
-use Rattle.disk_areas.specs.Headers.{Header, Layout, primary, secondary}
-use Rattle.disk_views.specs.Views.{View, IsOutside, IsSynced, IsThinned, IsTried, IsUnchanged}
-use Rattle.disk_views.specs.Views.{IsWritten}
-use Rattle.disk_zones.specs.Zones.{Hotzone}
+use Rattle.crash_laws.specs.HeaderAreas.Commits.{CommitCall, CommitFails, Stage, begun, first_kept}
+use Rattle.crash_laws.specs.HeaderAreas.Commits.{first_written, second_written}
+use Rattle.crash_laws.specs.HeaderAreas.Headers.{Header, Layout, primary, secondary}
+use Rattle.sector_disk.specs.DiskViews.Views.{View, IsOutside, IsSynced, IsThinned, IsTried, IsUnchanged}
+use Rattle.sector_disk.specs.DiskViews.Views.{IsWritten}
+use Rattle.crash_laws.specs.HotZones.Zones.{Hotzone}
 use Rattle.zone_mending.specs.Elsewhere.{IsElsewhere, StaysElsewhere}
 
 -- ---- what touches no atom there

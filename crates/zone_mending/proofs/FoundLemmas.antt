@@ -7,15 +7,15 @@ use Rattle.std.proofs.lemmas.Grind.{div_ceil_times}
 use Rattle.std.proofs.lemmas.List.Elements.{Contains-push_cases}
 use Rattle.std.specs.Int.{div_ceil}
 use Rattle.std.specs.Prelude.{Contains}
-use Rattle.disk_areas.proofs.AreaTexts.{area_at}
-use Rattle.disk_areas.proofs.AreasShown.{text_certain}
-use Rattle.disk_areas.specs.Areas.{Area, Image, IsAny, IsWhole, text_from}
-use Rattle.disk_areas.specs.Headers.{Header, Layout}
-use Rattle.disk_views.proofs.Blockwise.{block_at-drop, block_at-front}
-use Rattle.disk_views.specs.Parts.{AreBlocks, block_at}
-use Rattle.disk_views.specs.Views.{View}
-use Rattle.disk_zones.specs.Standing.{IsKept}
-use Rattle.disk_zones.specs.Zones.{Hotzone, Is, Texts, found_by}
+use Rattle.crash_laws.proofs.HeaderAreas.AreaTexts.{area_at}
+use Rattle.crash_laws.proofs.HeaderAreas.AreasShown.{text_certain}
+use Rattle.crash_laws.specs.HeaderAreas.Areas.{Area, Image, IsAny, IsWhole, text_from}
+use Rattle.crash_laws.specs.HeaderAreas.Headers.{Header, Layout}
+use Rattle.sector_disk.proofs.DiskViews.Blockwise.{block_at-drop, block_at-front}
+use Rattle.sector_disk.specs.DiskViews.Parts.{AreBlocks, block_at}
+use Rattle.sector_disk.specs.DiskViews.Views.{View}
+use Rattle.crash_laws.specs.HotZones.Standing.{IsKept}
+use Rattle.crash_laws.specs.HotZones.Zones.{Hotzone, Is, Texts, found_by}
 use Rattle.hotzone.proofs.KnownLemmas.{SealRuns, new-block}
 use Rattle.hotzone.proofs.GuardLemmas.{saved_part}
 use Rattle.hotzone.proofs.LawLemmas.{some-atom}

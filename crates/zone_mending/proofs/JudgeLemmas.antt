@@ -4,9 +4,9 @@ use Rattle.std.proofs.Common.{length, take, drop, refl, sym, ap, subst, arith}
 use Rattle.std.proofs.lemmas.Bool.{cases_lt}
 use Rattle.std.proofs.lemmas.List.{length-take-le}
 use borrow.Rule.Slice.PartMut.{put_mid, post_of}
-use Rattle.disk_views.proofs.Blockwise.{block_at-behind, block_at-drop, block_at-front, block_at-next}
-use Rattle.disk_views.proofs.Blockwise.{block_at-one, block_at-take, block_within}
-use Rattle.disk_views.specs.Parts.{block_at}
+use Rattle.sector_disk.proofs.DiskViews.Blockwise.{block_at-behind, block_at-drop, block_at-front, block_at-next}
+use Rattle.sector_disk.proofs.DiskViews.Blockwise.{block_at-one, block_at-take, block_within}
+use Rattle.sector_disk.specs.DiskViews.Parts.{block_at}
 use Rattle.hotzone.specs.Steps.{resealed}
 use Rattle.sha2.specs.Sha256.{sha256}
 use Rattle.volume_machine.specs.Seals.{Seals}

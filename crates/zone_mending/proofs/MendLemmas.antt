@@ -2,16 +2,16 @@
 use Rattle.std.proofs.Common.{◌≡◌, ◌≢◌, ◌∙◌, ℕ, ◌+◌, ◌*◌, ◌<◌, ◌≤◌, ◌==◌, Bool, true, false}
 use Rattle.std.proofs.Common.{List, length, Result, Some, refl, sym, ap, subst, arith, cond}
 use Rattle.base_terms.specs.declared.failed.Failed.{Failed as Failure}
-use Rattle.disk_areas.specs.Commits.{CommitCall, CommitFails, second_written}
-use Rattle.disk_areas.specs.Headers.{Header, IsHeader, Layout}
-use Rattle.disk_views.specs.Parts.{AreBlocks, block_at}
-use Rattle.disk_views.specs.Views.{View, IsSynced, IsTried, IsWritten, view_of_cells}
-use Rattle.disk_zones.specs.Calls.{CallBeside, IsSettled, ZoneCall, ZoneFault}
-use Rattle.disk_zones.specs.Calls as calls
-use Rattle.disk_zones.specs.Promises.{ZoneEnds, ZoneGoes, ZoneStays}
-use Rattle.disk_zones.specs.Standing.{IsKept}
-use Rattle.disk_zones.specs.Zones.{Hotzone, Is, Phase, Texts, IsApart, ShowsZone, found_by}
-use Rattle.disk_zones.specs.Zones.{mending, moving}
+use Rattle.crash_laws.specs.HeaderAreas.Commits.{CommitCall, CommitFails, second_written}
+use Rattle.crash_laws.specs.HeaderAreas.Headers.{Header, IsHeader, Layout}
+use Rattle.sector_disk.specs.DiskViews.Parts.{AreBlocks, block_at}
+use Rattle.sector_disk.specs.DiskViews.Views.{View, IsSynced, IsTried, IsWritten, view_of_cells}
+use Rattle.crash_laws.specs.HotZones.Calls.{CallBeside, IsSettled, ZoneCall, ZoneFault}
+use Rattle.crash_laws.specs.HotZones.Calls as calls
+use Rattle.crash_laws.specs.HotZones.Promises.{ZoneEnds, ZoneGoes, ZoneStays}
+use Rattle.crash_laws.specs.HotZones.Standing.{IsKept}
+use Rattle.crash_laws.specs.HotZones.Zones.{Hotzone, Is, Phase, Texts, IsApart, ShowsZone, found_by}
+use Rattle.crash_laws.specs.HotZones.Zones.{mending, moving}
 use Rattle.hotzone.proofs.CallLemmas.{HasGot, Led, led-on, leads-by, read-leads, synced-leads}
 use Rattle.hotzone.proofs.CallLemmas.{thinned-leads, tried-if, unread-leads, written-if}
 use Rattle.hotzone.proofs.GuardLemmas.{saved-within, saved_part}
@@ -25,12 +25,12 @@ use Rattle.hotzone.specs.Steps.{Commits}
 use Rattle.hotzone.specs.declared.site.Guard.{Guard}
 use Rattle.hotzone.specs.declared.site.Guard.TheVariants as guards
 use Rattle.hotzone.specs.declared.site.Site.{Site}
-use Rattle.luks_copies.specs.Held.{primary_of, secondary_of, stage_in}
-use Rattle.luks_copies.specs.Meanings.{header_of, header_reader, meaning_of}
-use Rattle.luks_copies.specs.Seen.{CallsAreSeen, HasRoomFor, stage_of}
-use Rattle.luks_copies.specs.Steps.{next_of}
-use Rattle.luks_copies.specs.declared.commit.Stage.{Stage}
-use Rattle.luks_copies.specs.declared.commit.Stage.TheVariants.{SecondWritten}
+use Rattle.luks_store.specs.Copying.Held.{primary_of, secondary_of, stage_in}
+use Rattle.luks_store.specs.Copying.Meanings.{header_of, header_reader, meaning_of}
+use Rattle.luks_store.specs.Copying.Seen.{CallsAreSeen, HasRoomFor, stage_of}
+use Rattle.luks_store.specs.Copying.Steps.{next_of}
+use Rattle.luks_store.specs.declared.header_copies.commit.Stage.{Stage}
+use Rattle.luks_store.specs.declared.header_copies.commit.Stage.TheVariants.{SecondWritten}
 use Rattle.luks_store.specs.declared.commit.Prepared.{Prepared}
 use Rattle.luks_store.specs.declared.copies.Copies.{Copies}
 use Rattle.sector_disk.specs.Devices.{Device, ReadCall, failed_call, succeeded}

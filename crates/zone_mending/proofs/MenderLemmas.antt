@@ -4,7 +4,7 @@ use Rattle.std.proofs.Common.{List, length, refl, sym, ap, subst, arith}
 use Rattle.std.proofs.Math.Nat.{mul-le-mul_right}
 use Rattle.std.proofs.lemmas.Bool.{eqb-true}
 use Rattle.std.proofs.lemmas.List.{length-take-le}
-use Rattle.disk_zones.specs.Zones.{mending}
+use Rattle.crash_laws.specs.HotZones.Zones.{mending}
 use Rattle.hotzone.proofs.GuardLemmas.{ceil-fewer, saved-within, saved_part}
 use Rattle.hotzone.proofs.KnownLemmas.{part-fits, part-some}
 use Rattle.hotzone.proofs.LawLemmas.{most-atoms, some-atom}
@@ -15,8 +15,8 @@ use Rattle.hotzone.specs.Sites.{saved_at}
 use Rattle.hotzone.specs.declared.site.Guard.{Guard}
 use Rattle.hotzone.specs.declared.site.Guard.TheVariants as guards
 use Rattle.hotzone.specs.declared.site.Site.{Site}
-use Rattle.joined_disk.specs.Counts.{HasSizes}
-use Rattle.luks_copies.specs.declared.commit.Stage.{Stage}
+use Rattle.sector_disk.specs.JoinedDisks.Counts.{HasSizes}
+use Rattle.luks_store.specs.declared.header_copies.commit.Stage.{Stage}
 use Rattle.luks_store.specs.declared.loaded.Stored.{Stored}
 use Rattle.reenc_meta.specs.Placements.{all_atoms}
 use Rattle.resil_checksum.specs.Digests.{saved_len}

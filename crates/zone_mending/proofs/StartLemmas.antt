@@ -1,17 +1,17 @@
 -- What is known of a zone that is written again when it begins, and what calls of others leave.
 use Rattle.std.proofs.Common.{◌≡◌, ◌∙◌, ℕ, ◌+◌, ◌<◌, false, List, length, Ok, Some, sym}
 use Rattle.std.proofs.Common.{subst, arith}
-use Rattle.disk_areas.specs.Commits.{begun, ShowsCommit}
-use Rattle.disk_areas.specs.Headers.{Header, IsHeader, IsLaidOut, Layout}
-use Rattle.disk_views.specs.Parts.{block_at, cell_in}
-use Rattle.disk_views.specs.Views.{View, view_of_cells}
-use Rattle.disk_zones.specs.Calls.{CallBeside}
-use Rattle.disk_zones.specs.Promises.{IsFound, ZoneResumes, ZoneStays}
-use Rattle.disk_zones.specs.Zones.{Is, Texts, ShowsZone, found_by}
+use Rattle.crash_laws.specs.HeaderAreas.Commits.{begun, ShowsCommit}
+use Rattle.crash_laws.specs.HeaderAreas.Headers.{Header, IsHeader, IsLaidOut, Layout}
+use Rattle.sector_disk.specs.DiskViews.Parts.{block_at, cell_in}
+use Rattle.sector_disk.specs.DiskViews.Views.{View, view_of_cells}
+use Rattle.crash_laws.specs.HotZones.Calls.{CallBeside}
+use Rattle.crash_laws.specs.HotZones.Promises.{IsFound, ZoneResumes, ZoneStays}
+use Rattle.crash_laws.specs.HotZones.Zones.{Is, Texts, ShowsZone, found_by}
 use Rattle.hotzone.proofs.CallLemmas.{table-long}
 use Rattle.hotzone.specs.Known.{header_by}
 use Rattle.hotzone.specs.Sites.{count_of, kind_of}
-use Rattle.luks_copies.specs.Meanings.{header_reader, meaning_of}
+use Rattle.luks_store.specs.Copying.Meanings.{header_reader, meaning_of}
 use Rattle.luks_store.proofs.SettledLemmas.{current_is}
 use Rattle.luks_store.specs.Commits.{AreGood}
 use Rattle.luks_store.specs.Devices.{IsCertain, front_of}

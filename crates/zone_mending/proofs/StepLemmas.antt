@@ -14,10 +14,10 @@ use Rattle.hotzone.specs.declared.site.Guard.TheVariants as guards
 use Rattle.hotzone.specs.declared.site.Site.{Site}
 use Rattle.hotzone.specs.Steps.{Commits, IsCommitted}
 use Rattle.hotzone.specs.Workers.{HasKeys, MapsFit}
-use Rattle.joined_disk.specs.Counts.{HasSizes}
-use Rattle.luks_copies.specs.Held.{stage_in}
-use Rattle.luks_copies.specs.Steps.{is_last}
-use Rattle.luks_copies.specs.declared.commit.Stage.TheVariants.{Begun, Ended}
+use Rattle.sector_disk.specs.JoinedDisks.Counts.{HasSizes}
+use Rattle.luks_store.specs.Copying.Held.{stage_in}
+use Rattle.luks_store.specs.Copying.Steps.{is_last}
+use Rattle.luks_store.specs.declared.header_copies.commit.Stage.TheVariants.{Begun, Ended}
 use Rattle.luks_rules.specs.States.{IsSound}
 use Rattle.luks_store.specs.Loads.{IsStored}
 use Rattle.luks_store.specs.declared.commit.Prepared.{Prepared}

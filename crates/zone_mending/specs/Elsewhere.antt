@@ -1,9 +1,9 @@
 -- What a zone that is written again leaves alone: all atoms but its own and those of the header's
 -- copies.
 use Rattle.std.specs.Prelude.{ℕ, ◌≡◌, ◌⊎◌, Bool, false, List, Contains}
-use Rattle.disk_areas.specs.Headers.{Copy, Layout, place_of}
-use Rattle.disk_views.specs.Views.{View, IsOutside}
-use Rattle.disk_zones.specs.Zones.{Hotzone}
+use Rattle.crash_laws.specs.HeaderAreas.Headers.{Copy, Layout, place_of}
+use Rattle.sector_disk.specs.DiskViews.Views.{View, IsOutside}
+use Rattle.crash_laws.specs.HotZones.Zones.{Hotzone}
 
 -- an atom that is none of its own, and none of the header's copies
 pub record IsElsewhere {M : Type 0} (layout : Layout) (zone : Hotzone M) (place : ℕ) : Type 0 where

@@ -1,23 +1,23 @@
 -- What is known of a zone that is written again, between its steps.
 use Rattle.std.specs.Prelude.{ℕ, ◌≡◌, ◌+◌, ◌<◌, ◌⊎◌, false, List}
-use Rattle.disk_areas.specs.Commits.{failed_stage}
-use Rattle.disk_areas.specs.Areas.{Area, IsWhole}
-use Rattle.disk_areas.specs.Headers.{Header, IsHeader, Layout}
-use Rattle.disk_views.specs.Parts.{AreBlocks, block_at}
-use Rattle.disk_views.specs.Views.{View}
-use Rattle.disk_zones.specs.Calls.{IsSettled, ShowsMoved}
-use Rattle.disk_zones.specs.Standing.{IsKept}
-use Rattle.disk_zones.specs.Zones.{Hotzone, Is, Texts, Phase, IsApart, ShowsZone, found_by}
-use Rattle.disk_zones.specs.Zones.{mending, moving}
+use Rattle.crash_laws.specs.HeaderAreas.Commits.{failed_stage}
+use Rattle.crash_laws.specs.HeaderAreas.Areas.{Area, IsWhole}
+use Rattle.crash_laws.specs.HeaderAreas.Headers.{Header, IsHeader, Layout}
+use Rattle.sector_disk.specs.DiskViews.Parts.{AreBlocks, block_at}
+use Rattle.sector_disk.specs.DiskViews.Views.{View}
+use Rattle.crash_laws.specs.HotZones.Calls.{IsSettled, ShowsMoved}
+use Rattle.crash_laws.specs.HotZones.Standing.{IsKept}
+use Rattle.crash_laws.specs.HotZones.Zones.{Hotzone, Is, Texts, Phase, IsApart, ShowsZone, found_by}
+use Rattle.crash_laws.specs.HotZones.Zones.{mending, moving}
 use Rattle.hotzone.specs.Known.{HoldsPart, header_by, part_of, zone_by}
 use Rattle.hotzone.specs.Sites.{count_of, kind_of, part_at, saved_count}
 use Rattle.hotzone.specs.Steps.{resealed}
 use Rattle.hotzone.specs.declared.site.Guard.{Guard}
 use Rattle.hotzone.specs.declared.site.Guard.TheVariants as guards
 use Rattle.hotzone.specs.declared.site.Site.{Site}
-use Rattle.luks_copies.specs.Meanings.{header_reader, meaning_of}
-use Rattle.luks_copies.specs.Seen.{stage_of}
-use Rattle.luks_copies.specs.declared.commit.Stage.{Stage}
+use Rattle.luks_store.specs.Copying.Meanings.{header_reader, meaning_of}
+use Rattle.luks_store.specs.Copying.Seen.{stage_of}
+use Rattle.luks_store.specs.declared.header_copies.commit.Stage.{Stage}
 use Rattle.sha2.specs.Sha256.{sha256}
 use Rattle.volume_machine.specs.Saved.{saved_hash}
 use Rattle.volume_machine.specs.Seals.{Seals}

@@ -1,13 +1,13 @@
 -- What is promised of the steps by which a zone is written again, on a disk that tells its tables.
 use Rattle.std.specs.Prelude.{ℕ, ◌≡◌, true, false, List, Some, Ok}
-use Rattle.disk_areas.specs.Headers.{Header, IsHeader, IsLaidOut, Layout}
-use Rattle.disk_views.specs.Views.{View, view_of_cells}
-use Rattle.disk_zones.specs.Calls.{CallBeside}
-use Rattle.disk_zones.specs.Promises.{IsFound}
-use Rattle.disk_zones.specs.Zones.{Texts, ShowsZone}
+use Rattle.crash_laws.specs.HeaderAreas.Headers.{Header, IsHeader, IsLaidOut, Layout}
+use Rattle.sector_disk.specs.DiskViews.Views.{View, view_of_cells}
+use Rattle.crash_laws.specs.HotZones.Calls.{CallBeside}
+use Rattle.crash_laws.specs.HotZones.Promises.{IsFound}
+use Rattle.crash_laws.specs.HotZones.Zones.{Texts, ShowsZone}
 use Rattle.hotzone.specs.Promises.{Leads, TellsAlike}
-use Rattle.joined_disk.specs.Counts.{HasSizes}
-use Rattle.luks_copies.specs.Meanings.{header_reader, meaning_of}
+use Rattle.sector_disk.specs.JoinedDisks.Counts.{HasSizes}
+use Rattle.luks_store.specs.Copying.Meanings.{header_reader, meaning_of}
 use Rattle.luks_store.specs.Commits.{AreGood}
 use Rattle.luks_store.specs.Devices.{IsCertain, front_of}
 use Rattle.luks_store.specs.Loads.{stored_in}

@@ -2,7 +2,7 @@
 use Rattle.std.specs.Prelude.{ℕ, ◌≡◌, ◌≢◌, ◌+◌, ◌<◌, Bool, true, false, List, length, take, Result, Ok}
 use Rattle.std.specs.Prelude.{Err, IfErr, IfOk}
 use Rattle.base_terms.specs.declared.failed.Failed.{Failed as Failure}
-use Rattle.disk_views.specs.Parts.{block_at}
+use Rattle.sector_disk.specs.DiskViews.Parts.{block_at}
 use Rattle.hotzone.specs.Headings.{IsSame}
 use Rattle.hotzone.specs.Known.{part_of}
 use Rattle.hotzone.specs.Sites.{part_at, saved_at}
@@ -10,8 +10,8 @@ use Rattle.hotzone.specs.Steps.{Commits, IsCommitted, resealed}
 use Rattle.hotzone.specs.declared.site.Guard.{Guard}
 use Rattle.hotzone.specs.declared.site.Guard.TheVariants as guards
 use Rattle.hotzone.specs.declared.site.Site.{Site}
-use Rattle.joined_disk.specs.Counts.{HasSizes}
-use Rattle.luks_copies.specs.declared.commit.Stage.TheVariants.{SecondWritten}
+use Rattle.sector_disk.specs.JoinedDisks.Counts.{HasSizes}
+use Rattle.luks_store.specs.declared.header_copies.commit.Stage.TheVariants.{SecondWritten}
 use Rattle.luks_store.specs.declared.commit.Prepared.{Prepared}
 use Rattle.resil_checksum.specs.Digests.{saved_len}
 use Rattle.sector_disk.specs.Devices.{Device, ReadCall, SyncCall, WriteCall, failed_call, succeeded}

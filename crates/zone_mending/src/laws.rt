@@ -4,9 +4,9 @@ ghost use Rattle.zone_mending.specs.Promises.{MendEnds, MendFails, MendGoes, Men
 ghost use Rattle.zone_mending.specs.Promises.{MendStays};
 
 use cipher_laws::SectorCipher;
-use disk_zones::{zones_are_resumed, zones_go_by_calls, zones_stay};
-use luks_copies::calls_are_seen;
+use crash_laws::{zones_are_resumed, zones_go_by_calls, zones_stay};
 use luks_store::commits_begin;
+use luks_store::header_copies::calls_are_seen;
 use volume_laws::keys_seal_lawfully;
 
 /// Each step is the device call of the laws of zones, on each disk that tells its tables. It begins

@@ -6,7 +6,7 @@ use luks_store::Loaded;
 use volume_machine::Keys;
 
 /// Why a zone isn't begun to be written again.
-#[derive(Clone, Copy, Debug, PartialEq, Eq)]
+#[derive(Clone, Copy, PartialEq, Eq)]
 pub enum MendFault {
     /// The header has so many numbers left, and the commit to come takes so many more.
     SeqEnd { left: u64, wanted: u64 },
@@ -18,7 +18,7 @@ pub enum MendFault {
 }
 
 /// The device call that comes next. `done` atoms of the zone were written.
-#[derive(Clone, Copy, Debug, PartialEq, Eq)]
+#[derive(Clone, Copy, PartialEq, Eq)]
 pub enum MendCall {
     /// What was saved of a part is read: by journal its old atoms, by checksum their digests.
     ReadSaved { done: u64 },

@@ -3,9 +3,9 @@
 ghost use Rattle.std.specs.Prelude.{◌≡◌, ◌↔◌, IfErr, IfOk, IsTrue, false};
 ghost use Rattle.hotzone.specs.Workers.{HasKeys, MapsFit, MayGoOn};
 ghost use Rattle.hotzone.specs.declared.site.Guard.TheVariants as guards;
-ghost use Rattle.joined_disk.specs.Counts.{HasSizes};
-ghost use Rattle.luks_copies.specs.Held.{stage_in};
-ghost use Rattle.luks_copies.specs.declared.commit.Stage.TheVariants.{Begun};
+ghost use Rattle.sector_disk.specs.JoinedDisks.Counts.{HasSizes};
+ghost use Rattle.luks_store.specs.Copying.Held.{stage_in};
+ghost use Rattle.luks_store.specs.declared.header_copies.commit.Stage.TheVariants.{Begun};
 ghost use Rattle.reenc_meta.specs.Placements.{all_atoms};
 ghost use Rattle.sector_disk.specs.Geometry.{IsAtom, IsDisk};
 ghost use Rattle.segment_map.specs.declared.map.Map.{Map as map_type};

@@ -13,11 +13,10 @@ ghost use Rattle.zone_mending.specs.Steps.{IsAnew, IsJudged, ReadsDigests, Reads
 ghost use Rattle.zone_mending.specs.Steps.{WritesAgain};
 
 use crate::mender::Mender;
-use base_terms::Failed;
+use base_terms::{Failed, Judged};
 use cipher_laws::SectorCipher;
 use hotzone::{Guard, reseal};
 use resil_checksum::judge;
-use resil_terms::Judged;
 use sector_disk::Disk;
 use segment_map::{Piece, Side};
 use std::thread::Threads;

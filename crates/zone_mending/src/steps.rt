@@ -3,8 +3,8 @@
 ghost use Rattle.std.specs.Prelude.{◌≡◌, ◌≢◌, ◌<◌, ◌≤◌};
 ghost use Rattle.hotzone.specs.Sites.{IsPartStart, count_of};
 ghost use Rattle.hotzone.specs.declared.site.Guard.TheVariants as guards;
-ghost use Rattle.joined_disk.specs.Counts.{HasSizes};
-ghost use Rattle.luks_copies.specs.declared.commit.Stage.TheVariants.{Ended};
+ghost use Rattle.sector_disk.specs.JoinedDisks.Counts.{HasSizes};
+ghost use Rattle.luks_store.specs.declared.header_copies.commit.Stage.TheVariants.{Ended};
 ghost use Rattle.volume_machine.specs.Seals.{seals_of};
 ghost use Rattle.zone_mending.specs.Menders.{FitsDisk, after_move, after_write};
 ghost use Rattle.zone_mending.specs.Menders.{stage_of_move};

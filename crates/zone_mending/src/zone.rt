@@ -3,8 +3,8 @@
 ghost use Rattle.std.specs.Prelude.{◌≡◌, ◌≢◌, ◌<◌, ◌↔◌, ℕ, List, IfErr, IfOk, IsTrue};
 ghost use Rattle.hotzone.specs.Sites.{IsSaved, guard_of};
 ghost use Rattle.hotzone.specs.declared.worker.ZoneFault.TheVariants as faults;
-ghost use Rattle.luks_copies.specs.Held.{stage_in};
-ghost use Rattle.luks_copies.specs.declared.commit.Stage.TheVariants.{Begun};
+ghost use Rattle.luks_store.specs.Copying.Held.{stage_in};
+ghost use Rattle.luks_store.specs.declared.header_copies.commit.Stage.TheVariants.{Begun};
 ghost use Rattle.reenc_meta.specs.Placements.{all_atoms};
 ghost use Rattle.segment_map.specs.declared.map.Map.{Map as map_type};
 ghost use Rattle.sector_disk.specs.Geometry.{IsDisk};

@@ -1,13 +1,11 @@
-use Rattle.std.proofs.Common.{◌≢◌, ◌+◌, ◌*◌, ℕ, List, [], ◌++◌, None, refl, sym, subst, arith}
+use Rattle.std.proofs.Common.{◌≢◌, List, [], ◌++◌, None, refl, sym, subst, arith}
 use Rattle.volume_machine.specs.Answers.{Tagged}
-use Rattle.block_server.specs.Asking.{AskedIs}
-use Rattle.block_server.specs.Sessions.{Played, numbered}
+use Rattle.block_server.specs.Sessions.{Played}
 use Rattle.block_server.proofs.AskingLemmas.{tagged_of-none}
 use Rattle.block_server.proofs.LeavingLemmas.{leaves-joined, leaves-same, still-left}
 use Rattle.block_server.proofs.LinkLemmas.{ended_failed, ended_none, ended_short, reached_more}
 use Rattle.block_server.proofs.LinkLemmas.{reached_none, reached_spends, tagged_of-append, with-none}
 use Rattle.block_server.specs.Links.{IsLinkServed}
-use Rattle.block_server.specs.declared.connection.Asked.TheVariants.{Served}
 use Rattle.block_server.specs.declared.link.Standing.TheVariants.{Ended, Failed, Live}
 use Rattle.block_server.proofs.link.serve_link.Goals as goal
 
@@ -40,12 +38,7 @@ loop-turn-preserved g c = let l = c.loop-turn.invariant in record {
             (reached_spends c.args.first.now _ _ c.args.step k (g.L.Link.state c.args.link.now)
             (g.L.Link.state c.loop-turn.link) c.args.ends.now.items c.loop-turn.ends.items
             c.loop-turn.turn so.0 still so.1)
-            (subst (λ (t : ℕ). AskedIs (numbered c.args.first.now
-            (c.args.first.now.number + t * c.args.step))
-            (g.P.SharedPort.left_by c.serve_next.new.port ≢ None) k
-            (g.L.Link.state c.loop-turn.link) (g.L.Link.state c.serve_next.new.link)
-            c.loop-turn.ends.items c.serve_next.new.ends.items Served one.0) c.from.ensures
-            one.1),
+            one.1,
         subst (λ (done : List Tagged). g.P.SharedPort.executed c.args.port.now
             c.serve_next.new.port done) (sym (tagged_of-append so.0 one.0))
             (g.met.P.SharedPort.executed_more c.args.port.now c.loop-turn.port

@@ -103,7 +103,7 @@ loop-link-preserved g c =
           c.split_off-lane.result c.in-Some.link c.new.result c.new.ensures.lane c.new.ensures.link
           c.new.ensures.none lane.pass lane.rests lane.lane lane.calls (lane.same ∙ so.start)
           lane.number lane.keys lane.shape c.requires.shape
-          (subst (λ (l : g.row.L.Denot). (g.L.Link.state l).bound ≤ 65535)
+          (subst (λ (l : g.row.L.Denot). (g.L.Link.state l).bound ≤ 4294967295)
           (sym (here c.in-Some.link)) (c.requires.bound c.loop-link.number c.in-Some.link below))
           here);
     }

@@ -1,6 +1,6 @@
 use Rattle.std.proofs.Common.{◌+◌, ◌-◌, ◌*◌, ◌/◌, List, ℕ, length, arith, ◌∙◌, refl, ap}
-use Rattle.cipher_blocks.specs.Blocks.{xored}
-use Rattle.cipher_blocks.specs.UnderWayLaws.{under_way_first, under_way_more, under_way_last}
+use Rattle.cipher_laws.specs.CipherBlocks.Blocks.{xored}
+use Rattle.cipher_laws.specs.CipherBlocks.UnderWayLaws.{under_way_first, under_way_more, under_way_last}
 use Rattle.cbc_essiv.specs.Cbc.{seal_after, cbc_sealed}
 use Rattle.cbc_essiv.proofs.chain.seal_chain.Goals as goal
 

@@ -2,7 +2,7 @@ use Rattle.std.proofs.Common.{ℕ, List, ◌≡◌, ◌-◌, ◌*◌, ◌/◌, l
 use Rattle.std.proofs.Common.{length-drop}
 use Rattle.std.proofs.lemmas.List.{take_all}
 use Rattle.cipher_laws.specs.Pieces.{worked}
-use Rattle.cipher_blocks.specs.UnderWayLaws.{under_way_rest}
+use Rattle.cipher_laws.specs.CipherBlocks.UnderWayLaws.{under_way_rest}
 use Rattle.cbc_essiv.specs.Cbc.{unseal_after, cbc_opened}
 use Rattle.cbc_essiv.proofs.chain.unseal_chain.Goals as goal
 

@@ -1,6 +1,6 @@
 use Rattle.std.proofs.Common.{◌+◌, ◌-◌, ◌*◌, ◌/◌, List, ℕ, length, arith, ◌∙◌, ap}
-use Rattle.cipher_blocks.specs.Blocks.{xored}
-use Rattle.cipher_blocks.specs.UnderWayLaws.{under_way_first, under_way_more, under_way_last}
+use Rattle.cipher_laws.specs.CipherBlocks.Blocks.{xored}
+use Rattle.cipher_laws.specs.CipherBlocks.UnderWayLaws.{under_way_first, under_way_more, under_way_last}
 use Rattle.cbc_essiv.specs.Cbc.{unseal_after, cbc_opened}
 use Rattle.cbc_essiv.proofs.chain.unseal_each.Goals as goal
 

@@ -1,5 +1,5 @@
 use Rattle.std.proofs.Common.{◌*◌, ◌-◌}
-use Rattle.cipher_blocks.specs.UnderWay.{IsUnderWay}
+use Rattle.cipher_laws.specs.CipherBlocks.UnderWay.{IsUnderWay}
 use Rattle.cbc_essiv.specs.Cbc.{unseal_after, cbc_opened}
 use Rattle.cbc_essiv.proofs.chain.unseal_each.Given as goal
 

@@ -1,7 +1,7 @@
 use Rattle.std.proofs.Common.{ℕ, List, ◌+◌, ◌-◌, ◌*◌, ◌/◌, ◌<◌, length, refl, ap, ◌∙◌, arith}
 use Rattle.cipher_laws.specs.Eight.{block}
-use Rattle.cipher_blocks.specs.Blocks.{xored}
-use Rattle.cipher_blocks.specs.UnderWayLaws.{under_way_first, under_way_row}
+use Rattle.cipher_laws.specs.CipherBlocks.Blocks.{xored}
+use Rattle.cipher_laws.specs.CipherBlocks.UnderWayLaws.{under_way_first, under_way_row}
 use Rattle.cbc_essiv.specs.Cbc.{unseal_after, cbc_opened, before}
 use Rattle.cbc_essiv.proofs.chain.unseal_eights.Goals as goal
 

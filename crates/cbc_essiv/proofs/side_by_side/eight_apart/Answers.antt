@@ -2,7 +2,7 @@ use Rattle.std.proofs.Common.{◌≡◌}
 use Rattle.cipher_laws.specs.Eight.{block}
 use Rattle.cipher_laws.specs.declared.eight_blocks.EightBlocks.{EightBlocks}
 use Rattle.cipher_laws.specs.EachOfEight.{each_of_eight}
-use Rattle.cipher_blocks.specs.Blocks.{block_of}
+use Rattle.cipher_laws.specs.CipherBlocks.Blocks.{block_of}
 use Rattle.cbc_essiv.specs.Rows.{sector_of}
 use Rattle.cbc_essiv.proofs.side_by_side.eight_apart.Goals as goal
 

@@ -1,6 +1,6 @@
 use Rattle.std.proofs.Common.{◌≡◌, ◌+◌, ◌-◌, ◌*◌, ℕ, List, [], take, drop, length, ap, ◌∙◌, arith}
 use Rattle.std.proofs.Common.{slice_index_or}
-use Rattle.cipher_blocks.specs.Blocks.{with_block}
+use Rattle.cipher_laws.specs.CipherBlocks.Blocks.{with_block}
 use Rattle.cbc_essiv.proofs.RowLemmas.{put_more, length-sector}
 use Rattle.cbc_essiv.proofs.side_by_side.put_apart.Goals as goal
 

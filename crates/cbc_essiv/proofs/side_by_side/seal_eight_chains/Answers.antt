@@ -1,7 +1,7 @@
 use Rattle.std.proofs.Common.{◌≡◌, ℕ, List, ◌+◌, ◌-◌, ◌*◌, ◌/◌, refl, ap, ◌∙◌, arith}
 use Rattle.cipher_laws.specs.Eight.{block}
-use Rattle.cipher_blocks.specs.Blocks.{xored}
-use Rattle.cipher_blocks.specs.UnderWayLaws.{under_way_first, under_way_more, under_way_last}
+use Rattle.cipher_laws.specs.CipherBlocks.Blocks.{xored}
+use Rattle.cipher_laws.specs.CipherBlocks.UnderWayLaws.{under_way_first, under_way_more, under_way_last}
 use Rattle.cbc_essiv.specs.Cbc.{seal_after, cbc_sealed}
 use Rattle.cbc_essiv.specs.Rows.{sector_of}
 use Rattle.cbc_essiv.proofs.RowLemmas.{length-sector}

@@ -1,6 +1,6 @@
 use Rattle.std.proofs.Common.{ℕ, ◌*◌, ◌-◌, ◌<◌}
 use Rattle.cipher_laws.specs.Eight.{block}
-use Rattle.cipher_blocks.specs.UnderWay.{IsUnderWay}
+use Rattle.cipher_laws.specs.CipherBlocks.UnderWay.{IsUnderWay}
 use Rattle.cbc_essiv.specs.Cbc.{seal_after, cbc_sealed}
 use Rattle.cbc_essiv.specs.Rows.{sector_of}
 use Rattle.cbc_essiv.proofs.side_by_side.seal_eight_chains.Given as goal

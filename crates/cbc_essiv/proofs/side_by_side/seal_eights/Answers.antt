@@ -2,8 +2,8 @@ use Rattle.std.proofs.Common.{rules, ◌≡◌, ℕ, suc, ◌+◌, ◌-◌, ◌*
 use Rattle.std.proofs.Common.{take, drop, ap, sym, ◌∙◌, arith, length-drop}
 use Rattle.std.proofs.lemmas.List.{length-take-le}
 use Rattle.cipher_laws.specs.Sectors.{by_sectors}
-use Rattle.cipher_blocks.specs.Blocks.{number_block}
-use Rattle.cipher_blocks.specs.UnderWayLaws.{under_way_first, under_way_row}
+use Rattle.cipher_laws.specs.CipherBlocks.Blocks.{number_block}
+use Rattle.cipher_laws.specs.CipherBlocks.UnderWayLaws.{under_way_first, under_way_row}
 use Rattle.cbc_essiv.specs.Cbc.{cbc_sealed, cbc_essiv_sealed, essiv}
 use Rattle.cbc_essiv.specs.Rows.{sector_of}
 use Rattle.cbc_essiv.proofs.RowLemmas.{sector_in_row, row_put, length-row_put, eight_within}

@@ -32,3 +32,29 @@ returns-in-Flag-clause-rule c =
     rw (c.in-Flag.is, c.action-in-Flag.ensures, c.help-in-Flag.ensures, c.long-in-Flag.ensures)
     (ap (λ (r : Rule). record r { long = Some c.in-Flag.name.now; action = Some SetTrue })
     c.new-in-Flag.ensures.rule)
+
+pub returns-in-Unbuilt-clause-rule : goal.returns-in-Unbuilt-clause-rule
+returns-in-Unbuilt-clause-rule c =
+    rw (
+      c.in-Unbuilt.is,
+      c.action-in-Unbuilt.ensures,
+      c.hide.ensures,
+      c.value_name-in-Unbuilt.ensures,
+      c.long-in-Unbuilt.ensures,
+    )
+    (ap (λ (r : Rule). record r {
+      long = Some c.in-Unbuilt.name.now;
+      value_names = 1;
+      action = Some Set;
+    }) c.new-in-Unbuilt.ensures.rule)
+
+pub returns-in-UnbuiltFlag-clause-rule : goal.returns-in-UnbuiltFlag-clause-rule
+returns-in-UnbuiltFlag-clause-rule c =
+    rw (
+      c.in-UnbuiltFlag.is,
+      c.action-in-UnbuiltFlag.ensures,
+      c.hide-in-UnbuiltFlag.ensures,
+      c.long-in-UnbuiltFlag.ensures,
+    )
+    (ap (λ (r : Rule). record r { long = Some c.in-UnbuiltFlag.name.now; action = Some SetTrue })
+    c.new-in-UnbuiltFlag.ensures.rule)

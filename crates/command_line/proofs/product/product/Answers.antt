@@ -15,6 +15,7 @@ returns c =
       c.subcommand_required.ensures,
       c.no_binary_name.ensures,
       c.about.ensures,
+      c.in_ok-command.ensures.0,
     )
     (ap (λ (a : App). record a {
       top = record a.top {

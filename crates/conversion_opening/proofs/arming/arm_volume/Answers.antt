@@ -1,7 +1,7 @@
 use Rattle.std.proofs.Common.{◌∙◌, sym, ap, subst}
 use Rattle.conversion_opening.proofs.ArmLemmas.{armed_is, disk_is, lane_free, map_fits}
 use Rattle.conversion_opening.proofs.arming.arm_volume.Goals as goal
-use Rattle.joined_disk.specs.Counts.{HasSizes}
+use Rattle.sector_disk.specs.JoinedDisks.Counts.{HasSizes}
 use Rattle.reenc_meta.specs.ConversionMaps.{IsMapOf}
 
 pub find_map-map-requires-clause-disk : goal.find_map-map-requires-clause-disk

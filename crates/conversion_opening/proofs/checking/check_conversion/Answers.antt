@@ -5,8 +5,8 @@ use Rattle.conversion_opening.proofs.OpenLemmas.{fits_by, fits_here, guarded_by,
 use Rattle.conversion_opening.proofs.OpenLemmas.{held_here, not_moved_by, passed_by, repair_here}
 use Rattle.conversion_opening.proofs.checking.check_conversion.Goals as goal
 use Rattle.conversion_opening.specs.Causes.{IsNotLed}
-use Rattle.disk_sizes.specs.declared.Sizes.{Sizes}
-use Rattle.joined_disk.specs.Counts.{sizes_of}
+use Rattle.base_terms.specs.declared.disk_sizes.Sizes.{Sizes}
+use Rattle.sector_disk.specs.JoinedDisks.Counts.{sizes_of}
 use Rattle.luks_rules.specs.Areas.{header_bytes}
 use Rattle.luks_rules.specs.declared.valid.Checked.{Checked}
 use Rattle.luks_store.specs.Devices.{device_of, header_room}

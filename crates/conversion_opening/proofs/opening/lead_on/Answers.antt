@@ -4,7 +4,7 @@ use Rattle.conversion_opening.proofs.StepLemmas.{tells}
 use Rattle.conversion_opening.proofs.opening.lead_on.Goals as goal
 use Rattle.conversion_opening.specs.Openings.{unmended, unrepaired}
 use Rattle.conversion_opening.specs.Runs.{header_in}
-use Rattle.disk_sizes.specs.declared.Sizes.{Sizes}
+use Rattle.base_terms.specs.declared.disk_sizes.Sizes.{Sizes}
 use Rattle.hotzone.proofs.CommitLemmas.{has-as}
 use Rattle.luks_store.specs.Devices.{device_of}
 use Rattle.volume_core.specs.Zones.{IsReadBy}

@@ -5,8 +5,8 @@ use Rattle.conversion_opening.proofs.OpenLemmas.{refused_behind, sizes_read}
 use Rattle.conversion_opening.proofs.opening.open_conversion.Goals as goal
 use Rattle.conversion_opening.specs.Openings.{only_read, uncalled, unsynced}
 use Rattle.conversion_opening.specs.Runs.{header_in}
-use Rattle.disk_sizes.specs.declared.Sizes.{Sizes}
-use Rattle.joined_disk.specs.Counts.{HasSizes, joint_in, sizes_of}
+use Rattle.base_terms.specs.declared.disk_sizes.Sizes.{Sizes}
+use Rattle.sector_disk.specs.JoinedDisks.Counts.{HasSizes, joint_in, sizes_of}
 use Rattle.luks_store.specs.Devices.{device_of}
 use Rattle.sector_disk.specs.Geometry.{IsAtom}
 use Rattle.volume_core.specs.Zones.{IsReadBy}

@@ -1,8 +1,8 @@
 use Rattle.std.proofs.Common.{◌≡◌, ◌∙◌, ◌*◌, ◌≤◌, ℕ, List, Some, length, ap, ap₂, sym}
 use Rattle.std.proofs.Common.{subst, arith, IfOk}
-use Rattle.disk_sizes.specs.declared.Sizes.{Sizes}
-use Rattle.joined_disk.specs.Counts.{sizes_of}
-use Rattle.joined_disk.specs.Joined.{Joint, both_faults, in_front, joined_disk}
+use Rattle.base_terms.specs.declared.disk_sizes.Sizes.{Sizes}
+use Rattle.sector_disk.specs.JoinedDisks.Counts.{sizes_of}
+use Rattle.sector_disk.specs.JoinedDisks.Joined.{Joint, both_faults, in_front, joined_disk}
 use Rattle.luks_store.specs.Devices.{device_of}
 use Rattle.header_report.proofs.ExamineLemmas.{alone_sizes, alone_values, answers_alone}
 use Rattle.header_report.proofs.ExamineLemmas.{cause-told, tells_by}

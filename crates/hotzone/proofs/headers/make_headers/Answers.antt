@@ -1,6 +1,6 @@
 use Rattle.std.proofs.Common.{sym, subst, arith}
 use Rattle.std.proofs.lemmas.Result.{err_from_is_err_and}
-use Rattle.disk_sizes.specs.declared.Sizes.{Sizes}
+use Rattle.base_terms.specs.declared.disk_sizes.Sizes.{Sizes}
 use Rattle.hotzone.proofs.MadeLemmas.{are-made, may-turn, sizes-on, unmade-first}
 use Rattle.hotzone.proofs.MadeLemmas.{unmade-later}
 use Rattle.reenc_meta.specs.Placements.{all_atoms}

@@ -1,5 +1,5 @@
 use Rattle.std.proofs.Common.{[]}
-use Rattle.disk_zones.specs.Zones.{Texts}
+use Rattle.crash_laws.specs.HotZones.Zones.{Texts}
 use Rattle.hotzone.proofs.GoingLemmas.{step-begins, step-ends, step-goes}
 use Rattle.hotzone.proofs.HaltingLemmas.{step-stops}
 use Rattle.hotzone.proofs.KeptLemmas.{step-keeps}

@@ -1,8 +1,8 @@
 use Rattle.std.proofs.Common.{◌+◌, ℕ, take, refl, ◌∙◌, ap, arith}
 use Rattle.luks_format.proofs.DrawnLemmas.{dealt-last}
 use Rattle.luks_format.specs.Drawings.{drawn_by, drawn_len, identifier_len}
-use Rattle.luks_keys.proofs.DealLemmas.{dealt, left}
-use Rattle.luks_keys.specs.Drawings.{Draw as KeyDraw, drawn_len as key_drawn_len}
+use Rattle.luks_slots.proofs.KeyMaking.DealLemmas.{dealt, left}
+use Rattle.luks_slots.specs.KeyMaking.Drawings.{Draw as KeyDraw, drawn_len as key_drawn_len}
 use Rattle.luks_format.proofs.drawn.split_drawn.Goals as goal
 
 pub returns-clause-is : goal.returns-clause-is

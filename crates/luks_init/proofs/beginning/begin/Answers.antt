@@ -1,10 +1,10 @@
 use Rattle.std.proofs.Common.{◌≡◌, ◌∙◌, ◌-◌, ℕ, List, Option, Some, None, length, ap, arith, subst}
 use Rattle.std.proofs.Common.{sym}
-use Rattle.disk_sizes.specs.declared.Sizes.{Sizes}
+use Rattle.base_terms.specs.declared.disk_sizes.Sizes.{Sizes}
 use Rattle.luks_init.proofs.BeginLemmas.{ready-begins, too-long, unready}
 use Rattle.luks_init.specs.Begins.{unready_by}
 use Rattle.luks_json.specs.declared.meta.Parts.{Parts}
-use Rattle.luks_keys.specs.Drawings.{draw}
+use Rattle.luks_slots.specs.KeyMaking.Drawings.{draw}
 use Rattle.luks_rules.specs.Idles.{idle_of}
 use Rattle.luks_rules.specs.declared.idle.Idle.{Idle}
 use Rattle.luks_slots.specs.NewSlots.{IsSlotAt}

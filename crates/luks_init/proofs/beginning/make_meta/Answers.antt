@@ -1,13 +1,13 @@
 use Rattle.std.proofs.Common.{◌≡◌, ◌∙◌, true, subst, sym}
 use Rattle.std.specs.Option.{IsSomeAnd}
 use Rattle.std.specs.Result.{IfOk}
-use Rattle.disk_sizes.specs.declared.Sizes.{Sizes}
+use Rattle.base_terms.specs.declared.disk_sizes.Sizes.{Sizes}
 use Rattle.luks_init.proofs.BeginLemmas.{has-begun}
 use Rattle.luks_init.proofs.WishLemmas.{wish-of}
 use Rattle.luks_init.specs.Metadata.{wish_for, wish_with}
 use Rattle.luks_json.specs.Keyslots.{IsLuks2}
 use Rattle.luks_json.specs.declared.digest.Digest.{Digest}
-use Rattle.luks_keys.specs.Drawings.{draw}
+use Rattle.luks_slots.specs.KeyMaking.Drawings.{draw}
 use Rattle.luks_rules.specs.Idles.{idle_of}
 use Rattle.luks_slots.specs.Unlocks.{matches}
 use Rattle.reenc_meta.specs.Starts.{IsStartedFrom}

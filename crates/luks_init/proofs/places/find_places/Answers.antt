@@ -1,5 +1,5 @@
 use Rattle.std.proofs.Common.{◌∙◌, ◌<◌, ap, subst, sym}
-use Rattle.disk_sizes.specs.declared.Sizes.{Sizes}
+use Rattle.base_terms.specs.declared.disk_sizes.Sizes.{Sizes}
 use Rattle.luks_init.proofs.SizeLemmas.{guard-some}
 use Rattle.luks_init.specs.Wishes.{guard_len}
 use Rattle.luks_init.proofs.places.find_places.Goals as goal

@@ -1,5 +1,5 @@
 use Rattle.std.proofs.Common.{length, ◌∙◌, ap, subst, arith}
-use Rattle.disk_sizes.specs.declared.Sizes.{Sizes}
+use Rattle.base_terms.specs.declared.disk_sizes.Sizes.{Sizes}
 use Rattle.luks_slots.proofs.GapLemmas.{not-before}
 use Rattle.luks_slots.proofs.NewSlotLemmas.{added}
 use Rattle.luks_slots.specs.NewSlots.{area_len, IsSlotAt}

@@ -1,5 +1,5 @@
 use Rattle.std.proofs.Common.{◌≡◌, ◌+◌, ◌-◌, ◌*◌, ◌≤◌, length, sym, ◌∙◌, subst, arith}
-use Rattle.disk_sizes.specs.declared.Sizes.{Sizes}
+use Rattle.base_terms.specs.declared.disk_sizes.Sizes.{Sizes}
 use Rattle.luks_bin.proofs.ReadLemmas.{sized}
 use Rattle.luks_store.proofs.CopyLemmas.{no-size, read-copy, too-short}
 use Rattle.luks_store.proofs.DiskLemmas.{unwritten-joined}

@@ -3,8 +3,8 @@ use Rattle.std.proofs.lemmas.List.{at_drop_all, at_drop_more}
 use Rattle.luks_store.proofs.CopyLemmas.{found-here, found-later, found-none}
 use Rattle.luks_store.proofs.DiskLemmas.{unwritten-joined}
 use Rattle.luks_store.specs.Devices.{front_of}
-use Rattle.joined_disk.specs.Counts.{sizes_of}
-use Rattle.disk_sizes.specs.declared.Sizes.{Sizes}
+use Rattle.sector_disk.specs.JoinedDisks.Counts.{sizes_of}
+use Rattle.base_terms.specs.declared.disk_sizes.Sizes.{Sizes}
 use Rattle.luks_store.specs.Found.{copy_at, first_at}
 use Rattle.luks_store.proofs.reading.read_first.Goals as goal
 

@@ -1,5 +1,5 @@
 use Rattle.std.proofs.Common.{◌≡◌, ℕ, List, drop, Some}
-use Rattle.joined_disk.specs.Counts.{joint_in, sizes_of}
+use Rattle.sector_disk.specs.JoinedDisks.Counts.{joint_in, sizes_of}
 use Rattle.luks_store.specs.Devices.{device_of, front_of, IsUnwritten}
 use Rattle.luks_store.specs.Found.{first_at}
 use Rattle.luks_store.proofs.reading.read_first.Given as goal

@@ -1,5 +1,5 @@
 use Rattle.std.proofs.Common.{[], Err, refl}
-use Rattle.nbd_chunks.specs.Views.{part_by}
+use Rattle.nbd_wire.specs.ReadReplying.Views.{part_by}
 use Rattle.nbd_stream.proofs.PutLemmas.{puts-as, puts-less, puts-more, puts-nothing}
 use Rattle.nbd_session.proofs.ChunkLemmas.{parts-next, parts-over, puts-let_out}
 use Rattle.nbd_session.proofs.replies.put_chunks.Goals as goal

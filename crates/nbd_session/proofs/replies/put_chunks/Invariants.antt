@@ -1,6 +1,6 @@
 use Rattle.std.proofs.Common.{◌≡◌, List, ◌++◌, length, ℕ, Ok}
-use Rattle.nbd_chunks.specs.Parts.{parts_text}
-use Rattle.nbd_chunks.specs.Views.{chunks_left}
+use Rattle.nbd_wire.specs.ReadReplying.Parts.{parts_text}
+use Rattle.nbd_wire.specs.ReadReplying.Views.{chunks_left}
 use Rattle.nbd_stream.specs.Putting.{Puts}
 use Rattle.nbd_session.proofs.replies.put_chunks.Given as goal
 

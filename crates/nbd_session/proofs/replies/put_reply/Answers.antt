@@ -1,6 +1,6 @@
 use Rattle.std.proofs.Common.{◌∙◌, ap, ap₂}
-use Rattle.nbd_chunks.specs.Parts.{parts_text}
-use Rattle.nbd_chunks.specs.Replies.{chunks_of}
+use Rattle.nbd_wire.specs.ReadReplying.Parts.{parts_text}
+use Rattle.nbd_wire.specs.ReadReplying.Replies.{chunks_of}
 use Rattle.nbd_stream.proofs.PutLemmas.{puts-as}
 use Rattle.nbd_session.specs.Replies.{reply_text}
 use Rattle.nbd_session.proofs.replies.put_reply.Goals as goal

@@ -20,7 +20,7 @@ returns-clause-session g c = rw c.end_of.ensures.is (elim c.match-negotiate.bran
         session-served c.args.export.now _ _ _ w.in-Ok.agreed w.serve_requests-ending.result n.0
             s.0 s.1 s.2 s.3 s.4 refl refl
             (rw w.tally-is at c.end_of.ensures.taken_fits)
-            (rw w.tally-is at c.end_of.ensures.put_fits) n.1 s.6,
+            (rw w.tally-is at c.end_of.ensures.put_fits) n.1 (rw w.settle.ensures at s.6),
       )
   | in-Err w ↦
       let n = w.in-Err.ensures.negotiates in

@@ -1,6 +1,6 @@
 use Rattle.std.proofs.Common.{◌≡◌, inl, inr, ℕ, refl, sym, ◌∙◌, ap, subst, arith}
-use Rattle.disk_sizes.specs.declared.Sizes.{Sizes}
-use Rattle.joined_disk.specs.Counts.{HasSizes, joint_in, sizes_of}
+use Rattle.base_terms.specs.declared.disk_sizes.Sizes.{Sizes}
+use Rattle.sector_disk.specs.JoinedDisks.Counts.{HasSizes, joint_in, sizes_of}
 use Rattle.luks_store.specs.Devices.{device_of}
 use Rattle.reenc_meta.specs.Placements.{all_atoms}
 use Rattle.reenc_recovery.specs.Calls.{SyncsAndReads}

@@ -1,6 +1,6 @@
 use Rattle.std.proofs.Common.{Some, ap, inl, refl, subst}
 use Rattle.command_line.specs.Formats.{formatting}
-use Rattle.format_disk.specs.Calls.{WritesVolume}
+use Rattle.luks_format.specs.DiskFormat.Calls.{WritesVolume}
 use Rattle.reenc_tool.specs.declared.ended.Cause.TheVariants.{Device}
 use Rattle.reenc_tool.specs.declared.ended.Failing.TheVariants.{Writing}
 use Rattle.reenc_tool.proofs.MakingLemmas.{is_made, is_ready}

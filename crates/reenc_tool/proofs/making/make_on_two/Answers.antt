@@ -1,7 +1,7 @@
 use Rattle.std.proofs.Common.{Some, ap}
 use Rattle.command_line.specs.Formats.{formatting}
-use Rattle.joined_disk.specs.Counts.{joint_in}
-use Rattle.joined_disk.specs.Joined.{in_front}
+use Rattle.sector_disk.specs.JoinedDisks.Counts.{joint_in}
+use Rattle.sector_disk.specs.JoinedDisks.Joined.{in_front}
 use Rattle.reenc_tool.specs.Making.{wish_of}
 use Rattle.reenc_tool.proofs.MakingLemmas.{ended_without, is_on_two, sizes_told}
 use Rattle.reenc_tool.proofs.making.make_on_two.Goals as goal

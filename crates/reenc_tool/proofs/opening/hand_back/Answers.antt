@@ -1,6 +1,6 @@
 use Rattle.std.proofs.Common.{Some, ap, refl}
-use Rattle.joined_disk.specs.Counts.{joint_in}
-use Rattle.joined_disk.specs.Joined.{in_front}
+use Rattle.sector_disk.specs.JoinedDisks.Counts.{joint_in}
+use Rattle.sector_disk.specs.JoinedDisks.Joined.{in_front}
 use Rattle.reenc_tool.specs.Outcomes.{came_of, ended_by}
 use Rattle.reenc_tool.proofs.RunLemmas.{passed}
 use Rattle.reenc_tool.proofs.opening.hand_back.Goals as goal

@@ -1,6 +1,6 @@
 use Rattle.std.proofs.Common.{ap}
-use Rattle.joined_disk.specs.Counts.{joint_in}
-use Rattle.joined_disk.specs.Joined.{in_front}
+use Rattle.sector_disk.specs.JoinedDisks.Counts.{joint_in}
+use Rattle.sector_disk.specs.JoinedDisks.Joined.{in_front}
 use Rattle.resume_disk.proofs.RunLemmas.{finished_by, same_blocks, unfinished_by}
 use Rattle.resume_disk.proofs.resuming.resume_conversion.Goals as goal
 

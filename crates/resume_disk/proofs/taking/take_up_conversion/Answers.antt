@@ -1,8 +1,8 @@
 use Rattle.std.proofs.Common.{◌∙◌, ◌*◌, ap, subst, sym, IfOk}
-use Rattle.disk_sizes.specs.declared.Sizes.{Sizes}
+use Rattle.base_terms.specs.declared.disk_sizes.Sizes.{Sizes}
 use Rattle.header_report.proofs.ExamineLemmas.{alone_sizes}
-use Rattle.joined_disk.specs.Counts.{HasSizes, joint_in, sizes_of}
-use Rattle.joined_disk.specs.Joined.{Joint, in_front, joined_disk}
+use Rattle.sector_disk.specs.JoinedDisks.Counts.{HasSizes, joint_in, sizes_of}
+use Rattle.sector_disk.specs.JoinedDisks.Joined.{Joint, in_front, joined_disk}
 use Rattle.luks_store.specs.Devices.{device_of}
 use Rattle.reenc_recovery.proofs.OpenLemmas.{shows_sizes}
 use Rattle.reenc_recovery.specs.Tables.{ShowsSizes}

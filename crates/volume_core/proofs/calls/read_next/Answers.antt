@@ -1,4 +1,4 @@
-use Rattle.volume_machine.proofs.Common.{◌∙◌}
+use Rattle.std.proofs.Common.{◌∙◌}
 use Rattle.volume_machine.proofs.NextPieces.{place-of}
 use Rattle.volume_core.proofs.CodePieceSteps.{front-size, read-size}
 use Rattle.volume_core.proofs.calls.read_next.Goals as goal

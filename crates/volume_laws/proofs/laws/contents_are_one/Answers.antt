@@ -1,4 +1,4 @@
-use Rattle.disk_views.specs.Parts.{value_in}
+use Rattle.sector_disk.specs.DiskViews.Parts.{value_in}
 use Rattle.volume_machine.specs.Pieces.{place_in}
 use Rattle.volume_laws.proofs.VolumeStart.{one_content, one_value}
 use Rattle.volume_laws.proofs.laws.contents_are_one.Goals as goal

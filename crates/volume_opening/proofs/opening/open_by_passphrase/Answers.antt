@@ -1,9 +1,9 @@
 use Rattle.std.proofs.Common.{ap, ◌∙◌, sym, subst, IfOk}
-use Rattle.disk_sizes.specs.declared.Sizes.{Sizes}
+use Rattle.base_terms.specs.declared.disk_sizes.Sizes.{Sizes}
 use Rattle.header_report.proofs.ExamineLemmas.{alone_sizes}
 use Rattle.header_report.specs.Examinations.{sizes_alone}
-use Rattle.joined_disk.specs.Counts.{joint_in, sizes_of}
-use Rattle.joined_disk.specs.Joined.{Joint, in_front, joined_disk}
+use Rattle.sector_disk.specs.JoinedDisks.Counts.{joint_in, sizes_of}
+use Rattle.sector_disk.specs.JoinedDisks.Joined.{Joint, in_front, joined_disk}
 use Rattle.luks_rules.specs.declared.valid.Checked.{Checked}
 use Rattle.volume_opening.proofs.OpenedLemmas.{opened_by, unopened_by}
 use Rattle.volume_opening.specs.Openings.{IsFound, IsKeyFound}

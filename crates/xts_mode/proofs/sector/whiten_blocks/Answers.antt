@@ -2,7 +2,7 @@ use Rattle.std.proofs.Common.{ℕ, List, ◌≡◌, ◌-◌, ◌*◌, ◌/◌, l
 use Rattle.std.proofs.Common.{length-drop}
 use Rattle.std.proofs.lemmas.List.{take_all}
 use Rattle.cipher_laws.specs.Pieces.{worked}
-use Rattle.cipher_blocks.specs.UnderWayLaws.{under_way_rest}
+use Rattle.cipher_laws.specs.CipherBlocks.UnderWayLaws.{under_way_rest}
 use Rattle.xts_mode.specs.Xts.{doubled, whitened, xts_from}
 use Rattle.xts_mode.proofs.sector.whiten_blocks.Goals as goal
 

@@ -1,5 +1,5 @@
 use Rattle.std.proofs.Common.{◌+◌, ◌-◌, ◌*◌, ◌/◌, length, arith, ◌∙◌, ap}
-use Rattle.cipher_blocks.specs.UnderWayLaws.{under_way_first, under_way_more, under_way_last}
+use Rattle.cipher_laws.specs.CipherBlocks.UnderWayLaws.{under_way_first, under_way_more, under_way_last}
 use Rattle.xts_mode.specs.Xts.{whitened, xts_from}
 use Rattle.xts_mode.proofs.sector.whiten_each.Goals as goal
 

@@ -1,5 +1,5 @@
 use Rattle.std.proofs.Common.{◌*◌, ◌-◌}
-use Rattle.cipher_blocks.specs.UnderWay.{IsUnderWay}
+use Rattle.cipher_laws.specs.CipherBlocks.UnderWay.{IsUnderWay}
 use Rattle.xts_mode.specs.Xts.{doubled, whitened, xts_from}
 use Rattle.xts_mode.proofs.sector.whiten_each.Given as goal
 

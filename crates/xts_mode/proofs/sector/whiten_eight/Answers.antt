@@ -1,6 +1,6 @@
 use Rattle.std.proofs.Common.{ℕ, List, ◌∙◌, ap}
 use Rattle.cipher_laws.specs.Eight.{block}
-use Rattle.cipher_blocks.specs.Blocks.{xored}
+use Rattle.cipher_laws.specs.CipherBlocks.Blocks.{xored}
 use Rattle.xts_mode.proofs.sector.whiten_eight.Goals as goal
 
 pub returns : goal.returns

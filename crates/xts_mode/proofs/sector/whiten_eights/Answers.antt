@@ -1,7 +1,7 @@
 use Rattle.std.proofs.Common.{ℕ, List, ◌+◌, ◌-◌, ◌*◌, ◌/◌, ◌<◌, length, refl, ap, ◌∙◌, arith}
 use Rattle.cipher_laws.specs.Eight.{block}
-use Rattle.cipher_blocks.specs.Blocks.{xored, number_block}
-use Rattle.cipher_blocks.specs.UnderWayLaws.{under_way_first, under_way_row}
+use Rattle.cipher_laws.specs.CipherBlocks.Blocks.{xored, number_block}
+use Rattle.cipher_laws.specs.CipherBlocks.UnderWayLaws.{under_way_first, under_way_row}
 use Rattle.xts_mode.specs.Xts.{doubled_times, whitened, xts_from}
 use Rattle.xts_mode.proofs.sector.whiten_eights.Goals as goal
 

@@ -1,6 +1,6 @@
 use Rattle.std.proofs.Common.{◌∙◌, ap}
 use Rattle.cipher_laws.specs.EachOfEight.{each_of_eight}
-use Rattle.cipher_blocks.specs.Blocks.{number_block}
+use Rattle.cipher_laws.specs.CipherBlocks.Blocks.{number_block}
 use Rattle.xts_mode.specs.Xts.{doubled, doubled_times}
 use Rattle.xts_mode.proofs.tweak.eight_tweaks.Goals as goal
 

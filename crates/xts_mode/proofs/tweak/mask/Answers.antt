@@ -1,5 +1,5 @@
 use Rattle.std.proofs.Common.{◌≡◌, ◌+◌, ◌*◌, ◌/◌, ◌%◌, arith}
-use Rattle.cipher_blocks.specs.Blocks.{number_block}
+use Rattle.cipher_laws.specs.CipherBlocks.Blocks.{number_block}
 use Rattle.xts_mode.proofs.ByteLemmas.{bytes_one_by_one}
 use Rattle.xts_mode.proofs.tweak.mask.Goals as goal
 

@@ -1,9 +1,9 @@
 use Rattle.std.proofs.Common.{List, ℕ}
-use Rattle.disk_views.specs.Views.{view_of_cells}
+use Rattle.sector_disk.specs.DiskViews.Views.{view_of_cells}
 use Rattle.hotzone.proofs.KnownLemmas.{SealRuns, seal-runs}
 use Rattle.hotzone.proofs.LawLemmas.{AreCiphers}
 use Rattle.sector_disk.specs.Devices.{Device}
-use Rattle.disk_areas.specs.Headers.{Layout}
+use Rattle.crash_laws.specs.HeaderAreas.Headers.{Layout}
 use Rattle.zone_mending.proofs.MendLemmas.{step-ends, step-fails, step-goes}
 use Rattle.zone_mending.proofs.MenderLemmas.{fits-disk}
 use Rattle.zone_mending.proofs.StartLemmas.{mend-resumes, mend-starts, mend-stays}

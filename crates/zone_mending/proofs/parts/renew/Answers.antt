@@ -1,6 +1,6 @@
 use Rattle.std.proofs.Common.{◌≡◌, ◌∙◌, ◌+◌, ◌-◌, ◌*◌, drop, length, subst, sym, take, ap, arith}
 use borrow.Rule.Slice.PartMut.{put_mid}
-use Rattle.disk_views.proofs.Blockwise.{length-block_at}
+use Rattle.sector_disk.proofs.DiskViews.Blockwise.{length-block_at}
 use Rattle.hotzone.specs.Steps.{resealed}
 use Rattle.sha2.specs.Sha256.{sha256}
 use Rattle.volume_machine.specs.Seals.{seals_of}

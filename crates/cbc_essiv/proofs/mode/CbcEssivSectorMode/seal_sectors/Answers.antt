@@ -3,8 +3,8 @@ use Rattle.std.proofs.Common.{drop, ap, sym, subst, ◌∙◌, arith}
 use Rattle.std.proofs.Math.Nat.{mul-mod_left, mul-div_cancel}
 use Rattle.cipher_laws.specs.Pieces.{worked}
 use Rattle.cipher_laws.specs.Sectors.{by_sectors}
-use Rattle.cipher_blocks.specs.UnderWay.{IsUnderWay}
-use Rattle.cipher_blocks.specs.UnderWayLaws.{under_way_rest}
+use Rattle.cipher_laws.specs.CipherBlocks.UnderWay.{IsUnderWay}
+use Rattle.cipher_laws.specs.CipherBlocks.UnderWayLaws.{under_way_rest}
 use Rattle.cbc_essiv.specs.Cbc.{cbc_essiv_sealed, essiv}
 use Rattle.cbc_essiv.proofs.RowLemmas.{rest_alone, length-rest, sectors_left, rest_in_range}
 use Rattle.cbc_essiv.proofs.RowLemmas.{fits_in}

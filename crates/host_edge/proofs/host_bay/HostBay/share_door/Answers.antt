@@ -20,4 +20,9 @@ loop-k-preserved g c = record {
       c.loop-k.invariant.doors
       (subst (λ door. SharesDoor g.R.Listener.Listener.shares c.args.door.now (Ok door))
       (sym c.new.ensures.door) c.in-Ok.ensures) j link below);
+  manners = λ j link below.
+      rw c.in_ok-push.ensures.items
+      (all_more (λ _ link. link.manner ≡ c.args.manner) c.loop-k.k c.loop-k.links.items
+      c.new.result c.loop-k.invariant.count c.loop-k.invariant.manners
+      c.new.ensures.manner j link below);
 }

@@ -11,4 +11,6 @@ invariant-loop-k g l = record {
   doors : (j : ℕ) (link : _) → j < l.k →
       SharesDoor g.R.Listener.Listener.shares l.door
       (Ok (slice_index_or l.links.items j link).door);
+  manners : (j : ℕ) (link : _) → j < l.k →
+      (slice_index_or l.links.items j link).manner ≡ l.manner;
 }

@@ -3,8 +3,8 @@ use Rattle.hotzone.proofs.CommitLemmas.{broken-on, committed-on, is-far, is-seco
 use Rattle.hotzone.specs.Steps.{end_fails, finished, finishes_on}
 use Rattle.hotzone.specs.declared.worker.Halt.TheVariants.{InCommit}
 use Rattle.hotzone.specs.declared.worker.NextCall.TheVariants.{End}
-use Rattle.luks_copies.specs.Held.{stage_in}
-use Rattle.luks_copies.specs.declared.commit.Stage.{Stage}
+use Rattle.luks_store.specs.Copying.Held.{stage_in}
+use Rattle.luks_store.specs.declared.header_copies.commit.Stage.{Stage}
 use Rattle.hotzone.proofs.worker.Worker.end.Goals as goal
 
 pub returns-in-Ok-false : goal.returns-in-Ok-false

@@ -1,12 +1,12 @@
 use Rattle.std.proofs.Common.{◌≡◌, ◌∙◌, Some, ap, sym, subst, refl}
-use Rattle.disk_sizes.specs.declared.Sizes.{Sizes}
+use Rattle.base_terms.specs.declared.disk_sizes.Sizes.{Sizes}
 use Rattle.hotzone.proofs.CommitLemmas.{broken-on, committed-on}
 use Rattle.hotzone.specs.Steps.{finish_fails, finishes}
 use Rattle.hotzone.specs.declared.worker.Halt.TheVariants.{InCommit}
 use Rattle.hotzone.specs.declared.worker.NextCall.TheVariants.{End}
-use Rattle.joined_disk.specs.Counts.{HasSizes}
-use Rattle.luks_copies.specs.declared.commit.Stage.{Stage}
-use Rattle.luks_copies.specs.declared.commit.Stage.TheVariants.{Begun, Ended}
+use Rattle.sector_disk.specs.JoinedDisks.Counts.{HasSizes}
+use Rattle.luks_store.specs.declared.header_copies.commit.Stage.{Stage}
+use Rattle.luks_store.specs.declared.header_copies.commit.Stage.TheVariants.{Begun, Ended}
 use Rattle.hotzone.proofs.worker.Worker.finish_with.Goals as goal
 
 pub step-requires-clause-under_way : goal.step-requires-clause-under_way

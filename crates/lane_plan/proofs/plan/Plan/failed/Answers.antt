@@ -1,4 +1,4 @@
-use Rattle.volume_machine.proofs.Common.{sym, ◌∙◌}
+use Rattle.std.proofs.Common.{sym, ◌∙◌}
 use Rattle.lane_plan.proofs.PlanEnds.{ends-failed, fewer-failed, goes-failed, some-settled}
 use Rattle.lane_plan.proofs.plan.Plan.failed.Goals as goal
 

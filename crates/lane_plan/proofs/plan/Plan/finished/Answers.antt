@@ -1,4 +1,4 @@
-use Rattle.volume_machine.proofs.Common.{◌∙◌}
+use Rattle.std.proofs.Common.{◌∙◌}
 use Rattle.lane_plan.proofs.PlanEnds.{content-is, done-is, failure-is, goes-finished, has-content}
 use Rattle.lane_plan.proofs.PlanEnds.{has-place-at}
 use Rattle.lane_plan.proofs.plan.Plan.finished.Goals as goal

@@ -1,4 +1,4 @@
-use Rattle.volume_machine.proofs.Common.{refl}
+use Rattle.std.proofs.Common.{refl}
 use Rattle.lane_plan.proofs.{PlanCourse.next-read, PlanCourse.next-write, PlanMoves.fewer-next}
 use Rattle.lane_plan.proofs.plan.Plan.go_on.Goals as goal
 

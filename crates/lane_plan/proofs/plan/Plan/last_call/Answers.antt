@@ -1,4 +1,4 @@
-use Rattle.volume_machine.proofs.Common.{arith}
+use Rattle.std.proofs.Common.{arith}
 use Rattle.lane_plan.specs.Plans.{calls_left}
 use Rattle.lane_plan.proofs.PlanCourse.{last-finishes, last-settles}
 use Rattle.lane_plan.proofs.plan.Plan.last_call.Goals as goal

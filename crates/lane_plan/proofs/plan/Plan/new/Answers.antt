@@ -1,4 +1,5 @@
-use Rattle.volume_machine.proofs.Common.{None, rules, ◌*◌, ◌∙◌, ◌≡◌, wrong_ask}
+use Rattle.std.proofs.Common.{None, rules, ◌*◌, ◌∙◌, ◌≡◌}
+use Rattle.volume_machine.specs.Asks.{wrong_ask}
 use Rattle.lane_plan.specs.{Calls.ask_of, Plans.part_of}
 use Rattle.lane_plan.proofs.PlanBegins.{awaits-admit}
 use Rattle.lane_plan.proofs.plan.Plan.new.Goals as goal

@@ -1,4 +1,4 @@
-use Rattle.volume_machine.proofs.Common.{◌∙◌}
+use Rattle.std.proofs.Common.{◌∙◌}
 use Rattle.lane_plan.proofs.PlanBegins.{awaits-refusal}
 use Rattle.lane_plan.proofs.plan.Plan.refused.Goals as goal
 

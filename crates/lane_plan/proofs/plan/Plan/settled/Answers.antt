@@ -1,4 +1,4 @@
-use Rattle.volume_machine.proofs.Common.{sym, ◌∙◌}
+use Rattle.std.proofs.Common.{sym, ◌∙◌}
 use Rattle.lane_plan.proofs.PlanEnds.{ends-settled, fewer-settled, goes-settled}
 use Rattle.lane_plan.proofs.plan.Plan.settled.Goals as goal
 

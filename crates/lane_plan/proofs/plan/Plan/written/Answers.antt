@@ -1,4 +1,5 @@
-use Rattle.volume_machine.proofs.Common.{ap, arith, subst, seals_of}
+use Rattle.std.proofs.Common.{ap, arith, subst}
+use Rattle.volume_machine.specs.Seals.{seals_of}
 use Rattle.lane_plan.specs.Plans.{Awaits}
 use Rattle.lane_plan.specs.declared.{plan.Plan.Plan, plan.Shape.Shape}
 use Rattle.lane_plan.proofs.PlanBegins.{goes-by, told-by}

@@ -1,5 +1,5 @@
 use Rattle.std.proofs.Common.{◌≡◌, ℕ, List, ◌++◌, Ok, IsOk, refl, sym, ◌∙◌, ap, subst}
-use Rattle.luks_copies.specs.Held.{primary_of, secondary_of}
+use Rattle.luks_store.specs.Copying.Held.{primary_of, secondary_of}
 use Rattle.luks_store.proofs.CommitLemmas.{both-used, stored-by}
 use Rattle.luks_store.proofs.DiskLemmas.{memory-alone}
 use Rattle.luks_store.specs.Commits.{committed}

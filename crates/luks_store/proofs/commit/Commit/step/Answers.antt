@@ -1,7 +1,7 @@
 use Rattle.std.proofs.Common.{sym, subst}
-use Rattle.luks_copies.specs.Steps.{FitDisk}
+use Rattle.luks_store.specs.Copying.Steps.{FitDisk}
 use Rattle.luks_store.proofs.CommitLemmas.{copies-fit}
-use Rattle.joined_disk.specs.Counts.{HasSizes}
+use Rattle.sector_disk.specs.JoinedDisks.Counts.{HasSizes}
 use Rattle.luks_store.specs.declared.commit.Prepared.{Prepared}
 use Rattle.luks_store.proofs.commit.Commit.step.Goals as goal
 

@@ -1,5 +1,5 @@
 use Rattle.std.proofs.Common.{◌*◌, ◌≤◌, take, is_some, sym, ◌∙◌, ap, subst, arith}
-use Rattle.disk_sizes.specs.declared.Sizes.{Sizes}
+use Rattle.base_terms.specs.declared.disk_sizes.Sizes.{Sizes}
 use Rattle.luks_bin.specs.Hidden.{hides_copy}
 use Rattle.luks_store.proofs.PageLemmas.{size-pages}
 use Rattle.luks_store.proofs.RoomLemmas.{room-there}

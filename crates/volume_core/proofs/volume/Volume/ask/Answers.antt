@@ -1,4 +1,5 @@
-use Rattle.volume_machine.proofs.Common.{refl, Can, Step}
+use Rattle.std.proofs.Common.{refl}
+use Rattle.volume_machine.specs.Steps.{Can, Step}
 use Rattle.volume_core.proofs.CodeSteps.{ends-inside, locked-entry}
 use Rattle.volume_core.proofs.volume.Volume.ask.Goals as goal
 

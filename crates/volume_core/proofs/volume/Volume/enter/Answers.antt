@@ -1,4 +1,6 @@
-use Rattle.volume_machine.proofs.Common.{arith, refl, admits, Can}
+use Rattle.std.proofs.Common.{arith, refl}
+use Rattle.volume_machine.specs.Events.{admits}
+use Rattle.volume_machine.specs.Steps.{Can}
 use Rattle.volume_core.specs.Answers.{outcome_of_admitted}
 use Rattle.volume_core.proofs.CodeAdmit.{admit-begun}
 use Rattle.volume_core.proofs.CodeSteps.{free-entry, free-place, volume-kept}

@@ -1,4 +1,6 @@
-use Rattle.volume_machine.proofs.Common.{refl, done, finishes, Can, Step}
+use Rattle.std.proofs.Common.{refl}
+use Rattle.volume_machine.specs.Events.{done, finishes}
+use Rattle.volume_machine.specs.Steps.{Can, Step}
 use Rattle.volume_core.proofs.CodeSteps.{has-lane, locked-entry, volume-kept}
 use Rattle.volume_core.proofs.volume.Volume.finish.Goals as goal
 

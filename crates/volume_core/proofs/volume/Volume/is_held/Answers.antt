@@ -1,4 +1,4 @@
-use Rattle.volume_machine.proofs.Common.{sym, ◌∙◌}
+use Rattle.std.proofs.Common.{sym, ◌∙◌}
 use Rattle.volume_core.proofs.CodeSteps.{none-unheld, waits-unheld}
 use Rattle.volume_core.proofs.volume.Volume.is_held.Goals as goal
 

@@ -1,4 +1,6 @@
-use Rattle.volume_machine.proofs.Common.{refl, reads, Can}
+use Rattle.std.proofs.Common.{refl}
+use Rattle.volume_machine.specs.Events.{reads}
+use Rattle.volume_machine.specs.Steps.{Can}
 use Rattle.volume_core.specs.Answers.{outcome_of_read}
 use Rattle.volume_core.proofs.CodePieceSteps.{can-read, read-step}
 use Rattle.volume_core.proofs.CodeSteps.{ends-inside, volume-kept}

@@ -1,4 +1,6 @@
-use Rattle.volume_machine.proofs.Common.{refl, writes, Can}
+use Rattle.std.proofs.Common.{refl}
+use Rattle.volume_machine.specs.Events.{writes}
+use Rattle.volume_machine.specs.Steps.{Can}
 use Rattle.volume_core.specs.Answers.{outcome_of_written}
 use Rattle.volume_core.proofs.CodePieceSteps.{can-write, write-step}
 use Rattle.volume_core.proofs.CodeSteps.{ends-inside, volume-kept}

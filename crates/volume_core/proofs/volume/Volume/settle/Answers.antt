@@ -1,4 +1,6 @@
-use Rattle.volume_machine.proofs.Common.{refl, settles, Can}
+use Rattle.std.proofs.Common.{refl}
+use Rattle.volume_machine.specs.Events.{settles}
+use Rattle.volume_machine.specs.Steps.{Can}
 use Rattle.volume_core.specs.Answers.{outcome_of_settled}
 use Rattle.volume_core.proofs.{CodePieceSteps.settle-step, CodeSteps.volume-kept}
 use Rattle.volume_core.proofs.volume.Volume.settle.Goals as goal

@@ -1,7 +1,0 @@
-use Rattle.converted_beside.proofs.Newest.{hold-newest}
-use Rattle.converted_beside.proofs.laws.conversions_end_beside_clients.Goals as goal
-
-pub returns : goal.returns
-returns g c =
-    hold-newest c.every_conversion_is_served.ensures
-    c.conversions_stand_where_they_stop.ensures.now

@@ -1,0 +1,2 @@
+pub mod HeaderAreas
+pub mod HotZones

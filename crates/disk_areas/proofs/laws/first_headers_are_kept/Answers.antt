@@ -1,5 +1,0 @@
-use Rattle.disk_areas.proofs.FirstSteps.{first_goes}
-use Rattle.disk_areas.proofs.laws.first_headers_are_kept.Goals as goal
-
-pub returns : goal.returns
-returns c = λ atom layout to after. first_goes atom layout to after

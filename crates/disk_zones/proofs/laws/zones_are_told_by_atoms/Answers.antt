@@ -1,7 +1,0 @@
-use Rattle.disk_zones.proofs.SameTexts.{zone_same}
-use Rattle.disk_zones.proofs.laws.zones_are_told_by_atoms.Goals as goal
-
-pub returns : goal.returns
-returns c =
-    λ atom layout zone texts next phase broken view. zone_same atom layout zone texts next phase
-    broken view

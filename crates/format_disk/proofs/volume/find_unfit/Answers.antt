@@ -1,8 +1,0 @@
-use Rattle.std.proofs.Common.{arith}
-use Rattle.luks_bin.proofs.FieldLemmas.{size-least}
-use Rattle.format_disk.proofs.volume.find_unfit.Goals as goal
-
-pub overflow_sub-limit : goal.overflow_sub-limit
-overflow_sub-limit c =
-    let least = size-least c.args.wish.now.metadata_size c.requires.wish.size in
-    omega (arith, least)

@@ -1,0 +1,12 @@
+pub mod AnswerLemmas
+pub mod CheckLemmas
+pub mod AgreeLemmas
+pub mod BegunLemmas
+pub mod FitLemmas
+pub mod GoodLemmas
+pub mod ImageLemmas
+pub mod LawLemmas
+pub mod MakeLemmas
+pub mod StartLemmas
+pub mod ThroughoutLemmas
+pub mod SlipLemmas

@@ -1,2 +1,0 @@
-mod ReplyLemmas
-mod TextLemmas

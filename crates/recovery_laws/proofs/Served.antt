@@ -1,0 +1,10 @@
+pub mod WorkLemmas
+pub mod KeyLemmas
+pub mod StartLemmas
+pub mod StopLemmas
+pub mod ServeLemmas
+pub mod ValueLemmas
+pub mod AgainLemmas
+pub mod ForLemmas
+pub mod CountLemmas
+pub mod EndLemmas

@@ -1,7 +1,0 @@
-use Rattle.resumed_volumes.proofs.StartLemmas.{begun-start}
-use Rattle.resumed_volumes.proofs.laws.begun_conversions_start.Goals as goal
-
-pub returns : goal.returns
-returns g c =
-    let cipher = g.C.SectorCipher in
-    begun-start cipher.sector cipher.sealed cipher.opened c.keys_seal_lawfully.ensures

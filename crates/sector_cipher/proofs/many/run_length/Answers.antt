@@ -1,5 +1,0 @@
-use Rattle.std.proofs.Math.Nat.{mul-mod_left}
-use Rattle.sector_cipher.proofs.many.run_length.Goals as goal
-
-pub returns-clause-whole : goal.returns-clause-whole
-returns-clause-whole c = mul-mod_left c.div_ceil.result c.args.atom

@@ -1,7 +1,0 @@
-use Rattle.served_beside.proofs.Stops.{stops_anywhere}
-use Rattle.served_beside.proofs.laws.deeds_stop_anywhere.Goals as goal
-
-pub returns : goal.returns
-returns g c = λ reading start seals. stops_anywhere reading start seals
-    (c.every_conversion_is_served.ensures reading start seals)
-    (c.conversions_stand_where_they_stop.ensures.stops reading start seals)

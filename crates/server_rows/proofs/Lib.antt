@@ -1,4 +1,0 @@
-pub mod HeaderLemmas
-pub mod LinkLemmas
-pub mod MapLemmas
-pub mod VolumeLemmas

@@ -1,0 +1,12 @@
+use denote.Exit.{no}
+use denote.Param.Send.{arg_send, param_send}
+use Rattle.shared_volume.proofs.Sending.Zones.{zone_send, zone_sync}
+use Rattle.shared_volume.proofs.sent_volumes.zones_may_go.Goals as goal
+
+pub may_go-requires-send-T : goal.may_go-requires-send-T
+may_go-requires-send-T g c κs within =
+    param_send 0 _ (arg_send _ no _ (zone_send _ g.C.SectorCipher c.type_bounds.send-C))
+
+pub may_go-requires-sync-T : goal.may_go-requires-sync-T
+may_go-requires-sync-T g c κs within =
+    record { shared = (zone_sync _ g.C.SectorCipher c.type_bounds.sync-C).shared }

@@ -1,3 +1,0 @@
-pub mod LaneCourse
-pub mod LaneNext
-pub mod LaneStart

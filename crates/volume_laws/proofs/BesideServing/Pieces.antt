@@ -1,0 +1,267 @@
+-- The piece at which a read has failed in a history of deeds: it begins behind the bytes that were read
+-- before. A step of the worker leaves clients' reads where they are.
+use Rattle.std.proofs.Common.{List, None, Option, Some, [], ap, arith, false, if◌then◌else◌, inl}
+use Rattle.std.proofs.Common.{inr, length, length-append, nat_eq, option_map, refl, subst, sym, ℕ}
+use Rattle.std.proofs.Common.{◌*◌, ◌++◌, ◌+◌, ◌==◌, ◌∙◌, ◌∷◌, ◌≡◌, ◌≢◌, ◌<◌, suc}
+use Rattle.std.proofs.lemmas.Bool.{cases_Bool as either}
+use Rattle.sector_disk.specs.Geometry.{IsAtom}
+use Rattle.volume_machine.specs.Alone.{after_put, after_sync, open_after}
+use Rattle.volume_machine.specs.Answers.{Answered, by_admit, by_finish, flush_reply, full_reply}
+use Rattle.volume_machine.specs.Asks.{wrong_ask, IsRead}
+use Rattle.volume_machine.specs.Events.{Event, Outcome, admits, asks, broken, device, done}
+use Rattle.volume_machine.specs.Events.{finishes, got, held, lane_of, reads, refused, settles}
+use Rattle.volume_machine.specs.Events.{waits, writes}
+use Rattle.volume_machine.specs.Pieces.{failing, moved, side_in}
+use Rattle.volume_machine.specs.Runs.{no_plain, plain_piece, answered_by, plain_after, with_plain}
+use Rattle.volume_machine.specs.Seals.{AreLawful, Seals}
+use Rattle.volume_machine.specs.Sound.{IsSound}
+use Rattle.volume_machine.specs.States.{State, begun, open_at, size_of, IsClient}
+use Rattle.volume_machine.specs.Steps.{CanSettle, Meets, Can, Step}
+use Rattle.volume_laws.proofs.BesideLanes.ClientsLeft.{clients_left}
+use Rattle.volume_laws.specs.BesideLanes.Lanes.{BeginsBeside, IsKept}
+use Rattle.volume_machine.specs.Answers.{failed_reply}
+use Rattle.volume_machine.specs.Deeds.{Act, AreDeeds, Deed, Does, answered_of, client, plain_by}
+use Rattle.volume_machine.specs.Deeds.{plain_over, state_after, worker}
+use Rattle.volume_machine.specs.Readings.{Reading}
+use Rattle.volume_machine.specs.declared.ask.Ask.TheVariants.{Read}
+use Rattle.volume_machine.specs.declared.{ask.Ask.Ask, open.Open.Open}
+use Rattle.volume_machine.proofs.{EventEffects.event_effects, Soundness.sound_kept}
+use Rattle.volume_laws.specs.Promises.{placed_error, failed_by, next_place}
+use Rattle.volume_laws.proofs.{Admits.plain-own, Answering.read_whole, DeviceErrors.by_settle_is}
+use Rattle.volume_laws.proofs.{DeviceErrors.one_answered, LanesAlone.other_plain}
+use Rattle.volume_laws.proofs.{LanesAlone.put_same, LanesAlone.sync_same, Reading.forced_writes}
+use Rattle.volume_laws.proofs.{Reading.never_both, Reading.piece_blocks}
+use Rattle.volume_laws.proofs.BesideServing.{Errors.deed-amid, Errors.deeds-front, Failures.deeds_same}
+use Rattle.volume_laws.proofs.BesideServing.{Failures.in_order, Failures.kept_on, Failures.same_on}
+use Rattle.volume_laws.proofs.BesideServing.{Failures.settled_is}
+use Rattle.volume_laws.specs.BesideServing.Replies.{PlacesAreExact, failed_piece, piece_by, piece_over}
+
+-- A read stands behind the bytes that it has read, and has failed there if at all. No other
+-- operation has such a piece.
+abbrev IsAt : ℕ → List ℕ → Option ℕ → Open → Ask → Type 0
+IsAt atom plain piece o (Read offset len) = (o.next * atom ≡ offset + length plain)
+    × (piece ≡ (if o.failed then Some (offset + length plain) else None))
+IsAt atom plain piece o _ = piece ≡ None
+
+begins_at : (atom size session : ℕ) (ask : Ask) → IsAtom atom → wrong_ask atom size ask ≡ None
+    → IsAt atom [] None (begun atom session ask) ask
+begins_at atom size session (Read offset len) known proper =
+    ((read_whole atom size offset len known proper).0 ∙ omega arith, refl)
+begins_at atom size session _ known proper = refl
+
+moves_at : (atom n : ℕ) (plain more : List ℕ) (piece : Option ℕ) (o next : Open) (ask : Ask)
+    → IsRead ask → IsAt atom plain piece o ask → o.failed ≡ false → next.failed ≡ false
+    → next.next ≡ o.next + n → length more ≡ n * atom → IsAt atom (plain ++ more) piece next ask
+moves_at atom n plain more piece o next (Read offset len) reading at was now moves size =
+    let first : next.next * atom ≡ o.next * atom + n * atom = rw moves (grind arith) in
+    (omega (arith, first, at.0, length-append plain more), at.1 ∙ rw (was, now) refl)
+moves_at atom n plain more piece o next _ reading at was now moves size = absurd reading
+
+fails_at : (atom : ℕ) (plain : List ℕ) (piece : Option ℕ) (o : Open) (ask : Ask) → IsRead ask
+    → IsAt atom plain piece o ask → IsAt atom plain (Some (o.next * atom)) (failing o) ask
+fails_at atom plain piece o (Read offset len) reading at = (at.0, ap (λ n. Some n) at.0)
+fails_at atom plain piece o _ reading at = absurd reading
+
+stays_at : (atom : ℕ) (plain now : List ℕ) (piece : Option ℕ) (o next : Open)
+    → next.ask ≡ o.ask → (IsRead o.ask → ⊥) → IsAt atom plain piece o o.ask
+    → IsAt atom now piece next next.ask
+stays_at atom plain now piece o next same other at = rw same (by_ask o.ask other at)
+  where
+    by_ask : (ask : Ask) → (IsRead ask → ⊥) → IsAt atom plain piece o ask
+        → IsAt atom now piece next ask
+    by_ask (Read offset len) other at = absurd (other tt)
+    by_ask _ other at = at
+
+not_read : (o : Open) → CanSettle o → IsRead o.ask → ⊥
+not_read o (inl flush) reading = rw flush at reading
+not_read o (inr (forced, ended, unfailed, unsettled)) reading =
+    never_both o.ask reading (forced_writes o.ask forced)
+
+-- a lane's operation, if it has one
+abbrev AreAt : {K : Type 0} → State K → ℕ → List ℕ → Option ℕ → Type 0
+AreAt state lane plain piece =
+    (o : Open) → open_at state.lanes lane ≡ Some o → IsAt state.map.atom plain piece o o.ask
+
+begun_at : {K : Type 0} {old : State K} (plain : ℕ → List ℕ) (lane session : ℕ) (ask : Ask)
+    (o : Open) → IsSound old → o ≡ begun old.map.atom session ask
+    → wrong_ask old.map.atom (size_of old.map) o.ask ≡ None
+    → IsAt old.map.atom (with_plain plain lane [] lane) None o o.ask
+begun_at {old = old} plain lane session ask o sound e proper =
+    subst (λ xs. IsAt old.map.atom xs None o o.ask) (sym (plain-own plain lane []))
+    (rw e (begins_at old.map.atom (size_of old.map) session ask sound.fits.known (rw e at proper)))
+
+module _ {K : Type 0} {old new : State K} {seals : Seals} (plain : ℕ → List ℕ)
+    (piece : Option ℕ) (sound : IsSound old) (lawful : AreLawful old.map.atom seals) where
+  -- the lane of the event
+  own_at : (event : Event) (outcome : Outcome) → IsSound new → Meets old event
+      → Step old event outcome new → AreAt old (lane_of event) (plain (lane_of event)) piece
+      → (o : Open) → open_at new.lanes (lane_of event) ≡ Some o
+      → open_after old.map.atom event outcome (open_at old.lanes (lane_of event)) ≡ Some o
+      → new.map ≡ old.map
+      → IsAt old.map.atom (plain_after seals old event outcome plain (lane_of event))
+      (failed_by event outcome (next_place old (lane_of event)) piece) o o.ask
+  unfolding Can Step plain_after
+  own_at (admits lane session ask) (held grant) after meets step was o is now map =
+      begun_at plain lane session ask o sound (cc) (rw map at (after.under_way lane o is).proper)
+  own_at (admits lane session ask) (waits other) after meets step was o is now map =
+      begun_at plain lane session ask o sound (cc) (rw map at (after.under_way lane o is).proper)
+  own_at (admits lane session ask) _ after meets step was o is now map =
+      absurd (let none = meets.can in cc)
+  own_at (asks lane) outcome after meets step was o is now map = was o now
+  own_at (reads lane len) (got bytes) after meets (q, at, step) was o is now map =
+      let (p, asked, can) = meets.can.0 in let same : p ≡ q = cc in
+      let e : o ≡ moved q step.piece = (let own = step.goes.lane_is.own in cc) in
+      let more = plain_piece seals old lane bytes in
+      let opened : more ≡ seals.opened (side_in old.map q.next) q.next bytes = rw at refl in
+      subst (λ xs. IsAt old.map.atom xs piece o o.ask) (sym (plain-own plain lane (plain lane
+      ++ more))) (rw e (moves_at old.map.atom step.piece.count (plain lane) more piece q
+      (moved q step.piece) q.ask (rw same at can.reads) (was q at) (rw same at can.has.goes_on)
+      (rw same at can.has.goes_on) (omega (arith, step.next.first))
+      (ap (λ xs. length xs) opened ∙ (piece_blocks q step.next lawful step.are).size)))
+  own_at (reads lane len) device after meets (q, at, step) was o is now map =
+      let (p, asked, can) = meets.can.0 in let same : p ≡ q = cc in
+      let e : o ≡ failing q = (let own = step.goes.lane_is.own in cc) in rw (e, at)
+      (fails_at old.map.atom (plain lane) piece q q.ask (rw same at can.reads) (was q at))
+  own_at (reads lane len) broken after meets (q, at, step) was o is now map =
+      let (p, asked, can) = meets.can.0 in let same : p ≡ q = cc in
+      let e : o ≡ failing q = (let own = step.goes.lane_is.own in cc) in rw (e, at)
+      (fails_at old.map.atom (plain lane) piece q q.ask (rw same at can.reads) (was q at))
+  own_at (reads lane len) _ after meets (q, at, step) was o is now map = absurd step
+  own_at (writes lane bytes) outcome after meets (q, at, step) was o is now map =
+      let (p, asked, can) = meets.can.0 in let same : p ≡ q = cc in
+      let e : o ≡ after_put old.map.atom bytes outcome q = (let next = rw at at now in cc) in
+      stays_at old.map.atom (plain lane) _ piece q o (ap (λ x. x.ask) e
+      ∙ (put_same old.map.atom bytes outcome q).0)
+      (λ reading. never_both q.ask reading (rw same at can.writes)) (was q at)
+  own_at (settles lane) outcome after meets (q, at, step) was o is now map =
+      let (p, asked, can) = meets.can in let same : p ≡ q = cc in
+      let e = settled_is q (after_sync outcome q) o (rw at at now) in
+      stays_at old.map.atom (plain lane) _ piece q o (ap (λ x. x.ask) e
+      ∙ (sync_same outcome q).0) (not_read q (rw same at can)) (was q at)
+  own_at (finishes lane) outcome after meets step was o is now map = absurd (cc)
+
+  -- any lane
+  event_at : (lane : ℕ) (event : Event) (outcome : Outcome) → IsSound new → Meets old event
+      → Step old event outcome new → AreAt old lane (plain lane) piece
+      → AreAt new lane (plain_after seals old event outcome plain lane) (if lane_of event == lane
+      then failed_by event outcome (next_place old lane) piece else piece)
+  event_at lane event outcome after meets step =
+      let goes = event_effects old new event outcome step in
+      elim (either (nat_eq (lane_of event) lane)) [
+        | inl own ↦ λ was. let e : lane_of event ≡ lane = grind (arith, own) in
+            rw own (subst (λ k. AreAt old k (plain k) piece → AreAt new k (plain_after
+            seals old event outcome plain k) (failed_by event outcome (next_place old k) piece))
+            e (λ was o is. rw goes.map (own_at event outcome after meets step was
+            o is (sym goes.lane_is.own ∙ is) goes.map)) was)
+        | inr other ↦ λ was o is.
+            let differ : lane ≢ lane_of event = λ same. grind (arith, same, other) in
+            rw (other, goes.map, other_plain seals old plain event outcome lane differ)
+            (was o (sym (goes.lane_is.others lane differ) ∙ is))
+      ]
+
+-- what is answered has its place
+admit_place : (session : ℕ) (ask : Ask) (outcome : Outcome) (answered : Answered)
+    → by_admit session ask outcome ≡ answered ∷ [] → placed_error answered.reply ≡ None
+admit_place session ask (refused number) answered is =
+    ap (λ a. placed_error a.reply) (one_answered _ answered is)
+admit_place session ask _ answered is = absurd (cc)
+
+settle_place : (outcome : Outcome) → placed_error (flush_reply outcome) ≡ None
+settle_place done = refl
+settle_place _ = refl
+
+reply_place : (atom : ℕ) (plain : List ℕ) (piece : Option ℕ) (o : Open) (ask : Ask)
+    → IsAt atom plain piece o ask
+    → placed_error (if o.failed then failed_reply ask plain else full_reply ask plain)
+    ≡ option_map (λ place. (5, place)) piece
+reply_place atom plain piece o (Read offset len) at = elim (either o.failed) [
+  | inl has ↦ rw (at.1, has) refl
+  | inr none ↦ rw (at.1, none) refl
+]
+reply_place atom plain piece o _ at = elim (either o.failed) [
+  | inl has ↦ rw (at, has) refl
+  | inr none ↦ rw (at, none) refl
+]
+
+finish_place : (atom : ℕ) (plain : List ℕ) (piece : Option ℕ) (now : Option Open)
+    (answered : Answered) → ((o : Open) → now ≡ Some o → IsAt atom plain piece o o.ask)
+    → by_finish now plain ≡ answered ∷ []
+    → placed_error answered.reply ≡ option_map (λ place. (5, place)) piece
+finish_place atom plain piece None answered at is = absurd (cc)
+finish_place atom plain piece (Some o) answered at is =
+    rw (one_answered _ answered is) (reply_place atom plain piece o o.ask (at o refl))
+
+-- ---- deeds
+module _ {K : Type 0} (reading : Reading) (seals : Seals) where
+  at_on : (old new : State K) (lane : ℕ) (plain : ℕ → List ℕ) (piece : Option ℕ) (act : Act)
+      → IsKept reading old → AreLawful old.map.atom seals → IsClient old lane
+      → Does reading seals old act new → AreAt old lane (plain lane) piece
+      → AreAt new lane (plain_by seals old act plain lane) (piece_by old lane act piece)
+  at_on old new lane plain piece (client event outcome) kept lawful own (meets, step) at =
+      event_at plain piece kept.sound lawful lane event outcome
+      (sound_kept old new event outcome kept.sound meets step) meets step at
+  at_on old new lane plain piece (worker worked) kept lawful own step at = λ o is.
+      let order = in_order reading seals old new worked kept step in
+      let same = same_on reading seals old new (worker worked) kept step in
+      let left = clients_left reading seals old new worked lane order step own in
+      rw same.atom (at o (sym left.own ∙ is))
+
+  deeds_at : (old : State K) (lane : ℕ) (plain : ℕ → List ℕ) (piece : Option ℕ)
+      (deeds : List (Deed K)) → IsKept reading old → AreLawful old.map.atom seals
+      → IsClient old lane → AreDeeds reading seals old deeds → AreAt old lane (plain lane) piece
+      → AreAt (state_after old deeds) lane (plain_over seals old plain deeds lane)
+      (piece_over old lane piece deeds)
+  unfolding AreDeeds state_after plain_over piece_over
+  deeds_at old lane plain piece [] kept lawful own are at = at
+  deeds_at old lane plain piece (one ∷ rest) kept lawful own (does, are) at =
+      let same = same_on reading seals old one.after one.act kept does in
+      deeds_at one.after lane (plain_by seals old one.act plain) (piece_by old lane one.act piece)
+      rest (kept_on reading seals old one.after one.act kept does) (rw same.atom lawful)
+      (subst (λ n. suc lane < n) (sym same.lanes) own) are
+      (at_on old one.after lane plain piece one.act kept lawful own does at)
+
+event_place : {K : Type 0} (start new : State K) (earlier : List (Deed K))
+    (plain : ℕ → List ℕ) (event : Event) (outcome : Outcome) (answered : Answered)
+    → Step (state_after start earlier) event outcome new
+    → AreAt (state_after start earlier) (lane_of event) (plain (lane_of event))
+    (piece_over start (lane_of event) None earlier)
+    → answered_by (state_after start earlier) event outcome plain ≡ answered ∷ []
+    → placed_error answered.reply
+    ≡ option_map (λ place. (5, place)) (failed_piece start earlier (client event outcome))
+unfolding Step answered_by
+event_place start new earlier plain (admits lane session ask) outcome answered step at is =
+    admit_place session ask outcome answered is
+event_place start new earlier plain (settles lane) outcome answered (o, has, step) at is =
+    ap (λ r. placed_error r) (by_settle_is o outcome answered (rw has at is)) ∙ settle_place outcome
+event_place start new earlier plain (finishes lane) outcome answered step at is =
+    finish_place (state_after start earlier).map.atom (plain lane)
+    (piece_over start lane None earlier) _ answered at is
+event_place start new earlier plain _ outcome answered step at is = absurd (cc)
+
+pub places_exact : {K : Type 0} (reading : Reading) (seals : Seals) (start : State K)
+    (earlier later : List (Deed K)) (one : Deed K) → BeginsBeside reading start
+    → AreLawful start.map.atom seals → AreDeeds reading seals start (earlier ++ one ∷ later)
+    → PlacesAreExact seals start earlier one
+places_exact reading seals start earlier later one begins_so lawful are = λ answered.
+    by one.act (deed-amid reading seals start earlier later one are) answered
+  where
+    before : AreDeeds reading seals start earlier
+    before = deeds-front reading seals start earlier (one ∷ later) are
+
+    at : (lane : ℕ) → IsClient (state_after start earlier) lane
+        → AreAt (state_after start earlier) lane (plain_over seals start no_plain earlier lane)
+        (piece_over start lane None earlier)
+    at lane own = deeds_at reading seals start lane no_plain None earlier begins_so.kept lawful
+        (subst (λ n. suc lane < n) (deeds_same reading seals start earlier begins_so.kept before).lanes
+        own) before (λ o is. absurd (let free = begins_so.idle lane in cc))
+
+    by : (act : Act) → Does reading seals (state_after start earlier) act one.after
+        → (answered : Answered)
+        → answered_of (state_after start earlier) act (plain_over seals start no_plain earlier)
+        ≡ answered ∷ []
+        → placed_error answered.reply
+        ≡ option_map (λ place. (5, place)) (failed_piece start earlier act)
+    by (client event outcome) (meets, step) answered is =
+        event_place start one.after earlier (plain_over seals start no_plain earlier) event outcome
+        answered step (at (lane_of event) meets.client) is
+    by (worker worked) does answered is = absurd (cc)

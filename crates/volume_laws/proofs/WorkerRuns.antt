@@ -1,0 +1,15 @@
+pub mod HeadersKept
+pub mod AtomCalls
+pub mod RestEnds
+pub mod RestStages
+pub mod RestAtoms
+pub mod ClientRest
+pub mod RestRuns
+pub mod Stages
+pub mod StageSteps
+pub mod LanesIdle
+pub mod NoWaits
+pub mod Wiping
+pub mod WorkRuns
+pub mod WorkEnds
+pub mod WorkJoins

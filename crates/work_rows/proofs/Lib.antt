@@ -1,2 +1,0 @@
-pub mod HeaderLemmas
-pub mod MapLemmas

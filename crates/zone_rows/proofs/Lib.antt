@@ -1,4 +1,0 @@
-pub mod HeaderLemmas
-pub mod MakingLemmas
-pub mod MapLemmas
-pub mod RowLemmas

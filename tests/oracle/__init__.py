@@ -1,0 +1,1 @@
+"""A second implementation of what the rows show, which judges them (README.md)."""

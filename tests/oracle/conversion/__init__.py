@@ -1,0 +1,1 @@
+"""How a volume's key is changed, by docs/CONVERSION.md."""

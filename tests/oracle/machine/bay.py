@@ -1,0 +1,113 @@
+"""What commands find: disks and key files by their names, and seeds; and how a command ends."""
+
+from ..conversion.begun import NoFit
+from ..conversion.rules import first_broken
+from ..conversion.steps import Disks
+from ..conversion.zones import Fault
+from ..luks.header import CopiesDiffer, Header, NoHeader
+from ..words import Faulty
+from .disk import Failed
+
+KEYS = {"k": b"a passphrase", "line": b"a passphrase\n", "empty": b"", "long": bytes([107]) * 513}
+
+
+class Ended(Exception):
+    """A command ended: its status, its cause, and what it printed."""
+
+
+def fault(number, name, cause=None):
+    return Ended(number, cause or name, f"fault {number} {name}\n")
+
+
+def device(what, faults=1):
+    return fault(2, "Device", f"Device {{ failing: {what}, faults: {faults} }}")
+
+
+def no_fit(what, number, limit):
+    return fault(8, "NoFit", f"NoFit {{ what: {what}, number: {number}, limit: {limit} }}")
+
+
+def refused(found):
+    """What ends a command where something doesn't fit, or headers to come have no number or no room."""
+    what, first, second = found.args
+    if isinstance(found, NoFit):
+        return no_fit(what, first, second)
+    return no_fit("Numbers", second, first) if what == "SeqEnd" else no_fit("Json", first, second)
+
+
+class Bay:
+    """Disks and key files by their names, the 32 bytes that are drawn, what clients at the address `A` send,
+    and the calls of the bay and of the seeds that fail. It keeps which disks were opened, the links'
+    sessions, and what a gate was told."""
+
+    def __init__(self, disks, seed=bytes(32), fails=(), seeds_fail=(), keys=KEYS, clients=()):
+        self.link_fails = {}
+        self.disks, self.fails, self.seeds_fail = disks, set(fails), set(seeds_fail)
+        self.keys, self.clients = keys, clients
+        self.drawn_from, self.asked, self.faults = seed, 0, 0
+        self.opened, self.sessions, self.course = [], [], ""
+
+    def answer(self, what, found):
+        """What a call of the bay gives; None where it fails."""
+        self.asked += 1
+        if found is None or self.asked - 1 in self.fails:
+            self.faults += 1
+            raise device(what, self.faults)
+        return found
+
+    def disk(self, name, atom):
+        if atom not in (512, 4096):
+            raise Faulty
+        disk = self.disks.get(name)
+        is_there = disk is not None and disk not in self.opened and disk.atom == atom
+        self.opened.append(self.answer("Opening", disk if is_there else None))
+        return disk
+
+    def passphrase(self, name):
+        return self.answer("Keying", self.keys.get(name))[:513]
+
+    def listen(self, address):
+        self.answer("Listening", address == "A" or None)
+
+    def seed(self):
+        if 0 in self.seeds_fail:
+            raise fault(12, "Seeds", "Seeds { faults: 1 }")
+        return self.drawn_from
+
+
+class failing:
+    """What device calls are made for: one that fails in here ends the command so, and so does a headers'
+    text or number that doesn't fit."""
+
+    def __init__(self, what, disk=None):
+        self.what, self.disk = what, disk
+
+    def __enter__(self):
+        pass
+
+    def __exit__(self, kind, found, _):
+        if kind is Failed:
+            raise device(self.what, self.disk.faults if self.disk else 1) from None
+        if kind in (NoFit, Fault):
+            raise refused(found) from None
+        if kind is NoHeader:
+            raise fault(3, "NoHeader") from None
+        if kind is CopiesDiffer:
+            raise fault(4, "Header") from None
+
+
+def judge(disk, objects):
+    """Whether a header's objects have all members, and keep the rules."""
+    try:
+        rule = first_broken(objects, Disks(disk.atom, "attached", len(disk.held)))
+    except (AttributeError, LookupError, TypeError, ValueError):
+        rule = "a member lacks, or isn't what it is to be"
+    if rule:
+        raise fault(7, "Foreign") if rule == "Foreign" else fault(4, "Header")
+
+
+def read_header(disk, what):
+    with failing(what, disk):
+        header = Header(disk)
+    judge(disk, header.objects)
+    return header

@@ -1,0 +1,1 @@
+"""The server, by the NBD protocol document."""
