@@ -51,8 +51,8 @@ class Copy:
     def __init__(self, data):
         self.data = data
         self.size, self.number = struct.unpack(">QQ", data[8:24])
-        self.identifier = data[168:208].split(b"\0")[0].decode()
-        self.text = data[HEAD:].split(b"\0")[0]
+        self.identifier = data[168:208].partition(b"\0")[0].decode()
+        self.text = data[HEAD:].partition(b"\0")[0]
         self.salt = data[104:168]
 
     def again(self, which, salt, number=None, text=None):
