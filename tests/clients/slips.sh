@@ -145,8 +145,11 @@ if device=$(losetup -f --show whole.img 2>/dev/null); then
     fi
     "$reencd" format "$device" --key-file key --iterations 1000 >/dev/null || fail "format of a free device"
     "$reencd" status "$device" >/dev/null || fail "status of a free device"
-    if command -v sfdisk >/dev/null && echo "2048,,L" | sfdisk -q --wipe always "$device" 2>/dev/null &&
-        losetup -d "$device" && device=$(losetup -P -f --show whole.img) && [ -b "${device}p1" ]; then
+    losetup -d "$device"
+    # one partition, from the 2048th sector on, as a table of the old kind has it
+    printf '\0\0\0\0\203\0\0\0\0\010\0\0\040\116\0\0' | dd of=whole.img bs=1 seek=446 conv=notrunc status=none
+    printf '\125\252' | dd of=whole.img bs=1 seek=510 conv=notrunc status=none
+    if device=$(losetup -P -f --show whole.img) && [ -b "${device}p1" ]; then
         undo=("losetup -d $device" "${undo[@]}")
         if mke2fs -q "${device}p1" && mount -o ro "${device}p1" mounted 2>/dev/null; then
             undo=("umount mounted" "${undo[@]}")
