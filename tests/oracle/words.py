@@ -87,7 +87,7 @@ OPTIONS = {
     | {
         "listen": (text, None),
         "workers": (number(1, 16), 4),
-        "sessions": (number(1, 2**32 - 1), 65535),
+        "sessions": (number(1, 2**32 - 1), 2**32 - 1),
         "idle-timeout": (number(1, 86400), None),
     },
     "status": {"atom": (atom, 4096)},

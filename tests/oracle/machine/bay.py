@@ -4,6 +4,7 @@ from ..conversion.begun import NoFit
 from ..conversion.rules import first_broken
 from ..conversion.steps import Disks
 from ..conversion.zones import Fault
+from ..luks import members
 from ..luks.header import CopiesDiffer, Header, NoHeader
 from .disk import Failed
 
@@ -93,6 +94,7 @@ class failing:
 def judge(disk, objects):
     """Whether a header's objects have all members, and keep the rules."""
     try:
+        members.check(objects)
         rule = first_broken(objects, Disks(disk.atom, "attached", len(disk.held)))
     except (AttributeError, LookupError, TypeError, ValueError):
         rule = "a member lacks, or isn't what it is to be"

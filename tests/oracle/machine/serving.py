@@ -87,7 +87,7 @@ class OnDisk(nbd.Session):
                 blocks.call(blocks.disk.settle)
             else:
                 blocks.write(offset, data)
-                if flags & nbd.FUA:
+                if flags & nbd.FUA and data:
                     blocks.call(blocks.disk.settle)
             return super().carried_out(kind, flags, offset, data)
         except Failed:
