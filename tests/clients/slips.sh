@@ -87,8 +87,9 @@ keeps tailed.img 8 "fault 8 NoFit" "--atom 512" init tailed.img --key-file key -
 grep -q 1536 err || fail "init doesn't say how many bytes: $(cat err)"
 cp tailed.img begun_by_512.img
 "$reencd" init begun_by_512.img --key-file key --iterations 1000 --atom 512 >/dev/null 2>&1 || fail "init by 512"
-keeps begun_by_512.img 8 "fault 8 NoFit" "--atom 512" resume begun_by_512.img --key-file key
-keeps begun_by_512.img 8 "fault 8 NoFit" "--atom 512" serve begun_by_512.img --key-file key --listen stdio
+# (by atoms of 4096 bytes the volume that is being converted passes the last whole one)
+keeps begun_by_512.img 4 "fault 4 Header" "another --atom" resume begun_by_512.img --key-file key
+keeps begun_by_512.img 4 "fault 4 Header" "another --atom" serve begun_by_512.img --key-file key --listen stdio
 keeps tailed.img 0 "served 1 sessions" 1536 serve tailed.img --key-file key --listen stdio
 truncate -s 5000 short.img
 says 0 "served 1 sessions" 904 serve short.img --plain --listen stdio
