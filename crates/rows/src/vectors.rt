@@ -2,7 +2,7 @@
 // of.
 
 use crate::bytes::Lexicon;
-use crate::numbers::number;
+use crate::numbers::{number, pair};
 use crate::sessions::put_text;
 use aes_core::Aes;
 use af_split::{merge, split};
@@ -26,8 +26,11 @@ fn cipher_of(name: &str, key: &[u8], sector: u64) -> Result<Context> {
 
 /// Bytes sealed by sectors, the first of which has this number: words are the cipher, the key, the
 /// bytes of a sector, the number, and the bytes.
-fn sealed(alloc: Global, lexicon: &Lexicon, words: &[&str; 5]) -> Result<Vec<u8>> {
-    let [name, key, sector, first, bytes] = *words;
+fn sealed(alloc: Global, lexicon: &Lexicon, words: &str) -> Result<Vec<u8>> {
+    let (name, words) = pair(words);
+    let (key, words) = pair(words);
+    let (sector, words) = pair(words);
+    let (first, bytes) = pair(words);
     let key = lexicon.spelled(alloc, key)?;
     let context = cipher_of(name, key.as_slice(), number(sector)?)?;
     let mut bytes = lexicon.spelled(alloc, bytes)?;
@@ -39,16 +42,23 @@ fn sealed(alloc: Global, lexicon: &Lexicon, words: &[&str; 5]) -> Result<Vec<u8>
     Ok(bytes)
 }
 
-/// Bytes sealed by XTS as one sector of this number, under a key of the body and one of the tweak.
-fn sealed_as_one(alloc: Global, lexicon: &Lexicon, words: &[&str; 4]) -> Result<Vec<u8>> {
-    let [body, tweak, number_word, bytes] = *words;
-    let body = Aes::new(lexicon.spelled(alloc, body)?.as_slice())?;
-    let tweak = Aes::new(lexicon.spelled(alloc, tweak)?.as_slice())?;
+/// AES under a key.
+fn aes_of(alloc: Global, lexicon: &Lexicon, key: &str) -> Result<Aes> {
+    Ok(Aes::new(lexicon.spelled(alloc, key)?.as_slice())?)
+}
+
+/// Bytes sealed by XTS as one sector of this number: words are the key of the body, the one of the
+/// tweak, the number, and the bytes.
+fn sealed_as_one(alloc: Global, lexicon: &Lexicon, words: &str) -> Result<Vec<u8>> {
+    let (body, words) = pair(words);
+    let (tweak, words) = pair(words);
+    let (first, bytes) = pair(words);
+    let (body, tweak) = (aes_of(alloc, lexicon, body)?, aes_of(alloc, lexicon, tweak)?);
     let mut bytes = lexicon.spelled(alloc, bytes)?;
     if bytes.len() % 16 != 0 {
         return Err(anyhow!("no whole blocks"));
     }
-    Xts::new(body, tweak).seal_sector(number(number_word)?, bytes.as_mut_slice());
+    Xts::new(body, tweak).seal_sector(number(first)?, bytes.as_mut_slice());
     Ok(bytes)
 }
 
@@ -109,42 +119,31 @@ fn last_stripe(
     Ok(parts.as_slice()[(stripes - 1) * bytes..].to_vec(alloc)?)
 }
 
-/// What a calculation gives.
-pub(crate) fn value_of(alloc: Global, lexicon: &Lexicon, words: &str) -> Result<String> {
-    let words: Vec<&str> = words.split(' ').collect(alloc)?;
-    let bytes = match words.as_slice() {
-        ["seal", name, key, sector, first, bytes] => {
-            sealed(alloc, lexicon, &[*name, *key, *sector, *first, *bytes])?
-        }
-        ["xts", body, tweak, number, bytes] => {
-            sealed_as_one(alloc, lexicon, &[*body, *tweak, *number, *bytes])?
-        }
-        [what, hash, one, other, rest @ ..] => {
-            let hash = hash_of(hash)?;
-            let one = lexicon.spelled(alloc, one)?;
-            let other = lexicon.spelled(alloc, other)?;
-            derived(alloc, what, hash, one.as_slice(), other.as_slice(), rest)?
-        }
-        _ => return Err(anyhow!("no such value")),
-    };
-    put_text(alloc, bytes.as_slice())
-}
-
 /// What a hash makes of two texts and the numbers of the last words.
-fn derived(
-    alloc: Global,
-    what: &str,
-    hash: Hash,
-    one: &[u8],
-    other: &[u8],
-    rest: &[&str],
-) -> Result<Vec<u8>> {
-    match (what, rest) {
-        ("hmac", []) => tag_of(alloc, hash, one, other),
-        ("derive", [rounds, length]) => {
-            key_derived(alloc, hash, one, other, number(rounds)?, number(length)?)
-        }
-        ("split", [stripes]) => last_stripe(alloc, hash, one, other, number(stripes)?),
+fn derived(alloc: Global, lexicon: &Lexicon, what: &str, words: &str) -> Result<Vec<u8>> {
+    let (hash, words) = pair(words);
+    let (one, words) = pair(words);
+    let (other, words) = pair(words);
+    let hash = hash_of(hash)?;
+    let one = lexicon.spelled(alloc, one)?;
+    let other = lexicon.spelled(alloc, other)?;
+    let (one, other) = (one.as_slice(), other.as_slice());
+    let (first, second) = pair(words);
+    match what {
+        "hmac" => tag_of(alloc, hash, one, other),
+        "derive" => key_derived(alloc, hash, one, other, number(first)?, number(second)?),
+        "split" => last_stripe(alloc, hash, one, other, number(first)?),
         _ => Err(anyhow!("no value {what}")),
     }
+}
+
+/// What a calculation gives.
+pub(crate) fn value_of(alloc: Global, lexicon: &Lexicon, words: &str) -> Result<String> {
+    let (what, words) = pair(words);
+    let bytes = match what {
+        "seal" => sealed(alloc, lexicon, words)?,
+        "xts" => sealed_as_one(alloc, lexicon, words)?,
+        _ => derived(alloc, lexicon, what, words)?,
+    };
+    put_text(alloc, bytes.as_slice())
 }
