@@ -13,9 +13,9 @@ ghost use Rattle.host_edge.specs.declared.door.Door.{Door};
 
 use crate::door::Door;
 use crate::host_file::HostFile;
-use crate::host_link::HostLink;
+use crate::host_link::{HostLink, announce_links};
 use crate::network::Network;
-use crate::notices::{announce, complain};
+use crate::notices::complain;
 use base_terms::Bytes;
 use bays::{Bay, BayFault, Manner};
 use file_disk::{FileDisk, FileSystem, open_for_reading, open_locked};
@@ -147,13 +147,7 @@ impl<R: FileSystem + Network + Clock + Copy + Drop> HostBay<R> {
         match self.machine.listen(address) {
             Ok(listener) => {
                 let door = Door::Listening(listener);
-                match self.share_door(alloc, address, &door, workers, sessions, manner) {
-                    Ok(links) => {
-                        announce(self.errors, &door);
-                        Ok(links)
-                    }
-                    Err(error) => Err(error),
-                }
+                self.share_door(alloc, address, &door, workers, sessions, manner)
             }
             Err(error) => Err(error),
         }
@@ -319,7 +313,10 @@ impl<R: FileSystem + Network + Clock + Copy + Drop> Bay for HostBay<R> {
         ensures cause { HasBayCause self.old.faults self.new.faults result }
     {
         match self.open_links(alloc, address, workers, sessions, manner) {
-            Ok(links) => Ok(links),
+            Ok(links) => {
+                announce_links(links.as_slice());
+                Ok(links)
+            }
             Err(error) => Err(self.refused(alloc, address, &error)),
         }
     }

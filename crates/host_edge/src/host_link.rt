@@ -12,7 +12,7 @@ ghost use Rattle.host_edge.specs.Untold.{untold_link};
 use crate::client_stream::{ClientStream, Watch};
 use crate::door::Door;
 use crate::network::{Listener, Network, passes};
-use crate::notices::complain;
+use crate::notices::{announce, complain};
 use crate::streams::{HostReader, HostWriter};
 use base_terms::Failed;
 use bays::{Link, Manner};
@@ -176,6 +176,13 @@ impl<R: Network + Clock + Copy + Drop> HostLink<R> {
                 None => eprintln!(self.errors; "reencd: {}: {what}", self.address.as_str()),
             };
         }
+    }
+}
+
+/// Says on standard error where the clients of these links may connect, which have one door.
+pub(crate) fn announce_links<R: Network + Clock + Copy + Drop>(links: &[HostLink<R>]) {
+    if let Some(link) = links.first() {
+        announce(link.errors, &link.door);
     }
 }
 

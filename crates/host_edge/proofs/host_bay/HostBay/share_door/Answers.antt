@@ -11,18 +11,18 @@ loop-k-preserved g c = record {
   shared = λ j link below.
       rw c.in_ok-push.ensures.items
       (all_more (λ k link. link.left ≡ share_of c.args.workers c.args.sessions k) c.loop-k.k
-      c.loop-k.links.items c.new.result c.loop-k.invariant.count c.loop-k.invariant.shared
-      (c.new.ensures.bound ∙ c.share_for-share.ensures) j link below);
+      c.loop-k.links.items c.new-link.result c.loop-k.invariant.count c.loop-k.invariant.shared
+      (c.new-link.ensures.bound ∙ c.share_for-share.ensures) j link below);
   doors = λ j link below.
       rw c.in_ok-push.ensures.items
       (all_more (λ _ link. SharesDoor g.R.Listener.Listener.shares c.args.door.now (Ok link.door))
-      c.loop-k.k c.loop-k.links.items c.new.result c.loop-k.invariant.count
+      c.loop-k.k c.loop-k.links.items c.new-link.result c.loop-k.invariant.count
       c.loop-k.invariant.doors
       (subst (λ door. SharesDoor g.R.Listener.Listener.shares c.args.door.now (Ok door))
-      (sym c.new.ensures.door) c.in-Ok.ensures) j link below);
+      (sym c.new-link.ensures.door) c.in-Ok.ensures) j link below);
   manners = λ j link below.
       rw c.in_ok-push.ensures.items
       (all_more (λ _ link. link.manner ≡ c.args.manner) c.loop-k.k c.loop-k.links.items
-      c.new.result c.loop-k.invariant.count c.loop-k.invariant.manners
-      c.new.ensures.manner j link below);
+      c.new-link.result c.loop-k.invariant.count c.loop-k.invariant.manners
+      c.new-link.ensures.manner j link below);
 }
